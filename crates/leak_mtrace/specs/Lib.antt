@@ -1,0 +1,7 @@
+pub mod Decided
+pub mod Number
+pub mod Line
+pub mod Place
+pub mod Log
+pub mod Examples
+pub mod Laws

@@ -1,0 +1,31 @@
+//! Reads an allocation log as glibc's mtrace writes it.
+//!
+//! [`parse_line`] reads one [`Line`]; [`Log::read`] reads all lines of a log, or gives the number of the first that it
+//! refuses. The forms of a line are those that glibc's `malloc/mtrace-impl.c` prints, and no others: a line that was
+//! skipped could turn a block that was given back into a leak. Of the place of a call only its end is looked for, since
+//! the names of files and functions may hold any byte but a line feed; where it ends is our own rule.
+//!
+//! The contracts don't say that there is memory enough, nor that a log is complete: a log that wasn't flushed, or to
+//! which two processes wrote, can lack lines and still be read.
+#![tactic(auto)]
+
+mod call;
+mod error;
+mod laws;
+mod line;
+mod log;
+mod number;
+mod parsing;
+mod place;
+#[cfg(test)]
+mod tests;
+
+pub use error::LogError;
+pub use laws::{
+    callers_hold_their_places, first_faults_are_one, lines_are_one, logs_are_one, logs_continue,
+    logs_have_no_fault, logs_have_their_callers, places_are_one, refused_lines, worked_lines,
+    worked_logs,
+};
+pub use line::{Kind, Line};
+pub use log::Log;
+pub use parsing::parse_line;

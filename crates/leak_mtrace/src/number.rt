@@ -1,0 +1,66 @@
+//! The numbers of a line.
+ghost use Rattle.std.specs.Prelude.{◌≡◌, IsTrue, SomeIff};
+ghost use Rattle.leak_mtrace.specs.Decided.{Decides};
+ghost use Rattle.leak_mtrace.specs.Number.{is_digit, digit_value, IsHex, IsAddress, IsSize, IsPair};
+
+use memchr::memchr;
+
+/// The value of a hexadecimal digit.
+fn digit(byte: u8) -> Option<u8>
+    ensures { SomeIff result (IsTrue (is_digit byte)) (digit_value byte) }
+{
+    match byte {
+        b'0'..=b'9' => Some(byte - b'0'),
+        b'a'..=b'f' => Some(byte - b'a' + 10),
+        _ => None,
+    }
+}
+
+/// The value of `0x` and 1 to 16 digits.
+fn hex(text: &[u8]) -> Option<u64>
+    ensures { Decides (IsHex text.now) result }
+{
+    let [b'0', b'x', digits @ ..] = text else {
+        return None;
+    };
+    if digits.is_empty() || digits.len() > 16 {
+        return None;
+    }
+    let mut value = 0u64;
+    for byte in digits {
+        value = 16 * value + u64::from(digit(*byte)?);
+    }
+    Some(value)
+}
+
+/// The value of an address: `(nil)` or hexadecimal.
+pub fn address(text: &[u8]) -> Option<u64>
+    ensures { Decides (IsAddress text.now) result }
+{
+    if text == b"(nil)".as_slice() {
+        Some(0)
+    } else {
+        hex(text)
+    }
+}
+
+/// The value of a size: `0` or hexadecimal.
+pub fn size(text: &[u8]) -> Option<u64>
+    ensures { Decides (IsSize text.now) result }
+{
+    if text == b"0".as_slice() {
+        Some(0)
+    } else {
+        hex(text)
+    }
+}
+
+/// An address, a space and a size.
+pub fn address_and_size(text: &[u8]) -> Option<(u64, u64)>
+    ensures { Decides (λ p. IsPair text.now p.0 p.1) result }
+{
+    let space = memchr(b' ', text)?;
+    let addr = address(&text[..space])?;
+    let size = size(&text[space + 1..])?;
+    Some((addr, size))
+}
