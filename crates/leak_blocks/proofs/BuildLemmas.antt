@@ -1,0 +1,57 @@
+-- The list of blocks that a map of a replay stands for.
+use Rattle.std.proofs.Common.{◌≡◌, ℕ, refl, sym, subst, ap, ◌∙◌, List, [], ◌∷◌, ◌++◌, length, map, drop, append_assoc, append-nil}
+use Rattle.std.specs.List.{AllByRecursion}
+use Rattle.leak_mtrace.specs.declared.line.Line.{Line}
+use Rattle.leak_blocks.specs.declared.block.Block.{Block}
+use Rattle.leak_blocks.specs.Laws.{IsOfLine}
+use Rattle.leak_blocks.specs.Numbers.{entries_of, AreOf, AreNumbered}
+
+-- the blocks that are built, and those whose numbers are left
+pub record AreBuilt (blocks built : List Block) (numbers : List ℕ) : Type 0 where
+  pub rest : List Block
+  pub whole : blocks ≡ built ++ rest
+  pub left : numbers ≡ map (λ b. b.line) rest
+
+numbers_of : (bs : List Block) → map (λ e. e.1) (entries_of bs) ≡ map (λ b. b.line) bs
+numbers_of [] = refl
+numbers_of (b ∷ bs) = ap (λ (l : List ℕ). b.line ∷ l) (numbers_of bs)
+
+pub numbered : (lines : List Line) (entries : List (ℕ × ℕ)) (blocks : List Block) (numbers : List ℕ) → AreOf lines entries blocks → numbers ≡ map (λ e. e.1) entries → AreNumbered lines numbers blocks
+numbered lines entries blocks numbers of e = record { listed = e ∙ ap (map (λ (p : ℕ × ℕ). p.1)) of.listed ∙ numbers_of blocks; numbered = of.numbered }
+
+pub built_at_first : (lines : List Line) (blocks built : List Block) (numbers : List ℕ) → AreNumbered lines numbers blocks → built ≡ [] → AreBuilt blocks built (drop 0 numbers)
+built_at_first lines blocks built numbers of e = record { rest = blocks; whole = ap (λ (l : List Block). l ++ blocks) (sym e); left = of.listed }
+
+-- the block of the next number
+pub record IsNext (lines : List Line) (blocks built : List Block) (number : ℕ) (numbers : List ℕ) : Type 0 where
+  pub block : Block
+  pub is_number : block.line ≡ number
+  pub of_line : IsOfLine lines block
+  pub later : AreBuilt blocks (built ++ block ∷ []) numbers
+
+all_behind : (P : Block → Type 0) (bs : List Block) (b : Block) (cs : List Block) → AllByRecursion P (bs ++ b ∷ cs) → P b
+all_behind P [] b cs h = h.0
+all_behind P (c ∷ bs) b cs h = all_behind P bs b cs h.1
+
+pub next_built : (lines : List Line) (blocks built : List Block) (before numbers : List ℕ) (number : ℕ) → AllByRecursion (IsOfLine lines) blocks → AreBuilt blocks built before → before ≡ number ∷ numbers → IsNext lines blocks built number numbers
+next_built lines blocks built before numbers number all b e = go b.rest b.whole (sym e ∙ b.left)
+  where
+    go : (rest : List Block) → blocks ≡ built ++ rest → number ∷ numbers ≡ map (λ b. b.line) rest → IsNext lines blocks built number numbers
+    go [] w l = absurd cc
+    go (c ∷ cs) w l = record {
+      block = c;
+      is_number = cc;
+      of_line = all_behind (IsOfLine lines) built c cs (subst (AllByRecursion (IsOfLine lines)) w all);
+      later = record { rest = cs; whole = w ∙ sym (append_assoc built (c ∷ []) cs); left = cc };
+    }
+
+pub built_at_last : (blocks built : List Block) (numbers : List ℕ) → AreBuilt blocks built numbers → numbers ≡ [] → built ≡ blocks
+built_at_last blocks built numbers b e = go b.rest b.whole (sym e ∙ b.left)
+  where
+    go : (rest : List Block) → blocks ≡ built ++ rest → [] ≡ map (λ b. b.line) rest → built ≡ blocks
+    go [] w l = sym (w ∙ append-nil built)
+    go (c ∷ cs) w l = absurd cc
+
+pub none_left : (xs : List ℕ) → drop (length xs) xs ≡ []
+none_left [] = refl
+none_left (x ∷ xs) = none_left xs

@@ -1,0 +1,10 @@
+pub mod DisjointLemmas
+pub mod OrderLemmas
+pub mod GrowthLemmas
+pub mod LiveLemmas
+pub mod LineLemmas
+pub mod NumberLemmas
+pub mod ChangeLemmas
+pub mod StepLemmas
+pub mod SumLemmas
+pub mod BuildLemmas

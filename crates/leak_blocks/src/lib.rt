@@ -1,0 +1,24 @@
+//! The live blocks of an allocation log.
+//!
+//! [`replay`] goes over the lines of a `leak_mtrace::Log` and gives [`Live`]: each [`Block`] that no later line ends,
+//! by ascending address, with the number of give-backs that met no live block and the number of allocations that
+//! another allocation ended. glibc's mtrace says what a line reports; which line ends which block is own rule, stated
+//! in `specs/Live.antt` over pairs of lines. [`Live`] keeps callers as ranges of the log's bytes, and no bytes.
+//!
+//! The contracts don't say that the log is complete, nor that its lines stand in the order of the calls.
+#![tactic(auto)]
+
+mod block;
+mod laws;
+mod live;
+mod replaying;
+#[cfg(test)]
+mod tests;
+
+pub use block::Block;
+pub use laws::{
+    live_are_addressed, live_are_disjoint, live_are_of_lines, live_are_one_a_line, live_were_live,
+    replays_line_by_line, worked_logs,
+};
+pub use live::Live;
+pub use replaying::replay;

@@ -1,0 +1,104 @@
+use super::*;
+use leak_mtrace::Log;
+use std::alloc::Global;
+use std::test::Fail;
+
+/// The live blocks of a log, as start, size and line, and how many of its lines are unknown, displaced and torn.
+type Outcome = (Vec<(u64, u64, usize)>, (u64, u64, u64));
+
+fn outcome(alloc: Global, text: &str) -> Result<Outcome, Fail> {
+    let log = Log::read(alloc, text.as_bytes())?;
+    let live = replay(alloc, &log)?;
+    let mut blocks = Vec::new(alloc);
+    for block in live.blocks() {
+        blocks.push((block.start, block.size, block.line))?;
+    }
+    Ok((blocks, (live.unknown(), live.displaced(), log.torn())))
+}
+
+#[test]
+fn blocks_and_counts(rt: HostRuntime) -> Result<(), Fail> {
+    let cases = [
+        (
+            "+ 0x100 0x10\n+ 0x110 0x10\n",
+            [(0x100, 16, 1), (0x110, 16, 2)].as_slice(),
+            (0, 0, 0),
+        ),
+        (
+            "+ 0x100 0\n+ 0x100 0\n",
+            [(0x100, 0, 2)].as_slice(),
+            (0, 1, 0),
+        ),
+        (
+            "+ 0x100 0x10\n+ 0x120 0x10\n+ 0x108 0x20\n",
+            [(0x108, 32, 3)].as_slice(),
+            (0, 2, 0),
+        ),
+        ("+ 0x100 0x10\n- 0x100\n- 0x100\n", [].as_slice(), (1, 0, 0)),
+        (
+            "+ 0x100 0x10\n< 0x100\n> 0x200 0x20\n",
+            [(0x200, 32, 3)].as_slice(),
+            (0, 0, 0),
+        ),
+        (
+            "+ 0x100 0x10\n! 0x100 0x20\n",
+            [(0x100, 16, 1)].as_slice(),
+            (0, 0, 0),
+        ),
+        (
+            "+ 0x100 0x10\n+ 0x108 0x10\n- 0x100\n",
+            [(0x108, 16, 2)].as_slice(),
+            (1, 1, 0),
+        ),
+        // a give-back inside a block, or of nothing, ends none; the torn line is no line
+        (
+            "+ 0x10100 0x20\n+ 0x10110 0x20\n- 0x10300\n- 0x10118\n- 0x10110",
+            [(0x10110, 32, 2)].as_slice(),
+            (2, 1, 1),
+        ),
+        (
+            "+ 0x10100 0x20\n+ 0x10200 0x10\n- 0x10100\n",
+            [(0x10200, 16, 2)].as_slice(),
+            (0, 0, 0),
+        ),
+        // nothing is allocated or given back at address 0
+        ("+ (nil) 0x10\n- (nil)\n", [].as_slice(), (0, 0, 0)),
+        // a block may end with the last address
+        (
+            "+ 0xffffffffffffffff 0\n+ 0xfffffffffffffff0 0xf\n",
+            [
+                (0xffff_ffff_ffff_fff0, 15, 2),
+                (0xffff_ffff_ffff_ffff, 0, 1),
+            ]
+            .as_slice(),
+            (0, 0, 0),
+        ),
+        // one allocation ends many
+        (
+            "+ 0x100 0x1\n+ 0x101 0x1\n+ 0x102 0\n+ 0x103 0x1\n+ 0x101 0x2\n",
+            [(0x100, 1, 1), (0x101, 2, 5), (0x103, 1, 4)].as_slice(),
+            (0, 2, 0),
+        ),
+    ];
+    for (text, blocks, counts) in cases {
+        let found = outcome(rt.alloc(), text)?;
+        assert_eq!(rt; found.0.as_slice(), blocks, "{text}");
+        assert_eq!(rt; found.1, counts, "{text}");
+    }
+    Ok(())
+}
+
+#[test]
+fn sizes_and_callers(rt: HostRuntime) -> Result<(), Fail> {
+    let text = "+ 0x10200 0x10\n@ ./a.out:[0x401136] + 0x10100 0x20\n";
+    let log = Log::read(rt.alloc(), text.as_bytes())?;
+    let live = replay(rt.alloc(), &log)?;
+    assert_eq!(rt; live.bytes(), 48);
+    assert_eq!(rt; live.unknown(), 0);
+    assert_eq!(rt; live.displaced(), 0);
+    let callers = ["./a.out:[0x401136]", ""];
+    for (block, caller) in live.blocks().iter().zip(callers) {
+        assert_eq!(rt; text.get(block.caller.0..block.caller.1), Some(caller));
+    }
+    Ok(())
+}

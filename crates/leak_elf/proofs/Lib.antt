@@ -1,0 +1,10 @@
+pub mod Accepted
+pub mod Faults
+pub mod Held
+pub mod Kept
+pub mod Meeting
+pub mod Meets
+pub mod Plain
+pub mod PlainWords
+pub mod Samples
+pub mod Sorted

@@ -1,0 +1,15 @@
+use Rattle.std.proofs.Common.{◌∙◌, sym, subst, false}
+use Rattle.leak_elf.specs.declared.segment.Segment.{Segment}
+use Rattle.leak_elf.specs.Segments.{AreKept}
+use Rattle.leak_elf.proofs.Held.{next_readable}
+use Rattle.leak_elf.proofs.image.ImageWords.next.Goals as goal
+
+abbrev empty : Segment
+empty = record { vaddr = 0; memsz = 0; offset = 0; filesz = 0; writable = false }
+
+pub returns-clause-least : goal.returns-clause-least
+returns-clause-least c =
+    let v = c.self.invariant in
+    let slice = c.as_slice.ensures.value in
+    let made = next_readable c.self.inside.core.now c.as_slice.result.now c.args.from empty c.find_next.result (slice ∙ v.1) (subst AreKept (sym slice) v.3.kept) c.find_next.ensures.least in
+    rw (← c.self.view_is) made

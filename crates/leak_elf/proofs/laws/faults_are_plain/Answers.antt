@@ -1,0 +1,5 @@
+use Rattle.leak_elf.proofs.Plain.{fault_plain}
+use Rattle.leak_elf.proofs.laws.faults_are_plain.Goals as goal
+
+pub returns : goal.returns
+returns c = fault_plain

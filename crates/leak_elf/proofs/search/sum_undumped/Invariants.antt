@@ -1,0 +1,10 @@
+use Rattle.std.proofs.Common.{◌≡◌, ℕ, ◌<◌, ◌≤◌, length, take, get_or}
+use Rattle.leak_elf.specs.declared.segment.Segment.{Segment}
+use Rattle.leak_elf.specs.Segments.{lacking}
+use Rattle.leak_elf.proofs.search.sum_undumped.Given as goal
+
+abbrev pub invariant-loop-segment : goal.invariant-loop-segment
+invariant-loop-segment l = record {
+  sum : l.total ≡ lacking (take l.segment-index l.segments);
+  below : (k : ℕ) (d : Segment) → l.segment-index ≤ k → k < length l.segments → l.total ≤ (get_or l.segments k d).vaddr;
+}

@@ -1,0 +1,8 @@
+pub mod Fields
+pub mod Headers
+pub mod Plain
+pub mod Refusals
+pub mod Segments
+pub mod Words
+pub mod Sample
+pub mod Aligned

@@ -1,0 +1,79 @@
+//! Program headers (System V gABI, elf(5)).
+
+ghost use Rattle.std.specs.Prelude.{◌≡◌, ◌+◌, ◌*◌, ◌≤◌, length, IfOk, IfErr};
+ghost use Rattle.leak_elf.specs.Fields.{e_phoff, e_phnum};
+ghost use Rattle.leak_elf.specs.Headers.{header_at, headers};
+
+use crate::error::ElfError;
+use crate::fields::{u16_at, u32_at, u64_at};
+use std::alloc::Global;
+
+/// The type of a header that describes a segment in memory.
+pub(crate) const PT_LOAD: u32 = 1;
+/// The type of a header that describes notes.
+pub(crate) const PT_NOTE: u32 = 4;
+
+/// The flag of a segment that can be written.
+pub(crate) const PF_W: u32 = 2;
+
+/// The type of a core file.
+pub(crate) const ET_CORE: u16 = 4;
+/// The machine of an x86-64 file.
+pub(crate) const EM_X86_64: u16 = 62;
+/// The count that says that the number of program headers stands elsewhere.
+pub(crate) const PN_XNUM: u16 = 0xffff;
+
+/// The size in bytes of a file header.
+pub(crate) const FILE_HEADER_SIZE: usize = 64;
+/// The size in bytes of a program header.
+pub(crate) const HEADER_SIZE: usize = 56;
+
+/// A program header. Its physical address and its alignment are not read.
+#[derive(Clone, Copy)]
+pub struct Header {
+    /// `p_type`.
+    pub kind: u32,
+    /// `p_flags`.
+    pub flags: u32,
+    /// `p_offset`, a file offset.
+    pub offset: u64,
+    /// `p_vaddr`, an address.
+    pub vaddr: u64,
+    /// `p_filesz`, in bytes.
+    pub filesz: u64,
+    /// `p_memsz`, in bytes.
+    pub memsz: u64,
+}
+
+/// The program header at the file offset.
+#[tactic(auto, unfolding(crate::specs::Headers::header_at))]
+fn read_header(core: &[u8], at: usize) -> Header
+    requires { at + 56 ≤ length core.now }
+    ensures { result ≡ header_at core.now at }
+{
+    Header {
+        kind: u32_at(core, at),
+        flags: u32_at(core, at + 4),
+        offset: u64_at(core, at + 8),
+        vaddr: u64_at(core, at + 16),
+        filesz: u64_at(core, at + 32),
+        memsz: u64_at(core, at + 40),
+    }
+}
+
+/// All program headers, in the order of the file.
+#[tactic(auto, unfolding(crate::specs::Headers::headers))]
+pub(crate) fn read_headers(alloc: Global, core: &[u8]) -> Result<Vec<Header>, ElfError>
+    requires short { 64 ≤ length core.now }
+    requires table { e_phoff core.now + 56 * e_phnum core.now ≤ length core.now }
+    ensures ok { IfOk result (λ v. v.items ≡ headers core.now) }
+    ensures refused { IfErr result (λ e. e ≡ ElfError.NoMemory) }
+{
+    let start = u64_at(core, 32) as usize;
+    let count = u16_at(core, 56) as usize;
+    let mut headers = Vec::new(alloc);
+    for i in 0..count {
+        headers.push(read_header(core, start + HEADER_SIZE * i))?;
+    }
+    Ok(headers)
+}

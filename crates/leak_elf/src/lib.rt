@@ -1,0 +1,30 @@
+//! Reads an x86-64 ELF core file: its segments, its notes and the words of its memory.
+//!
+//! [`Image::read`] accepts the bytes of a file or gives the first reason against it, an [`ElfError`].
+//! An [`Image`] borrows those bytes. It gives segments by ascending address, the parts of the file
+//! that hold notes, and, as [`Words`], the word at each address that is dumped.
+//!
+//! The rules are those of the System V gABI and elf(5). Bytes past the file size of a segment are
+//! not in the file, so they are no words, and no zeros are made up for them. Section headers are
+//! not read. What the contracts don't say is whether the file is a true picture of a process.
+#![tactic(auto)]
+
+mod error;
+mod fields;
+mod header;
+mod image;
+mod laws;
+mod refusal;
+mod sample;
+mod search;
+mod segment;
+#[cfg(test)]
+mod tests;
+mod words;
+
+pub use error::ElfError;
+pub use image::Image;
+pub use laws::{faults_are_plain, words_are_plain};
+pub use sample::core_k;
+pub use segment::{NotePart, Segment};
+pub use words::Words;

@@ -1,0 +1,131 @@
+//! Which files are accepted as cores.
+
+ghost use Rattle.std.specs.Prelude.{◌≡◌, ◌≢◌, ◌+◌, ◌*◌, ◌≤◌, length, IfOk, IfErr, OnOk, [], false, Some, None};
+ghost use Rattle.leak_elf.specs.Fields.{e_phoff, e_phnum};
+ghost use Rattle.leak_elf.specs.Refusals.{file_fault, extent_fault, faults_from, IsMeetingBefore};
+ghost use Rattle.leak_elf.specs.Segments.{meet_within};
+
+use crate::error::ElfError;
+use crate::fields::{u16_at, u64_at};
+use crate::header::{
+    EM_X86_64, ET_CORE, FILE_HEADER_SIZE, HEADER_SIZE, Header, PN_XNUM, PT_LOAD, PT_NOTE,
+};
+use crate::search::neighbors_meet;
+use crate::segment::kept_segments;
+use std::alloc::{AllocError, Global};
+
+/// Checks the file header.
+#[tactic(auto, unfolding(crate::specs::Refusals::file_fault))]
+pub(crate) fn check_file(core: &[u8]) -> Result<(), ElfError>
+    ensures ok { OnOk result (file_fault core.now ≡ None) }
+    ensures refused { IfErr result (λ e. file_fault core.now ≡ Some e) }
+    ensures length { OnOk result (64 ≤ length core.now) }
+    ensures table { OnOk result (e_phoff core.now + 56 * e_phnum core.now ≤ length core.now) }
+{
+    if core.len() < FILE_HEADER_SIZE {
+        return Err(ElfError::Short);
+    }
+    if core[..4] != [0x7f, 0x45, 0x4c, 0x46] {
+        return Err(ElfError::Magic);
+    }
+    if core[4] != 2 {
+        return Err(ElfError::Class);
+    }
+    if core[5] != 1 {
+        return Err(ElfError::Data);
+    }
+    if core[6] != 1 {
+        return Err(ElfError::Version);
+    }
+    if u16_at(core, 16) != ET_CORE {
+        return Err(ElfError::Kind);
+    }
+    if u16_at(core, 18) != EM_X86_64 {
+        return Err(ElfError::Machine);
+    }
+    if u16_at(core, 54) as usize != HEADER_SIZE {
+        return Err(ElfError::EntrySize);
+    }
+    let count = u16_at(core, 56);
+    if count == PN_XNUM {
+        return Err(ElfError::Extended);
+    }
+    let table = HEADER_SIZE * count as usize;
+    if core.len() < table || ((core.len() - table) as u64) < u64_at(core, 32) {
+        return Err(ElfError::TableCut);
+    }
+    Ok(())
+}
+
+/// Checks one program header by itself.
+#[tactic(auto, unfolding(crate::specs::Refusals::extent_fault))]
+fn check_extent(core: &[u8], i: usize, header: Header) -> Result<(), ElfError>
+    ensures ok { OnOk result (extent_fault core.now i header ≡ None) }
+    ensures refused { IfErr result (λ e. extent_fault core.now i header ≡ Some e) }
+{
+    let is_load = header.kind == PT_LOAD;
+    let end = header.offset.saturating_add(header.filesz);
+    if (is_load || header.kind == PT_NOTE) && header.filesz > 0 && end > core.len() as u64 {
+        return Err(ElfError::Truncated(i));
+    }
+    if !is_load {
+        return Ok(());
+    }
+    if header.filesz > header.memsz {
+        return Err(ElfError::SizeOrder(i));
+    }
+    if header.memsz > u64::MAX - header.vaddr {
+        return Err(ElfError::Wrap(i));
+    }
+    Ok(())
+}
+
+/// Whether two segments of the first headers have an address in common.
+#[tactic(auto, unfolding(crate::specs::Segments::meet_within))]
+fn meet(alloc: Global, headers: &[Header], count: usize) -> Result<bool, AllocError>
+    requires { count ≤ length headers.now }
+    ensures { IfOk result (λ b. b ≡ meet_within headers.now count) }
+{
+    let segments = kept_segments(alloc, &headers[..count])?;
+    Ok(neighbors_meet(segments.as_slice()))
+}
+
+/// Checks that no two segments of the first headers have an address in common, or gives the first
+/// header that has one in common with an earlier header.
+///
+/// Each test sorts the segments anew. So the search halves the headers, and a core without overlaps,
+/// which is the usual one, is sorted once.
+fn check_apart(alloc: Global, headers: &[Header], count: usize) -> Result<(), ElfError>
+    requires { count ≤ length headers.now }
+    ensures ok { OnOk result (meet_within headers.now count ≡ false) }
+    ensures refused { IfErr result (λ e. e ≢ ElfError.NoMemory → IsMeetingBefore headers.now count e) }
+{
+    if !meet(alloc, headers, count)? {
+        return Ok(());
+    }
+    let mut apart = 0;
+    let mut met = count;
+    while met - apart > 1 {
+        let middle = apart + (met - apart) / 2;
+        if meet(alloc, headers, middle)? {
+            met = middle;
+        } else {
+            apart = middle;
+        }
+    }
+    Err(ElfError::Overlap(apart))
+}
+
+/// Checks all program headers, in the order of the file.
+pub(crate) fn check_headers(alloc: Global, core: &[u8], headers: &[Header]) -> Result<(), ElfError>
+    ensures ok { OnOk result (faults_from core.now [] 0 headers.now ≡ None) }
+    ensures refused { IfErr result (λ e. e ≢ ElfError.NoMemory → faults_from core.now [] 0 headers.now ≡ Some e) }
+{
+    for (i, header) in headers.iter().enumerate() {
+        if let Err(error) = check_extent(core, i, *header) {
+            check_apart(alloc, headers, i)?;
+            return Err(error);
+        }
+    }
+    check_apart(alloc, headers, headers.len())
+}

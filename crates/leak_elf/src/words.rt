@@ -1,0 +1,31 @@
+//! Memory as a map from addresses to words.
+
+ghost use Rattle.std.specs.Prelude.{◌≡◌, ◌+◌, ◌≤◌, ◌%◌, ◌^◌, ℕ, Option, IfSome, IsSome};
+ghost use Rattle.leak_elf.specs.Words.{IsNextReadable, IsRun};
+
+/// A map from addresses to words of 8 bytes. Only multiples of 8 have a word.
+pub trait Words {
+    /// The word at each address that has one.
+    ghost word_at: { Self → ℕ → Option ℕ };
+
+    /// The word at the address, if it has one.
+    fn word(&self, addr: u64) -> Option<u64>
+        ensures value { result ≡ word_at self.now addr }
+        ensures place { IfSome result (λ _. (addr % 8 ≡ 0) × (addr + 8 ≤ 2 ^ 64)) };
+
+    /// The least address from `from` on that has a word, `from` included.
+    fn next(&self, from: u64) -> Option<u64>
+        ensures least { IsNextReadable (word_at self.now) from result }
+        ensures place { IfSome result (λ addr. (addr % 8 ≡ 0) × (addr + 8 ≤ 2 ^ 64)) };
+
+    /// Bytes of words that stand one behind another from the address on. There may be more such
+    /// words than it gives, and by default it gives none: a caller asks `word` for the others.
+    fn run(&self, from: u64) -> &[u8]
+        ensures { IsRun (word_at self.now) from result.now }
+    {
+        &[]
+    }
+
+    /// Only multiples of 8 have a word.
+    ghost aligned: { (words : Self) (addr : ℕ) → IsSome (word_at words addr) → addr % 8 ≡ 0 };
+}

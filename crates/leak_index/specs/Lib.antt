@@ -1,0 +1,5 @@
+pub mod Leads
+pub mod Readings
+pub mod Hits
+pub mod Bounds
+pub mod Rows

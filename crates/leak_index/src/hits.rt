@@ -1,0 +1,21 @@
+//! Lookups of words among blocks.
+ghost use Rattle.std.specs.Prelude.{◌≡◌};
+ghost use Rattle.leak_index.specs.Hits.{Index, hits_of, hits_in};
+
+/// The numbers of the blocks that a word leads to, ascending.
+#[derive(Clone, Copy, Debug, PartialEq, Eq)]
+pub enum Hits {
+    Zero,
+    One(usize),
+    Two(usize, usize),
+}
+
+/// A lookup of words among the live blocks of a log. Blocks count from 0 by ascending start.
+pub trait Lookup {
+    /// The blocks and the reading.
+    ghost index: { Self → Index };
+
+    /// The blocks that the word leads to.
+    fn hits(&self, word: u64) -> Hits
+        ensures { hits_in result ≡ hits_of (index self.now) word };
+}

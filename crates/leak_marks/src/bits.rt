@@ -1,0 +1,32 @@
+//! Where a block's mark stands.
+ghost use Rattle.std.specs.Prelude.{◌≡◌, ◌/◌, ◌%◌, ◌^◌, ◌↔◌, IsTrue};
+ghost use Rattle.leak_marks.specs.Lists.{word_count};
+ghost use Rattle.std.specs.Int.{bit_at};
+
+/// The word of a block.
+pub(crate) fn word_of(block: u32) -> usize
+    ensures { result ≡ block / 64 }
+{
+    (block / 64) as usize
+}
+
+/// The bit of a block, in its word.
+pub(crate) fn bit_of(block: u32) -> u64
+    ensures { result ≡ 2 ^ (block % 64) }
+{
+    1 << (block % 64)
+}
+
+/// Whether the bit of a block is set in the word.
+pub(crate) fn is_set(word: u64, block: u32) -> bool
+    ensures { IsTrue result ↔ bit_at word (block % 64) ≡ 1 }
+{
+    (word >> (block % 64)) & 1 == 1
+}
+
+/// The number of words for so many blocks.
+pub(crate) fn count_for(blocks: u32) -> usize
+    ensures { result ≡ word_count blocks }
+{
+    (blocks as usize).div_ceil(64).max(1)
+}

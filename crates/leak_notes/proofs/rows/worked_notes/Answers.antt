@@ -1,0 +1,25 @@
+-- Each answer is computed.
+use Rattle.std.proofs.Common.{refl}
+use Rattle.leak_elf.specs.Headers.{headers, header_at}
+use Rattle.leak_elf.specs.Fields.{number_at}
+use Rattle.leak_elf.specs.Sample.{sample, front, file_header, zeros, program_header, note_entry}
+use Rattle.leak_elf.specs.Segments.{note_parts_of}
+use Rattle.leak_notes.specs.Entry.{entries_from}
+use Rattle.leak_notes.specs.Threads.{note_fault_of, registers_of}
+use Rattle.leak_notes.proofs.rows.worked_notes.Goals as goal
+
+pub returns : goal.returns
+unfolding sample front file_header zeros program_header note_entry number_at header_at headers note_parts_of entries_from note_fault_of registers_of
+returns c = record {
+  accepted = refl;
+  cut = refl;
+  cut_second = refl;
+  skipped_second = refl;
+  size = refl;
+  other_kind = refl;
+  other_name = refl;
+  empty = refl;
+  no_part = refl;
+  zero = refl;
+  rbx = refl;
+}

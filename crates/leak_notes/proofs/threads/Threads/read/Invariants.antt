@@ -1,0 +1,6 @@
+-- The entries of the parts so far were taken up.
+use Rattle.leak_notes.proofs.Parts.{AreTaken}
+use Rattle.leak_notes.proofs.threads.Threads.read.Given as goal
+
+abbrev pub invariant-loop-i : goal.invariant-loop-i
+invariant-loop-i l = AreTaken l.image l.i l.threads

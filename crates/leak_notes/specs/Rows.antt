@@ -1,0 +1,19 @@
+-- Worked answers: each changes the sample core in one way.
+use Rattle.std.specs.Prelude.{◌≡◌, [], ◌∷◌, replicate, Some, None, slice_index}
+use Rattle.std.specs.Int.{w32, w64, to_le_bytes}
+use Rattle.leak_elf.specs.Sample.{sample, patched}
+use Rattle.leak_notes.specs.declared.error.NoteError.TheVariants.{Cut, StatusSize, NoThread}
+use Rattle.leak_notes.specs.Threads.{note_fault_of, registers_of}
+
+pub record AreAnswers : Type 0 where
+  pub accepted : note_fault_of sample ≡ None
+  pub cut : note_fault_of (patched sample 96 (to_le_bytes w64 300)) ≡ Some (Cut 176)
+  pub cut_second : note_fault_of (patched sample 96 (to_le_bytes w64 360)) ≡ Some (Cut 532)
+  pub skipped_second : note_fault_of (patched sample 96 (to_le_bytes w64 368)) ≡ None
+  pub size : note_fault_of (patched (patched sample 96 (to_le_bytes w64 352)) 180 (to_le_bytes w32 332)) ≡ Some (StatusSize 176)
+  pub other_kind : note_fault_of (patched sample 184 (6 ∷ [])) ≡ Some NoThread
+  pub other_name : note_fault_of (patched (patched sample 176 (6 ∷ [])) 188 (0x4c ∷ 0x49 ∷ 0x4e ∷ 0x55 ∷ 0x58 ∷ 0 ∷ [])) ≡ Some NoThread
+  pub empty : note_fault_of (patched sample 96 (to_le_bytes w64 0)) ≡ Some NoThread
+  pub no_part : note_fault_of (patched sample 64 (to_le_bytes w32 0)) ≡ Some NoThread
+  pub zero : registers_of sample ≡ replicate 27 0
+  pub rbx : slice_index (registers_of (patched sample 348 (to_le_bytes w64 0x10100))) 5 ≡ 0x10100

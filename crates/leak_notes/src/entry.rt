@@ -1,0 +1,141 @@
+//! One entry of the notes (elf(5)).
+
+ghost use Rattle.std.specs.Prelude.{◌≡◌, ◌+◌, ◌<◌, ◌≤◌, ◌^◌, length, IsTrue, IsFalse, ◌↔◌, []};
+ghost use Rattle.std.specs.Int.{w32};
+ghost use Rattle.leak_elf.specs.Fields.{number_at};
+ghost use Rattle.leak_notes.specs.Entry.{name_size, desc_size, kind, padded, name, desc_at, desc, entry_size, following, is_cut, is_status};
+
+use byteorder::{ByteOrder, LittleEndian};
+use std::marker::Model;
+
+/// The size in bytes of an entry's three fields.
+const FIELDS_SIZE: usize = 12;
+
+/// The type of a thread status.
+const NT_PRSTATUS: u32 = 1;
+
+/// The name of a thread status.
+const CORE: &[u8] = b"CORE\0";
+
+/// The size with its padding to a multiple of 4 bytes.
+fn pad(size: usize) -> usize
+    requires { size < 2 ^ 32 }
+    ensures { result ≡ padded size }
+{
+    (size + 3) / 4 * 4
+}
+
+/// The number of 32 bits at the place in the bytes.
+#[tactic(auto, unfolding(leak_elf::specs::Fields::number_at))]
+fn u32_at(bytes: &[u8], at: usize) -> u32
+    requires { at + 4 ≤ length bytes.now }
+    ensures { result ≡ number_at w32 bytes.now at }
+{
+    LittleEndian::read_u32(&bytes[at..at + 4])
+}
+
+/// An entry, as the bytes of its part from its first byte on.
+#[derive(Drop)]
+pub(crate) struct Entry<'a> {
+    offset: u64,
+    bytes: &'a [u8],
+}
+
+impl<'a> Model for Entry<'a> {
+    ghost Value = { Rattle.leak_notes.specs.Entry.Entry };
+
+    ghost view = { λ e. record { offset = e.offset; bytes = e.bytes.now } };
+
+    ghost invariant = { λ e. e.offset + length e.bytes.now < 2 ^ 64 };
+}
+
+impl<'a> Entry<'a> {
+    /// The first entry of a part that begins at the offset in the file.
+    pub(crate) fn first(offset: u64, part: &'a [u8]) -> Entry<'a>
+        requires { offset + length part.now < 2 ^ 64 }
+        ensures { result ≡ record { offset = offset; bytes = part.now } }
+    {
+        Entry {
+            offset,
+            bytes: part,
+        }
+    }
+
+    /// If the part ends here.
+    pub(crate) fn is_end(&self) -> bool
+        ensures { IsTrue result ↔ (self.now.bytes ≡ []) }
+    {
+        self.bytes.is_empty()
+    }
+
+    /// The offset in the file of its first byte.
+    pub(crate) fn offset(&self) -> u64
+        ensures { result ≡ self.now.offset }
+    {
+        self.offset
+    }
+
+    /// The size of its name in bytes, `namesz`.
+    fn name_size(&self) -> usize
+        requires { 12 ≤ length self.now.bytes }
+        ensures value { result ≡ name_size self.now }
+        ensures fits { result < 2 ^ 32 }
+    {
+        u32_at(self.bytes, 0) as usize
+    }
+
+    /// The size of its descriptor in bytes, `descsz`.
+    pub(crate) fn desc_size(&self) -> usize
+        requires { 12 ≤ length self.now.bytes }
+        ensures value { result ≡ desc_size self.now }
+        ensures fits { result < 2 ^ 32 }
+    {
+        u32_at(self.bytes, 4) as usize
+    }
+
+    /// Where its descriptor begins, counted from its first byte.
+    fn desc_at(&self) -> usize
+        requires { 12 ≤ length self.now.bytes }
+        ensures value { result ≡ desc_at self.now }
+        ensures fits { result < 2 ^ 33 }
+    {
+        FIELDS_SIZE + pad(self.name_size())
+    }
+
+    /// If its fields, its padded name or its descriptor pass the end of the part.
+    pub(crate) fn is_cut(&self) -> bool
+        ensures { result ≡ is_cut self.now }
+    {
+        self.bytes.len() < FIELDS_SIZE || self.bytes.len() < self.desc_at() + self.desc_size()
+    }
+
+    /// If it is a thread status.
+    pub(crate) fn is_status(&self) -> bool
+        requires { IsFalse (is_cut self.now) }
+        ensures { result ≡ is_status self.now }
+    {
+        u32_at(self.bytes, 8) == NT_PRSTATUS
+            && &self.bytes[FIELDS_SIZE..FIELDS_SIZE + self.name_size()] == CORE
+    }
+
+    /// Its descriptor.
+    pub(crate) fn desc(&self) -> &'a [u8]
+        requires { IsFalse (is_cut self.now) }
+        ensures { result.now ≡ desc self.now }
+    {
+        let start = self.desc_at();
+        &self.bytes[start..start + self.desc_size()]
+    }
+
+    /// The entry behind it, or the end of the part. The padding of the last descriptor may be missing.
+    pub(crate) fn following(&self) -> Entry<'a>
+        requires { IsFalse (is_cut self.now) }
+        ensures { result ≡ following self.now }
+    {
+        let size = (self.desc_at() + pad(self.desc_size())).min(self.bytes.len());
+        Entry {
+            offset: self.offset + size as u64,
+            bytes: &self.bytes[size..],
+        }
+    }
+}

@@ -1,0 +1,23 @@
+-- A live block's caller is that of its line.
+use Rattle.std.proofs.Common.{◌≡◌, ◌-◌, ℕ, suc, zero, List, [], ◌∷◌, Some, sym, ap, subst}
+use Rattle.std.specs.Prelude.{slice_get}
+use Rattle.std.specs.List.{AllByRecursion}
+use Rattle.leak_mtrace.specs.declared.line.Line.{Line}
+use Rattle.leak_mtrace.specs.Log.{IsCallerIn, CallersAreIn}
+use Rattle.leak_blocks.specs.declared.block.Block.{Block}
+use Rattle.leak_blocks.specs.Laws.{IsOfLine, LiveAreOfLines}
+use Rattle.leak_blocks.specs.Live.{live_of}
+use Rattle.leak_report.specs.Totals.{IsIn, HaveCallersIn}
+use Rattle.leak_report.proofs.Members.{each_implied}
+
+each_at : {X : Type 0} (P : X → Type 0) (xs : List X) (n : ℕ) (x : X) → AllByRecursion P xs → slice_get xs n ≡ Some x → P x
+each_at P [] n x all e = cc
+each_at P (y ∷ ys) zero x all e = let same : y ≡ x = cc in subst P same all.0
+each_at P (y ∷ ys) (suc n) x all e = each_at P ys n x all.1 e
+
+pub have_callers : LiveAreOfLines → (bytes : List ℕ) (lines : List Line) → CallersAreIn bytes lines → HaveCallersIn bytes (live_of lines)
+have_callers of bytes lines all =
+    each_implied (IsOfLine lines) (λ b. IsIn bytes b.caller)
+    (λ b is. let own : IsCallerIn bytes is.line = each_at (IsCallerIn bytes) lines (b.line - 1) is.line all is.at in
+    subst (IsIn bytes) (sym (ap (λ (x : Block). x.caller) is.same)) (record { order = own.order; within = own.within }))
+    (live_of lines) (of lines)

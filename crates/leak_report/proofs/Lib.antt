@@ -1,0 +1,10 @@
+pub mod Writes
+pub mod Leaks
+pub mod Joins
+pub mod Members
+pub mod Ranks
+pub mod Firsts
+pub mod Orders
+pub mod Texts
+pub mod Sums
+pub mod Callers

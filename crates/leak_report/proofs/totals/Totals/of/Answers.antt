@@ -1,0 +1,34 @@
+use Rattle.std.proofs.Common.{ap, arith}
+use Rattle.leak_report.specs.Totals.{leaked_in, bytes_of}
+use Rattle.leak_report.proofs.Leaks.{length-both, bytes_of-both, length-marked, bytes_of-marked}
+use Rattle.leak_report.proofs.Orders.{rows_are}
+use Rattle.leak_report.proofs.totals.Totals.of.Goals as goal
+
+pub overflow_sub-result : goal.overflow_sub-result
+overflow_sub-result c = omega (arith, c.marked_sizes-marked.ensures.number, length-marked c.args.set.now c.blocks-blocks.result.now)
+
+pub overflow_sub-result-2 : goal.overflow_sub-result-2
+overflow_sub-result-2 c =
+    omega (arith, c.marked_sizes-marked.ensures.bytes, bytes_of-marked c.args.set.now c.blocks-blocks.result.now, c.bytes-bytes.ensures, ap bytes_of c.blocks-blocks.ensures.value)
+
+pub returns-clause-count : goal.returns-clause-count
+returns-clause-count c =
+    rw (← c.blocks-blocks.ensures.value)
+    (omega (arith, c.marked_sizes-marked.ensures.number, length-both c.args.set.now c.blocks-blocks.result.now (rw c.blocks-blocks.ensures.value c.requires.one_each)))
+
+pub returns-clause-bytes : goal.returns-clause-bytes
+returns-clause-bytes c =
+    rw (← c.blocks-blocks.ensures.value)
+    (omega (
+      arith,
+      c.marked_sizes-marked.ensures.bytes,
+      c.bytes-bytes.ensures,
+      ap bytes_of c.blocks-blocks.ensures.value,
+      bytes_of-both c.args.set.now c.blocks-blocks.result.now (rw c.blocks-blocks.ensures.value c.requires.one_each),
+    ))
+
+pub returns-clause-rows : goal.returns-clause-rows
+returns-clause-rows c =
+    rw (← c.blocks-blocks.ensures.value)
+    (rows_are c.args.log.now (leaked_in c.args.set.now c.blocks-blocks.result.now) c.in_ok-groups.groups c.in_ok-rows.rows.items c.ranked_rows.ensures.ordered
+    c.in_ok-groups.ensures c.in_ok-rows.ensures.permutation c.in_ok-rows.ensures.sorted c.in_ok-rows.ensures.stable)

@@ -1,0 +1,34 @@
+-- Worked reports, over a log and the blocks that it has.
+use Rattle.std.specs.Prelude.{◌≡◌, ℕ, ◌++◌, true, false, List, [], ◌∷◌, codes, Option, Some, None}
+use Rattle.leak_blocks.specs.declared.block.Block.{Block}
+use Rattle.leak_report.specs.declared.head.Head.{Head}
+use Rattle.leak_report.specs.declared.head.Two.{Two}
+use Rattle.leak_report.specs.Report.{text_of}
+
+abbrev pub block : ℕ → ℕ → ℕ → ℕ × ℕ → Block
+block start size line caller = record { start = start; size = size; line = line; caller = caller }
+
+abbrev pub head : ℕ → ℕ → ℕ → Option Two → Head
+head unknown displaced torn two = record { undumped = 0; unknown = unknown; displaced = displaced; torn = torn; two = two }
+
+abbrev pub none_lines : List ℕ
+none_lines = codes "undumped 0\nunknown 0 displaced 0 torn 0\n"
+
+abbrev pub one_log : List ℕ
+one_log = codes "@ ./a.out:[0x401136] + 0x10100 0x20\n"
+
+abbrev pub four_log : List ℕ
+four_log = codes "@ a:[0x1] + 0x10100 0x20\n@ c:[0x3] + 0x10200 0x10\n@ c:[0x3] + 0x10300 0x18\n@ b:[0x2] + 0x10400 0x28\n"
+
+pub record AreWorkedReports : Type 0 where
+  pub nothing : text_of (head 0 0 0 None) [] [] [] ≡ codes "blocks 0 bytes 0\n" ++ none_lines ++ codes "marked 0 bytes 0\nleaked 0 bytes 0\n"
+  pub leaked : text_of (head 0 0 0 None) (block 0x10100 32 1 (2, 20) ∷ []) (false ∷ []) one_log
+      ≡ codes "blocks 1 bytes 32\n" ++ none_lines ++ codes "marked 0 bytes 0\nleaked 1 bytes 32\ncaller 1 32 ./a.out:[0x401136]\nleak 0x10100 32 1 ./a.out:[0x401136]\n"
+  pub marked : text_of (head 0 0 0 None) (block 0x10100 32 1 (2, 20) ∷ []) (true ∷ []) one_log
+      ≡ codes "blocks 1 bytes 32\n" ++ none_lines ++ codes "marked 1 bytes 32\nleaked 0 bytes 0\n"
+  pub counts : text_of (head 2 1 1 None) (block 0x10110 32 2 (0, 0) ∷ []) (false ∷ []) []
+      ≡ codes "blocks 1 bytes 32\nundumped 0\nunknown 2 displaced 1 torn 1\nmarked 0 bytes 0\nleaked 1 bytes 32\ncaller 1 32 ?\nleak 0x10110 32 2 ?\n"
+  pub two : text_of (head 0 0 0 (Some (record { fresh = 1; fresh_bytes = 32; reread = 0 }))) (block 0x10100 32 4 (0, 0) ∷ block 0x10200 16 2 (0, 0) ∷ []) (true ∷ true ∷ []) []
+      ≡ codes "blocks 2 bytes 48\n" ++ none_lines ++ codes "new 1 bytes 32\nreread 0\nmarked 2 bytes 48\nleaked 0 bytes 0\n"
+  pub callers : text_of (head 0 0 0 None) (block 0x10100 32 1 (2, 9) ∷ block 0x10200 16 2 (27, 34) ∷ block 0x10300 24 3 (52, 59) ∷ block 0x10400 40 4 (77, 84) ∷ []) (false ∷ false ∷ false ∷ false ∷ []) four_log
+      ≡ codes "blocks 4 bytes 112\n" ++ none_lines ++ codes "marked 0 bytes 0\nleaked 4 bytes 112\ncaller 1 40 b:[0x2]\ncaller 2 40 c:[0x3]\ncaller 1 32 a:[0x1]\nleak 0x10100 32 1 a:[0x1]\nleak 0x10200 16 2 c:[0x3]\nleak 0x10300 24 3 c:[0x3]\nleak 0x10400 40 4 b:[0x2]\n"

@@ -1,0 +1,6 @@
+pub mod Totals
+pub mod Groups
+pub mod Laws
+pub mod Lines
+pub mod Report
+pub mod Examples

@@ -1,0 +1,23 @@
+//! Laws of the definitions, and worked reports.
+ghost use Rattle.leak_report.specs.Examples.{AreWorkedReports};
+ghost use Rattle.leak_report.specs.Laws.{RowsAreSums, LiveHaveCallers};
+
+use leak_blocks::live_are_of_lines;
+
+/// The rows by caller are the one list in which each row sums up the blocks with its text, each block has a row, and
+/// each row ranks before the later ones.
+pub fn rows_are_sums()
+    ensures { RowsAreSums }
+{}
+
+/// The reports of some blocks.
+pub fn worked_reports()
+    ensures { AreWorkedReports }
+{}
+
+/// The live blocks of a log have their callers in it, as [`text`](crate::text) wants.
+pub fn live_have_callers()
+    ensures { LiveHaveCallers }
+{
+    live_are_of_lines();
+}

@@ -1,0 +1,112 @@
+//! The lines of the report.
+ghost use Rattle.std.specs.Prelude.{◌≡◌, ◌++◌, OnOk, codes, string_bytes};
+ghost use Rattle.leak_report.specs.Totals.{IsIn, text_at};
+ghost use Rattle.leak_report.specs.Lines.{newline, sizes_line, undumped_line, log_line, reread_line, two_lines, caller_front, leak_front, caller_line, leak_line};
+
+use crate::head::{Head, Two};
+use crate::totals::CallerRow;
+use leak_blocks::Block;
+use std::alloc::AllocError;
+
+/// The text that is shown for a caller: its bytes in the log, or a question mark for none.
+pub fn caller_text<'a>(log: &'a [u8], caller: (usize, usize)) -> &'a [u8]
+    requires { IsIn log.now caller }
+    ensures { result.now ≡ text_at log.now caller }
+{
+    if caller.0 < caller.1 {
+        &log[caller.0..caller.1]
+    } else {
+        b"?"
+    }
+}
+
+/// Appends a line of some blocks: their name, their number and the sum of their sizes.
+pub fn push_sizes(out: &mut String, name: &str, blocks: u64, bytes: u64) -> Result<(), AllocError>
+    ensures { OnOk result (string_bytes out.new ≡ string_bytes out.old ++ sizes_line name.now blocks bytes) }
+{
+    writeln!(out, "{name} {blocks} bytes {bytes}")
+}
+
+/// Appends the lines of what the core leaves out and of what is odd about the log.
+pub fn push_head(out: &mut String, head: &Head) -> Result<(), AllocError>
+    ensures { OnOk result (string_bytes out.new ≡ string_bytes out.old ++ undumped_line head.now ++ log_line head.now) }
+{
+    let Head {
+        undumped,
+        unknown,
+        displaced,
+        torn,
+        ..
+    } = *head;
+    writeln!(out, "undumped {undumped}")?;
+    writeln!(out, "unknown {unknown} displaced {displaced} torn {torn}")
+}
+
+/// Appends the lines of a search in two cores.
+pub fn push_two(out: &mut String, two: Option<Two>) -> Result<(), AllocError>
+    ensures { OnOk result (string_bytes out.new ≡ string_bytes out.old ++ two_lines two) }
+{
+    let Some(
+        Two {
+            fresh,
+            fresh_bytes,
+            reread,
+        },
+    ) = two
+    else {
+        return Ok(());
+    };
+    push_sizes(out, "new", fresh, fresh_bytes)?;
+    writeln!(out, "reread {reread}")
+}
+
+/// Appends a line that ends in a text.
+fn push_line(out: &mut Vec<u8>, front: &str, text: &[u8]) -> Result<(), AllocError>
+    ensures { OnOk result (out.new.items ≡ out.old.items ++ (front.now ++ text.now ++ newline)) }
+{
+    out.extend_from_slice(front.as_bytes())?;
+    out.extend_from_slice(text)?;
+    out.push(b'\n')?;
+    Ok(())
+}
+
+/// Appends a caller's line. Its front is made in the buffer.
+pub fn push_caller(
+    out: &mut Vec<u8>,
+    buffer: &mut String,
+    row: &CallerRow,
+    log: &[u8],
+) -> Result<(), AllocError>
+    requires { IsIn log.now row.now.caller }
+    ensures { OnOk result (out.new.items ≡ out.old.items ++ caller_line log.now row.now) }
+{
+    let CallerRow {
+        blocks,
+        bytes,
+        caller,
+    } = *row;
+    buffer.clear();
+    write!(buffer, "caller {blocks} {bytes} ")?;
+    push_line(out, buffer.as_str(), caller_text(log, caller))
+}
+
+/// Appends a leaked block's line. Its front is made in the buffer.
+pub fn push_leak(
+    out: &mut Vec<u8>,
+    buffer: &mut String,
+    block: &Block,
+    log: &[u8],
+) -> Result<(), AllocError>
+    requires { IsIn log.now block.now.caller }
+    ensures { OnOk result (out.new.items ≡ out.old.items ++ leak_line log.now block.now) }
+{
+    let Block {
+        start,
+        size,
+        line,
+        caller,
+    } = *block;
+    buffer.clear();
+    write!(buffer, "leak 0x{start:x} {size} {line} ")?;
+    push_line(out, buffer.as_str(), caller_text(log, caller))
+}

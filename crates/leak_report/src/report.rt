@@ -1,0 +1,95 @@
+//! The whole report.
+ghost use Rattle.std.specs.Prelude.{◌≡◌, ◌++◌, ◌-◌, ◌≤◌, length, flat_map, codes, string_bytes, IfOk, OnOk};
+ghost use Rattle.std.specs.List.{AllByRecursion};
+ghost use Rattle.leak_report.specs.Totals.{bytes_of, leaked_in, IsIn, HaveCallersIn};
+ghost use Rattle.leak_report.specs.Lines.{sizes_line, undumped_line, log_line, two_lines, caller_line, leak_line};
+ghost use Rattle.leak_report.specs.Report.{text_of};
+
+use crate::head::Head;
+use crate::lines::{push_caller, push_head, push_leak, push_sizes, push_two};
+use crate::totals::{CallerRow, Totals};
+use leak_blocks::{Block, Live};
+use std::alloc::{AllocError, Global};
+
+/// Makes the report of the live blocks, of which the set has the marked ones. The log's bytes are those that the
+/// callers are ranges of.
+pub fn text(
+    alloc: Global,
+    head: &Head,
+    live: &Live,
+    set: &[bool],
+    log: &[u8],
+) -> Result<Vec<u8>, AllocError>
+    requires one_each { length set.now ≡ length live.now.blocks }
+    requires in_log { HaveCallersIn log.now live.now.blocks }
+    ensures { IfOk result (λ out. out.items ≡ text_of head.now live.now.blocks set.now log.now) }
+{
+    let totals = Totals::of(alloc, live, set, log)?;
+    let mut out = sums(alloc, head, live, &totals)?.into_bytes();
+    push_callers(alloc, &mut out, totals.rows.as_slice(), log)?;
+    push_leaks(alloc, &mut out, live.blocks(), set, log)?;
+    Ok(out)
+}
+
+/// The lines before those of callers and leaked blocks.
+fn sums(alloc: Global, head: &Head, live: &Live, totals: &Totals) -> Result<String, AllocError>
+    requires few { totals.now.blocks ≤ length live.now.blocks }
+    requires small { totals.now.bytes ≤ bytes_of live.now.blocks }
+    ensures { IfOk result (λ out. string_bytes out ≡
+        sizes_line (codes "blocks") (length live.now.blocks) (bytes_of live.now.blocks)
+        ++ undumped_line head.now ++ log_line head.now ++ two_lines head.now.two
+        ++ sizes_line (codes "marked") (length live.now.blocks - totals.now.blocks) (bytes_of live.now.blocks - totals.now.bytes)
+        ++ sizes_line (codes "leaked") totals.now.blocks totals.now.bytes) }
+{
+    let (blocks, bytes) = (live.blocks().len() as u64, live.bytes());
+    let mut out = String::new(alloc);
+    push_sizes(&mut out, "blocks", blocks, bytes)?;
+    push_head(&mut out, head)?;
+    push_two(&mut out, head.two)?;
+    push_sizes(
+        &mut out,
+        "marked",
+        blocks - totals.blocks,
+        bytes - totals.bytes,
+    )?;
+    push_sizes(&mut out, "leaked", totals.blocks, totals.bytes)?;
+    Ok(out)
+}
+
+/// Appends the callers' lines.
+fn push_callers(
+    alloc: Global,
+    out: &mut Vec<u8>,
+    rows: &[CallerRow],
+    log: &[u8],
+) -> Result<(), AllocError>
+    requires { AllByRecursion (λ row. IsIn log.now row.caller) rows.now }
+    ensures { OnOk result (out.new.items ≡ out.old.items ++ flat_map (caller_line log.now) rows.now) }
+{
+    let mut buffer = String::new(alloc);
+    for row in rows {
+        push_caller(out, &mut buffer, row, log)?;
+    }
+    Ok(())
+}
+
+/// Appends the lines of the blocks that the set leaves out.
+fn push_leaks(
+    alloc: Global,
+    out: &mut Vec<u8>,
+    blocks: &[Block],
+    set: &[bool],
+    log: &[u8],
+) -> Result<(), AllocError>
+    requires one_each { length set.now ≡ length blocks.now }
+    requires in_log { HaveCallersIn log.now blocks.now }
+    ensures { OnOk result (out.new.items ≡ out.old.items ++ flat_map (leak_line log.now) (leaked_in set.now blocks.now)) }
+{
+    let mut buffer = String::new(alloc);
+    for (i, block) in blocks.iter().enumerate() {
+        if !set[i] {
+            push_leak(out, &mut buffer, block, log)?;
+        }
+    }
+    Ok(())
+}

@@ -1,0 +1,198 @@
+ghost use Rattle.std.specs.Prelude.{◌≡◌, length, IfOk, IsTrue};
+ghost use Rattle.leak_report.specs.Totals.{HaveCallersIn};
+
+use super::*;
+use leak_blocks::{Block, Live, replay};
+use leak_mtrace::Log;
+use std::alloc::Global;
+use std::io;
+use std::io::{ErrorKind, Write};
+use std::process::Abort;
+use std::test::Fail;
+
+/// Whether the callers of the blocks are ranges of the log.
+fn have_callers_in(blocks: &[Block], log: &[u8]) -> bool
+    ensures { IsTrue result → HaveCallersIn log.now blocks.now }
+{
+    blocks.iter().all(|block| block.caller.0 <= block.caller.1 && block.caller.1 <= log.len())
+}
+
+const NOTHING_ODD: Head = Head {
+    undumped: 0,
+    unknown: 0,
+    displaced: 0,
+    torn: 0,
+    two: None,
+};
+
+/// The report of a log whose marked blocks are these.
+fn report(
+    rt: &impl Abort,
+    alloc: Global,
+    head: &Head,
+    log: &str,
+    marked: &[bool],
+) -> Result<Vec<u8>, Fail> {
+    let lines = Log::read(alloc, log.as_bytes())?;
+    let live = replay(alloc, &lines)?;
+    assert!(rt; live.blocks().len() == marked.len());
+    assert!(rt; have_callers_in(live.blocks(), log.as_bytes()));
+    Ok(text(alloc, head, &live, marked, log.as_bytes())?)
+}
+
+#[test]
+fn whole_reports(rt: HostRuntime) -> Result<(), Fail> {
+    let cases = [
+        (
+            "",
+            [].as_slice(),
+            "blocks 0 bytes 0\nundumped 0\nunknown 0 displaced 0 torn 0\nmarked 0 bytes 0\nleaked 0 bytes 0\n",
+        ),
+        (
+            "@ ./a.out:[0x401136] + 0x10100 0x20\n",
+            [true].as_slice(),
+            "blocks 1 bytes 32\nundumped 0\nunknown 0 displaced 0 torn 0\nmarked 1 bytes 32\nleaked 0 bytes 0\n",
+        ),
+        // rows by their bytes, not by their blocks, and ties by the text
+        (
+            "@ a:[0x1] + 0x10100 0x20\n@ c:[0x3] + 0x10200 0x10\n@ c:[0x3] + 0x10300 0x18\n@ b:[0x2] + 0x10400 0x28\n",
+            [false, false, false, false].as_slice(),
+            "blocks 4 bytes 112\nundumped 0\nunknown 0 displaced 0 torn 0\nmarked 0 bytes 0\nleaked 4 bytes 112\ncaller 1 40 b:[0x2]\ncaller 2 40 c:[0x3]\ncaller 1 32 a:[0x1]\nleak 0x10100 32 1 a:[0x1]\nleak 0x10200 16 2 c:[0x3]\nleak 0x10300 24 3 c:[0x3]\nleak 0x10400 40 4 b:[0x2]\n",
+        ),
+        // a caller that is a question mark, and no caller, have one row
+        (
+            "@ ? + 0x10100 0x20\n+ 0x10200 0x10\n+ 0x10300 0x8\n",
+            [false, false, true].as_slice(),
+            "blocks 3 bytes 56\nundumped 0\nunknown 0 displaced 0 torn 0\nmarked 1 bytes 8\nleaked 2 bytes 48\ncaller 2 48 ?\nleak 0x10100 32 1 ?\nleak 0x10200 16 2 ?\n",
+        ),
+    ];
+    for (log, marked, wanted) in cases {
+        let found = report(&rt, rt.alloc(), &NOTHING_ODD, log, marked)?;
+        assert_eq!(rt; found.as_slice(), wanted.as_bytes(), "{log}");
+    }
+    Ok(())
+}
+
+#[test]
+fn heads_and_two_cores(rt: HostRuntime) -> Result<(), Fail> {
+    let head = Head {
+        undumped: 4096,
+        unknown: 2,
+        displaced: 1,
+        torn: 1,
+        two: Some(Two {
+            fresh: 1,
+            fresh_bytes: 32,
+            reread: 18_446_744_073_709_551_615,
+        }),
+    };
+    let log = "+ 0x10100 0x20\n+ 0x10200 0x10\n";
+    let found = report(&rt, rt.alloc(), &head, log, &[true, true])?;
+    let wanted =
+        "blocks 2 bytes 48\nundumped 4096\nunknown 2 displaced 1 torn 1\nnew 1 bytes 32\nreread 18446744073709551615\nmarked 2 bytes 48\nleaked 0 bytes 0\n";
+    assert_eq!(rt; found.as_slice(), wanted.as_bytes());
+    Ok(())
+}
+
+#[test]
+fn totals_of_leaked_blocks(rt: HostRuntime) -> Result<(), Fail> {
+    let log = "@ b + 0x100 0x8\n@ a + 0x200 0x8\n@ b + 0x300 0\n@ a + 0x400 0xffff\n";
+    let live = replay(rt.alloc(), &Log::read(rt.alloc(), log.as_bytes())?)?;
+    let set = [false, false, false, true];
+    assert!(rt; live.blocks().len() == set.len());
+    assert!(rt; have_callers_in(live.blocks(), log.as_bytes()));
+    let totals = Totals::of(rt.alloc(), &live, &set, log.as_bytes())?;
+    assert_eq!(rt; (totals.blocks, totals.bytes), (3, 16));
+    let rows = [(1, 8, (18, 19)), (2, 8, (2, 3))];
+    assert_eq!(rt; totals.rows.len(), rows.len());
+    for (row, (blocks, bytes, caller)) in totals.rows.iter().zip(rows) {
+        assert_eq!(rt;
+            (row.blocks, row.bytes, row.caller),
+            (blocks, bytes, caller)
+        );
+    }
+    Ok(())
+}
+
+/// A writer that is interrupted some times before each write, takes a few bytes at a time, and has room for some.
+/// When it is full it fails, or takes nothing.
+#[derive(Drop)]
+struct Device {
+    held: Vec<u8>,
+    step: usize,
+    room: usize,
+    fails: bool,
+    interruptions: u64,
+}
+
+impl Write for Device {
+    fn write(&mut self, bytes: &[u8]) -> io::Result<usize> {
+        if self.interruptions > 0 {
+            self.interruptions -= 1;
+            return Err(io::Error::from(ErrorKind::Interrupted));
+        }
+        if self.room == 0 && self.fails {
+            return Err(io::Error::from(ErrorKind::Other));
+        }
+        let count = bytes.len().min(self.step).min(self.room);
+        self.held.extend_from_slice(&bytes[..count])?;
+        self.room -= count;
+        Ok(count)
+    }
+
+    fn flush(&mut self) -> io::Result<()> {
+        Ok(())
+    }
+}
+
+fn sink(alloc: Global, step: usize, room: usize, fails: bool, interruptions: u64) -> Device {
+    Device {
+        held: Vec::new(alloc),
+        step,
+        room,
+        fails,
+        interruptions,
+    }
+}
+
+#[test]
+fn a_fault_tells_what_was_taken(rt: HostRuntime) -> Result<(), Fail> {
+    let text = report(&rt, rt.alloc(), &NOTHING_ODD, "", &[])?;
+    for fails in [true, false] {
+        let mut full = sink(rt.alloc(), 4, 10, fails, 3);
+        let result = write(text.as_slice(), &mut full);
+        assert_eq!(rt; result, Err(WriteFault { written: 10 }));
+        assert_eq!(rt; full.held.as_slice(), b"blocks 0 b".as_slice());
+    }
+    Ok(())
+}
+
+#[test]
+fn interruptions_are_counted(rt: HostRuntime) -> Result<(), Fail> {
+    let mut patient = sink(rt.alloc(), 2, 100, true, 999_999);
+    assert_eq!(rt; write(b"leaked", &mut patient), Ok(()));
+    assert_eq!(rt; patient.held.as_slice(), b"leaked".as_slice());
+    let mut endless = sink(rt.alloc(), 2, 100, true, 1_000_000);
+    assert_eq!(rt;
+        write(b"leaked", &mut endless),
+        Err(WriteFault { written: 0 })
+    );
+    assert_eq!(rt; endless.held.as_slice(), b"".as_slice());
+    Ok(())
+}
+
+#[test]
+fn a_vec_takes_the_text(rt: HostRuntime) -> Result<(), Fail> {
+    let mut out = Vec::from_slice(rt.alloc(), b"torn ")?;
+    assert_eq!(rt; write(b"1\n", &mut out), Ok(()));
+    assert_eq!(rt; out.as_slice(), b"torn 1\n".as_slice());
+    Ok(())
+}
+
+#[test]
+fn fault_text(rt: HostRuntime) -> Result<(), Fail> {
+    let fault = WriteFault { written: 10 };
+    let text = format!(in rt.alloc(); "{fault}")?;
+    assert_eq!(rt; text.as_str(), "write failed after 10 bytes");
+    Ok(())
+}

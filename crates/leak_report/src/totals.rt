@@ -1,0 +1,69 @@
+//! The leaked blocks in sum, and by caller.
+ghost use Rattle.std.specs.Prelude.{◌≡◌, ◌^◌, ◌<◌, length, IfOk};
+ghost use Rattle.leak_report.specs.Totals.{marked_in, leaked_in, bytes_of, rows_of, HaveCallersIn};
+
+use crate::grouping::{leaked_groups, ranked_rows};
+use leak_blocks::{Block, Live};
+use std::alloc::{AllocError, Global};
+
+/// The leaked blocks with one text of the caller.
+#[derive(Clone, Copy, Debug, PartialEq, Eq)]
+pub struct CallerRow {
+    /// The number of the blocks.
+    pub blocks: u64,
+    /// The sum of their sizes, in bytes.
+    pub bytes: u64,
+    /// The caller of the one at the least address, as a range of the log's bytes with its end excluded.
+    pub caller: (usize, usize),
+}
+
+/// The leaked blocks in sum, and by caller: those of the live blocks that are not marked.
+#[derive(Debug, Drop)]
+pub struct Totals {
+    /// The number of leaked blocks.
+    pub blocks: u64,
+    /// The sum of their sizes, in bytes.
+    pub bytes: u64,
+    /// One row for each text of a caller, the most bytes first, ties by the ascending bytes of the text.
+    pub rows: Vec<CallerRow>,
+}
+
+impl Totals {
+    /// Sums up the live blocks that the set leaves out. The log's bytes are those that the callers are ranges of.
+    pub fn of(alloc: Global, live: &Live, set: &[bool], log: &[u8]) -> Result<Totals, AllocError>
+        requires one_each { length set.now ≡ length live.now.blocks }
+        requires in_log { HaveCallersIn log.now live.now.blocks }
+        ensures count { IfOk result (λ totals. totals.blocks ≡ length (leaked_in set.now live.now.blocks)) }
+        ensures bytes { IfOk result (λ totals. totals.bytes ≡ bytes_of (leaked_in set.now live.now.blocks)) }
+        ensures rows { IfOk result (λ totals. totals.rows.items ≡ rows_of log.now (leaked_in set.now live.now.blocks)) }
+    {
+        let blocks = live.blocks();
+        let bytes = live.bytes();
+        let (marked, marked_bytes) = marked_sizes(blocks, set);
+        let groups = leaked_groups(alloc, blocks, set, log)?;
+        let rows = ranked_rows(alloc, &groups)?;
+        Ok(Totals {
+            blocks: blocks.len() as u64 - marked,
+            bytes: bytes - marked_bytes,
+            rows,
+        })
+    }
+}
+
+/// The number of the marked blocks, and the sum of their sizes.
+fn marked_sizes(blocks: &[Block], set: &[bool]) -> (u64, u64)
+    requires one_each { length set.now ≡ length blocks.now }
+    requires fits { bytes_of blocks.now < 2 ^ 64 }
+    ensures number { result.0 ≡ length (marked_in set.now blocks.now) }
+    ensures bytes { result.1 ≡ bytes_of (marked_in set.now blocks.now) }
+{
+    let mut number = 0;
+    let mut bytes = 0;
+    for (i, block) in blocks.iter().enumerate() {
+        if set[i] {
+            number += 1;
+            bytes += block.size;
+        }
+    }
+    (number, bytes)
+}

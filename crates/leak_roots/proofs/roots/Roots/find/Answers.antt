@@ -1,0 +1,16 @@
+use Rattle.std.proofs.Common.{◌∙◌, ap}
+use Rattle.leak_notes.specs.Threads.{Registers, threads_of}
+use Rattle.leak_roots.specs.Roots.{root_places}
+use Rattle.leak_roots.proofs.Gaps.{are_ordered}
+use Rattle.leak_roots.proofs.roots.Roots.find.Goals as goal
+
+pub find_ranges-requires : goal.find_ranges-requires
+find_ranges-requires c = are_ordered _ c.blocks-2.ensures.addressed c.blocks-2.ensures.disjoint
+
+pub returns : goal.returns
+unfolding threads_of
+returns c = record {
+  registers = c.in_ok-registers.ensures.items_if_clones_equal (λ x y e. e) ∙ c.registers.ensures ∙ ap (λ (t : Registers). t.registers) c.requires;
+  memory = c.in_ok-memory.ensures.places ∙ ap (root_places c.args.image.now) c.blocks-2.ensures.value;
+  ranges = c.in_ok-memory.ensures.ranges;
+}

@@ -1,0 +1,15 @@
+-- Each answer is computed.
+use Rattle.std.proofs.Common.{refl}
+use Rattle.leak_elf.specs.Fields.{number_at}
+use Rattle.leak_elf.specs.Headers.{headers, header_at}
+use Rattle.leak_elf.specs.Sample.{sample, front, file_header, zeros, program_header, note_entry}
+use Rattle.leak_elf.specs.Segments.{segments_of, note_parts_of}
+use Rattle.leak_elf.specs.Words.{word_of, word_in}
+use Rattle.leak_notes.specs.Entry.{entries_from}
+use Rattle.leak_notes.specs.Threads.{registers_of}
+use Rattle.leak_roots.specs.Roots.{root_places, root_words}
+use Rattle.leak_roots.proofs.rows.worked_roots.Goals as goal
+
+pub returns : goal.returns
+unfolding sample front file_header zeros program_header note_entry number_at header_at headers segments_of note_parts_of word_of word_in entries_from registers_of root_places root_words
+returns c = record { without_blocks = refl; with_a_block = refl }

@@ -1,0 +1,41 @@
+-- Root words: the registers, and the readable words of writable segments that share no byte with a live block
+-- (after bdwgc's roots). Own rule: freed memory and dead stack are roots, since what points from there is not known.
+use Rattle.std.specs.Prelude.{◌≡◌, ℕ, ◌+◌, ◌<◌, ◌≤◌, ◌^◌, length, slice_index_or, min, max, Bool, not, ◌&&◌, ◌%◌, ◌==◌, List, ◌++◌, nat_lt, filter, flat_map, filter_map, is_some}
+use Rattle.std.specs.List.{list_all}
+use Rattle.leak_elf.specs.declared.segment.Segment.{Segment}
+use Rattle.leak_elf.specs.Segments.{segments_of}
+use Rattle.leak_elf.specs.Words.{places, word_of}
+use Rattle.leak_notes.specs.Threads.{registers_of}
+use Rattle.leak_blocks.specs.declared.block.Block.{Block}
+use Rattle.leak_roots.specs.Places.{Places, memory_places, AreRanges}
+
+-- the 8 bytes from the address on are apart from the bytes of the block; a block of size 0 has none
+abbrev pub is_apart : ℕ → Block → Bool
+is_apart a b = not (nat_lt (max a b.start) (min (a + 8) (b.start + b.size)))
+
+-- blocks by ascending address, each ending in the address space and before the next begins
+pub record AreOrdered (blocks : List Block) : Type 0 where
+  pub apart : (j k : ℕ) (d : Block) → j < k → k < length blocks → (slice_index_or blocks j d).start + (slice_index_or blocks j d).size ≤ (slice_index_or blocks k d).start
+  pub fit : (k : ℕ) (d : Block) → k < length blocks → (slice_index_or blocks k d).start + (slice_index_or blocks k d).size < 2 ^ 64
+
+-- an address of a root word, as far as the blocks say
+abbrev pub is_free : List Block → ℕ → Bool
+is_free blocks a = (a % 8 == 0) && list_all (is_apart a) blocks
+
+-- the addresses of a segment that hold a root word
+abbrev pub root_places_in : List ℕ → List Block → Segment → List ℕ
+root_places_in file blocks s = filter (λ a. is_some (word_of file a) && list_all (is_apart a) blocks) (places s.vaddr (s.vaddr + s.filesz))
+
+-- the addresses that hold a root word, in ascending order
+unfoldable pub root_places : List ℕ → List Block → List ℕ
+root_places file blocks = flat_map (root_places_in file blocks) (filter (λ s. s.writable) (segments_of file))
+
+-- the root words of a core: registers first, then memory by address
+unfoldable pub root_words : List ℕ → List Block → List ℕ
+root_words file blocks = registers_of file ++ filter_map (word_of file) (root_places file blocks)
+
+-- these are the places of the core's root words, each once
+pub record AreRootsOf (file : List ℕ) (blocks : List Block) (p : Places) : Type 0 where
+  pub registers : p.registers ≡ registers_of file
+  pub memory : memory_places p.memory ≡ root_places file blocks
+  pub ranges : AreRanges p.memory

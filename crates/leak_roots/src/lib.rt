@@ -1,0 +1,24 @@
+//! Finds the root words of a core, from which marking starts, and cuts them into pieces.
+//!
+//! [`Roots::find`] takes the register words of all threads, and the words in writable segments that share no byte
+//! with a live block: globals, stacks, and what the allocator keeps between blocks. [`Roots`] holds memory as ranges
+//! of addresses, so it is small. [`Roots::cut`] makes [`Piece`]s of it, units of work of bounded size.
+//!
+//! Registers and writable memory as roots follow bdwgc. That freed memory and dead stack are roots too is own rule,
+//! with that no stack limit is read from a register. What the contracts don't say is whether a root word is a pointer.
+#![tactic(auto)]
+
+mod error;
+mod laws;
+mod piece;
+mod places;
+mod roots;
+mod rows;
+#[cfg(test)]
+mod tests;
+
+pub use error::CutError;
+pub use laws::pieces_hold_root_words;
+pub use piece::Piece;
+pub use roots::Roots;
+pub use rows::worked_roots;

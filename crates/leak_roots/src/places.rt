@@ -1,0 +1,86 @@
+//! Ranges of root words in memory.
+
+ghost use Rattle.std.specs.Prelude.{◌≡◌, ◌+◌, ◌++◌, ◌<◌, ◌≤◌, ◌^◌, ℕ, length, filter, slice_index_or, OnOk, IfOk};
+ghost use Rattle.leak_elf.specs.Words.{places};
+ghost use Rattle.leak_blocks.specs.declared.block.Block.{Block};
+ghost use Rattle.leak_blocks.specs.Span.{AreAddressed, AreDisjoint};
+ghost use Rattle.leak_roots.specs.Places.{memory_places, aligned_places, AreRanges, EndBy};
+ghost use Rattle.leak_roots.specs.Roots.{AreOrdered, is_free, root_places};
+
+use leak_blocks::Block;
+use leak_elf::Image;
+use std::alloc::{AllocError, Global};
+
+/// Adds the words whose bytes lie between two addresses, as one range behind the others.
+fn push_range(memory: &mut Vec<(u64, u64)>, from: u64, to: u64) -> Result<(), AllocError>
+    requires ranges { AreRanges memory.old.items }
+    requires ends { EndBy from memory.old.items }
+    ensures places { OnOk result (memory_places memory.new.items ≡ memory_places memory.old.items ++ aligned_places from to) }
+    ensures ranges { OnOk result (AreRanges memory.new.items) }
+    ensures ends { OnOk result ((addr : ℕ) → to ≤ addr → EndBy addr memory.old.items → EndBy addr memory.new.items) }
+{
+    let first = from.div_ceil(8);
+    let last = to / 8;
+    if first < last {
+        memory.push((8 * first, 8 * last))?;
+    }
+    Ok(())
+}
+
+/// How many blocks begin at the address or before it.
+fn count_up_to(blocks: &[Block], addr: u64) -> usize
+    requires { AreOrdered blocks.now }
+    ensures bound { result ≤ length blocks.now }
+    ensures within { (k : ℕ) (d : Block) → k < result → (slice_index_or blocks.now k d).start ≤ addr }
+    ensures beyond { (k : ℕ) (d : Block) → result ≤ k → k < length blocks.now → addr < (slice_index_or blocks.now k d).start }
+{
+    blocks.partition_point(|block| block.start <= addr)
+}
+
+/// Adds the words between two addresses that share no byte with a block.
+fn push_gaps(
+    memory: &mut Vec<(u64, u64)>,
+    from: u64,
+    to: u64,
+    blocks: &[Block],
+) -> Result<(), AllocError>
+    requires order { from ≤ to }
+    requires blocks { AreOrdered blocks.now }
+    requires ranges { AreRanges memory.old.items }
+    requires ends { EndBy from memory.old.items }
+    ensures places { OnOk result (memory_places memory.new.items ≡ memory_places memory.old.items ++ filter (is_free blocks.now) (places from to)) }
+    ensures ranges { OnOk result (AreRanges memory.new.items) }
+    ensures ends { OnOk result (EndBy to memory.new.items) }
+{
+    let first = count_up_to(blocks, from).saturating_sub(1);
+    let end = count_up_to(blocks, to);
+    let mut cursor = from;
+    for i in first..end {
+        let block = blocks[i];
+        if block.size > 0 {
+            push_range(memory, cursor, block.start)?;
+            cursor = cursor.max(block.start + block.size);
+        }
+    }
+    push_range(memory, cursor, to)
+}
+
+/// Finds the root words in memory: those of writable segments that share no byte with a block.
+pub(crate) fn find_ranges(
+    alloc: Global,
+    image: &Image,
+    blocks: &[Block],
+) -> Result<Vec<(u64, u64)>, AllocError>
+    requires { AreOrdered blocks.now }
+    ensures places { IfOk result (λ memory. memory_places memory.items ≡ root_places image.now blocks.now) }
+    ensures ranges { IfOk result (λ memory. AreRanges memory.items) }
+{
+    let mut memory = Vec::new(alloc);
+    for segment in image.segments() {
+        if segment.writable {
+            let end = segment.vaddr + segment.filesz;
+            push_gaps(&mut memory, segment.vaddr, end, blocks)?;
+        }
+    }
+    Ok(memory)
+}

@@ -1,0 +1,80 @@
+//! The root words of a core.
+
+ghost use Rattle.std.specs.Prelude.{◌≡◌, ◌↔◌, IfOk, Err};
+ghost use Rattle.leak_notes.specs.Threads.{threads_of};
+ghost use Rattle.leak_roots.specs.Places.{Places, AreRanges};
+ghost use Rattle.leak_roots.specs.Roots.{AreRootsOf};
+ghost use Rattle.leak_roots.specs.Pieces.{AreCut};
+
+use crate::error::CutError;
+use crate::piece::{Piece, push_memory, push_registers};
+use crate::places::find_ranges;
+use leak_blocks::Live;
+use leak_elf::Image;
+use leak_notes::Threads;
+use std::alloc::{AllocError, Global};
+use std::marker::Model;
+
+/// The root words of a core: register words, and ranges of addresses in memory.
+#[derive(Drop)]
+pub struct Roots {
+    registers: Vec<u64>,
+    memory: Vec<(u64, u64)>,
+}
+
+impl Model for Roots {
+    ghost Value = { Places };
+
+    ghost view = { λ roots. record { registers = roots.registers.items; memory = roots.memory.items } };
+
+    ghost invariant = { λ roots. AreRanges roots.memory.items };
+}
+
+impl Roots {
+    /// Finds the root words of a core, given its threads and the live blocks of its log.
+    pub fn find(
+        alloc: Global,
+        image: &Image,
+        threads: &Threads,
+        live: &Live,
+    ) -> Result<Roots, AllocError>
+        requires { threads.now ≡ threads_of image.now }
+        ensures { IfOk result (AreRootsOf image.now live.now.blocks) }
+    {
+        let registers = threads.registers().to_vec(alloc)?;
+        let memory = find_ranges(alloc, image, live.blocks())?;
+        Ok(Roots { registers, memory })
+    }
+
+    /// The register words.
+    pub fn registers(&self) -> &[u64]
+        ensures { result.now ≡ self.now.registers }
+    {
+        self.registers.as_slice()
+    }
+
+    /// The ranges of addresses, by ascending address, each with its end excluded. Each multiple of 8 in them holds a
+    /// root word.
+    pub fn memory(&self) -> &[(u64, u64)]
+        ensures value { result.now ≡ self.now.memory }
+        ensures ranges { AreRanges result.now }
+    {
+        self.memory.as_slice()
+    }
+
+    /// Cuts the root words into pieces of at most so many words.
+    pub fn cut(&self, alloc: Global, words: usize) -> Result<Vec<Piece>, CutError>
+        ensures zero { (result ≡ Err CutError.Zero) ↔ (words ≡ 0) }
+        ensures ok { IfOk result (λ pieces. AreCut self.now words pieces.items) }
+    {
+        if words == 0 {
+            return Err(CutError::Zero);
+        }
+        let mut pieces = Vec::new(alloc);
+        push_registers(&mut pieces, self.registers(), words)?;
+        for range in &self.memory {
+            push_memory(&mut pieces, *range, words)?;
+        }
+        Ok(pieces)
+    }
+}

@@ -1,0 +1,8 @@
+//! Worked answers of the definitions.
+
+ghost use Rattle.leak_roots.specs.Rows.{AreAnswers};
+
+/// The sample core has 539 root words: 27 registers and 512 words of its segment, 4 fewer with a block of 32 bytes.
+pub fn worked_roots()
+    ensures { AreAnswers }
+{}

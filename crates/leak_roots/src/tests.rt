@@ -1,0 +1,131 @@
+use crate::{CutError, Piece, Roots};
+use leak_blocks::{Live, replay};
+use leak_elf::{Image, core_k};
+use leak_mtrace::Log;
+use leak_notes::Threads;
+use std::alloc::Global;
+use std::test::Fail;
+
+/// The root words of a core, with the live blocks of a log.
+fn roots(alloc: Global, core: &[u8], log: &[u8]) -> Result<Roots, Fail> {
+    let image = Image::read(alloc, core)?;
+    let threads = Threads::read(alloc, &image)?;
+    let log = Log::read(alloc, log)?;
+    let live = replay(alloc, &log)?;
+    Ok(Roots::find(alloc, &image, &threads, &live)?)
+}
+
+/// The root words of the sample core.
+fn roots_of(alloc: Global, log: &[u8]) -> Result<Roots, Fail> {
+    let core = core_k(alloc, &[])?;
+    roots(alloc, core.as_slice(), log)
+}
+
+/// How many root words there are.
+fn count(roots: &Roots) -> u64 {
+    let mut words = roots.registers().len() as u64;
+    for (from, to) in roots.memory() {
+        words = words.saturating_add(to.saturating_sub(*from) / 8);
+    }
+    words
+}
+
+#[test]
+fn the_sample_has_a_root_word_at_each_place(rt: HostRuntime) -> Result<(), Fail> {
+    let all = roots_of(rt.alloc(), b"")?;
+    assert_eq!(rt; count(&all), 539);
+    assert_eq!(rt; all.registers(), [0u64; 27].as_slice());
+    assert_eq!(rt; all.memory(), [(0x10000, 0x11000)].as_slice());
+    Ok(())
+}
+
+#[test]
+fn the_words_of_a_block_are_no_roots(rt: HostRuntime) -> Result<(), Fail> {
+    let without = roots_of(rt.alloc(), b"+ 0x10100 0x20\n")?;
+    assert_eq!(rt; count(&without), 535);
+    assert_eq!(rt;
+        without.memory(),
+        [(0x10000, 0x10100), (0x10120, 0x11000)].as_slice()
+    );
+    Ok(())
+}
+
+#[test]
+fn a_word_that_a_block_has_a_byte_of_is_no_root(rt: HostRuntime) -> Result<(), Fail> {
+    let one_byte = roots_of(rt.alloc(), b"+ 0x10107 0x1\n")?;
+    assert_eq!(rt;
+        one_byte.memory(),
+        [(0x10000, 0x10100), (0x10108, 0x11000)].as_slice()
+    );
+    let two_words = roots_of(rt.alloc(), b"+ 0x10107 0x2\n")?;
+    assert_eq!(rt;
+        two_words.memory(),
+        [(0x10000, 0x10100), (0x10110, 0x11000)].as_slice()
+    );
+    Ok(())
+}
+
+#[test]
+fn a_block_of_no_bytes_hides_no_word(rt: HostRuntime) -> Result<(), Fail> {
+    let all = roots_of(rt.alloc(), b"+ 0x10100 0\n+ 0x10204 0\n")?;
+    assert_eq!(rt; all.memory(), [(0x10000, 0x11000)].as_slice());
+    Ok(())
+}
+
+#[test]
+fn blocks_may_touch_and_pass_the_ends_of_the_segment(rt: HostRuntime) -> Result<(), Fail> {
+    let log = b"+ 0xff00 0x108\n+ 0x10010 0x8\n+ 0x10018 0x10\n+ 0x10ff4 0x100\n+ 0x20000 0x8\n";
+    let rest = roots_of(rt.alloc(), log)?;
+    assert_eq!(rt;
+        rest.memory(),
+        [(0x10008, 0x10010), (0x10028, 0x10ff0)].as_slice()
+    );
+    let none = roots_of(rt.alloc(), b"+ 0x8000 0x10000\n")?;
+    assert_eq!(rt; none.memory().len(), 0);
+    Ok(())
+}
+
+#[test]
+fn a_segment_that_is_not_writable_has_no_roots(rt: HostRuntime) -> Result<(), Fail> {
+    let mut core = core_k(rt.alloc(), &[])?;
+    for flags in core.iter_mut().skip(124).take(1) {
+        *flags = 4;
+    }
+    let registers = roots(rt.alloc(), core.as_slice(), b"")?;
+    assert_eq!(rt; registers.registers().len(), 27);
+    assert_eq!(rt; registers.memory().len(), 0);
+    Ok(())
+}
+
+#[test]
+fn pieces_have_the_words_that_are_asked(rt: HostRuntime) -> Result<(), Fail> {
+    let without = roots_of(rt.alloc(), b"+ 0x10100 0x20\n")?;
+    assert_eq!(rt; without.cut(rt.alloc(), 0).err(), Some(CutError::Zero));
+    let hundreds = without.cut(rt.alloc(), 100)?;
+    let expected = [
+        Piece::Registers(0, 27),
+        Piece::Memory(0x10000, 0x10100),
+        Piece::Memory(0x10120, 0x10440),
+        Piece::Memory(0x10440, 0x10760),
+        Piece::Memory(0x10760, 0x10a80),
+        Piece::Memory(0x10a80, 0x10da0),
+        Piece::Memory(0x10da0, 0x11000),
+    ];
+    assert_eq!(rt; hundreds.as_slice(), expected.as_slice());
+    assert_eq!(rt; without.cut(rt.alloc(), 1)?.len(), 535);
+    let most = without.cut(rt.alloc(), usize::MAX)?;
+    assert_eq!(rt; most.len(), 3);
+    Ok(())
+}
+
+#[test]
+fn each_reason_has_its_text(rt: HostRuntime) -> Result<(), Fail> {
+    let texts = [
+        (CutError::Zero, "a piece needs a word"),
+        (CutError::NoMemory, "out of memory"),
+    ];
+    for (error, text) in texts {
+        assert_eq!(rt; format!(in rt.alloc(); "{error}")?.as_str(), text);
+    }
+    Ok(())
+}

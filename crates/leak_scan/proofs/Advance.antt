@@ -1,0 +1,72 @@
+-- One step of a scan over addresses.
+use Rattle.std.proofs.Common.{◌≡◌, ℕ, ◌+◌, ◌-◌, ◌<◌, ◌≤◌, Bool, true, false, refl, ap, sym, ◌∙◌, List, [], ◌∷◌, ◌++◌, Option, Some, None, IsSome, ◌⊎◌, inl, inr, if◌then◌else◌, nat_lt, ltb→lt, nltb→le, arith, filter_map, filter, cond}
+use Rattle.std.specs.Bool.{passes, fails}
+use Rattle.std.specs.List.{cons_option}
+use Rattle.leak_scan.specs.declared.reading.Found.{Found}
+use Rattle.leak_scan.specs.Places.{is_in, listed_word, words_from, words_found, IsRead, IsFirstWindowAt}
+use Rattle.leak_scan.proofs.Ranges.{IsAligned, nothing_in, same_range, skip, split, agreeing}
+
+on_pages : (word_at : ℕ → Option ℕ) (pages : Option (List ℕ)) (a : ℕ) → is_in pages a ≡ true → listed_word word_at pages a ≡ word_at a
+on_pages word_at pages a h = ap (λ t. if t then word_at a else None) h
+
+off_pages : (word_at : ℕ → Option ℕ) (pages : Option (List ℕ)) (a : ℕ) → is_in pages a ≡ false → listed_word word_at pages a ≡ None
+off_pages word_at pages a h = ap (λ t. if t then word_at a else None) h
+
+no_word : (word_at : ℕ → Option ℕ) (pages : Option (List ℕ)) (a : ℕ) → word_at a ≡ None → listed_word word_at pages a ≡ None
+no_word word_at pages a h = go (is_in pages a) (word_at a) h
+  where
+    go : (t : Bool) (x : Option ℕ) → x ≡ None → (if t then x else None) ≡ None
+    go true x e = e
+    go false x e = refl
+
+word_cases : (x : Option ℕ) → (x ≡ None) ⊎ IsSome x
+word_cases None = inl refl
+word_cases (Some v) = inr refl
+
+lt_cases : (a b : ℕ) → (a < b) ⊎ (b ≤ a)
+lt_cases a b = go (nat_lt a b) refl
+  where
+    go : (t : Bool) → nat_lt a b ≡ t → (a < b) ⊎ (b ≤ a)
+    go true e = inl (ltb→lt _ _ (passes _ e))
+    go false e = inr (nltb→le _ _ (fails _ e))
+
+-- no address may be read
+pub advance_none : (word_at : ℕ → Option ℕ) (pages : Option (List ℕ)) (from count : ℕ) → ((a : ℕ) → from ≤ a → a < from + count → is_in pages a ≡ false) → words_from (listed_word word_at pages) from count ≡ []
+advance_none word_at pages from count h = nothing_in _ from count (λ a l u. off_pages word_at pages a (h a l u))
+
+-- none that may has a word
+pub advance_end : (word_at : ℕ → Option ℕ) (pages : Option (List ℕ)) (from count start window : ℕ) → IsFirstWindowAt pages from count start window → ((a : ℕ) → start ≤ a → word_at a ≡ None) → words_from (listed_word word_at pages) from count ≡ []
+advance_end word_at pages from count start window first ended = nothing_in _ from count (λ a l u. at a l (lt_cases a start))
+  where
+    at : (a : ℕ) → from ≤ a → (a < start) ⊎ (start ≤ a) → listed_word word_at pages a ≡ None
+    at a l (inl h) = off_pages word_at pages a (first.none a l h)
+    at a l (inr h) = no_word word_at pages a (ended a h)
+
+-- words were read
+pub advance_read : (word_at : ℕ → Option ℕ) (pages : Option (List ℕ)) (from count start window later left : ℕ) (found : Found) → IsAligned word_at → IsFirstWindowAt pages from count start window → IsRead word_at start window found later → left ≡ count - (later - from) →
+    words_from (listed_word word_at pages) from count ≡ words_found found ++ words_from (listed_word word_at pages) later left
+advance_read word_at pages from count start window later left found aligned first read e =
+    let f = listed_word word_at pages in
+    let behind = first.behind in
+    let on = read.on in
+    skip f (start - from) from count start (count - (start - from)) (omega arith) refl (λ a l u. off_pages word_at pages a (first.none a l (omega (arith, u))))
+    ∙ split f (later - start) start (count - (start - from)) later (omega arith) (λ a l u. outside a l u (word_cases (word_at a)))
+    ∙ ap (λ ws. ws ++ words_from f later (count - (start - from) - (later - start))) (agreeing f word_at start (later - start) (λ a l u. same a l u (word_cases (word_at a))) ∙ read.words)
+    ∙ ap (λ ws. words_found found ++ ws) (same_range f later later (count - (start - from) - (later - start)) left refl (omega arith))
+  where
+    outside : (a : ℕ) → start + (count - (start - from)) ≤ a → a < start + (later - start) → (word_at a ≡ None) ⊎ IsSome (word_at a) → listed_word word_at pages a ≡ None
+    outside a l u (inl h) = no_word word_at pages a h
+    outside a l u (inr h) = let on = read.on in let inside : a < start + window = read.inside a (omega (arith, l)) (omega (arith, u)) h in absurd (omega (arith, first.within, first.behind, l))
+
+    same : (a : ℕ) → start ≤ a → a < start + (later - start) → (word_at a ≡ None) ⊎ IsSome (word_at a) → listed_word word_at pages a ≡ word_at a
+    same a l u (inl h) = no_word word_at pages a h ∙ sym h
+    same a l u (inr h) = let on = read.on in on_pages word_at pages a (first.all a l (read.inside a l (omega (arith, u)) h) (aligned a h))
+
+-- to leave out elements and to give nothing for them is the same
+pub filtered : (f : ℕ → Option ℕ) (p : ℕ → Bool) (xs : List ℕ) → filter_map (λ a. if p a then f a else None) xs ≡ filter_map f (filter p xs)
+filtered f p [] = refl
+filtered f p (x ∷ xs) = go (p x) (filtered f p xs)
+  where
+    go : (t : Bool) → filter_map (λ a. if p a then f a else None) xs ≡ filter_map f (filter p xs) → cons_option (if t then f x else None) (filter_map (λ a. if p a then f a else None) xs) ≡ filter_map f (cond t (x ∷ filter p xs) (filter p xs))
+    go true e = ap (cons_option (f x)) e
+    go false e = e

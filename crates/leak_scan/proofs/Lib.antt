@@ -1,0 +1,6 @@
+pub mod Ranges
+pub mod Runs
+pub mod Reached
+pub mod Ahead
+pub mod Advance
+pub mod Listing

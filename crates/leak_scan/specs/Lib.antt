@@ -1,0 +1,4 @@
+pub mod Targets
+pub mod Windows
+pub mod Places
+pub mod Rows

@@ -1,0 +1,63 @@
+-- The words that a scan has left.
+use Rattle.std.specs.Prelude.{◌≡◌, ℕ, zero, suc, ◌+◌, ◌-◌, ◌/◌, ◌%◌, ◌<◌, ◌≤◌, Bool, false, true, List, [], ◌∷◌, ◌++◌, length, drop, filter_map, if◌then◌else◌, Option, Some, None, IsSome}
+use Rattle.std.specs.Int.{w64}
+use Rattle.std.specs.List.{range_with_len}
+use Rattle.leak_elf.specs.Fields.{number_at}
+use Rattle.leak_scan.specs.declared.place.Place.{Place}
+use Rattle.leak_scan.specs.declared.reading.Found.{Found}
+use Rattle.leak_scan.specs.declared.reading.Found.TheVariants.{Nothing, Word, Run}
+use Rattle.leak_scan.specs.Targets.{is_on}
+
+-- so many words, each of 8 bytes, from the first byte on
+abbrev pub first_words : ℕ → List ℕ → List ℕ
+first_words zero bytes = []
+first_words (suc n) bytes = number_at w64 bytes 0 ∷ first_words n (drop 8 bytes)
+
+-- the words that the bytes are, 8 each
+unfoldable pub words_in : List ℕ → List ℕ
+words_in bytes = first_words (length bytes / 8) bytes
+
+-- the words at so many addresses
+unfoldable pub words_from : (ℕ → Option ℕ) → ℕ → ℕ → List ℕ
+words_from word_at from count = filter_map word_at (range_with_len from count)
+
+-- the address is on a listed page, or there is no list
+abbrev pub is_in : Option (List ℕ) → ℕ → Bool
+is_in None a = true
+is_in (Some pages) a = is_on pages a
+
+-- the word at such an address
+abbrev pub listed_word : (ℕ → Option ℕ) → Option (List ℕ) → ℕ → Option ℕ
+listed_word word_at pages a = if is_in pages a then word_at a else None
+
+abbrev pub words_found : Found → List ℕ
+words_found Nothing = []
+words_found (Word word) = word ∷ []
+words_found (Run bytes) = words_in bytes.now
+
+-- the words of a list, then those of a run, then those at so many addresses
+unfoldable pub words_left : (ℕ → Option ℕ) → List ℕ → List ℕ → ℕ → ℕ → List ℕ
+words_left word_at list run from count = list ++ (words_in run ++ words_from word_at from count)
+
+-- those that a scan has left at the place
+abbrev pub words_ahead : (ℕ → Option ℕ) → Place → List ℕ
+words_ahead word_at place = words_left word_at place.list.now place.run.now place.from place.count
+
+-- what was found is the words from the address up to a later one, and those lie in the window
+pub record IsRead (word_at : ℕ → Option ℕ) (from window : ℕ) (found : Found) (later : ℕ) : Type 0 where
+  pub on : from < later
+  pub words : words_from word_at from (later - from) ≡ words_found found
+  pub inside : (a : ℕ) → from ≤ a → a < later → IsSome (word_at a) → a < from + window
+
+-- the addresses from the start on, so many, are the first of `count` addresses that may be read: none before them may,
+-- and of them each multiple of 8 may
+pub record IsFirstWindowAt (pages : Option (List ℕ)) (from count start window : ℕ) : Type 0 where
+  pub behind : from ≤ start
+  pub none : (a : ℕ) → from ≤ a → a < start → is_in pages a ≡ false
+  pub some : 0 < window
+  pub within : start + window ≤ from + count
+  pub all : (a : ℕ) → start ≤ a → a < start + window → a % 8 ≡ 0 → is_in pages a ≡ true
+
+abbrev pub IsFirstWindow : Option (List ℕ) → ℕ → ℕ → Option (ℕ × ℕ) → Type 0
+IsFirstWindow pages from count None = (a : ℕ) → from ≤ a → a < from + count → is_in pages a ≡ false
+IsFirstWindow pages from count (Some window) = IsFirstWindowAt pages from count window.0 window.1

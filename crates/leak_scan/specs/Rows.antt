@@ -1,0 +1,23 @@
+-- Worked targets.
+use Rattle.std.specs.Prelude.{◌≡◌, ℕ, ◌%◌, List, [], ◌∷◌, find, ◌==◌, if◌then◌else◌, Option, Some, None}
+use Rattle.std.specs.Option.{option_map_or}
+use Rattle.leak_blocks.specs.declared.block.Block.{Block}
+use Rattle.leak_index.specs.Hits.{Index}
+use Rattle.leak_scan.specs.Targets.{block_words, block_words_on, block_targets}
+
+abbrev pub block : ℕ → ℕ → ℕ → Block
+block start size number = record { start = start; size = size; line = number; caller = (0, 0) }
+
+-- every multiple of 8 is readable, and has the word set there, or 0
+abbrev pub memory : List (ℕ × ℕ) → ℕ → Option ℕ
+memory set a = if a % 8 == 0 then Some (option_map_or (λ s. s.1) (find (λ s. s.0 == a) set) 0) else None
+
+abbrev pub index : List Block → Index
+index blocks = record { blocks = blocks; reading = None }
+
+pub record AreWorkedTargets : Type 0 where
+  pub words : block_words (memory ((0x10108, 7) ∷ [])) (block 0x10104 0x14 1) ≡ 7 ∷ 0 ∷ []
+  pub short : block_words (memory ((0x10100, 1) ∷ (0x10108, 7) ∷ [])) (block 0x10100 0xc 1) ≡ 1 ∷ []
+  pub paged : block_words_on (memory ((0x10ff8, 1) ∷ (0x11000, 7) ∷ [])) (17 ∷ []) (block 0x10ff8 0x10 1) ≡ 7 ∷ []
+  pub targets : block_targets (memory ((0x10100, 0x10200) ∷ [])) (index (block 0x10100 0x10 1 ∷ block 0x10200 0x10 2 ∷ [])) (block 0x10100 0x10 1) ≡ 1 ∷ []
+  pub both : block_targets (memory ((0x10100, 0x10110) ∷ [])) (index (block 0x10100 0x10 1 ∷ block 0x10110 0x10 2 ∷ [])) (block 0x10100 0x10 1) ≡ 0 ∷ 1 ∷ []

@@ -1,0 +1,20 @@
+//! Laws of the definitions, and worked targets.
+ghost use Rattle.std.specs.Prelude.{ℕ, ◌<◌, List, length};
+ghost use Rattle.std.specs.List.{AllByRecursion};
+ghost use Rattle.leak_index.specs.Hits.{Index};
+ghost use Rattle.leak_scan.specs.Targets.{targets_of};
+ghost use Rattle.leak_scan.specs.Rows.{AreWorkedTargets};
+
+use leak_index::hits_are_blocks;
+
+/// The numbers of the blocks that words lead to are below the number of blocks.
+pub fn targets_are_blocks()
+    ensures { (index : Index) (words : List ℕ) → AllByRecursion (λ block. block < length index.blocks) (targets_of index words) }
+{
+    hits_are_blocks();
+}
+
+/// The words of some blocks, and the blocks that they lead to.
+pub fn worked_targets()
+    ensures { AreWorkedTargets }
+{}

@@ -1,0 +1,25 @@
+//! The blocks that the words of a range of memory lead to.
+//!
+//! [`Targets`] goes over words in order and yields, for each, the numbers of the blocks that it leads to: over an
+//! address range, over words that are given as a list, as registers are, and over the words of a block, all of them
+//! or those on listed [`Pages`]. What it reads is any `leak_elf::Words`, what it asks any `leak_index::Lookup`.
+//!
+//! It takes words in runs where the memory has them, and steps from word to word otherwise, so that a block of 2^60
+//! bytes of which a page is dumped costs no more than that page. A word that leads nowhere yields nothing.
+//!
+//! The words of a block are the aligned ones that lie whole inside it, as bdwgc scans an object. Pages of 4096
+//! addresses are those of x86-64. The contracts don't say how much is read.
+#![tactic(auto)]
+
+mod first;
+mod laws;
+mod pages;
+mod place;
+mod reading;
+mod targets;
+#[cfg(test)]
+mod tests;
+
+pub use laws::{targets_are_blocks, worked_targets};
+pub use pages::Pages;
+pub use targets::Targets;

@@ -1,0 +1,114 @@
+//! How far a scan has come.
+ghost use Rattle.std.specs.Prelude.{◌≡◌, ◌++◌, ◌<◌, [], IfSome};
+ghost use Rattle.std.specs.Option.{option_copied};
+ghost use Rattle.leak_index.specs.Hits.{hits_in};
+ghost use Rattle.leak_scan.specs.Targets.{targets_of};
+ghost use Rattle.leak_scan.specs.Places.{listed_word, words_found, words_ahead, words_from, IsFirstWindow};
+
+use crate::first::{first_of_list, first_of_run};
+use crate::pages::Pages;
+use crate::reading::{Found, read_on};
+use leak_elf::Words;
+use leak_index::{Hits, Lookup};
+
+/// The words that are left: those of a list, those of a run of bytes, and those at `count` addresses from `from` on.
+#[derive(Clone, Copy)]
+pub(crate) struct Place<'a> {
+    pub(crate) list: &'a [u64],
+    pub(crate) run: &'a [u8],
+    pub(crate) from: u64,
+    pub(crate) count: u64,
+}
+
+/// Words that were read, and the addresses that are left.
+#[derive(Clone, Copy)]
+pub(crate) struct Step<'a> {
+    pub(crate) found: Found<'a>,
+    pub(crate) from: u64,
+    pub(crate) count: u64,
+}
+
+/// Reads the first words at the addresses, on listed pages alone where there is a list.
+fn advance<'a, W: Words>(words: &'a W, pages: Option<&'a Pages>, from: u64, count: u64) -> Step<'a>
+    requires { 0 < count }
+    ensures split { let f = listed_word (W.word_at words.now) (option_copied pages.entry) in
+        words_from f from count ≡ words_found result.found ++ words_from f result.from result.count }
+    ensures fewer { result.count < count }
+{
+    let end = Step {
+        found: Found::Nothing,
+        from,
+        count: 0,
+    };
+    let Some((start, window)) = first_window(pages, from, count) else {
+        return end;
+    };
+    match read_on(words, start, window) {
+        None => end,
+        Some((found, later)) => Step {
+            found,
+            from: later,
+            count: count.saturating_sub(later - from),
+        },
+    }
+}
+
+/// The first addresses of `count` from `from` on that stand on one listed page, or all where there is no list: their
+/// start and their number.
+fn first_window(pages: Option<&Pages>, from: u64, count: u64) -> Option<(u64, u64)>
+    requires { 0 < count }
+    ensures { IsFirstWindow (option_copied pages.entry) from count result }
+{
+    let Some(pages) = pages else {
+        return Some((from, count));
+    };
+    let (start, window) = pages.window(from)?;
+    let skipped = start - from;
+    if skipped >= count {
+        return None;
+    }
+    Some((start, window.min(count - skipped)))
+}
+
+/// The blocks that the first word that leads to any leads to, and what is left behind that word.
+pub(crate) fn next_hits<'a, W: Words, L: Lookup>(
+    words: &'a W,
+    lookup: &L,
+    pages: Option<&'a Pages>,
+    place: Place<'a>,
+) -> (Hits, Place<'a>)
+    ensures split { let f = listed_word (W.word_at words.now) (option_copied pages.entry) in
+        let index = L.index lookup.now in
+        targets_of index (words_ahead f place.entry) ≡ hits_in result.0 ++ targets_of index (words_ahead f result.1) }
+    ensures end { let f = listed_word (W.word_at words.now) (option_copied pages.entry) in
+        result.0 ≡ Hits.Zero → words_ahead f result.1 ≡ [] }
+{
+    let (hits, list) = first_of_list(lookup, place.list);
+    let mut place = Place { list, ..place };
+    match hits {
+        Hits::Zero => {}
+        hits => return (hits, place),
+    }
+    loop {
+        let (hits, run) = first_of_run(lookup, place.run);
+        place.run = run;
+        match hits {
+            Hits::Zero => {}
+            hits => return (hits, place),
+        }
+        if place.count == 0 {
+            return (Hits::Zero, place);
+        }
+        let step = advance(words, pages, place.from, place.count);
+        place.from = step.from;
+        place.count = step.count;
+        match step.found {
+            Found::Nothing => {}
+            Found::Run(run) => place.run = run,
+            Found::Word(word) => match lookup.hits(word) {
+                Hits::Zero => {}
+                hits => return (hits, place),
+            },
+        }
+    }
+}

@@ -1,0 +1,41 @@
+//! Reading words from an address on.
+ghost use Rattle.std.specs.Prelude.{◌≡◌, ◌≤◌, ◌<◌, ℕ, None, IfNone, IfSome};
+ghost use Rattle.leak_scan.specs.Places.{IsRead};
+
+use leak_elf::Words;
+
+/// Words that were read.
+#[derive(Clone, Copy)]
+pub(crate) enum Found<'a> {
+    Nothing,
+    /// One word.
+    Word(u64),
+    /// The bytes of one word or more.
+    Run(&'a [u8]),
+}
+
+/// The first words from the address on, and the address up to which the memory has no others. Words that stand
+/// `window` addresses behind it or further are not read. None where there is no word at all.
+pub(crate) fn read_on<'a, W: Words>(
+    words: &'a W,
+    from: u64,
+    window: u64,
+) -> Option<(Found<'a>, u64)>
+    requires { 0 < window }
+    ensures ended { IfNone result ((a : ℕ) → from ≤ a → W.word_at words.now a ≡ None) }
+    ensures read { IfSome result (λ r. IsRead (W.word_at words.now) from window r.0 r.1) }
+{
+    let run = words.run(from);
+    let room = window.min(u64::MAX - from);
+    let whole = (run.len() as u64 / 8).min(room.div_ceil(8));
+    if whole > 0 {
+        let (front, _) = run.split_at(8 * whole as usize);
+        return Some((Found::Run(front), from.saturating_add(8 * whole)));
+    }
+    let next = words.next(from)?;
+    if next - from >= window {
+        return Some((Found::Nothing, next));
+    }
+    let word = words.word(next)?;
+    Some((Found::Word(word), next.saturating_add(8)))
+}

@@ -1,0 +1,202 @@
+ghost use Rattle.std.specs.Prelude.{◌≡◌, IfOk, ℕ, List, Option, length};
+ghost use Rattle.leak_elf.specs.Words.{word_of};
+ghost use Rattle.leak_elf.specs.Aligned.{aligned_words};
+ghost use Rattle.leak_scan.specs.Targets.{targets_of, block_words};
+
+use crate::{Pages, Targets, targets_are_blocks};
+use leak_blocks::{Block, Live, replay};
+use leak_elf::{Image, Words, core_k};
+use leak_index::{Lookup, Reading, Sorted};
+use leak_mtrace::Log;
+use std::alloc::{AllocError, Global};
+use std::cell::Cell;
+use std::test::Fail;
+
+/// The words of a core, which gives no runs and counts the words that it is asked for.
+#[derive(Drop)]
+struct Counted<'a> {
+    image: &'a Image<'a>,
+    asked: Cell<u64>,
+}
+
+impl<'a> Words for Counted<'a> {
+    ghost word_at = { λ counted. word_of counted.image.now };
+
+    fn word(&self, addr: u64) -> Option<u64> {
+        self.asked.set(self.asked.get().wrapping_add(1));
+        self.image.word(addr)
+    }
+
+    fn next(&self, from: u64) -> Option<u64> {
+        self.image.next(from)
+    }
+
+    ghost aligned = { λ counted. aligned_words counted.image.now };
+}
+
+/// All targets that are still to come.
+fn listed<W: Words, L: Lookup>(
+    alloc: Global,
+    targets: Targets<W, L>,
+) -> Result<Vec<usize>, AllocError>
+    ensures { IfOk result (λ all. all.items ≡ targets.entry) }
+{
+    let mut all = Vec::new(alloc);
+    for target in targets {
+        all.push(target)?;
+    }
+    Ok(all)
+}
+
+/// Marks the blocks that the words of the block lead to.
+fn mark_targets<W: Words, L: Lookup>(words: &W, lookup: &L, block: &Block, set: &mut [bool])
+    requires { length (L.index lookup.now).blocks ≡ length set.old }
+{
+    targets_are_blocks();
+    for target in Targets::of_block(words, lookup, block) {
+        set[target] = true;
+    }
+}
+
+/// The live blocks of a log.
+fn lives(alloc: Global, text: &str) -> Result<Live, Fail> {
+    let log = Log::read(alloc, text.as_bytes())?;
+    Ok(replay(alloc, &log)?)
+}
+
+/// A block that stands in no log.
+fn block(start: u64, size: u64) -> Block {
+    Block {
+        start,
+        size,
+        line: 1,
+        caller: (0, 0),
+    }
+}
+
+#[test]
+fn targets_of_each_range(rt: HostRuntime) -> Result<(), Fail> {
+    let alloc = rt.alloc();
+    let core = core_k(
+        alloc,
+        &[
+            (0x10008, 0x10120),
+            (0x10100, 0x10200),
+            (0x10108, 0x10240),
+            (0x10ff8, 0x10100),
+        ],
+    )?;
+    let image = Image::read(alloc, core.as_slice())?;
+    let live = lives(alloc, "+ 0x10100 0x20\n+ 0x10120 0x10\n+ 0x10200 0x40\n")?;
+    let lookup = Sorted::new(&live, Reading::interior());
+    let all = listed(alloc, Targets::of_range(&image, &lookup, 0, u64::MAX))?;
+    assert_eq!(rt; all.as_slice(), [0, 1, 2, 2, 0].as_slice());
+    // the word at 0x10008 ends behind the range, and the others begin before it
+    let none = listed(alloc, Targets::of_range(&image, &lookup, 0x10009, 0x10107))?;
+    assert_eq!(rt; none.as_slice(), [].as_slice());
+    let first = listed(alloc, Targets::of_range(&image, &lookup, 0x10001, 0x10108))?;
+    assert_eq!(rt; first.as_slice(), [0, 1, 2].as_slice());
+    let registers = [0, 0x10200, 0x10120, u64::MAX];
+    let led = listed(alloc, Targets::of_registers(&image, &registers, &lookup))?;
+    assert_eq!(rt; led.as_slice(), [2, 0, 1].as_slice());
+    let own = listed(
+        alloc,
+        Targets::of_block(&image, &lookup, &block(0x10100, 0x20)),
+    )?;
+    assert_eq!(rt; own.as_slice(), [2, 2].as_slice());
+    // 12 bytes hold one word
+    let short = listed(
+        alloc,
+        Targets::of_block(&image, &lookup, &block(0x10100, 12)),
+    )?;
+    assert_eq!(rt; short.as_slice(), [2].as_slice());
+    let empty = listed(
+        alloc,
+        Targets::of_block(&image, &lookup, &block(0x10100, 0)),
+    )?;
+    assert_eq!(rt; empty.as_slice(), [].as_slice());
+    let mut set = vec![in alloc; false; live.blocks().len()]?;
+    mark_targets(&image, &lookup, &block(0x10ff0, 0x10), set.as_mut_slice());
+    assert_eq!(rt; set.as_slice(), [true, false, false].as_slice());
+    Ok(())
+}
+
+#[test]
+fn a_huge_block_costs_what_is_dumped(rt: HostRuntime) -> Result<(), Fail> {
+    let alloc = rt.alloc();
+    let core = core_k(alloc, &[(0x10100, 0x10100), (0x10ff8, 0x10ff8)])?;
+    let image = Image::read(alloc, core.as_slice())?;
+    let live = lives(alloc, "+ 0x10100 0x1000000000000000\n")?;
+    let lookup = Sorted::new(&live, Reading::interior());
+    let huge = block(0x10100, 0x1000_0000_0000_0000);
+    let counted = Counted {
+        image: &image,
+        asked: Cell::new(0),
+    };
+    let targets = listed(alloc, Targets::of_block(&counted, &lookup, &huge))?;
+    assert_eq!(rt; targets.as_slice(), [0, 0].as_slice());
+    assert_eq!(rt; counted.asked.get(), 480);
+    let by_runs = listed(alloc, Targets::of_block(&image, &lookup, &huge))?;
+    assert_eq!(rt; by_runs.as_slice(), [0, 0].as_slice());
+    Ok(())
+}
+
+#[test]
+fn words_off_the_pages_are_not_asked_for(rt: HostRuntime) -> Result<(), Fail> {
+    let alloc = rt.alloc();
+    let core = core_k(alloc, &[(0x10100, 0x10100), (0x10118, 0x10120)])?;
+    let image = Image::read(alloc, core.as_slice())?;
+    let live = lives(alloc, "+ 0x10100 0x20\n")?;
+    let lookup = Sorted::new(&live, Reading::interior());
+    let held = block(0x10100, 0x20);
+    let cases = [
+        ([16].as_slice(), 4, [0, 0].as_slice()),
+        ([17].as_slice(), 0, [].as_slice()),
+        ([].as_slice(), 0, [].as_slice()),
+        ([3, 16, 17, u64::MAX].as_slice(), 4, [0, 0].as_slice()),
+        ([15, 17].as_slice(), 0, [].as_slice()),
+    ];
+    for (numbers, words, blocks) in cases {
+        let counted = Counted {
+            image: &image,
+            asked: Cell::new(0),
+        };
+        let Some(pages) = Pages::new(Vec::from_slice(alloc, numbers)?) else {
+            return Ok(assert!(rt; false, "the numbers ascend"));
+        };
+        let targets = listed(
+            alloc,
+            Targets::of_block_pages(&counted, &lookup, &held, &pages),
+        )?;
+        assert_eq!(rt; targets.as_slice(), blocks);
+        assert_eq!(rt; counted.asked.get(), words);
+        let by_runs = listed(
+            alloc,
+            Targets::of_block_pages(&image, &lookup, &held, &pages),
+        )?;
+        assert_eq!(rt; by_runs.as_slice(), blocks);
+    }
+    Ok(())
+}
+
+#[test]
+fn pages_ascend(rt: HostRuntime) -> Result<(), Fail> {
+    let alloc = rt.alloc();
+    for numbers in [[16, 16], [17, 16]] {
+        assert!(rt; Pages::new(Vec::from_slice(alloc, &numbers)?).is_none());
+    }
+    let Some(pages) = Pages::new(Vec::from_slice(alloc, &[16, 18])?) else {
+        return Ok(assert!(rt; false, "the numbers ascend"));
+    };
+    assert_eq!(rt; pages.numbers(), [16, 18].as_slice());
+    for (page, has) in [
+        (15, false),
+        (16, true),
+        (17, false),
+        (18, true),
+        (u64::MAX, false),
+    ] {
+        assert_eq!(rt; pages.has(page), has, "{page}");
+    }
+    Ok(())
+}
