@@ -1,5 +1,5 @@
 -- What a list of displacements allows, and the first value that is too large.
-use Rattle.std.proofs.Common.{◌≡◌, ℕ, ◌-◌, ◌+◌, ◌<◌, ◌≤◌, suc, Bool, true, false, ◌||◌, refl, ap, sym, ◌∙◌, subst, true≢false, List, ◌∷◌, take, drop, length, slice_index_or, if◌then◌else◌, ◌==◌, cond, nat_lt, Option, Some, None, eqb→eq, arith}
+use Rattle.std.proofs.Common.{◌≡◌, ℕ, ◌+◌, ◌<◌, ◌≤◌, suc, Bool, true, false, ◌||◌, refl, ap, sym, ◌∙◌, true≢false, List, take, drop, length, slice_index_or, if◌then◌else◌, ◌==◌, cond, nat_lt, Some, None, eqb→eq, arith}
 use Rattle.std.proofs.Math.Seq.{drop-cons}
 use Rattle.std.proofs.lemmas.Bool.{le-ltb}
 use Rattle.std.specs.Bool.{passes}

@@ -1,5 +1,5 @@
 -- Cutting root words into pieces, one piece after another.
-use Rattle.std.proofs.Common.{◌≡◌, ℕ, zero, suc, zero-add, ◌+◌, ◌-◌, ◌*◌, ◌/◌, ◌%◌, ◌<◌, ◌≤◌, min, List, [], ◌∷◌, ◌++◌, length, get_or, take, map, flat_map, refl, sym, ap, ◌∙◌, append-nil, append_assoc, arith}
+use Rattle.std.proofs.Common.{◌≡◌, ℕ, zero, suc, zero-add, ◌+◌, ◌-◌, ◌*◌, ◌/◌, ◌%◌, ◌<◌, ◌≤◌, min, List, [], ◌∷◌, ◌++◌, length, get_or, take, map, flat_map, sym, ap, ◌∙◌, append-nil, append_assoc, arith}
 use Rattle.std.specs.List.{AllByRecursion, range_with_len}
 use Rattle.std.proofs.lemmas.Grind.{flat_map-append}
 use Rattle.std.proofs.lemmas.List.{map-append, length-map, take_more, take_all}
@@ -7,7 +7,7 @@ use Rattle.std.proofs.lemmas.List.FromFn.{length-range_with_len}
 use Rattle.leak_roots.specs.declared.piece.Piece.{Piece}
 use Rattle.leak_roots.specs.declared.piece.Piece.TheVariants.{Registers, Memory}
 use Rattle.leak_roots.specs.Places.{Places, IsRange, AreRanges, addresses_in, memory_places}
-use Rattle.leak_roots.specs.Pieces.{Place, IsPiece, IsCutPiece, AreCut, places_of, all_places}
+use Rattle.leak_roots.specs.Pieces.{Place, IsPiece, IsCutPiece, AreCut, places_of}
 use Rattle.leak_roots.specs.Pieces.Place.{InRegisters, InMemory}
 use Rattle.leak_roots.proofs.Addresses.{range-append, addresses_in-split}
 use Rattle.leak_roots.proofs.Ranges.{all_push}

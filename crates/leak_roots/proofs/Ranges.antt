@@ -1,9 +1,8 @@
 -- Ranges of addresses, one behind another.
-use Rattle.std.proofs.Common.{◌≡◌, ℕ, ◌+◌, ◌*◌, ◌/◌, ◌%◌, ◌<◌, ◌≤◌, List, [], ◌∷◌, ◌++◌, map, flat_map, refl, sym, ap, ◌∙◌, append-nil, arith}
+use Rattle.std.proofs.Common.{◌≡◌, ℕ, ◌≤◌, List, [], ◌∷◌, ◌++◌, ap, ◌∙◌, append-nil, arith}
 use Rattle.std.specs.List.{AllByRecursion}
 use Rattle.std.proofs.lemmas.Grind.{flat_map-append}
-use Rattle.leak_roots.specs.Places.{IsRange, AreRanges, EndBy, addresses_in, memory_places, aligned_places}
-use Rattle.leak_roots.proofs.Addresses.{aligned_some, aligned_none}
+use Rattle.leak_roots.specs.Places.{IsRange, AreRanges, EndBy, addresses_in, memory_places}
 
 pub all_push : {X : Type 0} (P : X → Type 0) (xs : List X) (x : X) → AllByRecursion P xs → P x → AllByRecursion P (xs ++ x ∷ [])
 all_push P [] x h p = (p, tt)

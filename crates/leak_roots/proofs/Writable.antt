@@ -1,5 +1,5 @@
 -- The root words of writable segments, one segment after another.
-use Rattle.std.proofs.Common.{◌≡◌, ℕ, ◌+◌, ◌-◌, ◌%◌, ◌<◌, ◌≤◌, ◌^◌, Bool, true, false, ◌&&◌, eqb, List, [], ◌∷◌, ◌++◌, length, get_or, take, filter, flat_map, Some, None, is_some, ◌⊎◌, inl, inr, refl, sym, ap, ◌∙◌, append-nil, arith}
+use Rattle.std.proofs.Common.{◌≡◌, ℕ, ◌+◌, ◌-◌, ◌%◌, ◌<◌, ◌≤◌, ◌^◌, Bool, true, false, ◌&&◌, eqb, List, [], ◌∷◌, ◌++◌, length, get_or, take, filter, flat_map, None, is_some, inl, inr, refl, sym, ap, ◌∙◌, append-nil, arith}
 use Rattle.std.specs.List.{list_all}
 use Rattle.std.proofs.lemmas.Bool.{cases_eq, eq-eqb, ne_eqb}
 use Rattle.std.proofs.lemmas.Grind.{flat_map-append}
@@ -9,7 +9,7 @@ use Rattle.leak_elf.specs.declared.segment.Segment.{Segment}
 use Rattle.leak_elf.specs.Headers.{headers}
 use Rattle.leak_elf.specs.Refusals.{fault_of, file_fault, faults_from}
 use Rattle.leak_elf.specs.Segments.{segments_of, AreKept, AreSegments}
-use Rattle.leak_elf.specs.Words.{places, word_of, word_in}
+use Rattle.leak_elf.specs.Words.{places, word_of}
 use Rattle.leak_elf.proofs.Accepted.{accepted, no_first}
 use Rattle.leak_elf.proofs.Held.{word_some, word_odd}
 use Rattle.leak_blocks.specs.declared.block.Block.{Block}

@@ -1,5 +1,5 @@
 -- The law, from the lemma on the list.
-use Rattle.std.proofs.Common.{length, arith, ◌+◌, ◌≤◌}
+use Rattle.std.proofs.Common.{length, arith}
 use Rattle.leak_index.specs.Hits.{hits_of}
 use Rattle.leak_index.proofs.Few.{hits_below}
 use Rattle.leak_index.proofs.laws.hits_are_blocks.Goals as goal

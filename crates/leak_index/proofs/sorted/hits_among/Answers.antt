@@ -1,5 +1,5 @@
 -- Each case is that of the last two blocks that begin at the word or before it.
-use Rattle.std.proofs.Common.{arith, subst, true, false, ◌≡◌, ◌∙◌, sym}
+use Rattle.std.proofs.Common.{arith, subst, true, false}
 use Rattle.leak_blocks.specs.declared.block.Block.{Block}
 use Rattle.leak_index.specs.Bounds.{IsCountUpTo}
 use Rattle.leak_index.proofs.Near.{found_none, found_one, found_two}

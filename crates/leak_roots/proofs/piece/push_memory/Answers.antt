@@ -1,5 +1,5 @@
-use Rattle.std.proofs.Common.{refl, ◌+◌, ◌*◌, ap}
-use Rattle.leak_roots.proofs.Cutting.{memory_first, memory_more, memory_all}
+use Rattle.std.proofs.Common.{refl, ◌+◌, ◌*◌}
+use Rattle.leak_roots.proofs.Cutting.{memory_first, memory_more}
 use Rattle.leak_roots.proofs.piece.push_memory.Goals as goal
 
 pub loop-from-init : goal.loop-from-init

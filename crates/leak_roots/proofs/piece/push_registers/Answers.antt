@@ -1,4 +1,4 @@
-use Rattle.std.proofs.Common.{refl, ◌+◌, length, ap}
+use Rattle.std.proofs.Common.{refl, ◌+◌, length}
 use Rattle.leak_roots.proofs.Cutting.{registers_first, registers_more}
 use Rattle.leak_roots.proofs.piece.push_registers.Goals as goal
 

@@ -1,6 +1,6 @@
-use Rattle.std.proofs.Common.{◌≡◌, ◌<◌, ◌+◌, ◌^◌, ◌≤◌, false, get_or, arith, rules}
+use Rattle.std.proofs.Common.{false, arith}
 use Rattle.leak_elf.specs.declared.segment.Segment.{Segment}
-use Rattle.leak_roots.proofs.Writable.{found_first, read_more, read_same, read_all, dumped_fits, dumped_order}
+use Rattle.leak_roots.proofs.Writable.{found_first, read_more, read_same, read_all, dumped_fits}
 use Rattle.leak_roots.proofs.places.find_ranges.Goals as goal
 use Rattle.leak_roots.proofs.places.find_ranges.Goals.{then-segment+in_ok-push_gaps, else-segment}
 

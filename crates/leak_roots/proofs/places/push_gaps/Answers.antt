@@ -1,4 +1,4 @@
-use Rattle.std.proofs.Common.{◌≡◌, ◌≤◌, arith}
+use Rattle.std.proofs.Common.{arith}
 use Rattle.std.proofs.lemmas.Result.{on_ok_weaker}
 use Rattle.leak_blocks.specs.declared.block.Block.{Block}
 use Rattle.leak_roots.proofs.Gaps.{filled_first, filled_more, filled_same, filled_all}

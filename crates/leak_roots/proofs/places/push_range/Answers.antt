@@ -1,5 +1,5 @@
-use Rattle.std.proofs.Common.{◌≡◌, refl, ◌+◌, ◌*◌, ◌/◌, ◌%◌, ◌<◌, ◌≤◌, ◌∙◌, sym, ap, List, [], ◌∷◌, ◌++◌, ℕ, append-nil, arith}
-use Rattle.leak_roots.specs.Places.{AreRanges, IsRange, memory_places}
+use Rattle.std.proofs.Common.{refl, ◌*◌, ◌/◌, ◌∙◌, sym, ap, List, ◌++◌, ℕ, append-nil, arith}
+use Rattle.leak_roots.specs.Places.{memory_places}
 use Rattle.leak_roots.proofs.Addresses.{aligned_some, aligned_none}
 use Rattle.leak_roots.proofs.Ranges.{ranges_push, places_push, end_later}
 use Rattle.leak_roots.proofs.places.push_range.Goals as goal

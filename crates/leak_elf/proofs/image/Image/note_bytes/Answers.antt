@@ -10,5 +10,5 @@ returns-clause-end c d =
     let part = c.index-part.result.now in
     let parts : c.self.inside.parts.items ≡ note_parts_of c.args.self.now = c.self.invariant.2 ∙ ap note_parts_of c.self.view_is in
     let same : get_or (note_parts_of c.args.self.now) c.args.i d ≡ part =
-        get_or_default (note_parts_of c.args.self.now) c.args.i d part c.requires ∙ ap (λ (xs : List NotePart). get_or xs c.args.i part) (sym parts) ∙ sym c.index-part.ensures in
+    get_or_default (note_parts_of c.args.self.now) c.args.i d part c.requires ∙ ap (λ (xs : List NotePart). get_or xs c.args.i part) (sym parts) ∙ sym c.index-part.ensures in
     rw same c.bytes_from.ensures.end

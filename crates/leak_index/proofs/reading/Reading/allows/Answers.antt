@@ -1,5 +1,5 @@
 -- The listed distances.
-use Rattle.std.proofs.Common.{rules, sym, ◌∙◌, ◌≡◌, ◌==◌, take, arith}
+use Rattle.std.proofs.Common.{rules, sym, ◌∙◌, ◌==◌, take, arith}
 use Rattle.std.proofs.lemmas.Grind.{common_steps}
 use Rattle.std.proofs.lemmas.Iterator.{YieldsList-from_slice}
 use Rattle.std.proofs.lemmas.Iterator.Search.{any_from_yields_List}

@@ -2,8 +2,7 @@
 use Rattle.std.proofs.Common.{arith}
 use Rattle.std.proofs.lemmas.Bool.Decides.{nat_tests}
 use Rattle.leak_blocks.specs.declared.block.Block.{Block}
-use Rattle.leak_blocks.specs.Span.{IsAddressed}
-use Rattle.leak_index.proofs.Near.{at_number, bounds, no_bounds}
+use Rattle.leak_index.proofs.Near.{bounds}
 use Rattle.leak_index.proofs.sorted.Sorted.new.Goals as goal
 
 abbrev empty : Block

@@ -1,5 +1,5 @@
 -- Outside the bounds no block is led to.
-use Rattle.std.proofs.Common.{sym, subst, ◌≡◌, ◌∙◌, ap}
+use Rattle.std.proofs.Common.{sym}
 use Rattle.leak_index.specs.Hits.{hits_of}
 use Rattle.leak_index.proofs.Near.{none_below, none_above, all_behind, all_before}
 use Rattle.leak_index.proofs.sorted.SortedLookup.hits.Goals as goal

@@ -1,4 +1,4 @@
-use Rattle.std.proofs.Common.{◌≡◌, ◌∙◌, ap, sym, subst}
+use Rattle.std.proofs.Common.{◌∙◌, ap, sym, subst}
 use Rattle.leak_roots.specs.Places.{Places, AreRanges}
 use Rattle.leak_roots.proofs.Cutting.{range_is, read_more, read_all}
 use Rattle.leak_roots.proofs.roots.Roots.cut.Goals as goal

@@ -1,0 +1,141 @@
+-- From what was read and marked to what a search comes to.
+use Rattle.std.proofs.Common.{◌≡◌, ℕ, ◌-◌, ◌≤◌, ◌<◌, ◌^◌, List, [], ◌∷◌, length, Bool, true, false, not, Option, None, Result, Ok, Err, IfOk, refl, ap, subst, sym, ◌∙◌, zero-add, arith, inr}
+use Rattle.std.specs.Prelude.{cond}
+use Rattle.std.proofs.lemmas.List.Sums.{sum_by-cons}
+use Rattle.std.specs.Result.{IsErrOf}
+use Rattle.std.specs.List.{count_by}
+use Rattle.leak_elf.specs.Words.{word_of}
+use Rattle.leak_mtrace.specs.declared.line.Line.{Line}
+use Rattle.leak_blocks.specs.declared.block.Block.{Block}
+use Rattle.leak_blocks.specs.Live.{Replay, live_of, replay_of}
+use Rattle.leak_blocks.proofs.LineLemmas.{live_of_lines}
+use Rattle.leak_index.specs.Hits.{Index}
+use Rattle.leak_roots.specs.Places.{Places, words_at}
+use Rattle.leak_roots.specs.Roots.{AreRootsOf, root_words}
+use Rattle.leak_marks.specs.Reach.{Graph, Reach}
+use Rattle.leak_marks.specs.Partition.{Partitions}
+use Rattle.leak_pool.specs.declared.marked.Marked.{Marked}
+use Rattle.leak_pool.specs.Marking.{IsSet, Marks, graph_of, lists_of}
+use Rattle.leak_report.specs.declared.head.Head.{Head}
+use Rattle.leak_report.specs.Totals.{HaveCallersIn, leaked_in}
+use Rattle.leak_report.proofs.Callers.{have_callers}
+use Rattle.leak_report.specs.Report.{text_of}
+use Rattle.leak_find.specs.declared.error.FindError.{FindError}
+use Rattle.leak_find.specs.declared.error.FindError.TheVariants.{TooMany, NoMemory}
+use Rattle.leak_pool.specs.declared.error.PoolError.{PoolError}
+use Rattle.leak_pool.specs.declared.error.PoolError.TheVariants.{TooMany as TooManyForPool, NoMemory as NoMemoryForPool}
+use Rattle.leak_find.specs.declared.found.Found.{Found}
+use Rattle.leak_find.specs.declared.inputs.Input.{Input}
+use Rattle.leak_find.specs.Inputs.{IsRead, IsFaultOfOne, at_marking}
+use Rattle.leak_find.specs.Search.{FindsOne, graph_of_one, head_of_one, head_with}
+
+-- the blocks of a replay are the live ones
+pub blocks_are : (lines : List Line) → (replay_of lines).blocks ≡ live_of lines
+unfolding replay_of
+blocks_are lines = refl
+
+pub input_blocks : (core log : List ℕ) (input : Input) → IsRead core log input → input.live.blocks ≡ live_of input.log.lines
+input_blocks core log input read = ap (λ (r : Replay). r.blocks) read.live ∙ blocks_are input.log.lines
+
+pub input_callers : (core log : List ℕ) (input : Input) → IsRead core log input → HaveCallersIn log input.live.blocks
+input_callers core log input read =
+    subst (λ (bs : List Block). HaveCallersIn log bs) (sym (input_blocks core log input read))
+    (have_callers live_of_lines log input.log.lines read.callers)
+
+-- too many blocks is a fault of an input that was read
+pub too_many : (core log : List ℕ) (input : Input) → IsRead core log input → 2 ^ 32 - 1 < length input.live.blocks → IsFaultOfOne core log TooMany
+too_many core log input read many =
+    let e = input_blocks core log input read in
+    inr (refl, read.accepted, (input.log.lines, read.lines.0, subst (λ (bs : List Block). 2 ^ 32 ≤ length bs) e (omega (arith, many))))
+
+-- the blocks outside a set, counted in the set
+pub leaked_count : (set : List Bool) (blocks : List Block) → length set ≡ length blocks → length (leaked_in set blocks) ≡ count_by not set
+leaked_count [] blocks same = refl
+leaked_count (s ∷ set) [] same = absurd (omega arith)
+leaked_count (true ∷ set) (b ∷ blocks) same =
+    let rest = leaked_count set blocks (omega (arith, same)) in
+    let one = sum_by-cons (λ (x : Bool). cond (not x) 1 0) true set in
+    rw (one, rest) (sym (zero-add (count_by not set)))
+leaked_count (false ∷ set) (b ∷ blocks) same =
+    let rest = leaked_count set blocks (omega (arith, same)) in
+    let one = sum_by-cons (λ (x : Bool). cond (not x) 1 0) false set in
+    rw (one, ← rest) (omega arith)
+
+-- the words at the places found are the root words
+pub found_words : (core : List ℕ) (blocks : List Block) (places : Places) → AreRootsOf core blocks places → words_at (word_of core) places ≡ root_words core blocks
+unfolding words_at root_words
+found_words core blocks places roots = rw (roots.registers, roots.memory) refl
+
+-- the graph that was marked is that of the core and the lines
+pub marked_graph : (core : List ℕ) (reading : Option (List ℕ)) (lines : List Line) (blocks : List Block) (index : Index) (places : Places)
+    → blocks ≡ live_of lines → index ≡ record { blocks = blocks; reading = reading } → AreRootsOf core blocks places
+    → graph_of (word_of core) index (words_at (word_of core) places) [] ≡ graph_of_one core reading lines
+marked_graph core reading lines blocks index places are is roots =
+    rw (found_words core blocks places roots, is, are) refl
+
+-- the numbers of the first lines
+pub head_is : (core log : List ℕ) (input : Input) → IsRead core log input → head_with input None ≡ head_of_one core log input.log.lines
+head_is core log input read = rw (read.image, read.live, read.lines.1) refl
+
+-- a search that read, found roots and marked
+pub finds_one : (core log : List ℕ) (reading : Option (List ℕ)) (workers : ℕ) (input : Input) (index : Index) (places : Places) (marked : Marked) (found : Found)
+    → IsRead core log input → length input.live.blocks < 2 ^ 32 → index ≡ record { blocks = input.live.blocks; reading = reading }
+    → AreRootsOf core input.live.blocks places → Marks (word_of core) index places workers marked
+    → found.report.items ≡ text_of (head_with input None) input.live.blocks marked.set.items log
+    → found.leaked ≡ length (leaked_in marked.set.items input.live.blocks) → found.claims ≡ marked.claims
+    → FindsOne core log reading workers found
+finds_one core log reading workers input index places marked found read few is roots marks report leaked claims =
+    let e = input_blocks core log input read in
+    let g = marked_graph core reading input.log.lines input.live.blocks index places e is roots in
+    record {
+      accepted = read.accepted;
+      lines = input.log.lines;
+      is_log = read.lines.0;
+      few = subst (λ (bs : List Block). length bs < 2 ^ 32) e few;
+      set = marked.set.items;
+      marked =
+          subst (λ (bs : List Block). IsSet marked.set.items (length bs) (Reach (graph_of_one core reading input.log.lines))) (ap (λ (i : Index). i.blocks) is ∙ e)
+          (subst (λ (h : Graph). IsSet marked.set.items (length index.blocks) (Reach h)) g marks.set);
+      report =
+          subst (λ (h : Head). found.report.items ≡ text_of h (live_of input.log.lines) marked.set.items log) (head_is core log input read)
+          (subst (λ (bs : List Block). found.report.items ≡ text_of (head_with input None) bs marked.set.items log) e report);
+      leaked = subst (λ (bs : List Block). found.leaked ≡ length (leaked_in marked.set.items bs)) e leaked;
+      lists = rw (claims) marks.lists;
+      claims = rw (claims) (subst (λ (h : Graph). Partitions (lists_of marked) (Reach h)) g marks.claims);
+    }
+
+-- what holds of each value that a result may have
+pub ok_by : {A E : Type 0} (T : A → Type 0) (r : Result A E) → ((x : A) → r ≡ Ok x → T x) → IfOk r T
+ok_by T (Ok x) each = each x refl
+ok_by T (Err e) each = tt
+
+pub at_ok : {A E : Type 0} (P : A → Type 0) (r : Result A E) (x : A) → r ≡ Ok x → IfOk r P → P x
+at_ok P r x is holds = subst (λ v. IfOk v P) is holds
+
+-- where marking is refused, so is the search
+pub marking_refused : (core log : List ℕ) (input : Input) (e : PoolError) (f : FindError) → IsRead core log input → f ≡ at_marking e
+    → (e ≡ TooManyForPool → 2 ^ 32 - 1 < length input.live.blocks) → (f ≡ NoMemory → ⊥) → IsFaultOfOne core log f
+marking_refused core log input TooManyForPool f read is many other =
+    subst (λ (g : FindError). IsFaultOfOne core log g) (sym is) (too_many core log input read (many refl))
+marking_refused core log input NoMemoryForPool f read is many other = absurd (other is)
+
+no_error : (marked : Marked) → IsErrOf {T = Marked} {E = PoolError} (Ok marked) TooManyForPool → ⊥
+no_error marked e = cc
+
+-- marking that is not refused has blocks that can be numbered
+few_blocks : (n : ℕ) → (2 ^ 32 - 1 < n → ⊥) → n < 2 ^ 32
+few_blocks n not_many = omega (arith, not_many)
+
+-- the same of an input as it was read
+pub finds_read : (core log : List ℕ) (reading : Option (List ℕ)) (workers : ℕ) (input : Input) (index : Index) (places : Places) (marked : Marked) (found : Found)
+    → IsRead core log input → (2 ^ 32 - 1 < length input.live.blocks → IsErrOf {T = Marked} {E = PoolError} (Ok marked) TooManyForPool)
+    → index ≡ record { blocks = input.live.blocks; reading = reading }
+    → AreRootsOf input.image input.live.blocks places → Marks (word_of input.image) index places workers marked
+    → found.report.items ≡ text_of (head_with input None) input.live.blocks marked.set.items log
+    → found.leaked ≡ length (leaked_in marked.set.items input.live.blocks) → found.claims ≡ marked.claims
+    → FindsOne core log reading workers found
+finds_read core log reading workers input index places marked found read many is roots marks report leaked claims =
+    finds_one core log reading workers input index places marked found read (few_blocks (length input.live.blocks) (λ h. no_error marked (many h))) is
+    (subst (λ (file : List ℕ). AreRootsOf file input.live.blocks places) read.image roots)
+    (subst (λ (file : List ℕ). Marks (word_of file) index places workers marked) read.image marks)
+    report leaked claims

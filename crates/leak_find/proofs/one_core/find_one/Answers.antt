@@ -1,0 +1,18 @@
+use Rattle.std.proofs.Common.{ap, Err}
+use Rattle.std.proofs.lemmas.Result.{err_from_is_err_and}
+use Rattle.leak_find.proofs.SearchLemmas.{at_ok, finds_read, input_callers, marking_refused, ok_by}
+use Rattle.leak_find.proofs.one_core.find_one.Goals as goal
+
+pub returns-in_err-marked-clause-refused : goal.returns-in_err-marked-clause-refused
+returns-in_err-marked-clause-refused g c =
+    let p = err_from_is_err_and c.from_residual-in_err-marked.result c.from_residual-in_err-marked.ensures.1 in
+    rw (p.1) (λ other. marking_refused _ _ c.in_ok-input.input _ _ c.in_ok-input.ensures.ok p.2 (λ e. c.in_err-marked.ensures.many.0 (ap Err e)) other)
+
+pub report_of-requires-clause-in_log : goal.report_of-requires-clause-in_log
+report_of-requires-clause-in_log g c = input_callers _ _ _ c.in_ok-input.ensures.ok
+
+pub returns-clause-ok : goal.returns-clause-ok
+returns-clause-ok g c = ok_by _ _ (λ found is.
+    finds_read _ _ _ _ c.in_ok-input.input _ _ c.in_ok-marked.marked found c.in_ok-input.ensures.ok c.in_ok-marked.ensures.many.1
+    c.new-lookup.ensures c.in_ok-roots.ensures c.in_ok-marked.ensures.marks
+    (at_ok _ _ found is c.report_of.ensures.report) (at_ok _ _ found is c.report_of.ensures.leaked) (at_ok _ _ found is c.report_of.ensures.claims))

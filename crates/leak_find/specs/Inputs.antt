@@ -1,0 +1,66 @@
+-- An input: a core, and the log of its allocations. Which of its refusals comes first.
+use Rattle.std.specs.Prelude.{◌≡◌, ℕ, ◌^◌, ◌≤◌, ◌⊎◌, List, length, None, Some}
+use Rattle.leak_elf.specs.Refusals.{fault_of}
+use Rattle.leak_elf.specs.declared.error.ElfError.{ElfError}
+use Rattle.leak_elf.specs.declared.error.ElfError.TheVariants.{NoMemory as NoMemoryForCore}
+use Rattle.leak_notes.specs.Threads.{note_fault_of, threads_of}
+use Rattle.leak_notes.specs.declared.error.NoteError.{NoteError}
+use Rattle.leak_notes.specs.declared.error.NoteError.TheVariants.{NoMemory as NoMemoryForNotes}
+use Rattle.leak_mtrace.specs.declared.line.Line.{Line}
+use Rattle.leak_mtrace.specs.declared.error.LogError.{LogError}
+use Rattle.leak_mtrace.specs.declared.error.LogError.TheVariants.{NoMemory as NoMemoryForLog}
+use Rattle.leak_mtrace.specs.Log.{IsLog, IsReadAs, IsFirstFault, CallersAreIn}
+use Rattle.leak_blocks.specs.Live.{live_of, replay_of}
+use Rattle.leak_pool.specs.declared.error.PoolError.{PoolError}
+use Rattle.leak_pool.specs.declared.error.PoolError.TheVariants.{TooMany as TooManyForPool, NoMemory as NoMemoryForPool}
+use Rattle.leak_find.specs.declared.inputs.Input.{Input}
+use Rattle.leak_find.specs.declared.error.FindError.{FindError}
+use Rattle.leak_find.specs.declared.error.FindError.TheVariants.{Core, Notes, Log, NotPrefix, TooMany, NoMemory}
+
+-- a core with no fault in it
+pub record IsCore (core : List ℕ) : Type 0 where
+  pub headers : fault_of core ≡ None
+  pub notes : note_fault_of core ≡ None
+
+-- more blocks than there are numbers for them
+abbrev pub IsTooMany : List ℕ → Type 0
+IsTooMany log = (lines : List Line) × IsLog log lines × (2 ^ 32 ≤ length (live_of lines))
+
+-- the first fault of the input with the number
+abbrev pub IsInputFault : ℕ → List ℕ → List ℕ → FindError → Type 0
+IsInputFault input core log (Core k e) = (k ≡ input) × (fault_of core ≡ Some e)
+IsInputFault input core log (Notes k e) = (k ≡ input) × (fault_of core ≡ None) × (note_fault_of core ≡ Some e)
+IsInputFault input core log (Log k e) = (k ≡ input) × IsCore core × IsFirstFault log e
+IsInputFault input core log NotPrefix = ⊥
+IsInputFault input core log TooMany = ⊥
+IsInputFault input core log NoMemory = ⊥
+
+-- the refusal that tells of a fault of the input with the number; want of memory is of no input
+abbrev pub at_core : ℕ → ElfError → FindError
+at_core input NoMemoryForCore = NoMemory
+at_core input e = Core input e
+
+abbrev pub at_notes : ℕ → NoteError → FindError
+at_notes input NoMemoryForNotes = NoMemory
+at_notes input e = Notes input e
+
+abbrev pub at_log : ℕ → LogError → FindError
+at_log input NoMemoryForLog = NoMemory
+at_log input e = Log input e
+
+abbrev pub at_marking : PoolError → FindError
+at_marking TooManyForPool = TooMany
+at_marking NoMemoryForPool = NoMemory
+
+-- the first fault of one core and one log
+abbrev pub IsFaultOfOne : List ℕ → List ℕ → FindError → Type 0
+IsFaultOfOne core log e = IsInputFault 1 core log e ⊎ ((e ≡ TooMany) × IsCore core × IsTooMany log)
+
+-- the core and the log are free of faults, and were read as they are
+pub record IsRead (core log : List ℕ) (input : Input) : Type 0 where
+  pub accepted : IsCore core
+  pub image : input.image ≡ core
+  pub threads : input.threads ≡ threads_of core
+  pub lines : IsReadAs log input.log
+  pub callers : CallersAreIn log input.log.lines
+  pub live : input.live ≡ replay_of input.log.lines

@@ -1,0 +1,4 @@
+pub mod Inputs
+pub mod Reading
+pub mod Run
+pub mod Search

@@ -1,0 +1,32 @@
+//! The search of one core on the caller's thread.
+
+ghost use Rattle.std.specs.Prelude.{◌≢◌, IfOk, IfErr};
+ghost use Rattle.leak_index.specs.Readings.{listed_by};
+ghost use Rattle.leak_find.specs.Inputs.{IsFaultOfOne};
+ghost use Rattle.leak_find.specs.Search.{FindsOne};
+
+use crate::error::FindError;
+use crate::found::Found;
+use crate::inputs::read_input;
+use crate::reporting::report_of;
+use leak_index::{Reading, Sorted};
+use leak_pool::mark_alone;
+use leak_roots::Roots;
+use std::alloc::Global;
+
+/// Searches a core and its log on the caller's thread, with one list of claims.
+pub fn find_alone(
+    alloc: Global,
+    core: &[u8],
+    log: &[u8],
+    reading: Reading,
+) -> Result<Found, FindError>
+    ensures ok { IfOk result (FindsOne core.now log.now (listed_by reading) 1) }
+    ensures refused { IfErr result (λ e. e ≢ FindError.NoMemory → IsFaultOfOne core.now log.now e) }
+{
+    let input = read_input(alloc, 1, core, log)?;
+    let roots = Roots::find(alloc, &input.image, &input.threads, &input.live)?;
+    let lookup = Sorted::new(&input.live, reading);
+    let marked = mark_alone(alloc, &input.image, &lookup, &roots, &input.live)?;
+    report_of(alloc, &input, log, marked, None)
+}

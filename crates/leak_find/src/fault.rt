@@ -1,0 +1,48 @@
+//! Why the program ends without a report.
+
+ghost use Rattle.std.specs.Prelude.{◌≡◌};
+ghost use Rattle.leak_find.specs.declared.fault.ReadFault.TheVariants.{NoMemory};
+
+use crate::error::FindError;
+use leak_report::WriteFault;
+use std::alloc::AllocError;
+use thiserror::Error;
+
+/// Why an input was not read to its end.
+#[derive(Clone, Copy, Debug, PartialEq, Eq, Error)]
+pub enum ReadFault {
+    /// The input has more bytes than its limit. One byte more than the limit was taken.
+    #[error("too long")]
+    TooLong,
+    /// A read failed, other than by an interruption.
+    #[error("read failed")]
+    Device,
+    /// Reads were interrupted 1,000,000 times.
+    #[error("too many interrupted reads")]
+    TooManyTurns,
+    /// A growth of memory was refused.
+    #[error("out of memory")]
+    NoMemory,
+}
+
+impl From<AllocError> for ReadFault {
+    ghost from_gives = { λ _ e. e ≡ NoMemory };
+
+    fn from(_e: AllocError) -> ReadFault {
+        ReadFault::NoMemory
+    }
+}
+
+/// Why a run gives no status.
+#[derive(Clone, Copy, Debug, PartialEq, Eq, Error)]
+pub enum RunFault {
+    /// The reader with the number, from 1, was not read to its end. Nothing was written.
+    #[error("reader {0}: {1}")]
+    Read(u8, ReadFault),
+    /// The search gives no report. Nothing was written.
+    #[error("{0}")]
+    Find(FindError),
+    /// The report was not written whole.
+    #[error("{0}")]
+    Write(WriteFault),
+}

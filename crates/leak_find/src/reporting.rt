@@ -1,0 +1,56 @@
+//! From a marked set to the report.
+
+ghost use Rattle.std.specs.Prelude.{◌≡◌, IfOk, IfErr, length, not, count_by};
+ghost use Rattle.leak_report.specs.Totals.{HaveCallersIn, leaked_in};
+ghost use Rattle.leak_report.specs.Report.{text_of};
+ghost use Rattle.leak_find.specs.Search.{head_with};
+
+use crate::error::FindError;
+use crate::found::Found;
+use crate::inputs::Input;
+use leak_pool::Marked;
+use leak_report::{Head, Two, text};
+use std::alloc::Global;
+
+/// The report of an input whose blocks are marked.
+pub(crate) fn report_of(
+    alloc: Global,
+    input: &Input,
+    log: &[u8],
+    marked: Marked,
+    two: Option<Two>,
+) -> Result<Found, FindError>
+    requires one_each { length marked.set.items ≡ length input.now.live.blocks }
+    requires in_log { HaveCallersIn log.now input.now.live.blocks }
+    ensures report { IfOk result (λ found. found.report.items ≡ text_of (head_with input.now two) input.now.live.blocks marked.set.items log.now) }
+    ensures leaked { IfOk result (λ found. found.leaked ≡ length (leaked_in marked.set.items input.now.live.blocks)) }
+    ensures claims { IfOk result (λ found. found.claims ≡ marked.claims) }
+    ensures memory { IfErr result (λ e. e ≡ FindError.NoMemory) }
+{
+    let head = Head {
+        undumped: input.image.undumped(),
+        unknown: input.live.unknown(),
+        displaced: input.live.displaced(),
+        torn: input.log.torn(),
+        two,
+    };
+    let report = text(alloc, &head, &input.live, marked.set.as_slice(), log)?;
+    Ok(Found {
+        report,
+        leaked: count_clear(marked.set.as_slice()),
+        claims: marked.claims,
+    })
+}
+
+/// How many entries of the set are not in it.
+fn count_clear(set: &[bool]) -> u64
+    ensures { result ≡ count_by not set.now }
+{
+    let mut clear = 0;
+    for marked in set {
+        if !*marked {
+            clear += 1;
+        }
+    }
+    clear
+}

@@ -1,0 +1,94 @@
+-- Marking over a core's pieces, parts and blocks is marking of its graph.
+use Rattle.std.proofs.Common.{◌≡◌, ◌⊎◌, ℕ, zero, suc, ◌+◌, ◌<◌, ◌≤◌, List, [], ◌∷◌, ◌++◌, length, map, get_or, Option, Result, Ok, Err, refl, sym, ap, ◌∙◌, subst, inl, inr, ⊎_elim, arith}
+use Rattle.std.specs.Prelude.{IfOk, ◌↔◌}
+use Rattle.std.specs.List.{concat, flat_map, AllByRecursion}
+use Rattle.std.proofs.lemmas.List.{append-nil}
+use Rattle.std.proofs.lemmas.List.Folds.{concat-append}
+use Rattle.leak_index.specs.Hits.{Index}
+use Rattle.leak_roots.specs.declared.piece.Piece.{Piece}
+use Rattle.leak_roots.specs.Places.{Places, words_at}
+use Rattle.leak_roots.specs.Pieces.{AreCut, words_of}
+use Rattle.leak_scan.specs.Targets.{targets_of}
+use Rattle.leak_marks.specs.Lists.{Has}
+use Rattle.leak_marks.specs.Reach.{Graph, Reach}
+use Rattle.leak_marks.specs.Partition.{Partitions}
+use Rattle.leak_marks.proofs.ListLemmas.{here, there}
+use Rattle.leak_pool.specs.declared.start.Part.{Part}
+use Rattle.leak_pool.specs.declared.start.Start.{Start}
+use Rattle.leak_pool.specs.declared.marked.Marked.{Marked}
+use Rattle.leak_pool.specs.Marking.{Marks, MarksFrom, IsSet, graph_of, graph_from, lists_of, part_words}
+use Rattle.leak_pool.specs.Rounds.{IsMarked, graph_over}
+use Rattle.leak_pool.specs.Scopes.{root_targets, all_targets, piece_targets, part_targets, AreParts}
+use Rattle.leak_pool.proofs.ScopeLemmas.{long_all}
+use Rattle.leak_pool.proofs.WordLemmas.{targets-append, targets-flat_map, words_of_pieces}
+
+pub at_has_any : (xs : List ℕ) (k d : ℕ) → k < length xs → Has xs (get_or xs k d)
+at_has_any [] k d h = absurd (omega arith)
+at_has_any (x ∷ xs) zero d h = here x xs
+at_has_any (x ∷ xs) (suc k) d h = there x xs (get_or xs k d) (at_has_any xs k d (omega arith))
+
+pub parts_inside : (blocks : ℕ) (marked : List ℕ) (rescan : List (ℕ × Part)) → ((b : ℕ) → Has marked b → b < blocks) → AllByRecursion (λ part. Has marked part.0) rescan → AreParts blocks rescan
+parts_inside blocks marked [] inside all = tt
+parts_inside blocks marked (x ∷ xs) inside all = (inside x.0 all.0, parts_inside blocks marked xs inside all.1)
+
+first_is : (word_at : ℕ → Option ℕ) (index : Index) (places : Places) (pieces : List Piece) (pages : List ℕ) (rescan : List (ℕ × Part)) (n : ℕ) → AreCut places n pieces
+    → concat (root_targets word_at index places pieces pages rescan) ≡ targets_of index (words_at word_at places ++ flat_map (part_words word_at pages index.blocks) rescan)
+first_is word_at index places pieces pages rescan n cut =
+    concat-append (map (piece_targets word_at index places) pieces) (map (part_targets word_at index pages) rescan)
+    ∙ ap (λ (l : List ℕ). l ++ concat (map (part_targets word_at index pages) rescan)) (sym (targets-flat_map index (words_of word_at places) pieces) ∙ ap (λ (l : List ℕ). targets_of index l) (words_of_pieces word_at places n pieces cut))
+    ∙ ap (λ (l : List ℕ). targets_of index (words_at word_at places) ++ l) (sym (targets-flat_map index (part_words word_at pages index.blocks) rescan))
+    ∙ sym (targets-append index (words_at word_at places) (flat_map (part_words word_at pages index.blocks) rescan))
+
+graph_is : (word_at : ℕ → Option ℕ) (index : Index) (places : Places) (pieces : List Piece) (pages : List ℕ) (s : Start) (n : ℕ) → AreCut places n pieces
+    → graph_over (root_targets word_at index places pieces pages s.rescan.items) (all_targets word_at index) s.marked.items ≡ graph_from word_at index places pages s
+unfolding graph_of
+graph_is word_at index places pieces pages s n cut =
+    ap (λ (l : List ℕ). graph_with l) (first_is word_at index places pieces pages s.rescan.items n cut)
+  where
+    graph_with : List ℕ → Graph
+    graph_with l = record { first = l; targets = all_targets word_at index; given = s.marked.items }
+
+pub marks_from : (word_at : ℕ → Option ℕ) (index : Index) (places : Places) (pieces : List Piece) (pages : List ℕ) (s : Start) (workers n : ℕ) (m : Marked) → AreCut places n pieces
+    → IsMarked (graph_over (root_targets word_at index places pieces pages s.rescan.items) (all_targets word_at index) s.marked.items) (length (all_targets word_at index)) workers m.set.items (lists_of m) m.rounds
+    → MarksFrom word_at index places pages s workers m
+marks_from word_at index places pieces pages s workers n m cut marked = record {
+  set = subst (λ (k : ℕ). IsSet m.set.items k (λ b. Has s.marked.items b ⊎ Reach G b)) long (subst (λ (h : Graph). IsSet m.set.items (length (all_targets word_at index)) (λ b. Has s.marked.items b ⊎ Reach h b)) same marked.set);
+  lists = marked.lists;
+  claims = subst (λ (h : Graph). Partitions (lists_of m) (Reach h)) same marked.partition;
+  rounds = let f = marked.few in omega (arith, long);
+  none = λ z. marked.none (long ∙ z);
+}
+  where
+    G : Graph
+    G = graph_from word_at index places pages s
+
+    long : length (all_targets word_at index) ≡ length index.blocks
+    long = long_all word_at index
+
+    same : graph_over (root_targets word_at index places pieces pages s.rescan.items) (all_targets word_at index) s.marked.items ≡ graph_from word_at index places pages s
+    same = graph_is word_at index places pieces pages s n cut
+
+-- from a start that marks nothing
+pub marks_from_none : (word_at : ℕ → Option ℕ) (index : Index) (places : Places) (pages : List ℕ) (s : Start) (workers : ℕ) (m : Marked) → s.marked.items ≡ [] → s.rescan.items ≡ [] → MarksFrom word_at index places pages s workers m → Marks word_at index places workers m
+marks_from_none word_at index places pages s workers m unmarked unread from = record {
+  set = record {
+    len = from.set.len;
+    each = λ k h. let e = from.set.each k h in (
+      λ t. ⊎_elim (λ given. absurd (let z : 0 < 0 = subst (λ (l : List ℕ). Has l k) unmarked given in omega arith)) (λ r. subst (λ (g : Graph). Reach g k) same r) (e.0 t),
+      λ r. e.1 (inr (subst (λ (g : Graph). Reach g k) (sym same) r)),
+    );
+  };
+  lists = from.lists;
+  claims = subst (λ (g : Graph). Partitions (lists_of m) (Reach g)) same from.claims;
+  rounds = from.rounds;
+  none = from.none;
+}
+  where
+    same : graph_from word_at index places pages s ≡ graph_of word_at index (words_at word_at places) []
+    same = ap (λ (l : List (ℕ × Part)). graph_of word_at index (words_at word_at places ++ flat_map (part_words word_at pages index.blocks) l) s.marked.items) unread
+        ∙ ap (λ (l : List ℕ). graph_of word_at index l s.marked.items) (append-nil (words_at word_at places))
+        ∙ ap (λ (l : List ℕ). graph_of word_at index (words_at word_at places) l) unmarked
+
+pub if_ok : {X E : Type 0} (P Q : X → Type 0) (r : Result X E) → ((x : X) → P x → Q x) → IfOk r P → IfOk r Q
+if_ok P Q (Ok x) f h = f x h
+if_ok P Q (Err e) f h = tt

@@ -1,0 +1,12 @@
+pub mod FromLemmas
+pub mod ScopeLemmas
+pub mod CountLemmas
+pub mod GraphLemmas
+pub mod WordLemmas
+pub mod AloneLemmas
+pub mod ScanLemmas
+pub mod HalfLemmas
+pub mod AbsorbLemmas
+pub mod StepLemmas
+pub mod GoingLemmas
+pub mod EndLemmas

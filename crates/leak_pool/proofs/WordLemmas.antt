@@ -1,0 +1,129 @@
+-- The words of ranges and pieces, and what they lead to.
+use Rattle.std.proofs.Common.{◌≡◌, ℕ, zero, suc, ◌+◌, ◌-◌, ◌*◌, ◌/◌, ◌%◌, ◌<◌, ◌≤◌, true, false, true≢false, List, [], ◌∷◌, ◌++◌, length, map, get_or, take, drop, Option, Some, None, IsSome, refl, sym, ap, ◌∙◌, subst, arith, append_assoc, add-one, drop-cons}
+use Rattle.std.specs.List.{concat, cons_option, range_with_len, flat_map, filter_map, slice_range, AllByRecursion}
+use Rattle.std.proofs.lemmas.List.Elements.{filter_map-append}
+use Rattle.std.proofs.lemmas.List.{take_all}
+use Rattle.std.proofs.lemmas.List.Folds.{flat_map-map}
+use Rattle.std.proofs.lemmas.Grind.{flat_map-append}
+use Rattle.leak_elf.specs.Words.{words_between, places}
+use Rattle.leak_roots.specs.Places.{Places, addresses_in, memory_places, words_at, IsRange}
+use Rattle.leak_roots.specs.Pieces.{Place, InRegisters, InMemory, all_places, places_of, IsPiece, AreCut, words_of}
+use Rattle.leak_roots.specs.declared.piece.Piece.{Piece}
+use Rattle.leak_roots.specs.declared.piece.Piece.TheVariants.{Registers, Memory}
+use Rattle.leak_index.specs.Hits.{Index, hits_of}
+use Rattle.leak_scan.specs.Targets.{targets_of}
+
+-- ---- flat_map
+
+pub flat_map-flat_map : {A B C : Type 0} (g : B → List C) (f : A → List B) (xs : List A) → flat_map g (flat_map f xs) ≡ flat_map (λ x. flat_map g (f x)) xs
+flat_map-flat_map g f [] = refl
+flat_map-flat_map g f (x ∷ xs) = flat_map-append g (f x) (flat_map f xs) ∙ ap (λ l. flat_map g (f x) ++ l) (flat_map-flat_map g f xs)
+
+pub flat_map_same : {A B : Type 0} (f g : A → List B) (P : A → Type 0) (xs : List A) → ((x : A) → P x → f x ≡ g x) → AllByRecursion P xs → flat_map f xs ≡ flat_map g xs
+flat_map_same f g P [] e all = refl
+flat_map_same f g P (x ∷ xs) e all = ap (λ l. l ++ flat_map f xs) (e x all.0) ∙ ap (λ l. g x ++ l) (flat_map_same f g P xs e all.1)
+
+-- ---- what words lead to
+
+pub targets-append : (index : Index) (xs ys : List ℕ) → targets_of index (xs ++ ys) ≡ targets_of index xs ++ targets_of index ys
+unfolding targets_of
+targets-append index xs ys = flat_map-append (hits_of index) xs ys
+
+pub targets-nil : (index : Index) → targets_of index [] ≡ []
+unfolding targets_of
+targets-nil index = refl
+
+pub targets-flat_map : {A : Type 0} (index : Index) (f : A → List ℕ) (xs : List A) → targets_of index (flat_map f xs) ≡ concat (map (λ x. targets_of index (f x)) xs)
+targets-flat_map index f [] = targets-nil index
+targets-flat_map index f (x ∷ xs) = targets-append index (f x) (flat_map f xs) ∙ ap (λ l. targets_of index (f x) ++ l) (targets-flat_map index f xs)
+
+-- ---- a range of multiples of 8
+
+abbrev pub Aligned : (ℕ → Option ℕ) → Type 0
+Aligned word_at = (addr : ℕ) → IsSome (word_at addr) → addr % 8 ≡ 0
+
+range-append : (a m n : ℕ) → range_with_len a (m + n) ≡ range_with_len a m ++ range_with_len (a + m) n
+range-append a zero n = ap (λ k. range_with_len a k) (let r : 0 + n ≡ n = omega arith in r) ∙ ap (λ k. range_with_len k n) (let r : a ≡ a + 0 = omega arith in r)
+range-append a (suc m) n =
+    ap (λ k. range_with_len a k) (let r : suc m + n ≡ suc (m + n) = omega arith in r)
+    ∙ ap (λ l. a ∷ l) (range-append (a + 1) m n ∙ ap (λ k. range_with_len (a + 1) m ++ range_with_len k n) (let r : (a + 1) + m ≡ a + suc m = omega arith in r))
+
+no_word : (word_at : ℕ → Option ℕ) → Aligned word_at → (x : ℕ) → 0 < x % 8 → word_at x ≡ None
+no_word word_at aligned x h = go (word_at x) refl
+  where
+    go : (o : Option ℕ) → word_at x ≡ o → o ≡ None
+    go None e = refl
+    go (Some v) e = absurd (let z : x % 8 ≡ 0 = aligned x (subst (λ (r : Option ℕ). IsSome r) (sym e) refl) in omega arith)
+
+no_words : (word_at : ℕ → Option ℕ) → (a n : ℕ) → ((x : ℕ) → a ≤ x → x < a + n → word_at x ≡ None) → filter_map word_at (range_with_len a n) ≡ []
+no_words word_at a zero none = refl
+no_words word_at a (suc n) none = ap (λ (o : Option ℕ). cons_option o (filter_map word_at (range_with_len (a + 1) n))) (none a (omega arith) (omega arith)) ∙ no_words word_at (a + 1) n (λ x low high. none x (omega arith) (omega arith))
+
+-- the words of 8 * k + 1 addresses, of which the first is a multiple of 8, are those of k + 1 multiples of 8
+shifted : (a b n : ℕ) → map (λ i. a + 8 * i) (range_with_len (b + 1) n) ≡ map (λ i. a + 8 + 8 * i) (range_with_len b n)
+shifted a b zero = refl
+shifted a b (suc n) = ap (λ (k : ℕ). k ∷ map (λ i. a + 8 * i) (range_with_len (b + 1 + 1) n)) (let r : a + 8 * (b + 1) ≡ a + 8 + 8 * b = omega arith in r) ∙ ap (λ (l : List ℕ). (a + 8 + 8 * b) ∷ l) (shifted a (b + 1) n)
+
+eighths : (word_at : ℕ → Option ℕ) → Aligned word_at → (k a : ℕ) → a % 8 ≡ 0 → filter_map word_at (range_with_len a (8 * k + 1)) ≡ filter_map word_at (map (λ i. a + 8 * i) (range_with_len 0 (k + 1)))
+eighths word_at aligned zero a m = ap (λ (x : ℕ). filter_map word_at (x ∷ [])) (let r : a ≡ a + 8 * 0 = omega arith in r)
+eighths word_at aligned (suc k) a m =
+    ap (λ n. filter_map word_at (range_with_len a n)) (let r : 8 * suc k + 1 ≡ 1 + (7 + (8 * k + 1)) = omega arith in r)
+    ∙ ap (λ l. filter_map word_at l) (range-append a 1 (7 + (8 * k + 1)) ∙ ap (λ l. (a ∷ []) ++ l) (range-append (a + 1) 7 (8 * k + 1)))
+    ∙ filter_map-append word_at (a ∷ []) (range_with_len (a + 1) 7 ++ range_with_len (a + 1 + 7) (8 * k + 1))
+    ∙ ap (λ l. filter_map word_at (a ∷ []) ++ l) (filter_map-append word_at (range_with_len (a + 1) 7) (range_with_len (a + 1 + 7) (8 * k + 1))
+    ∙ ap (λ l. l ++ filter_map word_at (range_with_len (a + 1 + 7) (8 * k + 1))) (no_words word_at (a + 1) 7 (λ x low high. no_word word_at aligned x (omega arith)))
+    ∙ ap (λ n. filter_map word_at (range_with_len n (8 * k + 1))) (let r : a + 1 + 7 ≡ a + 8 = omega arith in r)
+    ∙ eighths word_at aligned k (a + 8) (omega arith)
+    ∙ ap (λ l. filter_map word_at l) (sym (shifted a 0 (k + 1))))
+    ∙ sym (filter_map-append word_at (a ∷ []) (map (λ i. a + 8 * i) (range_with_len 1 (k + 1))))
+    ∙ ap (λ (x : ℕ). filter_map word_at (x ∷ map (λ i. a + 8 * i) (range_with_len 1 (k + 1)))) (let r : a ≡ a + 8 * 0 = omega arith in r)
+    ∙ ap (λ n. filter_map word_at (map (λ i. a + 8 * i) (range_with_len 0 n))) (let r : suc (k + 1) ≡ suc k + 1 = omega arith in r)
+
+pub words_of_range : (word_at : ℕ → Option ℕ) → Aligned word_at → (from to : ℕ) → IsRange (from, to) → words_between word_at from to ≡ filter_map word_at (addresses_in (from, to))
+unfolding words_between
+words_of_range word_at aligned from to r =
+    let s = r.some in let a = r.from_multiple in let b = r.to_multiple in
+    let k : ℕ = (to - from) / 8 - 1 in
+    ap (λ n. filter_map word_at (range_with_len from n)) (let e : to - 7 - from ≡ 8 * k + 1 = omega arith in e)
+    ∙ eighths word_at aligned k from r.from_multiple
+    ∙ ap (λ n. filter_map word_at (map (λ i. from + 8 * i) (range_with_len 0 n))) (let e : k + 1 ≡ (to - from) / 8 = omega arith in e)
+
+-- ---- pieces of the root words
+
+-- the word at a place
+value : (ℕ → Option ℕ) → Places → Place → List ℕ
+value word_at p (InRegisters i) = take 1 (drop i p.registers)
+value word_at p (InMemory a) = cons_option (word_at a) []
+
+values_in_registers : (word_at : ℕ → Option ℕ) (p : Places) (n from : ℕ) → from + n ≤ length p.registers → flat_map (value word_at p) (map InRegisters (range_with_len from n)) ≡ take n (drop from p.registers)
+unfolding value
+values_in_registers word_at p zero from h = refl
+values_in_registers word_at p (suc n) from h =
+    let here : drop from p.registers ≡ get_or p.registers from 0 ∷ drop (suc from) p.registers = drop-cons p.registers from 0 (omega arith) in
+    ap (λ (l : List ℕ). take 1 l ++ flat_map (value word_at p) (map InRegisters (range_with_len (from + 1) n))) here
+    ∙ ap (λ (l : List ℕ). get_or p.registers from 0 ∷ l) (values_in_registers word_at p n (from + 1) (omega arith) ∙ ap (λ k. take n (drop k p.registers)) (add-one from))
+    ∙ ap (λ (l : List ℕ). take (suc n) l) (sym here)
+
+values_in_memory : (word_at : ℕ → Option ℕ) (p : Places) (xs : List ℕ) → flat_map (value word_at p) (map InMemory xs) ≡ filter_map word_at xs
+unfolding value
+values_in_memory word_at p [] = refl
+values_in_memory word_at p (x ∷ xs) = ap (λ (l : List ℕ). cons_option (word_at x) [] ++ l) (values_in_memory word_at p xs) ∙ joined (word_at x)
+  where
+    joined : (o : Option ℕ) → cons_option o [] ++ filter_map word_at xs ≡ cons_option o (filter_map word_at xs)
+    joined None = refl
+    joined (Some v) = refl
+
+values_of : (word_at : ℕ → Option ℕ) (p : Places) (x : Piece) → IsPiece p x → flat_map (value word_at p) (places_of x) ≡ words_of word_at p x
+values_of word_at p (Registers from to) h = values_in_registers word_at p (to - from) from (let a = h.0 in let b = h.1 in omega arith)
+values_of word_at p (Memory from to) h = values_in_memory word_at p (addresses_in (from, to))
+
+-- the words of the pieces, one piece behind the other, are the root words
+pub words_of_pieces : (word_at : ℕ → Option ℕ) (p : Places) (n : ℕ) (pieces : List Piece) → AreCut p n pieces → flat_map (words_of word_at p) pieces ≡ words_at word_at p
+unfolding words_at
+words_of_pieces word_at p n pieces cut =
+    sym (flat_map_same (λ x. flat_map (value word_at p) (places_of x)) (words_of word_at p) (IsPiece p) pieces (values_of word_at p) cut.each)
+    ∙ sym (flat_map-flat_map (value word_at p) places_of pieces)
+    ∙ ap (λ l. flat_map (value word_at p) l) cut.whole
+    ∙ flat_map-append (value word_at p) (map InRegisters (range_with_len 0 (length p.registers))) (map InMemory (memory_places p.memory))
+    ∙ ap (λ (l : List ℕ). l ++ flat_map (value word_at p) (map InMemory (memory_places p.memory))) (values_in_registers word_at p (length p.registers) 0 (omega arith) ∙ take_all (length p.registers) p.registers (omega arith))
+    ∙ ap (λ (l : List ℕ). p.registers ++ l) (values_in_memory word_at p (memory_places p.memory))

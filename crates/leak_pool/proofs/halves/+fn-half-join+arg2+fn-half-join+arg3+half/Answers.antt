@@ -1,0 +1,49 @@
+use Rattle.std.proofs.Common.{◌≡◌, ◌<◌, ◌≤◌, ◌∙◌, ap, subst, sym, ◌+◌, ◌-◌, ◌/◌, ◌++◌, ℕ, List, Vec, Global, length, map, arith, rules}
+use Rattle.leak_marks.specs.Seats.{Held}
+use Rattle.leak_pool.specs.Items.{targets_at}
+use Rattle.leak_pool.specs.Promises.{IsHalf}
+use Rattle.leak_pool.proofs.HalfLemmas.{pair_ok, half_after, half_joined, add_two}
+use Rattle.leak_pool.proofs.halves.+fn-half-join+arg2+fn-half-join+arg3+half.Goals as goal
+
+abbrev items : Vec ℕ Global → List ℕ
+items v = v.items
+
+abbrev Lists : Type 0
+Lists = Vec (Vec ℕ Global) Global
+
+abbrev Put : Lists → Lists → Lists → Type 0
+Put l a b = l.items ≡ a.items ++ b.items
+
+pub returns-in_default-clause-done : goal.returns-in_default-clause-done
+returns-in_default-clause-done g t c =
+    let same : c.split.new.seat ≡ c.args.seat = search rules in
+    let targets = targets_at (g.S.Source.roots c.args.source.now) (g.S.Source.targets c.args.source.now) c.args.items.now in
+    let n : ℕ = length c.args.items.now in
+    let w : ℕ = c.args.workers in
+    let middle : ℕ = c.args.low + (c.args.high - c.args.low) / 2 in
+    let some : 0 < w = omega arith in let lower : c.args.low ≤ middle = omega arith in let upper : middle ≤ c.args.high = omega arith in
+    pair_ok c.both.result c.half-seat.result.1 c.half-seat-in_default.result.1 Put
+    (λ (a : Lists). IsHalf targets n w c.args.low middle c.split.new.seat c.half-seat.result.0 (map items a.items))
+    (λ (b : Lists). IsHalf targets n w middle c.args.high c.half-seat.result.0 c.half-seat-in_default.result.0 (map items b.items))
+    (λ (l : Lists). IsHalf targets n w c.args.low c.args.high c.args.seat c.half-seat-in_default.result.0 (map items l.items))
+    c.both.ensures c.half-seat.ensures.done c.half-seat-in_default.ensures.done
+    (λ l a b j x y. add_two items (λ (gs : List (List ℕ)). IsHalf targets n w c.args.low c.args.high c.args.seat c.half-seat-in_default.result.0 gs) l.items a.items b.items j
+    (half_after targets n w c.args.low middle c.args.high some lower upper c.args.seat c.half-seat.result.0 c.half-seat-in_default.result.0 (map items a.items) (map items b.items)
+    (subst (λ (h : Held). IsHalf targets n w c.args.low middle h c.half-seat.result.0 (map items a.items)) same x) y))
+
+pub returns-clause-done : goal.returns-clause-done
+returns-clause-done g t c =
+    let one = c.join-upper.result.1 in let two = c.join-upper.result.0 in
+    let targets = targets_at (g.S.Source.roots c.args.source.now) (g.S.Source.targets c.args.source.now) c.args.items.now in
+    let n : ℕ = length c.args.items.now in
+    let w : ℕ = c.args.workers in
+    let middle : ℕ = c.args.low + (c.args.high - c.args.low) / 2 in
+    let some : 0 < w = omega arith in let lower : c.args.low ≤ middle = omega arith in let upper : middle ≤ c.args.high = omega arith in
+    pair_ok c.merge.result.1 one.1 two.1 Put
+    (λ (a : Lists). IsHalf targets n w c.args.low middle c.split.new.seat one.0 (map items a.items))
+    (λ (b : Lists). IsHalf targets n w middle c.args.high c.in-Some.other two.0 (map items b.items))
+    (λ (l : Lists). IsHalf targets n w c.args.low c.args.high c.args.seat c.merge.result.0 (map items l.items))
+    c.merge.ensures.lists c.join-upper.ensures.second.1.1 c.join-upper.ensures.first.1.1
+    (λ l a b j x y. add_two items (λ (gs : List (List ℕ)). IsHalf targets n w c.args.low c.args.high c.args.seat c.merge.result.0 gs) l.items a.items b.items j
+    (half_joined targets n w c.args.low middle c.args.high some lower upper c.args.seat c.split.new.seat c.in-Some.other one.0 two.0 c.merge.result.0 (map items a.items) (map items b.items)
+    c.in-Some.ensures.giver c.in-Some.ensures.given x y c.merge.ensures.seat))

@@ -1,0 +1,47 @@
+use Rattle.std.proofs.Common.{ℕ, List, Vec, Global, ◌≡◌, ◌<◌, ◌∙◌, ap, sym, subst, length, arith}
+use Rattle.std.specs.Prelude.{slice_index_or}
+use Rattle.leak_blocks.specs.declared.block.Block.{Block}
+use Rattle.leak_roots.specs.declared.piece.Piece.{Piece}
+use Rattle.leak_pool.specs.declared.start.Part.{Part}
+use Rattle.leak_pool.specs.Scopes.{ArePieces, AreParts, root_targets, all_targets}
+use Rattle.leak_pool.specs.Rounds.{IsMarked, graph_over}
+use Rattle.leak_pool.specs.Marking.{lists_of}
+use Rattle.leak_pool.proofs.ScopeLemmas.{long_all}
+use Rattle.leak_pool.proofs.FromLemmas.{at_has_any, parts_inside, marks_from}
+use Rattle.leak_pool.proofs.marking.mark_from.Goals as goal
+
+pub invariant_of-scope : goal.invariant_of-scope
+invariant_of-scope g c =
+    let e = ap (λ (l : List Block). length l) c.blocks-blocks.ensures.value in
+    let f = c.if-blocks.false in record {
+      same = c.requires.blocks ∙ sym c.blocks-blocks.ensures.value;
+      few = omega arith;
+      in_roots = subst (λ (l : List Piece). ArePieces c.args.roots.now l) (sym c.as_slice.ensures.value) c.in_ok-pieces.ensures.each;
+      in_blocks = subst (λ (n : ℕ). AreParts n c.as_slice-2.result.now) (sym e)
+          (subst (λ (l : List (ℕ × Part)). AreParts (length c.args.live.now.blocks) l) (sym c.as_slice-2.ensures.value)
+          (parts_inside (length c.args.live.now.blocks) c.args.start.now.marked.items c.args.start.now.rescan.items c.requires.start.inside c.requires.start.rescan));
+    }
+
+pub mark_over-requires-clause-start : goal.mark_over-requires-clause-start
+mark_over-requires-clause-start g c κs within k d h =
+    let w = g.W.Words.word_at c.args.words.now in let i = g.L.Lookup.index c.args.lookup.now in
+    let v : c.as_slice-3.result.now ≡ c.args.start.now.marked.items = c.as_slice-3.ensures.value in
+    let b = c.requires.start.inside (slice_index_or c.args.start.now.marked.items k d) (at_has_any c.args.start.now.marked.items k d (subst (λ (l : List ℕ). k < length l) v h)) in
+    let e = ap (λ (l : List Block). length l) c.requires.blocks in
+    let l = long_all w i in
+    subst (λ (l : List ℕ). slice_index_or l k d < length (all_targets w i)) (sym v) (omega (arith, b, e, l))
+
+pub returns-clause-marks : goal.returns-clause-marks
+returns-clause-marks g c =
+    let w = g.W.Words.word_at c.args.words.now in let i = g.L.Lookup.index c.args.lookup.now in
+    let m = c.in_ok-marked.marked in let s = c.args.start.now in
+    let a : IsMarked (graph_over (root_targets w i c.args.roots.now c.as_slice.result.now c.args.pages.now c.as_slice-2.result.now) (all_targets w i) c.as_slice-3.result.now) (length (all_targets w i)) c.workers.result m.set.items (lists_of m) m.rounds = c.in_ok-marked.ensures in
+    let b : IsMarked (graph_over (root_targets w i c.args.roots.now c.in_ok-pieces.pieces.items c.args.pages.now c.as_slice-2.result.now) (all_targets w i) c.as_slice-3.result.now) (length (all_targets w i)) c.workers.result m.set.items (lists_of m) m.rounds =
+    subst (λ (l : List Piece). IsMarked (graph_over (root_targets w i c.args.roots.now l c.args.pages.now c.as_slice-2.result.now) (all_targets w i) c.as_slice-3.result.now) (length (all_targets w i)) c.workers.result m.set.items (lists_of m) m.rounds) c.as_slice.ensures.value a in
+    let d : IsMarked (graph_over (root_targets w i c.args.roots.now c.in_ok-pieces.pieces.items c.args.pages.now s.rescan.items) (all_targets w i) c.as_slice-3.result.now) (length (all_targets w i)) c.workers.result m.set.items (lists_of m) m.rounds =
+    subst (λ (l : List (ℕ × Part)). IsMarked (graph_over (root_targets w i c.args.roots.now c.in_ok-pieces.pieces.items c.args.pages.now l) (all_targets w i) c.as_slice-3.result.now) (length (all_targets w i)) c.workers.result m.set.items (lists_of m) m.rounds) c.as_slice-2.ensures.value b in
+    let e : IsMarked (graph_over (root_targets w i c.args.roots.now c.in_ok-pieces.pieces.items c.args.pages.now s.rescan.items) (all_targets w i) s.marked.items) (length (all_targets w i)) c.workers.result m.set.items (lists_of m) m.rounds =
+    subst (λ (l : List ℕ). IsMarked (graph_over (root_targets w i c.args.roots.now c.in_ok-pieces.pieces.items c.args.pages.now s.rescan.items) (all_targets w i) l) (length (all_targets w i)) c.workers.result m.set.items (lists_of m) m.rounds) c.as_slice-3.ensures.value d in
+    let f : IsMarked (graph_over (root_targets w i c.args.roots.now c.in_ok-pieces.pieces.items c.args.pages.now s.rescan.items) (all_targets w i) s.marked.items) (length (all_targets w i)) c.args.plan.workers m.set.items (lists_of m) m.rounds =
+    subst (λ (n : ℕ). IsMarked (graph_over (root_targets w i c.args.roots.now c.in_ok-pieces.pieces.items c.args.pages.now s.rescan.items) (all_targets w i) s.marked.items) (length (all_targets w i)) n m.set.items (lists_of m) m.rounds) c.workers.ensures.number e in
+    marks_from w i c.args.roots.now c.in_ok-pieces.pieces.items c.args.pages.now s c.args.plan.workers c.args.plan.piece m c.in_ok-pieces.ensures f

@@ -1,0 +1,32 @@
+-- Items and their targets.
+use Rattle.std.specs.Prelude.{◌≡◌, ◌⊎◌, ℕ, ◌<◌, ◌≤◌, ◌*◌, ◌/◌, List, [], ◌∷◌, length, Option, Some, None, slice_index_or}
+use Rattle.leak_marks.specs.Lists.{Has}
+use Rattle.leak_pool.specs.declared.source.Item.{Item}
+use Rattle.leak_pool.specs.declared.source.Item.TheVariants.{Root, Block}
+
+-- what an item leads to
+abbrev pub targets_of_item : List (List ℕ) → List (List ℕ) → Item → List ℕ
+targets_of_item roots targets (Root k) = slice_index_or roots k []
+targets_of_item roots targets (Block b) = slice_index_or targets b []
+
+-- there is such an item
+abbrev pub IsItem : List (List ℕ) → List (List ℕ) → Item → Type 0
+IsItem roots targets (Root k) = k < length roots
+IsItem roots targets (Block b) = b < length targets
+
+-- the first of the list, and what is left
+abbrev pub IsNextOf : List ℕ → Option ℕ → List ℕ → Type 0
+IsNextOf rest None later = rest ≡ []
+IsNextOf rest (Some t) later = rest ≡ t ∷ later
+
+-- what the k-th item of the list leads to
+abbrev pub targets_at : List (List ℕ) → List (List ℕ) → List Item → ℕ → List ℕ
+targets_at roots targets items k = targets_of_item roots targets (slice_index_or items k (Root 0))
+
+-- an item from low up to high leads to the block
+abbrev pub InRange : (ℕ → List ℕ) → ℕ → ℕ → ℕ → Type 0
+InRange targets low high b = (k : ℕ) × (low ≤ k) × (k < high) × Has (targets k) b
+
+-- where the share of the worker k of m begins, of n items
+unfoldable pub share : ℕ → ℕ → ℕ → ℕ
+share k n m = k * n / m

@@ -1,0 +1,67 @@
+-- What marking comes to, for every plan and every schedule (bdwgc: an object is kept where a chain of words
+-- leads to it from a root; Boehm, Demers, Shenker, PLDI 1991, for marking from an earlier state).
+use Rattle.std.specs.Prelude.{◌≡◌, ℕ, ◌+◌, ◌<◌, ◌≤◌, ◌⊎◌, ◌↔◌, Bool, true, List, [], ◌++◌, length, map, flat_map, Option, Some, slice_get}
+use Rattle.std.specs.Option.{option_map_or}
+use Rattle.std.specs.List.{AllByRecursion}
+use Rattle.leak_blocks.specs.declared.block.Block.{Block}
+use Rattle.leak_index.specs.Hits.{Index}
+use Rattle.leak_scan.specs.Targets.{block_words, block_words_on, block_targets, targets_of}
+use Rattle.leak_roots.specs.Places.{Places, words_at}
+use Rattle.leak_marks.specs.Lists.{Has}
+use Rattle.leak_marks.specs.Reach.{Graph, Reach}
+use Rattle.leak_marks.specs.Partition.{Partitions}
+use Rattle.leak_pool.specs.declared.start.Part.{Part}
+use Rattle.leak_pool.specs.declared.start.Part.TheVariants.{Whole, Differing}
+use Rattle.leak_pool.specs.declared.start.Start.{Start}
+use Rattle.leak_pool.specs.declared.marked.Marked.{Marked}
+
+-- the graph of a log's blocks: what the given words lead to, and what each block's words lead to
+unfoldable pub graph_of : (ℕ → Option ℕ) → Index → List ℕ → List ℕ → Graph
+graph_of word_at index words given = record {
+  first = targets_of index words;
+  targets = map (block_targets word_at index) index.blocks;
+  given = given;
+}
+
+-- for each of n blocks, whether it is in the set
+pub record IsSet (tests : List Bool) (n : ℕ) (set : ℕ → Type 0) : Type 0 where
+  pub len : length tests ≡ n
+  pub each : (i : ℕ) → i < n → ((slice_get tests i ≡ Some true) ↔ set i)
+
+-- the words of a part of a block: all, or those on the pages
+abbrev pub words_of_part : (ℕ → Option ℕ) → List ℕ → Part → Block → List ℕ
+words_of_part word_at pages Whole b = block_words word_at b
+words_of_part word_at pages Differing b = block_words_on word_at pages b
+
+abbrev pub part_words : (ℕ → Option ℕ) → List ℕ → List Block → ℕ × Part → List ℕ
+part_words word_at pages blocks part = option_map_or (words_of_part word_at pages part.1) (slice_get blocks part.0) []
+
+-- the lists of claims, worker by worker
+abbrev pub lists_of : Marked → List (List ℕ)
+lists_of m = map (λ v. v.items) m.claims.items
+
+-- the marked set is what the roots reach, the claims partition it, and there is a round more than blocks at most
+pub record Marks (word_at : ℕ → Option ℕ) (index : Index) (places : Places) (workers : ℕ) (m : Marked) : Type 0 where
+  pub set : IsSet m.set.items (length index.blocks) (Reach (graph_of word_at index (words_at word_at places) []))
+  pub lists : length (lists_of m) ≡ workers
+  pub claims : Partitions (lists_of m) (Reach (graph_of word_at index (words_at word_at places) []))
+  pub rounds : m.rounds ≤ length index.blocks + 1
+  pub none : length index.blocks ≡ 0 → m.rounds ≡ 0
+
+-- the graph of marking from a start
+abbrev pub graph_from : (ℕ → Option ℕ) → Index → Places → List ℕ → Start → Graph
+graph_from word_at index places pages s =
+    graph_of word_at index (words_at word_at places ++ flat_map (part_words word_at pages index.blocks) s.rescan.items) s.marked.items
+
+-- the same from a start: the marked blocks, and what is reached outside them, which the claims partition
+pub record MarksFrom (word_at : ℕ → Option ℕ) (index : Index) (places : Places) (pages : List ℕ) (s : Start) (workers : ℕ) (m : Marked) : Type 0 where
+  pub set : IsSet m.set.items (length index.blocks) (λ i. Has s.marked.items i ⊎ Reach (graph_from word_at index places pages s) i)
+  pub lists : length (lists_of m) ≡ workers
+  pub claims : Partitions (lists_of m) (Reach (graph_from word_at index places pages s))
+  pub rounds : m.rounds ≤ length index.blocks + 1
+  pub none : length index.blocks ≡ 0 → m.rounds ≡ 0
+
+-- a start names blocks alone, and scans again only what it marks
+pub record IsStartOf (blocks : ℕ) (s : Start) : Type 0 where
+  pub inside : (b : ℕ) → Has s.marked.items b → b < blocks
+  pub rescan : AllByRecursion (λ part. Has s.marked.items part.0) s.rescan.items

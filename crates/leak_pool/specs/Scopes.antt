@@ -1,0 +1,32 @@
+-- What marking scans: pieces of the root words, behind them parts of blocks that are scanned again, and blocks.
+use Rattle.std.specs.Prelude.{ℕ, ◌<◌, List, [], ◌∷◌, ◌++◌, map, Option}
+use Rattle.std.specs.List.{AllByRecursion}
+use Rattle.leak_index.specs.Hits.{Index}
+use Rattle.leak_roots.specs.declared.piece.Piece.{Piece}
+use Rattle.leak_roots.specs.Places.{Places}
+use Rattle.leak_roots.specs.Pieces.{IsPiece, words_of}
+use Rattle.leak_scan.specs.Targets.{block_targets, targets_of}
+use Rattle.leak_pool.specs.declared.start.Part.{Part}
+use Rattle.leak_pool.specs.Marking.{part_words}
+
+-- what a piece leads to, and what a part of a block leads to
+abbrev pub piece_targets : (ℕ → Option ℕ) → Index → Places → Piece → List ℕ
+piece_targets word_at index places piece = targets_of index (words_of word_at places piece)
+
+abbrev pub part_targets : (ℕ → Option ℕ) → Index → List ℕ → ℕ × Part → List ℕ
+part_targets word_at index pages part = targets_of index (part_words word_at pages index.blocks part)
+
+-- the pieces first, then the parts
+abbrev pub root_targets : (ℕ → Option ℕ) → Index → Places → List Piece → List ℕ → List (ℕ × Part) → List (List ℕ)
+root_targets word_at index places pieces pages rescan = map (piece_targets word_at index places) pieces ++ map (part_targets word_at index pages) rescan
+
+-- the blocks
+abbrev pub all_targets : (ℕ → Option ℕ) → Index → List (List ℕ)
+all_targets word_at index = map (block_targets word_at index) index.blocks
+
+-- each piece is one of these roots, and each part is of one of so many blocks
+abbrev pub ArePieces : Places → List Piece → Type 0
+ArePieces places pieces = AllByRecursion (IsPiece places) pieces
+
+abbrev pub AreParts : ℕ → List (ℕ × Part) → Type 0
+AreParts blocks rescan = AllByRecursion (λ part. part.0 < blocks) rescan

@@ -1,0 +1,18 @@
+//! Where a test can hold a worker.
+
+/// Is called by each worker before it scans an item: a piece of the roots, a part to scan again, or a block.
+///
+/// What the caller scans of a later round before the workers start passes no gate. Gates are for tests, which hold a
+/// worker until another has come; [`Open`] holds none.
+pub trait Gate {
+    /// Returns when the worker may scan its `step`-th item, counted from 0 over its own passes of the whole call.
+    fn pass(&self, worker: u32, step: u64);
+}
+
+/// A gate that holds nobody.
+#[derive(Clone, Copy, Debug)]
+pub struct Open;
+
+impl Gate for Open {
+    fn pass(&self, _worker: u32, _step: u64) {}
+}

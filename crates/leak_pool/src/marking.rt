@@ -1,0 +1,100 @@
+//! Marking by worker threads.
+ghost use Rattle.std.specs.Prelude.{◌≡◌, ◌↔◌, ◌<◌, ◌-◌, ◌^◌, IfOk, IsErrOf, length};
+ghost use Rattle.leak_roots.specs.Pieces.{AreCut};
+ghost use Rattle.leak_pool.specs.Marking.{Marks, MarksFrom, IsStartOf};
+
+use crate::error::PoolError;
+use crate::gate::Gate;
+use crate::marked::Marked;
+use crate::over::mark_over;
+use crate::plan::Plan;
+use crate::scope::Scope;
+use crate::start::Start;
+use leak_blocks::Live;
+use leak_elf::Words;
+use leak_index::Lookup;
+use leak_roots::{CutError, Piece, Roots};
+use leak_scan::Pages;
+use std::alloc::{AllocError, Global};
+use std::thread::Threads;
+
+/// Marks what the roots lead to, by the workers of the plan. There is one list of claims for each worker.
+pub fn mark<R: Threads + Sync, W: Words + Sync, L: Lookup + Sync, G: Gate + Sync>(
+    rt: &R,
+    alloc: Global,
+    words: &W,
+    lookup: &L,
+    roots: &Roots,
+    live: &Live,
+    plan: Plan,
+    gate: &G,
+) -> Result<Marked, PoolError>
+    requires { (L.index lookup.now).blocks ≡ live.now.blocks }
+    ensures many { IsErrOf result PoolError.TooMany ↔ (2 ^ 32 - 1 < length live.now.blocks) }
+    ensures marks { IfOk result (Marks (W.word_at words.now) (L.index lookup.now) roots.now plan.workers) }
+{
+    let start = Start {
+        marked: Vec::new(alloc),
+        rescan: Vec::new(alloc),
+    };
+    let Some(pages) = Pages::new(Vec::new(alloc)) else {
+        unreachable!()
+    };
+    mark_from(
+        rt, alloc, words, lookup, roots, live, plan, gate, &start, &pages,
+    )
+}
+
+/// Marks what the roots and the scanned parts of a start lead to, outside the blocks that the start marks.
+pub fn mark_from<R: Threads + Sync, W: Words + Sync, L: Lookup + Sync, G: Gate + Sync>(
+    rt: &R,
+    alloc: Global,
+    words: &W,
+    lookup: &L,
+    roots: &Roots,
+    live: &Live,
+    plan: Plan,
+    gate: &G,
+    start: &Start,
+    pages: &Pages,
+) -> Result<Marked, PoolError>
+    requires blocks { (L.index lookup.now).blocks ≡ live.now.blocks }
+    requires start { IsStartOf (length live.now.blocks) start.now }
+    ensures many { IsErrOf result PoolError.TooMany ↔ (2 ^ 32 - 1 < length live.now.blocks) }
+    ensures marks { IfOk result (MarksFrom (W.word_at words.now) (L.index lookup.now) roots.now pages.now start.now plan.workers) }
+{
+    let blocks = live.blocks();
+    if blocks.len() > u32::MAX as usize {
+        return Err(PoolError::TooMany);
+    }
+    let pieces = pieces_of(alloc, roots, plan)?;
+    let scope = Scope {
+        words,
+        lookup,
+        blocks,
+        roots,
+        pieces: pieces.as_slice(),
+        rescan: start.rescan.as_slice(),
+        pages,
+    };
+    let marked = mark_over(
+        rt,
+        alloc,
+        &scope,
+        gate,
+        plan.workers(),
+        start.marked.as_slice(),
+    )?;
+    Ok(marked)
+}
+
+// The pieces of the roots.
+fn pieces_of(alloc: Global, roots: &Roots, plan: Plan) -> Result<Vec<Piece>, AllocError>
+    ensures { IfOk result (λ pieces. AreCut roots.now plan.piece pieces.items) }
+{
+    match roots.cut(alloc, plan.piece() as usize) {
+        Ok(pieces) => Ok(pieces),
+        Err(CutError::NoMemory) => Err(AllocError),
+        Err(CutError::Zero) => unreachable!(),
+    }
+}

@@ -1,0 +1,183 @@
+//! Marking by workers, from a start, over any source.
+ghost use Rattle.std.specs.Prelude.{◌≡◌, ◌⊎◌, ◌<◌, ◌≤◌, ◌^◌, ◌+◌, ℕ, List, [], ◌∷◌, ◌++◌, ◌/◌, ◌↔◌, length, map, replicate, All, IfOk, IsTrue};
+ghost use Rattle.leak_marks.specs.Lists.{Has, Within, mark_of, word_count};
+ghost use Rattle.leak_marks.specs.Seats.{Held, IsSound, held};
+ghost use Rattle.leak_pool.specs.Rounds.{Going, AreWords, IsMarked, graph_over, AreRoots};
+ghost use Rattle.leak_pool.specs.Marking.{IsSet};
+
+use crate::gate::Gate;
+use crate::later::{targets_are_blocks, until_none};
+use crate::marked::Marked;
+use crate::rounds::by_workers;
+use crate::source::{Item, Source};
+use leak_marks::laws::whole_runs;
+use leak_marks::{MarkSeat, Marks};
+use std::alloc::{AllocError, Global};
+use std::thread::Threads;
+
+// The first seat claims the blocks of the start.
+fn claim_start(marks: &Marks, seat: &mut MarkSeat, start: &[u32])
+    requires table { seat.old.table ≡ marks.now.table }
+    requires inside { All (λ b. b < marks.now.blocks) start.now }
+    requires none { (seat.old.claims ≡ []) × (seat.old.seen ≡ []) }
+    ensures same { (seat.new.table ≡ seat.old.table) × (seat.new.share ≡ seat.old.share) }
+    ensures sound { IsSound seat.new }
+    ensures claims { Within seat.new.claims start.now }
+    ensures seen { Within start.now seat.new.seen }
+{
+    for block in start {
+        marks.claim(seat, *block);
+    }
+}
+
+// No claim of any worker.
+fn no_claims(alloc: Global, workers: u32) -> Result<Vec<Vec<u32>>, AllocError>
+    ensures lists { IfOk result (λ c. map (λ v. v.items) c.items ≡ replicate workers []) }
+    ensures count { IfOk result (λ c. length c.items ≡ workers) }
+{
+    let mut claims = Vec::with_capacity(alloc, workers as usize)?;
+    for _worker in 0..workers {
+        claims.push(Vec::new(alloc))?;
+    }
+    Ok(claims)
+}
+
+// The parts of the roots as items.
+fn items_of_roots(alloc: Global, roots: usize) -> Result<Vec<Item>, AllocError>
+    ensures { IfOk result (λ v. AreRoots roots v.items) }
+{
+    let mut items = Vec::with_capacity(alloc, roots)?;
+    for k in 0..roots {
+        items.push(Item::Root(k))?;
+    }
+    Ok(items)
+}
+
+/// The first round: the first seat claims the start's blocks, and the workers scan the roots.
+fn first_round<R: Threads + Sync, S: Source + Sync, G: Gate + Sync>(
+    rt: &R,
+    alloc: Global,
+    source: &S,
+    gate: &G,
+    marks: &Marks,
+    mut seat: MarkSeat,
+    steps: &mut Vec<u64>,
+    workers: u32,
+    claims: &mut Vec<Vec<u32>>,
+    start: &[u32],
+) -> Result<(MarkSeat, Vec<u32>), AllocError>
+    requires seat { seat ≡ held marks.now.table [] [] 4294967296 }
+    requires blocks { marks.now.blocks ≡ length (S.targets source.now) }
+    requires start { All (λ b. b < length (S.targets source.now)) start.now }
+    requires some { 0 < workers }
+    requires few { workers ≤ 64 }
+    requires steps { length steps.old.items ≡ workers }
+    requires count { length claims.old.items ≡ workers }
+    requires claims { map (λ v. v.items) claims.old.items ≡ replicate workers [] }
+    ensures steps { length steps.new.items ≡ workers }
+    ensures count { length claims.new.items ≡ workers }
+    ensures table { IfOk result (λ r. r.0.table ≡ marks.now.table) }
+    ensures size { IfOk result (λ r. length r.1.items ≤ length r.0.claims) }
+    ensures going { IfOk result (λ r. Going (S.roots source.now) (S.targets source.now) start.now workers (map (λ v. v.items) claims.new.items) r.1.items r.0) }
+{
+    targets_are_blocks(source);
+    claim_start(marks, &mut seat, start);
+    let items = items_of_roots(alloc, source.roots())?;
+    let mut waiting = Vec::new(alloc);
+    let seat = by_workers(
+        rt,
+        alloc,
+        source,
+        gate,
+        marks,
+        seat,
+        items.as_slice(),
+        steps,
+        workers,
+        claims,
+        &mut waiting,
+    )?;
+    Ok((seat, waiting))
+}
+
+// The words of the marks when no block waits, and the number of rounds.
+fn mark_words<R: Threads + Sync, S: Source + Sync, G: Gate + Sync>(
+    rt: &R,
+    alloc: Global,
+    source: &S,
+    gate: &G,
+    workers: u32,
+    claims: &mut Vec<Vec<u32>>,
+    start: &[u32],
+) -> Result<(Vec<u64>, u64), AllocError>
+    requires start { All (λ b. b < length (S.targets source.now)) start.now }
+    requires some { 0 < workers }
+    requires few { workers ≤ 64 }
+    requires count { length claims.old.items ≡ workers }
+    requires claims { map (λ v. v.items) claims.old.items ≡ replicate workers [] }
+    ensures { IfOk result (λ r. AreWords (graph_over (S.roots source.now) (S.targets source.now) start.now) (length (S.targets source.now)) workers r.0.items (map (λ v. v.items) claims.new.items) r.1) }
+{
+    whole_runs();
+    let (marks, seat) = Marks::new(alloc, source.blocks())?;
+    let mut steps = vec![in alloc; 0u64; workers as usize]?;
+    let (seat, waiting) = first_round(
+        rt, alloc, source, gate, &marks, seat, &mut steps, workers, claims, start,
+    )?;
+    let (seat, rounds) = until_none(
+        rt, alloc, source, gate, &marks, seat, waiting, &mut steps, workers, claims, start,
+    )?;
+    let words = marks.close(alloc, seat)?;
+    Ok((words, rounds))
+}
+
+// Whether the mark of a block is set: bit `block % 64` of word `block / 64`.
+fn is_marked(words: &[u64], block: u32) -> bool
+    requires { block / 64 < length words.now }
+    ensures { IsTrue result ↔ (mark_of words.now block ≡ 1) }
+{
+    (words[(block / 64) as usize] >> (block % 64)) & 1 == 1
+}
+
+// For each block whether its mark is set.
+fn set_of(alloc: Global, words: &[u64], blocks: u32) -> Result<Vec<bool>, AllocError>
+    requires { word_count blocks ≤ length words.now }
+    ensures { IfOk result (λ set. IsSet set.items blocks (λ b. mark_of words.now b ≡ 1)) }
+{
+    let mut set = Vec::with_capacity(alloc, blocks as usize)?;
+    for block in 0..blocks {
+        set.push(is_marked(words, block))?;
+    }
+    Ok(set)
+}
+
+/// Marks what the parts of the roots lead to, from the blocks of the start on.
+pub(crate) fn mark_over<R: Threads + Sync, S: Source + Sync, G: Gate + Sync>(
+    rt: &R,
+    alloc: Global,
+    source: &S,
+    gate: &G,
+    workers: u32,
+    start: &[u32],
+) -> Result<Marked, AllocError>
+    requires start { All (λ b. b < length (S.targets source.now)) start.now }
+    requires some { 0 < workers }
+    requires few { workers ≤ 64 }
+    ensures { IfOk result (λ m. IsMarked (graph_over (S.roots source.now) (S.targets source.now) start.now) (length (S.targets source.now)) workers m.set.items (map (λ v. v.items) m.claims.items) m.rounds) }
+{
+    targets_are_blocks(source);
+    let mut claims = no_claims(alloc, workers)?;
+    if source.blocks() == 0 {
+        return Ok(Marked {
+            set: Vec::new(alloc),
+            claims,
+            rounds: 0,
+        });
+    }
+    let (words, rounds) = mark_words(rt, alloc, source, gate, workers, &mut claims, start)?;
+    let set = set_of(alloc, words.as_slice(), source.blocks())?;
+    Ok(Marked {
+        set,
+        claims,
+        rounds,
+    })
+}

@@ -1,0 +1,105 @@
+//! What marking scans of a core.
+ghost use Rattle.std.specs.Prelude.{◌≡◌, ◌<◌, ◌^◌, length};
+ghost use Rattle.leak_roots.specs.Pieces.{IsPiece};
+ghost use Rattle.leak_pool.specs.Items.{IsItem, targets_of_item};
+ghost use Rattle.leak_pool.specs.Scopes.{root_targets, all_targets, piece_targets, part_targets, ArePieces, AreParts};
+ghost use Rattle.leak_pool.specs.ScopeLaw.{pieces_prop, parts_prop};
+
+use crate::claiming::claim_all;
+use crate::source::{Item, Source};
+use crate::start::Part;
+use leak_blocks::Block;
+use leak_elf::Words;
+use leak_index::Lookup;
+use leak_marks::{MarkSeat, Marks};
+use leak_roots::{Piece, Roots};
+use leak_scan::{Pages, Targets};
+use std::alloc::AllocError;
+
+/// The pieces of the root words, behind them the parts of blocks that are scanned again, and the blocks.
+#[derive(Drop)]
+pub(crate) struct Scope<'a, W: Words, L: Lookup> {
+    pub(crate) words: &'a W,
+    pub(crate) lookup: &'a L,
+    pub(crate) blocks: &'a [Block],
+    pub(crate) roots: &'a Roots,
+    pub(crate) pieces: &'a [Piece],
+    pub(crate) rescan: &'a [(u32, Part)],
+    pub(crate) pages: &'a Pages,
+    ghost same: { (L.index lookup.now).blocks ≡ blocks.now },
+    ghost few: { length blocks.now < 2 ^ 32 },
+    ghost in_roots: { ArePieces roots.now pieces.now } by { pieces_prop roots.now pieces.now },
+    ghost in_blocks: { AreParts (length blocks.now) rescan.now } by { parts_prop (length blocks.now) rescan.now },
+}
+
+impl<'a, W: Words, L: Lookup> Scope<'a, W, L> {
+    // The blocks that an item leads to.
+    fn targets(&self, item: Item) -> Targets<'a, W, L>
+        requires { let w = W.word_at self.now.words.now in let i = L.index self.now.lookup.now in IsItem (root_targets w i self.now.roots.now self.now.pieces.now self.now.pages.now self.now.rescan.now) (all_targets w i) item }
+        ensures { let w = W.word_at self.now.words.now in let i = L.index self.now.lookup.now in result ≡ targets_of_item (root_targets w i self.now.roots.now self.now.pieces.now self.now.pages.now self.now.rescan.now) (all_targets w i) item }
+    {
+        match item {
+            Item::Block(block) => {
+                Targets::of_block(self.words, self.lookup, &self.blocks[block as usize])
+            }
+            Item::Root(place) if place < self.pieces.len() => self.of_piece(self.pieces[place]),
+            Item::Root(place) => self.of_part(self.rescan[place - self.pieces.len()]),
+        }
+    }
+
+    // The blocks that a piece of the roots leads to.
+    fn of_piece(&self, piece: Piece) -> Targets<'a, W, L>
+        requires { IsPiece self.now.roots.now piece }
+        ensures { result ≡ piece_targets (W.word_at self.now.words.now) (L.index self.now.lookup.now) self.now.roots.now piece }
+    {
+        match piece {
+            Piece::Registers(from, to) => {
+                let registers = &self.roots.registers()[from..to];
+                Targets::of_registers(self.words, registers, self.lookup)
+            }
+            Piece::Memory(from, to) => Targets::of_range(self.words, self.lookup, from, to),
+        }
+    }
+
+    // The blocks that a part of a block leads to.
+    fn of_part(&self, part: (u32, Part)) -> Targets<'a, W, L>
+        requires { part.0 < length self.now.blocks.now }
+        ensures { result ≡ part_targets (W.word_at self.now.words.now) (L.index self.now.lookup.now) self.now.pages.now part }
+    {
+        let block = &self.blocks[part.0 as usize];
+        match part.1 {
+            Part::Whole => Targets::of_block(self.words, self.lookup, block),
+            Part::Differing => {
+                Targets::of_block_pages(self.words, self.lookup, block, self.pages)
+            }
+        }
+    }
+}
+
+impl<'a, W: Words, L: Lookup> Source for Scope<'a, W, L> {
+    ghost use Rattle.leak_pool.specs.ScopeLaw.{scope_inside};
+
+    ghost roots = { λ s. root_targets (W.word_at s.words.now) (L.index s.lookup.now) s.roots.now s.pieces.now s.pages.now s.rescan.now };
+
+    ghost targets = { λ s. all_targets (W.word_at s.words.now) (L.index s.lookup.now) };
+
+    ghost inside = { λ s. scope_inside (W.word_at s.words.now) (L.index s.lookup.now) s.roots.now s.pieces.now s.pages.now s.rescan.now };
+
+    fn blocks(&self) -> u32 {
+        self.blocks.len() as u32
+    }
+
+    fn roots(&self) -> usize {
+        self.pieces.len() + self.rescan.len()
+    }
+
+    fn scan(
+        &self,
+        marks: &Marks,
+        seat: &mut MarkSeat,
+        list: &mut Vec<u32>,
+        item: Item,
+    ) -> Result<(), AllocError> {
+        claim_all(self.targets(item), marks, seat, list)
+    }
+}
