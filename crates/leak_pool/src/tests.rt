@@ -1,11 +1,11 @@
-ghost use Rattle.std.specs.Prelude.{◌≡◌, ◌≤◌};
+ghost use Rattle.std.specs.Prelude.{◌≡◌, ◌<◌, ◌≤◌, length};
 ghost use Rattle.leak_elf.specs.Words.{word_of};
 ghost use Rattle.leak_elf.specs.Aligned.{aligned_words};
 
 use crate::{
     Gate, Marked, Open, Part, Plan, PlanError, PoolError, Start, mark, mark_alone, mark_from,
 };
-use leak_blocks::replay;
+use leak_blocks::{Live, replay};
 use leak_elf::{Image, Words, core_k};
 use leak_index::{Reading, Sorted};
 use leak_mtrace::Log;
@@ -351,6 +351,28 @@ fn two_workers_scan_and_claim_at_the_same_time(rt: HostRuntime) -> Result<(), Fa
     Ok(())
 }
 
+/// Marks from the first block, of which a part is scanned again.
+fn from_first<R: std::thread::Threads + Sync>(
+    rt: &R,
+    alloc: Global,
+    image: &Image,
+    roots: &Roots,
+    live: &Live,
+    part: Part,
+    pages: &Pages,
+) -> Result<Marked, Fail>
+    requires { 0 < length live.now.blocks }
+{
+    let lookup = Sorted::new(live, Reading::interior());
+    let marked = vec![in alloc; 0u32]?;
+    let rescan = vec![in alloc; (0u32, part)]?;
+    let start = Start { marked, rescan };
+    let plan = Plan::new(2, 512, 0)?;
+    Ok(mark_from(
+        rt, alloc, image, &lookup, roots, live, plan, &Open, &start, pages,
+    )?)
+}
+
 #[test]
 fn a_start_is_scanned_again_in_parts(rt: HostRuntime) -> Result<(), Fail> {
     let alloc = rt.alloc();
@@ -360,36 +382,17 @@ fn a_start_is_scanned_again_in_parts(rt: HostRuntime) -> Result<(), Fail> {
     let log = Log::read(alloc, b"+ 0x10100 0x20\n+ 0x10200 0x10\n")?;
     let live = replay(alloc, &log)?;
     let roots = Roots::find(alloc, &image, &threads, &live)?;
-    let lookup = Sorted::new(&live, Reading::interior());
     let cases = [
         (Part::Whole, 17u64, 1usize),
         (Part::Differing, 16, 1),
         (Part::Differing, 17, 0),
     ];
     for (part, page, claims) in cases {
-        let mut numbers = Vec::new(alloc);
-        numbers.push(page)?;
-        let Some(pages) = Pages::new(numbers) else {
+        let Some(pages) = Pages::new(vec![in alloc; page]?) else {
             panic!(rt; "one page is pages")
         };
-        let mut start = Start {
-            marked: Vec::new(alloc),
-            rescan: Vec::new(alloc),
-        };
-        start.marked.push(0)?;
-        start.rescan.push((0, part))?;
-        let marked = mark_from(
-            &rt,
-            alloc,
-            &image,
-            &lookup,
-            &roots,
-            &live,
-            Plan::new(2, 512, 0)?,
-            &Open,
-            &start,
-            &pages,
-        )?;
+        assert!(rt; !live.blocks().is_empty());
+        let marked = from_first(&rt, alloc, &image, &roots, &live, part, &pages)?;
         assert_eq!(rt; marked.set.as_slice(), [true, claims == 1].as_slice());
         assert_eq!(rt; claim_count(&marked), claims);
     }

@@ -32,3 +32,11 @@ pub record AreWorkedReports : Type 0 where
       ≡ codes "blocks 2 bytes 48\n" ++ none_lines ++ codes "new 1 bytes 32\nreread 0\nmarked 2 bytes 48\nleaked 0 bytes 0\n"
   pub callers : text_of (head 0 0 0 None) (block 0x10100 32 1 (2, 9) ∷ block 0x10200 16 2 (27, 34) ∷ block 0x10300 24 3 (52, 59) ∷ block 0x10400 40 4 (77, 84) ∷ []) (false ∷ false ∷ false ∷ false ∷ []) four_log
       ≡ codes "blocks 4 bytes 112\n" ++ none_lines ++ codes "marked 0 bytes 0\nleaked 4 bytes 112\ncaller 1 40 b:[0x2]\ncaller 2 40 c:[0x3]\ncaller 1 32 a:[0x1]\nleak 0x10100 32 1 a:[0x1]\nleak 0x10200 16 2 c:[0x3]\nleak 0x10300 24 3 c:[0x3]\nleak 0x10400 40 4 b:[0x2]\n"
+  pub neighbors : text_of (head 0 0 0 None) (block 0x10100 32 1 (0, 0) ∷ block 0x10120 16 2 (0, 0) ∷ []) (true ∷ true ∷ []) []
+      ≡ codes "blocks 2 bytes 48\n" ++ none_lines ++ codes "marked 2 bytes 48\nleaked 0 bytes 0\n"
+  pub ring : text_of (head 0 0 0 None) (block 0x10100 32 1 (0, 0) ∷ block 0x10200 16 2 (0, 0) ∷ []) (false ∷ false ∷ []) []
+      ≡ codes "blocks 2 bytes 48\n" ++ none_lines ++ codes "marked 0 bytes 0\nleaked 2 bytes 48\ncaller 2 48 ?\nleak 0x10100 32 1 ?\nleak 0x10200 16 2 ?\n"
+  pub empty_block : text_of (head 0 0 0 None) (block 0x10200 0 1 (0, 0) ∷ []) (false ∷ []) []
+      ≡ codes "blocks 1 bytes 0\n" ++ none_lines ++ codes "marked 0 bytes 0\nleaked 1 bytes 0\ncaller 1 0 ?\nleak 0x10200 0 1 ?\n"
+  pub half_held : text_of (head 0 0 0 None) (block 0x10100 12 1 (0, 0) ∷ block 0x10200 16 2 (0, 0) ∷ []) (true ∷ false ∷ []) []
+      ≡ codes "blocks 2 bytes 28\n" ++ none_lines ++ codes "marked 1 bytes 12\nleaked 1 bytes 16\ncaller 1 16 ?\nleak 0x10200 16 2 ?\n"
