@@ -1,3 +1,9 @@
 pub mod Consumed
 pub mod RunLemmas
 pub mod SearchLemmas
+pub mod Items
+pub mod Lines
+pub mod Listing
+pub mod Numbers
+pub mod Subcommands
+pub mod Values

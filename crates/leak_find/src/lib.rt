@@ -2,6 +2,9 @@
 #![tactic(auto)]
 
 mod alone;
+mod arguments;
+mod command_line;
+mod displacements;
 mod error;
 mod fault;
 mod found;
@@ -13,11 +16,13 @@ mod reporting;
 mod running;
 
 pub use alone::find_alone;
+pub use arguments::request;
+pub use displacements::read_displace;
 pub use error::FindError;
-pub use fault::{ReadFault, RunFault};
+pub use fault::{DisplaceFault, ReadFault, RunFault, UsageFault};
 pub use found::Found;
 pub use one_core::find_one;
-pub use options::Options;
+pub use options::{CORE_LIMIT, LOG_LIMIT, Options, Request};
 pub use readers::read_all;
 pub use running::run;
 

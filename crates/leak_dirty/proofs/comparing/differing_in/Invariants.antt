@@ -1,0 +1,11 @@
+use Rattle.std.proofs.Common.{◌≡◌, ◌-◌, ◌≤◌, max, filter}
+use Rattle.std.specs.List.{range_with_len}
+use Rattle.leak_elf.specs.Words.{word_of}
+use Rattle.leak_dirty.specs.Differing.{differs}
+use Rattle.leak_dirty.proofs.comparing.differing_in.Given as goal
+
+abbrev pub invariant-loop-page : goal.invariant-loop-page
+invariant-loop-page l = record {
+  order : l.page ≤ max l.from l.to;
+  pages : l.pages.items ≡ filter (differs (word_of l.first) (word_of l.second)) (range_with_len l.from (l.page - l.from));
+}

@@ -1,0 +1,5 @@
+pub mod Differing
+pub mod Pieces
+pub mod Kept
+pub mod Retrace
+pub mod Examples

@@ -1,0 +1,41 @@
+-- Marking again in a later core from what was marked in an earlier one (Boehm, Demers, Shenker, PLDI 1991).
+use Rattle.std.specs.Prelude.{◌≡◌, ℕ, ◌+◌, ◌≤◌, ◌⊎◌, Bool, List, [], ◌++◌, length, Option, Some, IsFalse, slice_get}
+use Rattle.leak_mtrace.specs.declared.line.Line.{Line}
+use Rattle.leak_blocks.specs.declared.block.Block.{Block}
+use Rattle.leak_blocks.specs.Live.{live_of}
+use Rattle.leak_index.specs.Hits.{Index, hits_of}
+use Rattle.leak_scan.specs.Targets.{page_of, targets_of}
+use Rattle.leak_marks.specs.Lists.{Has}
+use Rattle.leak_marks.specs.Reach.{Graph, Reach}
+use Rattle.leak_pool.specs.Marking.{graph_of, IsSet}
+use Rattle.leak_dirty.specs.Differing.{differs}
+use Rattle.leak_dirty.specs.Kept.{kept_of, fresh_of}
+
+-- the graph of two cores: a chain begins at a kept block, at a fresh one, or at one that a root word of the later
+-- core leads to, and goes on by words of that core
+abbrev pub graph_of_two : (ℕ → Option ℕ) → Index → List ℕ → List ℕ → List ℕ → Graph
+graph_of_two word_now index words kept fresh = record {
+  first = kept ++ fresh ++ targets_of index words;
+  targets = (graph_of word_now index words []).targets;
+  given = [];
+}
+
+-- a word, in the later core, of a kept block on none of the pages leads to kept and fresh blocks alone
+abbrev pub OthersLeadWithin : (ℕ → Option ℕ) → Index → List ℕ → List ℕ → List ℕ → Type 0
+OthersLeadWithin word_now index pages kept fresh =
+    (i : ℕ) (b : Block) → slice_get index.blocks i ≡ Some b → Has kept i →
+    (a w : ℕ) → b.start ≤ a → a + 8 ≤ b.start + b.size → word_now a ≡ Some w → ¬ Has pages (page_of a) →
+    (j : ℕ) → Has (hits_of index w) j → Has kept j ⊎ Has fresh j
+
+-- two logs, the first a beginning of the second, and what is marked in the earlier core
+pub record IsMarkedBefore (word_before : ℕ → Option ℕ) (reading : Option (List ℕ)) (words_before : List ℕ) (before after : List Line) (set : List Bool) : Type 0 where
+  pub marked : IsSet set (length (live_of before)) (Reach (graph_of word_before (record { blocks = live_of before; reading = reading }) words_before []))
+
+-- a word, in the later core, of a kept block on a page that doesn't differ leads to kept and fresh blocks alone
+abbrev pub SameWordsLeadWithin : Type 0
+SameWordsLeadWithin = (word_before word_now : ℕ → Option ℕ) (reading : Option (List ℕ)) (words_before : List ℕ)
+    (before after : List Line) (set : List Bool) → IsMarkedBefore word_before reading words_before before after set →
+    (i : ℕ) (b : Block) → slice_get (live_of (before ++ after)) i ≡ Some b → Has (kept_of (live_of before) set (live_of (before ++ after))) i →
+    (a w : ℕ) → b.start ≤ a → a + 8 ≤ b.start + b.size → word_now a ≡ Some w → IsFalse (differs word_before word_now (page_of a)) →
+    (j : ℕ) → Has (hits_of (record { blocks = live_of (before ++ after); reading = reading }) w) j →
+    Has (kept_of (live_of before) set (live_of (before ++ after))) j ⊎ Has (fresh_of (length before) (live_of (before ++ after))) j

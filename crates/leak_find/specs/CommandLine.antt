@@ -1,0 +1,52 @@
+-- The command line, as clap reads it: a subcommand, with its paths and options. Own rule.
+use Rattle.std.specs.Prelude.{ℕ, Bool, true, false, List, [], ◌∷◌, codes, pos, Some}
+use Rattle.std.specs.List.{fold}
+use Rattle.clap.specs.Words.{App, Rule, Text, new_app, new_rule, with_rule, with_subcommand}
+use Rattle.clap.specs.declared.builder.command.Command.{Command}
+use Rattle.clap.specs.declared.builder.command.Command.TheViews.{out-Command}
+use Rattle.clap.specs.declared.builder.value_parser.ValueParser.TheVariants as parser
+
+-- the path of a file, which has to be given
+abbrev pub path_rule : Text → Rule
+path_rule id = record (new_rule id) { required = true; value_names = 1 }
+
+-- a number from the one bound to the other, and the text of the number that counts where none is given
+abbrev pub number_rule : Text → Text → ℕ → ℕ → Rule
+number_rule id default low high =
+    record (new_rule id) { long = Some id; value_names = 1; defaults = default ∷ []; parser = Some (parser.Signed (pos low) (pos high)) }
+
+-- a text, which may be left out
+abbrev pub text_rule : Text → Rule
+text_rule id = record (new_rule id) { long = Some id; value_names = 1 }
+
+-- the options of a search
+abbrev pub option_rules : List Rule
+option_rules = number_rule (codes "workers") (codes "4") 1 64
+    ∷ number_rule (codes "piece") (codes "512") 1 65536
+    ∷ number_rule (codes "stack") (codes "1024") 0 65536
+    ∷ text_rule (codes "displace") ∷ []
+
+-- the paths of a search of one core, or of two
+abbrev pub path_ids : Bool → List Text
+path_ids false = codes "core" ∷ codes "log" ∷ []
+path_ids true = codes "core1" ∷ codes "log1" ∷ codes "core2" ∷ codes "log2" ∷ []
+
+-- the command with each of the arguments
+abbrev pub with_rules : App → List Rule → App
+with_rules a rules = fold with_rule a rules
+
+-- `leak_find one CORE LOG`
+abbrev pub one_line : App
+one_line = with_rules (with_rules (new_app (codes "one")) (path_rule (codes "core") ∷ path_rule (codes "log") ∷ [])) option_rules
+
+-- the subcommand has to be named
+abbrev pub naming_subcommand : App → App
+naming_subcommand a = record a { top = record a.top { subcommand_required = true } }
+
+-- the whole command line
+abbrev pub command_line : App
+command_line = with_subcommand (naming_subcommand (new_app (codes "leak_find"))) one_line.top
+
+-- an argument of the command or of a subcommand counts in each subcommand
+abbrev pub has_globals : Command → Bool
+has_globals c = (out-Command c).has_globals

@@ -1,0 +1,142 @@
+use crate::{DisplaceFault, Options, Request, UsageFault, request};
+use leak_index::{Reading, ReadingError};
+use leak_pool::Plan;
+use std::alloc::AllocError;
+use std::process::Abort;
+use std::test::*;
+
+/// What is answered to the words, which stand between spaces, behind the program's name.
+fn asked<R: Abort + AllocGlobal>(
+    rt: &R,
+    line: &str,
+) -> Result<Result<Request, UsageFault>, AllocError> {
+    let mut words = vec![in rt.alloc(); "leak_find".to_string(rt.alloc())?]?;
+    for word in line.split(' ') {
+        words.push(word.to_string(rt.alloc())?)?;
+    }
+    assert!(rt; !words.is_empty());
+    Ok(request(rt.alloc(), words.as_slice()))
+}
+
+/// A request in words: its options and then its paths.
+fn shown<R: AllocGlobal>(rt: &R, request: &Request) -> Result<String, AllocError> {
+    let mut text = format!(in rt.alloc(); "{:?}", request.options)?;
+    for path in &request.paths {
+        text.push(' ')?;
+        text.push_str(path.as_str())?;
+    }
+    Ok(text)
+}
+
+/// The options of a search within the program's limits.
+fn options(two: bool, reading: Reading, plan: Plan) -> Options {
+    Options {
+        two,
+        reading,
+        plan,
+        core_limit: 68_719_476_736,
+        log_limit: 4_294_967_296,
+    }
+}
+
+#[test]
+fn requests(rt: HostRuntime) -> Result<(), Fail> {
+    let interior = Reading::interior();
+    let listed = Reading::displaced([8, 16].as_slice())?;
+    let usual = Plan::new(4, 512, 1024)?;
+    let cases = [
+        (
+            "one core.1 trace.log",
+            options(false, interior, usual),
+            "core.1 trace.log",
+        ),
+        (
+            "one core.1 trace.log --workers 2 --displace 8,16",
+            options(false, listed, Plan::new(2, 512, 1024)?),
+            "core.1 trace.log",
+        ),
+        (
+            "one a b --piece 1 --stack 0",
+            options(false, interior, Plan::new(4, 1, 0)?),
+            "a b",
+        ),
+        (
+            "one --workers=64 --piece=65536 --stack=65536 -- -a -b",
+            options(false, interior, Plan::new(64, 65536, 65536)?),
+            "-a -b",
+        ),
+    ];
+    for (line, options, paths) in cases {
+        let request = asked(&rt, line)??;
+        let want = format!(in rt.alloc(); "{options:?} {paths}")?;
+        assert_eq!(rt; shown(&rt, &request)?.as_str(), want.as_str(), "{line}");
+    }
+    Ok(())
+}
+
+#[test]
+fn refused_words(rt: HostRuntime) -> Result<(), Fail> {
+    let lines = [
+        "one core.1",
+        "one core.1 trace.log more",
+        "one core.1 trace.log --workers 65",
+        "one core.1 trace.log --workers 0",
+        "one core.1 trace.log --piece 0",
+        "one core.1 trace.log --piece 65537",
+        "one core.1 trace.log --stack 65537",
+        "one core.1 trace.log --stack x",
+        "--workers 2 one core.1 trace.log",
+        "two a b c d",
+        "three a b",
+        "help",
+        "--help",
+        "one --help",
+    ];
+    for line in lines {
+        let Err(UsageFault::Words(text)) = asked(&rt, line)? else {
+            assert!(rt; false, "{line}");
+            continue;
+        };
+        assert!(rt; text.as_str().ends_with('\n'), "{line}: {text}");
+    }
+    Ok(())
+}
+
+#[test]
+fn refused_lists(rt: HostRuntime) -> Result<(), Fail> {
+    let cases = [
+        (
+            "one core.1 trace.log --displace 8,,16",
+            DisplaceFault::Number(1),
+        ),
+        (
+            "one core.1 trace.log --displace 65536",
+            DisplaceFault::Reading(ReadingError::TooLarge(0)),
+        ),
+    ];
+    for (line, fault) in cases {
+        let Err(UsageFault::Displace(answer)) = asked(&rt, line)? else {
+            assert!(rt; false, "{line}");
+            continue;
+        };
+        assert!(rt; answer == fault, "{line}");
+    }
+    Ok(())
+}
+
+#[test]
+fn texts_of_faults(rt: HostRuntime) -> Result<(), Fail> {
+    let alloc = rt.alloc();
+    let words = UsageFault::Words("what clap says\n".to_string(alloc)?);
+    assert_eq!(rt; words.to_string(alloc)?.as_str(), "what clap says\n");
+    let list = UsageFault::Displace(DisplaceFault::Number(1));
+    assert_eq!(rt;
+        list.to_string(alloc)?.as_str(),
+        "--displace: item 1 is not a number"
+    );
+    assert_eq!(rt;
+        UsageFault::NoMemory.to_string(alloc)?.as_str(),
+        "out of memory"
+    );
+    Ok(())
+}

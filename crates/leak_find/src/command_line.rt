@@ -1,0 +1,96 @@
+//! The command line, as clap reads it.
+
+ghost use Rattle.std.specs.Prelude.{◌≡◌, IfOk, false, codes};
+ghost use Rattle.clap.specs.Words.{app_of, rule_of};
+ghost use Rattle.leak_find.specs.CommandLine.{command_line, has_globals, number_rule, one_line, option_rules};
+ghost use Rattle.leak_find.specs.CommandLine.{path_rule, text_rule, with_rules};
+
+use clap::{Arg, Command};
+use std::alloc::{AllocError, Global};
+
+/// `leak_find`, with a subcommand for the search of one core.
+pub(crate) fn command<'a>(alloc: Global) -> Result<Command<'a>, AllocError>
+    ensures { IfOk result (λ c. app_of c ≡ command_line) }
+{
+    let command = Command::new(alloc, "leak_find")
+        .about("Lists the blocks of a dead process to which no chain of words leads")
+        .subcommand_required(true);
+    command.subcommand(one(alloc)?)
+}
+
+fn one<'a>(alloc: Global) -> Result<Command<'a>, AllocError>
+    ensures line { IfOk result (λ c. app_of c ≡ one_line) }
+    ensures local { IfOk result (λ c. has_globals c ≡ false) }
+{
+    let command = Command::new(alloc, "one")
+        .about("Searches a core and its log")
+        .arg(path(alloc, "core", "CORE"))?
+        .arg(path(alloc, "log", "LOG"))?;
+    with_options(alloc, command)
+}
+
+fn with_options<'a>(alloc: Global, command: Command<'a>) -> Result<Command<'a>, AllocError>
+    ensures line { IfOk result (λ c. app_of c ≡ with_rules (app_of command.entry) option_rules) }
+    ensures local { IfOk result (λ c. has_globals c ≡ has_globals command.entry) }
+{
+    command
+        .arg(workers(alloc))?
+        .arg(piece(alloc))?
+        .arg(stack(alloc))?
+        .arg(displace(alloc))
+}
+
+fn path<'a>(alloc: Global, id: &'a str, name: &'a str) -> Arg<'a>
+    ensures rule { rule_of result ≡ path_rule id.entry.now }
+    ensures local { result.global ≡ false }
+{
+    Arg::new(alloc, id).required(true).value_name(name)
+}
+
+fn workers<'a>(alloc: Global) -> Arg<'a>
+    ensures rule { rule_of result ≡ number_rule (codes "workers") (codes "4") 1 64 }
+    ensures local { result.global ≡ false }
+{
+    Arg::new(alloc, "workers")
+        .long("workers")
+        .value_name("N")
+        .default_value("4")
+        .value_parser(clap::value_parser!(u32).range(1..=64))
+        .help("How many worker threads mark, 1 to 64")
+}
+
+fn piece<'a>(alloc: Global) -> Arg<'a>
+    ensures rule { rule_of result ≡ number_rule (codes "piece") (codes "512") 1 65536 }
+    ensures local { result.global ≡ false }
+{
+    Arg::new(alloc, "piece")
+        .long("piece")
+        .value_name("N")
+        .default_value("512")
+        .value_parser(clap::value_parser!(u32).range(1..=65536))
+        .help("How many words of the roots a worker takes at a time, 1 to 65536")
+}
+
+fn stack<'a>(alloc: Global) -> Arg<'a>
+    ensures rule { rule_of result ≡ number_rule (codes "stack") (codes "1024") 0 65536 }
+    ensures local { result.global ≡ false }
+{
+    Arg::new(alloc, "stack")
+        .long("stack")
+        .value_name("N")
+        .default_value("1024")
+        .value_parser(clap::value_parser!(u32).range(0..=65536))
+        .help("How many blocks a worker's stack holds, 0 to 65536")
+}
+
+fn displace<'a>(alloc: Global) -> Arg<'a>
+    ensures rule { rule_of result ≡ text_rule (codes "displace") }
+    ensures local { result.global ≡ false }
+{
+    Arg::new(alloc, "displace")
+        .long("displace")
+        .value_name("LIST")
+        .help(
+            "At which distances from its start, in bytes, a block is led to, as 8,16. Without it: at all",
+        )
+}

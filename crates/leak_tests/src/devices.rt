@@ -1,0 +1,133 @@
+//! Whole runs over readers and a writer, some of which fail.
+
+ghost use Rattle.std.specs.Prelude.{IfOk, IsFalse};
+
+use crate::examples::{EXAMPLES, HELD, LOST, ONE_BLOCK};
+use crate::fakes::{Sink, Source};
+use crate::samples::{Part, core_of};
+use leak_elf::ElfError;
+use leak_find::{FindError, Options, ReadFault, RunFault, run};
+use leak_index::Reading;
+use leak_pool::Plan;
+use leak_report::WriteFault;
+use std::test::Fail;
+
+/// How the runs search, with the limits of core and log.
+fn options(core_limit: u64, log_limit: u64) -> Result<Options, Fail>
+    ensures { IfOk result (λ options. IsFalse options.two) }
+{
+    Ok(Options {
+        two: false,
+        reading: Reading::interior(),
+        plan: Plan::new(2, 512, 1024)?,
+        core_limit,
+        log_limit,
+    })
+}
+
+#[test]
+fn each_example_gives_its_report_and_status(rt: HostRuntime) -> Result<(), Fail> {
+    let options = options(8192, 1000)?;
+    for example in &EXAMPLES {
+        let core = core_of(rt.alloc(), example.core)?;
+        let mut readers = [core.as_slice(), example.log.as_bytes()];
+        let mut out = Vec::new(rt.alloc());
+        let status = run(&rt, rt.alloc(), &mut readers, &options, &mut out)?;
+        let name = example.name;
+        assert_eq!(rt; out.as_slice(), example.report.as_bytes(), "{name}");
+        assert_eq!(rt; status, u8::from(example.leaked > 0), "{name}");
+    }
+    Ok(())
+}
+
+#[test]
+fn readers_that_give_a_byte_at_a_time_change_nothing(rt: HostRuntime) -> Result<(), Fail> {
+    let core = core_of(rt.alloc(), &[Part::Word(0x10008, 0x10100)])?;
+    let mut readers = [
+        Source::slow(rt.alloc(), core.as_slice(), 1)?,
+        Source::slow(rt.alloc(), ONE_BLOCK.as_bytes(), 1)?,
+    ];
+    let mut out = Vec::new(rt.alloc());
+    let status = run(&rt, rt.alloc(), &mut readers, &options(8192, 36)?, &mut out)?;
+    assert_eq!(rt; out.as_slice(), HELD.as_bytes());
+    assert_eq!(rt; status, 0);
+    Ok(())
+}
+
+#[test]
+fn a_reader_over_its_limit_is_refused(rt: HostRuntime) -> Result<(), Fail> {
+    let core = core_of(rt.alloc(), &[])?;
+    let cases = [(8191, 36, 1), (8192, 35, 2), (8191, 35, 1)];
+    for (core_limit, log_limit, reader) in cases {
+        let mut readers = [core.as_slice(), ONE_BLOCK.as_bytes()];
+        let mut out = Vec::new(rt.alloc());
+        let options = options(core_limit, log_limit)?;
+        let result = run(&rt, rt.alloc(), &mut readers, &options, &mut out);
+        assert_eq!(rt; result, Err(RunFault::Read(reader, ReadFault::TooLong)));
+        assert!(rt; out.is_empty(), "reader {reader}");
+    }
+    Ok(())
+}
+
+#[test]
+fn a_reader_that_fails_leaves_nothing_written(rt: HostRuntime) -> Result<(), Fail> {
+    let core = core_of(rt.alloc(), &[])?;
+    // The log fails, and a core over its limit is met before it.
+    let cases = [
+        (8192, RunFault::Read(2, ReadFault::Device)),
+        (8191, RunFault::Read(1, ReadFault::TooLong)),
+    ];
+    for (core_limit, wanted) in cases {
+        let mut readers = [
+            Source::of(rt.alloc(), core.as_slice())?,
+            Source::of(rt.alloc(), ONE_BLOCK.as_bytes())?.failing_after(1),
+        ];
+        let mut out = Vec::new(rt.alloc());
+        let options = options(core_limit, 36)?;
+        let result = run(&rt, rt.alloc(), &mut readers, &options, &mut out);
+        assert_eq!(rt; result, Err(wanted));
+        assert!(rt; out.is_empty(), "limit {core_limit}");
+    }
+    Ok(())
+}
+
+#[test]
+fn a_core_that_is_refused_leaves_nothing_written(rt: HostRuntime) -> Result<(), Fail> {
+    let mut core = core_of(rt.alloc(), &[])?;
+    core.truncate(8191);
+    let mut readers = [
+        Source::of(rt.alloc(), core.as_slice())?,
+        Source::of(rt.alloc(), ONE_BLOCK.as_bytes())?,
+    ];
+    let mut out = Vec::new(rt.alloc());
+    let result = run(&rt, rt.alloc(), &mut readers, &options(8192, 36)?, &mut out);
+    let refusal = FindError::Core(1, ElfError::Truncated(1));
+    assert_eq!(rt; result, Err(RunFault::Find(refusal)));
+    assert!(rt; out.is_empty());
+    // The log was read before the search was made.
+    assert_eq!(rt; readers[1].left(), 0);
+    Ok(())
+}
+
+#[test]
+fn a_writer_that_fails_holds_what_the_fault_tells(rt: HostRuntime) -> Result<(), Fail> {
+    let core = core_of(rt.alloc(), &[])?;
+    let options = options(8192, 36)?;
+    let mut wanted = Vec::from_slice(rt.alloc(), LOST.as_bytes())?;
+    for room in (0..LOST.len()).rev() {
+        wanted.truncate(room);
+        let mut readers = [core.as_slice(), ONE_BLOCK.as_bytes()];
+        let mut out = Sink::of(rt.alloc(), room);
+        let result = run(&rt, rt.alloc(), &mut readers, &options, &mut out);
+        let fault = WriteFault {
+            written: room as u64,
+        };
+        assert_eq!(rt; result, Err(RunFault::Write(fault)));
+        assert_eq!(rt;
+            out.held.as_slice(),
+            wanted.as_slice(),
+            "room for {room} bytes"
+        );
+    }
+    Ok(())
+}

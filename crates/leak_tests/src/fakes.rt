@@ -1,0 +1,130 @@
+//! Readers and writers that are slow, fail or are interrupted.
+
+use std::alloc::Global;
+use std::io;
+use std::io::{ErrorKind, Read, Write};
+use std::test::Fail;
+
+/// A reader over memory.
+#[derive(Drop)]
+pub struct Source {
+    left: Vec<u8>,
+    /// How many bytes a read gives at most.
+    step: usize,
+    /// How many reads are interrupted before the first that is not.
+    interruptions: u64,
+    /// How many reads give bytes before one fails.
+    reads: u64,
+}
+
+impl Source {
+    /// A reader that gives all bytes at once.
+    pub fn of(alloc: Global, bytes: &[u8]) -> Result<Source, Fail> {
+        Source::slow(alloc, bytes, usize::MAX)
+    }
+
+    /// A reader that gives so many bytes at a time.
+    pub fn slow(alloc: Global, bytes: &[u8], step: usize) -> Result<Source, Fail> {
+        let mut left = Vec::from_slice(alloc, bytes)?;
+        left.reverse();
+        Ok(Source {
+            left,
+            step,
+            interruptions: 0,
+            reads: u64::MAX,
+        })
+    }
+
+    /// The same, once so many reads have been interrupted.
+    pub fn interrupted(self, interruptions: u64) -> Source {
+        Source {
+            left: self.left,
+            step: self.step,
+            interruptions,
+            reads: self.reads,
+        }
+    }
+
+    /// The same, but it fails after so many reads.
+    pub fn failing_after(self, reads: u64) -> Source {
+        Source {
+            left: self.left,
+            step: self.step,
+            interruptions: self.interruptions,
+            reads,
+        }
+    }
+
+    /// How many bytes were not read.
+    pub fn left(&self) -> usize {
+        self.left.len()
+    }
+}
+
+impl Read for Source {
+    fn read(&mut self, buf: &mut [u8]) -> io::Result<usize> {
+        if self.interruptions > 0 {
+            self.interruptions -= 1;
+            return Err(io::Error::from(ErrorKind::Interrupted));
+        }
+        if self.reads == 0 {
+            return Err(io::Error::from(ErrorKind::Other));
+        }
+        self.reads -= 1;
+        let count = buf.len().min(self.step).min(self.left.len());
+        for place in &mut buf[..count] {
+            if let Some(byte) = self.left.pop() {
+                *place = byte;
+            }
+        }
+        Ok(count)
+    }
+}
+
+/// A writer with room for some bytes, which fails when it is full.
+#[derive(Drop)]
+pub struct Sink {
+    pub held: Vec<u8>,
+    room: usize,
+}
+
+impl Sink {
+    /// A writer with room for so many bytes.
+    pub fn of(alloc: Global, room: usize) -> Sink {
+        Sink {
+            held: Vec::new(alloc),
+            room,
+        }
+    }
+}
+
+impl Write for Sink {
+    fn write(&mut self, bytes: &[u8]) -> io::Result<usize> {
+        if self.room == 0 {
+            return Err(io::Error::from(ErrorKind::Other));
+        }
+        let count = bytes.len().min(self.room);
+        self.held.extend_from_slice(&bytes[..count])?;
+        self.room -= count;
+        Ok(count)
+    }
+
+    fn flush(&mut self) -> io::Result<()> {
+        Ok(())
+    }
+}
+
+/// A reader without an end.
+#[derive(Drop)]
+pub struct Endless {
+    /// How many bytes were read.
+    pub taken: u64,
+}
+
+impl Read for Endless {
+    fn read(&mut self, buf: &mut [u8]) -> io::Result<usize> {
+        buf.fill(0);
+        self.taken = self.taken.saturating_add(buf.len() as u64);
+        Ok(buf.len())
+    }
+}

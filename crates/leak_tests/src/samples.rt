@@ -1,0 +1,67 @@
+//! Cores and logs from named parts.
+
+use leak_elf::core_k;
+use std::alloc::Global;
+use std::test::Fail;
+
+/// How far behind its file offset a word of the sample's segment has its address.
+const SHIFT: u64 = 0xf000;
+
+/// What the sample core has in place of a zero, or of a field.
+#[derive(Clone, Copy)]
+pub enum Part {
+    /// The word at an address of the segment.
+    Word(u64, u64),
+    /// Bytes from an address of the segment on.
+    Bytes(u64, &'static [u8]),
+    /// The register rbx of the thread.
+    Rbx(u64),
+    /// The register r15 of a second thread.
+    SecondR15(u64),
+    /// The segment is not writable.
+    ReadOnly,
+    /// So many bytes of the segment are dumped.
+    Dumped(u64),
+    /// The part of notes has so many bytes.
+    Notes(u64),
+    /// The note is of another type than a thread status.
+    OtherNote,
+}
+
+/// The sample core with the parts set, the later over the earlier.
+pub fn core_of(alloc: Global, parts: &[Part]) -> Result<Vec<u8>, Fail> {
+    let mut core = core_k(alloc, &[])?;
+    for part in parts {
+        set_part(&mut core, *part);
+    }
+    Ok(core)
+}
+
+/// Replaces the bytes from the file offset on.
+pub fn set(core: &mut Vec<u8>, at: u64, bytes: &[u8]) {
+    for (place, byte) in core.iter_mut().skip(at as usize).zip(bytes) {
+        *place = *byte;
+    }
+}
+
+/// Sets the word at an address of the segment.
+pub fn set_word(core: &mut Vec<u8>, addr: u64, word: u64) {
+    set(core, addr.saturating_sub(SHIFT), &word.to_le_bytes());
+}
+
+fn set_part(core: &mut Vec<u8>, part: Part) {
+    match part {
+        Part::Word(addr, word) => set_word(core, addr, word),
+        Part::Bytes(addr, bytes) => set(core, addr.saturating_sub(SHIFT), bytes),
+        Part::Rbx(word) => set(core, 348, &word.to_le_bytes()),
+        Part::SecondR15(word) => {
+            set(core, 96, &712u64.to_le_bytes());
+            set(core, 532, b"\x05\0\0\0\x50\x01\0\0\x01\0\0\0CORE\0\0\0\0");
+            set(core, 664, &word.to_le_bytes());
+        }
+        Part::ReadOnly => set(core, 124, &4u32.to_le_bytes()),
+        Part::Dumped(count) => set(core, 152, &count.to_le_bytes()),
+        Part::Notes(count) => set(core, 96, &count.to_le_bytes()),
+        Part::OtherNote => set(core, 184, &[6]),
+    }
+}
