@@ -11,6 +11,9 @@ use leak_index::Reading;
 /// One value more than a reading has at most: so many show that there are too many.
 const KEPT: usize = 17;
 
+/// How many digits a number has at most: so many as `u64::MAX`.
+const MOST_DIGITS: usize = 20;
+
 /// Reads decimal numbers between commas as distances from a block's start, in bytes.
 ///
 /// Own rule: a number has 1 to 20 digits, so zeros may lead. An empty text is one empty item.
@@ -60,7 +63,7 @@ fn comma_in(text: &[u8]) -> Option<usize>
 fn number(item: &[u8]) -> Option<u64>
     ensures { SomeIff result (IsTrue (is_number item.now)) (decimal_value item.now) }
 {
-    if item.is_empty() || item.len() > 20 {
+    if item.is_empty() || item.len() > MOST_DIGITS {
         return None;
     }
     let mut value = 0u64;

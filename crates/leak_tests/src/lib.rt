@@ -23,6 +23,10 @@ mod one_core;
 #[cfg(test)]
 mod workers;
 
+// Schedules that a gate forces on the workers.
+#[cfg(test)]
+mod schedules;
+
 // Cores and logs that are refused, and which refusal comes first.
 #[cfg(test)]
 mod refusals;

@@ -26,6 +26,8 @@ pub enum Part {
     Notes(u64),
     /// The note is of another type than a thread status.
     OtherNote,
+    /// The last byte is missing.
+    Cut,
 }
 
 /// The sample core with the parts set, the later over the earlier.
@@ -63,5 +65,6 @@ fn set_part(core: &mut Vec<u8>, part: Part) {
         Part::Dumped(count) => set(core, 152, &count.to_le_bytes()),
         Part::Notes(count) => set(core, 96, &count.to_le_bytes()),
         Part::OtherNote => set(core, 184, &[6]),
+        Part::Cut => core.truncate(8191),
     }
 }

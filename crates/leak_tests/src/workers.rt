@@ -1,37 +1,59 @@
 //! The reports of one core by worker threads: they are those of the caller's thread.
 
 use crate::examples::{EXAMPLES, HELD, LOST, ONE_BLOCK};
-use crate::hundreds::{CHAIN, STAR, Sample, chain, hold_each_once, star};
+use crate::hundreds::{CHAIN, STAR, chain, hold_each_once, star};
 use crate::samples::{Part, core_of};
-use leak_find::{Found, find_one};
+use leak_elf::ElfError;
+use leak_find::{FindError, find_one};
 use leak_index::Reading;
+use leak_mtrace::LogError;
+use leak_notes::NoteError;
 use leak_pool::{Open, Plan};
-use std::process::Abort;
+use std::alloc::Global;
 use std::test::Fail;
 
-const WORKERS: [u32; 4] = [1, 2, 3, 64];
-
-const PIECES: [u32; 2] = [1, 65_536];
-
-const STACKS: [u32; 3] = [0, 1, 65_536];
+/// Plans of few and of many workers, short and long pieces, small and large stacks.
+fn plans(alloc: Global) -> Result<Vec<Plan>, Fail> {
+    let mut plans = Vec::new(alloc);
+    for workers in [1, 2, 3, 64] {
+        for piece in [1, 65_536] {
+            for stack in [0, 1, 65_536] {
+                plans.push(Plan::new(workers, piece, stack)?)?;
+            }
+        }
+    }
+    Ok(plans)
+}
 
 #[test]
 fn each_example_gives_its_report(rt: HostRuntime) -> Result<(), Fail> {
+    let plans = plans(rt.alloc())?;
     for example in &EXAMPLES {
         let core = core_of(rt.alloc(), example.core)?;
+        let core = core.as_slice();
         let log = example.log.as_bytes();
         let name = example.name;
-        for workers in WORKERS {
-            let plan = Plan::new(workers, 512, 1024)?;
-            let reading = Reading::interior();
-            let found = find_one(&rt, rt.alloc(), core.as_slice(), log, reading, plan, &Open)?;
+        for plan in plans.as_slice() {
+            let found = find_one(
+                &rt,
+                rt.alloc(),
+                core,
+                log,
+                Reading::interior(),
+                *plan,
+                &Open,
+            )?;
             assert_eq!(rt;
                 found.report.as_slice(),
                 example.report.as_bytes(),
-                "{name}"
+                "{name} by {plan:?}"
             );
-            assert_eq!(rt; found.leaked, example.leaked, "{name}");
-            assert_eq!(rt; found.claims.len(), workers as usize, "{name}");
+            assert_eq!(rt; found.leaked, example.leaked, "{name} by {plan:?}");
+            assert_eq!(rt;
+                found.claims.len(),
+                plan.workers() as usize,
+                "{name} by {plan:?}"
+            );
         }
     }
     Ok(())
@@ -45,61 +67,96 @@ fn displacements_alone_keep_a_block(rt: HostRuntime) -> Result<(), Fail> {
         (0x10110, LOST),
         (0x10120, LOST),
     ];
+    let plans = plans(rt.alloc())?;
+    let log = ONE_BLOCK.as_bytes();
     for (word, report) in cases {
         let core = core_of(rt.alloc(), &[Part::Word(0x10008, word)])?;
-        let log = ONE_BLOCK.as_bytes();
-        for workers in WORKERS {
-            let plan = Plan::new(workers, 1, 0)?;
+        let core = core.as_slice();
+        for plan in plans.as_slice() {
             let reading = Reading::displaced(&[8])?;
-            let found = find_one(&rt, rt.alloc(), core.as_slice(), log, reading, plan, &Open)?;
-            assert_eq!(rt; found.report.as_slice(), report.as_bytes(), "at {word}");
+            let found = find_one(&rt, rt.alloc(), core, log, reading, *plan, &Open)?;
+            assert_eq!(rt;
+                found.report.as_slice(),
+                report.as_bytes(),
+                "{word} by {plan:?}"
+            );
         }
     }
     Ok(())
 }
 
-/// Each plan gives the report, and its workers claim each of so many blocks once.
-fn all_plans_give(
-    rt: &(impl Abort + AllocGlobal + std::thread::Threads + Sync),
-    sample: &Sample,
-    report: &str,
-    blocks: u32,
-) -> Result<(), Fail> {
-    for workers in WORKERS {
-        for piece in PIECES {
-            for stack in STACKS {
-                let found = found_by(rt, sample, Plan::new(workers, piece, stack)?)?;
-                let plan = (workers, piece, stack);
-                assert_eq!(rt; found.report.as_slice(), report.as_bytes(), "by {plan:?}");
-                assert_eq!(rt; found.leaked, 0, "by {plan:?}");
-                assert_eq!(rt; found.claims.len(), workers as usize, "by {plan:?}");
-                let claims = found.claims.as_slice();
-                assert!(rt; hold_each_once(rt.alloc(), claims, blocks)?, "by {plan:?}");
-            }
+#[test]
+fn chains_and_stars_are_followed_to_their_ends(rt: HostRuntime) -> Result<(), Fail> {
+    let plans = plans(rt.alloc())?;
+    let samples = [
+        (chain(rt.alloc())?, CHAIN, 100),
+        (star(rt.alloc())?, STAR, 101),
+    ];
+    for (sample, report, blocks) in &samples {
+        let core = sample.core.as_slice();
+        let log = sample.log.as_bytes();
+        for plan in plans.as_slice() {
+            let found = find_one(
+                &rt,
+                rt.alloc(),
+                core,
+                log,
+                Reading::interior(),
+                *plan,
+                &Open,
+            )?;
+            assert_eq!(rt; found.report.as_slice(), report.as_bytes(), "by {plan:?}");
+            assert_eq!(rt; found.leaked, 0, "by {plan:?}");
+            assert_eq!(rt; found.claims.len(), plan.workers() as usize, "by {plan:?}");
+            let claims = found.claims.as_slice();
+            assert!(rt; hold_each_once(rt.alloc(), claims, *blocks)?, "by {plan:?}");
         }
     }
     Ok(())
 }
 
-/// What the plan finds in the sample.
-fn found_by(
-    rt: &(impl AllocGlobal + std::thread::Threads + Sync),
-    sample: &Sample,
-    plan: Plan,
-) -> Result<Found, Fail> {
-    let core = sample.core.as_slice();
-    let log = sample.log.as_bytes();
-    Ok(find_one(rt, rt.alloc(), core, log, Reading::interior(), plan, &Open)?)
-}
-
 #[test]
-fn a_chain_is_followed_to_its_end(rt: HostRuntime) -> Result<(), Fail> {
-    let sample = chain(rt.alloc())?;
-    all_plans_give(&rt, &sample, CHAIN, 100)
-}
-
-#[test]
-fn a_star_is_followed_to_all_ends(rt: HostRuntime) -> Result<(), Fail> {
-    let sample = star(rt.alloc())?;
-    all_plans_give(&rt, &sample, STAR, 101)
+fn refusals_are_the_same(rt: HostRuntime) -> Result<(), Fail> {
+    let cases: [(&[Part], &str, FindError); 5] = [
+        (
+            &[Part::Cut],
+            ONE_BLOCK,
+            FindError::Core(1, ElfError::Truncated(1)),
+        ),
+        (
+            &[Part::Notes(300)],
+            ONE_BLOCK,
+            FindError::Notes(1, NoteError::Cut(176)),
+        ),
+        (
+            &[Part::OtherNote],
+            "+ 0x10100\n",
+            FindError::Notes(1, NoteError::NoThread),
+        ),
+        (&[], "+ 0x10100\n", FindError::Log(1, LogError::BadLine(1))),
+        (
+            &[],
+            "+ 0xfffffffffffffff0 0x10\n",
+            FindError::Log(1, LogError::Extent(1)),
+        ),
+    ];
+    let plans = plans(rt.alloc())?;
+    for (parts, log, refusal) in cases {
+        let core = core_of(rt.alloc(), parts)?;
+        let core = core.as_slice();
+        let log = log.as_bytes();
+        for plan in plans.as_slice() {
+            let result = find_one(
+                &rt,
+                rt.alloc(),
+                core,
+                log,
+                Reading::interior(),
+                *plan,
+                &Open,
+            );
+            assert_eq!(rt; result.err(), Some(refusal), "by {plan:?}");
+        }
+    }
+    Ok(())
 }

@@ -11,4 +11,4 @@ returns-in_err-value c =
     subst (λ (r : Option ℕ). SomeIff r (IsTrue (is_number item)) (decimal_value item)) (sym c.from_residual.ensures) no
 
 pub returns : goal.returns
-returns c = read_is_number c.args.item.now c.loop-byte.value c.loop-byte.byte-index c.loop-byte.invariant c.loop-byte-test.false (grind (arith, c.if-is_empty.ensures)) c.if-item-gt20.false
+returns c = read_is_number c.args.item.now c.loop-byte.value c.loop-byte.byte-index c.loop-byte.invariant c.loop-byte-test.false (grind (arith, c.if-is_empty.ensures)) c.if-item-gt-MOST_DIGITS.false

@@ -1,0 +1,75 @@
+//! Schedules that a gate forces on the workers.
+
+use crate::hundreds::{CHAIN, chain, hold_each_once};
+use leak_find::find_one;
+use leak_index::Reading;
+use leak_pool::{Gate, Plan};
+use std::sync::atomic::{AtomicU64, Ordering};
+use std::test::Fail;
+
+/// How often a held worker looks for the other, at most.
+const TURNS: u64 = 1_000_000_000;
+
+/// Holds the first pass of one worker until the other has passed.
+#[derive(Drop)]
+struct Holding {
+    held: u32,
+    /// 1 once the other worker has passed.
+    passed: AtomicU64,
+    /// 1 where the held worker has waited in vain.
+    late: AtomicU64,
+}
+
+impl Gate for Holding {
+    fn pass(&self, worker: u32, step: u64) {
+        if worker != self.held {
+            self.passed.store(1, Ordering::SeqCst);
+        } else if step == 0 {
+            self.wait();
+        }
+    }
+}
+
+impl Holding {
+    fn wait(&self) {
+        for _ in 0..TURNS {
+            if self.passed.load(Ordering::SeqCst) == 1 {
+                return;
+            }
+        }
+        self.late.store(1, Ordering::SeqCst);
+    }
+}
+
+#[test]
+fn either_of_two_workers_may_begin(rt: HostRuntime) -> Result<(), Fail> {
+    let sample = chain(rt.alloc())?;
+    let core = sample.core.as_slice();
+    let log = sample.log.as_bytes();
+    for held in [0, 1] {
+        let gate = Holding {
+            held,
+            passed: AtomicU64::new(0),
+            late: AtomicU64::new(0),
+        };
+        let plan = Plan::new(2, 1, 0)?;
+        let found = find_one(&rt, rt.alloc(), core, log, Reading::interior(), plan, &gate)?;
+        assert_eq!(rt;
+            gate.passed.load(Ordering::SeqCst),
+            1,
+            "worker {held} is held"
+        );
+        assert_eq!(rt;
+            gate.late.load(Ordering::SeqCst),
+            0,
+            "worker {held} is held"
+        );
+        assert_eq!(rt;
+            found.report.as_slice(),
+            CHAIN.as_bytes(),
+            "worker {held} is held"
+        );
+        assert!(rt; hold_each_once(rt.alloc(), found.claims.as_slice(), 100)?);
+    }
+    Ok(())
+}
