@@ -8,6 +8,12 @@ ghost use Rattle.leak_find.specs.CommandLine.{path_rule, text_rule, with_rules};
 use clap::{Arg, Command};
 use std::alloc::{AllocError, Global};
 
+/// What help says of a core.
+const CORE: &str = "An x86-64 ELF core, as the kernel or gcore writes it";
+
+/// What help says of a log.
+const LOG: &str = "The log that glibc's mtrace wrote of the process";
+
 /// `leak_find`, with a subcommand for the search of one core.
 pub(crate) fn command<'a>(alloc: Global) -> Result<Command<'a>, AllocError>
     ensures { IfOk result (λ c. app_of c ≡ command_line) }
@@ -24,8 +30,8 @@ fn one<'a>(alloc: Global) -> Result<Command<'a>, AllocError>
 {
     let command = Command::new(alloc, "one")
         .about("Searches a core and its log")
-        .arg(path(alloc, "core", "CORE"))?
-        .arg(path(alloc, "log", "LOG"))?;
+        .arg(path(alloc, "core", "CORE", CORE))?
+        .arg(path(alloc, "log", "LOG", LOG))?;
     with_options(alloc, command)
 }
 
@@ -40,11 +46,14 @@ fn with_options<'a>(alloc: Global, command: Command<'a>) -> Result<Command<'a>, 
         .arg(displace(alloc))
 }
 
-fn path<'a>(alloc: Global, id: &'a str, name: &'a str) -> Arg<'a>
+fn path<'a>(alloc: Global, id: &'a str, name: &'a str, what: &'a str) -> Arg<'a>
     ensures rule { rule_of result ≡ path_rule id.entry.now }
     ensures local { result.global ≡ false }
 {
-    Arg::new(alloc, id).required(true).value_name(name)
+    Arg::new(alloc, id)
+        .required(true)
+        .value_name(name)
+        .help(what)
 }
 
 fn workers<'a>(alloc: Global) -> Arg<'a>
