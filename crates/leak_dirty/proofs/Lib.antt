@@ -4,3 +4,6 @@ pub mod CarryLemmas
 pub mod WordLemmas
 pub mod DifferLemmas
 pub mod PieceLemmas
+pub mod StartLemmas
+pub mod CountLemmas
+pub mod SizeLemmas

@@ -1,5 +1,5 @@
 -- Marking again in a later core from what was marked in an earlier one (Boehm, Demers, Shenker, PLDI 1991).
-use Rattle.std.specs.Prelude.{◌≡◌, ℕ, ◌+◌, ◌≤◌, ◌⊎◌, Bool, List, [], ◌++◌, length, Option, Some, IsFalse, slice_get}
+use Rattle.std.specs.Prelude.{◌≡◌, ℕ, ◌+◌, ◌≤◌, ◌⊎◌, ◌↔◌, Bool, List, [], ◌++◌, length, map, Option, Some, IsFalse, slice_get}
 use Rattle.leak_mtrace.specs.declared.line.Line.{Line}
 use Rattle.leak_blocks.specs.declared.block.Block.{Block}
 use Rattle.leak_blocks.specs.Live.{live_of}
@@ -7,8 +7,14 @@ use Rattle.leak_index.specs.Hits.{Index, hits_of}
 use Rattle.leak_scan.specs.Targets.{page_of, targets_of}
 use Rattle.leak_marks.specs.Lists.{Has}
 use Rattle.leak_marks.specs.Reach.{Graph, Reach}
-use Rattle.leak_pool.specs.Marking.{graph_of, IsSet}
-use Rattle.leak_dirty.specs.Differing.{differs}
+use Rattle.leak_roots.specs.Places.{Places, words_at}
+use Rattle.leak_marks.specs.Partition.{Partitions}
+use Rattle.leak_pool.specs.Marking.{graph_of, IsSet, lists_of, MarksFrom}
+use Rattle.leak_pool.specs.declared.start.Start.{Start}
+use Rattle.leak_pool.specs.declared.start.Part.TheVariants.{Whole, Differing}
+use Rattle.leak_dirty.specs.declared.kept.Carry.{Carry}
+use Rattle.leak_dirty.specs.declared.retracing.Retraced.{Retraced}
+use Rattle.leak_dirty.specs.Differing.{differs, reread_of}
 use Rattle.leak_dirty.specs.Kept.{kept_of, fresh_of}
 
 -- the graph of two cores: a chain begins at a kept block, at a fresh one, or at one that a root word of the later
@@ -39,3 +45,18 @@ SameWordsLeadWithin = (word_before word_now : ℕ → Option ℕ) (reading : Opt
     (a w : ℕ) → b.start ≤ a → a + 8 ≤ b.start + b.size → word_now a ≡ Some w → IsFalse (differs word_before word_now (page_of a)) →
     (j : ℕ) → Has (hits_of (record { blocks = live_of (before ++ after); reading = reading }) w) j →
     Has (kept_of (live_of before) set (live_of (before ++ after))) j ⊎ Has (fresh_of (length before) (live_of (before ++ after))) j
+
+-- a start that marks the kept and the fresh blocks, and scans the kept ones again on the pages and the fresh ones whole
+pub record IsStartWith (c : Carry) (s : Start) : Type 0 where
+  pub marked : (b : ℕ) → Has s.marked.items b ↔ (Has c.kept.items b ⊎ Has c.fresh.items b)
+  pub rescan : s.rescan.items ≡ map (λ b. (b, Differing)) c.kept.items ++ map (λ b. (b, Whole)) c.fresh.items
+
+-- What marking again comes to. Where the words of kept blocks off the pages lead to kept and fresh blocks alone, the set
+-- is what chains of the two cores reach, and the claims partition what of it is neither kept nor fresh.
+pub record IsRetrace (word_now : ℕ → Option ℕ) (index : Index) (places : Places) (pages : List ℕ) (c : Carry) (workers : ℕ) (r : Retraced) : Type 0 where
+  pub from : (s : Start) × IsStartWith c s × MarksFrom word_now index places pages s workers r.marked
+  pub set : OthersLeadWithin word_now index pages c.kept.items c.fresh.items →
+      IsSet r.marked.set.items (length index.blocks) (Reach (graph_of_two word_now index (words_at word_now places) c.kept.items c.fresh.items))
+  pub claims : OthersLeadWithin word_now index pages c.kept.items c.fresh.items →
+      Partitions (lists_of r.marked) (λ i. Reach (graph_of_two word_now index (words_at word_now places) c.kept.items c.fresh.items) i × ¬ Has c.kept.items i × ¬ Has c.fresh.items i)
+  pub reread : r.reread ≡ reread_of word_now pages index.blocks c.kept.items

@@ -52,7 +52,7 @@ line_met line words m met same has is = sym (ap (λ a. subcommand_of a words) sa
 
 -- what is refused after the parse is refused of the words
 pub refused_after : (words : List Text) (name : Text) (rows : List Row) (f : UsageFault) → fault_of command_line words ≡ []
-    → subcommand_of command_line words ≡ Some (name, rows) → IsRefusedAt rows f → IsUsageFaultOf words f
-refused_after words name rows (fault.Words text) taken met refused = λ _. refused
+    → subcommand_of command_line words ≡ Some (name, rows) → IsRefusedAt name rows f → IsUsageFaultOf words f
+refused_after words name rows (fault.Words text) taken met refused = λ _. rw met refused
 refused_after words name rows (fault.Displace f) taken met refused = (taken, rw met refused)
 refused_after words name rows fault.NoMemory taken met refused = tt

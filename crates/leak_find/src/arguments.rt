@@ -1,15 +1,15 @@
 //! From a command line to what it asks for.
 
-ghost use Rattle.std.specs.Prelude.{◌≡◌, ◌≢◌, ◌<◌, [], IfOk, IfErr, IfSome, OnOk, codes, false, length, map, option_map, string_bytes};
+ghost use Rattle.std.specs.Prelude.{◌≡◌, ◌≢◌, ◌<◌, IfOk, IfErr, IfNone, IfSome, OnOk, ℕ, ◌^◌, codes, false, length, map, option_map, string_bytes};
 ghost use Rattle.clap.specs.Words.{first_of, found_of, kind_of, rows_of};
 ghost use Rattle.leak_index.specs.Readings.{listed_by};
 ghost use Rattle.leak_find.specs.CommandLine.{path_ids};
-ghost use Rattle.leak_find.specs.Requests.{AreAt, IsListedBy, IsNumberAt, IsRefusedAt};
+ghost use Rattle.leak_find.specs.Requests.{AreAt, IsBadBy, IsListFaultAt, IsListedBy, IsNumberAt, IsRefusedAt, LacksNumber, LacksPath};
 ghost use Rattle.leak_find.specs.Requests.{IsRequest, IsRequestOf, IsUsageFaultOf, file_count, name_of};
 
 use crate::command_line::command;
 use crate::displacements::read_displace;
-use crate::fault::UsageFault;
+use crate::fault::{DisplaceFault, UsageFault};
 use crate::options::{CORE_LIMIT, LOG_LIMIT, Options, Request};
 use clap::error::ErrorKind;
 use clap::{ArgMatches, Error};
@@ -48,14 +48,17 @@ pub fn request(alloc: Global, words: &[String]) -> Result<Request, UsageFault>
 fn request_of(alloc: Global, name: &str, found: &ArgMatches) -> Result<Request, UsageFault>
     ensures ok { IfOk result (IsRequest name.now (rows_of (found_of found.now))) }
     ensures one { IfOk result (λ r. r.options.two ≡ false) }
-    ensures refused { IfErr result (IsRefusedAt (rows_of (found_of found.now))) }
+    ensures refused { IfErr result (IsRefusedAt name.now (rows_of (found_of found.now))) }
 {
     let Some(two) = is_two(name) else {
         return Err(bad_arguments(alloc));
     };
     let paths = paths(alloc, found, two)?;
     let plan = plan(alloc, found)?;
-    let reading = reading(found)?;
+    let reading = match reading(found) {
+        Ok(reading) => reading,
+        Err(fault) => return Err(UsageFault::Displace(fault)),
+    };
     Ok(Request {
         paths,
         options: Options {
@@ -72,6 +75,7 @@ fn request_of(alloc: Global, name: &str, found: &ArgMatches) -> Result<Request, 
 fn is_two(name: &str) -> Option<bool>
     ensures name { IfSome result (λ two. name.now ≡ name_of two) }
     ensures one { IfSome result (λ two. two ≡ false) }
+    ensures none { IfNone result (name.now ≡ codes "one" → ⊥) }
 {
     if name == "one" { Some(false) } else { None }
 }
@@ -85,7 +89,7 @@ fn ids_of(two: bool) -> &'static [&'static str]
 
 fn paths(alloc: Global, found: &ArgMatches, two: bool) -> Result<Vec<String>, UsageFault>
     ensures ok { IfOk result (λ paths. AreAt (rows_of (found_of found.now)) (path_ids two) paths.items) }
-    ensures refused { IfErr result (IsRefusedAt (rows_of (found_of found.now))) }
+    ensures refused { IfErr result (IsBadBy (LacksPath (rows_of (found_of found.now)) two)) }
 {
     let mut paths = Vec::new(alloc);
     for id in ids_of(two) {
@@ -101,7 +105,7 @@ fn plan(alloc: Global, found: &ArgMatches) -> Result<Plan, UsageFault>
     ensures workers { IfOk result (λ plan. IsNumberAt (rows_of (found_of found.now)) (codes "workers") plan.workers) }
     ensures piece { IfOk result (λ plan. IsNumberAt (rows_of (found_of found.now)) (codes "piece") plan.piece) }
     ensures stack { IfOk result (λ plan. IsNumberAt (rows_of (found_of found.now)) (codes "stack") plan.stack) }
-    ensures refused { IfErr result (IsRefusedAt (rows_of (found_of found.now))) }
+    ensures refused { IfErr result (IsBadBy (LacksNumber (rows_of (found_of found.now)))) }
 {
     let Some(workers) = number(found, "workers") else {
         return Err(bad_arguments(alloc));
@@ -127,27 +131,25 @@ fn value<'a>(found: &ArgMatches<'a>, id: &str) -> Option<&'a str>
 
 /// The value of the option, as a number.
 fn number(found: &ArgMatches, id: &str) -> Option<u32>
-    ensures { IfSome result (IsNumberAt (rows_of (found_of found.now)) id.now) }
+    ensures some { IfSome result (IsNumberAt (rows_of (found_of found.now)) id.now) }
+    ensures none { IfNone result ((n : ℕ) → n < 2 ^ 32 → IsNumberAt (rows_of (found_of found.now)) id.now n → ⊥) }
 {
     found.get_one(id)
 }
 
-fn reading(found: &ArgMatches) -> Result<Reading, UsageFault>
+fn reading(found: &ArgMatches) -> Result<Reading, DisplaceFault>
     ensures ok { IfOk result (λ reading. IsListedBy (first_of (codes "displace") (rows_of (found_of found.now))) (listed_by reading)) }
-    ensures refused { IfErr result (IsRefusedAt (rows_of (found_of found.now))) }
+    ensures refused { IfErr result (IsListFaultAt (rows_of (found_of found.now))) }
 {
-    let Some(list) = value(found, "displace") else {
-        return Ok(Reading::interior());
-    };
-    match read_displace(list.as_bytes()) {
-        Ok(reading) => Ok(reading),
-        Err(fault) => Err(UsageFault::Displace(fault)),
+    match value(found, "displace") {
+        Some(list) => read_displace(list.as_bytes()),
+        None => Ok(Reading::interior()),
     }
 }
 
 /// What is answered where clap takes the words, but what they have to give isn't there.
 fn bad_arguments(alloc: Global) -> UsageFault
-    ensures { IsRefusedAt [] result }
+    ensures { IsBadBy (Unit {0}) result }
 {
     match "bad arguments".to_string(alloc) {
         Ok(text) => UsageFault::Words(text),

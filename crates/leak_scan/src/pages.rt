@@ -49,7 +49,7 @@ impl Pages {
 
     /// The least address from `from` on that is on a listed page, and how many addresses from there on are on that
     /// page. The last address of all stands for a page behind it.
-    pub(crate) fn window(&self, from: u64) -> Option<(u64, u64)>
+    pub fn window(&self, from: u64) -> Option<(u64, u64)>
         ensures { IsWindow self.now from result }
     {
         let at = count_below(self.numbers.as_slice(), from / 4096);
