@@ -22,7 +22,7 @@ rises low (x ∷ y ∷ xs) up h = (h 0 (omega arith), rises (x + 1) (y ∷ xs) (
 
 -- ---- sizes
 
-abbrev size_at : List Block → ℕ → ℕ
+abbrev pub size_at : List Block → ℕ → ℕ
 size_at blocks k = option_map_or (λ b. b.size) (slice_get blocks k) 0
 
 -- numbers above the first, in the list behind it
@@ -35,7 +35,7 @@ shifted b blocks n m (x ∷ xs) h r =
     ∙ ap {B = ℕ} (λ (k : ℕ). size_at blocks (x - (n + 1)) + k) (shifted b blocks n (x + 1) xs (omega arith) r.1)
     ∙ sym (sum_by-cons (λ i. size_at blocks (i - (n + 1))) x xs)
 
-sizes_of : (n : ℕ) (blocks : List Block) (xs : List ℕ) → Rises n xs → ((x : ℕ) → Has xs x → x < n + length blocks) → sum_by (λ i. size_at blocks (i - n)) xs ≤ sum_by (λ b. b.size) blocks
+pub sizes_of : (n : ℕ) (blocks : List Block) (xs : List ℕ) → Rises n xs → ((x : ℕ) → Has xs x → x < n + length blocks) → sum_by (λ i. size_at blocks (i - n)) xs ≤ sum_by (λ b. b.size) blocks
 sizes_of n [] [] r all = omega arith
 sizes_of n [] (x ∷ xs) r all = absurd (let l = r.0 in let u = all x (here x xs) in omega arith)
 sizes_of n (b ∷ blocks) [] r all = omega arith
@@ -81,7 +81,7 @@ module _ (f : ℕ → Option ℕ) (pages : List ℕ) (blocks : List Block) where
   unfolding reread_of
   reread_none = refl
 
-  at_block : (bs : List Block) (n : ℕ) (d : Block) → n < length bs → slice_get bs n ≡ Some (get_or bs n d)
+  pub at_block : (bs : List Block) (n : ℕ) (d : Block) → n < length bs → slice_get bs n ≡ Some (get_or bs n d)
   at_block [] n d h = absurd (omega arith)
   at_block (b ∷ bs) zero d h = refl
   at_block (b ∷ bs) (suc n) d h = at_block bs n d (omega arith)

@@ -1,5 +1,5 @@
 -- An input: a core, and the log of its allocations. Which of its refusals comes first.
-use Rattle.std.specs.Prelude.{◌≡◌, ℕ, ◌^◌, ◌≤◌, ◌⊎◌, List, length, None, Some}
+use Rattle.std.specs.Prelude.{◌≡◌, ℕ, ◌^◌, ◌≤◌, ◌⊎◌, ◌++◌, List, length, None, Some, IsTrue, IsFalse}
 use Rattle.leak_elf.specs.Refusals.{fault_of}
 use Rattle.leak_elf.specs.declared.error.ElfError.{ElfError}
 use Rattle.leak_elf.specs.declared.error.ElfError.TheVariants.{NoMemory as NoMemoryForCore}
@@ -9,7 +9,7 @@ use Rattle.leak_notes.specs.declared.error.NoteError.TheVariants.{NoMemory as No
 use Rattle.leak_mtrace.specs.declared.line.Line.{Line}
 use Rattle.leak_mtrace.specs.declared.error.LogError.{LogError}
 use Rattle.leak_mtrace.specs.declared.error.LogError.TheVariants.{NoMemory as NoMemoryForLog}
-use Rattle.leak_mtrace.specs.Log.{IsLog, IsReadAs, IsFirstFault, CallersAreIn}
+use Rattle.leak_mtrace.specs.Log.{IsLog, IsReadAs, IsFirstFault, CallersAreIn, is_continued_by}
 use Rattle.leak_blocks.specs.Live.{live_of, replay_of}
 use Rattle.leak_pool.specs.declared.error.PoolError.{PoolError}
 use Rattle.leak_pool.specs.declared.error.PoolError.TheVariants.{TooMany as TooManyForPool, NoMemory as NoMemoryForPool}
@@ -56,6 +56,27 @@ at_marking NoMemoryForPool = NoMemory
 abbrev pub IsFaultOfOne : List ℕ → List ℕ → FindError → Type 0
 IsFaultOfOne core log e = IsInputFault 1 core log e ⊎ ((e ≡ TooMany) × IsCore core × IsTooMany log)
 
+-- a core and a log with no fault in them
+pub record IsFaultless (core log : List ℕ) : Type 0 where
+  pub core_is : IsCore core
+  pub lines : List Line
+  pub log_is : IsLog log lines
+
+-- what is wrong with two inputs of which each is free of faults
+abbrev pub IsFaultBetween : List ℕ → List ℕ → FindError → Type 0
+IsFaultBetween log1 log2 (Core k e) = ⊥
+IsFaultBetween log1 log2 (Notes k e) = ⊥
+IsFaultBetween log1 log2 (Log k e) = ⊥
+IsFaultBetween log1 log2 NotPrefix = IsFalse (is_continued_by log1 log2)
+IsFaultBetween log1 log2 TooMany = IsTrue (is_continued_by log1 log2) × (IsTooMany log1 ⊎ IsTooMany log2)
+IsFaultBetween log1 log2 NoMemory = ⊥
+
+-- the first fault of two cores and two logs
+abbrev pub IsFaultOfTwo : List ℕ → List ℕ → List ℕ → List ℕ → FindError → Type 0
+IsFaultOfTwo core1 log1 core2 log2 e =
+    IsInputFault 1 core1 log1 e
+    ⊎ ((IsFaultless core1 log1 × IsInputFault 2 core2 log2 e) ⊎ (IsFaultless core1 log1 × IsFaultless core2 log2 × IsFaultBetween log1 log2 e))
+
 -- the core and the log are free of faults, and were read as they are
 pub record IsRead (core log : List ℕ) (input : Input) : Type 0 where
   pub accepted : IsCore core
@@ -64,3 +85,12 @@ pub record IsRead (core log : List ℕ) (input : Input) : Type 0 where
   pub lines : IsReadAs log input.log
   pub callers : CallersAreIn log input.log.lines
   pub live : input.live ≡ replay_of input.log.lines
+
+-- the input was read from files that are free of faults
+pub record IsInput (input : Input) : Type 0 where
+  pub log : List ℕ
+  pub read : IsRead input.image log input
+
+-- the lines of the earlier log begin those of the later
+abbrev pub Continues : List Line → List Line → Type 0
+Continues before now = (after : List Line) × (now ≡ before ++ after)

@@ -5,3 +5,4 @@ pub mod Reading
 pub mod Requests
 pub mod Run
 pub mod Search
+pub mod SearchTwo

@@ -1,29 +1,105 @@
 -- What a run does to its readers and its writer, where these tell their bytes.
-use Rattle.std.specs.Prelude.{◌≡◌, ℕ, List, Option, None, slice_index_or, take, nat_lt, if◌then◌else◌}
+use Rattle.std.specs.Prelude.{◌≡◌, ◌≢◌, ℕ, ◌+◌, ◌<◌, ◌≤◌, ◌%◌, ◌==◌, Bool, true, false, List, [], length, Option, None, slice_index_or, take, nat_lt, if◌then◌else◌}
 use Rattle.std.specs.Io.KnownBytes.{Appends, Keeps}
+use Rattle.leak_index.specs.Readings.{listed_by}
+use Rattle.leak_report.specs.declared.output.WriteFault.{WriteFault}
+use Rattle.leak_find.specs.declared.error.FindError.{FindError}
+use Rattle.leak_find.specs.declared.error.FindError.TheVariants.{NoMemory}
 use Rattle.leak_find.specs.declared.found.Found.{Found}
+use Rattle.leak_find.specs.declared.fault.ReadFault.{ReadFault}
+use Rattle.leak_find.specs.declared.fault.ReadFault.TheVariants.{TooLong}
 use Rattle.leak_find.specs.declared.fault.RunFault.{RunFault}
 use Rattle.leak_find.specs.declared.fault.RunFault.TheVariants.{Read, Find, Write}
-use Rattle.leak_find.specs.Reading.{IsWholeInput}
+use Rattle.leak_find.specs.declared.options.Options.{Options}
+use Rattle.leak_find.specs.Inputs.{IsFaultOfOne, IsFaultOfTwo}
+use Rattle.leak_find.specs.Reading.{IsWholeInput, Takes, TakesAtMost}
+use Rattle.leak_find.specs.Requests.{file_count}
 use Rattle.leak_find.specs.Search.{FindsOne}
+use Rattle.leak_find.specs.SearchTwo.{FindsTwo}
 
 -- the bytes that the reader with the number, from 0, has left
 abbrev pub left_in : List (Option (List ℕ)) → ℕ → Option (List ℕ)
 left_in readers i = slice_index_or readers i None
 
--- The first reader held the core and the second the log. What was written is the report of these, and nothing else.
-pub record RunsOne (before after : List (Option (List ℕ))) (core_limit log_limit : ℕ) (reading : Option (List ℕ)) (workers : ℕ) (held holds : Option (List ℕ)) (status : ℕ) : Type 0 where
-  pub core : List ℕ
-  pub log : List ℕ
-  pub core_is : IsWholeInput (left_in before 0) (left_in after 0) core_limit core
-  pub log_is : IsWholeInput (left_in before 1) (left_in after 1) log_limit log
+-- the bytes that the reader with the number held
+abbrev pub input_at : List (List ℕ) → ℕ → List ℕ
+input_at inputs i = slice_index_or inputs i []
+
+-- how many bytes the reader with the number may hold: cores and logs take turns
+abbrev pub limit_at : Options → ℕ → ℕ
+limit_at o i = if i % 2 == 0 then o.core_limit else o.log_limit
+
+-- the first readers held these inputs, and each was read to its end
+pub record AreInputs (o : Options) (before after : List (Option (List ℕ))) (inputs : List (List ℕ)) : Type 0 where
+  pub each : (i : ℕ) → i < length inputs → IsWholeInput (left_in before i) (left_in after i) (limit_at o i) (input_at inputs i)
+
+-- what a search of one core and its log, or of two, comes to
+abbrev pub Finds : Bool → Options → List (List ℕ) → Found → Type 0
+Finds false o inputs found = FindsOne (input_at inputs 0) (input_at inputs 1) (listed_by o.reading) o.plan.workers found
+Finds true o inputs found =
+    FindsTwo (input_at inputs 0) (input_at inputs 1) (input_at inputs 2) (input_at inputs 3) (listed_by o.reading) o.plan.workers found
+
+-- the first fault of one core and its log, or of two
+abbrev pub IsFaultOf : Bool → List (List ℕ) → FindError → Type 0
+IsFaultOf false inputs e = IsFaultOfOne (input_at inputs 0) (input_at inputs 1) e
+IsFaultOf true inputs e = IsFaultOfTwo (input_at inputs 0) (input_at inputs 1) (input_at inputs 2) (input_at inputs 3) e
+
+-- all readers were read to their ends, and the search of what they held came to this
+pub record HasFound (o : Options) (before after : List (Option (List ℕ))) (found : Found) : Type 0 where
+  pub inputs : List (List ℕ)
+  pub count : length inputs ≡ file_count o.two
+  pub read : AreInputs o before after inputs
+  pub finds : Finds o.two o inputs found
+
+-- What was written is the report of what the readers held, and nothing else.
+pub record Runs (o : Options) (before after : List (Option (List ℕ))) (held holds : Option (List ℕ)) (status : ℕ) : Type 0 where
   pub found : Found
-  pub finds : FindsOne core log reading workers found
+  pub has_found : HasFound o before after found
   pub written : Appends held holds found.report.items
   pub status_is : status ≡ (if nat_lt 0 found.leaked then 1 else 0)
 
--- nothing was written before the report was made
-abbrev pub IsFaultAfter : Option (List ℕ) → Option (List ℕ) → RunFault → Type 0
-IsFaultAfter held holds (Read i e) = Keeps held holds
-IsFaultAfter held holds (Find e) = Keeps held holds
-IsFaultAfter held holds (Write f) = (report : List ℕ) × Appends held holds (take f.written report)
+-- of the reader with the number, from 0, no more than a byte over its limit was taken, and just that where it is too long
+pub record IsStopped (before after : List (Option (List ℕ))) (i limit : ℕ) (e : ReadFault) : Type 0 where
+  pub bounded : TakesAtMost (left_in before i) (left_in after i) limit
+  pub too_long : e ≡ TooLong → Takes (left_in before i) (left_in after i) (limit + 1)
+
+-- the reader with the number, from 0, was not read to its end
+abbrev pub IsReaderFault : List (Option (List ℕ)) → List (Option (List ℕ)) → ℕ → ℕ → RunFault → Type 0
+IsReaderFault before after i limit (Read n e) = (n ≡ i + 1) × IsStopped before after i limit e
+IsReaderFault before after i limit (Find e) = ⊥
+IsReaderFault before after i limit (Write f) = ⊥
+
+-- The readers before the one with the number, from 1, were read to their ends, and those after it were not read
+pub record IsReadFault (o : Options) (before after : List (Option (List ℕ))) (number : ℕ) (e : ReadFault) : Type 0 where
+  pub inputs : List (List ℕ)
+  pub number_is : number ≡ length inputs + 1
+  pub few : number ≤ file_count o.two
+  pub earlier : AreInputs o before after inputs
+  pub stopped : IsStopped before after (length inputs) (limit_at o (length inputs)) e
+  pub later : (i : ℕ) → number ≤ i → left_in after i ≡ left_in before i
+
+-- all readers were read to their ends, and what they held has this fault first
+pub record IsFindFault (o : Options) (before after : List (Option (List ℕ))) (e : FindError) : Type 0 where
+  pub inputs : List (List ℕ)
+  pub count : length inputs ≡ file_count o.two
+  pub read : AreInputs o before after inputs
+  pub fault : e ≢ NoMemory → IsFaultOf o.two inputs e
+
+-- the search was made, and of its report just the first bytes were written
+pub record IsWriteFault (o : Options) (before after : List (Option (List ℕ))) (held holds : Option (List ℕ)) (f : WriteFault) : Type 0 where
+  pub found : Found
+  pub has_found : HasFound o before after found
+  pub short : f.written < length found.report.items
+  pub written : Appends held holds (take f.written found.report.items)
+
+-- why there is no report of what the readers held
+abbrev pub IsSearchFault : Options → List (Option (List ℕ)) → List (Option (List ℕ)) → RunFault → Type 0
+IsSearchFault o before after (Read n e) = IsReadFault o before after n e
+IsSearchFault o before after (Find e) = IsFindFault o before after e
+IsSearchFault o before after (Write f) = ⊥
+
+-- why a run gives no status: nothing is written before the report is made
+abbrev pub IsRunFault : Options → List (Option (List ℕ)) → List (Option (List ℕ)) → Option (List ℕ) → Option (List ℕ) → RunFault → Type 0
+IsRunFault o before after held holds (Read n e) = Keeps held holds × IsReadFault o before after n e
+IsRunFault o before after held holds (Find e) = Keeps held holds × IsFindFault o before after e
+IsRunFault o before after held holds (Write f) = IsWriteFault o before after held holds f

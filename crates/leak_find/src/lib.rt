@@ -14,6 +14,7 @@ mod options;
 mod readers;
 mod reporting;
 mod running;
+mod two_cores;
 
 pub use alone::find_alone;
 pub use arguments::request;
@@ -25,6 +26,7 @@ pub use one_core::find_one;
 pub use options::{CORE_LIMIT, LOG_LIMIT, Options, Request};
 pub use readers::read_all;
 pub use running::run;
+pub use two_cores::find_two;
 
 #[cfg(test)]
 mod tests;

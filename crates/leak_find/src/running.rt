@@ -1,56 +1,116 @@
 //! A whole run: the inputs are read, the search is made, the report is written.
 
-ghost use Rattle.std.specs.Prelude.{◌≡◌, length, map, IfOk, IfErr, IsFalse};
-ghost use Rattle.leak_index.specs.Readings.{listed_by};
-ghost use Rattle.leak_find.specs.Run.{RunsOne, IsFaultAfter};
+ghost use Rattle.std.specs.Prelude.{◌≡◌, ◌≢◌, ◌<◌, ◌≤◌, ◌+◌, ◌^◌, ℕ, length, map, IfOk, IfErr, IsTrue, IsFalse, true, false};
+ghost use Rattle.leak_find.specs.Reading.{IsWholeInput};
+ghost use Rattle.leak_find.specs.Requests.{file_count};
+ghost use Rattle.leak_find.specs.Run.{left_in, IsReaderFault, HasFound, IsSearchFault, Runs, IsRunFault};
 
 use crate::fault::RunFault;
+use crate::found::Found;
 use crate::one_core::find_one;
 use crate::options::Options;
 use crate::readers::read_all;
+use crate::two_cores::find_two;
 use leak_pool::Open;
 use leak_report::write;
 use std::alloc::Global;
 use std::io::{Read, Write};
+use std::thread::Threads;
 
-/// Reads a core and its log, searches them, and writes the report: 0 where nothing leaked, and 1 otherwise.
+/// Reads the reader with the number, from 0, to its end.
+fn read_reader<R: Read>(
+    alloc: Global,
+    readers: &mut [R],
+    number: u8,
+    limit: u64,
+) -> Result<Vec<u8>, RunFault>
+    requires there { number < length readers.old }
+    requires few { number < 255 }
+    ensures ok { IfOk result (λ v. IsWholeInput (left_in (map R.remaining readers.old) number) (left_in (map R.remaining readers.new) number) limit v.items) }
+    ensures refused { IfErr result (IsReaderFault (map R.remaining readers.old) (map R.remaining readers.new) number limit) }
+    ensures others { (i : ℕ) → i ≢ number → left_in (map R.remaining readers.new) i ≡ left_in (map R.remaining readers.old) i }
+    ensures count { length readers.new ≡ length readers.old }
+{
+    match read_all(alloc, &mut readers[number as usize], limit) {
+        Ok(bytes) => Ok(bytes),
+        Err(fault) => Err(RunFault::Read(number + 1, fault)),
+    }
+}
+
+/// Reads a core and its log, and searches them.
+fn search_one<T: Threads + Sync, R: Read>(
+    rt: &T,
+    alloc: Global,
+    readers: &mut [R],
+    options: &Options,
+) -> Result<Found, RunFault>
+    requires one { options.now.two ≡ false }
+    requires readers { length readers.old ≡ 2 }
+    ensures ok { IfOk result (HasFound options.now (map R.remaining readers.old) (map R.remaining readers.new)) }
+    ensures refused { IfErr result (IsSearchFault options.now (map R.remaining readers.old) (map R.remaining readers.new)) }
+{
+    let core = read_reader(alloc, readers, 0, options.core_limit)?;
+    let log = read_reader(alloc, readers, 1, options.log_limit)?;
+    match find_one(rt, alloc, &core, &log, options.reading, options.plan, &Open) {
+        Ok(found) => Ok(found),
+        Err(error) => Err(RunFault::Find(error)),
+    }
+}
+
+/// Reads two cores, each with its log, and searches them.
+fn search_two<T: Threads + Sync, R: Read>(
+    rt: &T,
+    alloc: Global,
+    readers: &mut [R],
+    options: &Options,
+) -> Result<Found, RunFault>
+    requires two { options.now.two ≡ true }
+    requires readers { length readers.old ≡ 4 }
+    ensures ok { IfOk result (HasFound options.now (map R.remaining readers.old) (map R.remaining readers.new)) }
+    ensures refused { IfErr result (IsSearchFault options.now (map R.remaining readers.old) (map R.remaining readers.new)) }
+{
+    let core1 = read_reader(alloc, readers, 0, options.core_limit)?;
+    let log1 = read_reader(alloc, readers, 1, options.log_limit)?;
+    let core2 = read_reader(alloc, readers, 2, options.core_limit)?;
+    let log2 = read_reader(alloc, readers, 3, options.log_limit)?;
+    match find_two(
+        rt,
+        alloc,
+        &core1,
+        &log1,
+        &core2,
+        &log2,
+        options.reading,
+        options.plan,
+        &Open,
+    ) {
+        Ok(found) => Ok(found),
+        Err(error) => Err(RunFault::Find(error)),
+    }
+}
+
+/// Reads a core and its log, or two of each (core 1, log 1, core 2, log 2), searches them, and writes the report: 0 where
+/// nothing leaked, and 1 otherwise.
 ///
-/// All inputs are read before the search is made, and the report is made before any of it is written. After a
+/// All inputs are read in order before the search is made, and the report is made before any of it is written. After a
 /// refusal the readers stand where the reads left them.
-pub fn run<T: std::thread::Threads + Sync, R: Read, W: Write>(
+pub fn run<T: Threads + Sync, R: Read, W: Write>(
     rt: &T,
     alloc: Global,
     readers: &mut [R],
     options: &Options,
     writer: &mut W,
 ) -> Result<u8, RunFault>
-    requires one { IsFalse options.now.two }
-    requires readers { length readers.old ≡ 2 }
-    ensures ok { IfOk result (RunsOne (map R.remaining readers.old) (map R.remaining readers.new) options.now.core_limit options.now.log_limit (listed_by options.now.reading) options.now.plan.workers (W.contents writer.old) (W.contents writer.new)) }
-    ensures refused { IfErr result (IsFaultAfter (W.contents writer.old) (W.contents writer.new)) }
+    requires { length readers.old ≡ file_count options.now.two }
+    ensures ok { IfOk result (Runs options.now (map R.remaining readers.old) (map R.remaining readers.new) (W.contents writer.old) (W.contents writer.new)) }
+    ensures refused { IfErr result (IsRunFault options.now (map R.remaining readers.old) (map R.remaining readers.new) (W.contents writer.old) (W.contents writer.new)) }
 {
-    let options = *options;
-    let core = match read_all(alloc, &mut readers[0], options.core_limit) {
-        Ok(core) => core,
-        Err(fault) => return Err(RunFault::Read(1, fault)),
+    let found = if options.two {
+        search_two(rt, alloc, readers, options)?
+    } else {
+        search_one(rt, alloc, readers, options)?
     };
-    let log = match read_all(alloc, &mut readers[1], options.log_limit) {
-        Ok(log) => log,
-        Err(fault) => return Err(RunFault::Read(2, fault)),
-    };
-    let found = match find_one(
-        rt,
-        alloc,
-        core.as_slice(),
-        log.as_slice(),
-        options.reading,
-        options.plan,
-        &Open,
-    ) {
-        Ok(found) => found,
-        Err(error) => return Err(RunFault::Find(error)),
-    };
-    match write(found.report.as_slice(), writer) {
+    match write(&found.report, writer) {
         Ok(()) => Ok(u8::from(found.leaked > 0)),
         Err(fault) => Err(RunFault::Write(fault)),
     }

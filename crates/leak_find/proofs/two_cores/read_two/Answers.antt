@@ -1,0 +1,19 @@
+use Rattle.std.proofs.Common.{◌≡◌, ◌∙◌, ◌<◌, ◌-◌, ◌^◌, ℕ, Bool, List, IsTrue, sym, subst, length, inl, inr}
+use Rattle.leak_blocks.specs.declared.block.Block.{Block}
+use Rattle.leak_mtrace.specs.Log.{is_continued_by}
+use Rattle.leak_find.proofs.TwoLemmas.{is_true, too_many_of_two, lines_continue}
+use Rattle.leak_find.proofs.two_cores.read_two.Goals as goal
+
+abbrev IsOver : List Block → Type 0
+IsOver blocks = 2 ^ 32 - 1 < length blocks
+
+pub returns-then-blocks-clause-refused : goal.returns-then-blocks-clause-refused
+returns-then-blocks-clause-refused c = λ other. too_many_of_two _ _ _ _ _ _ c.in_ok-first.ensures.ok c.in_ok-second.ensures.ok
+    (is_true _ _ c.is_continued.ensures c.if-not-is_continued.false) (inl (subst IsOver c.blocks-2.ensures.value c.if-blocks.true))
+
+pub returns-then-blocks-2-clause-refused : goal.returns-then-blocks-2-clause-refused
+returns-then-blocks-2-clause-refused c = λ other. too_many_of_two _ _ _ _ _ _ c.in_ok-first.ensures.ok c.in_ok-second.ensures.ok
+    (is_true _ _ c.is_continued.ensures c.if-not-is_continued.false) (inr (subst IsOver c.blocks-3.ensures.value c.if-blocks-2.true))
+
+pub returns-clause-lines : goal.returns-clause-lines
+returns-clause-lines c = lines_continue _ _ _ _ _ _ c.in_ok-first.ensures.ok c.in_ok-second.ensures.ok (is_true _ _ c.is_continued.ensures c.if-not-is_continued.false)

@@ -1,0 +1,196 @@
+//! The search of two cores of one process by worker threads.
+
+ghost use Rattle.std.specs.Prelude.{◌≡◌, ◌≢◌, ◌<◌, ◌^◌, ℕ, length, IfOk, IfErr, IsTrue};
+ghost use Rattle.std.specs.List.Sorted.{IsStrictlyIncreasing};
+ghost use Rattle.leak_marks.specs.Lists.{Has};
+ghost use Rattle.leak_mtrace.specs.Log.{IsReadAs, is_continued_by};
+ghost use Rattle.leak_blocks.specs.Live.{live_of};
+ghost use Rattle.leak_blocks.specs.Span.{AreAddressed, AreDisjoint};
+ghost use Rattle.leak_index.specs.Readings.{listed_by};
+ghost use Rattle.leak_find.specs.Inputs.{IsRead, IsInput, IsFaultOfTwo, Continues};
+ghost use Rattle.leak_find.specs.SearchTwo.{IsMarkedEarlier, IsBetween, FindsTwo, size_of};
+
+use crate::error::FindError;
+use crate::found::Found;
+use crate::inputs::{Input, read_input};
+use crate::reporting::report_of;
+use leak_blocks::Block;
+use leak_dirty::{
+    Carry, absent_are_fresh, carry, differing, retrace, same_words_lead_within,
+};
+use leak_index::{Reading, Sorted};
+use leak_mtrace::Log;
+use leak_pool::{Gate, Marked, Plan, mark};
+use leak_report::Two;
+use leak_roots::Roots;
+use leak_scan::Pages;
+use std::alloc::Global;
+use std::thread::Threads;
+
+/// Two inputs of one process.
+#[derive(Drop)]
+struct Inputs<'a, 'b> {
+    first: Input<'a>,
+    second: Input<'b>,
+}
+
+/// Whether the whole lines of the log, which has these bytes, begin the later log.
+fn is_continued(log: &Log, bytes: &[u8], later: &[u8]) -> bool
+    requires { IsReadAs bytes.now log.now }
+    ensures { result ≡ is_continued_by bytes.now later.now }
+{
+    later.starts_with(&bytes[..log.whole_len()])
+}
+
+/// Reads two inputs, or gives their first fault: those of the first, then those of the second, then that the first
+/// log's whole lines don't begin the second log, then that there are too many blocks.
+fn read_two<'a, 'b>(
+    alloc: Global,
+    core1: &'a [u8],
+    log1: &[u8],
+    core2: &'b [u8],
+    log2: &[u8],
+) -> Result<Inputs<'a, 'b>, FindError>
+    ensures first { IfOk result (λ inputs. IsRead core1.now log1.now inputs.first × (length inputs.first.live.blocks < 2 ^ 32)) }
+    ensures second { IfOk result (λ inputs. IsRead core2.now log2.now inputs.second × (length inputs.second.live.blocks < 2 ^ 32)) }
+    ensures continued { IfOk result (λ inputs. IsTrue (is_continued_by log1.now log2.now)) }
+    ensures lines { IfOk result (λ inputs. Continues inputs.first.log.lines inputs.second.log.lines) }
+    ensures refused { IfErr result (λ e. e ≢ FindError.NoMemory → IsFaultOfTwo core1.now log1.now core2.now log2.now e) }
+{
+    let first = read_input(alloc, 1, core1, log1)?;
+    let second = read_input(alloc, 2, core2, log2)?;
+    if !is_continued(&first.log, log1, log2) {
+        return Err(FindError::NotPrefix);
+    }
+    if first.live.blocks().len() > u32::MAX as usize {
+        return Err(FindError::TooMany);
+    }
+    if second.live.blocks().len() > u32::MAX as usize {
+        return Err(FindError::TooMany);
+    }
+    Ok(Inputs { first, second })
+}
+
+/// What marking in the later core begins with.
+#[derive(Drop)]
+pub(crate) struct Between {
+    pub carry: Carry,
+    pub pages: Pages,
+}
+
+/// Marks in the earlier core.
+fn mark_earlier<R: Threads + Sync, G: Gate + Sync>(
+    rt: &R,
+    alloc: Global,
+    input: &Input,
+    reading: Reading,
+    plan: Plan,
+    gate: &G,
+) -> Result<Marked, FindError>
+    requires read { IsInput input.now }
+    requires few { length input.now.live.blocks < 2 ^ 32 }
+    ensures marked { IfOk result (λ marked. IsMarkedEarlier input.now.image (listed_by reading) input.now.log.lines marked.set.items) }
+    ensures memory { IfErr result (λ e. e ≡ FindError.NoMemory) }
+{
+    let roots = Roots::find(alloc, &input.image, &input.threads, &input.live)?;
+    let lookup = Sorted::new(&input.live, reading);
+    let marked = mark(
+        rt,
+        alloc,
+        &input.image,
+        &lookup,
+        &roots,
+        &input.live,
+        plan,
+        gate,
+    )?;
+    Ok(marked)
+}
+
+/// Finds what the later input has in common with the earlier one, which isn't kept.
+fn compare<R: Threads + Sync, G: Gate + Sync>(
+    rt: &R,
+    alloc: Global,
+    inputs: &Inputs,
+    reading: Reading,
+    plan: Plan,
+    gate: &G,
+) -> Result<Between, FindError>
+    requires first { IsInput inputs.now.first }
+    requires second { IsInput inputs.now.second }
+    requires continued { Continues inputs.now.first.log.lines inputs.now.second.log.lines }
+    requires few { (length inputs.now.first.live.blocks < 2 ^ 32) × (length inputs.now.second.live.blocks < 2 ^ 32) }
+    ensures between { IfOk result (λ between. IsBetween inputs.now.first.image inputs.now.second.image (listed_by reading) inputs.now.first.log.lines inputs.now.second.log.lines between) }
+    ensures memory { IfErr result (λ e. e ≡ FindError.NoMemory) }
+{
+    absent_are_fresh();
+    let marked = mark_earlier(rt, alloc, &inputs.first, reading, plan, gate)?;
+    let carry = carry(
+        alloc,
+        &inputs.first.live,
+        marked.set.as_slice(),
+        &inputs.second.live,
+    )?;
+    let pages = differing(rt, alloc, &inputs.first.image, &inputs.second.image)?;
+    Ok(Between { carry, pages })
+}
+
+/// The sum of the sizes of the numbered blocks, in bytes.
+fn sum_sizes(blocks: &[Block], numbers: &[u32]) -> u64
+    requires addressed { AreAddressed blocks.now }
+    requires disjoint { AreDisjoint blocks.now }
+    requires ascending { IsStrictlyIncreasing numbers.now }
+    requires inside { (b : ℕ) → Has numbers.now b → b < length blocks.now }
+    ensures { result ≡ size_of blocks.now numbers.now }
+{
+    let mut bytes = 0;
+    for number in numbers {
+        bytes += blocks[*number as usize].size;
+    }
+    bytes
+}
+
+/// Searches two cores of one process and their logs by the workers of the plan, with a list of claims for each.
+///
+/// The first log is the beginning of the second, up to its last line feed. Marked in the second core are the blocks
+/// that were marked in the first core, those allocated since, and what chains lead to from these and from the roots.
+/// The report is that of the second core. Lists of claims are of the marking in the second core.
+pub fn find_two<R: Threads + Sync, G: Gate + Sync>(
+    rt: &R,
+    alloc: Global,
+    core1: &[u8],
+    log1: &[u8],
+    core2: &[u8],
+    log2: &[u8],
+    reading: Reading,
+    plan: Plan,
+    gate: &G,
+) -> Result<Found, FindError>
+    ensures ok { IfOk result (FindsTwo core1.now log1.now core2.now log2.now (listed_by reading) plan.workers) }
+    ensures refused { IfErr result (λ e. e ≢ FindError.NoMemory → IsFaultOfTwo core1.now log1.now core2.now log2.now e) }
+{
+    same_words_lead_within();
+    let inputs = read_two(alloc, core1, log1, core2, log2)?;
+    let between = compare(rt, alloc, &inputs, reading, plan, gate)?;
+    let second = inputs.second;
+    let roots = Roots::find(alloc, &second.image, &second.threads, &second.live)?;
+    let lookup = Sorted::new(&second.live, reading);
+    let retraced = retrace(
+        rt,
+        alloc,
+        &second.image,
+        &lookup,
+        &roots,
+        &second.live,
+        &between.carry,
+        &between.pages,
+        plan,
+        gate,
+    )?;
+    let two = Two {
+        fresh: between.carry.fresh.len() as u64,
+        fresh_bytes: sum_sizes(second.live.blocks(), &between.carry.fresh),
+        reread: retraced.reread,
+    };
+    report_of(alloc, &second, log2, retraced.marked, Some(two))
+}
