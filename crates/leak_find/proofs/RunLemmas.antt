@@ -1,38 +1,176 @@
--- Readers by their number.
-use Rattle.std.proofs.Common.{◌≡◌, ℕ, List, [], ◌∷◌, length, Option, refl, subst, ◌∙◌, arith, map, slice_index_or, slice_set}
+-- Readers by their number, and inputs read one after the other.
+use Rattle.std.proofs.Common.{◌≡◌, ◌≢◌, ℕ, zero, suc, ◌+◌, ◌<◌, ◌≤◌, List, [], ◌∷◌, ◌++◌, length, Option, None, refl, sym, subst, ap, ◌∙◌, arith, map, slice_index_or, slice_set, ⊎_elim}
 use Rattle.std.specs.Prelude.{if◌then◌else◌, nat_lt, Bool, true, false}
+use mathlib.Core.Logic.{dite}
+use native.Mathlib.Decide.{ℕ_discrete}
 use lib.Dec.{ltb}
 use mir.Val.{bool_byte}
-use Rattle.leak_find.specs.Reading.{IsWholeInput}
-use Rattle.leak_find.specs.Run.{left_in}
+use Rattle.std.specs.Io.KnownBytes.{Appends}
+use Rattle.leak_index.specs.Readings.{listed_by}
+use Rattle.leak_find.specs.declared.error.FindError.{FindError}
+use Rattle.leak_find.specs.declared.error.FindError.TheVariants.{NoMemory}
+use Rattle.leak_find.specs.declared.fault.ReadFault.{ReadFault}
+use Rattle.leak_find.specs.declared.fault.ReadFault.TheVariants.{TooLong}
+use Rattle.leak_find.specs.declared.fault.RunFault.{RunFault}
+use Rattle.leak_find.specs.declared.fault.RunFault.TheVariants.{Read, Find, Write}
+use Rattle.leak_find.specs.declared.found.Found.{Found}
+use Rattle.leak_find.specs.declared.options.Options.{Options}
+use Rattle.leak_find.specs.Inputs.{IsFaultOfOne, IsFaultOfTwo}
+use Rattle.leak_find.specs.Reading.{IsWholeInput, Takes, TakesAtMost}
+use Rattle.leak_find.specs.Requests.{file_count}
+use Rattle.leak_find.specs.Run.{left_in, input_at, limit_at, AreInputs, Finds, IsFaultOf, HasFound, IsStopped, IsReaderFault, IsFindFault, IsSearchFault}
+use Rattle.leak_find.specs.Search.{FindsOne}
+use Rattle.leak_find.specs.SearchTwo.{FindsTwo}
 
--- what two readers had left, before the first was read, then the second
-pub record AreTwo {A : Type 0} (known : A → Option (List ℕ)) (readers : List A) (first second first_after second_after : A) : Type 0 where
-  pub first_is : known (slice_index_or readers 0 first) ≡ left_in (map known readers) 0
-  pub second_is : known (slice_index_or (slice_set readers 0 first_after) 1 second) ≡ left_in (map known readers) 1
-  pub first_then : known first_after ≡ left_in (map known (slice_set (slice_set readers 0 first_after) 1 second_after)) 0
-  pub second_then : known second_after ≡ left_in (map known (slice_set (slice_set readers 0 first_after) 1 second_after)) 1
+-- ---- readers by their number
 
-pub are_two : {A : Type 0} (known : A → Option (List ℕ)) (readers : List A) (first second first_after second_after : A) → length readers ≡ 2
-    → AreTwo known readers first second first_after second_after
-are_two known [] f s f' s' two = absurd (omega (arith, two))
-are_two known (a ∷ []) f s f' s' two = absurd (omega (arith, two))
-are_two known (a ∷ b ∷ []) f s f' s' two = record {
-  first_is = refl;
-  second_is = refl;
-  first_then = refl;
-  second_then = refl;
-}
-are_two known (a ∷ b ∷ c ∷ rest) f s f' s' two = absurd (omega (arith, two))
+module _ {A : Type 0} (known : A → Option (List ℕ)) where
+  pub left_is : (readers : List A) (n : ℕ) (d : A) → n < length readers → known (slice_index_or readers n d) ≡ left_in (map known readers) n
+  left_is [] n d h = absurd (omega arith)
+  left_is (r ∷ rs) zero d h = refl
+  left_is (r ∷ rs) (suc n) d h = left_is rs n d (omega arith)
 
-as_byte : (b : Bool) → bool_byte b ≡ (if b then 1 else 0)
-as_byte true = refl
-as_byte false = refl
+  pub left_same : (readers : List A) (n : ℕ) (x : A) → n < length readers → known x ≡ left_in (map known (slice_set readers n x)) n
+  left_same [] n x h = absurd (omega arith)
+  left_same (r ∷ rs) zero x h = refl
+  left_same (r ∷ rs) (suc n) x h = left_same rs n x (omega arith)
+
+  pub left_other : (readers : List A) (n : ℕ) (x : A) (i : ℕ) → i ≢ n → left_in (map known (slice_set readers n x)) i ≡ left_in (map known readers) i
+  left_other [] n x i h = refl
+  left_other (r ∷ rs) zero x zero h = absurd (h refl)
+  left_other (r ∷ rs) zero x (suc i) h = refl
+  left_other (r ∷ rs) (suc n) x zero h = refl
+  left_other (r ∷ rs) (suc n) x (suc i) h = left_other rs n x i (λ e. h (ap suc e))
 
 -- an input by the bytes that its reader had left
 pub of_reader : (before after left right : Option (List ℕ)) (limit : ℕ) (bytes : List ℕ) → before ≡ left → after ≡ right → IsWholeInput before after limit bytes → IsWholeInput left right limit bytes
 of_reader before after left right limit bytes is_left is_right whole =
     subst (λ (o : Option (List ℕ)). IsWholeInput left o limit bytes) is_right (subst (λ (o : Option (List ℕ)). IsWholeInput o after limit bytes) is_left whole)
+
+pub is_stopped : (before after : List (Option (List ℕ))) (i limit : ℕ) (e : ReadFault) (left right : Option (List ℕ)) → left ≡ left_in before i → right ≡ left_in after i
+    → TakesAtMost left right limit → (e ≡ TooLong → Takes left right (limit + 1)) → IsStopped before after i limit e
+is_stopped before after i limit e left right is_left is_right few long = record {
+  bounded = subst (λ (o : Option (List ℕ)). TakesAtMost (left_in before i) o limit) is_right (subst (λ (o : Option (List ℕ)). TakesAtMost o right limit) is_left few);
+  too_long = λ is. subst (λ (o : Option (List ℕ)). Takes (left_in before i) o (limit + 1)) is_right (subst (λ (o : Option (List ℕ)). Takes o right (limit + 1)) is_left (long is));
+}
+
+-- ---- inputs read one after the other
+
+-- these inputs were read, and the readers behind theirs are as they were
+pub record SoFar (o : Options) (before after : List (Option (List ℕ))) (inputs : List (List ℕ)) : Type 0 where
+  pub read : AreInputs o before after inputs
+  pub later : (i : ℕ) → length inputs ≤ i → left_in after i ≡ left_in before i
+
+pub none_yet : (o : Options) (before : List (Option (List ℕ))) → SoFar o before before []
+none_yet o before = record { read = record { each = λ i h. absurd (omega (arith, h)) }; later = λ i h. refl }
+
+input_before : (inputs : List (List ℕ)) (bytes : List ℕ) (i : ℕ) → i < length inputs → input_at inputs i ≡ input_at (inputs ++ bytes ∷ []) i
+input_before [] bytes i h = absurd (omega arith)
+input_before (x ∷ xs) bytes zero h = refl
+input_before (x ∷ xs) bytes (suc i) h = input_before xs bytes i (omega arith)
+
+input_last : (inputs : List (List ℕ)) (bytes : List ℕ) → bytes ≡ input_at (inputs ++ bytes ∷ []) (length inputs)
+input_last [] bytes = refl
+input_last (x ∷ xs) bytes = input_last xs bytes
+
+one_longer : (inputs : List (List ℕ)) (bytes : List ℕ) → length (inputs ++ bytes ∷ []) ≡ length inputs + 1
+one_longer [] bytes = refl
+one_longer (x ∷ xs) bytes = let rest = one_longer xs bytes in omega (arith, rest)
+
+pub one_more : (o : Options) (before mid after : List (Option (List ℕ))) (inputs : List (List ℕ)) (bytes : List ℕ) → SoFar o before mid inputs
+    → IsWholeInput (left_in mid (length inputs)) (left_in after (length inputs)) (limit_at o (length inputs)) bytes
+    → ((i : ℕ) → i ≢ length inputs → left_in after i ≡ left_in mid i) → SoFar o before after (inputs ++ bytes ∷ [])
+one_more o before mid after inputs bytes so_far whole others = record {
+  read = record {
+    each = λ i h. dite (ℕ_discrete i (length inputs))
+        (λ same. subst (λ (k : ℕ). IsWholeInput (left_in before k) (left_in after k) (limit_at o k) (input_at (inputs ++ bytes ∷ []) k)) (sym same)
+        (subst (λ (b : List ℕ). IsWholeInput (left_in before (length inputs)) (left_in after (length inputs)) (limit_at o (length inputs)) b) (input_last inputs bytes)
+        (subst (λ (l : Option (List ℕ)). IsWholeInput l (left_in after (length inputs)) (limit_at o (length inputs)) bytes) (so_far.later (length inputs) (omega arith)) whole)))
+        (λ other. let n = one_longer inputs bytes in let less : i < length inputs = omega (arith, h, n, other) in
+        subst (λ (b : List ℕ). IsWholeInput (left_in before i) (left_in after i) (limit_at o i) b) (input_before inputs bytes i less)
+        (subst (λ (r : Option (List ℕ)). IsWholeInput (left_in before i) r (limit_at o i) (input_at inputs i)) (sym (others i other)) (so_far.read.each i less)));
+  };
+  later = λ i h. let n = one_longer inputs bytes in others i (λ same. absurd (omega (arith, h, n, same))) ∙ so_far.later i (omega (arith, h, n));
+}
+
+pub stopped : (o : Options) (before mid after : List (Option (List ℕ))) (inputs : List (List ℕ)) (e : RunFault) → SoFar o before mid inputs → length inputs + 1 ≤ file_count o.two
+    → IsReaderFault mid after (length inputs) (limit_at o (length inputs)) e
+    → ((i : ℕ) → i ≢ length inputs → left_in after i ≡ left_in mid i) → IsSearchFault o before after e
+stopped o before mid after inputs (Read number e) so_far few fault others = record {
+  inputs = inputs;
+  number_is = fault.0;
+  few = subst (λ (k : ℕ). k ≤ file_count o.two) (sym fault.0) few;
+  earlier = record {
+    each = λ i h. subst (λ (r : Option (List ℕ)). IsWholeInput (left_in before i) r (limit_at o i) (input_at inputs i)) (sym (others i (λ same. absurd (omega (arith, h, same))))) (so_far.read.each i h);
+  };
+  stopped = is_stopped before after (length inputs) (limit_at o (length inputs)) e (left_in mid (length inputs)) (left_in after (length inputs)) (so_far.later (length inputs) (omega arith)) refl fault.1.bounded fault.1.too_long;
+  later = λ i h. let n = fault.0 in others i (λ same. absurd (omega (arith, h, n, same))) ∙ so_far.later i (omega (arith, h, n));
+}
+stopped o before mid after inputs (Find e) so_far few fault others = absurd fault
+stopped o before mid after inputs (Write f) so_far few fault others = absurd fault
+
+-- ---- searches of what was read
+
+pub of_one : (two : Bool) (n : ℕ) → two ≡ false → n ≤ 2 → n ≤ file_count two
+of_one two n one h = subst (λ (b : Bool). n ≤ file_count b) (sym one) h
+
+pub of_two : (two : Bool) (n : ℕ) → two ≡ true → n ≤ 4 → n ≤ file_count two
+of_two two n is h = subst (λ (b : Bool). n ≤ file_count b) (sym is) h
+
+pub found_one : (o : Options) (before after : List (Option (List ℕ))) (core log core_read log_read : List ℕ) (found : Found) → o.two ≡ false
+    → SoFar o before after (core ∷ log ∷ []) → core_read ≡ core → log_read ≡ log
+    → FindsOne core_read log_read (listed_by o.reading) o.plan.workers found → HasFound o before after found
+found_one o before after core log core_read log_read found one so_far core_is log_is finds = record {
+  inputs = core ∷ log ∷ [];
+  count = rw (one) refl;
+  read = so_far.read;
+  finds = subst (λ (b : Bool). Finds b o (core ∷ log ∷ []) found) (sym one)
+      (subst (λ (l : List ℕ). FindsOne core l (listed_by o.reading) o.plan.workers found) log_is
+      (subst (λ (c : List ℕ). FindsOne c log_read (listed_by o.reading) o.plan.workers found) core_is finds));
+}
+
+pub fault_one : (o : Options) (before after : List (Option (List ℕ))) (core log core_read log_read : List ℕ) (e : FindError) → o.two ≡ false
+    → SoFar o before after (core ∷ log ∷ []) → core_read ≡ core → log_read ≡ log
+    → (e ≢ NoMemory → IsFaultOfOne core_read log_read e) → IsFindFault o before after e
+fault_one o before after core log core_read log_read e one so_far core_is log_is fault = record {
+  inputs = core ∷ log ∷ [];
+  count = rw (one) refl;
+  read = so_far.read;
+  fault = λ other. subst (λ (b : Bool). IsFaultOf b (core ∷ log ∷ []) e) (sym one)
+      (subst (λ (l : List ℕ). IsFaultOfOne core l e) log_is (subst (λ (c : List ℕ). IsFaultOfOne c log_read e) core_is (fault other)));
+}
+
+module _ (o : Options) (before after : List (Option (List ℕ))) (core1 log1 core2 log2 core1_read log1_read core2_read log2_read : List ℕ) (two : o.two ≡ true)
+    (so_far : SoFar o before after (core1 ∷ log1 ∷ core2 ∷ log2 ∷ [])) (core1_is : core1_read ≡ core1) (log1_is : log1_read ≡ log1) (core2_is : core2_read ≡ core2) (log2_is : log2_read ≡ log2) where
+  pub found_two : (found : Found) → FindsTwo core1_read log1_read core2_read log2_read (listed_by o.reading) o.plan.workers found → HasFound o before after found
+  found_two found finds = record {
+    inputs = core1 ∷ log1 ∷ core2 ∷ log2 ∷ [];
+    count = rw (two) refl;
+    read = so_far.read;
+    finds = subst (λ (b : Bool). Finds b o (core1 ∷ log1 ∷ core2 ∷ log2 ∷ []) found) (sym two)
+        (subst (λ (l : List ℕ). FindsTwo core1 log1 core2 l (listed_by o.reading) o.plan.workers found) log2_is
+        (subst (λ (c : List ℕ). FindsTwo core1 log1 c log2_read (listed_by o.reading) o.plan.workers found) core2_is
+        (subst (λ (l : List ℕ). FindsTwo core1 l core2_read log2_read (listed_by o.reading) o.plan.workers found) log1_is
+        (subst (λ (c : List ℕ). FindsTwo c log1_read core2_read log2_read (listed_by o.reading) o.plan.workers found) core1_is finds))));
+  }
+
+  pub fault_two : (e : FindError) → (e ≢ NoMemory → IsFaultOfTwo core1_read log1_read core2_read log2_read e) → IsFindFault o before after e
+  fault_two e fault = record {
+    inputs = core1 ∷ log1 ∷ core2 ∷ log2 ∷ [];
+    count = rw (two) refl;
+    read = so_far.read;
+    fault = λ other. subst (λ (b : Bool). IsFaultOf b (core1 ∷ log1 ∷ core2 ∷ log2 ∷ []) e) (sym two)
+        (subst (λ (l : List ℕ). IsFaultOfTwo core1 log1 core2 l e) log2_is
+        (subst (λ (c : List ℕ). IsFaultOfTwo core1 log1 c log2_read e) core2_is
+        (subst (λ (l : List ℕ). IsFaultOfTwo core1 l core2_read log2_read e) log1_is
+        (subst (λ (c : List ℕ). IsFaultOfTwo c log1_read core2_read log2_read e) core1_is (fault other)))));
+  }
+
+-- ---- the status
+
+as_byte : (b : Bool) → bool_byte b ≡ (if b then 1 else 0)
+as_byte true = refl
+as_byte false = refl
 
 pub status_is : (leaked : ℕ) (status : ℕ) → status ≡ bool_byte (ltb 0 leaked) → status ≡ (if nat_lt 0 leaked then 1 else 0)
 status_is leaked status is = is ∙ as_byte (ltb 0 leaked)

@@ -89,6 +89,24 @@ fn search_two<T: Threads + Sync, R: Read>(
     }
 }
 
+/// Reads what the options ask for, and searches it.
+fn search<T: Threads + Sync, R: Read>(
+    rt: &T,
+    alloc: Global,
+    readers: &mut [R],
+    options: &Options,
+) -> Result<Found, RunFault>
+    requires { length readers.old ≡ file_count options.now.two }
+    ensures ok { IfOk result (HasFound options.now (map R.remaining readers.old) (map R.remaining readers.new)) }
+    ensures refused { IfErr result (IsSearchFault options.now (map R.remaining readers.old) (map R.remaining readers.new)) }
+{
+    if options.two {
+        search_two(rt, alloc, readers, options)
+    } else {
+        search_one(rt, alloc, readers, options)
+    }
+}
+
 /// Reads a core and its log, or two of each (core 1, log 1, core 2, log 2), searches them, and writes the report: 0 where
 /// nothing leaked, and 1 otherwise.
 ///
@@ -105,11 +123,7 @@ pub fn run<T: Threads + Sync, R: Read, W: Write>(
     ensures ok { IfOk result (Runs options.now (map R.remaining readers.old) (map R.remaining readers.new) (W.contents writer.old) (W.contents writer.new)) }
     ensures refused { IfErr result (IsRunFault options.now (map R.remaining readers.old) (map R.remaining readers.new) (W.contents writer.old) (W.contents writer.new)) }
 {
-    let found = if options.two {
-        search_two(rt, alloc, readers, options)?
-    } else {
-        search_one(rt, alloc, readers, options)?
-    };
+    let found = search(rt, alloc, readers, options)?;
     match write(&found.report, writer) {
         Ok(()) => Ok(u8::from(found.leaked > 0)),
         Err(fault) => Err(RunFault::Write(fault)),
