@@ -1,6 +1,6 @@
 //! The search of files.
 
-ghost use Rattle.std.specs.Prelude.{◌≡◌, IfOk, false, length};
+ghost use Rattle.std.specs.Prelude.{◌≡◌, IfOk, length};
 ghost use Rattle.leak_find.specs.Requests.{file_count};
 
 use crate::failure::Failure;
@@ -14,8 +14,7 @@ pub(crate) fn search_files<R: Files + Print + AllocGlobal + Threads + Sync>(
     rt: &R,
     request: &Request,
 ) -> Result<u8, Failure>
-    requires paths { length request.now.paths.items ≡ file_count request.now.options.two }
-    requires one { request.now.options.two ≡ false }
+    requires { length request.now.paths.items ≡ file_count request.now.options.two }
 {
     let mut files = opened(rt, request.paths.as_slice())?;
     Ok(run(

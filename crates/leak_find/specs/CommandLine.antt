@@ -1,5 +1,5 @@
 -- The command line, as clap reads it: a subcommand, with its paths and options. Own rule.
-use Rattle.std.specs.Prelude.{ℕ, Bool, true, false, List, [], ◌∷◌, codes, pos, Some}
+use Rattle.std.specs.Prelude.{ℕ, Bool, true, false, List, [], ◌∷◌, codes, map, pos, Some}
 use Rattle.std.specs.List.{fold}
 use Rattle.clap.specs.Words.{App, Rule, Text, new_app, new_rule, with_rule, with_subcommand}
 use Rattle.clap.specs.declared.builder.command.Command.{Command}
@@ -26,6 +26,11 @@ option_rules = number_rule (codes "workers") (codes "4") 1 64
     ∷ number_rule (codes "stack") (codes "1024") 0 65536
     ∷ text_rule (codes "displace") ∷ []
 
+-- the subcommand of a search of one core, or of two
+abbrev pub name_of : Bool → Text
+name_of false = codes "one"
+name_of true = codes "two"
+
 -- the paths of a search of one core, or of two
 abbrev pub path_ids : Bool → List Text
 path_ids false = codes "core" ∷ codes "log" ∷ []
@@ -35,9 +40,9 @@ path_ids true = codes "core1" ∷ codes "log1" ∷ codes "core2" ∷ codes "log2
 abbrev pub with_rules : App → List Rule → App
 with_rules a rules = fold with_rule a rules
 
--- `leak_find one CORE LOG`
-abbrev pub one_line : App
-one_line = with_rules (with_rules (new_app (codes "one")) (path_rule (codes "core") ∷ path_rule (codes "log") ∷ [])) option_rules
+-- `leak_find one CORE LOG`, or `leak_find two CORE1 LOG1 CORE2 LOG2`
+abbrev pub search_line : Bool → App
+search_line two = with_rules (with_rules (new_app (name_of two)) (map path_rule (path_ids two))) option_rules
 
 -- the subcommand has to be named
 abbrev pub naming_subcommand : App → App
@@ -45,7 +50,8 @@ naming_subcommand a = record a { top = record a.top { subcommand_required = true
 
 -- the whole command line
 abbrev pub command_line : App
-command_line = with_subcommand (naming_subcommand (new_app (codes "leak_find"))) one_line.top
+command_line =
+    with_subcommand (with_subcommand (naming_subcommand (new_app (codes "leak_find"))) (search_line false).top) (search_line true).top
 
 -- an argument of the command or of a subcommand counts in each subcommand
 abbrev pub has_globals : Command → Bool

@@ -1,12 +1,12 @@
 -- What a command line asks for, by the subcommand that clap met and the rows that it found there. Own rule.
-use Rattle.std.specs.Prelude.{◌≡◌, ◌≤◌, ◌⊎◌, ℕ, Bool, true, false, List, [], Option, Some, None, map, codes, String, string_bytes, IfSome, IsSome, IsSomeAnd, if◌then◌else◌}
+use Rattle.std.specs.Prelude.{◌≡◌, ◌≤◌, ◌⊎◌, ℕ, Bool, List, [], Option, Some, None, map, codes, String, string_bytes, IfSome, IsSome, IsSomeAnd, if◌then◌else◌}
 use Rattle.std.specs.List.{All}
 use Rattle.std.specs.Str.Parse.{IsNumeral, digits_value, without_leading_plus}
 use Rattle.clap.specs.Words.{Row, Text, first_of, one_of, subcommand_of}
 use Rattle.clap.specs.Faults.{fault_of}
 use Rattle.leak_index.specs.Readings.{listed_by}
 use Rattle.leak_pool.specs.Plan.{IsBetween, Numbers}
-use Rattle.leak_find.specs.CommandLine.{command_line, path_ids}
+use Rattle.leak_find.specs.CommandLine.{command_line, name_of, path_ids}
 use Rattle.leak_find.specs.Displacements.{displace_fault_of, displacements_of}
 use Rattle.leak_find.specs.declared.fault.DisplaceFault.{DisplaceFault}
 use Rattle.leak_find.specs.declared.fault.UsageFault.{UsageFault}
@@ -25,11 +25,6 @@ IsNumberAt rows id n = IsSomeAnd (one_of id rows) (Writes n)
 abbrev pub IsListedBy : Option Text → Option (List ℕ) → Type 0
 IsListedBy None listed = listed ≡ None
 IsListedBy (Some text) listed = (displace_fault_of text ≡ None) × (listed ≡ Some (displacements_of text))
-
--- the subcommand of a search of one core, or of two
-abbrev pub name_of : Bool → Text
-name_of false = codes "one"
-name_of true = codes "two"
 
 -- how many files a search reads
 abbrev pub file_count : Bool → ℕ
@@ -59,9 +54,10 @@ abbrev pub LacksNumber : List Row → Type 0
 LacksNumber rows = (n : Numbers) → IsBetween 1 64 n.workers → IsBetween 1 65536 n.piece → n.stack ≤ 65536
     → IsNumberAt rows (codes "workers") n.workers → IsNumberAt rows (codes "piece") n.piece → IsNumberAt rows (codes "stack") n.stack → ⊥
 
--- the subcommand is not the search of one core, or something that it takes isn't there
+-- the subcommand is neither search, or a path or a number that it takes isn't there
 abbrev pub Lacks : Text → List Row → Type 0
-Lacks name rows = (name ≡ codes "one" → ⊥) ⊎ (((two : Bool) × (name ≡ name_of two) × LacksPath rows two) ⊎ LacksNumber rows)
+Lacks name rows =
+    ((two : Bool) → name ≡ name_of two → ⊥) ⊎ (((two : Bool) × (name ≡ name_of two) × LacksPath rows two) ⊎ LacksNumber rows)
 
 -- the refusal says that arguments are bad, for this reason, or that memory was refused
 abbrev pub IsBadBy : Type 0 → UsageFault → Type 0

@@ -1,11 +1,11 @@
 //! From a command line to what it asks for.
 
-ghost use Rattle.std.specs.Prelude.{◌≡◌, ◌≢◌, ◌<◌, IfOk, IfErr, IfNone, IfSome, OnOk, ℕ, ◌^◌, codes, false, length, map, option_map, string_bytes};
+ghost use Rattle.std.specs.Prelude.{◌≡◌, ◌≢◌, ◌<◌, IfOk, IfErr, IfNone, IfSome, OnOk, ℕ, ◌^◌, Bool, codes, length, map, option_map, string_bytes};
 ghost use Rattle.clap.specs.Words.{first_of, found_of, kind_of, rows_of};
 ghost use Rattle.leak_index.specs.Readings.{listed_by};
-ghost use Rattle.leak_find.specs.CommandLine.{path_ids};
+ghost use Rattle.leak_find.specs.CommandLine.{name_of, path_ids};
 ghost use Rattle.leak_find.specs.Requests.{AreAt, IsBadBy, IsListFaultAt, IsListedBy, IsNumberAt, IsRefusedAt, LacksNumber, LacksPath};
-ghost use Rattle.leak_find.specs.Requests.{IsRequest, IsRequestOf, IsUsageFaultOf, file_count, name_of};
+ghost use Rattle.leak_find.specs.Requests.{IsRequest, IsRequestOf, IsUsageFaultOf, file_count};
 
 use crate::command_line::command;
 use crate::displacements::read_displace;
@@ -30,7 +30,6 @@ pub fn request(alloc: Global, words: &[String]) -> Result<Request, UsageFault>
     requires { 0 < length words.now }
     ensures ok { IfOk result (IsRequestOf (map string_bytes words.now)) }
     ensures files { IfOk result (λ r. length r.paths.items ≡ file_count r.options.two) }
-    ensures one { IfOk result (λ r. r.options.two ≡ false) }
     ensures refused { IfErr result (IsUsageFaultOf (map string_bytes words.now)) }
 {
     let command = command(alloc)?;
@@ -47,7 +46,6 @@ pub fn request(alloc: Global, words: &[String]) -> Result<Request, UsageFault>
 /// The request of the subcommand with the name, where clap found this for it.
 fn request_of(alloc: Global, name: &str, found: &ArgMatches) -> Result<Request, UsageFault>
     ensures ok { IfOk result (IsRequest name.now (rows_of (found_of found.now))) }
-    ensures one { IfOk result (λ r. r.options.two ≡ false) }
     ensures refused { IfErr result (IsRefusedAt name.now (rows_of (found_of found.now))) }
 {
     let Some(two) = is_two(name) else {
@@ -71,13 +69,16 @@ fn request_of(alloc: Global, name: &str, found: &ArgMatches) -> Result<Request, 
     })
 }
 
-/// Whether the subcommand with the name searches two cores: none does so far.
+/// Whether the subcommand with the name searches two cores.
 fn is_two(name: &str) -> Option<bool>
     ensures name { IfSome result (λ two. name.now ≡ name_of two) }
-    ensures one { IfSome result (λ two. two ≡ false) }
-    ensures none { IfNone result (name.now ≡ codes "one" → ⊥) }
+    ensures none { IfNone result ((two : Bool) → name.now ≡ name_of two → ⊥) }
 {
-    if name == "one" { Some(false) } else { None }
+    match name {
+        "one" => Some(false),
+        "two" => Some(true),
+        _ => None,
+    }
 }
 
 /// The ids of the paths, in the order of the files.

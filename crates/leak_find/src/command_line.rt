@@ -1,9 +1,9 @@
 //! The command line, as clap reads it.
 
-ghost use Rattle.std.specs.Prelude.{◌≡◌, IfOk, false, codes};
+ghost use Rattle.std.specs.Prelude.{◌≡◌, IfOk, false, true, codes};
 ghost use Rattle.clap.specs.Words.{app_of, rule_of};
-ghost use Rattle.leak_find.specs.CommandLine.{command_line, has_globals, number_rule, one_line, option_rules};
-ghost use Rattle.leak_find.specs.CommandLine.{path_rule, text_rule, with_rules};
+ghost use Rattle.leak_find.specs.CommandLine.{command_line, has_globals, number_rule, option_rules, path_rule};
+ghost use Rattle.leak_find.specs.CommandLine.{search_line, text_rule, with_rules};
 
 use clap::{Arg, Command};
 use std::alloc::{AllocError, Global};
@@ -14,24 +14,49 @@ const CORE: &str = "An x86-64 ELF core, as the kernel or gcore writes it";
 /// What help says of a log.
 const LOG: &str = "The log that glibc's mtrace wrote of the process";
 
-/// `leak_find`, with a subcommand for the search of one core.
+/// What help says of the first core of two.
+const FIRST_CORE: &str = "An x86-64 ELF core of the process, as the kernel or gcore writes it";
+
+/// What help says of the first log of two.
+const FIRST_LOG: &str = "The log that glibc's mtrace had written by then";
+
+/// What help says of the second core.
+const SECOND_CORE: &str = "A later core of the same process";
+
+/// What help says of the second log.
+const SECOND_LOG: &str = "Its log by then, which begins with LOG1";
+
+/// `leak_find`, with a subcommand for the search of one core and one for that of two.
 pub(crate) fn command<'a>(alloc: Global) -> Result<Command<'a>, AllocError>
     ensures { IfOk result (λ c. app_of c ≡ command_line) }
 {
     let command = Command::new(alloc, "leak_find")
         .about("Lists the blocks of a dead process to which no chain of words leads")
         .subcommand_required(true);
-    command.subcommand(one(alloc)?)
+    command.subcommand(one(alloc)?)?.subcommand(two(alloc)?)
 }
 
 fn one<'a>(alloc: Global) -> Result<Command<'a>, AllocError>
-    ensures line { IfOk result (λ c. app_of c ≡ one_line) }
+    ensures line { IfOk result (λ c. app_of c ≡ search_line false) }
     ensures local { IfOk result (λ c. has_globals c ≡ false) }
 {
     let command = Command::new(alloc, "one")
         .about("Searches a core and its log")
         .arg(path(alloc, "core", "CORE", CORE))?
         .arg(path(alloc, "log", "LOG", LOG))?;
+    with_options(alloc, command)
+}
+
+fn two<'a>(alloc: Global) -> Result<Command<'a>, AllocError>
+    ensures line { IfOk result (λ c. app_of c ≡ search_line true) }
+    ensures local { IfOk result (λ c. has_globals c ≡ false) }
+{
+    let command = Command::new(alloc, "two")
+        .about("Searches a later core and its log, from what an earlier core and its log say")
+        .arg(path(alloc, "core1", "CORE1", FIRST_CORE))?
+        .arg(path(alloc, "log1", "LOG1", FIRST_LOG))?
+        .arg(path(alloc, "core2", "CORE2", SECOND_CORE))?
+        .arg(path(alloc, "log2", "LOG2", SECOND_LOG))?;
     with_options(alloc, command)
 }
 

@@ -61,6 +61,16 @@ fn requests(rt: HostRuntime) -> Result<(), Fail> {
             "a b",
         ),
         (
+            "two a b c d --piece 1 --stack 0",
+            options(true, interior, Plan::new(4, 1, 0)?),
+            "a b c d",
+        ),
+        (
+            "two --workers 2 a b --displace 8,16 c d",
+            options(true, listed, Plan::new(2, 512, 1024)?),
+            "a b c d",
+        ),
+        (
             "one --workers=64 --piece=65536 --stack=65536 -- -a -b",
             options(false, interior, Plan::new(64, 65536, 65536)?),
             "-a -b",
@@ -86,11 +96,15 @@ fn refused_words(rt: HostRuntime) -> Result<(), Fail> {
         "one core.1 trace.log --stack 65537",
         "one core.1 trace.log --stack x",
         "--workers 2 one core.1 trace.log",
-        "two a b c d",
+        "two a b",
+        "two a b c",
+        "two a b c d e",
+        "two a b c d --workers 65",
         "three a b",
         "help",
         "--help",
         "one --help",
+        "two --help",
     ];
     for line in lines {
         let Err(UsageFault::Words(text)) = asked(&rt, line)? else {
@@ -98,6 +112,25 @@ fn refused_words(rt: HostRuntime) -> Result<(), Fail> {
             continue;
         };
         assert!(rt; text.as_str().ends_with('\n'), "{line}: {text}");
+    }
+    Ok(())
+}
+
+#[test]
+fn help_names_the_files(rt: HostRuntime) -> Result<(), Fail> {
+    let cases = [
+        ("one --help", "leak_find one [OPTIONS] <CORE> <LOG>\n"),
+        (
+            "two --help",
+            "leak_find two [OPTIONS] <CORE1> <LOG1> <CORE2> <LOG2>\n",
+        ),
+    ];
+    for (line, usage) in cases {
+        let Err(UsageFault::Words(text)) = asked(&rt, line)? else {
+            assert!(rt; false, "{line}");
+            continue;
+        };
+        assert!(rt; text.as_str().contains(usage), "{line}: {text}");
     }
     Ok(())
 }
