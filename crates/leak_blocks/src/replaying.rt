@@ -8,12 +8,18 @@ ghost use Rattle.leak_blocks.specs.Numbers.{HasBlocks, HaveBlocks, IsMetIn, HasU
 
 use crate::block::Block;
 use crate::live::Live;
+use bumpalo::Bump;
 use leak_mtrace::{Kind, Line, Log};
 use std::alloc::{AllocError, Global};
 use std::collections::BTreeMap;
 
 /// The allocations that no line so far ends: for the start of each, the number of its line, counted from 1.
-type Numbers = BTreeMap<u64, usize>;
+///
+/// Its nodes lie in an arena, since a heap may keep them, once freed, while the blocks are made.
+type Numbers<'a> = BTreeMap<u64, usize, &'a Bump>;
+
+/// What the nodes take for each allocation, where they are as empty as they may be, and a little more.
+const NODE_BYTES: usize = 40;
 
 /// Whether the line allocates a block.
 fn is_allocation(line: &Line) -> bool
@@ -44,7 +50,7 @@ fn block_at(lines: &[Line], number: usize) -> Block
 }
 
 /// The start of the last allocation that this one meets. Those below it end before it begins.
-fn last_met(numbers: &Numbers, lines: &[Line], line: &Line) -> Option<u64>
+fn last_met(numbers: &Numbers<'_>, lines: &[Line], line: &Line) -> Option<u64>
     requires fits { line.now.addr + line.now.size < 2 ^ 64 }
     requires of_lines { HasBlocks lines.now numbers.now.entries }
     ensures { IsMetIn lines.now numbers.now.entries line.now result }
@@ -60,7 +66,7 @@ fn last_met(numbers: &Numbers, lines: &[Line], line: &Line) -> Option<u64>
 }
 
 /// Ends the allocations that this one meets, and counts them.
-fn displace(numbers: &mut Numbers, lines: &[Line], line: &Line) -> u64
+fn displace(numbers: &mut Numbers<'_>, lines: &[Line], line: &Line) -> u64
     requires fits { line.now.addr + line.now.size < 2 ^ 64 }
     requires of_lines { HasBlocks lines.now numbers.old.entries }
     ensures unmet { HasUnmet lines.now numbers.old.entries line.now numbers.new.entries }
@@ -75,13 +81,13 @@ fn displace(numbers: &mut Numbers, lines: &[Line], line: &Line) -> u64
 
 /// A replay between two lines.
 #[derive(Drop)]
-struct Course {
-    numbers: Numbers,
+struct Course<'a> {
+    numbers: Numbers<'a>,
     unknown: u64,
     displaced: u64,
 }
 
-impl Course {
+impl Course<'_> {
     /// Goes over the line of this index, counted from 0.
     fn step(&mut self, lines: &[Line], index: usize) -> Result<(), AllocError>
         requires in_log { index < length lines.now }
@@ -102,9 +108,9 @@ impl Course {
     }
 }
 
-/// The numbers of the lines, by the starts of their blocks. The map's memory is given back.
-fn sorted(alloc: Global, numbers: Numbers) -> Result<Vec<usize>, AllocError>
-    ensures { IfOk result (λ v. v.items ≡ values numbers) }
+/// The numbers of the lines, by the starts of their blocks.
+fn sorted(alloc: Global, numbers: Numbers<'_>) -> Result<Vec<usize>, AllocError>
+    ensures { IfOk result (λ v. v.items ≡ values numbers.entry) }
 {
     numbers.into_values().collect(alloc)
 }
@@ -121,25 +127,39 @@ fn blocks_of(alloc: Global, lines: &[Line], numbers: &[usize]) -> Result<Vec<Blo
     Ok(blocks)
 }
 
+/// An arena with room for the nodes of as many allocations as the log has. Nodes that are made anew may need more.
+fn arena(alloc: Global, lines: &[Line]) -> Result<Bump, AllocError> {
+    let mut allocations = 0usize;
+    for line in lines {
+        allocations = allocations.saturating_add(usize::from(is_allocation(line)));
+    }
+    Bump::try_with_capacity(alloc, allocations.saturating_mul(NODE_BYTES))
+}
+
 /// Goes over all lines.
 fn replay_lines(alloc: Global, lines: &[Line]) -> Result<Live, AllocError>
     requires { LinesFit lines.now }
     ensures { IfOk result (λ live. live ≡ replay_of lines.now) }
 {
-    let mut course = Course {
-        numbers: BTreeMap::new(alloc),
-        unknown: 0,
-        displaced: 0,
+    // the arena is given back before the blocks are made
+    let (numbers, unknown, displaced) = {
+        let arena = arena(alloc, lines)?;
+        let mut course = Course {
+            numbers: BTreeMap::new(&arena),
+            unknown: 0,
+            displaced: 0,
+        };
+        for index in 0..lines.len() {
+            course.step(lines, index)?;
+        }
+        let numbers = sorted(alloc, course.numbers)?;
+        (numbers, course.unknown, course.displaced)
     };
-    for index in 0..lines.len() {
-        course.step(lines, index)?;
-    }
-    let numbers = sorted(alloc, course.numbers)?;
     let blocks = blocks_of(alloc, lines, &numbers)?;
-    Ok(Live::new(blocks, course.unknown, course.displaced))
+    Ok(Live::new(blocks, unknown, displaced))
 }
 
-/// Finds the live blocks of a log, in one pass over its lines.
+/// Finds the live blocks of a log.
 pub fn replay(alloc: Global, log: &Log) -> Result<Live, AllocError>
     ensures { IfOk result (λ live. live ≡ replay_of log.now.lines) }
 {

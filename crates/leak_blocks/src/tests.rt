@@ -1,6 +1,7 @@
 use super::*;
 use leak_mtrace::Log;
 use std::alloc::Global;
+use std::fmt::Write;
 use std::test::Fail;
 
 /// The live blocks of a log, as start, size and line, and how many of its lines are unknown, displaced and torn.
@@ -100,5 +101,38 @@ fn sizes_and_callers(rt: HostRuntime) -> Result<(), Fail> {
     for (block, caller) in live.blocks().iter().zip(callers) {
         assert_eq!(rt; text.get(block.caller.0..block.caller.1), Some(caller));
     }
+    Ok(())
+}
+
+/// The arena of the replay is used up, since nodes are split and merged again and again.
+#[test]
+fn nodes_made_over_and_over(rt: HostRuntime) -> Result<(), Fail> {
+    let mut text = String::new(rt.alloc());
+    for place in 1..=600u64 {
+        write!(text, "+ {:#x} 0x10\n", place * 0x1000)?;
+    }
+    for place in 1..=16u64 {
+        for inner in 1..=7u64 {
+            write!(text, "+ {:#x} 0x10\n", place * 0x8000 + inner * 0x20)?;
+        }
+    }
+    for _ in 0..30u64 {
+        for place in 1..=16u64 {
+            let addr = place * 0x8000;
+            write!(
+                text,
+                "+ {:#x} 0x10\n+ {:#x} 0x10\n",
+                addr + 0x100,
+                addr + 0x120
+            )?;
+        }
+        for place in 1..=16u64 {
+            let addr = place * 0x8000;
+            write!(text, "- {:#x}\n- {:#x}\n", addr + 0x100, addr + 0x120)?;
+        }
+    }
+    let (blocks, counts) = outcome(rt.alloc(), text.as_str())?;
+    assert_eq!(rt; blocks.len(), 600 + 16 * 7);
+    assert_eq!(rt; counts, (0, 0, 0));
     Ok(())
 }
