@@ -1,6 +1,7 @@
 pub mod Accepted
 pub mod Faults
 pub mod Held
+pub mod Holders
 pub mod Kept
 pub mod Meeting
 pub mod Meets

@@ -47,3 +47,15 @@ IsNextHeld segments from (Some next) =
     (from ≤ next) × (next % 8 ≡ 0)
     × ((k : ℕ) × (k < length segments) × ((d : Segment) → holds_word next (slice_index_or segments k d) ≡ true))
     × ((k : ℕ) (d : Segment) (a : ℕ) → k < length segments → from ≤ a → a < next → a % 8 ≡ 0 → holds_word a (slice_index_or segments k d) ≡ false)
+
+-- the first segment from a number on that holds a word, or how many segments there are
+pub record IsHolder (segments : List Segment) (from holder : ℕ) : Type 0 where
+  pub from_on : from ≤ holder
+  pub bound : holder ≤ length segments
+  pub none : (k : ℕ) (d : Segment) (a : ℕ) → from ≤ k → k < holder → a % 8 ≡ 0 → holds_word a (slice_index_or segments k d) ≡ false
+  pub some : (d : Segment) → holder < length segments → (a : ℕ) × (a % 8 ≡ 0) × (holds_word a (slice_index_or segments holder d) ≡ true)
+
+-- that segment's number for each segment
+pub record AreHolders (segments : List Segment) (holders : List ℕ) : Type 0 where
+  pub each : length holders ≡ length segments
+  pub first : (k d : ℕ) → k < length segments → IsHolder segments k (slice_index_or holders k d)

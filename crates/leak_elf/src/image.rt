@@ -5,12 +5,12 @@ ghost use Rattle.leak_elf.specs.declared.segment.Segment.{Segment};
 ghost use Rattle.leak_elf.specs.declared.segment.NotePart.{NotePart};
 ghost use Rattle.leak_elf.specs.Refusals.{fault_of};
 ghost use Rattle.leak_elf.specs.Segments.{segments_of, note_parts_of, undumped_of, bytes_at, AreSegments, AreParts};
-ghost use Rattle.leak_elf.specs.Words.{word_of};
+ghost use Rattle.leak_elf.specs.Words.{word_of, AreHolders};
 
 use crate::error::ElfError;
 use crate::header::read_headers;
 use crate::refusal::{check_file, check_headers};
-use crate::search::{bytes_from, find_next, find_run, find_word, sum_undumped};
+use crate::search::{bytes_from, find_holders, find_next, find_run, find_word, sum_undumped};
 use crate::segment::{NotePart, Segment, kept_parts, kept_segments};
 use crate::words::Words;
 use std::alloc::Global;
@@ -21,6 +21,7 @@ use std::marker::Model;
 pub struct Image<'a> {
     core: &'a [u8],
     segments: Vec<Segment>,
+    holders: Vec<usize>,
     parts: Vec<NotePart>,
 }
 
@@ -33,7 +34,8 @@ impl<'a> Model for Image<'a> {
         × (image.segments.items ≡ segments_of image.core.now)
         × (image.parts.items ≡ note_parts_of image.core.now)
         × AreSegments image.core.now image.segments.items
-        × AreParts image.core.now image.parts.items };
+        × AreParts image.core.now image.parts.items
+        × AreHolders image.segments.items image.holders.items };
 }
 
 impl<'a> Words for Image<'a> {
@@ -48,7 +50,7 @@ impl<'a> Words for Image<'a> {
     }
 
     fn next(&self, from: u64) -> Option<u64> {
-        find_next(self.segments.as_slice(), from)
+        find_next(self.segments.as_slice(), self.holders.as_slice(), from)
     }
 
     #[tactic(auto, unfolding(crate::specs::Words::word_of))]
@@ -70,10 +72,12 @@ impl<'a> Image<'a> {
         let headers = read_headers(alloc, core)?;
         check_headers(alloc, core, headers.as_slice())?;
         let segments = kept_segments(alloc, headers.as_slice())?;
+        let holders = find_holders(alloc, segments.as_slice())?;
         let parts = kept_parts(alloc, headers.as_slice())?;
         Ok(Image {
             core,
             segments,
+            holders,
             parts,
         })
     }

@@ -1,12 +1,13 @@
 //! Binary search over segments by ascending address.
 
-ghost use Rattle.std.specs.Prelude.{◌≡◌, ◌≤◌, ◌+◌, ◌<◌, ◌%◌, ◌^◌, ℕ, length, slice_index_or, IfSome};
+ghost use Rattle.std.specs.Prelude.{◌≡◌, ◌≤◌, ◌+◌, ◌<◌, ◌%◌, ◌^◌, ℕ, [], ◌∷◌, length, slice_index_or, IfSome, IfOk};
 ghost use Rattle.leak_elf.specs.declared.segment.Segment.{Segment};
-ghost use Rattle.leak_elf.specs.Segments.{IsAscending, AreSegments, AreKept, any_meet, lacking, bytes_at};
-ghost use Rattle.leak_elf.specs.Words.{IsRun, word_in, IsNextHeld};
+ghost use Rattle.leak_elf.specs.Segments.{IsAscending, AreSegments, IsKept, AreKept, any_meet, lacking, bytes_at};
+ghost use Rattle.leak_elf.specs.Words.{IsRun, word_in, IsNextHeld, AreHolders};
 
 use crate::fields::u64_at;
 use crate::segment::Segment;
+use std::alloc::{AllocError, Global};
 
 /// How many segments begin at the address or before it.
 pub(crate) fn count_up_to(segments: &[Segment], addr: u64) -> usize
@@ -39,23 +40,55 @@ pub(crate) fn find_word(core: &[u8], segments: &[Segment], addr: u64) -> Option<
     Some(u64_at(core, (segment.offset + (addr - segment.vaddr)) as usize))
 }
 
-/// The least address from `from` on that has a word.
-pub(crate) fn find_next(segments: &[Segment], from: u64) -> Option<u64>
+/// The least address from `from` on whose word the segment holds.
+fn find_next_in(segment: Segment, from: u64) -> Option<u64>
+    requires { IsKept segment }
+    ensures least { IsNextHeld (segment ∷ []) from result }
+    ensures place { IfSome result (λ addr. (addr % 8 ≡ 0) × (addr + 8 ≤ 2 ^ 64)) }
+{
+    let low = from.max(segment.vaddr);
+    let gap = (8 - low % 8) % 8;
+    let end = segment.vaddr + segment.filesz;
+    if end.saturating_sub(low) < gap + 8 {
+        return None;
+    }
+    Some(low + gap)
+}
+
+/// For each segment the number of the first from it on that holds a word. Where none does, it is the number of segments.
+pub(crate) fn find_holders(alloc: Global, segments: &[Segment]) -> Result<Vec<usize>, AllocError>
     requires { AreKept segments.now }
+    ensures { IfOk result (λ v. AreHolders segments.now v.items) }
+{
+    let mut holder = segments.len();
+    let mut holders = vec![in alloc; holder; segments.len()]?;
+    for i in (0..segments.len()).rev() {
+        if find_next_in(segments[i], 0).is_some() {
+            holder = i;
+        }
+        holders[i] = holder;
+    }
+    Ok(holders)
+}
+
+/// The least address from `from` on that has a word.
+///
+/// Segments without a word may stand in long rows, so the first that begins past `from` is not tried: its holder is.
+pub(crate) fn find_next(segments: &[Segment], holders: &[usize], from: u64) -> Option<u64>
+    requires kept { AreKept segments.now }
+    requires holders { AreHolders segments.now holders.now }
     ensures least { IsNextHeld segments.now from result }
     ensures place { IfSome result (λ addr. (addr % 8 ≡ 0) × (addr + 8 ≤ 2 ^ 64)) }
 {
-    let first = count_up_to(segments, from).saturating_sub(1);
-    for i in first..segments.len() {
-        let segment = segments[i];
-        let low = from.max(segment.vaddr);
-        let gap = (8 - low % 8) % 8;
-        let end = segment.vaddr + segment.filesz;
-        if end.saturating_sub(low) >= gap + 8 {
-            return Some(low + gap);
+    let count = count_up_to(segments, from);
+    if count > 0 {
+        let here = find_next_in(segments[count - 1], from);
+        if here.is_some() {
+            return here;
         }
     }
-    None
+    let holder = *holders.get(count)?;
+    find_next_in(*segments.get(holder)?, from)
 }
 
 /// How many bytes the file lacks of the writable segments.

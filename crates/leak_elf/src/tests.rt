@@ -278,6 +278,59 @@ fn many_segments_are_read_in_any_order(rt: HostRuntime) -> Result<(), Fail> {
     Ok(())
 }
 
+/// How often the test of a row asks for each of its segments. If `next` looked at each segment of the row, the test
+/// would run past the minute that it has.
+const ROUNDS: usize = 32;
+
+#[test]
+fn next_skips_a_row_of_undumped_segments(rt: HostRuntime) -> Result<(), Fail> {
+    let mut core = begun(rt.alloc(), 0xfffe)?;
+    for i in 0..0xfffd_u64 {
+        push_header(&mut core, 1, 0, 4096 * i, 0, 4096)?;
+    }
+    let last = 4096 * 0xfffd;
+    push_header(&mut core, 1, 0, last, 8, 4096)?;
+    let image = Image::read(rt.alloc(), core.as_slice())?;
+    for _ in 0..ROUNDS {
+        for i in 0..0xfffe_u64 {
+            assert_eq!(rt; image.next(4096 * i), Some(last), "at page {i}");
+        }
+    }
+    // The word is the first of the file.
+    assert_eq!(rt; image.word(last), Some(0x0001_0102_464c_457f));
+    assert_eq!(rt; image.next(last + 1), None);
+    Ok(())
+}
+
+#[test]
+fn next_skips_segments_of_too_few_bytes(rt: HostRuntime) -> Result<(), Fail> {
+    let mut core = begun(rt.alloc(), 5)?;
+    // Only the second and the fourth have 8 dumped bytes from a multiple of 8 on.
+    for (vaddr, filesz) in [
+        (0x1000, 7),
+        (0x2000, 16),
+        (0x3001, 14),
+        (0x4001, 15),
+        (0x5000, 0),
+    ] {
+        push_header(&mut core, 1, 0, vaddr, filesz, 4096 - 1)?;
+    }
+    let image = Image::read(rt.alloc(), core.as_slice())?;
+    for (from, next) in [
+        (0, Some(0x2000)),
+        (0x1000, Some(0x2000)),
+        (0x2001, Some(0x2008)),
+        (0x2009, Some(0x4008)),
+        (0x3008, Some(0x4008)),
+        (0x4008, Some(0x4008)),
+        (0x4009, None),
+        (0x5000, None),
+    ] {
+        assert_eq!(rt; image.next(from), next, "from {from}");
+    }
+    Ok(())
+}
+
 #[test]
 fn texts_of_errors(rt: HostRuntime) -> Result<(), Fail> {
     let rows = [
