@@ -1,5 +1,5 @@
 -- Kept and absent blocks.
-use Rattle.std.proofs.Common.{◌≡◌, ℕ, zero, suc, ◌+◌, ◌<◌, ◌≤◌, Bool, true, false, not, ◌||◌, ◌==◌, inl, inr, refl, sym, subst, ap, ◌∙◌, true≢false, List, [], ◌∷◌, Some, slice_get, length, arith, eq-eqb}
+use Rattle.std.proofs.Common.{◌≡◌, ℕ, zero, suc, ◌<◌, Bool, true, false, not, ◌||◌, ◌==◌, inl, inr, refl, sym, subst, ap, ◌∙◌, true≢false, List, [], ◌∷◌, Some, slice_get, length, arith, eq-eqb}
 use Rattle.std.specs.List.Sorted.{IsStrictlyIncreasing}
 use Rattle.leak_blocks.specs.declared.block.Block.{Block}
 use Rattle.leak_blocks.specs.Laws.{IsIn}

@@ -1,11 +1,9 @@
 -- Counting words.
-use Rattle.std.proofs.Common.{◌≡◌, ℕ, zero, suc, ◌+◌, ◌-◌, ◌*◌, ◌/◌, ◌%◌, ◌<◌, ◌≤◌, Bool, true, false, refl, sym, subst, ap, ◌∙◌, List, [], ◌∷◌, ◌++◌, length, Option, Some, None, IsSome, arith, true≢false, min, filter_map, if◌then◌else◌, length-append}
+use Rattle.std.proofs.Common.{◌≡◌, ℕ, zero, suc, ◌+◌, ◌-◌, ◌*◌, ◌%◌, ◌<◌, ◌≤◌, Bool, true, false, refl, sym, subst, ap, ◌∙◌, List, ◌++◌, length, Option, Some, None, IsSome, arith, true≢false, min, filter_map, if◌then◌else◌, length-append}
 use Rattle.std.specs.List.{cons_option, range_with_len}
-use Rattle.std.specs.Int.{w64}
-use Rattle.leak_elf.specs.Fields.{number_at}
 use Rattle.leak_elf.specs.Words.{IsRun, places}
 use Rattle.leak_scan.specs.Places.{words_from}
-use Rattle.leak_scan.proofs.Ranges.{IsAligned, nothing_in, no_addresses, same_range, skip, one_word, agreeing, split}
+use Rattle.leak_scan.proofs.Ranges.{IsAligned, nothing_in, same_range, skip, one_word, agreeing, split}
 use Rattle.leak_scan.proofs.Advance.{filtered}
 use Rattle.leak_scan.specs.Targets.{is_on, block_words_on}
 use Rattle.leak_scan.specs.Windows.{IsWindowAt}

@@ -1,5 +1,5 @@
 -- Pages that differ, by their words.
-use Rattle.std.proofs.Common.{◌≡◌, ◌≢◌, ℕ, zero, suc, ◌+◌, ◌-◌, ◌*◌, ◌/◌, ◌%◌, ◌<◌, ◌≤◌, Bool, true, false, not, ◌||◌, ◌==◌, ⊎_elim, refl, sym, subst, ap, ◌∙◌, true≢false, List, [], ◌∷◌, length, Option, Some, None, IsSome, arith, ne_eqb, eq-eqb}
+use Rattle.std.proofs.Common.{◌≡◌, ◌≢◌, ℕ, ◌+◌, ◌-◌, ◌*◌, ◌/◌, ◌%◌, ◌<◌, ◌≤◌, Bool, true, false, not, ◌||◌, ◌==◌, ⊎_elim, refl, sym, subst, ap, ◌∙◌, true≢false, List, [], ◌∷◌, length, Option, Some, None, IsSome, arith, ne_eqb, eq-eqb}
 use mathlib.Core.Logic.{dite}
 use native.Mathlib.Decide.{ℕ_discrete}
 use Rattle.std.specs.List.{list_any, range_with_len}

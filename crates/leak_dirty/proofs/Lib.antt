@@ -7,3 +7,4 @@ pub mod PieceLemmas
 pub mod StartLemmas
 pub mod CountLemmas
 pub mod SizeLemmas
+pub mod ByteLemmas

@@ -5,7 +5,7 @@ use Rattle.std.specs.List.Sorted.{IsNonDecreasing, IsBinarySearchResult}
 use Rattle.std.specs.Ordering.{nat_cmp}
 use Rattle.std.specs.declared.result.Result.{Result}
 use Rattle.std.specs.Prelude.{Ok, Err}
-use Rattle.std.specs.Result.{is_ok, MatchResult}
+use Rattle.std.specs.Result.{is_ok}
 use Rattle.std.proofs.lemmas.List.Sorted.{searched}
 use Rattle.leak_blocks.specs.declared.block.Block.{Block}
 use Rattle.leak_dirty.specs.Kept.{has_line, has_marked_line}

@@ -1,5 +1,5 @@
 -- The numbers of the blocks that pass a test.
-use Rattle.std.proofs.Common.{◌≡◌, ℕ, zero, suc, ◌+◌, ◌<◌, ◌≤◌, Bool, true, false, not, ◌&&◌, inl, inr, refl, sym, subst, ap, ◌∙◌, true≢false, ◌==◌, List, [], ◌∷◌, ◌++◌, Option, Some, None, length, take, get_or, slice_get, slice_index, arith, if◌then◌else◌, eq-eqb, add-one, append-nil}
+use Rattle.std.proofs.Common.{◌≡◌, ℕ, zero, suc, ◌+◌, ◌<◌, ◌≤◌, Bool, true, false, ◌&&◌, inl, inr, refl, sym, subst, ap, ◌∙◌, true≢false, ◌==◌, List, [], ◌∷◌, ◌++◌, Option, Some, None, length, take, get_or, slice_get, slice_index, arith, if◌then◌else◌, eq-eqb, add-one, append-nil}
 use Rattle.std.specs.Prelude.{⊤}
 use Rattle.std.specs.List.Sorted.{IsStrictlyIncreasing}
 use Rattle.leak_blocks.specs.declared.block.Block.{Block}
@@ -8,7 +8,7 @@ use Rattle.leak_index.specs.Hits.{hits_from}
 use Rattle.leak_marks.specs.Lists.{Has}
 use Rattle.leak_marks.proofs.BoolLemmas.{same_number}
 use Rattle.leak_marks.proofs.ListLemmas.{none_has, here, there, at_head}
-use Rattle.leak_dirty.specs.Kept.{numbers_from, has_line, has_marked_line}
+use Rattle.leak_dirty.specs.Kept.{numbers_from, has_marked_line}
 
 pub some_same : {A : Type 0} (x y : A) → Some x ≡ Some y → x ≡ y
 some_same x y e = cc

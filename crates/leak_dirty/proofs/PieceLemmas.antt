@@ -1,11 +1,13 @@
 -- Pieces of pages.
-use Rattle.std.proofs.Common.{◌≡◌, ℕ, zero, suc, ◌+◌, ◌-◌, ◌*◌, ◌<◌, ◌≤◌, Bool, true, false, cond, refl, sym, subst, ap, ◌∙◌, List, [], ◌∷◌, ◌++◌, filter, flat_map, arith, append-nil, if◌then◌else◌, ⊎_elim, ◌^◌, Option, None, nat_lt, ltb→lt, nltb→le, length, map, Vec, Global, Bor, Ok, Err}
+use Rattle.std.proofs.Common.{◌≡◌, ℕ, zero, suc, ◌+◌, ◌-◌, ◌*◌, ◌<◌, ◌≤◌, Bool, true, false, cond, refl, sym, subst, ap, ◌∙◌, List, [], ◌∷◌, ◌++◌, filter, flat_map, arith, append-nil, append_assoc, if◌then◌else◌, ⊎_elim, ◌^◌, Option, None, nat_lt, ltb→lt, nltb→le, map, Vec, Global, Bor, Ok, Err}
 use Rattle.std.specs.Prelude.{IfOk}
 use Rattle.std.specs.Result.{MatchResult}
 use Rattle.std.specs.declared.result.Result.{Result}
 use Rattle.std.specs.declared.alloc.AllocError.{AllocError}
 use Rattle.std.specs.Bool.{passes, fails}
 use Rattle.std.specs.List.{range_with_len, All, AllZip}
+use Rattle.std.proofs.lemmas.List.Elements.{filter-append}
+use Rattle.rayon.specs.Shown.{run-append}
 use Rattle.leak_marks.specs.Lists.{Has}
 use Rattle.leak_marks.proofs.ListLemmas.{none_has, has_front, has_back, of_append}
 use Rattle.leak_marks.proofs.ElementLemmas.{has_filter, of_filter}
@@ -29,19 +31,32 @@ filter_next p a (suc n) = go (p a)
     go false e = e
 
 -- the list with the next page, where it passes
-pub filter_more : (p : ℕ → Bool) (from page : ℕ) (pages longer : List ℕ) (t : Bool) → from ≤ page → pages ≡ filter p (range_with_len from (page - from)) → t ≡ p page →
-    longer ≡ (if t then pages ++ page ∷ [] else pages) → longer ≡ filter p (range_with_len from (page + 1 - from))
-filter_more p from page pages longer t h so_far is e =
+pub filter_more : (p : ℕ → Bool) (from n page : ℕ) (found pages longer : List ℕ) (t : Bool) → page ≡ from + n → pages ≡ found ++ filter p (range_with_len from n) → t ≡ p page →
+    longer ≡ (if t then pages ++ page ∷ [] else pages) → longer ≡ found ++ filter p (range_with_len from (n + 1))
+filter_more p from n page found pages longer t place so_far is e =
     e ∙ joined t
     ∙ ap (λ (xs : List ℕ). xs ++ (if t then page ∷ [] else [])) so_far
-    ∙ ap (λ (u : Bool). filter p (range_with_len from (page - from)) ++ (if u then page ∷ [] else [])) is
-    ∙ ap (λ (m : ℕ). filter p (range_with_len from (page - from)) ++ (if p m then m ∷ [] else [])) (let z : page ≡ from + (page - from) = omega arith in z)
-    ∙ sym (filter_next p from (page - from))
-    ∙ ap (λ (n : ℕ). filter p (range_with_len from n)) (let z : suc (page - from) ≡ page + 1 - from = omega arith in z)
+    ∙ append_assoc found (filter p (range_with_len from n)) (if t then page ∷ [] else [])
+    ∙ ap (λ (u : Bool). found ++ (filter p (range_with_len from n) ++ (if u then page ∷ [] else []))) is
+    ∙ ap (λ (m : ℕ). found ++ (filter p (range_with_len from n) ++ (if p m then m ∷ [] else []))) place
+    ∙ ap (λ (xs : List ℕ). found ++ xs) (sym (filter_next p from n))
+    ∙ ap (λ (m : ℕ). found ++ filter p (range_with_len from m)) (let z : suc n ≡ n + 1 = omega arith in z)
   where
     joined : (u : Bool) → (if u then pages ++ page ∷ [] else pages) ≡ pages ++ (if u then page ∷ [] else [])
     joined true = refl
     joined false = sym (append-nil pages)
+
+-- the pages that pass of two stretches, one behind the other
+pub filter_join : (p : ℕ → Bool) (from page next : ℕ) (pages longer : List ℕ) → from ≤ page → page ≤ next → pages ≡ filter p (range_with_len from (page - from)) →
+    longer ≡ pages ++ filter p (range_with_len page (next - page)) → longer ≡ filter p (range_with_len from (next - from))
+filter_join p from page next pages longer low high so_far e =
+    let place : page ≡ from + (page - from) = omega arith in
+    let count : page - from + (next - page) ≡ next - from = omega arith in
+    e ∙ ap (λ (xs : List ℕ). xs ++ filter p (range_with_len page (next - page))) so_far
+    ∙ sym (filter-append p (range_with_len from (page - from)) (range_with_len page (next - page)))
+    ∙ ap (λ (a : ℕ). filter p (range_with_len from (page - from) ++ range_with_len a (next - page))) place
+    ∙ ap (filter p) (run-append from (page - from) (next - page))
+    ∙ ap (λ (n : ℕ). filter p (range_with_len from n)) count
 
 -- ---- the pages of pieces that cover a core's words
 

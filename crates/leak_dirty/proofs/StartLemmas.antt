@@ -1,6 +1,6 @@
 -- Marking from kept and fresh blocks, by what their words lead to.
-use Rattle.std.proofs.Common.{◌≡◌, ◌↔◌, ◌⊎◌, ℕ, zero, suc, ◌+◌, ◌-◌, ◌<◌, ◌≤◌, Bool, true, false, inl, inr, ⊎_elim, refl, sym, subst, ap, ◌∙◌, List, [], ◌∷◌, ◌++◌, length, map, get_or, filter, flat_map, filter_map, Option, Some, None, slice_get, arith, IsPermutation, ◌==◌, append-nil}
-use Rattle.std.specs.List.{range_with_len, AllByRecursion}
+use Rattle.std.proofs.Common.{◌≡◌, ◌↔◌, ◌⊎◌, ℕ, zero, suc, ◌+◌, ◌-◌, ◌<◌, ◌≤◌, Bool, inl, inr, ⊎_elim, refl, sym, subst, ap, ◌∙◌, List, [], ◌∷◌, ◌++◌, length, map, get_or, filter, flat_map, Option, Some, None, slice_get, arith, IsPermutation, ◌==◌, append-nil}
+use Rattle.std.specs.List.{AllByRecursion}
 use Rattle.std.specs.Option.{option_map_or}
 use Rattle.std.proofs.lemmas.List.Sorted.{list_any-IsPermutation}
 use Rattle.std.proofs.lemmas.Grind.{flat_map-append}
@@ -10,8 +10,8 @@ use Rattle.leak_index.specs.Hits.{Index, hits_of}
 use Rattle.leak_scan.specs.Targets.{block_words, block_words_on, block_targets, targets_of, page_of, is_on}
 use Rattle.leak_scan.proofs.Ahead.{targets_append}
 use Rattle.leak_roots.specs.Places.{Places, words_at}
-use Rattle.leak_marks.specs.Lists.{Has, has}
-use Rattle.leak_marks.specs.Reach.{Graph, Reach}
+use Rattle.leak_marks.specs.Lists.{Has}
+use Rattle.leak_marks.specs.Reach.{Reach}
 use Rattle.leak_marks.specs.Retraces.{whole_graph, retrace_graph, AreEnough, RetraceIsWhole}
 use Rattle.leak_marks.specs.Partition.{Partitions}
 use Rattle.leak_marks.proofs.ListLemmas.{none_has, here, there, at_head, has_front, has_back, of_append, has_or_not, to_has, of_has}
@@ -21,13 +21,11 @@ use Rattle.leak_marks.proofs.PartitionLemmas.{partition_same}
 use Rattle.leak_pool.specs.declared.start.Part.{Part}
 use Rattle.leak_pool.specs.declared.start.Part.TheVariants.{Whole, Differing}
 use Rattle.leak_pool.specs.declared.start.Start.{Start}
-use Rattle.leak_pool.specs.declared.marked.Marked.{Marked}
-use Rattle.leak_pool.specs.Marking.{graph_of, graph_from, part_words, words_of_part, IsSet, MarksFrom, IsStartOf, lists_of}
+use Rattle.leak_pool.specs.Marking.{graph_of, graph_from, part_words, words_of_part, IsSet, IsStartOf}
 use Rattle.leak_dirty.specs.declared.kept.Carry.{Carry}
 use Rattle.leak_dirty.specs.Kept.{IsCarry}
 use Rattle.leak_dirty.specs.Retrace.{graph_of_two, OthersLeadWithin, IsStartWith}
-use Rattle.leak_dirty.proofs.NumberLemmas.{some_same, not_some, inside}
-use Rattle.leak_dirty.proofs.WordLemmas.{has_range, of_range, has_filter_map, of_filter_map, has_flat, map_at}
+use Rattle.leak_dirty.proofs.WordLemmas.{of_range, has_filter_map, of_filter_map, has_flat, map_at}
 
 -- ---- the start's blocks
 

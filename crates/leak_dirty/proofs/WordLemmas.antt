@@ -1,5 +1,5 @@
 -- Words of blocks, on pages that differ and on others.
-use Rattle.std.proofs.Common.{◌≡◌, ℕ, zero, suc, ◌+◌, ◌-◌, ◌*◌, ◌<◌, ◌≤◌, Bool, true, false, not, ◌||◌, ◌==◌, inl, inr, ⊎_elim, refl, sym, subst, ap, ◌∙◌, true≢false, List, [], ◌∷◌, length, map, get_or, Option, Some, None, slice_get, filter_map, flat_map, arith, eq-eqb}
+use Rattle.std.proofs.Common.{◌≡◌, ℕ, zero, suc, ◌+◌, ◌-◌, ◌*◌, ◌<◌, ◌≤◌, Bool, true, false, not, ◌||◌, ◌==◌, ⊎_elim, refl, sym, subst, ap, ◌∙◌, true≢false, List, [], ◌∷◌, map, get_or, Option, Some, None, slice_get, filter_map, flat_map, arith, eq-eqb}
 use Rattle.std.specs.List.{list_any, range_with_len, cons_option}
 use Rattle.leak_elf.specs.Words.{places, words_between}
 use Rattle.leak_blocks.specs.declared.block.Block.{Block}

@@ -1,5 +1,5 @@
 //! Comparing two cores page by page. No other file of the crate starts threads.
-ghost use Rattle.std.specs.Prelude.{◌≡◌, ◌+◌, ◌-◌, ◌*◌, ◌<◌, ◌≤◌, ◌^◌, ◌≢◌, ℕ, length, filter, flat_map, IfOk, IsTrue, IsFalse};
+ghost use Rattle.std.specs.Prelude.{◌≡◌, ◌+◌, ◌-◌, ◌*◌, ◌<◌, ◌≤◌, ◌^◌, ◌≢◌, ◌++◌, ℕ, length, filter, flat_map, IfOk, IsTrue, IsFalse};
 ghost use Rattle.std.specs.Int.{w64};
 ghost use Rattle.std.specs.List.{range_with_len};
 ghost use Rattle.leak_elf.specs.Fields.{number_at};
@@ -7,7 +7,6 @@ ghost use Rattle.leak_elf.specs.Words.{word_of};
 ghost use Rattle.leak_dirty.specs.Differing.{is_changed as changed, differs, AreDiffering};
 ghost use Rattle.leak_dirty.specs.Pieces.{IsCover};
 
-use byteorder::{ByteOrder, LittleEndian};
 use leak_elf::{Image, Words};
 use leak_scan::Pages;
 use rayon::prelude::*;
@@ -41,42 +40,48 @@ fn words_differ(first: &Image, second: &Image, page: u64) -> bool
     false
 }
 
-/// The word whose bytes stand from the place on.
-#[tactic(auto, unfolding(leak_elf::specs::Fields::number_at))]
-fn word_in(bytes: &[u8], at: usize) -> u64
-    requires { at + 8 ≤ length bytes.now }
-    ensures { result ≡ number_at w64 bytes.now at }
-{
-    LittleEndian::read_u64(&bytes[at..at + 8])
-}
-
-/// Compares the first 512 words of two runs.
+/// Compares the first page of two runs.
 fn runs_differ(before: &[u8], now: &[u8]) -> bool
     requires before { 4096 ≤ length before.now }
     requires now { 4096 ≤ length now.now }
     ensures differ { IsTrue result → (k : ℕ) × (k < 512) × (number_at w64 before.now (8 * k) ≢ number_at w64 now.now (8 * k)) }
     ensures same { IsFalse result → (k : ℕ) → k < 512 → number_at w64 before.now (8 * k) ≡ number_at w64 now.now (8 * k) }
 {
-    for k in 0..512 {
-        if word_in(before, 8 * k) != word_in(now, 8 * k) {
-            return true;
-        }
-    }
-    false
+    before[..4096] != now[..4096]
 }
 
-/// Whether the page differs. Where both cores have it in one run, that is read; else it is asked word by word, as at
-/// the edges of segments.
-fn page_differs(first: &Image, second: &Image, page: u64) -> bool
-    requires { page < 2 ^ 52 }
-    ensures { result ≡ differs (word_of first.now) (word_of second.now) page }
+/// Adds the pages that differ, of those from the page on that both cores have whole, each in one run, or of this page
+/// alone. Gives the first page that was not looked at.
+///
+/// A page that no run holds whole is asked word by word, as at the edges of segments.
+fn push_differing(
+    pages: &mut Vec<u64>,
+    first: &Image,
+    second: &Image,
+    page: u64,
+    to: u64,
+) -> Result<u64, AllocError>
+    requires some { page < to }
+    requires end { to ≤ 2 ^ 52 }
+    ensures { IfOk result (λ next. (page < next) × (next ≤ to)
+        × (pages.new.items ≡ pages.old.items ++ filter (differs (word_of first.now) (word_of second.now)) (range_with_len page (next - page)))) }
 {
     let before = first.run(4096 * page);
     let now = second.run(4096 * page);
-    if before.len() >= 4096 && now.len() >= 4096 {
-        return runs_differ(before, now);
+    let whole = before.len().min(now.len()) / 4096;
+    if whole == 0 {
+        if words_differ(first, second, page) {
+            pages.push(page)?;
+        }
+        return Ok(page + 1);
     }
-    words_differ(first, second, page)
+    let count = whole.min((to - page) as usize);
+    for k in 0..count {
+        if runs_differ(&before[4096 * k..], &now[4096 * k..]) {
+            pages.push(page + k as u64)?;
+        }
+    }
+    Ok(page + count as u64)
 }
 
 /// The pages that differ, of those from the first up to the end, which is excluded.
@@ -91,10 +96,9 @@ fn differing_in(
     ensures { IfOk result (λ v. v.items ≡ filter (differs (word_of first.now) (word_of second.now)) (range_with_len from (to - from))) }
 {
     let mut pages = Vec::new(alloc);
-    for page in from..to {
-        if page_differs(first, second, page) {
-            pages.push(page)?;
-        }
+    let mut page = from;
+    while page < to {
+        page = push_differing(&mut pages, first, second, page, to)?;
     }
     Ok(pages)
 }

@@ -1,4 +1,4 @@
-use Rattle.std.proofs.Common.{◌≡◌, ◌∙◌, ap, sym, ◌==◌, ℕ, List, Bool, true, false, arith, refl, length, if◌then◌else◌, [], ◌∷◌, ◌++◌, ◌<◌, take}
+use Rattle.std.proofs.Common.{◌∙◌, ap, sym, ◌==◌, ℕ, List, Bool, arith, length, ◌<◌, take}
 use Rattle.std.specs.List.{list_any}
 use Rattle.std.proofs.lemmas.List.{take_all}
 use Rattle.std.proofs.lemmas.List.Sorted.{IsNonDecreasingBy-from_sort, list_any-IsPermutation}

@@ -1,6 +1,6 @@
-use Rattle.std.proofs.Common.{◌≡◌, ◌∙◌, ap, sym, subst, ℕ, List, flat_map, true≢false}
+use Rattle.std.proofs.Common.{◌≡◌, ◌∙◌, ap, sym, flat_map, true≢false}
 use Rattle.leak_elf.specs.Words.{word_of}
-use Rattle.leak_dirty.specs.Differing.{differs, AreDiffering}
+use Rattle.leak_dirty.specs.Differing.{differs}
 use Rattle.leak_dirty.proofs.PieceLemmas.{passing, cover_bounds, passing_found, are_differing}
 use Rattle.leak_dirty.proofs.comparing.differing.Goals as goal
 

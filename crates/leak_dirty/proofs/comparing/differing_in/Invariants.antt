@@ -6,6 +6,10 @@ use Rattle.leak_dirty.proofs.comparing.differing_in.Given as goal
 
 abbrev pub invariant-loop-page : goal.invariant-loop-page
 invariant-loop-page l = record {
-  order : l.page ≤ max l.from l.to;
+  low : l.from ≤ l.page;
+  high : l.page ≤ max l.from l.to;
   pages : l.pages.items ≡ filter (differs (word_of l.first) (word_of l.second)) (range_with_len l.from (l.page - l.from));
 }
+
+abbrev pub decreases-loop-page : goal.decreases-loop-page
+decreases-loop-page l = l.to - l.page

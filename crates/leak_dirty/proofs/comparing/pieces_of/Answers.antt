@@ -1,4 +1,4 @@
-use Rattle.std.proofs.Common.{◌≡◌, ℕ, ◌*◌, List, [], subst, append-nil, arith}
+use Rattle.std.proofs.Common.{ℕ, List, [], subst, append-nil, arith}
 use Rattle.leak_elf.specs.Words.{word_of}
 use Rattle.leak_dirty.specs.Pieces.{IsCover}
 use Rattle.leak_dirty.proofs.comparing.pieces_of.Goals as goal

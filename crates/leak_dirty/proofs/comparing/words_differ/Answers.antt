@@ -1,4 +1,4 @@
-use Rattle.std.proofs.Common.{◌≡◌, ◌∙◌, ap, sym, ℕ, ◌+◌, ◌*◌, ◌<◌, Option, arith}
+use Rattle.std.proofs.Common.{◌∙◌, ap, sym, ℕ, ◌+◌, ◌*◌, ◌<◌, Option, arith}
 use Rattle.leak_elf.specs.Words.{word_of}
 use Rattle.leak_elf.specs.Aligned.{aligned_words}
 use Rattle.leak_dirty.specs.Differing.{is_changed}

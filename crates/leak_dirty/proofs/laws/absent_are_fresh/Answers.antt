@@ -1,12 +1,11 @@
 -- A line of the earlier log that is live in the later one was live in the earlier.
-use Rattle.std.proofs.Common.{◌≡◌, ℕ, ◌+◌, ◌<◌, ◌≤◌, Bool, true, false, not, ◌||◌, ◌⊎◌, inl, inr, refl, sym, subst, ap, ◌∙◌, true≢false, ◌==◌, List, [], ◌∷◌, ◌++◌, length, arith, nat_lt, ltb→lt, nltb→le, if◌then◌else◌}
+use Rattle.std.proofs.Common.{◌≡◌, ℕ, ◌+◌, Bool, true, false, not, inl, inr, refl, sym, ap, ◌∙◌, true≢false, List, [], ◌∷◌, ◌++◌, length, arith, nat_lt, ltb→lt, nltb→le, if◌then◌else◌}
 use Rattle.std.specs.Bool.{passes, fails}
 use Rattle.leak_mtrace.specs.declared.line.Line.{Line}
 use Rattle.leak_blocks.specs.declared.block.Block.{Block}
 use Rattle.leak_blocks.specs.Laws.{IsIn}
 use Rattle.leak_blocks.specs.Live.{live_of}
 use Rattle.leak_blocks.proofs.LiveLemmas.{of_live, within_log, were_live}
-use Rattle.leak_marks.proofs.BoolLemmas.{same_number}
 use Rattle.leak_dirty.specs.Kept.{numbers_from, has_line, absent_of, fresh_of}
 use Rattle.leak_dirty.proofs.CarryLemmas.{of_line, to_line}
 use Rattle.leak_dirty.proofs.laws.absent_are_fresh.Goals as goal

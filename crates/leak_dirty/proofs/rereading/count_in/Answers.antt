@@ -1,4 +1,4 @@
-use Rattle.std.proofs.Common.{◌≡◌, ℕ, ◌+◌, ◌-◌, ◌*◌, ◌/◌, ◌≤◌, ◌<◌, max, min, length, arith}
+use Rattle.std.proofs.Common.{◌≡◌, ℕ, ◌+◌, ◌-◌, ◌*◌, ◌≤◌, length, arith}
 use Rattle.leak_scan.specs.Places.{words_from}
 use Rattle.leak_dirty.proofs.CountLemmas.{few_words, count_on_from, count_ends, found_words}
 use Rattle.leak_dirty.proofs.rereading.count_in.Goals as goal

@@ -1,4 +1,4 @@
-use Rattle.std.proofs.Common.{◌≡◌, ◌∙◌, ap, sym, subst, ℕ, List, length}
+use Rattle.std.proofs.Common.{◌∙◌, ap, sym, subst, ℕ, List, length}
 use Rattle.leak_blocks.specs.declared.block.Block.{Block}
 use Rattle.leak_pool.specs.Marking.{lists_of}
 use Rattle.leak_dirty.specs.Kept.{IsCarry}
