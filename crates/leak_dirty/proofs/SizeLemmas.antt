@@ -81,7 +81,7 @@ module _ (f : ℕ → Option ℕ) (pages : List ℕ) (blocks : List Block) where
   unfolding reread_of
   reread_none = refl
 
-  pub at_block : (bs : List Block) (n : ℕ) (d : Block) → n < length bs → slice_get bs n ≡ Some (get_or bs n d)
+  at_block : (bs : List Block) (n : ℕ) (d : Block) → n < length bs → slice_get bs n ≡ Some (get_or bs n d)
   at_block [] n d h = absurd (omega arith)
   at_block (b ∷ bs) zero d h = refl
   at_block (b ∷ bs) (suc n) d h = at_block bs n d (omega arith)
