@@ -55,7 +55,8 @@ fn find_next_in(segment: Segment, from: u64) -> Option<u64>
     Some(low + gap)
 }
 
-/// For each segment the number of the first from it on that holds a word. Where none does, it is the number of segments.
+/// For each segment the number of the first from it on that holds a word, or how many segments there
+/// are where none does.
 pub(crate) fn find_holders(alloc: Global, segments: &[Segment]) -> Result<Vec<usize>, AllocError>
     requires { AreKept segments.now }
     ensures { IfOk result (λ v. AreHolders segments.now v.items) }
@@ -73,7 +74,8 @@ pub(crate) fn find_holders(alloc: Global, segments: &[Segment]) -> Result<Vec<us
 
 /// The least address from `from` on that has a word.
 ///
-/// Segments without a word may stand in long rows, so the first that begins past `from` is not tried: its holder is.
+/// Of the segments that begin up to `from` only the last can hold it. Those behind are not gone over,
+/// since tens of thousands in a row may hold no word.
 pub(crate) fn find_next(segments: &[Segment], holders: &[usize], from: u64) -> Option<u64>
     requires kept { AreKept segments.now }
     requires holders { AreHolders segments.now holders.now }

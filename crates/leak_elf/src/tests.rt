@@ -278,8 +278,8 @@ fn many_segments_are_read_in_any_order(rt: HostRuntime) -> Result<(), Fail> {
     Ok(())
 }
 
-/// How often the test of a row asks for each of its segments. If `next` looked at each segment of the row, the test
-/// would run past the minute that it has.
+/// How often the test of a row of segments asks for each. If `next` went over the row each time, the
+/// test would run past the minute that it has.
 const ROUNDS: usize = 32;
 
 #[test]
