@@ -68,6 +68,7 @@ pub(crate) fn by_workers<R: Threads + Sync, S: Source + Sync, G: Gate + Sync>(
     requires blocks { marks.now.blocks ≡ length (S.targets source.now) }
     requires items { All (IsItem (S.roots source.now) (S.targets source.now)) items.now }
     requires sound { IsSound seat }
+    requires whole { seat.share ≡ 4294967296 }
     requires some { 0 < workers }
     requires few { workers ≤ 64 }
     requires steps { length steps.old.items ≡ workers }

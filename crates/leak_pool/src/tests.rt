@@ -74,6 +74,19 @@ fn two_apart(alloc: Global) -> Result<Sample, Fail> {
     Ok(Sample { words, log })
 }
 
+/// Two blocks that root words lead to, and one that the second of them leads to.
+fn lead_of_the_second(alloc: Global) -> Result<Sample, Fail> {
+    let mut words = Vec::new(alloc);
+    let mut log = String::new(alloc);
+    words.push((0x10008, 0x10100))?;
+    words.push((0x10010, 0x10200))?;
+    words.push((0x10200, 0x10300))?;
+    add_block(&mut log, 0x10100, 0x20)?;
+    add_block(&mut log, 0x10200, 0x10)?;
+    add_block(&mut log, 0x10300, 0x10)?;
+    Ok(Sample { words, log })
+}
+
 /// The sample core with the words set.
 fn core_of(alloc: Global, words: &[(u64, u64)]) -> Result<Vec<u8>, Fail> {
     let mut core = core_k(alloc, &[])?;
@@ -201,6 +214,47 @@ fn workers_mark_a_star(rt: HostRuntime) -> Result<(), Fail> {
             assert_eq!(rt; marked.rounds, 4);
         }
     }
+    Ok(())
+}
+
+/// Sums up one more than the step of each pass, for each of four workers.
+#[derive(Drop)]
+struct Passes {
+    of: [AtomicU64; 4],
+}
+
+impl Gate for Passes {
+    fn pass(&self, worker: u32, step: u64) {
+        if let Some(passes) = self.of.get(worker as usize) {
+            passes.fetch_add(step.wrapping_add(1), Ordering::SeqCst);
+        }
+    }
+}
+
+#[test]
+fn an_item_alone_is_that_of_the_last_worker(rt: HostRuntime) -> Result<(), Fail> {
+    let sample = lead_of_the_second(rt.alloc())?;
+    let gate = Passes {
+        of: [
+            AtomicU64::new(0),
+            AtomicU64::new(0),
+            AtomicU64::new(0),
+            AtomicU64::new(0),
+        ],
+    };
+    let plan = Plan::new(4, 65_536, 0)?;
+    let marked = by_workers(&rt, rt.alloc(), &sample, plan, &gate)?;
+    // The registers and four ranges of memory are the first round's items: one for each worker, two for the last.
+    let steps = [1, 1, 1, 1 + 2 + 3];
+    for (passes, expected) in gate.of.iter().zip(steps) {
+        assert_eq!(rt; passes.load(Ordering::SeqCst), expected);
+    }
+    assert_eq!(rt; marked.claims.len(), 4);
+    let claims: [&[u32]; 4] = [&[], &[0, 1], &[], &[2]];
+    for (list, expected) in marked.claims.iter().zip(claims) {
+        assert_eq!(rt; list.as_slice(), expected);
+    }
+    assert_eq!(rt; marked.rounds, 3);
     Ok(())
 }
 

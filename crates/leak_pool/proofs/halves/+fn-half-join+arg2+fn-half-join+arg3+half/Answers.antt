@@ -14,22 +14,20 @@ Lists = Vec (Vec ℕ Global) Global
 abbrev Put : Lists → Lists → Lists → Type 0
 Put l a b = l.items ≡ a.items ++ b.items
 
-pub returns-in_default-clause-done : goal.returns-in_default-clause-done
-returns-in_default-clause-done g t c =
-    let same : c.split.new.seat ≡ c.args.seat = search rules in
+pub returns-then-not-is_shared-clause-done : goal.returns-then-not-is_shared-clause-done
+returns-then-not-is_shared-clause-done g t c =
     let targets = targets_at (g.S.Source.roots c.args.source.now) (g.S.Source.targets c.args.source.now) c.args.items.now in
     let n : ℕ = length c.args.items.now in
     let w : ℕ = c.args.workers in
     let middle : ℕ = c.args.low + (c.args.high - c.args.low) / 2 in
     let some : 0 < w = omega arith in let lower : c.args.low ≤ middle = omega arith in let upper : middle ≤ c.args.high = omega arith in
-    pair_ok c.both.result c.half-seat.result.1 c.half-seat-in_default.result.1 Put
-    (λ (a : Lists). IsHalf targets n w c.args.low middle c.split.new.seat c.half-seat.result.0 (map items a.items))
-    (λ (b : Lists). IsHalf targets n w middle c.args.high c.half-seat.result.0 c.half-seat-in_default.result.0 (map items b.items))
-    (λ (l : Lists). IsHalf targets n w c.args.low c.args.high c.args.seat c.half-seat-in_default.result.0 (map items l.items))
-    c.both.ensures c.half-seat.ensures.done c.half-seat-in_default.ensures.done
-    (λ l a b j x y. add_two items (λ (gs : List (List ℕ)). IsHalf targets n w c.args.low c.args.high c.args.seat c.half-seat-in_default.result.0 gs) l.items a.items b.items j
-    (half_after targets n w c.args.low middle c.args.high some lower upper c.args.seat c.half-seat.result.0 c.half-seat-in_default.result.0 (map items a.items) (map items b.items)
-    (subst (λ (h : Held). IsHalf targets n w c.args.low middle h c.half-seat.result.0 (map items a.items)) same x) y))
+    pair_ok c.both.result c.half-seat.result.1 c.half-seat-then-not-is_shared.result.1 Put
+    (λ (a : Lists). IsHalf targets n w c.args.low middle c.args.seat c.half-seat.result.0 (map items a.items))
+    (λ (b : Lists). IsHalf targets n w middle c.args.high c.half-seat.result.0 c.half-seat-then-not-is_shared.result.0 (map items b.items))
+    (λ (l : Lists). IsHalf targets n w c.args.low c.args.high c.args.seat c.half-seat-then-not-is_shared.result.0 (map items l.items))
+    c.both.ensures c.half-seat.ensures.done c.half-seat-then-not-is_shared.ensures.done
+    (λ l a b j x y. add_two items (λ (gs : List (List ℕ)). IsHalf targets n w c.args.low c.args.high c.args.seat c.half-seat-then-not-is_shared.result.0 gs) l.items a.items b.items j
+    (half_after targets n w c.args.low middle c.args.high some lower upper c.args.seat c.half-seat.result.0 c.half-seat-then-not-is_shared.result.0 (map items a.items) (map items b.items) x y))
 
 pub returns-clause-done : goal.returns-clause-done
 returns-clause-done g t c =
