@@ -1,6 +1,6 @@
 #!/bin/sh
-# Builds leaky.c, runs it under mtrace, takes a core of it, searches the core, and compares the report with what the
-# program's construction says: which sizes leaked, and that nothing else did.
+# Builds leaky.c and in_flight.c, runs them under mtrace, takes cores of them, searches the cores, and compares each report
+# with what the program's construction says: which sizes leaked, and that nothing else did.
 #
 #     examples/run.sh LEAK_FIND
 #
@@ -9,47 +9,102 @@ set -eu
 leak_find=${1:?usage: run.sh LEAK_FIND}
 here=$(cd "$(dirname "$0")" && pwd)
 work=$(mktemp -d)
-trap 'rm -rf "$work"' EXIT
+process=
+trap 'test -z "$process" || kill -9 "$process" 2> /dev/null; rm -rf "$work"' EXIT
 gcc -g -O0 -Wno-unused-result -o "$work/leaky" "$here/leaky.c"
+gcc -g -O0 -Wno-unused-result -o "$work/in_flight" "$here/in_flight.c"
 cd "$work"
 
-# What must be reported: the lost block, the chain behind a lost head, the ring. All else is held.
-wanted="45 61 77 93 109 125"
-
-# check NAME CORE LOG: searches, shows the report, and compares the sizes of the leaked blocks.
+# check NAME HEAD SIZES SUBCOMMAND FILE..: searches, shows the report, and compares its first lines, those that speak of live
+# and of new blocks, and the sizes of the leaked blocks.
 check() {
+    name=$1 head=$2 wanted=$3
+    shift 3
     status=0
-    "$leak_find" one "$2" "$3" > report || status=$?
-    echo "== $1"
+    "$leak_find" "$@" > report || status=$?
+    echo "== $name"
     cat report
     found=$(awk '$1 == "leak" { print $3 }' report | sort -n | tr '\n' ' ' | sed 's/ $//')
-    head=$(sed -n '1p;2p;3p' report | tr '\n' ',')
-    if [ "$status" != 1 ] || [ "$found" != "$wanted" ] || [ "${head%%,*}" != "blocks 12 bytes 1596" ]; then
-        echo "NOT as built: status $status, leaked sizes: $found" >&2
+    begins=$(awk '$1 == "blocks" || $1 == "new"' report | tr '\n' ',' | sed 's/,$//')
+    if [ "$status" != 1 ] || [ "$found" != "$wanted" ] || [ "$begins" != "$head" ]; then
+        echo "NOT as built: status $status, $begins, leaked sizes: $found" >&2
         exit 1
     fi
+}
+
+# name_lines PROGRAM: the line of the source for each leaked block of the last report.
+name_lines() {
     awk '$1 == "leak" { print $3, $5 }' report | while read -r size caller; do
         offset=$(printf '%s\n' "$caller" | sed 's/.*\[\(0x[0-9a-f]*\)\]$/\1/')
-        echo "$size bytes: $(basename "$(addr2line -e leaky "$offset")")"
+        echo "$size bytes: $(basename "$(addr2line -e "$1" "$offset")")"
     done
 }
 
-# A process that goes on living: gdb stops it, dumps it, copies the log while it stands still, and lets it go.
-MALLOC_TRACE=live.log LD_PRELOAD=libc_malloc_debug.so.0 ./leaky 2> said &
-process=$!
-until grep -q ready said 2> /dev/null; do sleep 0.1; done
-gdb -nx --batch -p "$process" -ex 'generate-core-file live.core' -ex 'shell cp live.log live.copy' -ex detach > gdb.out 2>&1
-kill -9 "$process"
-check "a core by gdb" live.core live.copy
+# start PROGRAM: runs it with a log of its own, and gives its id in process.
+start() {
+    MALLOC_TRACE=$1.log LD_PRELOAD=libc_malloc_debug.so.0 "./$1" 2> "$1.said" &
+    process=$!
+}
+
+# dump PROGRAM NUMBER: waits until it has said so many times that it is ready, stops it by gdb, dumps it, copies the log while it
+# stands still, and lets it go.
+dump() {
+    tries=100
+    until [ "$(grep -c ready "$1.said" 2> /dev/null)" = "$2" ]; do
+        tries=$((tries - 1))
+        [ "$tries" -gt 0 ] || { echo "$1 does not get ready" >&2; exit 1; }
+        sleep 0.1
+    done
+    gdb -nx --batch -p "$process" -ex "generate-core-file $1.core.$2" -ex "shell cp $1.log $1.copy.$2" -ex detach > gdb.out 2>&1
+}
+
+# stop: ends the program that was started.
+stop() {
+    kill -9 "$process"
+    wait "$process" 2> /dev/null || true
+    process=
+}
+
+# leaky.c: what must be reported is the lost block, the chain behind a lost head, the ring. All else is held.
+leaky_head="blocks 12 bytes 1596"
+leaky_sizes="45 61 77 93 109 125"
+
+# A process that goes on living.
+start leaky
+dump leaky 1
+stop
+check "a core by gdb" "$leaky_head" "$leaky_sizes" one leaky.core.1 leaky.copy.1
+name_lines leaky
 
 # A process that dies: the kernel dumps it, where it may write a file named core.
 ulimit -c unlimited
 MALLOC_TRACE=dead.log LD_PRELOAD=libc_malloc_debug.so.0 ./leaky dies 2> /dev/null || true
-if [ -f core ]; then
-    check "a core by the kernel" core dead.log
-elif ls core.* > /dev/null 2>&1; then
-    check "a core by the kernel" core.* dead.log
+dead=$(ls core core.* 2> /dev/null | head -n 1)
+if [ -n "$dead" ]; then
+    check "a core by the kernel" "$leaky_head" "$leaky_sizes" one "$dead" dead.log
+    name_lines leaky
 else
     echo "== no core by the kernel: $(cat /proc/sys/kernel/core_pattern) takes it elsewhere"
 fi
+
+# in_flight.c: three cores of one process, of which each but the first makes a pair with the one before.
+start in_flight
+dump in_flight 1
+kill -USR1 "$process"
+dump in_flight 2
+kill -USR1 "$process"
+dump in_flight 3
+stop
+
+# One core names what is in the pipe (61 at the first, 93 at the second), beside what is lost.
+check "the first core alone" "blocks 5 bytes 449" "45 61" one in_flight.core.1 in_flight.copy.1
+check "the second core alone" "blocks 7 bytes 651" "45 77 93 109" one in_flight.core.2 in_flight.copy.2
+
+# The pair names what was lost at the first core and is lost at the second. What was lost in between waits for the next pair.
+check "the first and the second core" "blocks 7 bytes 651,new 2 bytes 202" "45" \
+    two in_flight.core.1 in_flight.copy.1 in_flight.core.2 in_flight.copy.2
+name_lines in_flight
+check "the second and the third core" "blocks 7 bytes 651,new 0 bytes 0" "45 77 109" \
+    two in_flight.core.2 in_flight.copy.2 in_flight.core.3 in_flight.copy.3
+name_lines in_flight
 echo "as built"
