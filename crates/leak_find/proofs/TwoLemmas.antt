@@ -184,7 +184,7 @@ finds_later core log reading workers input index places pages c r count bytes fo
     let within = subst (λ (i : Index). OthersLeadWithin (word_of core) i pages c.kept.items c.fresh.items) (sym same_index) others in
     let g = later_graph core reading input.log.lines input.live.blocks index places c.kept.items c.fresh.items e is roots in
     let set = subst (λ (bs : List Block). IsSet r.marked.set.items (length bs) (Reach (graph_of_later core reading c.kept.items c.fresh.items input.log.lines))) (ap (λ (i : Index). i.blocks) same_index)
-        (subst (λ (h : Graph). IsSet r.marked.set.items (length index.blocks) (Reach h)) g (retrace.set within)) in
+    (subst (λ (h : Graph). IsSet r.marked.set.items (length index.blocks) (Reach h)) g (retrace.set within)) in
     record {
       set = r.marked.set.items;
       marked = set;
@@ -201,7 +201,7 @@ finds_later core log reading workers input index places pages c r count bytes fo
         → text_of (head_with input (Some (record { fresh = count; fresh_bytes = bytes; reread = r.reread }))) input.live.blocks r.marked.set.items log
         ≡ text_of (head_of_two core log input.log.lines (numbers_of_two core pages (live_of input.log.lines) c.kept.items c.fresh.items)) (live_of input.log.lines) r.marked.set.items log
     text_is core log reading input index pages c r count bytes read is reread counted sized =
-        rw (counted, sized, reread, is, input_blocks core log input read) 
+        rw (counted, sized, reread, is, input_blocks core log input read)
         (ap (λ (h : Head). text_of h (live_of input.log.lines) r.marked.set.items log)
         (head_is_of_two core log input (numbers_of_two core pages (live_of input.log.lines) c.kept.items c.fresh.items) read))
 

@@ -15,9 +15,7 @@ use crate::found::Found;
 use crate::inputs::{Input, read_input};
 use crate::reporting::report_of;
 use leak_blocks::Block;
-use leak_dirty::{
-    Carry, absent_are_fresh, carry, differing, retrace, same_words_lead_within,
-};
+use leak_dirty::{Carry, absent_are_fresh, carry, differing, retrace, same_words_lead_within};
 use leak_index::{Reading, Sorted};
 use leak_mtrace::Log;
 use leak_pool::{Gate, Marked, Plan, mark};

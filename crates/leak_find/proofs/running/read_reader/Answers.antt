@@ -11,8 +11,11 @@ pub returns-in-Ok-clause-others : goal.returns-in-Ok-clause-others
 returns-in-Ok-clause-others g c = left_other g.R.Read.remaining c.args.readers.now c.args.number c.read_all.new.reader
 
 pub returns-in-Err-clause-refused : goal.returns-in-Err-clause-refused
-returns-in-Err-clause-refused g c = (refl, is_stopped _ _ _ _ _ _ _ (left_is g.R.Read.remaining c.args.readers.now c.args.number c.index-readers-number.result c.requires.there)
-    (left_same g.R.Read.remaining c.args.readers.now c.args.number c.read_all.new.reader c.requires.there) c.in-Err.ensures.bounded c.in-Err.ensures.too_long)
+returns-in-Err-clause-refused g c = (
+  refl,
+  is_stopped _ _ _ _ _ _ _ (left_is g.R.Read.remaining c.args.readers.now c.args.number c.index-readers-number.result c.requires.there)
+      (left_same g.R.Read.remaining c.args.readers.now c.args.number c.read_all.new.reader c.requires.there) c.in-Err.ensures.bounded c.in-Err.ensures.too_long,
+)
 
 pub returns-in-Err-clause-others : goal.returns-in-Err-clause-others
 returns-in-Err-clause-others g c = left_other g.R.Read.remaining c.args.readers.now c.args.number c.read_all.new.reader

@@ -12,7 +12,7 @@ pub returns-in_err-log-clause-refused : goal.returns-in_err-log-clause-refused
 returns-in_err-log-clause-refused g c =
     let p = err_from_is_err_and c.from_residual-in_err-log.result c.from_residual-in_err-log.ensures.1 in
     rw (p.1, p.2) (stopped c.args.options.now _ _ _ (c.in_ok-core.core.items ∷ []) _ (one_more _ _ _ _ [] _ (none_yet _ _) c.in_ok-core.ensures.ok c.in_ok-core.ensures.others)
-        (of_one _ _ c.requires.one (omega arith)) c.in_err-log.ensures.refused c.in_err-log.ensures.others)
+    (of_one _ _ c.requires.one (omega arith)) c.in_err-log.ensures.refused c.in_err-log.ensures.others)
 
 pub returns-in-Ok-clause-ok : goal.returns-in-Ok-clause-ok
 returns-in-Ok-clause-ok g c =

@@ -7,29 +7,29 @@ pub returns-in_err-core1-clause-refused : goal.returns-in_err-core1-clause-refus
 returns-in_err-core1-clause-refused g c =
     let p = err_from_is_err_and c.from_residual.result c.from_residual.ensures.1 in
     rw (p.1, p.2) (stopped c.args.options.now _ _ _ [] _
-        (none_yet _ _)
-        (of_two _ _ c.requires.two (omega arith)) c.in_err-core1.ensures.refused c.in_err-core1.ensures.others)
+    (none_yet _ _)
+    (of_two _ _ c.requires.two (omega arith)) c.in_err-core1.ensures.refused c.in_err-core1.ensures.others)
 
 pub returns-in_err-log1-clause-refused : goal.returns-in_err-log1-clause-refused
 returns-in_err-log1-clause-refused g c =
     let p = err_from_is_err_and c.from_residual-in_err-log1.result c.from_residual-in_err-log1.ensures.1 in
     rw (p.1, p.2) (stopped c.args.options.now _ _ _ (c.in_ok-core1.core1.items ∷ []) _
-        (one_more _ _ _ _ [] _ (none_yet _ _) c.in_ok-core1.ensures.ok c.in_ok-core1.ensures.others)
-        (of_two _ _ c.requires.two (omega arith)) c.in_err-log1.ensures.refused c.in_err-log1.ensures.others)
+    (one_more _ _ _ _ [] _ (none_yet _ _) c.in_ok-core1.ensures.ok c.in_ok-core1.ensures.others)
+    (of_two _ _ c.requires.two (omega arith)) c.in_err-log1.ensures.refused c.in_err-log1.ensures.others)
 
 pub returns-in_err-core2-clause-refused : goal.returns-in_err-core2-clause-refused
 returns-in_err-core2-clause-refused g c =
     let p = err_from_is_err_and c.from_residual-in_err-core2.result c.from_residual-in_err-core2.ensures.1 in
     rw (p.1, p.2) (stopped c.args.options.now _ _ _ (c.in_ok-core1.core1.items ∷ c.in_ok-log1.log1.items ∷ []) _
-        (one_more _ _ _ _ (c.in_ok-core1.core1.items ∷ []) _ (one_more _ _ _ _ [] _ (none_yet _ _) c.in_ok-core1.ensures.ok c.in_ok-core1.ensures.others) c.in_ok-log1.ensures.ok c.in_ok-log1.ensures.others)
-        (of_two _ _ c.requires.two (omega arith)) c.in_err-core2.ensures.refused c.in_err-core2.ensures.others)
+    (one_more _ _ _ _ (c.in_ok-core1.core1.items ∷ []) _ (one_more _ _ _ _ [] _ (none_yet _ _) c.in_ok-core1.ensures.ok c.in_ok-core1.ensures.others) c.in_ok-log1.ensures.ok c.in_ok-log1.ensures.others)
+    (of_two _ _ c.requires.two (omega arith)) c.in_err-core2.ensures.refused c.in_err-core2.ensures.others)
 
 pub returns-in_err-log2-clause-refused : goal.returns-in_err-log2-clause-refused
 returns-in_err-log2-clause-refused g c =
     let p = err_from_is_err_and c.from_residual-in_err-log2.result c.from_residual-in_err-log2.ensures.1 in
     rw (p.1, p.2) (stopped c.args.options.now _ _ _ (c.in_ok-core1.core1.items ∷ c.in_ok-log1.log1.items ∷ c.in_ok-core2.core2.items ∷ []) _
-        (one_more _ _ _ _ (c.in_ok-core1.core1.items ∷ c.in_ok-log1.log1.items ∷ []) _ (one_more _ _ _ _ (c.in_ok-core1.core1.items ∷ []) _ (one_more _ _ _ _ [] _ (none_yet _ _) c.in_ok-core1.ensures.ok c.in_ok-core1.ensures.others) c.in_ok-log1.ensures.ok c.in_ok-log1.ensures.others) c.in_ok-core2.ensures.ok c.in_ok-core2.ensures.others)
-        (of_two _ _ c.requires.two (omega arith)) c.in_err-log2.ensures.refused c.in_err-log2.ensures.others)
+    (one_more _ _ _ _ (c.in_ok-core1.core1.items ∷ c.in_ok-log1.log1.items ∷ []) _ (one_more _ _ _ _ (c.in_ok-core1.core1.items ∷ []) _ (one_more _ _ _ _ [] _ (none_yet _ _) c.in_ok-core1.ensures.ok c.in_ok-core1.ensures.others) c.in_ok-log1.ensures.ok c.in_ok-log1.ensures.others) c.in_ok-core2.ensures.ok c.in_ok-core2.ensures.others)
+    (of_two _ _ c.requires.two (omega arith)) c.in_err-log2.ensures.refused c.in_err-log2.ensures.others)
 
 pub returns-in-Ok-clause-ok : goal.returns-in-Ok-clause-ok
 returns-in-Ok-clause-ok g c =
