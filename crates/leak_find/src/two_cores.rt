@@ -76,7 +76,7 @@ pub(crate) struct Between {
     pub pages: Pages,
 }
 
-/// Marks in the earlier core.
+/// Marks the blocks of the first log that chains of its core reach.
 fn mark_earlier<R: Threads + Sync, G: Gate + Sync>(
     rt: &R,
     alloc: Global,
@@ -105,7 +105,7 @@ fn mark_earlier<R: Threads + Sync, G: Gate + Sync>(
     Ok(marked)
 }
 
-/// Finds what the later input has in common with the earlier one, which isn't kept.
+/// Marks in the first core, and finds which blocks of the second log are kept or new, and which pages differ.
 fn compare<R: Threads + Sync, G: Gate + Sync>(
     rt: &R,
     alloc: Global,
