@@ -150,9 +150,10 @@ fn sum_sizes(blocks: &[Block], numbers: &[u32]) -> u64
 
 /// Searches two cores of one process and their logs by the workers of the plan, with a list of claims for each.
 ///
-/// The first log is the beginning of the second, up to its last line feed. Marked in the second core are the blocks
-/// that were marked in the first core, those allocated since, and what chains lead to from these and from the roots.
-/// The report is that of the second core. Lists of claims are of the marking in the second core.
+/// The first log has to begin the second, up to its own last line feed. Marked in the second core are the blocks that
+/// were marked in the first core and are still live, those allocated since, and what chains lead to from these and from
+/// the roots (after Boehm, Demers and Shenker, PLDI 1991; that new blocks count is own rule). The report is that of the
+/// second core and its log, and the claims are of the marking there. A refusal is the first by the order of [`FindError`].
 pub fn find_two<R: Threads + Sync, G: Gate + Sync>(
     rt: &R,
     alloc: Global,
