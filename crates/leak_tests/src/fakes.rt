@@ -55,6 +55,11 @@ impl Source {
         }
     }
 
+    /// Makes the next read fail.
+    pub fn fail(&mut self) {
+        self.reads = 0;
+    }
+
     /// How many bytes were not read.
     pub fn left(&self) -> usize {
         self.left.len()

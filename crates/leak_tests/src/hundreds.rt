@@ -58,17 +58,3 @@ pub fn star(alloc: Global) -> Result<Sample, Fail> {
 fn push_block(log: &mut String, start: u64, size: u64) -> Result<(), AllocError> {
     writeln!(log, "+ 0x{start:x} 0x{size:x}")
 }
-
-/// Whether the lists hold each number below the count once, and no other number.
-pub fn hold_each_once(alloc: Global, lists: &[Vec<u32>], count: u32) -> Result<bool, Fail> {
-    let mut all: Vec<u32> = Vec::new(alloc);
-    for list in lists {
-        all.extend_from_slice(list.as_slice())?;
-    }
-    all.sort()?;
-    let mut numbers: Vec<u32> = Vec::new(alloc);
-    for number in 0..count {
-        numbers.push(number)?;
-    }
-    Ok(all.as_slice() == numbers.as_slice())
-}

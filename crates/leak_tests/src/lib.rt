@@ -15,6 +15,18 @@ mod examples;
 #[cfg(test)]
 mod hundreds;
 
+// The table of examples of two cores.
+#[cfg(test)]
+mod pairs;
+
+// Plans that the same reports are asked for by.
+#[cfg(test)]
+mod plans;
+
+// What lists of claims hold.
+#[cfg(test)]
+mod claims;
+
 // Whole reports of one core, on the caller's thread.
 #[cfg(test)]
 mod one_core;
@@ -22,6 +34,10 @@ mod one_core;
 // The same reports by worker threads.
 #[cfg(test)]
 mod workers;
+
+// Whole reports of two cores.
+#[cfg(test)]
+mod two_cores;
 
 // Schedules that a gate forces on the workers.
 #[cfg(test)]
@@ -31,9 +47,17 @@ mod schedules;
 #[cfg(test)]
 mod refusals;
 
+// Two cores that are refused, and which refusal comes first.
+#[cfg(test)]
+mod refusals_of_two;
+
 // Whole runs over readers and a writer, some of which fail.
 #[cfg(test)]
 mod devices;
+
+// Whole runs over the readers of two cores.
+#[cfg(test)]
+mod four_readers;
 
 // Reading an input to its end.
 #[cfg(test)]

@@ -1,7 +1,8 @@
 //! Whole reports of one core, on the caller's thread.
 
+use crate::claims::hold_each_once;
 use crate::examples::{EXAMPLES, HELD, LOST, ONE_BLOCK};
-use crate::hundreds::{CHAIN, STAR, chain, hold_each_once, star};
+use crate::hundreds::{CHAIN, STAR, chain, star};
 use crate::samples::{Part, core_of};
 use leak_find::find_alone;
 use leak_index::Reading;

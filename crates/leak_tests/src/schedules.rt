@@ -1,7 +1,10 @@
 //! Schedules that a gate forces on the workers.
 
-use crate::hundreds::{CHAIN, chain, hold_each_once};
-use leak_find::find_one;
+use crate::claims::hold_each_once;
+use crate::hundreds::{CHAIN, chain};
+use crate::samples::core_of;
+use crate::two_cores::with_lines;
+use leak_find::{find_one, find_two};
 use leak_index::Reading;
 use leak_pool::{Gate, Plan};
 use std::sync::atomic::{AtomicU64, Ordering};
@@ -31,6 +34,15 @@ impl Gate for Holding {
 }
 
 impl Holding {
+    /// A gate that holds the worker.
+    fn of(held: u32) -> Holding {
+        Holding {
+            held,
+            passed: AtomicU64::new(0),
+            late: AtomicU64::new(0),
+        }
+    }
+
     fn wait(&self) {
         for _ in 0..TURNS {
             if self.passed.load(Ordering::SeqCst) == 1 {
@@ -47,11 +59,7 @@ fn either_of_two_workers_may_begin(rt: HostRuntime) -> Result<(), Fail> {
     let core = sample.core.as_slice();
     let log = sample.log.as_bytes();
     for held in [0, 1] {
-        let gate = Holding {
-            held,
-            passed: AtomicU64::new(0),
-            late: AtomicU64::new(0),
-        };
+        let gate = Holding::of(held);
         let plan = Plan::new(2, 1, 0)?;
         let found = find_one(&rt, rt.alloc(), core, log, Reading::interior(), plan, &gate)?;
         assert_eq!(rt;
@@ -70,6 +78,40 @@ fn either_of_two_workers_may_begin(rt: HostRuntime) -> Result<(), Fail> {
             "worker {held} is held"
         );
         assert!(rt; hold_each_once(rt.alloc(), found.claims.as_slice(), 100)?);
+    }
+    Ok(())
+}
+
+#[test]
+fn either_of_two_workers_may_begin_in_two_cores(rt: HostRuntime) -> Result<(), Fail> {
+    let alloc = rt.alloc();
+    let sample = chain(alloc)?;
+    let zeros = core_of(alloc, &[])?;
+    let core1 = zeros.as_slice();
+    let core2 = sample.core.as_slice();
+    let log = sample.log.as_bytes();
+    let wanted = with_lines(alloc, CHAIN, "new 0 bytes 0\nreread 0\n")?;
+    for held in [0, 1] {
+        let gate = Holding::of(held);
+        let reading = Reading::interior();
+        let plan = Plan::new(2, 1, 0)?;
+        let found = find_two(&rt, alloc, core1, log, core2, log, reading, plan, &gate)?;
+        assert_eq!(rt;
+            gate.passed.load(Ordering::SeqCst),
+            1,
+            "worker {held} is held"
+        );
+        assert_eq!(rt;
+            gate.late.load(Ordering::SeqCst),
+            0,
+            "worker {held} is held"
+        );
+        assert_eq!(rt;
+            found.report.as_slice(),
+            wanted.as_bytes(),
+            "worker {held} is held"
+        );
+        assert!(rt; hold_each_once(alloc, found.claims.as_slice(), 100)?);
     }
     Ok(())
 }

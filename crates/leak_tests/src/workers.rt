@@ -1,29 +1,17 @@
 //! The reports of one core by worker threads: they are those of the caller's thread.
 
+use crate::claims::hold_each_once;
 use crate::examples::{EXAMPLES, HELD, LOST, ONE_BLOCK};
-use crate::hundreds::{CHAIN, STAR, chain, hold_each_once, star};
+use crate::hundreds::{CHAIN, STAR, chain, star};
+use crate::plans::plans;
 use crate::samples::{Part, core_of};
 use leak_elf::ElfError;
 use leak_find::{FindError, find_one};
 use leak_index::Reading;
 use leak_mtrace::LogError;
 use leak_notes::NoteError;
-use leak_pool::{Open, Plan};
-use std::alloc::Global;
+use leak_pool::Open;
 use std::test::Fail;
-
-/// Plans of few and of many workers, short and long pieces, small and large stacks.
-fn plans(alloc: Global) -> Result<Vec<Plan>, Fail> {
-    let mut plans = Vec::new(alloc);
-    for workers in [1, 2, 3, 64] {
-        for piece in [1, 65_536] {
-            for stack in [0, 1, 65_536] {
-                plans.push(Plan::new(workers, piece, stack)?)?;
-            }
-        }
-    }
-    Ok(plans)
-}
 
 #[test]
 fn each_example_gives_its_report(rt: HostRuntime) -> Result<(), Fail> {
