@@ -13,7 +13,7 @@ use Rattle.leak_mtrace.specs.declared.line.Line.{Line}
 use Rattle.leak_blocks.specs.declared.block.Block.{Block}
 use Rattle.leak_blocks.specs.Live.{Replay, moments, block_of, live_of, replay_of, is_allocation, is_give_back, is_displaced, is_unknown, among}
 use Rattle.leak_blocks.specs.Steps.{meets, ends_block, left_by, after_line, misses}
-use Rattle.leak_blocks.specs.Numbers.{entries_of, AreOf, AreNumbered, IsAfter}
+use Rattle.leak_blocks.specs.Numbers.{entries_of, AreOf, AreNumbered, AreSortedOf, ArePlacedOf, AreBlocksOf, IsAfter, IsNumberedAfter}
 use Rattle.leak_blocks.proofs.DisjointLemmas.{live_disjoint}
 use Rattle.leak_blocks.proofs.LineLemmas.{first_of_lines}
 use Rattle.leak_blocks.proofs.GrowthLemmas.{ends_met, ends_given, ends_none, left_apart, gives_nothing, allocates_nothing, live_grown, displaced_grown, unknown_grown, displaced_by, moments_many}
@@ -141,25 +141,48 @@ module _ (lines : List Line) (index : ℕ) (in_log : index < length lines) (d : 
       ended = omega (arith, so_far.ended, displaced_after, displaces_not a);
     }
 
--- ---- before the first line and after the last
+-- ---- before the first line
 
-pub after_none : (lines : List Line) (entries : List (ℕ × ℕ)) → entries ≡ [] → IsAfter lines 0 entries 0 0
+pub numbered_none : (lines : List Line) (numbers : List ℕ) → numbers ≡ [] → IsNumberedAfter lines 0 numbers 0 0
 unfolding replay_of live_of
-after_none lines entries e = record { blocks = e; missed = refl; ended = refl }
+numbered_none lines numbers e = record { blocks = e; missed = refl; ended = refl }
 
-module _ (lines : List Line) (index : ℕ) (entries : List (ℕ × ℕ)) (unknown displaced : ℕ) (at_end : index ≡ length lines) (after : IsAfter lines index entries unknown displaced) where
-  all_taken : take index lines ≡ lines
-  all_taken = ap (λ (n : ℕ). take n lines) at_end ∙ take-length lines
+-- ---- from the map to the numbers of its lines, and back
 
-  all_are_of : AreOf lines entries (live_of lines)
-  all_are_of = subst (λ (l : List Line). AreOf lines entries (live_of l)) all_taken (first_are_of lines index entries after.blocks)
+pub numbers_after : (lines : List Line) (count : ℕ) (entries : List (ℕ × ℕ)) (numbers : List ℕ) (unknown displaced : ℕ) → IsAfter lines count entries unknown displaced → numbers ≡ map (λ e. e.1) entries → IsNumberedAfter lines count numbers unknown displaced
+numbers_after lines count entries numbers unknown displaced after e = record {
+  blocks = (numbered lines entries (live_of (take count lines)) numbers (first_are_of lines count entries after.blocks) e).listed ∙ ap (map (λ (b : Block). b.line)) (sym (replayed (take count lines)));
+  missed = after.missed;
+  ended = after.ended;
+}
 
-  pub all_numbered : (numbers : List ℕ) → numbers ≡ map (λ e. e.1) entries → AreNumbered lines numbers (live_of lines)
-  all_numbered numbers e = numbered lines entries (live_of lines) numbers all_are_of e
+module _ (lines : List Line) (count : ℕ) (numbers : List ℕ) (unknown displaced : ℕ) (after : IsNumberedAfter lines count numbers unknown displaced) where
+  pub first_numbered : AreNumbered lines numbers (live_of (take count lines))
+  first_numbered = record { listed = after.blocks ∙ ap (map (λ (b : Block). b.line)) (replayed (take count lines)); numbered = first_of_lines lines count }
 
-  pub replay_is : (blocks : List Block) → blocks ≡ live_of lines → (let r : Replay = record { blocks = blocks; unknown = unknown; displaced = displaced } in r) ≡ replay_of lines
-  unfolding replay_of
-  replay_is blocks e =
-      let u : unknown ≡ count_by is_unknown (moments lines) = after.missed ∙ ap (λ (l : List Line). count_by is_unknown (moments l)) all_taken in
-      let d : displaced ≡ count_by is_displaced (moments lines) = after.ended ∙ ap (λ (l : List Line). count_by is_displaced (moments l)) all_taken in
-      cc
+  pub first_sorted : AreSortedOf lines numbers
+  first_sorted = (live_of (take count lines), first_numbered, live_disjoint (take count lines))
+
+  pub placed_after : (entries : List (ℕ × ℕ)) → ArePlacedOf lines numbers entries → IsAfter lines count entries unknown displaced
+  placed_after entries p = record {
+    blocks = p (live_of (take count lines)) first_numbered (live_disjoint (take count lines)) ∙ ap entries_of (sym (replayed (take count lines)));
+    missed = after.missed;
+    ended = after.ended;
+  }
+
+  module _ (at_end : count ≡ length lines) where
+    all_taken : take count lines ≡ lines
+    all_taken = ap (λ (n : ℕ). take n lines) at_end ∙ take-length lines
+
+    pub all_numbered : (read : List ℕ) → read ≡ numbers → AreNumbered lines read (live_of lines)
+    all_numbered read e = subst (λ (ns : List ℕ). AreNumbered lines ns (live_of lines)) (sym e) (subst (λ (l : List Line). AreNumbered lines numbers (live_of l)) all_taken first_numbered)
+
+    pub all_built : (read : List ℕ) (built : List Block) → read ≡ numbers → AreBlocksOf lines read built → built ≡ live_of lines
+    all_built read built e b = b (live_of lines) (all_numbered read e)
+
+    pub replay_is : (blocks : List Block) → blocks ≡ live_of lines → (let r : Replay = record { blocks = blocks; unknown = unknown; displaced = displaced } in r) ≡ replay_of lines
+    unfolding replay_of
+    replay_is blocks e =
+        let u : unknown ≡ count_by is_unknown (moments lines) = after.missed ∙ ap (λ (l : List Line). count_by is_unknown (moments l)) all_taken in
+        let d : displaced ≡ count_by is_displaced (moments lines) = after.ended ∙ ap (λ (l : List Line). count_by is_displaced (moments l)) all_taken in
+        cc

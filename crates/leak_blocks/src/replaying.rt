@@ -4,7 +4,7 @@ ghost use Rattle.std.specs.BTreeMap.{values};
 ghost use Rattle.leak_mtrace.specs.Log.{LinesFit};
 ghost use Rattle.leak_blocks.specs.Live.{is_allocation, is_give_back, replay_of};
 ghost use Rattle.leak_blocks.specs.Laws.{IsBlockAt};
-ghost use Rattle.leak_blocks.specs.Numbers.{HasBlocks, HaveBlocks, IsMetIn, HasUnmet, CountsMet, AreBlocksOf, IsAfter};
+ghost use Rattle.leak_blocks.specs.Numbers.{HasBlocks, HaveBlocks, AreSortedOf, ArePlacedOf, IsMetIn, HasUnmet, CountsMet, AreBlocksOf, IsAfter, IsNumberedAfter};
 
 use crate::block::Block;
 use crate::live::Live;
@@ -18,8 +18,11 @@ use std::collections::BTreeMap;
 /// Its nodes lie in an arena, since a heap may keep them, once freed, while the blocks are made.
 type Numbers<'a> = BTreeMap<u64, usize, &'a Bump>;
 
-/// What the nodes take for each allocation, where they are as empty as they may be, and a little more.
-const NODE_BYTES: usize = 40;
+/// What a node takes for each allocation, where it is as empty as it may be, and a quarter more.
+const NODE_BYTES: usize = 48;
+
+/// More than what one allocation may take: a node at each level of the tree.
+const PATH_BYTES: usize = 8192;
 
 /// Whether the line allocates a block.
 fn is_allocation(line: &Line) -> bool
@@ -108,11 +111,71 @@ impl Course<'_> {
     }
 }
 
+/// The replay between two arenas.
+#[derive(Drop)]
+struct Stage {
+    /// The numbers of the lines whose allocations no line so far ends, by the starts of their blocks.
+    numbers: Vec<usize>,
+    /// The number of lines so far.
+    next: usize,
+    unknown: u64,
+    displaced: u64,
+}
+
+/// The allocations of the lines with these numbers, which stand by the starts of their blocks.
+fn placed<'a>(
+    arena: &'a Bump,
+    lines: &[Line],
+    numbers: Vec<usize>,
+) -> Result<Numbers<'a>, AllocError>
+    requires { AreSortedOf lines.now numbers.items }
+    ensures { IfOk result (λ placed. ArePlacedOf lines.now numbers.items placed.entries) }
+{
+    let mut placed = BTreeMap::new(arena);
+    for number in &numbers {
+        placed.insert(block_at(lines, *number).start, *number)?;
+    }
+    Ok(placed)
+}
+
 /// The numbers of the lines, by the starts of their blocks.
 fn sorted(alloc: Global, numbers: Numbers<'_>) -> Result<Vec<usize>, AllocError>
     ensures { IfOk result (λ v. v.items ≡ values numbers.entry) }
 {
     numbers.into_values().collect(alloc)
+}
+
+/// Goes over the next line, and then over others until few of the arena's bytes are left.
+///
+/// The arena uses no freed node again. So the allocations are placed in a new one, which is at most four fifths full
+/// then, where the lines would fill this one.
+fn stretch(alloc: Global, lines: &[Line], bytes: usize, stage: Stage) -> Result<Stage, AllocError>
+    requires in_log { stage.next < length lines.now }
+    requires fit { LinesFit lines.now }
+    requires so_far { IsNumberedAfter lines.now stage.next stage.numbers.items stage.unknown stage.displaced }
+    ensures later { IfOk result (λ later. (stage.next < later.next) × (later.next ≤ length lines.now)) }
+    ensures after { IfOk result (λ later. IsNumberedAfter lines.now later.next later.numbers.items later.unknown later.displaced) }
+{
+    let arena = Bump::try_with_capacity(alloc, bytes)?;
+    let mut course = Course {
+        numbers: placed(&arena, lines, stage.numbers)?,
+        unknown: stage.unknown,
+        displaced: stage.displaced,
+    };
+    let mut next = stage.next;
+    loop {
+        course.step(lines, next)?;
+        next += 1;
+        if next == lines.len() || arena.chunk_capacity() < PATH_BYTES {
+            break;
+        }
+    }
+    Ok(Stage {
+        numbers: sorted(alloc, course.numbers)?,
+        next,
+        unknown: course.unknown,
+        displaced: course.displaced,
+    })
 }
 
 /// The blocks of the lines with these numbers.
@@ -127,13 +190,15 @@ fn blocks_of(alloc: Global, lines: &[Line], numbers: &[usize]) -> Result<Vec<Blo
     Ok(blocks)
 }
 
-/// An arena with room for the nodes of as many allocations as the log has. Nodes that are made anew may need more.
-fn arena(alloc: Global, lines: &[Line]) -> Result<Bump, AllocError> {
+/// The bytes of an arena for the nodes of as many allocations as the log has.
+fn arena_bytes(lines: &[Line]) -> usize {
     let mut allocations = 0usize;
     for line in lines {
         allocations = allocations.saturating_add(usize::from(is_allocation(line)));
     }
-    Bump::try_with_capacity(alloc, allocations.saturating_mul(NODE_BYTES))
+    allocations
+        .saturating_mul(NODE_BYTES)
+        .saturating_add(2 * PATH_BYTES)
 }
 
 /// Goes over all lines.
@@ -141,22 +206,18 @@ fn replay_lines(alloc: Global, lines: &[Line]) -> Result<Live, AllocError>
     requires { LinesFit lines.now }
     ensures { IfOk result (λ live. live ≡ replay_of lines.now) }
 {
-    // the arena is given back before the blocks are made
-    let (numbers, unknown, displaced) = {
-        let arena = arena(alloc, lines)?;
-        let mut course = Course {
-            numbers: BTreeMap::new(&arena),
-            unknown: 0,
-            displaced: 0,
-        };
-        for index in 0..lines.len() {
-            course.step(lines, index)?;
-        }
-        let numbers = sorted(alloc, course.numbers)?;
-        (numbers, course.unknown, course.displaced)
+    let bytes = arena_bytes(lines);
+    let mut stage = Stage {
+        numbers: Vec::new(alloc),
+        next: 0,
+        unknown: 0,
+        displaced: 0,
     };
-    let blocks = blocks_of(alloc, lines, &numbers)?;
-    Ok(Live::new(blocks, unknown, displaced))
+    while stage.next < lines.len() {
+        stage = stretch(alloc, lines, bytes, stage)?;
+    }
+    let blocks = blocks_of(alloc, lines, &stage.numbers)?;
+    Ok(Live::new(blocks, stage.unknown, stage.displaced))
 }
 
 /// Finds the live blocks of a log.

@@ -2,6 +2,7 @@ use super::*;
 use leak_mtrace::Log;
 use std::alloc::Global;
 use std::fmt::Write;
+use std::process::Abort;
 use std::test::Fail;
 
 /// The live blocks of a log, as start, size and line, and how many of its lines are unknown, displaced and torn.
@@ -17,76 +18,81 @@ fn outcome(alloc: Global, text: &str) -> Result<Outcome, Fail> {
     Ok((blocks, (live.unknown(), live.displaced(), log.torn())))
 }
 
+/// A log, its live blocks as start, size and line, and how many of its lines are unknown, displaced and torn.
+type Case<'a> = (&'a str, &'a [(u64, u64, usize)], (u64, u64, u64));
+
+fn replays(rt: &impl Abort, alloc: Global, cases: &[Case]) -> Result<(), Fail> {
+    for (text, blocks, counts) in cases {
+        let found = outcome(alloc, text)?;
+        assert_eq!(rt; found.0.as_slice(), *blocks, "{text}");
+        assert_eq!(rt; found.1, *counts, "{text}");
+    }
+    Ok(())
+}
+
 #[test]
-fn blocks_and_counts(rt: HostRuntime) -> Result<(), Fail> {
-    let cases = [
+fn allocations_that_meet_others(rt: HostRuntime) -> Result<(), Fail> {
+    let cases: [Case; 6] = [
         (
             "+ 0x100 0x10\n+ 0x110 0x10\n",
-            [(0x100, 16, 1), (0x110, 16, 2)].as_slice(),
+            &[(0x100, 16, 1), (0x110, 16, 2)],
             (0, 0, 0),
         ),
-        (
-            "+ 0x100 0\n+ 0x100 0\n",
-            [(0x100, 0, 2)].as_slice(),
-            (0, 1, 0),
-        ),
+        ("+ 0x100 0\n+ 0x100 0\n", &[(0x100, 0, 2)], (0, 1, 0)),
         (
             "+ 0x100 0x10\n+ 0x120 0x10\n+ 0x108 0x20\n",
-            [(0x108, 32, 3)].as_slice(),
+            &[(0x108, 32, 3)],
             (0, 2, 0),
-        ),
-        ("+ 0x100 0x10\n- 0x100\n- 0x100\n", [].as_slice(), (1, 0, 0)),
-        (
-            "+ 0x100 0x10\n< 0x100\n> 0x200 0x20\n",
-            [(0x200, 32, 3)].as_slice(),
-            (0, 0, 0),
-        ),
-        (
-            "+ 0x100 0x10\n! 0x100 0x20\n",
-            [(0x100, 16, 1)].as_slice(),
-            (0, 0, 0),
         ),
         (
             "+ 0x100 0x10\n+ 0x108 0x10\n- 0x100\n",
-            [(0x108, 16, 2)].as_slice(),
+            &[(0x108, 16, 2)],
             (1, 1, 0),
         ),
-        // a give-back inside a block, or of nothing, ends none; the torn line is no line
-        (
-            "+ 0x10100 0x20\n+ 0x10110 0x20\n- 0x10300\n- 0x10118\n- 0x10110",
-            [(0x10110, 32, 2)].as_slice(),
-            (2, 1, 1),
-        ),
-        (
-            "+ 0x10100 0x20\n+ 0x10200 0x10\n- 0x10100\n",
-            [(0x10200, 16, 2)].as_slice(),
-            (0, 0, 0),
-        ),
-        // nothing is allocated or given back at address 0
-        ("+ (nil) 0x10\n- (nil)\n", [].as_slice(), (0, 0, 0)),
         // a block may end with the last address
         (
             "+ 0xffffffffffffffff 0\n+ 0xfffffffffffffff0 0xf\n",
-            [
+            &[
                 (0xffff_ffff_ffff_fff0, 15, 2),
                 (0xffff_ffff_ffff_ffff, 0, 1),
-            ]
-            .as_slice(),
+            ],
             (0, 0, 0),
         ),
         // one allocation ends many
         (
             "+ 0x100 0x1\n+ 0x101 0x1\n+ 0x102 0\n+ 0x103 0x1\n+ 0x101 0x2\n",
-            [(0x100, 1, 1), (0x101, 2, 5), (0x103, 1, 4)].as_slice(),
+            &[(0x100, 1, 1), (0x101, 2, 5), (0x103, 1, 4)],
             (0, 2, 0),
         ),
     ];
-    for (text, blocks, counts) in cases {
-        let found = outcome(rt.alloc(), text)?;
-        assert_eq!(rt; found.0.as_slice(), blocks, "{text}");
-        assert_eq!(rt; found.1, counts, "{text}");
-    }
-    Ok(())
+    replays(&rt, rt.alloc(), &cases)
+}
+
+#[test]
+fn lines_that_end_blocks_or_none(rt: HostRuntime) -> Result<(), Fail> {
+    let cases: [Case; 6] = [
+        ("+ 0x100 0x10\n- 0x100\n- 0x100\n", &[], (1, 0, 0)),
+        (
+            "+ 0x100 0x10\n< 0x100\n> 0x200 0x20\n",
+            &[(0x200, 32, 3)],
+            (0, 0, 0),
+        ),
+        ("+ 0x100 0x10\n! 0x100 0x20\n", &[(0x100, 16, 1)], (0, 0, 0)),
+        // a give-back inside a block, or of nothing, ends none; the torn line is no line
+        (
+            "+ 0x10100 0x20\n+ 0x10110 0x20\n- 0x10300\n- 0x10118\n- 0x10110",
+            &[(0x10110, 32, 2)],
+            (2, 1, 1),
+        ),
+        (
+            "+ 0x10100 0x20\n+ 0x10200 0x10\n- 0x10100\n",
+            &[(0x10200, 16, 2)],
+            (0, 0, 0),
+        ),
+        // nothing is allocated or given back at address 0
+        ("+ (nil) 0x10\n- (nil)\n", &[], (0, 0, 0)),
+    ];
+    replays(&rt, rt.alloc(), &cases)
 }
 
 #[test]
@@ -104,10 +110,11 @@ fn sizes_and_callers(rt: HostRuntime) -> Result<(), Fail> {
     Ok(())
 }
 
-/// The arena of the replay is used up, since nodes are split and merged again and again.
+/// Arenas of the replay are used up, since nodes are split and merged again and again.
 #[test]
 fn nodes_made_over_and_over(rt: HostRuntime) -> Result<(), Fail> {
     let mut text = String::new(rt.alloc());
+    write!(text, "- 0x10\n")?;
     for place in 1..=600u64 {
         write!(text, "+ {:#x} 0x10\n", place * 0x1000)?;
     }
@@ -116,7 +123,7 @@ fn nodes_made_over_and_over(rt: HostRuntime) -> Result<(), Fail> {
             write!(text, "+ {:#x} 0x10\n", place * 0x8000 + inner * 0x20)?;
         }
     }
-    for _ in 0..30u64 {
+    for _ in 0..100u64 {
         for place in 1..=16u64 {
             let addr = place * 0x8000;
             write!(
@@ -131,8 +138,9 @@ fn nodes_made_over_and_over(rt: HostRuntime) -> Result<(), Fail> {
             write!(text, "- {:#x}\n- {:#x}\n", addr + 0x100, addr + 0x120)?;
         }
     }
+    write!(text, "- 0x10\n+ 0x1008 0x10\n")?;
     let (blocks, counts) = outcome(rt.alloc(), text.as_str())?;
     assert_eq!(rt; blocks.len(), 600 + 16 * 7);
-    assert_eq!(rt; counts, (0, 0, 0));
+    assert_eq!(rt; counts, (2, 1, 0));
     Ok(())
 }

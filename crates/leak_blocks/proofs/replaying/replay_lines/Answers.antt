@@ -1,28 +1,35 @@
--- After the last line.
+-- Before the first line and after the last.
 use Rattle.std.proofs.Common.{◌≡◌, ◌∙◌, sym, subst, arith}
 use Rattle.leak_blocks.specs.Span.{AreAddressed, AreDisjoint}
 use Rattle.leak_blocks.specs.Live.{live_of}
 use Rattle.leak_blocks.proofs.DisjointLemmas.{live_disjoint}
 use Rattle.leak_blocks.proofs.LineLemmas.{live_addressed}
-use Rattle.leak_blocks.proofs.StepLemmas.{after_none, all_numbered, replay_is}
+use Rattle.leak_blocks.proofs.StepLemmas.{numbered_none, all_numbered, all_built, replay_is}
 use Rattle.leak_blocks.proofs.replaying.replay_lines.Goals as goal
 
-pub loop-index-init : goal.loop-index-init
-loop-index-init c = after_none c.args.lines.now c.new.result.entries c.new.ensures.empty
+pub loop-stage-init : goal.loop-stage-init
+loop-stage-init c = (numbered_none c.args.lines.now c.new.result.items c.new.ensures.items, omega arith)
 
 pub blocks_of-requires : goal.blocks_of-requires
-blocks_of-requires c = (live_of c.args.lines.now, all_numbered c.args.lines.now c.loop-index.index c.loop-index.course.numbers.entries c.loop-index.course.unknown c.loop-index.course.displaced (omega arith) c.loop-index.invariant c.deref.result.now (c.deref.ensures.value ∙ c.in_ok-numbers.ensures))
+blocks_of-requires c = (
+  live_of c.args.lines.now,
+  all_numbered c.args.lines.now c.loop-stage.stage.next c.loop-stage.stage.numbers.items c.loop-stage.stage.unknown c.loop-stage.stage.displaced c.loop-stage.invariant.0 (omega arith) c.deref.result.now c.deref.ensures.value,
+)
 
 pub new-requires-2-clause-addressed : goal.new-requires-2-clause-addressed
 new-requires-2-clause-addressed c =
-    subst AreAddressed (sym (c.in_ok-blocks.ensures (live_of c.args.lines.now) (all_numbered c.args.lines.now c.loop-index.index c.loop-index.course.numbers.entries c.loop-index.course.unknown c.loop-index.course.displaced (omega arith) c.loop-index.invariant c.deref.result.now (c.deref.ensures.value ∙ c.in_ok-numbers.ensures)))) (live_addressed c.args.lines.now c.requires)
+    let built : c.in_ok-blocks.blocks.items ≡ live_of c.args.lines.now =
+    all_built c.args.lines.now c.loop-stage.stage.next c.loop-stage.stage.numbers.items c.loop-stage.stage.unknown c.loop-stage.stage.displaced c.loop-stage.invariant.0 (omega arith) c.deref.result.now c.in_ok-blocks.blocks.items c.deref.ensures.value c.in_ok-blocks.ensures in
+    subst AreAddressed (sym built) (live_addressed c.args.lines.now c.requires)
 
 pub new-requires-2-clause-disjoint : goal.new-requires-2-clause-disjoint
 new-requires-2-clause-disjoint c =
-    subst AreDisjoint (sym (c.in_ok-blocks.ensures (live_of c.args.lines.now) (all_numbered c.args.lines.now c.loop-index.index c.loop-index.course.numbers.entries c.loop-index.course.unknown c.loop-index.course.displaced (omega arith) c.loop-index.invariant c.deref.result.now (c.deref.ensures.value ∙ c.in_ok-numbers.ensures)))) (live_disjoint c.args.lines.now)
+    let built : c.in_ok-blocks.blocks.items ≡ live_of c.args.lines.now =
+    all_built c.args.lines.now c.loop-stage.stage.next c.loop-stage.stage.numbers.items c.loop-stage.stage.unknown c.loop-stage.stage.displaced c.loop-stage.invariant.0 (omega arith) c.deref.result.now c.in_ok-blocks.blocks.items c.deref.ensures.value c.in_ok-blocks.ensures in
+    subst AreDisjoint (sym built) (live_disjoint c.args.lines.now)
 
 pub returns : goal.returns
 returns c =
-    let blocks : c.in_ok-blocks.blocks.items ≡ live_of c.args.lines.now = c.in_ok-blocks.ensures (live_of c.args.lines.now) (all_numbered c.args.lines.now c.loop-index.index c.loop-index.course.numbers.entries c.loop-index.course.unknown c.loop-index.course.displaced (omega arith) c.loop-index.invariant c.deref.result.now (c.deref.ensures.value ∙ c.in_ok-numbers.ensures)) in
-    c.new-2.ensures
-    ∙ replay_is c.args.lines.now c.loop-index.index c.loop-index.course.numbers.entries c.loop-index.course.unknown c.loop-index.course.displaced (omega arith) c.loop-index.invariant c.in_ok-blocks.blocks.items blocks
+    let built : c.in_ok-blocks.blocks.items ≡ live_of c.args.lines.now =
+    all_built c.args.lines.now c.loop-stage.stage.next c.loop-stage.stage.numbers.items c.loop-stage.stage.unknown c.loop-stage.stage.displaced c.loop-stage.invariant.0 (omega arith) c.deref.result.now c.in_ok-blocks.blocks.items c.deref.ensures.value c.in_ok-blocks.ensures in
+    c.new-2.ensures ∙ replay_is c.args.lines.now c.loop-stage.stage.next c.loop-stage.stage.numbers.items c.loop-stage.stage.unknown c.loop-stage.stage.displaced c.loop-stage.invariant.0 (omega arith) c.in_ok-blocks.blocks.items built
