@@ -26,7 +26,7 @@ use Rattle.leak_pool.specs.declared.error.PoolError.{PoolError}
 use Rattle.leak_pool.specs.declared.error.PoolError.TheVariants.{TooMany as TooManyForPool, NoMemory as NoMemoryForPool}
 use Rattle.leak_find.specs.declared.found.Found.{Found}
 use Rattle.leak_find.specs.declared.inputs.Input.{Input}
-use Rattle.leak_find.specs.Inputs.{IsRead, IsFaultOfOne, at_marking}
+use Rattle.leak_find.specs.Inputs.{IsReadOf, IsRead, IsFaultOfOne, at_marking}
 use Rattle.leak_find.specs.Search.{FindsOne, graph_of_one, head_of_one, head_with}
 
 -- the blocks of a replay are the live ones
@@ -34,19 +34,19 @@ pub blocks_are : (lines : List Line) → (replay_of lines).blocks ≡ live_of li
 unfolding replay_of
 blocks_are lines = refl
 
-pub input_blocks : (core log : List ℕ) (input : Input) → IsRead core log input → input.live.blocks ≡ live_of input.log.lines
-input_blocks core log input read = ap (λ (r : Replay). r.blocks) read.live ∙ blocks_are input.log.lines
+pub input_blocks : (core log : List ℕ) (lines : List Line) (input : Input) → IsReadOf core log lines input → input.live.blocks ≡ live_of lines
+input_blocks core log lines input read = ap (λ (r : Replay). r.blocks) read.live ∙ blocks_are lines
 
 pub input_callers : (core log : List ℕ) (input : Input) → IsRead core log input → HaveCallersIn log input.live.blocks
 input_callers core log input read =
-    subst (λ (bs : List Block). HaveCallersIn log bs) (sym (input_blocks core log input read))
-    (have_callers live_of_lines log input.log.lines read.callers)
+    subst (λ (bs : List Block). HaveCallersIn log bs) (sym (input_blocks core log read.0 input read.1))
+    (have_callers live_of_lines log read.0 read.1.callers)
 
 -- too many blocks is a fault of an input that was read
 pub too_many : (core log : List ℕ) (input : Input) → IsRead core log input → 2 ^ 32 - 1 < length input.live.blocks → IsFaultOfOne core log TooMany
 too_many core log input read many =
-    let e = input_blocks core log input read in
-    inr (refl, read.accepted, (input.log.lines, read.lines.0, subst (λ (bs : List Block). 2 ^ 32 ≤ length bs) e (omega (arith, many))))
+    let e = input_blocks core log read.0 input read.1 in
+    inr (refl, read.1.accepted, (read.0, read.1.is_log, subst (λ (bs : List Block). 2 ^ 32 ≤ length bs) e (omega (arith, many))))
 
 -- the blocks outside a set, counted in the set
 pub leaked_count : (set : List Bool) (blocks : List Block) → length set ≡ length blocks → length (leaked_in set blocks) ≡ count_by not set
@@ -74,8 +74,8 @@ marked_graph core reading lines blocks index places are is roots =
     rw (found_words core blocks places roots, is, are) refl
 
 -- the numbers of the first lines
-pub head_is : (core log : List ℕ) (input : Input) → IsRead core log input → head_with input None ≡ head_of_one core log input.log.lines
-head_is core log input read = rw (read.image, read.live, read.lines.1) refl
+pub head_is : (core log : List ℕ) (input : Input) → (read : IsRead core log input) → head_with input None ≡ head_of_one core log read.0
+head_is core log input read = rw (read.1.image, read.1.live, read.1.torn) refl
 
 -- a search that read, found roots and marked
 pub finds_one : (core log : List ℕ) (reading : Option (List ℕ)) (workers : ℕ) (input : Input) (index : Index) (places : Places) (marked : Marked) (found : Found)
@@ -85,19 +85,19 @@ pub finds_one : (core log : List ℕ) (reading : Option (List ℕ)) (workers : �
     → found.leaked ≡ length (leaked_in marked.set.items input.live.blocks) → found.claims ≡ marked.claims
     → FindsOne core log reading workers found
 finds_one core log reading workers input index places marked found read few is roots marks report leaked claims =
-    let e = input_blocks core log input read in
-    let g = marked_graph core reading input.log.lines input.live.blocks index places e is roots in
+    let e = input_blocks core log read.0 input read.1 in
+    let g = marked_graph core reading read.0 input.live.blocks index places e is roots in
     record {
-      accepted = read.accepted;
-      lines = input.log.lines;
-      is_log = read.lines.0;
+      accepted = read.1.accepted;
+      lines = read.0;
+      is_log = read.1.is_log;
       few = subst (λ (bs : List Block). length bs < 2 ^ 32) e few;
       set = marked.set.items;
       marked =
-          subst (λ (bs : List Block). IsSet marked.set.items (length bs) (Reach (graph_of_one core reading input.log.lines))) (ap (λ (i : Index). i.blocks) is ∙ e)
+          subst (λ (bs : List Block). IsSet marked.set.items (length bs) (Reach (graph_of_one core reading read.0))) (ap (λ (i : Index). i.blocks) is ∙ e)
           (subst (λ (h : Graph). IsSet marked.set.items (length index.blocks) (Reach h)) g marks.set);
       report =
-          subst (λ (h : Head). found.report.items ≡ text_of h (live_of input.log.lines) marked.set.items log) (head_is core log input read)
+          subst (λ (h : Head). found.report.items ≡ text_of h (live_of read.0) marked.set.items log) (head_is core log input read)
           (subst (λ (bs : List Block). found.report.items ≡ text_of (head_with input None) bs marked.set.items log) e report);
       leaked = subst (λ (bs : List Block). found.leaked ≡ length (leaked_in marked.set.items bs)) e leaked;
       lists = rw (claims) marks.lists;
@@ -136,6 +136,6 @@ pub finds_read : (core log : List ℕ) (reading : Option (List ℕ)) (workers : 
     → FindsOne core log reading workers found
 finds_read core log reading workers input index places marked found read many is roots marks report leaked claims =
     finds_one core log reading workers input index places marked found read (few_blocks (length input.live.blocks) (λ h. no_error marked (many h))) is
-    (subst (λ (file : List ℕ). AreRootsOf file input.live.blocks places) read.image roots)
-    (subst (λ (file : List ℕ). Marks (word_of file) index places workers marked) read.image marks)
+    (subst (λ (file : List ℕ). AreRootsOf file input.live.blocks places) read.1.image roots)
+    (subst (λ (file : List ℕ). Marks (word_of file) index places workers marked) read.1.image marks)
     report leaked claims

@@ -33,48 +33,65 @@ use Rattle.leak_find.specs.declared.error.FindError.TheVariants.{NotPrefix, TooM
 use Rattle.leak_find.specs.declared.found.Found.{Found}
 use Rattle.leak_find.specs.declared.inputs.Input.{Input}
 use Rattle.leak_find.specs.declared.two_cores.Between.{Between}
-use Rattle.leak_find.specs.Inputs.{IsRead, IsInput, IsInputFault, IsFaultless, IsFaultOfTwo, IsTooMany, Continues, at_marking}
+use Rattle.leak_find.specs.declared.two_cores.Inputs.{Inputs}
+use Rattle.leak_find.specs.Inputs.{IsReadOf, IsRead, IsInput, IsInputFault, IsFaultless, IsFaultOfTwo, IsTooMany, Continues, ArePaired, AreReadTwo, at_marking}
 use Rattle.leak_find.specs.Search.{graph_of_one, head_with, index_of}
 use Rattle.leak_find.specs.SearchTwo.{IsMarkedEarlier, IsBetween, FindsLater, FindsTwo, graph_of_later, head_of_two, kept_blocks, new_blocks, numbers_of_two, size_of}
 use Rattle.leak_find.proofs.SearchLemmas.{found_words, input_blocks, marked_graph}
 
 -- ---- refusals
 
-abbrev pub faultless : (core log : List ℕ) (input : Input) → IsRead core log input → IsFaultless core log
-faultless core log input read = record { core_is = read.accepted; lines = input.log.lines; log_is = read.lines.0 }
+abbrev pub faultless : (core log : List ℕ) (lines : List Line) (input : Input) → IsReadOf core log lines input → IsFaultless core log
+faultless core log lines input read = record { core_is = read.accepted; lines = lines; log_is = read.is_log }
 
-abbrev pub as_input : (core log : List ℕ) (input : Input) → IsRead core log input → IsInput input
-as_input core log input read = record { log = log; read = subst (λ (file : List ℕ). IsRead file log input) (sym read.image) read }
+abbrev pub as_input : (core log : List ℕ) (lines : List Line) (input : Input) → IsReadOf core log lines input → IsInput lines input
+as_input core log lines input read = record { log = log; read = subst (λ (file : List ℕ). IsReadOf file log lines input) (sym read.image) read }
+
+-- the inputs, as they were read
+abbrev pub paired : (core1 log1 core2 log2 : List ℕ) (inputs : Inputs) (read : AreReadTwo core1 log1 core2 log2 inputs) → ArePaired read.before read.now inputs
+paired core1 log1 core2 log2 inputs read = record {
+  first = as_input core1 log1 read.before inputs.first read.first;
+  second = as_input core2 log2 read.now inputs.second read.second;
+  continued = read.lines;
+}
 
 pub has_too_many : (core log : List ℕ) (input : Input) → IsRead core log input → 2 ^ 32 - 1 < length input.live.blocks → IsTooMany log
 has_too_many core log input read many =
-    (input.log.lines, read.lines.0, subst (λ (bs : List Block). 2 ^ 32 ≤ length bs) (input_blocks core log input read) (omega (arith, many)))
+    (read.0, read.1.is_log, subst (λ (bs : List Block). 2 ^ 32 ≤ length bs) (input_blocks core log read.0 input read.1) (omega (arith, many)))
 
 pub fault_of_first : (core1 log1 core2 log2 : List ℕ) (e : FindError) → IsInputFault 1 core1 log1 e → IsFaultOfTwo core1 log1 core2 log2 e
 fault_of_first core1 log1 core2 log2 e fault = inl fault
 
 pub fault_of_second : (core1 log1 core2 log2 : List ℕ) (first : Input) (e : FindError) → IsRead core1 log1 first → IsInputFault 2 core2 log2 e → IsFaultOfTwo core1 log1 core2 log2 e
-fault_of_second core1 log1 core2 log2 first e read fault = inr (inl (faultless core1 log1 first read, fault))
+fault_of_second core1 log1 core2 log2 first e read fault = inr (inl (faultless core1 log1 read.0 first read.1, fault))
 
 pub no_prefix : (core1 log1 core2 log2 : List ℕ) (first second : Input) → IsRead core1 log1 first → IsRead core2 log2 second → IsFalse (is_continued_by log1 log2) → IsFaultOfTwo core1 log1 core2 log2 NotPrefix
-no_prefix core1 log1 core2 log2 first second read1 read2 other = inr (inr (faultless core1 log1 first read1, faultless core2 log2 second read2, other))
+no_prefix core1 log1 core2 log2 first second read1 read2 other = inr (inr (faultless core1 log1 read1.0 first read1.1, faultless core2 log2 read2.0 second read2.1, other))
 
 pub too_many_of_two : (core1 log1 core2 log2 : List ℕ) (first second : Input) → IsRead core1 log1 first → IsRead core2 log2 second → IsTrue (is_continued_by log1 log2)
     → (2 ^ 32 - 1 < length first.live.blocks) ⊎ (2 ^ 32 - 1 < length second.live.blocks) → IsFaultOfTwo core1 log1 core2 log2 TooMany
 too_many_of_two core1 log1 core2 log2 first second read1 read2 continued (inl many) =
-    inr (inr (faultless core1 log1 first read1, faultless core2 log2 second read2, (continued, inl (has_too_many core1 log1 first read1 many))))
+    inr (inr (faultless core1 log1 read1.0 first read1.1, faultless core2 log2 read2.0 second read2.1, (continued, inl (has_too_many core1 log1 first read1 many))))
 too_many_of_two core1 log1 core2 log2 first second read1 read2 continued (inr many) =
-    inr (inr (faultless core1 log1 first read1, faultless core2 log2 second read2, (continued, inr (has_too_many core2 log2 second read2 many))))
+    inr (inr (faultless core1 log1 read1.0 first read1.1, faultless core2 log2 read2.0 second read2.1, (continued, inr (has_too_many core2 log2 second read2 many))))
 
 -- marking of blocks that can be numbered is refused for want of memory alone
 pub only_memory : (n : ℕ) (e : PoolError) (f : FindError) → f ≡ at_marking e → (e ≡ TooManyForPool → 2 ^ 32 - 1 < n) → n < 2 ^ 32 → f ≡ NoMemory
 only_memory n TooManyForPool f is many few = absurd (let m = many refl in omega (arith, m, few))
 only_memory n NoMemoryForPool f is many few = is
 
-pub lines_continue : (core1 log1 core2 log2 : List ℕ) (first second : Input) → IsRead core1 log1 first → IsRead core2 log2 second → IsTrue (is_continued_by log1 log2)
-    → Continues first.log.lines second.log.lines
-lines_continue core1 log1 core2 log2 first second read1 read2 continued =
-    logs_continue log1 log2 first.log.lines second.log.lines continued read1.lines.0 read2.lines.0
+pub are_read : (core1 log1 core2 log2 : List ℕ) (inputs : Inputs) → IsRead core1 log1 inputs.first → IsRead core2 log2 inputs.second → IsTrue (is_continued_by log1 log2)
+    → length inputs.first.live.blocks < 2 ^ 32 → length inputs.second.live.blocks < 2 ^ 32 → AreReadTwo core1 log1 core2 log2 inputs
+are_read core1 log1 core2 log2 inputs read1 read2 continued few1 few2 = record {
+  before = read1.0;
+  now = read2.0;
+  first = read1.1;
+  second = read2.1;
+  few_before = few1;
+  few_now = few2;
+  continued = continued;
+  lines = logs_continue log1 log2 read1.0 read2.0 continued read1.1.is_log read2.1.is_log;
+}
 
 -- a test that says so
 pub is_true : (answer test : Bool) → answer ≡ test → answer ≡ true → IsTrue test
@@ -82,32 +99,32 @@ is_true answer test same says = sym same ∙ says
 
 -- ---- the earlier core
 
-pub marked_earlier : (reading : Option (List ℕ)) (workers : ℕ) (input : Input) (index : Index) (places : Places) (marked : Marked)
-    → IsInput input → index ≡ record { blocks = input.live.blocks; reading = reading }
+pub marked_earlier : (reading : Option (List ℕ)) (workers : ℕ) (lines : List Line) (input : Input) (index : Index) (places : Places) (marked : Marked)
+    → IsInput lines input → index ≡ record { blocks = input.live.blocks; reading = reading }
     → AreRootsOf input.image input.live.blocks places → Marks (word_of input.image) index places workers marked
-    → IsMarkedEarlier input.image reading input.log.lines marked.set.items
-marked_earlier reading workers input index places marked is_input is roots marks =
-    let e = input_blocks input.image is_input.log input is_input.read in
-    let g = marked_graph input.image reading input.log.lines input.live.blocks index places e is roots in
-    subst (λ (bs : List Block). IsSet marked.set.items (length bs) (Reach (graph_of_one input.image reading input.log.lines))) (ap (λ (i : Index). i.blocks) is ∙ e)
+    → IsMarkedEarlier input.image reading lines marked.set.items
+marked_earlier reading workers lines input index places marked is_input is roots marks =
+    let e = input_blocks input.image is_input.log lines input is_input.read in
+    let g = marked_graph input.image reading lines input.live.blocks index places e is roots in
+    subst (λ (bs : List Block). IsSet marked.set.items (length bs) (Reach (graph_of_one input.image reading lines))) (ap (λ (i : Index). i.blocks) is ∙ e)
     (subst (λ (h : Graph). IsSet marked.set.items (length index.blocks) (Reach h)) g marks.set)
 
 -- ---- between the cores
 
-pub is_between : (reading : Option (List ℕ)) (first second : Input) (set : List Bool) (c : Carry) (b : Between)
-    → IsInput first → IsInput second → Continues first.log.lines second.log.lines → AbsentAreFresh
-    → IsMarkedEarlier first.image reading first.log.lines set
+pub is_between : (reading : Option (List ℕ)) (before now : List Line) (first second : Input) (set : List Bool) (c : Carry) (b : Between)
+    → IsInput before first → IsInput now second → Continues before now → AbsentAreFresh
+    → IsMarkedEarlier first.image reading before set
     → c.kept.items ≡ kept_of first.live.blocks set second.live.blocks → c.fresh.items ≡ absent_of first.live.blocks second.live.blocks
     → IsCarry (length second.live.blocks) c → b.carry ≡ c → AreDiffering (word_of first.image) (word_of second.image) b.pages
-    → IsBetween first.image second.image reading first.log.lines second.log.lines b
-is_between reading first second set c b is_first is_second continues absent marked kept fresh lists same pages =
-    let e1 = input_blocks first.image is_first.log first is_first.read in
-    let e2 = input_blocks second.image is_second.log second is_second.read in
+    → IsBetween first.image second.image reading before now b
+is_between reading before now first second set c b is_first is_second continues absent marked kept fresh lists same pages =
+    let e1 = input_blocks first.image is_first.log before first is_first.read in
+    let e2 = input_blocks second.image is_second.log now second is_second.read in
     record {
       earlier = set;
       marked = marked;
       kept = rw (same, kept, e1, e2) refl;
-      fresh = rw (same, fresh, e1, e2) (subst (λ (lines : List Line). absent_of (live_of first.log.lines) (live_of lines) ≡ new_blocks first.log.lines lines) (sym continues.1) (absent first.log.lines continues.0));
+      fresh = rw (same, fresh, e1, e2) (subst (λ (lines : List Line). absent_of (live_of before) (live_of lines) ≡ new_blocks before lines) (sym continues.1) (absent before continues.0));
       lists = rw (same) (subst (λ (bs : List Block). IsCarry (length bs) c) e2 lists);
       pages = pages;
     }
@@ -141,18 +158,18 @@ reached_later core reading lines kept fresh set is_set i inside reached =
     (is_set.each i inside).1 (reach_within (graph_of_one core reading lines) (graph_of_later core reading kept fresh lines)
     (λ x h. has_back (kept ++ fresh) (graph_of_one core reading lines).first x h) (λ x. (λ h. h, λ h. h)) refl i reached)
 
-pub head_is_of_two : (core log : List ℕ) (input : Input) (two : Two) → IsRead core log input → head_with input (Some two) ≡ head_of_two core log input.log.lines two
-head_is_of_two core log input two read = rw (read.image, read.live, read.lines.1) refl
+pub head_is_of_two : (core log : List ℕ) (lines : List Line) (input : Input) (two : Two) → IsReadOf core log lines input → head_with input (Some two) ≡ head_of_two core log lines two
+head_is_of_two core log lines input two read = rw (read.image, read.live, read.torn) refl
 
 -- ---- what calls ask
 
-pub tests_of : (reading : Option (List ℕ)) (input : Input) (set : List Bool) → IsInput input → IsMarkedEarlier input.image reading input.log.lines set → length set ≡ length input.live.blocks
-tests_of reading input set is_input marked = marked.len ∙ ap length (sym (input_blocks input.image is_input.log input is_input.read))
+pub tests_of : (reading : Option (List ℕ)) (lines : List Line) (input : Input) (set : List Bool) → IsInput lines input → IsMarkedEarlier input.image reading lines set → length set ≡ length input.live.blocks
+tests_of reading lines input set is_input marked = marked.len ∙ ap length (sym (input_blocks input.image is_input.log lines input is_input.read))
 
-pub carried : (core1 core2 core log : List ℕ) (reading : Option (List ℕ)) (before : List Line) (second : Input) (b : Between)
-    → IsRead core log second → IsBetween core1 core2 reading before second.log.lines b → IsCarry (length second.live.blocks) b.carry
-carried core1 core2 core log reading before second b read between =
-    subst (λ (bs : List Block). IsCarry (length bs) b.carry) (sym (input_blocks core log second read)) between.lists
+pub carried : (core1 core2 core log : List ℕ) (reading : Option (List ℕ)) (before now : List Line) (second : Input) (b : Between)
+    → IsReadOf core log now second → IsBetween core1 core2 reading before now b → IsCarry (length second.live.blocks) b.carry
+carried core1 core2 core log reading before now second b read between =
+    subst (λ (bs : List Block). IsCarry (length bs) b.carry) (sym (input_blocks core log now second read)) between.lists
 
 pub for_memory : {A : Type 0} (T : FindError → Type 0) (r : Result A FindError) → IfErr r (λ e. e ≡ NoMemory) → IfErr r (λ e. e ≢ NoMemory → T e)
 for_memory T (Ok x) h = tt
@@ -171,79 +188,77 @@ index_is : (reading : Option (List ℕ)) (lines : List Line) (blocks : List Bloc
 index_is reading lines blocks index are is = rw (is, are) refl
 
 -- a search of the later core that read, compared, found roots and marked again
-finds_later : (core log : List ℕ) (reading : Option (List ℕ)) (workers : ℕ) (input : Input) (index : Index) (places : Places) (pages : List ℕ) (c : Carry) (r : Retraced) (count bytes : ℕ) (found : Found)
-    → IsRead core log input → index ≡ record { blocks = input.live.blocks; reading = reading } → AreRootsOf core input.live.blocks places
-    → OthersLeadWithin (word_of core) (index_of reading input.log.lines) pages c.kept.items c.fresh.items
+finds_later : (core log : List ℕ) (reading : Option (List ℕ)) (workers : ℕ) (lines : List Line) (input : Input) (index : Index) (places : Places) (pages : List ℕ) (c : Carry) (r : Retraced) (count bytes : ℕ) (found : Found)
+    → IsReadOf core log lines input → index ≡ record { blocks = input.live.blocks; reading = reading } → AreRootsOf core input.live.blocks places
+    → OthersLeadWithin (word_of core) (index_of reading lines) pages c.kept.items c.fresh.items
     → IsRetrace (word_of core) index places pages c workers r → count ≡ length c.fresh.items → bytes ≡ size_of input.live.blocks c.fresh.items
     → found.report.items ≡ text_of (head_with input (Some (record { fresh = count; fresh_bytes = bytes; reread = r.reread }))) input.live.blocks r.marked.set.items log
     → found.leaked ≡ length (leaked_in r.marked.set.items input.live.blocks) → found.claims ≡ r.marked.claims
-    → FindsLater core log reading input.log.lines pages c.kept.items c.fresh.items workers found
-finds_later core log reading workers input index places pages c r count bytes found read is roots others retrace counted sized report leaked claims =
-    let e = input_blocks core log input read in
-    let same_index = index_is reading input.log.lines input.live.blocks index e is in
+    → FindsLater core log reading lines pages c.kept.items c.fresh.items workers found
+finds_later core log reading workers lines input index places pages c r count bytes found read is roots others retrace counted sized report leaked claims =
+    let e = input_blocks core log lines input read in
+    let same_index = index_is reading lines input.live.blocks index e is in
     let within = subst (λ (i : Index). OthersLeadWithin (word_of core) i pages c.kept.items c.fresh.items) (sym same_index) others in
-    let g = later_graph core reading input.log.lines input.live.blocks index places c.kept.items c.fresh.items e is roots in
-    let set = subst (λ (bs : List Block). IsSet r.marked.set.items (length bs) (Reach (graph_of_later core reading c.kept.items c.fresh.items input.log.lines))) (ap (λ (i : Index). i.blocks) same_index)
+    let g = later_graph core reading lines input.live.blocks index places c.kept.items c.fresh.items e is roots in
+    let set = subst (λ (bs : List Block). IsSet r.marked.set.items (length bs) (Reach (graph_of_later core reading c.kept.items c.fresh.items lines))) (ap (λ (i : Index). i.blocks) same_index)
     (subst (λ (h : Graph). IsSet r.marked.set.items (length index.blocks) (Reach h)) g (retrace.set within)) in
     record {
       set = r.marked.set.items;
       marked = set;
-      reached = reached_later core reading input.log.lines c.kept.items c.fresh.items r.marked.set.items set;
-      report = report ∙ text_is core log reading input index pages c r count bytes read same_index retrace.reread counted sized;
+      reached = reached_later core reading lines c.kept.items c.fresh.items r.marked.set.items set;
+      report = report ∙ text_is core log reading lines input index pages c r count bytes read same_index retrace.reread counted sized;
       leaked = subst (λ (bs : List Block). found.leaked ≡ length (leaked_in r.marked.set.items bs)) e leaked;
       lists = rw (claims) retrace.from.2.lists;
       claims = rw (claims) (subst (λ (h : Graph). Partitions (lists_of r.marked) (λ i. Reach h i × ¬ Has c.kept.items i × ¬ Has c.fresh.items i)) g (retrace.claims within));
     }
   where
-    text_is : (core log : List ℕ) (reading : Option (List ℕ)) (input : Input) (index : Index) (pages : List ℕ) (c : Carry) (r : Retraced) (count bytes : ℕ)
-        → IsRead core log input → index ≡ index_of reading input.log.lines → r.reread ≡ reread_of (word_of core) pages index.blocks c.kept.items
+    text_is : (core log : List ℕ) (reading : Option (List ℕ)) (lines : List Line) (input : Input) (index : Index) (pages : List ℕ) (c : Carry) (r : Retraced) (count bytes : ℕ)
+        → IsReadOf core log lines input → index ≡ index_of reading lines → r.reread ≡ reread_of (word_of core) pages index.blocks c.kept.items
         → count ≡ length c.fresh.items → bytes ≡ size_of input.live.blocks c.fresh.items
         → text_of (head_with input (Some (record { fresh = count; fresh_bytes = bytes; reread = r.reread }))) input.live.blocks r.marked.set.items log
-        ≡ text_of (head_of_two core log input.log.lines (numbers_of_two core pages (live_of input.log.lines) c.kept.items c.fresh.items)) (live_of input.log.lines) r.marked.set.items log
-    text_is core log reading input index pages c r count bytes read is reread counted sized =
-        rw (counted, sized, reread, is, input_blocks core log input read)
-        (ap (λ (h : Head). text_of h (live_of input.log.lines) r.marked.set.items log)
-        (head_is_of_two core log input (numbers_of_two core pages (live_of input.log.lines) c.kept.items c.fresh.items) read))
+        ≡ text_of (head_of_two core log lines (numbers_of_two core pages (live_of lines) c.kept.items c.fresh.items)) (live_of lines) r.marked.set.items log
+    text_is core log reading lines input index pages c r count bytes read is reread counted sized =
+        rw (counted, sized, reread, is, input_blocks core log lines input read)
+        (ap (λ (h : Head). text_of h (live_of lines) r.marked.set.items log)
+        (head_is_of_two core log lines input (numbers_of_two core pages (live_of lines) c.kept.items c.fresh.items) read))
 
 -- the same where the inputs are known by what was read
-finds_inputs : (log1 log2 : List ℕ) (reading : Option (List ℕ)) (workers : ℕ) (first second : Input) (index : Index) (places : Places) (b : Between) (r : Retraced) (count bytes : ℕ) (found : Found)
-    → IsRead first.image log1 first → IsRead second.image log2 second → length first.live.blocks < 2 ^ 32 → length second.live.blocks < 2 ^ 32
-    → IsTrue (is_continued_by log1 log2) → Continues first.log.lines second.log.lines → SameWordsLeadWithin
-    → IsBetween first.image second.image reading first.log.lines second.log.lines b
+finds_inputs : (log1 log2 : List ℕ) (reading : Option (List ℕ)) (workers : ℕ) (before now : List Line) (first second : Input) (index : Index) (places : Places) (b : Between) (r : Retraced) (count bytes : ℕ) (found : Found)
+    → IsReadOf first.image log1 before first → IsReadOf second.image log2 now second → length first.live.blocks < 2 ^ 32 → length second.live.blocks < 2 ^ 32
+    → IsTrue (is_continued_by log1 log2) → Continues before now → SameWordsLeadWithin
+    → IsBetween first.image second.image reading before now b
     → index ≡ record { blocks = second.live.blocks; reading = reading } → AreRootsOf second.image second.live.blocks places
     → IsRetrace (word_of second.image) index places b.pages b.carry workers r → count ≡ length b.carry.fresh.items → bytes ≡ size_of second.live.blocks b.carry.fresh.items
     → found.report.items ≡ text_of (head_with second (Some (record { fresh = count; fresh_bytes = bytes; reread = r.reread }))) second.live.blocks r.marked.set.items log2
     → found.leaked ≡ length (leaked_in r.marked.set.items second.live.blocks) → found.claims ≡ r.marked.claims
     → FindsTwo first.image log1 second.image log2 reading workers found
-finds_inputs log1 log2 reading workers first second index places b r count bytes found read1 read2 few1 few2 continued continues same between is roots retrace counted sized report leaked claims =
-    let others = others_lead_within first.image second.image reading first.log.lines second.log.lines b between continues same in
-    let later = finds_later second.image log2 reading workers second index places b.pages b.carry r count bytes found read2 is roots others retrace counted sized report leaked claims in
+finds_inputs log1 log2 reading workers before now first second index places b r count bytes found read1 read2 few1 few2 continued continues same between is roots retrace counted sized report leaked claims =
+    let others = others_lead_within first.image second.image reading before now b between continues same in
+    let later = finds_later second.image log2 reading workers now second index places b.pages b.carry r count bytes found read2 is roots others retrace counted sized report leaked claims in
     record {
-      first = faultless first.image log1 first read1;
-      second = faultless second.image log2 second read2;
+      first = faultless first.image log1 before first read1;
+      second = faultless second.image log2 now second read2;
       continued = continued;
-      few_before = subst (λ (bs : List Block). length bs < 2 ^ 32) (input_blocks first.image log1 first read1) few1;
-      few_now = subst (λ (bs : List Block). length bs < 2 ^ 32) (input_blocks second.image log2 second read2) few2;
+      few_before = subst (λ (bs : List Block). length bs < 2 ^ 32) (input_blocks first.image log1 before first read1) few1;
+      few_now = subst (λ (bs : List Block). length bs < 2 ^ 32) (input_blocks second.image log2 now second read2) few2;
       earlier = between.earlier;
       marked = between.marked;
       pages = b.pages;
       differing = between.pages;
-      finds = subst (λ (kept : List ℕ). FindsLater second.image log2 reading second.log.lines b.pages kept (new_blocks first.log.lines second.log.lines) workers found) between.kept
-          (subst (λ (fresh : List ℕ). FindsLater second.image log2 reading second.log.lines b.pages b.carry.kept.items fresh workers found) between.fresh later);
+      finds = subst (λ (kept : List ℕ). FindsLater second.image log2 reading now b.pages kept (new_blocks before now) workers found) between.kept
+          (subst (λ (fresh : List ℕ). FindsLater second.image log2 reading now b.pages b.carry.kept.items fresh workers found) between.fresh later);
     }
 
-pub finds_two : (core1 log1 core2 log2 : List ℕ) (reading : Option (List ℕ)) (workers : ℕ) (first second : Input) (index : Index) (places : Places) (b : Between) (r : Retraced) (count bytes : ℕ) (found : Found)
-    → IsRead core1 log1 first × (length first.live.blocks < 2 ^ 32) → IsRead core2 log2 second × (length second.live.blocks < 2 ^ 32)
-    → IsTrue (is_continued_by log1 log2) → Continues first.log.lines second.log.lines → SameWordsLeadWithin
-    → IsBetween first.image second.image reading first.log.lines second.log.lines b
-    → index ≡ record { blocks = second.live.blocks; reading = reading } → AreRootsOf second.image second.live.blocks places
-    → IsRetrace (word_of second.image) index places b.pages b.carry workers r → count ≡ length b.carry.fresh.items → bytes ≡ size_of second.live.blocks b.carry.fresh.items
-    → found.report.items ≡ text_of (head_with second (Some (record { fresh = count; fresh_bytes = bytes; reread = r.reread }))) second.live.blocks r.marked.set.items log2
-    → found.leaked ≡ length (leaked_in r.marked.set.items second.live.blocks) → found.claims ≡ r.marked.claims
+pub finds_two : (core1 log1 core2 log2 : List ℕ) (reading : Option (List ℕ)) (workers : ℕ) (inputs : Inputs) (index : Index) (places : Places) (b : Between) (r : Retraced) (count bytes : ℕ) (found : Found)
+    → (read : AreReadTwo core1 log1 core2 log2 inputs) → SameWordsLeadWithin
+    → IsBetween inputs.first.image inputs.second.image reading read.before read.now b
+    → index ≡ record { blocks = inputs.second.live.blocks; reading = reading } → AreRootsOf inputs.second.image inputs.second.live.blocks places
+    → IsRetrace (word_of inputs.second.image) index places b.pages b.carry workers r → count ≡ length b.carry.fresh.items → bytes ≡ size_of inputs.second.live.blocks b.carry.fresh.items
+    → found.report.items ≡ text_of (head_with inputs.second (Some (record { fresh = count; fresh_bytes = bytes; reread = r.reread }))) inputs.second.live.blocks r.marked.set.items log2
+    → found.leaked ≡ length (leaked_in r.marked.set.items inputs.second.live.blocks) → found.claims ≡ r.marked.claims
     → FindsTwo core1 log1 core2 log2 reading workers found
-finds_two core1 log1 core2 log2 reading workers first second index places b r count bytes found read1 read2 continued continues same between is roots retrace counted sized report leaked claims =
-    let is1 = as_input core1 log1 first read1.0 in
-    let is2 = as_input core2 log2 second read2.0 in
-    let found_it = finds_inputs log1 log2 reading workers first second index places b r count bytes found is1.read is2.read read1.1 read2.1 continued continues same between is roots retrace counted sized report leaked claims in
-    subst (λ (file : List ℕ). FindsTwo core1 log1 file log2 reading workers found) read2.0.image
-    (subst (λ (file : List ℕ). FindsTwo file log1 second.image log2 reading workers found) read1.0.image found_it)
+finds_two core1 log1 core2 log2 reading workers inputs index places b r count bytes found read same between is roots retrace counted sized report leaked claims =
+    let pair = paired core1 log1 core2 log2 inputs read in
+    let found_it = finds_inputs log1 log2 reading workers read.before read.now inputs.first inputs.second index places b r count bytes found pair.first.read pair.second.read read.few_before read.few_now read.continued read.lines same between is roots retrace counted sized report leaked claims in
+    subst (λ (file : List ℕ). FindsTwo core1 log1 file log2 reading workers found) read.second.image
+    (subst (λ (file : List ℕ). FindsTwo file log1 inputs.second.image log2 reading workers found) read.first.image found_it)

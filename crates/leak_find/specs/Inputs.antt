@@ -1,5 +1,5 @@
 -- An input: a core, and the log of its allocations. Which of its refusals comes first.
-use Rattle.std.specs.Prelude.{◌≡◌, ℕ, ◌^◌, ◌≤◌, ◌⊎◌, ◌++◌, List, length, None, Some, IsTrue, IsFalse}
+use Rattle.std.specs.Prelude.{◌≡◌, ℕ, ◌^◌, ◌<◌, ◌≤◌, ◌⊎◌, ◌++◌, List, length, None, Some, IsTrue, IsFalse}
 use Rattle.leak_elf.specs.Refusals.{fault_of}
 use Rattle.leak_elf.specs.declared.error.ElfError.{ElfError}
 use Rattle.leak_elf.specs.declared.error.ElfError.TheVariants.{NoMemory as NoMemoryForCore}
@@ -9,11 +9,12 @@ use Rattle.leak_notes.specs.declared.error.NoteError.TheVariants.{NoMemory as No
 use Rattle.leak_mtrace.specs.declared.line.Line.{Line}
 use Rattle.leak_mtrace.specs.declared.error.LogError.{LogError}
 use Rattle.leak_mtrace.specs.declared.error.LogError.TheVariants.{NoMemory as NoMemoryForLog}
-use Rattle.leak_mtrace.specs.Log.{IsLog, IsReadAs, IsFirstFault, CallersAreIn, is_continued_by}
+use Rattle.leak_mtrace.specs.Log.{IsLog, IsFirstFault, CallersAreIn, is_continued_by, torn_of, whole_len_of}
 use Rattle.leak_blocks.specs.Live.{live_of, replay_of}
 use Rattle.leak_pool.specs.declared.error.PoolError.{PoolError}
 use Rattle.leak_pool.specs.declared.error.PoolError.TheVariants.{TooMany as TooManyForPool, NoMemory as NoMemoryForPool}
 use Rattle.leak_find.specs.declared.inputs.Input.{Input}
+use Rattle.leak_find.specs.declared.two_cores.Inputs.{Inputs}
 use Rattle.leak_find.specs.declared.error.FindError.{FindError}
 use Rattle.leak_find.specs.declared.error.FindError.TheVariants.{Core, Notes, Log, NotPrefix, TooMany, NoMemory}
 
@@ -77,20 +78,43 @@ IsFaultOfTwo core1 log1 core2 log2 e =
     IsInputFault 1 core1 log1 e
     ⊎ ((IsFaultless core1 log1 × IsInputFault 2 core2 log2 e) ⊎ (IsFaultless core1 log1 × IsFaultless core2 log2 × IsFaultBetween log1 log2 e))
 
--- the core and the log are free of faults, and were read as they are
-pub record IsRead (core log : List ℕ) (input : Input) : Type 0 where
+-- the core and the log are free of faults, the log has these lines, and they were read as they are
+pub record IsReadOf (core log : List ℕ) (lines : List Line) (input : Input) : Type 0 where
   pub accepted : IsCore core
   pub image : input.image ≡ core
   pub threads : input.threads ≡ threads_of core
-  pub lines : IsReadAs log input.log
-  pub callers : CallersAreIn log input.log.lines
-  pub live : input.live ≡ replay_of input.log.lines
+  pub is_log : IsLog log lines
+  pub torn : input.torn ≡ torn_of log
+  pub whole_len : input.whole_len ≡ whole_len_of log
+  pub callers : CallersAreIn log lines
+  pub live : input.live ≡ replay_of lines
 
--- the input was read from files that are free of faults
-pub record IsInput (input : Input) : Type 0 where
+-- they were read, with the lines that the log has
+abbrev pub IsRead : List ℕ → List ℕ → Input → Type 0
+IsRead core log input = (lines : List Line) × IsReadOf core log lines input
+
+-- the input was read from files that are free of faults, of which the log has these lines
+pub record IsInput (lines : List Line) (input : Input) : Type 0 where
   pub log : List ℕ
-  pub read : IsRead input.image log input
+  pub read : IsReadOf input.image log lines input
 
 -- the lines of the earlier log begin those of the later
 abbrev pub Continues : List Line → List Line → Type 0
 Continues before now = (after : List Line) × (now ≡ before ++ after)
+
+-- two inputs were read, and their logs have these lines, of which the earlier begin the later
+pub record ArePaired (before now : List Line) (inputs : Inputs) : Type 0 where
+  pub first : IsInput before inputs.first
+  pub second : IsInput now inputs.second
+  pub continued : Continues before now
+
+-- two inputs of one process were read, and their blocks are few enough to be numbered
+pub record AreReadTwo (core1 log1 core2 log2 : List ℕ) (inputs : Inputs) : Type 0 where
+  pub before : List Line
+  pub now : List Line
+  pub first : IsReadOf core1 log1 before inputs.first
+  pub second : IsReadOf core2 log2 now inputs.second
+  pub few_before : length inputs.first.live.blocks < 2 ^ 32
+  pub few_now : length inputs.second.live.blocks < 2 ^ 32
+  pub continued : IsTrue (is_continued_by log1 log2)
+  pub lines : Continues before now

@@ -42,7 +42,7 @@ head_with input two = record {
   undumped = undumped_of input.image;
   unknown = input.live.unknown;
   displaced = input.live.displaced;
-  torn = input.log.torn;
+  torn = input.torn;
   two = two;
 }
 

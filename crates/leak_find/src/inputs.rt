@@ -10,13 +10,16 @@ use leak_mtrace::Log;
 use leak_notes::Threads;
 use std::alloc::Global;
 
-/// A core and its log, read: nothing is marked yet.
+/// A core and its log, read: nothing is marked yet. The log's lines are dropped, and their live blocks are kept.
 #[derive(Drop)]
 pub(crate) struct Input<'a> {
     pub image: Image<'a>,
     pub threads: Threads,
-    pub log: Log,
     pub live: Live,
+    /// How many of the log's lines are torn.
+    pub torn: u64,
+    /// How many bytes of the log its whole lines take.
+    pub whole_len: usize,
 }
 
 /// Reads the input with the number, or gives its first fault: the core's, then its notes', then the log's.
@@ -45,7 +48,8 @@ pub(crate) fn read_input<'a>(
     Ok(Input {
         image,
         threads,
-        log,
         live,
+        torn: log.torn(),
+        whole_len: log.whole_len(),
     })
 }

@@ -31,7 +31,7 @@ pub(crate) fn report_of(
         undumped: input.image.undumped(),
         unknown: input.live.unknown(),
         displaced: input.live.displaced(),
-        torn: input.log.torn(),
+        torn: input.torn,
         two,
     };
     let report = text(alloc, &head, &input.live, marked.set.as_slice(), log)?;

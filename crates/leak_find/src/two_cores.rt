@@ -1,13 +1,14 @@
 //! The search of two cores of one process by worker threads.
 
-ghost use Rattle.std.specs.Prelude.{◌≡◌, ◌≢◌, ◌<◌, ◌^◌, ℕ, length, IfOk, IfErr, IsTrue};
+ghost use Rattle.std.specs.Prelude.{◌≡◌, ◌≢◌, ◌<◌, ◌^◌, ℕ, List, length, IfOk, IfErr};
 ghost use Rattle.std.specs.List.Sorted.{IsStrictlyIncreasing};
 ghost use Rattle.leak_marks.specs.Lists.{Has};
-ghost use Rattle.leak_mtrace.specs.Log.{IsReadAs, is_continued_by};
+ghost use Rattle.leak_mtrace.specs.declared.line.Line.{Line};
+ghost use Rattle.leak_mtrace.specs.Log.{is_continued_by, whole_len_of};
 ghost use Rattle.leak_blocks.specs.Live.{live_of};
 ghost use Rattle.leak_blocks.specs.Span.{AreAddressed, AreDisjoint};
 ghost use Rattle.leak_index.specs.Readings.{listed_by};
-ghost use Rattle.leak_find.specs.Inputs.{IsRead, IsInput, IsFaultOfTwo, Continues};
+ghost use Rattle.leak_find.specs.Inputs.{IsInput, ArePaired, AreReadTwo, IsFaultOfTwo};
 ghost use Rattle.leak_find.specs.SearchTwo.{IsMarkedEarlier, IsBetween, FindsTwo, size_of};
 
 use crate::error::FindError;
@@ -17,7 +18,6 @@ use crate::reporting::report_of;
 use leak_blocks::Block;
 use leak_dirty::{Carry, absent_are_fresh, carry, differing, retrace, same_words_lead_within};
 use leak_index::{Reading, Sorted};
-use leak_mtrace::Log;
 use leak_pool::{Gate, Marked, Plan, mark};
 use leak_report::Two;
 use leak_roots::Roots;
@@ -32,12 +32,12 @@ struct Inputs<'a, 'b> {
     second: Input<'b>,
 }
 
-/// Whether the whole lines of the log, which has these bytes, begin the later log.
-fn is_continued(log: &Log, bytes: &[u8], later: &[u8]) -> bool
-    requires { IsReadAs bytes.now log.now }
-    ensures { result ≡ is_continued_by bytes.now later.now }
+/// Whether the log's whole lines, which take so many of its bytes, begin the later log.
+fn is_continued(log: &[u8], whole_len: usize, later: &[u8]) -> bool
+    requires { whole_len ≡ whole_len_of log.now }
+    ensures { result ≡ is_continued_by log.now later.now }
 {
-    later.starts_with(&bytes[..log.whole_len()])
+    later.starts_with(&log[..whole_len])
 }
 
 /// Reads two inputs, or gives their first fault: those of the first, then those of the second, then that the first
@@ -49,15 +49,12 @@ fn read_two<'a, 'b>(
     core2: &'b [u8],
     log2: &[u8],
 ) -> Result<Inputs<'a, 'b>, FindError>
-    ensures first { IfOk result (λ inputs. IsRead core1.now log1.now inputs.first × (length inputs.first.live.blocks < 2 ^ 32)) }
-    ensures second { IfOk result (λ inputs. IsRead core2.now log2.now inputs.second × (length inputs.second.live.blocks < 2 ^ 32)) }
-    ensures continued { IfOk result (λ inputs. IsTrue (is_continued_by log1.now log2.now)) }
-    ensures lines { IfOk result (λ inputs. Continues inputs.first.log.lines inputs.second.log.lines) }
+    ensures read { IfOk result (AreReadTwo core1.now log1.now core2.now log2.now) }
     ensures refused { IfErr result (λ e. e ≢ FindError.NoMemory → IsFaultOfTwo core1.now log1.now core2.now log2.now e) }
 {
     let first = read_input(alloc, 1, core1, log1)?;
     let second = read_input(alloc, 2, core2, log2)?;
-    if !is_continued(&first.log, log1, log2) {
+    if !is_continued(log1, first.whole_len, log2) {
         return Err(FindError::NotPrefix);
     }
     if first.live.blocks().len() > u32::MAX as usize {
@@ -85,9 +82,9 @@ fn mark_earlier<R: Threads + Sync, G: Gate + Sync>(
     plan: Plan,
     gate: &G,
 ) -> Result<Marked, FindError>
-    requires read { IsInput input.now }
+    requires read { (lines : List Line) × IsInput lines input.now }
     requires few { length input.now.live.blocks < 2 ^ 32 }
-    ensures marked { IfOk result (λ marked. IsMarkedEarlier input.now.image (listed_by reading) input.now.log.lines marked.set.items) }
+    ensures marked { IfOk result (λ marked. (lines : List Line) → IsInput lines input.now → IsMarkedEarlier input.now.image (listed_by reading) lines marked.set.items) }
     ensures memory { IfErr result (λ e. e ≡ FindError.NoMemory) }
 {
     let roots = Roots::find(alloc, &input.image, &input.threads, &input.live)?;
@@ -114,11 +111,9 @@ fn compare<R: Threads + Sync, G: Gate + Sync>(
     plan: Plan,
     gate: &G,
 ) -> Result<Between, FindError>
-    requires first { IsInput inputs.now.first }
-    requires second { IsInput inputs.now.second }
-    requires continued { Continues inputs.now.first.log.lines inputs.now.second.log.lines }
+    requires paired { (before : List Line) × (now : List Line) × ArePaired before now inputs.now }
     requires few { (length inputs.now.first.live.blocks < 2 ^ 32) × (length inputs.now.second.live.blocks < 2 ^ 32) }
-    ensures between { IfOk result (λ between. IsBetween inputs.now.first.image inputs.now.second.image (listed_by reading) inputs.now.first.log.lines inputs.now.second.log.lines between) }
+    ensures between { IfOk result (λ between. (before now : List Line) → ArePaired before now inputs.now → IsBetween inputs.now.first.image inputs.now.second.image (listed_by reading) before now between) }
     ensures memory { IfErr result (λ e. e ≡ FindError.NoMemory) }
 {
     absent_are_fresh();
@@ -171,7 +166,9 @@ pub fn find_two<R: Threads + Sync, G: Gate + Sync>(
     same_words_lead_within();
     let inputs = read_two(alloc, core1, log1, core2, log2)?;
     let between = compare(rt, alloc, &inputs, reading, plan, gate)?;
-    let second = inputs.second;
+    // of the first input no more is asked
+    let Inputs { first, second } = inputs;
+    drop(first);
     let roots = Roots::find(alloc, &second.image, &second.threads, &second.live)?;
     let lookup = Sorted::new(&second.live, reading);
     let retraced = retrace(

@@ -1,7 +1,7 @@
-use Rattle.std.proofs.Common.{◌≡◌, ◌∙◌, ◌<◌, ◌-◌, ◌^◌, ℕ, Bool, List, IsTrue, sym, subst, length, inl, inr}
+use Rattle.std.proofs.Common.{◌≡◌, ◌∙◌, ◌<◌, ◌-◌, ◌^◌, ℕ, Bool, List, IsTrue, ap, subst, length, arith, inl, inr}
 use Rattle.leak_blocks.specs.declared.block.Block.{Block}
 use Rattle.leak_mtrace.specs.Log.{is_continued_by}
-use Rattle.leak_find.proofs.TwoLemmas.{is_true, too_many_of_two, lines_continue}
+use Rattle.leak_find.proofs.TwoLemmas.{is_true, too_many_of_two, are_read}
 use Rattle.leak_find.proofs.two_cores.read_two.Goals as goal
 
 abbrev IsOver : List Block → Type 0
@@ -15,5 +15,8 @@ pub returns-then-blocks-2-clause-refused : goal.returns-then-blocks-2-clause-ref
 returns-then-blocks-2-clause-refused c = λ other. too_many_of_two _ _ _ _ _ _ c.in_ok-first.ensures.ok c.in_ok-second.ensures.ok
     (is_true _ _ c.is_continued.ensures c.if-not-is_continued.false) (inr (subst IsOver c.blocks-3.ensures.value c.if-blocks-2.true))
 
-pub returns-clause-lines : goal.returns-clause-lines
-returns-clause-lines c = lines_continue _ _ _ _ _ _ c.in_ok-first.ensures.ok c.in_ok-second.ensures.ok (is_true _ _ c.is_continued.ensures c.if-not-is_continued.false)
+pub returns-clause-read : goal.returns-clause-read
+returns-clause-read c =
+    let first_few : length c.in_ok-first.first.live.blocks < 2 ^ 32 = omega (arith, ap length c.blocks-2.ensures.value, c.if-blocks.false) in
+    let second_few : length c.in_ok-second.second.live.blocks < 2 ^ 32 = omega (arith, ap length c.blocks-3.ensures.value, c.if-blocks-2.false) in
+    are_read _ _ _ _ _ c.in_ok-first.ensures.ok c.in_ok-second.ensures.ok (is_true _ _ c.is_continued.ensures c.if-not-is_continued.false) first_few second_few
