@@ -74,20 +74,22 @@ fn block(start: u64, size: u64) -> Block {
     }
 }
 
+/// Words of a core, by their addresses, and blocks that they lead to.
+const WORDS: [(u64, u64); 4] = [
+    (0x10008, 0x10120),
+    (0x10100, 0x10200),
+    (0x10108, 0x10240),
+    (0x10ff8, 0x10100),
+];
+
+const BLOCKS: &str = "+ 0x10100 0x20\n+ 0x10120 0x10\n+ 0x10200 0x40\n";
+
 #[test]
-fn targets_of_each_range(rt: HostRuntime) -> Result<(), Fail> {
+fn targets_of_ranges_and_registers(rt: HostRuntime) -> Result<(), Fail> {
     let alloc = rt.alloc();
-    let core = core_k(
-        alloc,
-        &[
-            (0x10008, 0x10120),
-            (0x10100, 0x10200),
-            (0x10108, 0x10240),
-            (0x10ff8, 0x10100),
-        ],
-    )?;
+    let core = core_k(alloc, &WORDS)?;
     let image = Image::read(alloc, core.as_slice())?;
-    let live = lives(alloc, "+ 0x10100 0x20\n+ 0x10120 0x10\n+ 0x10200 0x40\n")?;
+    let live = lives(alloc, BLOCKS)?;
     let lookup = Sorted::new(&live, Reading::interior());
     let all = listed(alloc, Targets::of_range(&image, &lookup, 0, u64::MAX))?;
     assert_eq!(rt; all.as_slice(), [0, 1, 2, 2, 0].as_slice());
@@ -99,22 +101,23 @@ fn targets_of_each_range(rt: HostRuntime) -> Result<(), Fail> {
     let registers = [0, 0x10200, 0x10120, u64::MAX];
     let led = listed(alloc, Targets::of_registers(&image, &registers, &lookup))?;
     assert_eq!(rt; led.as_slice(), [2, 0, 1].as_slice());
-    let own = listed(
-        alloc,
-        Targets::of_block(&image, &lookup, &block(0x10100, 0x20)),
-    )?;
-    assert_eq!(rt; own.as_slice(), [2, 2].as_slice());
+    Ok(())
+}
+
+#[test]
+fn targets_of_blocks(rt: HostRuntime) -> Result<(), Fail> {
+    let alloc = rt.alloc();
+    let core = core_k(alloc, &WORDS)?;
+    let image = Image::read(alloc, core.as_slice())?;
+    let live = lives(alloc, BLOCKS)?;
+    let lookup = Sorted::new(&live, Reading::interior());
     // 12 bytes hold one word
-    let short = listed(
-        alloc,
-        Targets::of_block(&image, &lookup, &block(0x10100, 12)),
-    )?;
-    assert_eq!(rt; short.as_slice(), [2].as_slice());
-    let empty = listed(
-        alloc,
-        Targets::of_block(&image, &lookup, &block(0x10100, 0)),
-    )?;
-    assert_eq!(rt; empty.as_slice(), [].as_slice());
+    let cases: [(u64, &[usize]); 3] = [(0x20, &[2, 2]), (12, &[2]), (0, &[])];
+    for (size, targets) in cases {
+        let block = block(0x10100, size);
+        let found = listed(alloc, Targets::of_block(&image, &lookup, &block))?;
+        assert_eq!(rt; found.as_slice(), targets, "{size} bytes");
+    }
     let mut set = vec![in alloc; false; live.blocks().len()]?;
     mark_targets(&image, &lookup, &block(0x10ff0, 0x10), set.as_mut_slice());
     assert_eq!(rt; set.as_slice(), [true, false, false].as_slice());

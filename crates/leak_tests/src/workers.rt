@@ -11,7 +11,10 @@ use leak_index::Reading;
 use leak_mtrace::LogError;
 use leak_notes::NoteError;
 use leak_pool::Open;
+use std::alloc::Global;
+use std::process::Abort;
 use std::test::Fail;
+use std::thread::Threads;
 
 #[test]
 fn each_example_gives_its_report(rt: HostRuntime) -> Result<(), Fail> {
@@ -103,6 +106,30 @@ fn chains_and_stars_are_followed_to_their_ends(rt: HostRuntime) -> Result<(), Fa
     Ok(())
 }
 
+/// Checks that searches by each plan give the refusal.
+fn refuse_alike<R: Threads + Sync + Abort>(
+    rt: &R,
+    alloc: Global,
+    parts: &[Part],
+    log: &str,
+    refusal: FindError,
+) -> Result<(), Fail> {
+    let core = core_of(alloc, parts)?;
+    for plan in plans(alloc)? {
+        let result = find_one(
+            rt,
+            alloc,
+            core.as_slice(),
+            log.as_bytes(),
+            Reading::interior(),
+            plan,
+            &Open,
+        );
+        assert_eq!(rt; result.err(), Some(refusal), "by {plan:?}");
+    }
+    Ok(())
+}
+
 #[test]
 fn refusals_are_the_same(rt: HostRuntime) -> Result<(), Fail> {
     let cases: [(&[Part], &str, FindError); 5] = [
@@ -128,23 +155,8 @@ fn refusals_are_the_same(rt: HostRuntime) -> Result<(), Fail> {
             FindError::Log(1, LogError::Extent(1)),
         ),
     ];
-    let plans = plans(rt.alloc())?;
     for (parts, log, refusal) in cases {
-        let core = core_of(rt.alloc(), parts)?;
-        let core = core.as_slice();
-        let log = log.as_bytes();
-        for plan in plans.as_slice() {
-            let result = find_one(
-                &rt,
-                rt.alloc(),
-                core,
-                log,
-                Reading::interior(),
-                *plan,
-                &Open,
-            );
-            assert_eq!(rt; result.err(), Some(refusal), "by {plan:?}");
-        }
+        refuse_alike(&rt, rt.alloc(), parts, log, refusal)?;
     }
     Ok(())
 }

@@ -39,49 +39,60 @@ fn options(two: bool, reading: Reading, plan: Plan) -> Options {
     }
 }
 
+/// Checks that the words are taken as a request with these options and paths.
+fn takes<R: Abort + AllocGlobal>(
+    rt: &R,
+    line: &str,
+    options: Options,
+    paths: &str,
+) -> Result<(), Fail> {
+    let request = asked(rt, line)??;
+    let want = format!(in rt.alloc(); "{options:?} {paths}")?;
+    assert_eq!(rt; shown(rt, &request)?.as_str(), want.as_str(), "{line}");
+    Ok(())
+}
+
 #[test]
-fn requests(rt: HostRuntime) -> Result<(), Fail> {
+fn requests_of_one_core(rt: HostRuntime) -> Result<(), Fail> {
     let interior = Reading::interior();
     let listed = Reading::displaced([8, 16].as_slice())?;
-    let usual = Plan::new(4, 512, 1024)?;
-    let cases = [
-        (
-            "one core.1 trace.log",
-            options(false, interior, usual),
-            "core.1 trace.log",
-        ),
-        (
-            "one core.1 trace.log --workers 2 --displace 8,16",
-            options(false, listed, Plan::new(2, 512, 1024)?),
-            "core.1 trace.log",
-        ),
-        (
-            "one a b --piece 1 --stack 0",
-            options(false, interior, Plan::new(4, 1, 0)?),
-            "a b",
-        ),
-        (
-            "two a b c d --piece 1 --stack 0",
-            options(true, interior, Plan::new(4, 1, 0)?),
-            "a b c d",
-        ),
-        (
-            "two --workers 2 a b --displace 8,16 c d",
-            options(true, listed, Plan::new(2, 512, 1024)?),
-            "a b c d",
-        ),
-        (
-            "one --workers=64 --piece=65536 --stack=65536 -- -a -b",
-            options(false, interior, Plan::new(64, 65536, 65536)?),
-            "-a -b",
-        ),
-    ];
-    for (line, options, paths) in cases {
-        let request = asked(&rt, line)??;
-        let want = format!(in rt.alloc(); "{options:?} {paths}")?;
-        assert_eq!(rt; shown(&rt, &request)?.as_str(), want.as_str(), "{line}");
-    }
-    Ok(())
+    let usual = options(false, interior, Plan::new(4, 512, 1024)?);
+    takes(&rt, "one core.1 trace.log", usual, "core.1 trace.log")?;
+    takes(
+        &rt,
+        "one core.1 trace.log --workers 2 --displace 8,16",
+        options(false, listed, Plan::new(2, 512, 1024)?),
+        "core.1 trace.log",
+    )?;
+    takes(
+        &rt,
+        "one a b --piece 1 --stack 0",
+        options(false, interior, Plan::new(4, 1, 0)?),
+        "a b",
+    )?;
+    takes(
+        &rt,
+        "one --workers=64 --piece=65536 --stack=65536 -- -a -b",
+        options(false, interior, Plan::new(64, 65536, 65536)?),
+        "-a -b",
+    )
+}
+
+#[test]
+fn requests_of_two_cores(rt: HostRuntime) -> Result<(), Fail> {
+    let listed = Reading::displaced([8, 16].as_slice())?;
+    takes(
+        &rt,
+        "two a b c d --piece 1 --stack 0",
+        options(true, Reading::interior(), Plan::new(4, 1, 0)?),
+        "a b c d",
+    )?;
+    takes(
+        &rt,
+        "two --workers 2 a b --displace 8,16 c d",
+        options(true, listed, Plan::new(2, 512, 1024)?),
+        "a b c d",
+    )
 }
 
 #[test]
