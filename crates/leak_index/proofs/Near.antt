@@ -10,6 +10,14 @@ use Rattle.leak_index.specs.Bounds.{AreWithin, IsCountUpTo}
 use Rattle.leak_index.specs.Hits.{hits_from}
 use Rattle.leak_index.specs.Leads.{leads, allows}
 
+-- by which of two numbers is greater
+pub either : (a b : ℕ) (P : Type 0) → (a < b → P) → (b ≤ a → P) → P
+either a b P low high = go (nat_lt a b) refl
+  where
+    go : (t : Bool) → nat_lt a b ≡ t → P
+    go true e = low (ltb→lt _ _ (passes _ e))
+    go false e = high (nltb→le _ _ (fails _ e))
+
 -- ---- blocks that are not led to
 
 before_start : (r : Option (List ℕ)) (w : ℕ) (b : Block) → w < b.start → leads r w b ≡ false

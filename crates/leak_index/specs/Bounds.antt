@@ -14,3 +14,10 @@ pub record IsCountUpTo (blocks : List Block) (address count : ℕ) : Type 0 wher
   pub bound : count ≤ length blocks
   pub within : (k : ℕ) (d : Block) → k < count → (slice_index_or blocks k d).start ≤ address
   pub beyond : (k : ℕ) (d : Block) → count ≤ k → k < length blocks → address < (slice_index_or blocks k d).start
+
+-- the blocks numbered below `low` begin at the address or before it, and those from `high` on behind it
+pub record IsNarrowedTo (blocks : List Block) (address low high : ℕ) : Type 0 where
+  pub order : low ≤ high
+  pub bound : high ≤ length blocks
+  pub before : (k : ℕ) (d : Block) → k < low → (slice_index_or blocks k d).start ≤ address
+  pub behind : (k : ℕ) (d : Block) → high ≤ k → k < length blocks → address < (slice_index_or blocks k d).start

@@ -2,4 +2,5 @@ pub mod Leads
 pub mod Readings
 pub mod Hits
 pub mod Bounds
+pub mod Directory
 pub mod Rows

@@ -1,17 +1,22 @@
 //! From a word to the live blocks that it leads to.
 //!
-//! [`Sorted`] takes the live blocks of a log and a [`Reading`], and answers as [`Lookup`] which blocks a word leads
-//! to, as [`Hits`]: none, one, or two where a block begins at the address behind another's last byte. A reading says
-//! how far from its start a block may be pointed at.
+//! [`Sorted`] and [`Paged`] take the live blocks of a log and a [`Reading`], and answer as [`Lookup`] which blocks a
+//! word leads to, as [`Hits`]: none, one, or two where a block begins at the address behind another's last byte.
+//! `Sorted` searches among all blocks and takes no memory. `Paged` searches among the pages in which blocks start, for
+//! which it takes memory, and then among the blocks of one page. A reading says how far from its start a block may be
+//! pointed at.
 //!
 //! The rule follows bdwgc's conservative marking with interior pointers: a word that could be an address into a block
 //! keeps it. Own rule: it counts for words of registers and stacks as for all others, the address behind the last
 //! byte counts too, and both of two neighbors are kept. The contracts don't say that a word is a pointer.
 #![tactic(auto)]
 
+mod candidates;
+mod directory;
 mod error;
 mod hits;
 mod laws;
+mod paged;
 mod reading;
 mod sorted;
 #[cfg(test)]
@@ -20,5 +25,6 @@ mod tests;
 pub use error::ReadingError;
 pub use hits::{Hits, Lookup};
 pub use laws::{at_most_two, hits_are_blocks, worked_words};
+pub use paged::Paged;
 pub use reading::Reading;
 pub use sorted::Sorted;

@@ -1,7 +1,8 @@
-use crate::{Hits, Lookup, Reading, ReadingError, Sorted};
-use leak_blocks::replay;
+use crate::{Hits, Lookup, Paged, Reading, ReadingError, Sorted};
+use leak_blocks::{Live, replay};
 use leak_mtrace::Log;
-use std::alloc::Global;
+use std::alloc::{AllocError, Global};
+use std::process::Abort;
 use std::test::Fail;
 
 /// What the lookup answers, asked through its trait.
@@ -9,17 +10,26 @@ fn ask<L: Lookup>(lookup: &L, word: u64) -> Hits {
     lookup.hits(word)
 }
 
+/// The live blocks of a log.
+fn lives(alloc: Global, text: &str) -> Result<Live, Fail> {
+    let log = Log::read(alloc, text.as_bytes())?;
+    Ok(replay(alloc, &log)?)
+}
+
 #[test]
 fn words_by_both_readings(rt: HostRuntime) -> Result<(), Fail> {
     let alloc = rt.alloc();
-    let text = "+ 0x100 0x10\n+ 0x110 0\n+ 0x111 0xf\n+ 0x130 0x10\n";
-    let log = Log::read(alloc, text.as_bytes())?;
-    let live = replay(alloc, &log)?;
-    let interior = Sorted::new(&live, Reading::interior());
+    let live = lives(
+        alloc,
+        "+ 0x100 0x10\n+ 0x110 0\n+ 0x111 0xf\n+ 0x130 0x10\n",
+    )?;
     let Ok(by_eight) = Reading::displaced(&[8]) else {
         return Ok(assert!(rt; false, "one value is a reading"));
     };
+    let interior = Sorted::new(&live, Reading::interior());
     let displaced = Sorted::new(&live, by_eight);
+    let paged_interior = Paged::new(alloc, &live, Reading::interior())?;
+    let paged_displaced = Paged::new(alloc, &live, by_eight)?;
     let cases = [
         (0, Hits::Zero, Hits::Zero),
         (0xff, Hits::Zero, Hits::Zero),
@@ -40,6 +50,125 @@ fn words_by_both_readings(rt: HostRuntime) -> Result<(), Fail> {
             by_displaced,
             "{word}, displaced by 8"
         );
+        assert_eq!(rt;
+            ask(&paged_interior, word),
+            by_interior,
+            "{word}, by pages, interior"
+        );
+        assert_eq!(rt;
+            ask(&paged_displaced, word),
+            by_displaced,
+            "{word}, by pages, displaced by 8"
+        );
+    }
+    Ok(())
+}
+
+/// Checks what both lookups answer by the interior reading.
+fn check_both(
+    rt: &impl Abort,
+    alloc: Global,
+    log: &str,
+    cases: &[(u64, Hits)],
+) -> Result<(), Fail> {
+    let live = lives(alloc, log)?;
+    let sorted = Sorted::new(&live, Reading::interior());
+    let paged = Paged::new(alloc, &live, Reading::interior())?;
+    for (word, hits) in cases {
+        assert_eq!(rt; sorted.hits(*word), *hits, "{word}, sorted");
+        assert_eq!(rt; paged.hits(*word), *hits, "{word}, by pages");
+    }
+    Ok(())
+}
+
+#[test]
+fn a_block_of_the_page_before_ends_where_a_page_begins(rt: HostRuntime) -> Result<(), Fail> {
+    check_both(
+        &rt,
+        rt.alloc(),
+        "+ 0x10ff0 0x10\n+ 0x11000 0x10\n",
+        &[
+            (0x10fef, Hits::Zero),
+            (0x10fff, Hits::One(0)),
+            (0x11000, Hits::Two(0, 1)),
+            (0x11001, Hits::One(1)),
+            (0x11010, Hits::One(1)),
+            (0x11011, Hits::Zero),
+        ],
+    )
+}
+
+#[test]
+fn a_block_goes_over_pages_in_which_none_starts(rt: HostRuntime) -> Result<(), Fail> {
+    check_both(
+        &rt,
+        rt.alloc(),
+        "+ 0x10100 0x3100\n+ 0x13210 0x10\n+ 0x15ff8 0x8\n",
+        &[
+            (0x11000, Hits::One(0)),
+            (0x12ff8, Hits::One(0)),
+            (0x13000, Hits::One(0)),
+            (0x13200, Hits::One(0)),
+            (0x13201, Hits::Zero),
+            (0x13220, Hits::One(1)),
+            (0x14000, Hits::Zero),
+            (0x15000, Hits::Zero),
+            (0x16000, Hits::One(2)),
+        ],
+    )
+}
+
+#[test]
+fn a_huge_block_is_led_to_from_its_start_to_its_end(rt: HostRuntime) -> Result<(), Fail> {
+    check_both(
+        &rt,
+        rt.alloc(),
+        "+ 0x10100 0x1000000000000000\n",
+        &[
+            (0x100f, Hits::Zero),
+            (0x100ff, Hits::Zero),
+            (0x10100, Hits::One(0)),
+            (0x1000_0000_0001_0100, Hits::One(0)),
+            (0x1000_0000_0001_0101, Hits::Zero),
+        ],
+    )
+}
+
+/// The log of a hundred blocks of 16 bytes in a row, with as many bytes between them.
+fn chain(alloc: Global) -> Result<String, AllocError> {
+    let mut log = String::new(alloc);
+    for i in 0..100u64 {
+        writeln!(log, "+ 0x{:x} 0x10", 0x10200 + 0x20 * i)?;
+    }
+    Ok(log)
+}
+
+/// The log of a block of 400 bytes, 50 blocks of 16 bytes and 50 of 8 bytes.
+fn star(alloc: Global) -> Result<String, AllocError> {
+    let mut log = String::new(alloc);
+    writeln!(log, "+ 0x10200 0x190")?;
+    for i in 0..50u64 {
+        writeln!(log, "+ 0x{:x} 0x10", 0x10400 + 0x20 * i)?;
+        writeln!(log, "+ 0x{:x} 0x8", 0x10b00 + 0x10 * i)?;
+    }
+    Ok(log)
+}
+
+#[test]
+fn both_lookups_agree(rt: HostRuntime) -> Result<(), Fail> {
+    let alloc = rt.alloc();
+    let Ok(by_eight) = Reading::displaced(&[8]) else {
+        return Ok(assert!(rt; false, "one value is a reading"));
+    };
+    for log in [chain(alloc)?, star(alloc)?] {
+        let live = lives(alloc, log.as_str())?;
+        for reading in [Reading::interior(), by_eight] {
+            let sorted = Sorted::new(&live, reading);
+            let paged = Paged::new(alloc, &live, reading)?;
+            for word in 0x10000..=0x11000 {
+                assert_eq!(rt; paged.hits(word), sorted.hits(word), "{word}");
+            }
+        }
     }
     Ok(())
 }
@@ -47,11 +176,12 @@ fn words_by_both_readings(rt: HostRuntime) -> Result<(), Fail> {
 #[test]
 fn a_log_without_blocks_leads_nowhere(rt: HostRuntime) -> Result<(), Fail> {
     let alloc = rt.alloc();
-    let log = Log::read(alloc, b"")?;
-    let live = replay(alloc, &log)?;
-    let lookup = Sorted::new(&live, Reading::interior());
+    let live = lives(alloc, "")?;
+    let sorted = Sorted::new(&live, Reading::interior());
+    let paged = Paged::new(alloc, &live, Reading::interior())?;
     for word in [0, 0x10100, u64::MAX] {
-        assert_eq!(rt; lookup.hits(word), Hits::Zero, "{word}");
+        assert_eq!(rt; sorted.hits(word), Hits::Zero, "{word}, sorted");
+        assert_eq!(rt; paged.hits(word), Hits::Zero, "{word}, by pages");
     }
     Ok(())
 }
@@ -61,8 +191,7 @@ fn a_displaced_reading_takes_the_start_and_the_listed_distances(
     rt: HostRuntime,
 ) -> Result<(), Fail> {
     let alloc = rt.alloc();
-    let log = Log::read(alloc, b"@ ./a.out:[0x401136] + 0x10100 0x20\n")?;
-    let live = replay(alloc, &log)?;
+    let live = lives(alloc, "@ ./a.out:[0x401136] + 0x10100 0x20\n")?;
     for values in [[8, 8].as_slice(), [8].as_slice(), [65535, 0, 8].as_slice()] {
         let Ok(reading) = Reading::displaced(values) else {
             return Ok(assert!(rt; false, "the values are a reading"));

@@ -3,7 +3,7 @@ use Rattle.std.proofs.Common.{arith}
 use Rattle.std.proofs.lemmas.Bool.Decides.{nat_tests}
 use Rattle.leak_blocks.specs.declared.block.Block.{Block}
 use Rattle.leak_index.proofs.Near.{bounds}
-use Rattle.leak_index.proofs.sorted.Sorted.new.Goals as goal
+use Rattle.leak_index.proofs.candidates.Candidates.new.Goals as goal
 
 abbrev empty : Block
 empty = record { start = 0; size = 0; line = 0; caller = (0, 0) }
