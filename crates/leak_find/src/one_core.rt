@@ -9,7 +9,7 @@ use crate::error::FindError;
 use crate::found::Found;
 use crate::inputs::read_input;
 use crate::reporting::report_of;
-use leak_index::{Reading, Sorted};
+use leak_index::{Paged, Reading};
 use leak_pool::{Gate, Plan, mark};
 use leak_roots::Roots;
 use std::alloc::Global;
@@ -29,7 +29,7 @@ pub fn find_one<R: std::thread::Threads + Sync, G: Gate + Sync>(
 {
     let input = read_input(alloc, 1, core, log)?;
     let roots = Roots::find(alloc, &input.image, &input.threads, &input.live)?;
-    let lookup = Sorted::new(&input.live, reading);
+    let lookup = Paged::new(alloc, &input.live, reading)?;
     let marked = mark(
         rt,
         alloc,

@@ -17,7 +17,7 @@ use crate::inputs::{Input, read_input};
 use crate::reporting::report_of;
 use leak_blocks::Block;
 use leak_dirty::{Carry, absent_are_fresh, carry, differing, retrace, same_words_lead_within};
-use leak_index::{Reading, Sorted};
+use leak_index::{Paged, Reading};
 use leak_pool::{Gate, Marked, Plan, mark};
 use leak_report::Two;
 use leak_roots::Roots;
@@ -88,7 +88,7 @@ fn mark_earlier<R: Threads + Sync, G: Gate + Sync>(
     ensures memory { IfErr result (λ e. e ≡ FindError.NoMemory) }
 {
     let roots = Roots::find(alloc, &input.image, &input.threads, &input.live)?;
-    let lookup = Sorted::new(&input.live, reading);
+    let lookup = Paged::new(alloc, &input.live, reading)?;
     let marked = mark(
         rt,
         alloc,
@@ -170,7 +170,7 @@ pub fn find_two<R: Threads + Sync, G: Gate + Sync>(
     let Inputs { first, second } = inputs;
     drop(first);
     let roots = Roots::find(alloc, &second.image, &second.threads, &second.live)?;
-    let lookup = Sorted::new(&second.live, reading);
+    let lookup = Paged::new(alloc, &second.live, reading)?;
     let retraced = retrace(
         rt,
         alloc,
