@@ -1,15 +1,15 @@
 -- Marking by one thread, claim by claim and block by block.
-use Rattle.std.proofs.Common.{◌≡◌, ◌≢◌, ◌⊎◌, ℕ, zero, suc, ◌+◌, ◌<◌, ◌≤◌, Bool, true, false, true≢false, List, [], ◌∷◌, ◌++◌, length, get_or, set, map, take, drop, replicate, refl, sym, ap, ◌∙◌, subst, inl, inr, ⊎_elim, arith, append_assoc, length-append, length-set}
-use Rattle.std.proofs.lemmas.List.{append-nil, get_or-set_same, get_or-set_other, get_or_append_left, get_or-replicate, length-replicate}
+use Rattle.std.proofs.Common.{◌≡◌, ℕ, zero, suc, ◌+◌, ◌<◌, ◌≤◌, Bool, true, false, true≢false, List, [], ◌∷◌, ◌++◌, length, get_or, set, take, drop, replicate, refl, sym, ap, ◌∙◌, subst, inl, inr, ⊎_elim, arith, append_assoc, length-append, length-set}
+use Rattle.std.proofs.lemmas.List.{append-nil, get_or-set_same, get_or-set_other, get_or_append_left}
 use mathlib.Core.Logic.{dite}
 use native.Mathlib.Decide.{dec_lt, ℕ_discrete}
 use Rattle.std.specs.List.{concat}
-use Rattle.leak_marks.specs.Lists.{times, Has, Within, IsDistinct}
+use Rattle.leak_marks.specs.Lists.{times, Has}
 use Rattle.leak_marks.specs.Reach.{Graph, Reach, IsChain, targets_of}
 use Rattle.leak_marks.specs.Partition.{Partitions}
-use Rattle.leak_marks.proofs.ListLemmas.{here, there, at_head, has_front, has_back, of_append, has_last, of_push, distinct_push}
-use Rattle.std.specs.List.{filter_map, flat_map}
-use Rattle.std.specs.Prelude.{Option, Some, slice_get}
+use Rattle.leak_marks.proofs.ListLemmas.{here, at_head, has_front, has_back, of_append, has_last, of_push, distinct_push}
+use Rattle.std.specs.List.{filter_map}
+use Rattle.std.specs.Prelude.{Option, Some}
 use Rattle.std.proofs.lemmas.List.{take_more, take_all, take-append-le}
 use Rattle.std.proofs.lemmas.List.Elements.{filter_map-append}
 use Rattle.std.proofs.lemmas.Option.{slice_get-get_or, get_or_from_slice_get}

@@ -1,12 +1,12 @@
 -- How marking begins and ends.
-use Rattle.std.proofs.Common.{◌≡◌, ◌⊎◌, ℕ, zero, suc, ◌+◌, ◌<◌, ◌≤◌, List, [], ◌∷◌, ◌++◌, length, map, get_or, replicate, Bool, true, false, IsTrue, refl, sym, ap, ◌∙◌, subst, inl, inr, ⊎_elim, arith, le_of_suc-le-suc}
-use Rattle.std.specs.Prelude.{◌↔◌, slice_get, Option, Some}
+use Rattle.std.proofs.Common.{◌≡◌, ◌⊎◌, ℕ, zero, suc, ◌+◌, ◌<◌, ◌≤◌, List, [], ◌∷◌, ◌++◌, length, get_or, replicate, Bool, true, false, IsTrue, refl, sym, ap, ◌∙◌, subst, inl, inr, ⊎_elim, arith}
+use Rattle.std.specs.Prelude.{◌↔◌, slice_get, Some}
 use Rattle.std.specs.List.{concat}
 use Rattle.std.proofs.lemmas.List.{length-replicate, length-append, get_or_append_left, get_or_at}
 use Rattle.std.proofs.lemmas.Option.{slice_get-get_or}
 use mathlib.Core.Logic.{dite}
 use native.Mathlib.Decide.{ℕ_discrete}
-use Rattle.leak_marks.specs.Lists.{times, Has, Within, IsDistinct, mark_of, word_count}
+use Rattle.leak_marks.specs.Lists.{times, Has, Within, mark_of, word_count}
 use Rattle.leak_marks.specs.Seats.{Held, held, IsSound}
 use Rattle.leak_marks.specs.Reach.{Graph, Reach, IsChain}
 use Rattle.leak_marks.specs.Partition.{Partitions}
@@ -14,7 +14,6 @@ use Rattle.leak_marks.specs.Runs.{Attempt, IsWholeRun, claims_after}
 use Rattle.leak_marks.specs.Laws.{ListsPartitionReach}
 use Rattle.leak_marks.specs.Rounds.{IsUnderWay}
 use Rattle.leak_marks.proofs.RunLemmas.{nothing_held}
-use Rattle.leak_marks.proofs.ListLemmas.{here, there, at_head}
 use Rattle.leak_marks.proofs.RoundLemmas.{begins, ends}
 use Rattle.leak_pool.specs.Items.{InRange, targets_at, targets_of_item}
 use Rattle.leak_pool.specs.declared.source.Item.{Item}

@@ -1,13 +1,11 @@
 -- Marking goes on by steps, and ends.
 use Rattle.std.proofs.Common.{◌≡◌, ◌⊎◌, ℕ, zero, suc, ◌+◌, ◌<◌, ◌≤◌, List, [], ◌∷◌, ◌++◌, length, map, get_or, take, drop, ◌-◌, refl, sym, ap, ◌∙◌, subst, inl, inr, ⊎_elim, arith, le_of_suc-le-suc}
 use Rattle.std.specs.List.{concat}
-use Rattle.leak_marks.specs.Lists.{times, Has, Within, IsDistinct}
-use Rattle.leak_marks.specs.Seats.{Held, IsSound}
+use Rattle.leak_marks.specs.Lists.{times, Has, Within}
+use Rattle.leak_marks.specs.Seats.{Held}
 use Rattle.leak_marks.specs.Reach.{Graph, targets_of}
-use Rattle.leak_marks.specs.Rounds.{IsKeptInRounds, appended_from, IsUnderWay, IsNext}
+use Rattle.leak_marks.specs.Rounds.{appended_from, IsUnderWay}
 use Rattle.leak_marks.proofs.ListLemmas.{times-append}
-use mathlib.Core.Logic.{dite}
-use native.Mathlib.Decide.{ℕ_discrete}
 use Rattle.leak_marks.proofs.ListLemmas.{here, there, at_head}
 use Rattle.leak_marks.proofs.RoundLemmas.{times_appended, length_appended, goes_on, in_rounds}
 use Rattle.std.proofs.lemmas.List.{length-map, take_all}

@@ -1,12 +1,10 @@
 -- The graph of a log's blocks.
-use Rattle.std.proofs.Common.{◌≡◌, ◌⊎◌, ℕ, zero, suc, ◌+◌, ◌<◌, ◌≤◌, List, [], ◌∷◌, ◌++◌, length, map, get_or, Option, refl, sym, ap, ◌∙◌, subst, ⊎_elim, arith}
-use Rattle.std.specs.List.{AllByRecursion, flat_map}
+use Rattle.std.proofs.Common.{◌≡◌, ℕ, ◌<◌, List, [], length, map, get_or, Option, refl}
 use Rattle.std.proofs.lemmas.List.{get_or-map}
 use Rattle.leak_blocks.specs.declared.block.Block.{Block}
 use Rattle.leak_index.specs.Hits.{Index}
 use Rattle.leak_scan.specs.Targets.{block_words, block_targets, targets_of}
-use Rattle.leak_marks.specs.Lists.{Has}
-use Rattle.leak_marks.specs.Reach.{Graph, targets_of as targets_in}
+use Rattle.leak_marks.specs.Reach.{targets_of as targets_in}
 use Rattle.leak_pool.specs.Marking.{graph_of}
 
 pub graph-first : (word_at : ℕ → Option ℕ) (index : Index) (words given : List ℕ) → (graph_of word_at index words given).first ≡ targets_of index words

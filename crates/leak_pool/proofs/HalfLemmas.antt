@@ -1,5 +1,5 @@
 -- Promises of halves, put together.
-use Rattle.std.proofs.Common.{◌≡◌, ◌⊎◌, ℕ, ◌+◌, ◌-◌, ◌*◌, ◌/◌, ◌%◌, ◌<◌, ◌≤◌, List, [], ◌∷◌, ◌++◌, length, map, Ok, Err, refl, sym, ap, ◌∙◌, subst, inl, inr, ⊎_elim, arith, append_assoc}
+use Rattle.std.proofs.Common.{◌≡◌, ◌⊎◌, ℕ, ◌+◌, ◌-◌, ◌*◌, ◌/◌, ◌%◌, ◌<◌, ◌≤◌, List, [], ◌++◌, length, map, Ok, Err, sym, ap, ◌∙◌, subst, inl, inr, ⊎_elim, arith, append_assoc}
 use Rattle.std.specs.Prelude.{Result, IfOk, IsOkAnd}
 use Rattle.std.specs.List.{concat}
 use Rattle.std.proofs.lemmas.Nat.{le-div}
@@ -9,13 +9,11 @@ use Rattle.std.proofs.lemmas.List.{length-append, map-append}
 use Rattle.std.proofs.lemmas.List.Folds.{concat-append}
 use mathlib.Core.Logic.{dite}
 use native.Mathlib.Decide.{dec_lt}
-use Rattle.leak_marks.specs.Lists.{Has}
 use Rattle.leak_marks.specs.Seats.{Held, held}
 use Rattle.leak_marks.specs.Rounds.{IsKeptInRounds}
 use Rattle.leak_pool.specs.Items.{InRange, share}
 use Rattle.leak_pool.specs.Promises.{IsHalf}
 use Rattle.leak_marks.proofs.ListLemmas.{has_front, has_back, of_append}
-use Rattle.leak_pool.proofs.ScanLemmas.{none_has}
 
 pub share-mono : (a b n m : ℕ) → 0 < m → a ≤ b → share a n m ≤ share b n m
 unfolding share

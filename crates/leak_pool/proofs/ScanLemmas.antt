@@ -1,9 +1,9 @@
 -- Scanning, target by target.
-use Rattle.std.proofs.Common.{◌≡◌, ◌⊎◌, ◌≢◌, ℕ, ◌+◌, ◌-◌, ◌/◌, ◌<◌, ◌≤◌, List, [], ◌∷◌, ◌++◌, map, refl, sym, ap, ◌∙◌, subst, inl, inr, ⊎_elim, arith, append_assoc}
+use Rattle.std.proofs.Common.{◌≡◌, ◌⊎◌, ℕ, ◌+◌, ◌<◌, ◌≤◌, List, [], ◌∷◌, ◌++◌, refl, sym, ap, ◌∙◌, subst, inl, inr, ⊎_elim, arith}
 use mathlib.Core.Logic.{dite}
-use native.Mathlib.Decide.{dec_lt, ℕ_discrete}
-use Rattle.leak_marks.specs.Lists.{times, Has, Within}
-use Rattle.leak_marks.specs.Seats.{Held, held, IsSound}
+use native.Mathlib.Decide.{dec_lt}
+use Rattle.leak_marks.specs.Lists.{Has}
+use Rattle.leak_marks.specs.Seats.{Held, IsSound}
 use Rattle.leak_marks.proofs.ListLemmas.{has_front, has_last}
 use Rattle.leak_marks.proofs.ListLemmas.{here, there, at_head}
 use Rattle.std.proofs.lemmas.List.{append-nil}

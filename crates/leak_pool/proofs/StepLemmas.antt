@@ -1,9 +1,9 @@
 -- Steps, from what halves and scans promise.
-use Rattle.std.proofs.Common.{◌≡◌, ◌⊎◌, ℕ, ◌+◌, ◌*◌, ◌/◌, ◌<◌, ◌≤◌, List, [], ◌∷◌, ◌++◌, length, map, get_or, Ok, refl, sym, ap, ◌∙◌, subst, inl, inr, ⊎_elim, arith}
+use Rattle.std.proofs.Common.{◌≡◌, ℕ, ◌+◌, ◌*◌, ◌<◌, ◌≤◌, List, [], ◌∷◌, ◌++◌, length, Ok, Err, refl, sym, ap, ◌∙◌, subst, ⊎_elim, arith}
 use Rattle.std.specs.Prelude.{Result, IfOk}
 use Rattle.std.specs.List.{concat}
 use Rattle.std.proofs.Math.Nat.{div-le_self, mul-div_cancel_left}
-use Rattle.std.proofs.lemmas.List.{append-nil}
+use Rattle.std.proofs.lemmas.List.{append-nil, length-append}
 use Rattle.leak_marks.specs.Lists.{Has}
 use Rattle.leak_marks.specs.Seats.{Held, IsSound}
 use Rattle.leak_marks.specs.Rounds.{IsKeptInRounds, appended_from}
@@ -14,6 +14,10 @@ use Rattle.leak_pool.specs.Rounds.{IsStep}
 
 pub ok_at : {X E : Type 0} (r : Result X E) (x : X) (P : X → Type 0) → r ≡ Ok x → IfOk r P → P x
 ok_at r x P e h = subst (λ (q : Result _ _). IfOk q P) e h
+
+pub ok_both : {X E : Type 0} (P Q S : X → Type 0) (r : Result X E) → ((x : X) → P x → Q x → S x) → IfOk r P → IfOk r Q → IfOk r S
+ok_both P Q S (Ok x) f p q = f x p q
+ok_both P Q S (Err e) f p q = tt
 
 share_none : (n m : ℕ) → share 0 n m ≡ 0
 unfolding share
@@ -77,3 +81,22 @@ step_of_scan item w claims waiting before longer more after list longest gained 
   where
     all : concat gained ≡ longest
     all = ap (λ (x : List (List ℕ)). concat x) one ∙ append-nil longest
+
+-- of two steps from no block that waits, what the seat gains is what waits
+pub two_steps : (one two : ℕ → Type 0) (w : ℕ) (c0 c1 c2 : List (List ℕ)) (m0 m1 m2 : List ℕ) (s0 s1 s2 : Held) (g1 g2 : List (List ℕ)) → m0 ≡ []
+    → IsStep one w c0 m0 s0 c1 m1 s1 g1 → IsStep two w c1 m1 s1 c2 m2 s2 g2 → length s2.claims ≡ length s0.claims + length m2
+two_steps one two w c0 c1 c2 m0 m1 m2 s0 s1 s2 g1 g2 none a b =
+    let len : List ℕ → ℕ = λ l. length l in
+    let a1 : length s1.claims ≡ length s0.claims + length (concat g1) = ap len a.listed ∙ length-append s0.claims (concat g1) in
+    let b1 : length s2.claims ≡ length s1.claims + length (concat g2) = ap len b.listed ∙ length-append s1.claims (concat g2) in
+    let a2 : length m1 ≡ length m0 + length (concat g1) = ap len a.waiting_are ∙ length-append m0 (concat g1) in
+    let b2 : length m2 ≡ length m1 + length (concat g2) = ap len b.waiting_are ∙ length-append m1 (concat g2) in
+    let z : length m0 ≡ 0 = ap len none in omega arith
+
+-- of a step from no block that waits, what waits is claimed
+pub one_step : (item : ℕ → Type 0) (w : ℕ) (claims longer : List (List ℕ)) (none more : List ℕ) (before after : Held) (gained : List (List ℕ)) → none ≡ [] → IsStep item w claims none before longer more after gained → length more ≤ length after.claims
+one_step item w claims longer none more before after gained empty s =
+    let len : List ℕ → ℕ = λ l. length l in
+    let a : length after.claims ≡ length before.claims + length (concat gained) = ap len s.listed ∙ length-append before.claims (concat gained) in
+    let b : length more ≡ length none + length (concat gained) = ap len s.waiting_are ∙ length-append none (concat gained) in
+    let z : length none ≡ 0 = ap len empty in omega arith

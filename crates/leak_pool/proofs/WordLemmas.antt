@@ -1,13 +1,12 @@
 -- The words of ranges and pieces, and what they lead to.
-use Rattle.std.proofs.Common.{◌≡◌, ℕ, zero, suc, ◌+◌, ◌-◌, ◌*◌, ◌/◌, ◌%◌, ◌<◌, ◌≤◌, true, false, true≢false, List, [], ◌∷◌, ◌++◌, length, map, get_or, take, drop, Option, Some, None, IsSome, refl, sym, ap, ◌∙◌, subst, arith, append_assoc, add-one, drop-cons}
-use Rattle.std.specs.List.{concat, cons_option, range_with_len, flat_map, filter_map, slice_range, AllByRecursion}
+use Rattle.std.proofs.Common.{◌≡◌, ℕ, zero, suc, ◌+◌, ◌-◌, ◌*◌, ◌/◌, ◌%◌, ◌<◌, ◌≤◌, List, [], ◌∷◌, ◌++◌, length, map, get_or, take, drop, Option, Some, None, IsSome, refl, sym, ap, ◌∙◌, subst, arith, add-one, drop-cons}
+use Rattle.std.specs.List.{concat, cons_option, range_with_len, flat_map, filter_map, AllByRecursion}
 use Rattle.std.proofs.lemmas.List.Elements.{filter_map-append}
 use Rattle.std.proofs.lemmas.List.{take_all}
-use Rattle.std.proofs.lemmas.List.Folds.{flat_map-map}
 use Rattle.std.proofs.lemmas.Grind.{flat_map-append}
-use Rattle.leak_elf.specs.Words.{words_between, places}
+use Rattle.leak_elf.specs.Words.{words_between}
 use Rattle.leak_roots.specs.Places.{Places, addresses_in, memory_places, words_at, IsRange}
-use Rattle.leak_roots.specs.Pieces.{Place, InRegisters, InMemory, all_places, places_of, IsPiece, AreCut, words_of}
+use Rattle.leak_roots.specs.Pieces.{Place, InRegisters, InMemory, places_of, IsPiece, AreCut, words_of}
 use Rattle.leak_roots.specs.declared.piece.Piece.{Piece}
 use Rattle.leak_roots.specs.declared.piece.Piece.TheVariants.{Registers, Memory}
 use Rattle.leak_index.specs.Hits.{Index, hits_of}

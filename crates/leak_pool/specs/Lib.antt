@@ -1,8 +1,10 @@
 pub mod Plan
+pub mod Scene
 pub mod Alone
 pub mod Items
 pub mod Promises
 pub mod Rounds
+pub mod Progress
 pub mod Marking
 pub mod Scopes
 pub mod ScopeLaw

@@ -1,8 +1,11 @@
 -- What scanning comes to.
-use Rattle.std.specs.Prelude.{◌≡◌, ℕ, ◌+◌, ◌⊎◌, List, ◌++◌, length}
+use Rattle.std.specs.Prelude.{◌≡◌, ℕ, ◌+◌, ◌-◌, ◌*◌, ◌<◌, ◌≤◌, ◌⊎◌, List, ◌++◌, length, map, Result, IfOk, Vec}
+use Rattle.std.specs.declared.alloc.Global.{Global}
+use Rattle.std.specs.declared.alloc.AllocError.{AllocError}
 use Rattle.std.specs.List.{concat}
 use Rattle.leak_marks.specs.Rounds.{IsKeptInRounds}
-use Rattle.leak_pool.specs.Items.{InRange, share}
+use Rattle.leak_pool.specs.Items.{InRange, share, targets_at}
+use Rattle.leak_pool.specs.Scene.{Work}
 use Rattle.leak_marks.specs.Lists.{Has, Within}
 use Rattle.leak_marks.specs.Seats.{Held, IsSound}
 
@@ -27,3 +30,18 @@ pub record IsHalf (targets : ℕ → List ℕ) (items workers low high : ℕ) (b
   pub count : low + length gained ≡ high
   pub listed : after.claims ≡ before.claims ++ concat gained
   pub kept : IsKeptInRounds (InRange targets (share low items workers) (share high items workers)) before.seen after.seen (concat gained)
+
+-- The workers from low up to high can share the seat.
+pub record CanScan (work : Work) (low high : ℕ) (seat : Held) : Type 0 where
+  pub table : seat.table ≡ work.scene.table
+  pub sound : IsSound seat
+  pub some : low < high
+  pub workers : high ≤ work.scene.workers
+  pub share : 3 * (high - low) ≤ seat.share + 4
+
+-- They have scanned, unless memory ran out: the seat is of the same table and has its share, and there are the lists.
+pub record HaveScanned (work : Work) (low high : ℕ) (before after : Held) (lists : Result (Vec (Vec ℕ Global) Global) AllocError) : Type 0 where
+  pub table : after.table ≡ before.table
+  pub share : after.share ≡ before.share
+  pub sound : IsSound after
+  pub done : IfOk lists (λ ls. IsHalf (targets_at work.scene.roots work.scene.targets work.items) (length work.items) work.scene.workers low high before after (map (λ v. v.items) ls.items))

@@ -1,5 +1,5 @@
 -- Rounds of marking.
-use Rattle.std.specs.Prelude.{◌≡◌, ◌⊎◌, ◌↔◌, ℕ, ◌+◌, ◌<◌, ◌≤◌, Bool, true, false, List, [], ◌∷◌, ◌++◌, length, map, slice_index_or}
+use Rattle.std.specs.Prelude.{◌≡◌, ◌⊎◌, ◌↔◌, ℕ, ◌+◌, ◌<◌, ◌≤◌, Bool, List, ◌++◌, length, map, slice_index_or}
 use Rattle.std.specs.List.{concat}
 use Rattle.leak_marks.specs.Lists.{times, Has, Within, mark_of, word_count}
 use Rattle.leak_marks.specs.Seats.{Held, IsSound}

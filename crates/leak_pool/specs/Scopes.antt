@@ -1,5 +1,5 @@
 -- What marking scans: pieces of the root words, behind them parts of blocks that are scanned again, and blocks.
-use Rattle.std.specs.Prelude.{ℕ, ◌<◌, List, [], ◌∷◌, ◌++◌, map, Option}
+use Rattle.std.specs.Prelude.{ℕ, ◌<◌, List, ◌++◌, map, Option}
 use Rattle.std.specs.List.{AllByRecursion}
 use Rattle.leak_index.specs.Hits.{Index}
 use Rattle.leak_roots.specs.declared.piece.Piece.{Piece}

@@ -1,16 +1,18 @@
 //! The rounds after the first.
-ghost use Rattle.std.specs.Prelude.{◌≡◌, ◌<◌, ◌≤◌, ◌^◌, ◌+◌, ℕ, List, [], ◌∷◌, ◌++◌, length, map, All, IfOk};
-ghost use Rattle.leak_marks.specs.Seats.{Held, IsSound};
+ghost use Rattle.std.specs.Prelude.{◌≡◌, ◌<◌, ◌≤◌, ◌+◌, ℕ, [], length, IfOk};
 ghost use Rattle.leak_marks.specs.Lists.{Has};
 ghost use Rattle.leak_pool.specs.Items.{targets_of_item};
 ghost use Rattle.leak_pool.specs.declared.source.Item.{Item};
-ghost use Rattle.leak_pool.specs.Rounds.{Going, as_items};
+ghost use Rattle.leak_pool.specs.Rounds.{as_items};
+ghost use Rattle.leak_pool.specs.Progress.{IsBetween};
 
 use crate::gate::Gate;
+use crate::progress::Progress;
 use crate::rounds::{by_caller, by_workers};
+use crate::search::Search;
 use crate::source::{Item, Source};
-use leak_marks::{MarkSeat, Marks};
 use std::alloc::{AllocError, Global};
+use std::mem::replace;
 use std::thread::Threads;
 
 // The blocks as items.
@@ -35,107 +37,37 @@ pub(crate) fn targets_are_blocks<S: Source>(source: &S)
 pub(crate) fn later<R: Threads + Sync, S: Source + Sync, G: Gate + Sync>(
     rt: &R,
     alloc: Global,
-    source: &S,
-    gate: &G,
-    marks: &Marks,
-    mut seat: MarkSeat,
-    waiting: &[u32],
-    steps: &mut Vec<u64>,
-    workers: u32,
-    claims: &mut Vec<Vec<u32>>,
-    start: &[u32],
-) -> Result<(MarkSeat, Vec<u32>), AllocError>
-    requires table { seat.table ≡ marks.now.table }
-    requires blocks { marks.now.blocks ≡ length (S.targets source.now) }
-    requires some { 0 < workers }
-    requires few { workers ≤ 64 }
-    requires steps { length steps.old.items ≡ workers }
-    requires claims { length claims.old.items ≡ workers }
-    requires small { length (S.targets source.now) < 2 ^ 32 }
-    requires waiting { 0 < length waiting.now }
-    requires size { length waiting.now ≤ length seat.claims }
-    requires going { Going (S.roots source.now) (S.targets source.now) start.now workers (map (λ v. v.items) claims.old.items) waiting.now seat }
-    ensures steps { length steps.new.items ≡ workers }
-    ensures count { length claims.new.items ≡ workers }
-    ensures table { IfOk result (λ r. r.0.table ≡ marks.now.table) }
-    ensures size { IfOk result (λ r. length r.0.claims ≡ length seat.claims + length r.1.items) }
-    ensures going { IfOk result (λ r. Going (S.roots source.now) (S.targets source.now) start.now workers (map (λ v. v.items) claims.new.items) r.1.items r.0) }
+    search: &Search<'_, S, G>,
+    mut progress: Progress,
+) -> Result<Progress, AllocError>
+    requires between { IsBetween search.now progress }
+    requires waiting { 0 < length progress.waiting.items }
+    ensures between { IfOk result (IsBetween search.now) }
+    ensures size { IfOk result (λ p. length p.seat.claims ≡ length progress.seat.claims + length p.waiting.items) }
 {
-    targets_are_blocks(source);
-    let mut next = Vec::new(alloc);
-    by_caller(
-        alloc,
-        source,
-        marks,
-        &mut seat,
-        Item::Block(waiting[0]),
-        claims,
-        &mut next,
-    )?;
+    targets_are_blocks(search.source);
+    let waiting = replace(&mut progress.waiting, Vec::new(alloc));
+    by_caller(alloc, search, Item::Block(waiting[0]), &mut progress)?;
     let items = block_items(alloc, &waiting[1..])?;
-    let seat = by_workers(
-        rt,
-        alloc,
-        source,
-        gate,
-        marks,
-        seat,
-        items.as_slice(),
-        steps,
-        workers,
-        claims,
-        &mut next,
-    )?;
-    let _ = start;
-    Ok((seat, next))
+    by_workers(rt, alloc, search, items.as_slice(), progress)
 }
 
-/// The rounds after the first, until no block waits.
+/// The rounds after the first, until no block waits, and how many rounds there were with the first.
 pub(crate) fn until_none<R: Threads + Sync, S: Source + Sync, G: Gate + Sync>(
     rt: &R,
     alloc: Global,
-    source: &S,
-    gate: &G,
-    marks: &Marks,
-    mut seat: MarkSeat,
-    mut waiting: Vec<u32>,
-    steps: &mut Vec<u64>,
-    workers: u32,
-    claims: &mut Vec<Vec<u32>>,
-    start: &[u32],
-) -> Result<(MarkSeat, u64), AllocError>
-    requires table { seat.table ≡ marks.now.table }
-    requires blocks { marks.now.blocks ≡ length (S.targets source.now) }
-    requires small { length (S.targets source.now) < 2 ^ 32 }
-    requires some { 0 < workers }
-    requires few { workers ≤ 64 }
-    requires steps { length steps.old.items ≡ workers }
-    requires claims { length claims.old.items ≡ workers }
-    requires size { length waiting.items ≤ length seat.claims }
-    requires going { Going (S.roots source.now) (S.targets source.now) start.now workers (map (λ v. v.items) claims.old.items) waiting.items seat }
-    ensures count { IfOk result (λ r. length claims.new.items ≡ workers) }
-    ensures table { IfOk result (λ r. r.0.table ≡ marks.now.table) }
-    ensures rounds { IfOk result (λ r. r.1 ≤ length (S.targets source.now) + 1) }
-    ensures going { IfOk result (λ r. Going (S.roots source.now) (S.targets source.now) start.now workers (map (λ v. v.items) claims.new.items) [] r.0) }
+    search: &Search<'_, S, G>,
+    mut progress: Progress,
+) -> Result<(Progress, u64), AllocError>
+    requires { IsBetween search.now progress }
+    ensures between { IfOk result (λ r. IsBetween search.now r.0) }
+    ensures ended { IfOk result (λ r. r.0.waiting.items ≡ []) }
+    ensures rounds { IfOk result (λ r. r.1 ≤ length search.now.targets + 1) }
 {
     let mut rounds = 1u64;
-    'until: while !waiting.is_empty() {
-        let (back, next) = later(
-            rt,
-            alloc,
-            source,
-            gate,
-            marks,
-            seat,
-            waiting.as_slice(),
-            steps,
-            workers,
-            claims,
-            start,
-        )?;
-        seat = back;
-        waiting = next;
+    'until: while !progress.waiting.is_empty() {
+        progress = later(rt, alloc, search, progress)?;
         rounds += 1;
     }
-    Ok((seat, rounds))
+    Ok((progress, rounds))
 }

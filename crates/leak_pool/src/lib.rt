@@ -21,10 +21,13 @@ mod marked;
 mod marking;
 mod over;
 mod plan;
+mod progress;
 mod rounds;
 mod scope;
+mod search;
 mod source;
 mod start;
+mod task;
 #[cfg(test)]
 mod tests;
 mod worker;

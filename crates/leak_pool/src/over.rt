@@ -1,14 +1,17 @@
 //! Marking by workers, from a start, over any source.
 ghost use Rattle.std.specs.Prelude.{◌≡◌, ◌⊎◌, ◌<◌, ◌≤◌, ◌^◌, ◌+◌, ℕ, List, [], ◌∷◌, ◌++◌, ◌/◌, ◌↔◌, length, map, replicate, All, IfOk, IsTrue};
 ghost use Rattle.leak_marks.specs.Lists.{Has, Within, mark_of, word_count};
-ghost use Rattle.leak_marks.specs.Seats.{Held, IsSound, held};
-ghost use Rattle.leak_pool.specs.Rounds.{Going, AreWords, IsMarked, graph_over, AreRoots};
+ghost use Rattle.leak_marks.specs.Seats.{IsSound};
+ghost use Rattle.leak_pool.specs.Rounds.{AreWords, IsMarked, graph_over, AreRoots};
+ghost use Rattle.leak_pool.specs.Progress.{IsFresh, IsBetween};
 ghost use Rattle.leak_pool.specs.Marking.{IsSet};
 
 use crate::gate::Gate;
 use crate::later::{targets_are_blocks, until_none};
 use crate::marked::Marked;
+use crate::progress::Progress;
 use crate::rounds::by_workers;
+use crate::search::Search;
 use crate::source::{Item, Source};
 use leak_marks::laws::whole_runs;
 use leak_marks::{MarkSeat, Marks};
@@ -57,77 +60,51 @@ fn items_of_roots(alloc: Global, roots: usize) -> Result<Vec<Item>, AllocError>
 fn first_round<R: Threads + Sync, S: Source + Sync, G: Gate + Sync>(
     rt: &R,
     alloc: Global,
-    source: &S,
-    gate: &G,
-    marks: &Marks,
-    mut seat: MarkSeat,
-    steps: &mut Vec<u64>,
-    workers: u32,
-    claims: &mut Vec<Vec<u32>>,
-    start: &[u32],
-) -> Result<(MarkSeat, Vec<u32>), AllocError>
-    requires seat { seat ≡ held marks.now.table [] [] 4294967296 }
-    requires blocks { marks.now.blocks ≡ length (S.targets source.now) }
-    requires start { All (λ b. b < length (S.targets source.now)) start.now }
-    requires some { 0 < workers }
-    requires few { workers ≤ 64 }
-    requires steps { length steps.old.items ≡ workers }
-    requires count { length claims.old.items ≡ workers }
-    requires claims { map (λ v. v.items) claims.old.items ≡ replicate workers [] }
-    ensures steps { length steps.new.items ≡ workers }
-    ensures count { length claims.new.items ≡ workers }
-    ensures table { IfOk result (λ r. r.0.table ≡ marks.now.table) }
-    ensures size { IfOk result (λ r. length r.1.items ≤ length r.0.claims) }
-    ensures going { IfOk result (λ r. Going (S.roots source.now) (S.targets source.now) start.now workers (map (λ v. v.items) claims.new.items) r.1.items r.0) }
+    search: &Search<'_, S, G>,
+    mut progress: Progress,
+) -> Result<Progress, AllocError>
+    requires { IsFresh search.now progress }
+    ensures { IfOk result (IsBetween search.now) }
 {
-    targets_are_blocks(source);
-    claim_start(marks, &mut seat, start);
-    let items = items_of_roots(alloc, source.roots())?;
-    let mut waiting = Vec::new(alloc);
-    let seat = by_workers(
-        rt,
-        alloc,
-        source,
-        gate,
-        marks,
-        seat,
-        items.as_slice(),
-        steps,
-        workers,
-        claims,
-        &mut waiting,
-    )?;
-    Ok((seat, waiting))
+    targets_are_blocks(search.source);
+    claim_start(search.marks, &mut progress.seat, search.given);
+    let items = items_of_roots(alloc, search.source.roots())?;
+    by_workers(rt, alloc, search, items.as_slice(), progress)
 }
 
-// The words of the marks when no block waits, and the number of rounds.
+// The words of the marks when no block waits, the claims, and the number of rounds.
 fn mark_words<R: Threads + Sync, S: Source + Sync, G: Gate + Sync>(
     rt: &R,
     alloc: Global,
     source: &S,
     gate: &G,
     workers: u32,
-    claims: &mut Vec<Vec<u32>>,
-    start: &[u32],
-) -> Result<(Vec<u64>, u64), AllocError>
-    requires start { All (λ b. b < length (S.targets source.now)) start.now }
+    given: &[u32],
+) -> Result<(Vec<u64>, Vec<Vec<u32>>, u64), AllocError>
+    requires given { All (λ b. b < length (S.targets source.now)) given.now }
     requires some { 0 < workers }
     requires few { workers ≤ 64 }
-    requires count { length claims.old.items ≡ workers }
-    requires claims { map (λ v. v.items) claims.old.items ≡ replicate workers [] }
-    ensures { IfOk result (λ r. AreWords (graph_over (S.roots source.now) (S.targets source.now) start.now) (length (S.targets source.now)) workers r.0.items (map (λ v. v.items) claims.new.items) r.1) }
+    ensures { IfOk result (λ r. AreWords (graph_over (S.roots source.now) (S.targets source.now) given.now) (length (S.targets source.now)) workers r.0.items (map (λ v. v.items) r.1.items) r.2) }
 {
     whole_runs();
     let (marks, seat) = Marks::new(alloc, source.blocks())?;
-    let mut steps = vec![in alloc; 0u64; workers as usize]?;
-    let (seat, waiting) = first_round(
-        rt, alloc, source, gate, &marks, seat, &mut steps, workers, claims, start,
-    )?;
-    let (seat, rounds) = until_none(
-        rt, alloc, source, gate, &marks, seat, waiting, &mut steps, workers, claims, start,
-    )?;
-    let words = marks.close(alloc, seat)?;
-    Ok((words, rounds))
+    let progress = Progress {
+        seat,
+        claims: no_claims(alloc, workers)?,
+        waiting: Vec::new(alloc),
+        steps: vec![in alloc; 0u64; workers as usize]?,
+    };
+    let search = Search {
+        source,
+        gate,
+        marks: &marks,
+        given,
+        workers,
+    };
+    let progress = first_round(rt, alloc, &search, progress)?;
+    let (progress, rounds) = until_none(rt, alloc, &search, progress)?;
+    let words = marks.close(alloc, progress.seat)?;
+    Ok((words, progress.claims, rounds))
 }
 
 // Whether the mark of a block is set: bit `block % 64` of word `block / 64`.
@@ -150,30 +127,29 @@ fn set_of(alloc: Global, words: &[u64], blocks: u32) -> Result<Vec<bool>, AllocE
     Ok(set)
 }
 
-/// Marks what the parts of the roots lead to, from the blocks of the start on.
+/// Marks what the parts of the roots lead to, from the given blocks on.
 pub(crate) fn mark_over<R: Threads + Sync, S: Source + Sync, G: Gate + Sync>(
     rt: &R,
     alloc: Global,
     source: &S,
     gate: &G,
     workers: u32,
-    start: &[u32],
+    given: &[u32],
 ) -> Result<Marked, AllocError>
-    requires start { All (λ b. b < length (S.targets source.now)) start.now }
+    requires given { All (λ b. b < length (S.targets source.now)) given.now }
     requires some { 0 < workers }
     requires few { workers ≤ 64 }
-    ensures { IfOk result (λ m. IsMarked (graph_over (S.roots source.now) (S.targets source.now) start.now) (length (S.targets source.now)) workers m.set.items (map (λ v. v.items) m.claims.items) m.rounds) }
+    ensures { IfOk result (λ m. IsMarked (graph_over (S.roots source.now) (S.targets source.now) given.now) (length (S.targets source.now)) workers m.set.items (map (λ v. v.items) m.claims.items) m.rounds) }
 {
     targets_are_blocks(source);
-    let mut claims = no_claims(alloc, workers)?;
     if source.blocks() == 0 {
         return Ok(Marked {
             set: Vec::new(alloc),
-            claims,
+            claims: no_claims(alloc, workers)?,
             rounds: 0,
         });
     }
-    let (words, rounds) = mark_words(rt, alloc, source, gate, workers, &mut claims, start)?;
+    let (words, claims, rounds) = mark_words(rt, alloc, source, gate, workers, given)?;
     let set = set_of(alloc, words.as_slice(), source.blocks())?;
     Ok(Marked {
         set,

@@ -4,14 +4,15 @@ ghost use Rattle.std.specs.List.{concat};
 ghost use Rattle.leak_marks.specs.Lists.{Has};
 ghost use Rattle.leak_marks.specs.Seats.{Held, IsSound};
 ghost use Rattle.leak_marks.specs.Rounds.{appended_from};
-ghost use Rattle.leak_pool.specs.Items.{IsItem, targets_at, targets_of_item, InRange};
-ghost use Rattle.leak_pool.specs.Rounds.{IsStep};
+ghost use Rattle.leak_pool.specs.Items.{IsItem, targets_of_item};
+ghost use Rattle.leak_pool.specs.Progress.{IsReady, HasScanned, InItems};
 
 use crate::gate::Gate;
 use crate::halves::half;
+use crate::progress::Progress;
+use crate::search::{Round, Search};
 use crate::source::{Item, Source};
 use crate::worker::share_start;
-use leak_marks::{MarkSeat, Marks};
 use std::alloc::{AllocError, Global};
 use std::thread::Threads;
 
@@ -54,73 +55,63 @@ fn count_steps(steps: &mut Vec<u64>, items: usize, workers: u32)
 pub(crate) fn by_workers<R: Threads + Sync, S: Source + Sync, G: Gate + Sync>(
     rt: &R,
     alloc: Global,
-    source: &S,
-    gate: &G,
-    marks: &Marks,
-    seat: MarkSeat,
+    search: &Search<'_, S, G>,
     items: &[Item],
-    steps: &mut Vec<u64>,
-    workers: u32,
-    claims: &mut Vec<Vec<u32>>,
-    waiting: &mut Vec<u32>,
-) -> Result<MarkSeat, AllocError>
-    requires table { seat.table ≡ marks.now.table }
-    requires blocks { marks.now.blocks ≡ length (S.targets source.now) }
-    requires items { All (IsItem (S.roots source.now) (S.targets source.now)) items.now }
-    requires sound { IsSound seat }
-    requires whole { seat.share ≡ 4294967296 }
-    requires some { 0 < workers }
-    requires few { workers ≤ 64 }
-    requires steps { length steps.old.items ≡ workers }
-    requires claims { length claims.old.items ≡ workers }
-    ensures steps { length steps.new.items ≡ workers }
-    ensures count { length claims.new.items ≡ workers }
-    ensures done { IfOk result (λ s. (gained : List (List ℕ)) × IsStep (InRange (targets_at (S.roots source.now) (S.targets source.now) items.now) 0 (length items.now)) workers (map (λ v. v.items) claims.old.items) waiting.old.items seat (map (λ v. v.items) claims.new.items) waiting.new.items s gained) }
+    progress: Progress,
+) -> Result<Progress, AllocError>
+    requires ready { IsReady search.now progress }
+    requires items { All (IsItem search.now.roots search.now.targets) items.now }
+    ensures ready { IfOk result (IsReady search.now) }
+    ensures done { IfOk result (HasScanned (InItems search.now items.now) search.now progress) }
 {
     if items.is_empty() {
-        return Ok(seat);
+        return Ok(progress);
     }
-    let (seat, gained) = half(
-        rt,
-        alloc,
-        source,
-        gate,
-        marks,
+    let Progress {
         seat,
+        mut claims,
+        mut waiting,
+        mut steps,
+    } = progress;
+    let round = Round {
+        search,
         items,
-        steps.as_slice(),
-        workers,
-        0,
-        workers,
-    );
+        steps: steps.as_slice(),
+    };
+    let (seat, gained) = half(rt, alloc, &round, seat, 0, search.workers);
     let gained = gained?;
-    count_steps(steps, items.len(), workers);
-    absorb(claims, waiting, gained.as_slice())?;
-    Ok(seat)
+    count_steps(&mut steps, items.len(), search.workers);
+    absorb(&mut claims, &mut waiting, gained.as_slice())?;
+    Ok(Progress {
+        seat,
+        claims,
+        waiting,
+        steps,
+    })
 }
 
 /// The caller scans one item, as worker 0.
-pub(crate) fn by_caller<S: Source>(
+pub(crate) fn by_caller<S: Source, G: Gate>(
     alloc: Global,
-    source: &S,
-    marks: &Marks,
-    seat: &mut MarkSeat,
+    search: &Search<'_, S, G>,
     item: Item,
-    claims: &mut Vec<Vec<u32>>,
-    waiting: &mut Vec<u32>,
+    progress: &mut Progress,
 ) -> Result<(), AllocError>
-    requires table { seat.old.table ≡ marks.now.table }
-    requires blocks { marks.now.blocks ≡ length (S.targets source.now) }
-    requires item { IsItem (S.roots source.now) (S.targets source.now) item }
-    requires sound { IsSound seat.old }
-    requires claims { 0 < length claims.old.items }
-    ensures count { length claims.new.items ≡ length claims.old.items }
-    ensures done { IfOk result (λ _. (gained : List (List ℕ)) × IsStep (Has (targets_of_item (S.roots source.now) (S.targets source.now) item)) (length claims.old.items) (map (λ v. v.items) claims.old.items) waiting.old.items seat.old (map (λ v. v.items) claims.new.items) waiting.new.items seat.new gained) }
+    requires ready { IsReady search.now progress.old }
+    requires item { IsItem search.now.roots search.now.targets item }
+    ensures ready { IsReady search.now progress.new }
+    ensures done { IfOk result (λ _. HasScanned (Has (targets_of_item search.now.roots search.now.targets item)) search.now progress.old progress.new) }
 {
     let mut gained = Vec::with_capacity(alloc, 1)?;
     let mut list = Vec::new(alloc);
-    source.scan(marks, seat, &mut list, item)?;
+    let marks = search.marks;
+    search
+        .source
+        .scan(marks, &mut progress.seat, &mut list, item)?;
     gained.push(list)?;
-    absorb(claims, waiting, gained.as_slice())?;
-    Ok(())
+    absorb(
+        &mut progress.claims,
+        &mut progress.waiting,
+        gained.as_slice(),
+    )
 }

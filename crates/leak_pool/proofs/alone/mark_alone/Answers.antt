@@ -1,9 +1,8 @@
-use Rattle.std.proofs.Common.{ℕ, Bool, List, [], ◌∷◌, subst, arith, rules, ◌≡◌, ◌<◌, ◌≤◌, ◌+◌, ◌∙◌, ap, sym, true≢false, length, map, get_or, Vec, Global}
+use Rattle.std.proofs.Common.{ℕ, List, arith, ◌≡◌, ◌≤◌, ◌+◌, ◌∙◌, ap, sym, true≢false, length, map, Vec, Global}
 use Rattle.leak_marks.proofs.BoolLemmas.{equal_itself}
 use Rattle.leak_roots.specs.Places.{words_at}
 use Rattle.leak_blocks.specs.declared.block.Block.{Block}
-use Rattle.leak_pool.specs.Alone.{AreMarks}
-use Rattle.leak_pool.proofs.AloneLemmas.{alone_marks, roots_followed, marks_none, written_back}
+use Rattle.leak_pool.proofs.AloneLemmas.{alone_marks, roots_followed, written_back}
 use Rattle.leak_pool.proofs.alone.mark_alone.Goals as goal
 use Rattle.leak_pool.proofs.alone.mark_alone.Goals.{then-is_empty, else-is_empty}
 

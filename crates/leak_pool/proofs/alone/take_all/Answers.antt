@@ -1,5 +1,4 @@
-use Rattle.std.proofs.Common.{ℕ, ◌≡◌, ◌<◌, ◌∷◌, [], List, length, arith, rules}
-use Rattle.leak_marks.specs.Lists.{Has}
+use Rattle.std.proofs.Common.{◌∷◌, [], arith}
 use Rattle.leak_pool.proofs.AloneLemmas.{next_is_target, next_left, taken_both}
 use Rattle.leak_pool.proofs.alone.take_all.Goals as goal
 

@@ -1,4 +1,4 @@
-use Rattle.std.proofs.Common.{◌≡◌, ◌++◌, length}
+use Rattle.std.proofs.Common.{◌≡◌, ◌++◌}
 use Rattle.leak_pool.specs.Alone.{AreMarks, AreTaken}
 use Rattle.leak_pool.proofs.alone.take_all.Given as goal
 

@@ -1,4 +1,4 @@
-use Rattle.std.proofs.Common.{ℕ, List, subst, arith, rules, ◌≡◌, ◌<◌, ◌≤◌, ◌+◌, ◌++◌, ◌∙◌, ap, sym, length, get_or, []}
+use Rattle.std.proofs.Common.{ℕ, List, subst, arith, ◌≡◌, ◌<◌, ap, length, get_or, []}
 use Rattle.leak_marks.specs.Lists.{Has}
 use Rattle.leak_pool.specs.Alone.{AreTaken, IsFollowed}
 use Rattle.leak_pool.specs.Marking.{graph_of}

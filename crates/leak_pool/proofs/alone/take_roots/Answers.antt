@@ -1,7 +1,6 @@
-use Rattle.std.proofs.Common.{ℕ, List, subst, ap, arith, ◌≡◌, ◌<◌, ◌++◌, take, length, get_or}
+use Rattle.std.proofs.Common.{ℕ, List, subst, ap, arith, ◌++◌, take, length}
 use Rattle.std.specs.List.{filter_map}
-use Rattle.leak_roots.specs.Places.{AreRanges, memory_places}
-use Rattle.leak_elf.specs.Words.{words_between}
+use Rattle.leak_roots.specs.Places.{memory_places}
 use Rattle.leak_scan.specs.Targets.{targets_of}
 use Rattle.leak_marks.specs.Lists.{Has}
 use Rattle.leak_pool.specs.Alone.{AreTaken}

@@ -1,4 +1,4 @@
-use Rattle.std.proofs.Common.{subst, sym, ap, List, ℕ, ◌∙◌, ◌++◌, ◌≡◌, ◌<◌, ⊎_elim, inl, inr, arith, rules}
+use Rattle.std.proofs.Common.{subst, sym, ap, List, ℕ, ◌∙◌, ◌++◌, ⊎_elim, inl, inr, arith}
 use Rattle.leak_marks.proofs.ListLemmas.{here}
 use Rattle.leak_marks.specs.Lists.{Has}
 use Rattle.leak_pool.proofs.ScanLemmas.{scanning_none, scanning_more}

@@ -1,4 +1,3 @@
-use Rattle.std.proofs.Common.{◌≡◌, ◌++◌}
 use Rattle.leak_marks.specs.Lists.{Has}
 use Rattle.leak_pool.specs.Promises.{IsScanning}
 use Rattle.leak_pool.proofs.claiming.claim_all.Given as goal

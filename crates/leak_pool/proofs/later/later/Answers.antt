@@ -1,48 +1,76 @@
-use Rattle.std.proofs.Common.{◌≡◌, ◌<◌, ◌≤◌, ◌∙◌, ap, sym, subst, ◌++◌, ◌∷◌, ℕ, List, [], Vec, Global, length, map, get_or, take, drop, ◌-◌, ◌+◌, arith, rules, refl}
+use Rattle.std.proofs.Common.{◌≡◌, ◌<◌, ◌∙◌, ap, sym, subst, ◌∷◌, ℕ, List, [], Vec, Global, length, map, get_or, take, drop, ◌-◌, arith}
+use Rattle.std.proofs.lemmas.List.{get_or_read}
 use Rattle.leak_marks.specs.Lists.{Has}
-use Rattle.leak_pool.specs.Items.{targets_at, IsItem}
+use Rattle.leak_pool.specs.Items.{IsItem}
 use Rattle.leak_pool.specs.declared.source.Item.{Item}
 use Rattle.leak_pool.specs.declared.source.Item.TheVariants.{Block}
+use Rattle.leak_pool.specs.declared.progress.Progress.{Progress}
 use Rattle.leak_pool.specs.Rounds.{IsStep, IsGoing, graph_over, as_items}
+use Rattle.leak_pool.specs.Scene.{Scene}
+use Rattle.leak_pool.specs.Progress.{IsReady, IsBetween, HasScanned, InItems, claims_of}
 use Rattle.leak_pool.proofs.CountLemmas.{at_has}
-use Rattle.leak_pool.proofs.GoingLemmas.{later_round, waiting_inside, all_blocks, blocks_long, going_few, front_rest}
+use Rattle.leak_pool.proofs.GoingLemmas.{later_round, waiting_inside, all_blocks, blocks_long, front_rest}
+use Rattle.leak_pool.proofs.StepLemmas.{ok_both, two_steps}
+use Rattle.leak_pool.proofs.FromLemmas.{if_ok}
 use Rattle.leak_marks.proofs.ListLemmas.{there}
 use Rattle.leak_pool.proofs.later.later.Goals as goal
 
-abbrev items : Vec ℕ Global → List ℕ
-items v = v.items
+-- what waits is of the scene's blocks
+waits : (scene : Scene) (p : Progress) (ws : Vec ℕ Global) → IsBetween scene p → ws ≡ p.waiting → (b : ℕ) → Has ws.items b → b < length scene.targets
+waits scene p ws between is b h = waiting_inside _ _ _ _ _ _ _ between.going.1 b (subst (λ (v : Vec ℕ Global). Has v.items b) is h)
 
 pub by_caller-requires-clause-item : goal.by_caller-requires-clause-item
-by_caller-requires-clause-item g c = waiting_inside _ _ _ _ _ _ _ c.requires.going.1 (get_or c.args.waiting.now 0 0) (at_has c.args.waiting.now 0 c.requires.waiting)
+by_caller-requires-clause-item g c =
+    let ws = c.replace-waiting.result in
+    let some : 0 < length ws.items = subst (λ (v : Vec ℕ Global). 0 < length v.items) (sym c.replace-waiting.ensures.value) c.requires.waiting in
+    let first : c.index.result.now ≡ get_or ws.items 0 0 = get_or_read ws.items _ _ some c.index.ensures 0 in
+    subst (λ (b : ℕ). b < length c.args.search.now.targets) (sym first) (waits c.args.search.now c.args.progress ws c.requires.between c.replace-waiting.ensures.value (get_or ws.items 0 0) (at_has ws.items 0 some))
 
 pub by_workers-requires-clause-items : goal.by_workers-requires-clause-items
 by_workers-requires-clause-items g c κs within =
-    let ws : List ℕ = take (length c.args.waiting.now - 1) (drop 1 c.args.waiting.now) in
-    let is : c.as_slice.result.now ≡ map Block ws = c.as_slice.ensures.value ∙ c.in_ok-items.ensures in
-    subst (λ (l : List Item). (k : ℕ) (d : Item) → k < length l → IsItem (g.S.Source.roots c.args.source.now) (g.S.Source.targets c.args.source.now) (get_or l k d)) (sym is)
-    (all_blocks (g.S.Source.roots c.args.source.now) (g.S.Source.targets c.args.source.now) ws
-    (λ b h. waiting_inside _ _ _ _ _ _ _ c.requires.going.1 b (subst (λ (l : List ℕ). Has l b) (sym (front_rest c.args.waiting.now c.requires.waiting)) (there (get_or c.args.waiting.now 0 0) ws b h))))
+    let scene = c.args.search.now in let all = c.replace-waiting.result in
+    let some : 0 < length all.items = subst (λ (v : Vec ℕ Global). 0 < length v.items) (sym c.replace-waiting.ensures.value) c.requires.waiting in
+    let ws : List ℕ = take (length all.items - 1) (drop 1 all.items) in
+    let is : c.as_slice.result.now ≡ map Block ws = c.as_slice.ensures.value ∙ c.in_ok-items.ensures ∙ ap (λ (l : List ℕ). as_items (take (length l - 1) (drop 1 l))) c.deref.ensures.value in
+    subst (λ (l : List Item). (k : ℕ) (d : Item) → k < length l → IsItem scene.roots scene.targets (get_or l k d)) (sym is)
+    (all_blocks scene.roots scene.targets ws
+    (λ b h. waits scene c.args.progress all c.requires.between c.replace-waiting.ensures.value b (subst (λ (l : List ℕ). Has l b) (sym (front_rest all.items some)) (there (get_or all.items 0 0) ws b h))))
 
-pub returns-clause-going : goal.returns-clause-going
-returns-clause-going g c =
-    let ws : List ℕ = take (length c.args.waiting.now - 1) (drop 1 c.args.waiting.now) in
-    let x : ℕ = get_or c.args.waiting.now 0 0 in
-    let roots : List (List ℕ) = g.S.Source.roots c.args.source.now in
-    let targets : List (List ℕ) = g.S.Source.targets c.args.source.now in
-    let w : ℕ = c.args.workers in
-    let base : List ℕ = c.requires.going.0 in
-    let c0 : List (List ℕ) = map items c.args.claims.now.items in
-    let c1 : List (List ℕ) = map items c.by_caller.new.claims.items in
-    let c2 : List (List ℕ) = map items c.by_workers.new.claims.items in
-    let one = c.in_ok-by_caller.ensures.done in
-    let two = c.in_ok-seat.ensures.done in
-    let first : IsStep (Has (get_or targets x [])) w c0 c.new-next.result.items c.args.seat c1 c.by_caller.new.waiting.items c.by_caller.new.seat one.0 =
-    subst (λ (n : ℕ). IsStep (Has (get_or targets x [])) n c0 c.new-next.result.items c.args.seat c1 c.by_caller.new.waiting.items c.by_caller.new.seat one.0) c.requires.claims one.1 in
-    let going : IsGoing (graph_over roots targets c.args.start.now) (length targets) w base c0 (x ∷ ws) c.args.seat =
-    subst (λ (l : List ℕ). IsGoing (graph_over roots targets c.args.start.now) (length targets) w base c0 l c.args.seat) (front_rest c.args.waiting.now c.requires.waiting) c.requires.going.1 in (
-      base,
-      later_round roots targets c.args.start.now (length targets) w base x ws c0 c1 c2 c.new-next.result.items c.by_caller.new.waiting.items c.by_workers.new.waiting.items
-          c.args.seat c.by_caller.new.seat c.in_ok-seat.seat one.0 two.0 c.as_slice.result.now
-          (λ k b h. c.targets_are_blocks.ensures (Block k) b h) (c.as_slice.ensures.value ∙ c.in_ok-items.ensures) (blocks_long ws) c.new-next.ensures.items going first two.1,
-      λ b h. two.1.kept.keeps b (one.1.kept.keeps b (c.requires.going.2 b h)),
-    )
+pub returns-clause-size : goal.returns-clause-size
+returns-clause-size g c =
+    let scene = c.args.search.now in let from = c.args.progress in let mid = c.by_caller.new.progress in
+    let first = c.in_ok-by_caller.ensures.done in
+    if_ok (HasScanned (InItems scene c.as_slice.result.now) scene mid) _ c.by_workers.result
+    (λ (p : Progress) second. two_steps _ _ scene.workers (claims_of from) (claims_of mid) (claims_of p) c.replace-waiting.new.dest.items mid.waiting.items p.waiting.items from.seat mid.seat p.seat first.0 second.0
+    (ap (λ (v : Vec ℕ Global). v.items) c.replace-waiting.ensures.after ∙ c.new.ensures.items) first.1 second.1)
+    c.by_workers.ensures.done
+
+pub returns-clause-between : goal.returns-clause-between
+returns-clause-between g c =
+    let scene = c.args.search.now in let from = c.args.progress in let mid = c.by_caller.new.progress in let all = c.replace-waiting.result in
+    let some : 0 < length all.items = subst (λ (v : Vec ℕ Global). 0 < length v.items) (sym c.replace-waiting.ensures.value) c.requires.waiting in
+    let ws : List ℕ = take (length all.items - 1) (drop 1 all.items) in
+    let x : ℕ = get_or all.items 0 0 in
+    let base : List ℕ = c.requires.between.going.0 in
+    let none = ap (λ (v : Vec ℕ Global). v.items) c.replace-waiting.ensures.after ∙ c.new.ensures.items in
+    let first = c.in_ok-by_caller.ensures.done in
+    let is : c.as_slice.result.now ≡ map Block ws = c.as_slice.ensures.value ∙ c.in_ok-items.ensures ∙ ap (λ (l : List ℕ). as_items (take (length l - 1) (drop 1 l))) c.deref.ensures.value in
+    let going : IsGoing (graph_over scene.roots scene.targets scene.given) (length scene.targets) scene.workers base (claims_of from) (x ∷ ws) from.seat =
+    subst (λ (l : List ℕ). IsGoing (graph_over scene.roots scene.targets scene.given) (length scene.targets) scene.workers base (claims_of from) l from.seat) (sym (ap (λ (v : Vec ℕ Global). v.items) c.replace-waiting.ensures.value) ∙ front_rest all.items some) c.requires.between.going.1 in
+    let one : IsStep (Has (get_or scene.targets x [])) scene.workers (claims_of from) c.replace-waiting.new.dest.items from.seat (claims_of mid) mid.waiting.items mid.seat first.0 =
+    subst (λ (b : ℕ). IsStep (Has (get_or scene.targets b [])) scene.workers (claims_of from) c.replace-waiting.new.dest.items from.seat (claims_of mid) mid.waiting.items mid.seat first.0) (get_or_read all.items _ _ some c.index.ensures 0) first.1 in
+    let inside = subst (λ (s : Scene). (k b : ℕ) → Has (get_or s.targets k []) b → b < length s.targets) c.search.view_is (λ k b h. c.targets_are_blocks.ensures (Block k) b h) in
+    ok_both (IsReady scene) (HasScanned (InItems scene c.as_slice.result.now) scene mid) (IsBetween scene) c.by_workers.result
+    (λ (p : Progress) ready two. record {
+      ready = ready;
+      small = c.requires.between.small;
+      few = let s = two_steps _ _ scene.workers (claims_of from) (claims_of mid) (claims_of p) c.replace-waiting.new.dest.items mid.waiting.items p.waiting.items from.seat mid.seat p.seat first.0 two.0 none first.1 two.1 in omega arith;
+      going = (
+        base,
+        later_round scene.roots scene.targets scene.given (length scene.targets) scene.workers base x ws (claims_of from) (claims_of mid) (claims_of p) c.replace-waiting.new.dest.items mid.waiting.items p.waiting.items
+            from.seat mid.seat p.seat first.0 two.0 c.as_slice.result.now
+            inside is (blocks_long ws) none going one two.1,
+        λ b h. two.1.kept.keeps b (one.kept.keeps b (c.requires.between.going.2 b h)),
+      );
+    })
+    c.by_workers.ensures.ready c.by_workers.ensures.done

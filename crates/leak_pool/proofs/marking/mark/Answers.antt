@@ -1,5 +1,4 @@
-use Rattle.std.proofs.Common.{ℕ, List, ◌≡◌}
-use Rattle.leak_pool.specs.Marking.{Marks, MarksFrom}
+use Rattle.leak_pool.specs.Marking.{Marks}
 use Rattle.leak_pool.proofs.FromLemmas.{if_ok, marks_from_none}
 use Rattle.leak_pool.proofs.marking.mark.Goals as goal
 

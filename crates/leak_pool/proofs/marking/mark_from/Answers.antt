@@ -1,4 +1,4 @@
-use Rattle.std.proofs.Common.{ℕ, List, Vec, Global, ◌≡◌, ◌<◌, ◌∙◌, ap, sym, subst, length, arith}
+use Rattle.std.proofs.Common.{ℕ, List, ◌≡◌, ◌<◌, ◌∙◌, ap, sym, subst, length, arith}
 use Rattle.std.specs.Prelude.{slice_index_or}
 use Rattle.leak_blocks.specs.declared.block.Block.{Block}
 use Rattle.leak_roots.specs.declared.piece.Piece.{Piece}
@@ -22,8 +22,8 @@ invariant_of-scope g c =
           (parts_inside (length c.args.live.now.blocks) c.args.start.now.marked.items c.args.start.now.rescan.items c.requires.start.inside c.requires.start.rescan));
     }
 
-pub mark_over-requires-clause-start : goal.mark_over-requires-clause-start
-mark_over-requires-clause-start g c κs within k d h =
+pub mark_over-requires-clause-given : goal.mark_over-requires-clause-given
+mark_over-requires-clause-given g c κs within k d h =
     let w = g.W.Words.word_at c.args.words.now in let i = g.L.Lookup.index c.args.lookup.now in
     let v : c.as_slice-3.result.now ≡ c.args.start.now.marked.items = c.as_slice-3.ensures.value in
     let b = c.requires.start.inside (slice_index_or c.args.start.now.marked.items k d) (at_has_any c.args.start.now.marked.items k d (subst (λ (l : List ℕ). k < length l) v h)) in

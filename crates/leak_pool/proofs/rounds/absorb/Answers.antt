@@ -1,4 +1,4 @@
-use Rattle.std.proofs.Common.{ℕ, List, Vec, Global, rules, ap, ◌∙◌, length, length-set, arith}
+use Rattle.std.proofs.Common.{ℕ, List, Vec, Global, ◌∙◌, length-set, arith}
 use Rattle.leak_pool.proofs.AbsorbLemmas.{claims_more, waiting_more}
 use Rattle.leak_pool.proofs.rounds.absorb.Goals as goal
 

@@ -1,5 +1,5 @@
-use Rattle.std.proofs.Common.{rules, arith, ◌∙◌, ◌≡◌, ◌+◌, ◌*◌, ◌/◌, ◌%◌, ◌<◌, ◌≤◌}
-use Rattle.leak_pool.proofs.HalfLemmas.{share_is, share_within, quotient_within}
+use Rattle.std.proofs.Common.{arith}
+use Rattle.leak_pool.proofs.HalfLemmas.{share_is, share_within}
 use Rattle.leak_pool.proofs.worker.share_start.Goals as goal
 
 pub returns-clause-start : goal.returns-clause-start

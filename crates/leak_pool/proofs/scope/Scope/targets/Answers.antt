@@ -1,4 +1,4 @@
-use Rattle.std.proofs.Common.{ℕ, List, ◌≡◌, ◌<◌, ◌≤◌, ◌∙◌, ap, sym, subst, length, arith}
+use Rattle.std.proofs.Common.{ℕ, List, ◌≡◌, ◌∙◌, sym, subst, arith}
 use Rattle.leak_pool.specs.Items.{IsItem, targets_of_item}
 use Rattle.leak_pool.specs.Scopes.{root_targets, all_targets}
 use Rattle.leak_pool.specs.declared.source.Item.{Item}

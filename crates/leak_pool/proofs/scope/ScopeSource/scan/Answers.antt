@@ -1,4 +1,4 @@
-use Rattle.std.proofs.Common.{ℕ, List, ◌≡◌, ◌<◌, sym, subst, length, arith}
+use Rattle.std.proofs.Common.{ℕ, List, subst, arith}
 use Rattle.leak_marks.specs.Lists.{Has}
 use Rattle.leak_pool.specs.ScopeLaw.{scope_inside}
 use Rattle.leak_pool.proofs.scope.ScopeSource.scan.Goals as goal

@@ -1,0 +1,42 @@
+-- How far the marking of a scene has come.
+use Rattle.std.specs.Prelude.{◌≡◌, ℕ, ◌<◌, ◌≤◌, ◌^◌, List, [], length, map, replicate}
+use Rattle.leak_marks.specs.Seats.{held, IsSound}
+use Rattle.leak_pool.specs.Items.{targets_at, InRange}
+use Rattle.leak_pool.specs.Scene.{Scene}
+use Rattle.leak_pool.specs.Rounds.{IsStep, Going}
+use Rattle.leak_pool.specs.declared.source.Item.{Item}
+use Rattle.leak_pool.specs.declared.progress.Progress.{Progress}
+
+-- for each worker, the blocks that it claimed
+abbrev pub claims_of : Progress → List (List ℕ)
+claims_of p = map (λ v. v.items) p.claims.items
+
+-- the seat is whole, and there are as many lists and numbers of steps as workers
+pub record IsReady (scene : Scene) (p : Progress) : Type 0 where
+  pub table : p.seat.table ≡ scene.table
+  pub sound : IsSound p.seat
+  pub whole : p.seat.share ≡ 4294967296
+  pub lists : length p.claims.items ≡ scene.workers
+  pub counts : length p.steps.items ≡ scene.workers
+
+-- nothing is claimed yet
+pub record IsFresh (scene : Scene) (p : Progress) : Type 0 where
+  pub ready : IsReady scene p
+  pub unseated : p.seat ≡ held scene.table [] [] 4294967296
+  pub unclaimed : claims_of p ≡ replicate scene.workers []
+  pub idle : p.waiting.items ≡ []
+
+-- between two rounds
+pub record IsBetween (scene : Scene) (p : Progress) : Type 0 where
+  pub ready : IsReady scene p
+  pub small : length scene.targets < 2 ^ 32
+  pub few : length p.waiting.items ≤ length p.seat.claims
+  pub going : Going scene.roots scene.targets scene.given scene.workers (claims_of p) p.waiting.items p.seat
+
+-- what leads to a block by some item was scanned
+abbrev pub HasScanned : (ℕ → Type 0) → Scene → Progress → Progress → Type 0
+HasScanned item scene before after = (gained : List (List ℕ)) × IsStep item scene.workers (claims_of before) before.waiting.items before.seat (claims_of after) after.waiting.items after.seat gained
+
+-- some of the items leads to the block
+abbrev pub InItems : Scene → List Item → ℕ → Type 0
+InItems scene items = InRange (targets_at scene.roots scene.targets items) 0 (length items)

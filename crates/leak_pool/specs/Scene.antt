@@ -1,0 +1,44 @@
+-- What is searched, and what of it the workers of a round scan.
+use Rattle.std.specs.Prelude.{◌≡◌, ℕ, ◌<◌, ◌≤◌, ◌^◌, List, length, All}
+use Rattle.leak_marks.specs.Seats.{TableId, Held, IsSound}
+use Rattle.leak_pool.specs.Items.{IsItem, targets_at, InRange, share}
+use Rattle.leak_pool.specs.declared.source.Item.{Item}
+
+-- the table of the marks, what each part of the roots and each block leads to, the blocks marked before, and how many workers there are
+pub record Scene : Type 0 where
+  pub table : TableId
+  pub roots : List (List ℕ)
+  pub targets : List (List ℕ)
+  pub given : List ℕ
+  pub workers : ℕ
+
+-- the marks are of these blocks, blocks alone are marked before, and there are 1 to 64 workers
+pub record IsSearch (blocks : ℕ) (targets : List (List ℕ)) (given : List ℕ) (workers : ℕ) : Type 0 where
+  pub each : blocks ≡ length targets
+  pub small : length targets < 2 ^ 32
+  pub inside : All (λ b. b < length targets) given
+  pub some : 0 < workers
+  pub few : workers ≤ 64
+
+-- what is scanned at once
+pub record Work : Type 0 where
+  pub scene : Scene
+  pub items : List Item
+
+-- each is an item of the scene, and there is a number of steps for each worker
+pub record IsRound (scene : Scene) (items : List Item) (steps : List ℕ) : Type 0 where
+  pub each : All (IsItem scene.roots scene.targets) items
+  pub counts : length steps ≡ scene.workers
+
+-- the seat is of the scene's table, and sound
+pub record IsSeatOf (scene : Scene) (seat : Held) : Type 0 where
+  pub table : seat.table ≡ scene.table
+  pub sound : IsSound seat
+
+-- where the share of a worker begins
+abbrev pub share_of : Work → ℕ → ℕ
+share_of work worker = share worker (length work.items) work.scene.workers
+
+-- an item in the shares of the workers from low up to high leads to the block
+abbrev pub InShares : Work → ℕ → ℕ → ℕ → Type 0
+InShares work low high = InRange (targets_at work.scene.roots work.scene.targets work.items) (share_of work low) (share_of work high)

@@ -1,0 +1,42 @@
+//! What the rounds of a search share, and what the workers of a round share.
+ghost use Rattle.leak_pool.specs.Scene.{Scene, IsSearch, Work, IsRound};
+
+use crate::gate::Gate;
+use crate::source::{Item, Source};
+use leak_marks::Marks;
+use std::marker::Model;
+
+/// What is searched from which blocks on, and by how many workers.
+#[derive(Drop)]
+pub(crate) struct Search<'a, S: Source, G: Gate> {
+    pub(crate) source: &'a S,
+    pub(crate) gate: &'a G,
+    pub(crate) marks: &'a Marks,
+    /// The blocks that are marked before the search.
+    pub(crate) given: &'a [u32],
+    pub(crate) workers: u32,
+}
+
+impl<'a, S: Source, G: Gate> Model for Search<'a, S, G> {
+    ghost Value = { Scene };
+
+    ghost view = { λ s. record { table = s.marks.now.table; roots = S.roots s.source.now; targets = S.targets s.source.now; given = s.given.now; workers = s.workers } };
+
+    ghost invariant = { λ s. IsSearch s.marks.now.blocks (S.targets s.source.now) s.given.now s.workers };
+}
+
+/// The items of a round, and how many items each worker has scanned before it.
+#[derive(Drop)]
+pub(crate) struct Round<'a, 'b, S: Source, G: Gate> {
+    pub(crate) search: &'a Search<'b, S, G>,
+    pub(crate) items: &'a [Item],
+    pub(crate) steps: &'a [u64],
+}
+
+impl<'a, 'b, S: Source, G: Gate> Model for Round<'a, 'b, S, G> {
+    ghost Value = { Work };
+
+    ghost view = { λ r. record { scene = r.search.now; items = r.items.now } };
+
+    ghost invariant = { λ r. IsRound r.search.now r.items.now r.steps.now };
+}

@@ -1,0 +1,31 @@
+//! What workers share.
+ghost use Rattle.std.specs.Prelude.{◌≡◌, ◌<◌, ◌≤◌, ◌+◌, ◌↔◌, IsTrue};
+ghost use Rattle.leak_pool.specs.Scene.{Work, IsSeatOf, share_of};
+ghost use Rattle.leak_pool.specs.Promises.{HaveScanned};
+
+use leak_marks::{MarkSeat, Marks};
+use std::alloc::{AllocError, Global};
+
+/// For each worker the blocks that it claimed in a round.
+pub(crate) type Lists = Result<Vec<Vec<u32>>, AllocError>;
+
+/// Items of which each worker scans a share.
+pub(crate) trait Task {
+    ghost work: { Self → Work };
+
+    /// Where the blocks are marked.
+    fn marks(&self) -> &Marks
+        ensures { result.now.table ≡ (work self.now).scene.table };
+
+    /// Whether both the workers from `low` up to `middle` and those from there up to `high` have an item. If not, a
+    /// thread would have nothing to do. Many rounds have one item: those that follow a list.
+    fn is_shared(&self, low: u32, middle: u32, high: u32) -> bool
+        requires { (low ≤ middle) × (middle ≤ high) × (high ≤ (work self.now).scene.workers) }
+        ensures { IsTrue result ↔ ((share_of (work self.now) low < share_of (work self.now) middle) × (share_of (work self.now) middle < share_of (work self.now) high)) };
+
+    /// One worker scans its share.
+    fn scan_share(&self, alloc: Global, seat: &mut MarkSeat, worker: u32) -> Lists
+        requires seat { IsSeatOf (work self.now).scene seat.old }
+        requires worker { worker < (work self.now).scene.workers }
+        ensures { HaveScanned (work self.now) worker (worker + 1) seat.old seat.new result };
+}
