@@ -77,14 +77,8 @@ pub fn mark_from<R: Threads + Sync, W: Words + Sync, L: Lookup + Sync, G: Gate +
         rescan: start.rescan.as_slice(),
         pages,
     };
-    let marked = mark_over(
-        rt,
-        alloc,
-        &scope,
-        gate,
-        plan.workers(),
-        start.marked.as_slice(),
-    )?;
+    let given = start.marked.as_slice();
+    let marked = mark_over(rt, alloc, &scope, gate, plan.workers(), given)?;
     Ok(marked)
 }
 

@@ -1,4 +1,4 @@
-ghost use Rattle.std.specs.Prelude.{◌≡◌, ◌<◌, ◌≤◌, length};
+ghost use Rattle.std.specs.Prelude.{◌≡◌, ◌<◌, ◌≤◌, [], length};
 ghost use Rattle.leak_elf.specs.Words.{word_of};
 ghost use Rattle.leak_elf.specs.Aligned.{aligned_words};
 
@@ -362,6 +362,16 @@ fn counts(alloc: Global) -> Result<Vec<AtomicU64>, Fail> {
     Ok(counts)
 }
 
+/// A start that marks nothing.
+fn no_start(alloc: Global) -> Start
+    ensures { (result.marked.items ≡ []) × (result.rescan.items ≡ []) }
+{
+    Start {
+        marked: Vec::new(alloc),
+        rescan: Vec::new(alloc),
+    }
+}
+
 #[test]
 fn two_workers_scan_and_claim_at_the_same_time(rt: HostRuntime) -> Result<(), Fail> {
     let alloc = rt.alloc();
@@ -374,10 +384,7 @@ fn two_workers_scan_and_claim_at_the_same_time(rt: HostRuntime) -> Result<(), Fa
     let roots = Roots::find(alloc, &image, &threads, &live)?;
     let lookup = Sorted::new(&live, Reading::interior());
     let plan = Plan::new(2, 1, 0)?;
-    let nothing = Start {
-        marked: Vec::new(alloc),
-        rescan: Vec::new(alloc),
-    };
+    let nothing = no_start(alloc);
     let Some(pages) = Pages::new(Vec::new(alloc)) else {
         panic!(rt; "no pages are pages")
     };
