@@ -3,10 +3,13 @@ use Rattle.std.specs.Prelude.{◌≡◌, ℕ, zero, suc, ◌+◌, ◌-◌, ◌/�
 use Rattle.std.specs.Int.{w64}
 use Rattle.std.specs.List.{range_with_len}
 use Rattle.leak_elf.specs.Fields.{number_at}
+use Rattle.leak_index.specs.Hits.{Index, hits_in}
+use Rattle.leak_index.specs.declared.hits.Hits.{Hits}
+use Rattle.leak_index.specs.declared.hits.Hits.TheVariants.{Zero}
 use Rattle.leak_scan.specs.declared.place.Place.{Place}
 use Rattle.leak_scan.specs.declared.reading.Found.{Found}
 use Rattle.leak_scan.specs.declared.reading.Found.TheVariants.{Nothing, Word, Run}
-use Rattle.leak_scan.specs.Targets.{is_on}
+use Rattle.leak_scan.specs.Targets.{is_on, targets_of}
 
 -- so many words, each of 8 bytes, from the first byte on
 abbrev pub first_words : ℕ → List ℕ → List ℕ
@@ -42,6 +45,11 @@ words_left word_at list run from count = list ++ (words_in run ++ words_from wor
 -- those that a scan has left at the place
 abbrev pub words_ahead : (ℕ → Option ℕ) → Place → List ℕ
 words_ahead word_at place = words_left word_at place.list.now place.run.now place.from place.count
+
+-- the hits are those of the first word ahead that leads anywhere, and the place behind has what follows that word
+pub record AreNextHits (word_at : ℕ → Option ℕ) (index : Index) (place : Place) (hits : Hits) (behind : Place) : Type 0 where
+  pub split : targets_of index (words_ahead word_at place) ≡ hits_in hits ++ targets_of index (words_ahead word_at behind)
+  pub end : hits ≡ Zero → words_ahead word_at behind ≡ []
 
 -- what was found is the words from the address up to a later one, and those lie in the window
 pub record IsRead (word_at : ℕ → Option ℕ) (from window : ℕ) (found : Found) (later : ℕ) : Type 0 where

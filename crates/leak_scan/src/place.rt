@@ -1,9 +1,7 @@
 //! How far a scan has come.
-ghost use Rattle.std.specs.Prelude.{◌≡◌, ◌++◌, ◌<◌, [], IfSome};
+ghost use Rattle.std.specs.Prelude.{◌≡◌, ◌++◌, ◌<◌};
 ghost use Rattle.std.specs.Option.{option_copied};
-ghost use Rattle.leak_index.specs.Hits.{hits_in};
-ghost use Rattle.leak_scan.specs.Targets.{targets_of};
-ghost use Rattle.leak_scan.specs.Places.{listed_word, words_found, words_ahead, words_from, IsFirstWindow};
+ghost use Rattle.leak_scan.specs.Places.{listed_word, words_found, words_from, IsFirstWindow, AreNextHits};
 
 use crate::first::{first_of_list, first_of_run};
 use crate::pages::Pages;
@@ -77,11 +75,8 @@ pub(crate) fn next_hits<'a, W: Words, L: Lookup>(
     pages: Option<&'a Pages>,
     place: Place<'a>,
 ) -> (Hits, Place<'a>)
-    ensures split { let f = listed_word (W.word_at words.now) (option_copied pages.entry) in
-        let index = L.index lookup.now in
-        targets_of index (words_ahead f place.entry) ≡ hits_in result.0 ++ targets_of index (words_ahead f result.1) }
-    ensures end { let f = listed_word (W.word_at words.now) (option_copied pages.entry) in
-        result.0 ≡ Hits.Zero → words_ahead f result.1 ≡ [] }
+    ensures { let f = listed_word (W.word_at words.now) (option_copied pages.entry) in
+        AreNextHits f (L.index lookup.now) place.entry result.0 result.1 }
 {
     let (hits, list) = first_of_list(lookup, place.list);
     let mut place = Place { list, ..place };

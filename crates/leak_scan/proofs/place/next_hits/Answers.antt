@@ -29,13 +29,12 @@ returns-in_default-hits g c = record {
   end = λ e. absurd (c.in_default-hits.not-Zero e);
 }
 
-pub returns-then-place-eq0-clause-split : goal.returns-then-place-eq0-clause-split
-returns-then-place-eq0-clause-split g c = c.loop-hits.invariant.0 ∙ run_passed (g.L.Lookup.index c.args.lookup.now) (listed_word (g.W.Words.word_at c.args.words.now) (option_copied c.args.pages)) _ _ _ _ _ c.first_of_run-hits.result.0 c.loop-hits.invariant.1 c.first_of_run-hits.ensures.split c.in-Zero-hits.is
-
-pub returns-then-place-eq0-clause-end : goal.returns-then-place-eq0-clause-end
-returns-then-place-eq0-clause-end g c = λ e.
-    let f = listed_word (g.W.Words.word_at c.args.words.now) (option_copied c.args.pages) in
-    ahead_none f _ _ _ _ c.loop-hits.invariant.1 (c.first_of_run-hits.ensures.end c.in-Zero-hits.is) (ap (words_from f c.loop-hits.place.from) c.if-place-eq0.true ∙ no_addresses f c.loop-hits.place.from)
+pub returns-then-place-eq0 : goal.returns-then-place-eq0
+returns-then-place-eq0 g c =
+    let f = listed_word (g.W.Words.word_at c.args.words.now) (option_copied c.args.pages) in record {
+      split = c.loop-hits.invariant.0 ∙ run_passed (g.L.Lookup.index c.args.lookup.now) f _ _ _ _ _ c.first_of_run-hits.result.0 c.loop-hits.invariant.1 c.first_of_run-hits.ensures.split c.in-Zero-hits.is;
+      end = λ e. ahead_none f _ _ _ _ c.loop-hits.invariant.1 (c.first_of_run-hits.ensures.end c.in-Zero-hits.is) (ap (words_from f c.loop-hits.place.from) c.if-place-eq0.true ∙ no_addresses f c.loop-hits.place.from);
+    }
 
 pub loop-hits-preserved-in-Nothing : goal.loop-hits-preserved-in-Nothing
 loop-hits-preserved-in-Nothing g c =
