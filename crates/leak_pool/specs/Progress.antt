@@ -33,10 +33,10 @@ pub record IsBetween (scene : Scene) (p : Progress) : Type 0 where
   pub few : length p.waiting.items ≤ length p.seat.claims
   pub going : Going scene.roots scene.targets scene.given scene.workers (claims_of p) p.waiting.items p.seat
 
--- what leads to a block by some item was scanned
+-- What these items lead to was scanned: what the seat claimed is on the lists of the workers, and waits.
 abbrev pub HasScanned : (ℕ → Type 0) → Scene → Progress → Progress → Type 0
 HasScanned item scene before after = (gained : List (List ℕ)) × IsStep item scene.workers (claims_of before) before.waiting.items before.seat (claims_of after) after.waiting.items after.seat gained
 
--- some of the items leads to the block
+-- one of the items leads to the block
 abbrev pub InItems : Scene → List Item → ℕ → Type 0
 InItems scene items = InRange (targets_at scene.roots scene.targets items) 0 (length items)

@@ -1,5 +1,5 @@
 //! The workers of a round, forked by halves. No other file starts a thread.
-ghost use Rattle.std.specs.Prelude.{◌≡◌, ◌<◌, ◌≤◌, ◌^◌, ◌+◌, ◌-◌, ◌*◌, ◌++◌, ◌↔◌, length, map, All, IfOk, IsOkAnd, IsTrue};
+ghost use Rattle.std.specs.Prelude.{◌≡◌, ◌+◌, ◌++◌, IfOk, IsOkAnd};
 ghost use Rattle.leak_marks.specs.Seats.{IsSound, held};
 ghost use Rattle.leak_pool.specs.Promises.{CanScan, HaveScanned};
 

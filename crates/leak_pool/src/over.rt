@@ -1,6 +1,6 @@
 //! Marking by workers, from a start, over any source.
-ghost use Rattle.std.specs.Prelude.{◌≡◌, ◌⊎◌, ◌<◌, ◌≤◌, ◌^◌, ◌+◌, ℕ, List, [], ◌∷◌, ◌++◌, ◌/◌, ◌↔◌, length, map, replicate, All, IfOk, IsTrue};
-ghost use Rattle.leak_marks.specs.Lists.{Has, Within, mark_of, word_count};
+ghost use Rattle.std.specs.Prelude.{◌≡◌, ◌<◌, ◌≤◌, ◌+◌, [], ◌/◌, ◌↔◌, length, map, replicate, All, IfOk, IsTrue};
+ghost use Rattle.leak_marks.specs.Lists.{Within, mark_of, word_count};
 ghost use Rattle.leak_marks.specs.Seats.{IsSound};
 ghost use Rattle.leak_pool.specs.Rounds.{AreWords, IsMarked, graph_over, AreRoots};
 ghost use Rattle.leak_pool.specs.Progress.{IsFresh, IsBetween};

@@ -1,8 +1,7 @@
 //! One round.
-ghost use Rattle.std.specs.Prelude.{◌≡◌, ◌<◌, ◌≤◌, ◌^◌, ◌+◌, ℕ, List, [], ◌∷◌, ◌++◌, length, map, All, IfOk, slice_index_or};
+ghost use Rattle.std.specs.Prelude.{◌≡◌, ◌≤◌, ◌++◌, length, map, All, IfOk};
 ghost use Rattle.std.specs.List.{concat};
 ghost use Rattle.leak_marks.specs.Lists.{Has};
-ghost use Rattle.leak_marks.specs.Seats.{Held, IsSound};
 ghost use Rattle.leak_marks.specs.Rounds.{appended_from};
 ghost use Rattle.leak_pool.specs.Items.{IsItem, targets_of_item};
 ghost use Rattle.leak_pool.specs.Progress.{IsReady, HasScanned, InItems};

@@ -1,10 +1,9 @@
 //! What one worker does in a round.
-ghost use Rattle.std.specs.Prelude.{◌≡◌, ◌<◌, ◌≤◌, ◌^◌, ◌+◌, ℕ, List, [], ◌++◌, length, map, All, IfOk};
+ghost use Rattle.std.specs.Prelude.{◌≡◌, ◌<◌, ◌≤◌, ◌+◌, [], ◌++◌, IfOk};
 ghost use Rattle.leak_marks.specs.Seats.{IsSound};
 ghost use Rattle.leak_marks.specs.Rounds.{IsKeptInRounds};
 ghost use Rattle.leak_pool.specs.Items.{share};
 ghost use Rattle.leak_pool.specs.Scene.{IsSeatOf, InShares};
-ghost use Rattle.leak_pool.specs.Promises.{HaveScanned};
 
 use crate::gate::Gate;
 use crate::search::Round;
@@ -56,8 +55,6 @@ fn work<S: Source, G: Gate>(
 }
 
 impl<'a, 'b, S: Source, G: Gate> Task for Round<'a, 'b, S, G> {
-    ghost use Rattle.leak_pool.specs.Scene.{Work};
-
     ghost work = { λ round. round };
 
     fn marks(&self) -> &Marks {
