@@ -1,15 +1,16 @@
 -- How far the marking of a scene has come.
-use Rattle.std.specs.Prelude.{◌≡◌, ℕ, ◌<◌, ◌≤◌, ◌^◌, List, [], length, map, replicate}
+use Rattle.std.specs.Prelude.{◌≡◌, ℕ, ◌<◌, ◌≤◌, ◌^◌, List, [], length, replicate}
 use Rattle.leak_marks.specs.Seats.{held, IsSound}
 use Rattle.leak_pool.specs.Items.{targets_at, InRange}
 use Rattle.leak_pool.specs.Scene.{Scene}
+use Rattle.leak_pool.specs.Promises.{as_lists}
 use Rattle.leak_pool.specs.Rounds.{IsStep, Going}
 use Rattle.leak_pool.specs.declared.source.Item.{Item}
 use Rattle.leak_pool.specs.declared.progress.Progress.{Progress}
 
 -- for each worker, the blocks that it claimed
 abbrev pub claims_of : Progress → List (List ℕ)
-claims_of p = map (λ v. v.items) p.claims.items
+claims_of p = as_lists p.claims.items
 
 -- the seat is whole, and there are as many lists and numbers of steps as workers
 pub record IsReady (scene : Scene) (p : Progress) : Type 0 where
@@ -35,7 +36,8 @@ pub record IsBetween (scene : Scene) (p : Progress) : Type 0 where
 
 -- What these items lead to was scanned: what the seat claimed is on the lists of the workers, and waits.
 abbrev pub HasScanned : (ℕ → Type 0) → Scene → Progress → Progress → Type 0
-HasScanned item scene before after = (gained : List (List ℕ)) × IsStep item scene.workers (claims_of before) before.waiting.items before.seat (claims_of after) after.waiting.items after.seat gained
+HasScanned item scene before after =
+    (gained : List (List ℕ)) × IsStep item scene.workers (claims_of before) before.waiting.items before.seat (claims_of after) after.waiting.items after.seat gained
 
 -- one of the items leads to the block
 abbrev pub InItems : Scene → List Item → ℕ → Type 0

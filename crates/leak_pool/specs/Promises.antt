@@ -31,6 +31,10 @@ pub record IsHalf (targets : ℕ → List ℕ) (items workers low high : ℕ) (b
   pub listed : after.claims ≡ before.claims ++ concat gained
   pub kept : IsKeptInRounds (InRange targets (share low items workers) (share high items workers)) before.seen after.seen (concat gained)
 
+-- what each holds
+abbrev pub as_lists : List (Vec ℕ Global) → List (List ℕ)
+as_lists vecs = map (λ v. v.items) vecs
+
 -- The workers from low up to high can share the seat.
 pub record CanScan (work : Work) (low high : ℕ) (seat : Held) : Type 0 where
   pub table : seat.table ≡ work.scene.table
@@ -44,4 +48,4 @@ pub record HaveScanned (work : Work) (low high : ℕ) (before after : Held) (lis
   pub table : after.table ≡ before.table
   pub share : after.share ≡ before.share
   pub sound : IsSound after
-  pub done : IfOk lists (λ ls. IsHalf (targets_at work.scene.roots work.scene.targets work.items) (length work.items) work.scene.workers low high before after (map (λ v. v.items) ls.items))
+  pub done : IfOk lists (λ ls. IsHalf (targets_at work.scene.roots work.scene.targets work.items) (length work.items) work.scene.workers low high before after (as_lists ls.items))

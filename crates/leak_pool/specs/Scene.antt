@@ -4,7 +4,8 @@ use Rattle.leak_marks.specs.Seats.{TableId, Held, IsSound}
 use Rattle.leak_pool.specs.Items.{IsItem, targets_at, InRange, share}
 use Rattle.leak_pool.specs.declared.source.Item.{Item}
 
--- the table of the marks, what each part of the roots and each block leads to, the blocks marked before, and how many workers there are
+-- the table of the marks, what each part of the roots and each block leads to, the blocks that are marked before, and
+-- how many workers there are
 pub record Scene : Type 0 where
   pub table : TableId
   pub roots : List (List ℕ)
@@ -42,3 +43,7 @@ share_of work worker = share worker (length work.items) work.scene.workers
 -- an item in the shares of the workers from low up to high leads to the block
 abbrev pub InShares : Work → ℕ → ℕ → ℕ → Type 0
 InShares work low high = InRange (targets_at work.scene.roots work.scene.targets work.items) (share_of work low) (share_of work high)
+
+-- the workers from low up to middle have an item, and so have those from there up to high
+abbrev pub HaveBoth : Work → ℕ → ℕ → ℕ → Type 0
+HaveBoth work low middle high = (share_of work low < share_of work middle) × (share_of work middle < share_of work high)

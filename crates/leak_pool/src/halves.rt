@@ -1,6 +1,6 @@
 //! The workers of a round, forked by halves. No other file starts a thread.
-ghost use Rattle.std.specs.Prelude.{◌≡◌, ◌+◌, ◌++◌, IfOk, IsOkAnd};
-ghost use Rattle.leak_marks.specs.Seats.{IsSound, held};
+ghost use Rattle.std.specs.Prelude.{◌≡◌, ◌++◌, IfOk, IsOkAnd};
+ghost use Rattle.leak_marks.specs.Seats.{IsSound, both_seats};
 ghost use Rattle.leak_pool.specs.Promises.{CanScan, HaveScanned};
 
 use crate::task::{Lists, Task};
@@ -21,7 +21,7 @@ fn both(first: Lists, second: Lists) -> Lists
 // Joins the seats of two halves.
 fn merge(marks: &Marks, lower: (MarkSeat, Lists), upper: (MarkSeat, Lists)) -> (MarkSeat, Lists)
     requires { (lower.0.table ≡ marks.now.table) × (upper.0.table ≡ marks.now.table) }
-    ensures seat { result.0 ≡ held lower.0.table (lower.0.claims ++ upper.0.claims) (lower.0.seen ++ upper.0.seen) (lower.0.share + upper.0.share) }
+    ensures seat { result.0 ≡ both_seats lower.0 upper.0 }
     ensures sound { IsSound result.0 }
     ensures lists { IfOk result.1 (λ ls. IsOkAnd lower.1 (λ a. IsOkAnd upper.1 (λ b. ls.items ≡ a.items ++ b.items))) }
 {

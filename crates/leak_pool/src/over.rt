@@ -1,7 +1,8 @@
 //! Marking by workers, from a start, over any source.
-ghost use Rattle.std.specs.Prelude.{◌≡◌, ◌<◌, ◌≤◌, ◌+◌, [], ◌/◌, ◌↔◌, length, map, replicate, All, IfOk, IsTrue};
+ghost use Rattle.std.specs.Prelude.{◌≡◌, ◌<◌, ◌≤◌, ◌+◌, [], ◌/◌, ◌↔◌, length, replicate, All, IfOk, IsTrue};
 ghost use Rattle.leak_marks.specs.Lists.{Within, mark_of, word_count};
 ghost use Rattle.leak_marks.specs.Seats.{IsSound};
+ghost use Rattle.leak_pool.specs.Promises.{as_lists};
 ghost use Rattle.leak_pool.specs.Rounds.{AreWords, IsMarked, graph_over, AreRoots};
 ghost use Rattle.leak_pool.specs.Progress.{IsFresh, IsBetween};
 ghost use Rattle.leak_pool.specs.Marking.{IsSet};
@@ -35,7 +36,7 @@ fn claim_start(marks: &Marks, seat: &mut MarkSeat, start: &[u32])
 
 // No claim of any worker.
 fn no_claims(alloc: Global, workers: u32) -> Result<Vec<Vec<u32>>, AllocError>
-    ensures lists { IfOk result (λ c. map (λ v. v.items) c.items ≡ replicate workers []) }
+    ensures lists { IfOk result (λ c. as_lists c.items ≡ replicate workers []) }
     ensures count { IfOk result (λ c. length c.items ≡ workers) }
 {
     let mut claims = Vec::with_capacity(alloc, workers as usize)?;
@@ -84,7 +85,8 @@ fn mark_words<R: Threads + Sync, S: Source + Sync, G: Gate + Sync>(
     requires given { All (λ b. b < length (S.targets source.now)) given.now }
     requires some { 0 < workers }
     requires few { workers ≤ 64 }
-    ensures { IfOk result (λ r. AreWords (graph_over (S.roots source.now) (S.targets source.now) given.now) (length (S.targets source.now)) workers r.0.items (map (λ v. v.items) r.1.items) r.2) }
+    ensures { let targets = S.targets source.now in let graph = graph_over (S.roots source.now) targets given.now in
+        IfOk result (λ r. AreWords graph (length targets) workers r.0.items (as_lists r.1.items) r.2) }
 {
     whole_runs();
     let (marks, seat) = Marks::new(alloc, source.blocks())?;
@@ -139,7 +141,8 @@ pub(crate) fn mark_over<R: Threads + Sync, S: Source + Sync, G: Gate + Sync>(
     requires given { All (λ b. b < length (S.targets source.now)) given.now }
     requires some { 0 < workers }
     requires few { workers ≤ 64 }
-    ensures { IfOk result (λ m. IsMarked (graph_over (S.roots source.now) (S.targets source.now) given.now) (length (S.targets source.now)) workers m.set.items (map (λ v. v.items) m.claims.items) m.rounds) }
+    ensures { let targets = S.targets source.now in let graph = graph_over (S.roots source.now) targets given.now in
+        IfOk result (λ m. IsMarked graph (length targets) workers m.set.items (as_lists m.claims.items) m.rounds) }
 {
     targets_are_blocks(source);
     if source.blocks() == 0 {

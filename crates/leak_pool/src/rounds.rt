@@ -1,9 +1,10 @@
 //! One round.
-ghost use Rattle.std.specs.Prelude.{◌≡◌, ◌≤◌, ◌++◌, length, map, All, IfOk};
+ghost use Rattle.std.specs.Prelude.{◌≡◌, ◌≤◌, ◌++◌, length, All, IfOk};
 ghost use Rattle.std.specs.List.{concat};
 ghost use Rattle.leak_marks.specs.Lists.{Has};
 ghost use Rattle.leak_marks.specs.Rounds.{appended_from};
 ghost use Rattle.leak_pool.specs.Items.{IsItem, targets_of_item};
+ghost use Rattle.leak_pool.specs.Promises.{as_lists};
 ghost use Rattle.leak_pool.specs.Progress.{IsReady, HasScanned, InItems};
 
 use crate::gate::Gate;
@@ -23,8 +24,8 @@ fn absorb(
 ) -> Result<(), AllocError>
     requires { length gained.now ≤ length claims.old.items }
     ensures count { length claims.new.items ≡ length claims.old.items }
-    ensures claims { IfOk result (λ _. map (λ v. v.items) claims.new.items ≡ appended_from 0 (map (λ v. v.items) claims.old.items) (map (λ v. v.items) gained.now)) }
-    ensures waiting { IfOk result (λ _. waiting.new.items ≡ waiting.old.items ++ concat (map (λ v. v.items) gained.now)) }
+    ensures claims { IfOk result (λ _. as_lists claims.new.items ≡ appended_from 0 (as_lists claims.old.items) (as_lists gained.now)) }
+    ensures waiting { IfOk result (λ _. waiting.new.items ≡ waiting.old.items ++ concat (as_lists gained.now)) }
 {
     for k in 0..gained.len() {
         let more = gained[k].as_slice();
@@ -99,18 +100,14 @@ pub(crate) fn by_caller<S: Source, G: Gate>(
     requires ready { IsReady search.now progress.old }
     requires item { IsItem search.now.roots search.now.targets item }
     ensures ready { IsReady search.now progress.new }
-    ensures done { IfOk result (λ _. HasScanned (Has (targets_of_item search.now.roots search.now.targets item)) search.now progress.old progress.new) }
+    ensures done { let targets = targets_of_item search.now.roots search.now.targets item in
+        IfOk result (λ _. HasScanned (Has targets) search.now progress.old progress.new) }
 {
     let mut gained = Vec::with_capacity(alloc, 1)?;
     let mut list = Vec::new(alloc);
-    let marks = search.marks;
-    search
-        .source
-        .scan(marks, &mut progress.seat, &mut list, item)?;
+    let seat = &mut progress.seat;
+    search.source.scan(search.marks, seat, &mut list, item)?;
     gained.push(list)?;
-    absorb(
-        &mut progress.claims,
-        &mut progress.waiting,
-        gained.as_slice(),
-    )
+    let claims = &mut progress.claims;
+    absorb(claims, &mut progress.waiting, gained.as_slice())
 }

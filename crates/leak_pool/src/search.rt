@@ -20,7 +20,13 @@ pub(crate) struct Search<'a, S: Source, G: Gate> {
 impl<'a, S: Source, G: Gate> Model for Search<'a, S, G> {
     ghost Value = { Scene };
 
-    ghost view = { λ s. record { table = s.marks.now.table; roots = S.roots s.source.now; targets = S.targets s.source.now; given = s.given.now; workers = s.workers } };
+    ghost view = { λ s. record {
+      table = s.marks.now.table;
+      roots = S.roots s.source.now;
+      targets = S.targets s.source.now;
+      given = s.given.now;
+      workers = s.workers;
+    } };
 
     ghost invariant = { λ s. IsSearch s.marks.now.blocks (S.targets s.source.now) s.given.now s.workers };
 }

@@ -1,6 +1,6 @@
 //! What workers share.
 ghost use Rattle.std.specs.Prelude.{◌≡◌, ◌<◌, ◌≤◌, ◌+◌, ◌↔◌, IsTrue};
-ghost use Rattle.leak_pool.specs.Scene.{Work, IsSeatOf, share_of};
+ghost use Rattle.leak_pool.specs.Scene.{Work, IsSeatOf, HaveBoth};
 ghost use Rattle.leak_pool.specs.Promises.{HaveScanned};
 
 use leak_marks::{MarkSeat, Marks};
@@ -21,7 +21,7 @@ pub(crate) trait Task {
     /// thread would have nothing to do. Many rounds have one item: those that follow a list.
     fn is_shared(&self, low: u32, middle: u32, high: u32) -> bool
         requires { (low ≤ middle) × (middle ≤ high) × (high ≤ (work self.now).scene.workers) }
-        ensures { IsTrue result ↔ ((share_of (work self.now) low < share_of (work self.now) middle) × (share_of (work self.now) middle < share_of (work self.now) high)) };
+        ensures { IsTrue result ↔ HaveBoth (work self.now) low middle high };
 
     /// One worker scans its share.
     fn scan_share(&self, alloc: Global, seat: &mut MarkSeat, worker: u32) -> Lists

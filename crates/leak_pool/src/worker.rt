@@ -39,7 +39,8 @@ fn work<S: Source, G: Gate>(
     ensures same { (seat.new.table ≡ seat.old.table) × (seat.new.share ≡ seat.old.share) }
     ensures sound { IsSound seat.new }
     ensures listed { IfOk result (λ _. seat.new.claims ≡ seat.old.claims ++ list.new.items) }
-    ensures done { IfOk result (λ _. IsKeptInRounds (InShares round.now worker (worker + 1)) seat.old.seen seat.new.seen list.new.items) }
+    ensures done { let share = InShares round.now worker (worker + 1) in
+        IfOk result (λ _. IsKeptInRounds share seat.old.seen seat.new.seen list.new.items) }
 {
     let search = round.search;
     let items = round.items;
