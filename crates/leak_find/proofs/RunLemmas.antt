@@ -1,11 +1,10 @@
 -- Readers by their number, and inputs read one after the other.
-use Rattle.std.proofs.Common.{◌≡◌, ◌≢◌, ℕ, zero, suc, ◌+◌, ◌<◌, ◌≤◌, List, [], ◌∷◌, ◌++◌, length, Option, None, refl, sym, subst, ap, ◌∙◌, arith, map, slice_index_or, slice_set, ⊎_elim}
+use Rattle.std.proofs.Common.{◌≡◌, ◌≢◌, ℕ, zero, suc, ◌+◌, ◌<◌, ◌≤◌, List, [], ◌∷◌, ◌++◌, length, Option, refl, sym, subst, ap, ◌∙◌, arith, map, slice_index_or, slice_set}
 use Rattle.std.specs.Prelude.{if◌then◌else◌, nat_lt, Bool, true, false}
 use mathlib.Core.Logic.{dite}
 use native.Mathlib.Decide.{ℕ_discrete}
 use lib.Dec.{ltb}
 use mir.Val.{bool_byte}
-use Rattle.std.specs.Io.KnownBytes.{Appends}
 use Rattle.leak_index.specs.Readings.{listed_by}
 use Rattle.leak_find.specs.declared.error.FindError.{FindError}
 use Rattle.leak_find.specs.declared.error.FindError.TheVariants.{NoMemory}

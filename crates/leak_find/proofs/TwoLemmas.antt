@@ -1,12 +1,11 @@
 -- From two inputs that were read, marked and compared to what a search of two cores comes to.
-use Rattle.std.proofs.Common.{◌≡◌, ◌≢◌, ℕ, ◌+◌, ◌≤◌, ◌<◌, ◌-◌, ◌^◌, ◌++◌, ◌⊎◌, List, [], length, Bool, true, false, Result, Ok, Err, IfErr, IsTrue, IsFalse, Option, Some, None, slice_get, refl, ap, subst, sym, ◌∙◌, arith, inl, inr}
-use Rattle.std.specs.Result.{IsErrOf}
+use Rattle.std.proofs.Common.{◌≡◌, ◌≢◌, ℕ, ◌≤◌, ◌<◌, ◌-◌, ◌^◌, ◌++◌, ◌⊎◌, List, length, Bool, true, false, Result, Ok, Err, IfErr, IsTrue, IsFalse, Option, Some, slice_get, refl, ap, subst, sym, ◌∙◌, arith, inl, inr}
 use Rattle.leak_elf.specs.Words.{word_of}
 use Rattle.leak_mtrace.specs.declared.line.Line.{Line}
 use Rattle.leak_mtrace.specs.Log.{is_continued_by}
 use Rattle.leak_mtrace.proofs.SameLogLemmas.{logs_continue}
 use Rattle.leak_blocks.specs.declared.block.Block.{Block}
-use Rattle.leak_blocks.specs.Live.{live_of, replay_of}
+use Rattle.leak_blocks.specs.Live.{live_of}
 use Rattle.leak_index.specs.Hits.{Index}
 use Rattle.leak_roots.specs.Places.{Places, words_at}
 use Rattle.leak_roots.specs.Roots.{AreRootsOf, root_words}
@@ -22,7 +21,7 @@ use Rattle.leak_pool.specs.Marking.{IsSet, Marks, graph_of, lists_of}
 use Rattle.leak_dirty.specs.declared.kept.Carry.{Carry}
 use Rattle.leak_dirty.specs.declared.retracing.Retraced.{Retraced}
 use Rattle.leak_dirty.specs.Differing.{AreDiffering, differs, reread_of}
-use Rattle.leak_dirty.specs.Kept.{AbsentAreFresh, IsCarry, absent_of, fresh_of, kept_of}
+use Rattle.leak_dirty.specs.Kept.{AbsentAreFresh, IsCarry, absent_of, kept_of}
 use Rattle.leak_dirty.specs.Retrace.{IsRetrace, OthersLeadWithin, SameWordsLeadWithin, graph_of_two}
 use Rattle.leak_report.specs.declared.head.Head.{Head}
 use Rattle.leak_report.specs.declared.head.Two.{Two}

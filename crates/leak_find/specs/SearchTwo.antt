@@ -6,7 +6,7 @@ use Rattle.std.specs.Option.{option_map_or}
 use Rattle.leak_elf.specs.Segments.{undumped_of}
 use Rattle.leak_elf.specs.Words.{word_of}
 use Rattle.leak_mtrace.specs.declared.line.Line.{Line}
-use Rattle.leak_mtrace.specs.Log.{IsLog, is_continued_by, torn_of}
+use Rattle.leak_mtrace.specs.Log.{is_continued_by, torn_of}
 use Rattle.leak_blocks.specs.declared.block.Block.{Block}
 use Rattle.leak_blocks.specs.Live.{live_of, replay_of}
 use Rattle.leak_roots.specs.Roots.{root_words}

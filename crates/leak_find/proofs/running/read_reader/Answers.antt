@@ -1,4 +1,4 @@
-use Rattle.std.proofs.Common.{sym, refl}
+use Rattle.std.proofs.Common.{refl}
 use Rattle.leak_find.proofs.RunLemmas.{is_stopped, left_is, left_other, left_same, of_reader}
 use Rattle.leak_find.proofs.running.read_reader.Goals as goal
 

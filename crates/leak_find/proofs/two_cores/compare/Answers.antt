@@ -1,4 +1,4 @@
-use Rattle.std.proofs.Common.{◌≡◌, ◌∙◌, ap, List, Bool, length, refl}
+use Rattle.std.proofs.Common.{◌∙◌, ap, List, Bool, length, refl}
 use Rattle.leak_dirty.specs.Kept.{kept_of}
 use Rattle.leak_find.proofs.TwoLemmas.{is_between, tests_of}
 use Rattle.leak_find.proofs.two_cores.compare.Goals as goal

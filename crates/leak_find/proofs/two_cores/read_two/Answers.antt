@@ -1,6 +1,5 @@
-use Rattle.std.proofs.Common.{◌≡◌, ◌∙◌, ◌<◌, ◌-◌, ◌^◌, ℕ, Bool, List, IsTrue, ap, subst, length, arith, inl, inr}
+use Rattle.std.proofs.Common.{◌<◌, ◌-◌, ◌^◌, List, ap, subst, length, arith, inl, inr}
 use Rattle.leak_blocks.specs.declared.block.Block.{Block}
-use Rattle.leak_mtrace.specs.Log.{is_continued_by}
 use Rattle.leak_find.proofs.TwoLemmas.{is_true, too_many_of_two, are_read}
 use Rattle.leak_find.proofs.two_cores.read_two.Goals as goal
 

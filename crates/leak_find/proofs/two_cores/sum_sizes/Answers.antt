@@ -1,4 +1,4 @@
-use Rattle.std.proofs.Common.{◌≡◌, ℕ, ◌+◌, ◌≤◌, ◌<◌, ◌^◌, take, length, get_or, sum_by, arith}
+use Rattle.std.proofs.Common.{◌≡◌, ◌+◌, take, get_or, arith}
 use Rattle.leak_blocks.specs.declared.block.Block.{Block}
 use Rattle.leak_blocks.proofs.SumLemmas.{sum_fits}
 use Rattle.leak_marks.proofs.ElementLemmas.{has_at}
