@@ -43,11 +43,11 @@ fn count_steps(steps: &mut Vec<u64>, items: usize, workers: u32)
     ensures { length steps.new.items ≡ workers }
 {
     for k in 0..workers {
-        let scanned = share_start(k + 1, items, workers).wrapping_sub(share_start(
-            k, items, workers,
-        ));
+        let first = share_start(k, items, workers);
+        let end = share_start(k + 1, items, workers);
+        let scanned = end.wrapping_sub(first) as u64;
         let step = steps[k as usize];
-        steps[k as usize] = step.wrapping_add(scanned as u64);
+        steps[k as usize] = step.wrapping_add(scanned);
     }
 }
 
