@@ -8,12 +8,20 @@ use Rattle.std.proofs.lemmas.List.{get_or-drop, get_or-take}
 use Rattle.leak_blocks.specs.declared.block.Block.{Block}
 use Rattle.leak_blocks.specs.Span.{AreDisjoint, span_end}
 use Rattle.leak_index.specs.Bounds.{IsCountUpTo, IsNarrowedTo}
-use Rattle.leak_index.specs.Directory.{IsDirectory, IsFirstIn, page_of}
+use Rattle.leak_index.specs.Directory.{AreUpTo, IsDirectory, IsFirstIn, page_of}
 use Rattle.leak_index.proofs.Near.{ascending, either}
 
 -- pages by number ascend
 pub rising : (pages : List ℕ) → IsStrictlyIncreasing pages → IsNonDecreasingBy (λ n. n) pages
 rising pages up = IsNonDecreasingBy-from_all_adjacent (λ n. n) pages (λ k d h. omega (arith, up k h, get_or_default_zero pages k d (omega (arith, h)), get_or_default_zero pages (k + 1) d h))
+
+-- the pages up to that of the entry are not above the page, and the next one is
+pub last_entry : (pages : List ℕ) (page e d : ℕ) → IsStrictlyIncreasing pages → e < length pages → slice_index_or pages e d ≤ page → ((f : ℕ) → e + 1 < length pages → page < slice_index_or pages (e + 1) f) → AreUpTo pages page (e + 1)
+last_entry pages page e d up h low high = record {
+  bound = omega (arith, h);
+  within = λ k f l. omega (arith, rising pages up k e f (omega (arith, l)) h, get_or_default_zero pages e f h, get_or_default_zero pages e d h, low);
+  beyond = λ k f l m. omega (arith, high f (omega arith), rising pages up (e + 1) k f l m);
+}
 
 -- what lies in a page below lies below
 below : (a b : ℕ) → a / 4096 < b / 4096 → a < b

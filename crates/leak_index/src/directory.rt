@@ -1,5 +1,5 @@
 //! The pages in which blocks start.
-ghost use Rattle.std.specs.Prelude.{IfOk};
+ghost use Rattle.std.specs.Prelude.{◌+◌, IfOk, IsTrue};
 ghost use Rattle.std.specs.List.Sorted.{IsStrictlyIncreasing};
 ghost use Rattle.leak_blocks.specs.Span.{AreDisjoint};
 ghost use Rattle.leak_index.specs.Bounds.{IsCountUpTo, IsNarrowedTo};
@@ -18,6 +18,17 @@ const PAGE: u64 = 4096;
 pub(crate) struct Directory {
     pages: Vec<u64>,
     firsts: Vec<usize>,
+    /// A help in finding entries. No answer rests on it.
+    rows: Vec<Row>,
+}
+
+/// An entry, counted from 0, whose page doesn't follow that of the entry before.
+///
+/// Where blocks are small there are few: the entry of a page is then found by its distance from one of them.
+#[derive(Clone, Copy)]
+struct Row {
+    page: u64,
+    entry: usize,
 }
 
 impl Directory {
@@ -38,7 +49,12 @@ impl Directory {
                 next = page + 1;
             }
         }
-        Ok(Directory { pages, firsts })
+        let rows = rows_of(alloc, pages.as_slice())?;
+        Ok(Directory {
+            pages,
+            firsts,
+            rows,
+        })
     }
 
     /// How many of the blocks begin at the address or before it.
@@ -58,7 +74,7 @@ impl Directory {
         requires directory { IsDirectory blocks.now self.now.pages.items self.now.firsts.items }
         ensures { IsNarrowedTo blocks.now address result.0 result.1 }
     {
-        let entries = count_pages(self.pages.as_slice(), address / PAGE);
+        let entries = self.count_entries(address / PAGE);
         if entries == 0 {
             return (0, 0);
         }
@@ -68,9 +84,65 @@ impl Directory {
         }
         (low, self.firsts[entries])
     }
+    /// How many of the listed pages are not above the page.
+    fn count_entries(&self, page: u64) -> usize
+        requires { IsStrictlyIncreasing self.now.pages.items }
+        ensures { AreUpTo self.now.pages.items page result }
+    {
+        let guess = self.guess(page);
+        if is_last(self.pages.as_slice(), guess, page) {
+            return guess + 1;
+        }
+        count_pages(self.pages.as_slice(), page)
+    }
+
+    /// The last entry whose page isn't above the page, by the rows. It is only a guess.
+    fn guess(&self, page: u64) -> usize {
+        let rows = self.rows.partition_point(|row| row.page <= page);
+        if rows == 0 {
+            return 0;
+        }
+        let row = self.rows[rows - 1];
+        let behind = if rows == self.rows.len() {
+            self.pages.len()
+        } else {
+            self.rows[rows].entry
+        };
+        let distance = page.saturating_sub(row.page) as usize;
+        row.entry
+            .saturating_add(distance)
+            .min(behind.saturating_sub(1))
+    }
 }
 
-/// How many of the pages, which ascend, are not above the page.
+/// The entries at which rows of pages that follow one another begin.
+fn rows_of(alloc: Global, pages: &[u64]) -> Result<Vec<Row>, AllocError> {
+    let mut rows = Vec::new(alloc);
+    let mut next = 0;
+    for (entry, page) in pages.iter().enumerate() {
+        let page = *page;
+        if entry == 0 || page != next {
+            rows.push(Row { page, entry })?;
+        }
+        next = page.saturating_add(1);
+    }
+    Ok(rows)
+}
+
+/// Whether the entry is the last whose page isn't above the page.
+fn is_last(pages: &[u64], entry: usize, page: u64) -> bool
+    requires { IsStrictlyIncreasing pages.now }
+    ensures { IsTrue result → AreUpTo pages.now page (entry + 1) }
+{
+    if entry >= pages.len() || pages[entry] > page {
+        return false;
+    }
+    entry == pages.len() - 1 || page < pages[entry + 1]
+}
+
+/// How many of the pages, which ascend, are not above the page. It is asked for where a guess fails.
+#[cold]
+#[inline(never)]
 fn count_pages(pages: &[u64], page: u64) -> usize
     requires { IsStrictlyIncreasing pages.now }
     ensures { AreUpTo pages.now page result }

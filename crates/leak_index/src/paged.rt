@@ -46,6 +46,7 @@ impl<'a> Paged<'a> {
 impl<'a> Lookup for Paged<'a> {
     ghost index = { λ paged. paged };
 
+    #[inline(always)]
     fn hits(&self, word: u64) -> Hits {
         if self.candidates.is_out(word) {
             return Hits::Zero;

@@ -1,31 +1,30 @@
 -- The last page that isn't above the address is where the search among pages ends.
-use Rattle.std.proofs.Common.{◌≡◌, ◌∙◌, ℕ, ◌/◌, ◌-◌, ◌<◌, ◌≤◌, List, length, slice_index_or, sym, subst, arith}
+use Rattle.std.proofs.Common.{◌≡◌, ◌∙◌, ℕ, ◌-◌, ◌<◌, ◌≤◌, length, slice_index_or, sym, subst, arith}
 use Rattle.std.proofs.lemmas.Grind.{get_or_default_zero}
 use Rattle.leak_index.specs.Bounds.{IsNarrowedTo}
-use Rattle.leak_index.specs.Directory.{AreUpTo}
 use Rattle.leak_index.proofs.Narrowing.{narrowed_none, narrowed, behind_page}
 use Rattle.leak_index.proofs.directory.Directory.narrow.Goals as goal
 
 pub returns-then-entries-eq0 : goal.returns-then-entries-eq0
 returns-then-entries-eq0 c =
-    let up = subst (λ (xs : List ℕ). AreUpTo xs (c.args.address / 4096) c.count_pages-entries.result) c.as_slice.ensures.value c.count_pages-entries.ensures in
+    let up = c.count_entries-entries.ensures in
     narrowed_none _ _ _ _ c.requires.directory (λ k h. up.beyond k 0 (omega arith) h)
 
 pub returns-then-entries-len : goal.returns-then-entries-len
 returns-then-entries-len c =
-    let up = subst (λ (xs : List ℕ). AreUpTo xs (c.args.address / 4096) c.count_pages-entries.result) c.as_slice.ensures.value c.count_pages-entries.ensures in
+    let up = c.count_entries-entries.ensures in
     let firsts = c.args.self.now.firsts.items in
-    let last : ℕ = c.count_pages-entries.result - 1 in
-    let all : c.count_pages-entries.result ≡ length firsts = c.if-entries-len.true ∙ c.len.ensures ∙ c.args.self.now.firsts.ok.0 in
+    let last : ℕ = c.count_entries-entries.result - 1 in
+    let all : c.count_entries-entries.result ≡ length firsts = c.if-entries-len.true ∙ c.len.ensures ∙ c.args.self.now.firsts.ok.0 in
     let low : c.index-low.result.now ≡ slice_index_or firsts last 0 = c.index-low.ensures ∙ get_or_default_zero firsts last _ (omega arith) in
     subst (λ (n : ℕ). IsNarrowedTo c.args.blocks.now c.args.address n (length c.args.blocks.now)) (sym low)
     (narrowed _ _ _ _ last _ c.requires.disjoint c.requires.directory (omega (arith, up.bound)) (up.within last 0 (omega arith)) (omega arith) (λ k d h l. absurd (omega (arith, h, l))))
 
 pub returns : goal.returns
 returns c =
-    let up = subst (λ (xs : List ℕ). AreUpTo xs (c.args.address / 4096) c.count_pages-entries.result) c.as_slice.ensures.value c.count_pages-entries.ensures in
+    let up = c.count_entries-entries.ensures in
     let firsts = c.args.self.now.firsts.items in
-    let next : ℕ = c.count_pages-entries.result in
+    let next : ℕ = c.count_entries-entries.result in
     let last : ℕ = next - 1 in
     let len : c.len.result ≡ length firsts = c.len.ensures ∙ c.args.self.now.firsts.ok.0 in
     let inside : next < length c.args.self.now.pages.items = omega (arith, up.bound, c.requires.directory.paired, c.if-entries-len.false) in
