@@ -1,5 +1,5 @@
 //! The pages in which blocks start.
-ghost use Rattle.std.specs.Prelude.{◌+◌, IfOk, IsTrue};
+ghost use Rattle.std.specs.Prelude.{◌↔◌, ◌+◌, IfOk, IsTrue};
 ghost use Rattle.std.specs.List.Sorted.{IsStrictlyIncreasing};
 ghost use Rattle.leak_blocks.specs.Span.{AreDisjoint};
 ghost use Rattle.leak_index.specs.Bounds.{IsCountUpTo, IsNarrowedTo};
@@ -132,7 +132,7 @@ fn rows_of(alloc: Global, pages: &[u64]) -> Result<Vec<Row>, AllocError> {
 /// Whether the entry is the last whose page isn't above the page.
 fn is_last(pages: &[u64], entry: usize, page: u64) -> bool
     requires { IsStrictlyIncreasing pages.now }
-    ensures { IsTrue result → AreUpTo pages.now page (entry + 1) }
+    ensures { IsTrue result ↔ AreUpTo pages.now page (entry + 1) }
 {
     if entry >= pages.len() || pages[entry] > page {
         return false;
