@@ -84,6 +84,7 @@ impl Directory {
         }
         (low, self.firsts[entries])
     }
+
     /// How many of the listed pages are not above the page.
     fn count_entries(&self, page: u64) -> usize
         requires { IsStrictlyIncreasing self.now.pages.items }
