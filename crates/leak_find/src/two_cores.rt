@@ -166,9 +166,8 @@ pub fn find_two<R: Threads + Sync, G: Gate + Sync>(
     same_words_lead_within();
     let inputs = read_two(alloc, core1, log1, core2, log2)?;
     let between = compare(rt, alloc, &inputs, reading, plan, gate)?;
-    // of the first input no more is asked
     let Inputs { first, second } = inputs;
-    drop(first);
+    drop(first); // no more is asked of it
     let roots = Roots::find(alloc, &second.image, &second.threads, &second.live)?;
     let lookup = Paged::new(alloc, &second.live, reading)?;
     let retraced = retrace(

@@ -16,6 +16,21 @@ fn lives(alloc: Global, text: &str) -> Result<Live, Fail> {
     Ok(replay(alloc, &log)?)
 }
 
+/// Words, and what they lead to by the interior reading and by displacements of 8.
+const WORDS: [(u64, Hits, Hits); 11] = [
+    (0, Hits::Zero, Hits::Zero),
+    (0xff, Hits::Zero, Hits::Zero),
+    (0x100, Hits::One(0), Hits::One(0)),
+    (0x108, Hits::One(0), Hits::One(0)),
+    (0x110, Hits::Two(0, 1), Hits::One(1)),
+    (0x111, Hits::One(2), Hits::One(2)),
+    (0x119, Hits::One(2), Hits::One(2)),
+    (0x120, Hits::One(2), Hits::Zero),
+    (0x121, Hits::Zero, Hits::Zero),
+    (0x140, Hits::One(3), Hits::Zero),
+    (u64::MAX, Hits::Zero, Hits::Zero),
+];
+
 #[test]
 fn words_by_both_readings(rt: HostRuntime) -> Result<(), Fail> {
     let alloc = rt.alloc();
@@ -30,36 +45,11 @@ fn words_by_both_readings(rt: HostRuntime) -> Result<(), Fail> {
     let displaced = Sorted::new(&live, by_eight);
     let paged_interior = Paged::new(alloc, &live, Reading::interior())?;
     let paged_displaced = Paged::new(alloc, &live, by_eight)?;
-    let cases = [
-        (0, Hits::Zero, Hits::Zero),
-        (0xff, Hits::Zero, Hits::Zero),
-        (0x100, Hits::One(0), Hits::One(0)),
-        (0x108, Hits::One(0), Hits::One(0)),
-        (0x110, Hits::Two(0, 1), Hits::One(1)),
-        (0x111, Hits::One(2), Hits::One(2)),
-        (0x119, Hits::One(2), Hits::One(2)),
-        (0x120, Hits::One(2), Hits::Zero),
-        (0x121, Hits::Zero, Hits::Zero),
-        (0x140, Hits::One(3), Hits::Zero),
-        (u64::MAX, Hits::Zero, Hits::Zero),
-    ];
-    for (word, by_interior, by_displaced) in cases {
-        assert_eq!(rt; ask(&interior, word), by_interior, "{word}, interior");
-        assert_eq!(rt;
-            ask(&displaced, word),
-            by_displaced,
-            "{word}, displaced by 8"
-        );
-        assert_eq!(rt;
-            ask(&paged_interior, word),
-            by_interior,
-            "{word}, by pages, interior"
-        );
-        assert_eq!(rt;
-            ask(&paged_displaced, word),
-            by_displaced,
-            "{word}, by pages, displaced by 8"
-        );
+    for (word, by_interior, by_displaced) in WORDS {
+        assert_eq!(rt; ask(&interior, word), by_interior, "{word}");
+        assert_eq!(rt; ask(&displaced, word), by_displaced, "{word}");
+        assert_eq!(rt; ask(&paged_interior, word), by_interior, "{word}");
+        assert_eq!(rt; ask(&paged_displaced, word), by_displaced, "{word}");
     }
     Ok(())
 }
