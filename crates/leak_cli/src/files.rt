@@ -1,7 +1,7 @@
 //! The search of files.
 
 ghost use Rattle.std.specs.Prelude.{◌≡◌, IfOk, length};
-ghost use Rattle.leak_find.specs.Requests.{file_count};
+ghost use Rattle.leak_request.specs.Requests.{file_count};
 
 use crate::failure::Failure;
 use leak_find::{Request, run};

@@ -2,10 +2,4 @@ pub mod Consumed
 pub mod RunLemmas
 pub mod SearchLemmas
 pub mod SizeLemmas
-pub mod Items
-pub mod Lines
-pub mod Listing
-pub mod Numbers
-pub mod Subcommands
 pub mod TwoLemmas
-pub mod Values

@@ -13,10 +13,10 @@ use Rattle.leak_find.specs.declared.fault.ReadFault.TheVariants.{TooLong}
 use Rattle.leak_find.specs.declared.fault.RunFault.{RunFault}
 use Rattle.leak_find.specs.declared.fault.RunFault.TheVariants.{Read, Find, Write}
 use Rattle.leak_find.specs.declared.found.Found.{Found}
-use Rattle.leak_find.specs.declared.options.Options.{Options}
+use Rattle.leak_request.specs.declared.options.Options.{Options}
 use Rattle.leak_find.specs.Inputs.{IsFaultOfOne, IsFaultOfTwo}
 use Rattle.leak_find.specs.Reading.{IsWholeInput, Takes, TakesAtMost}
-use Rattle.leak_find.specs.Requests.{file_count}
+use Rattle.leak_request.specs.Requests.{file_count}
 use Rattle.leak_find.specs.Run.{left_in, input_at, limit_at, AreInputs, Finds, IsFaultOf, HasFound, IsStopped, IsReaderFault, IsFindFault, IsSearchFault}
 use Rattle.leak_find.specs.Search.{FindsOne}
 use Rattle.leak_find.specs.SearchTwo.{FindsTwo}

@@ -2,12 +2,10 @@
 
 ghost use Rattle.std.specs.Prelude.{◌≡◌};
 ghost use Rattle.leak_find.specs.declared.fault.ReadFault.TheVariants.{NoMemory};
-ghost use Rattle.leak_find.specs.declared.fault.UsageFault.TheVariants as usage;
 
 use crate::error::FindError;
-use leak_index::ReadingError;
 use leak_report::WriteFault;
-use std::alloc::{AllocError, AllocFailed};
+use std::alloc::AllocError;
 use thiserror::Error;
 
 /// Why an input was not read to its end.
@@ -47,46 +45,4 @@ pub enum RunFault {
     /// The report was not written whole.
     #[error("{0}")]
     Write(WriteFault),
-}
-
-/// Why the list of `--displace` is refused, in the order in which the reasons are tried.
-#[derive(Clone, Copy, Debug, PartialEq, Eq, Error)]
-pub enum DisplaceFault {
-    /// The item with the number is not 1 to 20 decimal digits with a value under 2^64, and the first such. Items
-    /// count from 0.
-    #[error("--displace: item {0} is not a number")]
-    Number(usize),
-    /// The numbers are no reading.
-    #[error("--displace: {0}")]
-    Reading(ReadingError),
-}
-
-/// Why the words of a command line are no request, in the order in which the reasons are tried.
-#[derive(Debug, Drop, Error)]
-pub enum UsageFault {
-    /// The words are refused, or ask for help. The text is to be printed alone.
-    #[error("{0}")]
-    Words(String),
-    /// The list of displacements is refused.
-    #[error("{0}")]
-    Displace(DisplaceFault),
-    /// A growth of memory was refused.
-    #[error("out of memory")]
-    NoMemory,
-}
-
-impl From<AllocError> for UsageFault {
-    ghost from_gives = { λ _ e. e ≡ usage.NoMemory };
-
-    fn from(_e: AllocError) -> UsageFault {
-        UsageFault::NoMemory
-    }
-}
-
-impl<T: Drop> From<AllocFailed<T>> for UsageFault {
-    ghost from_gives = { λ _ e. e ≡ usage.NoMemory };
-
-    fn from(_e: AllocFailed<T>) -> UsageFault {
-        UsageFault::NoMemory
-    }
 }

@@ -1,29 +1,52 @@
 //! The whole search: from the bytes of a core and of a log to the report.
+//!
+//! For every accepted input, every number of workers and every cutting of the work, the report is that of one thread: the
+//! live blocks to which no chain of words leads from the roots or, with two cores, from the kept and new blocks. Each
+//! other marked block is claimed by exactly one worker, and no block that can be reached in the second core is reported.
+//! Where an input is not accepted, the answer is the first refusal by the order of [`FindError`].
+//!
+//! [`find_alone`] searches one core on the caller's thread, [`find_one`] by worker threads, under the same promise, and
+//! [`find_two`] searches a later core from what an earlier one says. [`run`] does the same from readers to a writer. What a
+//! leak, a root and a chain are is said in `specs/Search.antt` and, for two cores, in `specs/SearchTwo.antt`.
+//!
+//! An allocation of 32 bytes, and a core in which no word leads to it:
+//!
+//! ```text
+//! use leak_elf::core_k;
+//! use leak_find::{Reading, find_alone};
+//!
+//! let core = core_k(alloc, &[])?;
+//! let log = b"@ ./a.out:[0x401136] + 0x10100 0x20\n";
+//! let found = find_alone(alloc, &core, log, Reading::interior())?;
+//! assert_eq!(rt; found.leaked, 1);
+//! ```
+//!
+//! The contracts don't say that a log is complete, that two cores are of one process, that a reported block is a fault of
+//! the program, or how long a search takes.
 #![tactic(auto)]
 
 mod alone;
-mod arguments;
-mod command_line;
-mod displacements;
 mod error;
 mod fault;
 mod found;
 mod inputs;
 mod one_core;
-mod options;
 mod readers;
 mod reporting;
 mod running;
 mod two_cores;
 
 pub use alone::find_alone;
-pub use arguments::request;
-pub use displacements::read_displace;
 pub use error::FindError;
-pub use fault::{DisplaceFault, ReadFault, RunFault, UsageFault};
+pub use fault::{ReadFault, RunFault};
 pub use found::Found;
+pub use leak_index::{Reading, ReadingError};
+pub use leak_pool::{Gate, Open, Plan, PlanError};
+pub use leak_report::{WriteFault, write};
+pub use leak_request::{
+    CORE_LIMIT, DisplaceFault, LOG_LIMIT, Options, Request, UsageFault, read_displace, request,
+};
 pub use one_core::find_one;
-pub use options::{CORE_LIMIT, LOG_LIMIT, Options, Request};
 pub use readers::read_all;
 pub use running::run;
 pub use two_cores::find_two;

@@ -2,17 +2,17 @@
 
 ghost use Rattle.std.specs.Prelude.{◌≡◌, ◌≢◌, ◌<◌, ◌≤◌, ◌+◌, ◌^◌, ℕ, length, map, IfOk, IfErr, IsTrue, IsFalse, true, false};
 ghost use Rattle.leak_find.specs.Reading.{IsWholeInput};
-ghost use Rattle.leak_find.specs.Requests.{file_count};
+ghost use Rattle.leak_request.specs.Requests.{file_count};
 ghost use Rattle.leak_find.specs.Run.{left_in, IsReaderFault, HasFound, IsSearchFault, Runs, IsRunFault};
 
 use crate::fault::RunFault;
 use crate::found::Found;
 use crate::one_core::find_one;
-use crate::options::Options;
 use crate::readers::read_all;
 use crate::two_cores::find_two;
 use leak_pool::Open;
 use leak_report::write;
+use leak_request::Options;
 use std::alloc::Global;
 use std::io::{Read, Write};
 use std::thread::Threads;

@@ -1,9 +1,0 @@
-use Rattle.leak_find.proofs.Values.{bad_by, path_lacks}
-use Rattle.clap.specs.Words.{found_of, rows_of}
-use Rattle.leak_find.proofs.arguments.paths.Goals as goal
-
-pub returns-in_default-clause-refused : goal.returns-in_default-clause-refused
-returns-in_default-clause-refused c =
-    bad_by c.bad_arguments.result
-    (path_lacks (rows_of (found_of c.args.found.now)) c.args.two c.ids_of-id-items.result.now c.loop-id.id-index _ c.ids_of-id-items.ensures c.loop-id-test.true c.in_default.ensures)
-    c.bad_arguments.ensures

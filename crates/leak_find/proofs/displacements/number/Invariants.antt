@@ -1,6 +1,0 @@
--- The bytes so far are digits, and their value is known.
-use Rattle.leak_find.proofs.Numbers.{IsReadAsNumber}
-use Rattle.leak_find.proofs.displacements.number.Given as goal
-
-abbrev pub invariant-loop-byte : goal.invariant-loop-byte
-invariant-loop-byte l = IsReadAsNumber l.item l.byte-index l.value

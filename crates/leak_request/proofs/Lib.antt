@@ -1,0 +1,6 @@
+pub mod Items
+pub mod Lines
+pub mod Listing
+pub mod Numbers
+pub mod Subcommands
+pub mod Values

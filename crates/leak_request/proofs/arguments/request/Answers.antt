@@ -1,0 +1,34 @@
+use Rattle.std.proofs.Common.{map, string_bytes}
+use Rattle.std.proofs.lemmas.Result.{IfErr-weaker, IfOk-weaker}
+use Rattle.clap.specs.Words.{app_of, found_of, rows_of}
+use Rattle.leak_request.proofs.Subcommands.{line_met, line_refused, line_taken, met_whole, refused_after}
+use Rattle.leak_request.proofs.Values.{paths_of}
+use Rattle.leak_request.proofs.arguments.request.Goals as goal
+
+pub returns-in-Err-clause-refused : goal.returns-in-Err-clause-refused
+returns-in-Err-clause-refused c = λ taken.
+    absurd (line_refused (app_of c.in_ok-command.command) (map string_bytes c.args.words.now) c.in-Err.error c.in_ok-command.ensures c.in-Err.ensures.kinds
+    c.in_ok-text_of-in-Err.ensures taken)
+
+pub returns-in-Some-clause-ok : goal.returns-in-Some-clause-ok
+returns-in-Some-clause-ok c =
+    let words = map string_bytes c.args.words.now in
+    let line = app_of c.in_ok-command.command in
+    let rows = rows_of (found_of c.in-Some.found.now) in
+    let taken = line_taken line words c.in_ok-command.ensures c.in-Ok.ensures.kinds in
+    let met = line_met line words c.in-Ok.matches _ c.in_ok-command.ensures c.in-Ok.ensures.matches
+    (met_whole _ _ _ c.in-Some.name.now rows c.in-Some.ensures.name c.in-Some.ensures.rows) in
+    IfOk-weaker c.request_of.result _ _ (λ r is. record { taken = taken; request = rw met is }) c.request_of.ensures.ok
+
+pub returns-in-Some-clause-refused : goal.returns-in-Some-clause-refused
+returns-in-Some-clause-refused c =
+    let words = map string_bytes c.args.words.now in
+    let line = app_of c.in_ok-command.command in
+    let rows = rows_of (found_of c.in-Some.found.now) in
+    let taken = line_taken line words c.in_ok-command.ensures c.in-Ok.ensures.kinds in
+    let met = line_met line words c.in-Ok.matches _ c.in_ok-command.ensures c.in-Ok.ensures.matches
+    (met_whole _ _ _ c.in-Some.name.now rows c.in-Some.ensures.name c.in-Some.ensures.rows) in
+    IfErr-weaker c.request_of.result _ _ (λ f refused. refused_after words c.in-Some.name.now rows f taken met refused) c.request_of.ensures.refused
+
+pub returns-in-Some-clause-files : goal.returns-in-Some-clause-files
+returns-in-Some-clause-files c = IfOk-weaker c.request_of.result _ _ (λ r is. paths_of _ _ _ is.paths) c.request_of.ensures.ok

@@ -1,0 +1,88 @@
+-- What a command line asks for, by the subcommand that clap met and the rows that it found there. Own rule.
+use Rattle.std.specs.Prelude.{◌≡◌, ◌≤◌, ◌⊎◌, ℕ, Bool, List, [], Option, Some, None, map, codes, String, string_bytes, IfSome, IsSome, IsSomeAnd, if◌then◌else◌}
+use Rattle.std.specs.List.{All}
+use Rattle.std.specs.Str.Parse.{IsNumeral, digits_value, without_leading_plus}
+use Rattle.clap.specs.Words.{Row, Text, first_of, one_of, subcommand_of}
+use Rattle.clap.specs.Faults.{fault_of}
+use Rattle.leak_index.specs.Readings.{listed_by}
+use Rattle.leak_pool.specs.Plan.{IsBetween, Numbers}
+use Rattle.leak_request.specs.CommandLine.{command_line, name_of, path_ids}
+use Rattle.leak_request.specs.Displacements.{displace_fault_of, displacements_of}
+use Rattle.leak_request.specs.declared.fault.DisplaceFault.{DisplaceFault}
+use Rattle.leak_request.specs.declared.fault.UsageFault.{UsageFault}
+use Rattle.leak_request.specs.declared.fault.UsageFault.TheVariants as fault
+use Rattle.leak_request.specs.declared.options.Request.{Request}
+
+-- the text is the number in decimal, as std reads it
+abbrev pub Writes : ℕ → Text → Type 0
+Writes n text = IsNumeral 10 (without_leading_plus text) × (n ≡ digits_value 10 (without_leading_plus text))
+
+-- the value of the option is the number
+abbrev pub IsNumberAt : List Row → Text → ℕ → Type 0
+IsNumberAt rows id n = IsSomeAnd (one_of id rows) (Writes n)
+
+-- the text lists the displacements, and without a text all distances count
+abbrev pub IsListedBy : Option Text → Option (List ℕ) → Type 0
+IsListedBy None listed = listed ≡ None
+IsListedBy (Some text) listed = (displace_fault_of text ≡ None) × (listed ≡ Some (displacements_of text))
+
+-- how many files a search reads
+abbrev pub file_count : Bool → ℕ
+file_count two = if two then 4 else 2
+
+-- the texts are the values of the ids, in order
+abbrev pub AreAt : {A : Type 0} → List Row → List Text → List (String A) → Type 0
+AreAt rows ids texts = map (λ text. Some (string_bytes text)) texts ≡ map (λ id. first_of id rows) ids
+
+-- the request of the subcommand, with the values that clap found for it
+pub record IsRequest (name : Text) (rows : List Row) (r : Request) : Type 0 where
+  pub two : name ≡ name_of r.options.two
+  pub paths : AreAt rows (path_ids r.options.two) r.paths.items
+  pub workers : IsNumberAt rows (codes "workers") r.options.plan.workers
+  pub piece : IsNumberAt rows (codes "piece") r.options.plan.piece
+  pub stack : IsNumberAt rows (codes "stack") r.options.plan.stack
+  pub reading : IsListedBy (first_of (codes "displace") rows) (listed_by r.options.reading)
+  pub core_limit : r.options.core_limit ≡ 68719476736
+  pub log_limit : r.options.log_limit ≡ 4294967296
+
+-- a path that a request of so many cores takes isn't there
+abbrev pub LacksPath : List Row → Bool → Type 0
+LacksPath rows two = All (λ id. IsSome (first_of id rows)) (path_ids two) → ⊥
+
+-- no numbers within the bounds of a plan are there
+abbrev pub LacksNumber : List Row → Type 0
+LacksNumber rows = (n : Numbers) → IsBetween 1 64 n.workers → IsBetween 1 65536 n.piece → n.stack ≤ 65536
+    → IsNumberAt rows (codes "workers") n.workers → IsNumberAt rows (codes "piece") n.piece → IsNumberAt rows (codes "stack") n.stack → ⊥
+
+-- the subcommand is neither search, or a path or a number that it takes isn't there
+abbrev pub Lacks : Text → List Row → Type 0
+Lacks name rows =
+    ((two : Bool) → name ≡ name_of two → ⊥) ⊎ (((two : Bool) × (name ≡ name_of two) × LacksPath rows two) ⊎ LacksNumber rows)
+
+-- the refusal says that arguments are bad, for this reason, or that memory was refused
+abbrev pub IsBadBy : Type 0 → UsageFault → Type 0
+IsBadBy reason (fault.Words text) = (string_bytes text ≡ codes "bad arguments") × reason
+IsBadBy reason (fault.Displace f) = ⊥
+IsBadBy reason fault.NoMemory = Unit {0}
+
+-- the list of displacements is refused for this
+abbrev pub IsListFaultAt : List Row → DisplaceFault → Type 0
+IsListFaultAt rows f = IsSomeAnd (first_of (codes "displace") rows) (λ text. displace_fault_of text ≡ Some f)
+
+-- why what clap found is no request: something isn't there, or the list is refused
+abbrev pub IsRefusedAt : Text → List Row → UsageFault → Type 0
+IsRefusedAt name rows (fault.Displace f) = IsListFaultAt rows f
+IsRefusedAt name rows f = IsBadBy (Lacks name rows) f
+
+-- clap takes the words, and the request is that of the subcommand that they name
+pub record IsRequestOf (words : List Text) (r : Request) : Type 0 where
+  pub taken : fault_of command_line words ≡ []
+  pub request : IsSomeAnd (subcommand_of command_line words) (λ met. IsRequest met.0 met.1 r)
+
+-- clap refuses the words, and the text is its own, or takes them, and what it found is refused
+abbrev pub IsUsageFaultOf : List Text → UsageFault → Type 0
+IsUsageFaultOf words (fault.Words text) = fault_of command_line words ≡ []
+    → IfSome (subcommand_of command_line words) (λ met. IsRefusedAt met.0 met.1 (fault.Words text))
+IsUsageFaultOf words (fault.Displace f) = (fault_of command_line words ≡ [])
+    × IsSomeAnd (subcommand_of command_line words) (λ met. IsRefusedAt met.0 met.1 (fault.Displace f))
+IsUsageFaultOf words fault.NoMemory = Unit {0}

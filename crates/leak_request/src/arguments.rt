@@ -1,0 +1,172 @@
+//! From a command line to what it asks for.
+
+ghost use Rattle.std.specs.Prelude.{◌≡◌, ◌≢◌, ◌<◌, IfOk, IfErr, IfNone, IfSome, OnOk, ℕ, ◌^◌, Bool, codes, length, map, option_map, string_bytes};
+ghost use Rattle.clap.specs.Words.{first_of, found_of, kind_of, rows_of};
+ghost use Rattle.leak_index.specs.Readings.{listed_by};
+ghost use Rattle.leak_request.specs.CommandLine.{name_of, path_ids};
+ghost use Rattle.leak_request.specs.Requests.{AreAt, IsBadBy, IsListFaultAt, IsListedBy, IsNumberAt, IsRefusedAt, LacksNumber, LacksPath};
+ghost use Rattle.leak_request.specs.Requests.{IsRequest, IsRequestOf, IsUsageFaultOf, file_count};
+
+use crate::command_line::command;
+use crate::displacements::read_displace;
+use crate::fault::{DisplaceFault, UsageFault};
+use crate::options::{CORE_LIMIT, LOG_LIMIT, Options, Request};
+use clap::error::ErrorKind;
+use clap::{ArgMatches, Error};
+use leak_index::Reading;
+use leak_pool::Plan;
+use std::alloc::{AllocError, Global};
+
+/// The ids of the paths of a search of one core.
+static ONE: [&str; 2] = ["core", "log"];
+
+/// The ids of the paths of a search of two cores.
+static TWO: [&str; 4] = ["core1", "log1", "core2", "log2"];
+
+/// Reads the words of a command line, which begin with the program's name.
+///
+/// The text of a refusal, or of the help that was asked for, is clap's. Own rule: help is no request.
+pub fn request(alloc: Global, words: &[String]) -> Result<Request, UsageFault>
+    requires { 0 < length words.now }
+    ensures ok { IfOk result (IsRequestOf (map string_bytes words.now)) }
+    ensures files { IfOk result (λ r. length r.paths.items ≡ file_count r.options.two) }
+    ensures refused { IfErr result (IsUsageFaultOf (map string_bytes words.now)) }
+{
+    let command = command(alloc)?;
+    let matches = match command.try_get_matches_from(words) {
+        Ok(matches) => matches,
+        Err(error) => return Err(UsageFault::Words(text_of(alloc, &error)?)),
+    };
+    match matches.subcommand() {
+        Some((name, found)) => request_of(alloc, name, found),
+        None => Err(bad_arguments(alloc)),
+    }
+}
+
+/// The request of the subcommand with the name, where clap found this for it.
+fn request_of(alloc: Global, name: &str, found: &ArgMatches) -> Result<Request, UsageFault>
+    ensures ok { IfOk result (IsRequest name.now (rows_of (found_of found.now))) }
+    ensures refused { IfErr result (IsRefusedAt name.now (rows_of (found_of found.now))) }
+{
+    let Some(two) = is_two(name) else {
+        return Err(bad_arguments(alloc));
+    };
+    let paths = paths(alloc, found, two)?;
+    let plan = plan(alloc, found)?;
+    let reading = match reading(found) {
+        Ok(reading) => reading,
+        Err(fault) => return Err(UsageFault::Displace(fault)),
+    };
+    Ok(Request {
+        paths,
+        options: Options {
+            two,
+            reading,
+            plan,
+            core_limit: CORE_LIMIT,
+            log_limit: LOG_LIMIT,
+        },
+    })
+}
+
+/// Whether the subcommand with the name searches two cores.
+fn is_two(name: &str) -> Option<bool>
+    ensures name { IfSome result (λ two. name.now ≡ name_of two) }
+    ensures none { IfNone result ((two : Bool) → name.now ≡ name_of two → ⊥) }
+{
+    match name {
+        "one" => Some(false),
+        "two" => Some(true),
+        _ => None,
+    }
+}
+
+/// The ids of the paths, in the order of the files.
+fn ids_of(two: bool) -> &'static [&'static str]
+    ensures { map (λ id. id.now) result.now ≡ path_ids two }
+{
+    if two { TWO.as_slice() } else { ONE.as_slice() }
+}
+
+fn paths(alloc: Global, found: &ArgMatches, two: bool) -> Result<Vec<String>, UsageFault>
+    ensures ok { IfOk result (λ paths. AreAt (rows_of (found_of found.now)) (path_ids two) paths.items) }
+    ensures refused { IfErr result (IsBadBy (LacksPath (rows_of (found_of found.now)) two)) }
+{
+    let mut paths = Vec::new(alloc);
+    for id in ids_of(two) {
+        let Some(path) = value(found, id) else {
+            return Err(bad_arguments(alloc));
+        };
+        paths.push(path.to_string(alloc)?)?;
+    }
+    Ok(paths)
+}
+
+fn plan(alloc: Global, found: &ArgMatches) -> Result<Plan, UsageFault>
+    ensures workers { IfOk result (λ plan. IsNumberAt (rows_of (found_of found.now)) (codes "workers") plan.workers) }
+    ensures piece { IfOk result (λ plan. IsNumberAt (rows_of (found_of found.now)) (codes "piece") plan.piece) }
+    ensures stack { IfOk result (λ plan. IsNumberAt (rows_of (found_of found.now)) (codes "stack") plan.stack) }
+    ensures refused { IfErr result (IsBadBy (LacksNumber (rows_of (found_of found.now)))) }
+{
+    let Some(workers) = number(found, "workers") else {
+        return Err(bad_arguments(alloc));
+    };
+    let Some(piece) = number(found, "piece") else {
+        return Err(bad_arguments(alloc));
+    };
+    let Some(stack) = number(found, "stack") else {
+        return Err(bad_arguments(alloc));
+    };
+    match Plan::new(workers, piece, stack) {
+        Ok(plan) => Ok(plan),
+        Err(_) => Err(bad_arguments(alloc)),
+    }
+}
+
+/// The value of the argument, as text.
+fn value<'a>(found: &ArgMatches<'a>, id: &str) -> Option<&'a str>
+    ensures { option_map (λ text. text.now) result ≡ first_of id.now (rows_of (found_of found.now)) }
+{
+    found.get_str(id)
+}
+
+/// The value of the option, as a number.
+fn number(found: &ArgMatches, id: &str) -> Option<u32>
+    ensures some { IfSome result (IsNumberAt (rows_of (found_of found.now)) id.now) }
+    ensures none { IfNone result ((n : ℕ) → n < 2 ^ 32 → IsNumberAt (rows_of (found_of found.now)) id.now n → ⊥) }
+{
+    found.get_one(id)
+}
+
+fn reading(found: &ArgMatches) -> Result<Reading, DisplaceFault>
+    ensures ok { IfOk result (λ reading. IsListedBy (first_of (codes "displace") (rows_of (found_of found.now))) (listed_by reading)) }
+    ensures refused { IfErr result (IsListFaultAt (rows_of (found_of found.now))) }
+{
+    match value(found, "displace") {
+        Some(list) => read_displace(list.as_bytes()),
+        None => Ok(Reading::interior()),
+    }
+}
+
+/// What is answered where clap takes the words, but what they have to give isn't there.
+fn bad_arguments(alloc: Global) -> UsageFault
+    ensures { IsBadBy (Unit {0}) result }
+{
+    match "bad arguments".to_string(alloc) {
+        Ok(text) => UsageFault::Words(text),
+        Err(_) => UsageFault::NoMemory,
+    }
+}
+
+/// The text of an error of clap's, which asks for help or says what is wrong with the words.
+fn text_of(alloc: Global, error: &Error) -> Result<String, AllocError>
+    ensures { OnOk result (kind_of error.now ≢ ErrorKind.OutOfMemory) }
+{
+    if error.kind() == ErrorKind::OutOfMemory {
+        return Err(AllocError);
+    }
+    error.to_string(alloc)
+}
+
+#[cfg(test)]
+mod tests;

@@ -1,0 +1,130 @@
+//! The command line, as clap reads it.
+
+ghost use Rattle.std.specs.Prelude.{◌≡◌, IfOk, false, true, codes};
+ghost use Rattle.clap.specs.Words.{app_of, rule_of};
+ghost use Rattle.leak_request.specs.CommandLine.{command_line, has_globals, number_rule, option_rules, path_rule};
+ghost use Rattle.leak_request.specs.CommandLine.{search_line, text_rule, with_rules};
+
+use clap::{Arg, Command};
+use std::alloc::{AllocError, Global};
+
+/// What help says of a core.
+const CORE: &str = "An x86-64 ELF core, as the kernel or gcore writes it";
+
+/// What help says of a log.
+const LOG: &str = "The log that glibc's mtrace wrote of the process";
+
+/// What help says of the first core of two.
+const FIRST_CORE: &str = "An x86-64 ELF core of the process, as the kernel or gcore writes it";
+
+/// What help says of the first log of two.
+const FIRST_LOG: &str = "The log that glibc's mtrace had written by then";
+
+/// What help says of the second core.
+const SECOND_CORE: &str = "A later core of the same process";
+
+/// What help says of the second log.
+const SECOND_LOG: &str = "Its log by then, which begins with LOG1";
+
+/// `leak_find`, with a subcommand for the search of one core and one for that of two.
+pub(crate) fn command<'a>(alloc: Global) -> Result<Command<'a>, AllocError>
+    ensures { IfOk result (λ c. app_of c ≡ command_line) }
+{
+    let command = Command::new(alloc, "leak_find")
+        .about("Lists the blocks of a dead process to which no chain of words leads")
+        .subcommand_required(true);
+    command.subcommand(one(alloc)?)?.subcommand(two(alloc)?)
+}
+
+fn one<'a>(alloc: Global) -> Result<Command<'a>, AllocError>
+    ensures line { IfOk result (λ c. app_of c ≡ search_line false) }
+    ensures local { IfOk result (λ c. has_globals c ≡ false) }
+{
+    let command = Command::new(alloc, "one")
+        .about("Searches a core and its log")
+        .arg(path(alloc, "core", "CORE", CORE))?
+        .arg(path(alloc, "log", "LOG", LOG))?;
+    with_options(alloc, command)
+}
+
+fn two<'a>(alloc: Global) -> Result<Command<'a>, AllocError>
+    ensures line { IfOk result (λ c. app_of c ≡ search_line true) }
+    ensures local { IfOk result (λ c. has_globals c ≡ false) }
+{
+    let command = Command::new(alloc, "two")
+        .about("Searches a later core and its log, from what an earlier core and its log say")
+        .arg(path(alloc, "core1", "CORE1", FIRST_CORE))?
+        .arg(path(alloc, "log1", "LOG1", FIRST_LOG))?
+        .arg(path(alloc, "core2", "CORE2", SECOND_CORE))?
+        .arg(path(alloc, "log2", "LOG2", SECOND_LOG))?;
+    with_options(alloc, command)
+}
+
+fn with_options<'a>(alloc: Global, command: Command<'a>) -> Result<Command<'a>, AllocError>
+    ensures line { IfOk result (λ c. app_of c ≡ with_rules (app_of command.entry) option_rules) }
+    ensures local { IfOk result (λ c. has_globals c ≡ has_globals command.entry) }
+{
+    command
+        .arg(workers(alloc))?
+        .arg(piece(alloc))?
+        .arg(stack(alloc))?
+        .arg(displace(alloc))
+}
+
+fn path<'a>(alloc: Global, id: &'a str, name: &'a str, what: &'a str) -> Arg<'a>
+    ensures rule { rule_of result ≡ path_rule id.entry.now }
+    ensures local { result.global ≡ false }
+{
+    Arg::new(alloc, id)
+        .required(true)
+        .value_name(name)
+        .help(what)
+}
+
+fn workers<'a>(alloc: Global) -> Arg<'a>
+    ensures rule { rule_of result ≡ number_rule (codes "workers") (codes "4") 1 64 }
+    ensures local { result.global ≡ false }
+{
+    Arg::new(alloc, "workers")
+        .long("workers")
+        .value_name("N")
+        .default_value("4")
+        .value_parser(clap::value_parser!(u32).range(1..=64))
+        .help("How many worker threads mark, 1 to 64")
+}
+
+fn piece<'a>(alloc: Global) -> Arg<'a>
+    ensures rule { rule_of result ≡ number_rule (codes "piece") (codes "512") 1 65536 }
+    ensures local { result.global ≡ false }
+{
+    Arg::new(alloc, "piece")
+        .long("piece")
+        .value_name("N")
+        .default_value("512")
+        .value_parser(clap::value_parser!(u32).range(1..=65536))
+        .help("How many words of the roots a worker takes at a time, 1 to 65536")
+}
+
+fn stack<'a>(alloc: Global) -> Arg<'a>
+    ensures rule { rule_of result ≡ number_rule (codes "stack") (codes "1024") 0 65536 }
+    ensures local { result.global ≡ false }
+{
+    Arg::new(alloc, "stack")
+        .long("stack")
+        .value_name("N")
+        .default_value("1024")
+        .value_parser(clap::value_parser!(u32).range(0..=65536))
+        .help("How many blocks a worker's stack holds, 0 to 65536")
+}
+
+fn displace<'a>(alloc: Global) -> Arg<'a>
+    ensures rule { rule_of result ≡ text_rule (codes "displace") }
+    ensures local { result.global ≡ false }
+{
+    Arg::new(alloc, "displace")
+        .long("displace")
+        .value_name("LIST")
+        .help(
+            "At which distances from its start, in bytes, a block is led to, as 8,16. Without it: at all",
+        )
+}
