@@ -6,11 +6,11 @@ use Rattle.std.proofs.lemmas.List.Elements.{filter-append}
 use Rattle.std.proofs.lemmas.List.{nil_from_length}
 use Rattle.leak_elf.specs.Refusals.{first_fault}
 use Rattle.leak_notes.specs.declared.error.NoteError.{NoteError}
-use Rattle.leak_notes.specs.Entry.{Entry, cutting, entries_from, following, entry_size, is_cut, is_status, words_of_status, desc}
+use Rattle.leak_notes.specs.Entry.{Entry, cutting, entries_from, following, entry_size, is_cut, is_status, words_of_entry}
 use Rattle.leak_notes.specs.Threads.{Registers, TakesUp, words_of_entries, count_statuses, first_fault_among, entry_faults}
 
 pub words-append : (xs ys : List Entry) → words_of_entries (xs ++ ys) ≡ words_of_entries xs ++ words_of_entries ys
-words-append xs ys = rw (filter-append is_status xs ys) (flat_map-append (λ (e : Entry). words_of_status (desc e)) (filter is_status xs) (filter is_status ys))
+words-append xs ys = flat_map-append words_of_entry xs ys
 
 pub count-append : (xs ys : List Entry) → count_statuses (xs ++ ys) ≡ count_statuses xs + count_statuses ys
 count-append xs ys = rw (filter-append is_status xs ys) (length-append (filter is_status xs) (filter is_status ys))

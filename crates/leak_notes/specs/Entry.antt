@@ -1,5 +1,5 @@
 -- The note entries of a part (elf(5), Linux cores): three numbers of 32 bits, then the name and the descriptor,
--- each padded to a multiple of 4 bytes counted from its own start.
+-- each padded to a multiple of 4 bytes counted from its own start. Which of them have register words, and which words.
 use Rattle.std.specs.Prelude.{ℕ, zero, suc, ◌+◌, ◌*◌, ◌/◌, min, Bool, not, ◌&&◌, ◌||◌, List, [], ◌∷◌, length, drop, map, ◌==◌, nat_lt, if◌then◌else◌, bytes_eq, slice_range}
 use Rattle.std.specs.Int.{w32, w64}
 use Rattle.std.specs.List.{range_with_len}
@@ -45,17 +45,41 @@ following e = record { offset = e.offset + entry_size e; bytes = drop (entry_siz
 abbrev pub is_cut : Entry → Bool
 is_cut e = nat_lt (length e.bytes) 12 || nat_lt (length e.bytes) (desc_at e + desc_size e)
 
--- a thread status: type NT_PRSTATUS, and the name `CORE` with a zero byte behind it
+-- the name of Linux's register sets: `CORE` with a zero byte behind it
+abbrev pub is_core : Entry → Bool
+is_core e = bytes_eq (name e) (0x43 ∷ 0x4f ∷ 0x52 ∷ 0x45 ∷ 0 ∷ [])
+
+-- a thread status: type NT_PRSTATUS
 abbrev pub is_status : Entry → Bool
-is_status e = (kind e == 1) && bytes_eq (name e) (0x43 ∷ 0x4f ∷ 0x52 ∷ 0x45 ∷ 0 ∷ [])
+is_status e = (kind e == 1) && is_core e
+
+-- a vector entry: type NT_FPREGSET
+abbrev pub is_vector : Entry → Bool
+is_vector e = (kind e == 2) && is_core e
 
 -- Linux's struct elf_prstatus has 336 bytes
-abbrev pub has_other_size : Entry → Bool
-has_other_size e = is_status e && not (desc_size e == 336)
+abbrev pub has_other_status_size : Entry → Bool
+has_other_status_size e = is_status e && not (desc_size e == 336)
+
+-- the FXSAVE area has 512 bytes (Intel SDM)
+abbrev pub has_other_vector_size : Entry → Bool
+has_other_vector_size e = is_vector e && not (desc_size e == 512)
+
+-- so many words of 8 bytes, from the byte on
+abbrev pub words_from : List ℕ → ℕ → ℕ → List ℕ
+words_from bytes at count = map (λ i. number_at w64 bytes (at + 8 * i)) (range_with_len 0 count)
 
 -- pr_reg of Linux's struct elf_prstatus: 27 words, from byte 112 on
 abbrev pub words_of_status : List ℕ → List ℕ
-words_of_status status = map (λ i. number_at w64 status (112 + 8 * i)) (range_with_len 0 27)
+words_of_status status = words_from status 112 27
+
+-- xmm0 to xmm15 in the FXSAVE area (Intel SDM): 16 bytes each from byte 160 on, the lower half first
+abbrev pub words_of_vector : List ℕ → List ℕ
+words_of_vector vector = words_from vector 160 32
+
+-- the register words of an entry
+abbrev pub words_of_entry : Entry → List ℕ
+words_of_entry e = if is_status e then words_of_status (desc e) else (if is_vector e then words_of_vector (desc e) else [])
 
 -- The entries from one on, up to the part's end or to an entry that is cut off, which is the last. An entry that
 -- is not cut off has at least 12 bytes, so there are no more entries than bytes: `most` need not be larger.

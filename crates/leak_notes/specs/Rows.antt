@@ -1,9 +1,15 @@
 -- Worked answers: each changes the sample core in one way.
-use Rattle.std.specs.Prelude.{◌≡◌, [], ◌∷◌, replicate, Some, None, slice_index}
+use Rattle.std.specs.Prelude.{◌≡◌, ℕ, List, [], ◌∷◌, replicate, Some, None, slice_index}
 use Rattle.std.specs.Int.{w32, w64, to_le_bytes}
 use Rattle.leak_elf.specs.Sample.{sample, patched}
-use Rattle.leak_notes.specs.declared.error.NoteError.TheVariants.{Cut, StatusSize, NoThread}
-use Rattle.leak_notes.specs.Threads.{note_fault_of, registers_of}
+use Rattle.leak_notes.specs.declared.error.NoteError.TheVariants.{Cut, StatusSize, VectorSize, NoThread}
+use Rattle.leak_notes.specs.Threads.{note_fault_of, registers_of, threads_of}
+
+-- the sample with a vector entry behind its thread status: the descriptor of 512 zero bytes begins at 552
+abbrev pub with_vectors : List ℕ
+with_vectors =
+    patched (patched sample 96 (to_le_bytes w64 888)) 532
+    (5 ∷ 0 ∷ 0 ∷ 0 ∷ 0 ∷ 2 ∷ 0 ∷ 0 ∷ 2 ∷ 0 ∷ 0 ∷ 0 ∷ 0x43 ∷ 0x4f ∷ 0x52 ∷ 0x45 ∷ [])
 
 pub record AreAnswers : Type 0 where
   pub accepted : note_fault_of sample ≡ None
@@ -17,3 +23,12 @@ pub record AreAnswers : Type 0 where
   pub no_part : note_fault_of (patched sample 64 (to_le_bytes w32 0)) ≡ Some NoThread
   pub zero : registers_of sample ≡ replicate 27 0
   pub rbx : slice_index (registers_of (patched sample 348 (to_le_bytes w64 0x10100))) 5 ≡ 0x10100
+  pub vectors_accepted : note_fault_of with_vectors ≡ None
+  pub vectors : threads_of with_vectors ≡ record { registers = replicate 59 0; threads = 1 }
+  pub first_high : slice_index (registers_of (patched with_vectors 720 (to_le_bytes w64 0x10100))) 28 ≡ 0x10100
+  pub last_high : slice_index (registers_of (patched with_vectors 960 (to_le_bytes w64 0x10100))) 58 ≡ 0x10100
+  pub before_the_first : registers_of (patched with_vectors 552 (to_le_bytes w64 0x10100)) ≡ replicate 59 0
+  pub behind_the_last : registers_of (patched with_vectors 968 (to_le_bytes w64 0x10100)) ≡ replicate 59 0
+  pub vector_size : note_fault_of (patched (patched with_vectors 96 (to_le_bytes w64 884)) 536 (to_le_bytes w32 508)) ≡ Some (VectorSize 532)
+  pub vectors_alone : note_fault_of (patched with_vectors 184 (6 ∷ [])) ≡ Some NoThread
+  pub status_as_vectors : note_fault_of (patched sample 184 (2 ∷ [])) ≡ Some (VectorSize 176)

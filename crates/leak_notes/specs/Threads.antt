@@ -1,13 +1,14 @@
--- The thread statuses of a core (Linux's struct elf_prstatus), and the first reason against its notes.
+-- The register words of a core, of its thread statuses (Linux's struct elf_prstatus) and of its vector entries
+-- (Linux's NT_FPREGSET), and the first reason against its notes.
 use Rattle.std.specs.Prelude.{◌≡◌, ℕ, Bool, ◌+◌, List, [], ◌∷◌, ◌++◌, length, filter, ◌==◌, Option, None, flat_map}
 use Rattle.leak_elf.specs.declared.segment.NotePart.{NotePart}
 use Rattle.leak_elf.specs.Refusals.{first_fault}
 use Rattle.leak_elf.specs.Segments.{note_parts_of, bytes_at}
 use Rattle.leak_notes.specs.declared.error.NoteError.{NoteError}
-use Rattle.leak_notes.specs.declared.error.NoteError.TheVariants.{Cut, StatusSize, NoThread}
-use Rattle.leak_notes.specs.Entry.{Entry, entries_from, is_cut, is_status, has_other_size, desc, words_of_status}
+use Rattle.leak_notes.specs.declared.error.NoteError.TheVariants.{Cut, StatusSize, VectorSize, NoThread}
+use Rattle.leak_notes.specs.Entry.{Entry, entries_from, is_cut, is_status, has_other_status_size, has_other_vector_size, words_of_entry}
 
--- what contracts see of a core's threads: their register words, and how many threads there are
+-- what contracts see of a core's threads: their register words, vector registers among them, and how many threads there are
 pub record Registers : Type 0 where
   pub registers : List ℕ
   pub threads : ℕ
@@ -24,9 +25,9 @@ entries_of_parts file parts = flat_map (λ part. entries_from (first_entry file 
 abbrev pub entries : List ℕ → List Entry
 entries file = entries_of_parts file (note_parts_of file)
 
--- the register words of the thread statuses among entries, in their order
+-- the register words of the thread statuses and of the vector entries among entries, in the order of the entries
 abbrev pub words_of_entries : List Entry → List ℕ
-words_of_entries es = flat_map (λ e. words_of_status (desc e)) (filter is_status es)
+words_of_entries es = flat_map words_of_entry es
 
 -- how many thread statuses there are among entries
 abbrev pub count_statuses : List Entry → ℕ
@@ -34,7 +35,8 @@ count_statuses es = length (filter is_status es)
 
 -- the faults of an entry, in order
 abbrev pub entry_faults : Entry → List (Bool × NoteError)
-entry_faults e = (is_cut e, Cut e.offset) ∷ (has_other_size e, StatusSize e.offset) ∷ []
+entry_faults e =
+    (is_cut e, Cut e.offset) ∷ (has_other_status_size e, StatusSize e.offset) ∷ (has_other_vector_size e, VectorSize e.offset) ∷ []
 
 -- the first fault of entries
 abbrev pub first_fault_among : List Entry → Option NoteError

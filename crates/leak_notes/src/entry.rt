@@ -3,7 +3,7 @@
 ghost use Rattle.std.specs.Prelude.{◌≡◌, ◌+◌, ◌<◌, ◌≤◌, ◌^◌, length, IsTrue, IsFalse, ◌↔◌, []};
 ghost use Rattle.std.specs.Int.{w32};
 ghost use Rattle.leak_elf.specs.Fields.{number_at};
-ghost use Rattle.leak_notes.specs.Entry.{name_size, desc_size, kind, padded, name, desc_at, desc, entry_size, following, is_cut, is_status};
+ghost use Rattle.leak_notes.specs.Entry.{name_size, desc_size, kind, padded, name, desc_at, desc, entry_size, following, is_cut, is_core, is_status, is_vector};
 
 use byteorder::{ByteOrder, LittleEndian};
 use std::marker::Model;
@@ -14,7 +14,10 @@ const FIELDS_SIZE: usize = 12;
 /// The type of a thread status.
 const NT_PRSTATUS: u32 = 1;
 
-/// The name of a thread status.
+/// The type of a vector entry.
+const NT_FPREGSET: u32 = 2;
+
+/// The name of a thread status and of a vector entry.
 const CORE: &[u8] = b"CORE\0";
 
 /// The size with its padding to a multiple of 4 bytes.
@@ -109,13 +112,36 @@ impl<'a> Entry<'a> {
         self.bytes.len() < FIELDS_SIZE || self.bytes.len() < self.desc_at() + self.desc_size()
     }
 
+    /// Its type.
+    fn kind(&self) -> u32
+        requires { 12 ≤ length self.now.bytes }
+        ensures { result ≡ kind self.now }
+    {
+        u32_at(self.bytes, 8)
+    }
+
+    /// If it has the name of Linux's register sets.
+    fn is_core(&self) -> bool
+        requires { IsFalse (is_cut self.now) }
+        ensures { result ≡ is_core self.now }
+    {
+        &self.bytes[FIELDS_SIZE..FIELDS_SIZE + self.name_size()] == CORE
+    }
+
     /// If it is a thread status.
     pub(crate) fn is_status(&self) -> bool
         requires { IsFalse (is_cut self.now) }
         ensures { result ≡ is_status self.now }
     {
-        u32_at(self.bytes, 8) == NT_PRSTATUS
-            && &self.bytes[FIELDS_SIZE..FIELDS_SIZE + self.name_size()] == CORE
+        self.kind() == NT_PRSTATUS && self.is_core()
+    }
+
+    /// If it is a vector entry.
+    pub(crate) fn is_vector(&self) -> bool
+        requires { IsFalse (is_cut self.now) }
+        ensures { result ≡ is_vector self.now }
+    {
+        self.kind() == NT_FPREGSET && self.is_core()
     }
 
     /// Its descriptor.

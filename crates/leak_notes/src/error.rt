@@ -8,7 +8,7 @@ use thiserror::Error;
 
 /// Why the notes of a core are refused, in the order in which the reasons are tried.
 ///
-/// The first two are tried for each entry, in the order of the parts and of the entries in them. The number is
+/// The first three are tried for each entry, in the order of the parts and of the entries in them. The number is
 /// the offset in the file of the entry's first byte.
 #[derive(Clone, Copy, Debug, PartialEq, Eq, Error)]
 pub enum NoteError {
@@ -18,6 +18,9 @@ pub enum NoteError {
     /// The descriptor of a thread status has not the 336 bytes of Linux's `struct elf_prstatus`.
     #[error("thread status at {0} has a wrong size")]
     StatusSize(u64),
+    /// The descriptor of a vector entry has not the 512 bytes of the FXSAVE area.
+    #[error("vector registers at {0} have a wrong size")]
+    VectorSize(u64),
     /// No entry is a thread status.
     #[error("no thread status")]
     NoThread,

@@ -33,12 +33,10 @@
 //! | 25 | 312 | fs |
 //! | 26 | 320 | gs |
 
-ghost use Rattle.std.specs.Prelude.{◌≡◌, ◌++◌, ◌+◌, ◌≤◌, length, OnOk};
-ghost use Rattle.std.specs.Int.{w64};
-ghost use Rattle.leak_elf.specs.Fields.{number_at};
+ghost use Rattle.std.specs.Prelude.{◌≡◌, ◌++◌, ◌≤◌, length, OnOk};
 ghost use Rattle.leak_notes.specs.Entry.{words_of_status};
 
-use byteorder::{ByteOrder, LittleEndian};
+use crate::words::push_words;
 use std::alloc::AllocError;
 
 /// The size in bytes of a thread status.
@@ -50,23 +48,11 @@ const REGISTERS_AT: usize = 112;
 /// How many registers there are.
 const REGISTERS: usize = 27;
 
-/// The number of 64 bits at the place in the bytes.
-#[tactic(auto, unfolding(leak_elf::specs::Fields::number_at))]
-fn u64_at(bytes: &[u8], at: usize) -> u64
-    requires { at + 8 ≤ length bytes.now }
-    ensures { result ≡ number_at w64 bytes.now at }
-{
-    LittleEndian::read_u64(&bytes[at..at + 8])
-}
-
 /// Adds the registers of a thread status behind the words.
 pub(crate) fn push_registers(words: &mut Vec<u64>, status: &[u8]) -> Result<(), AllocError>
     requires { length status.now ≡ 336 }
     ensures ok { OnOk result (words.new.items ≡ words.old.items ++ words_of_status status.now) }
     ensures kept { length words.old.items ≤ length words.new.items }
 {
-    for i in 0..REGISTERS {
-        words.push(u64_at(status, REGISTERS_AT + 8 * i))?;
-    }
-    Ok(())
+    push_words(words, status, REGISTERS_AT, REGISTERS)
 }

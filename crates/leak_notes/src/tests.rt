@@ -153,12 +153,34 @@ fn the_parts_are_read_in_the_order_of_the_headers(rt: HostRuntime) -> Result<(),
 }
 
 #[test]
+fn a_core_of_many_threads_is_read(rt: HostRuntime) -> Result<(), Fail> {
+    let mut core = core_k(rt.alloc(), &[])?;
+    let mut status = Vec::new(rt.alloc());
+    status.extend_from_slice(&core[176..532])?;
+    // The part of notes stands behind the segment.
+    set(&mut core, 72, &8192u64.to_le_bytes());
+    set(&mut core, 96, &(5_000 * 356u64).to_le_bytes());
+    for _ in 0..5_000 {
+        core.extend_from_slice(status.as_slice())?;
+    }
+    let image = Image::read(rt.alloc(), core.as_slice())?;
+    let threads = Threads::read(rt.alloc(), &image)?;
+    assert_eq!(rt; threads.count(), 5_000);
+    assert_eq!(rt; threads.registers().len(), 135_000);
+    Ok(())
+}
+
+#[test]
 fn each_reason_has_its_text(rt: HostRuntime) -> Result<(), Fail> {
     let texts = [
         (NoteError::Cut(176), "note at 176 is cut off"),
         (
             NoteError::StatusSize(176),
             "thread status at 176 has a wrong size",
+        ),
+        (
+            NoteError::VectorSize(532),
+            "vector registers at 532 have a wrong size",
         ),
         (NoteError::NoThread, "no thread status"),
         (NoteError::NoMemory, "out of memory"),

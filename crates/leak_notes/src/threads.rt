@@ -7,6 +7,7 @@ ghost use Rattle.leak_notes.specs.Threads.{Registers, TakesUp, first_fault_among
 use crate::entry::Entry;
 use crate::error::NoteError;
 use crate::status::{STATUS_SIZE, push_registers};
+use crate::vector::{VECTOR_SIZE, push_vectors};
 use leak_elf::Image;
 use std::alloc::Global;
 use std::marker::Model;
@@ -36,14 +37,18 @@ impl Threads {
         if entry.is_cut() {
             return Err(NoteError::Cut(entry.offset()));
         }
-        if !entry.is_status() {
-            return Ok(());
+        if entry.is_status() {
+            if entry.desc_size() != STATUS_SIZE {
+                return Err(NoteError::StatusSize(entry.offset()));
+            }
+            push_registers(&mut self.words, entry.desc())?;
+            self.count += 1;
+        } else if entry.is_vector() {
+            if entry.desc_size() != VECTOR_SIZE {
+                return Err(NoteError::VectorSize(entry.offset()));
+            }
+            push_vectors(&mut self.words, entry.desc())?;
         }
-        if entry.desc_size() != STATUS_SIZE {
-            return Err(NoteError::StatusSize(entry.offset()));
-        }
-        push_registers(&mut self.words, entry.desc())?;
-        self.count += 1;
         Ok(())
     }
 
@@ -86,7 +91,7 @@ impl Threads {
         self.count
     }
 
-    /// The register words of the threads, 27 a thread, in the order of the notes.
+    /// The register words: 27 a thread status and 32 a vector entry, in the order of the notes.
     pub fn registers(&self) -> &[u64]
         ensures { result.now ≡ self.now.registers }
     {

@@ -5,11 +5,11 @@ use Rattle.leak_elf.specs.Fields.{number_at}
 use Rattle.leak_elf.specs.Sample.{sample, front, file_header, zeros, program_header, note_entry}
 use Rattle.leak_elf.specs.Segments.{note_parts_of}
 use Rattle.leak_notes.specs.Entry.{entries_from}
-use Rattle.leak_notes.specs.Threads.{note_fault_of, registers_of}
+use Rattle.leak_notes.specs.Threads.{note_fault_of, registers_of, threads_of}
 use Rattle.leak_notes.proofs.rows.worked_notes.Goals as goal
 
 pub returns : goal.returns
-unfolding sample front file_header zeros program_header note_entry number_at header_at headers note_parts_of entries_from note_fault_of registers_of
+unfolding sample front file_header zeros program_header note_entry number_at header_at headers note_parts_of entries_from note_fault_of registers_of threads_of
 returns c = record {
   accepted = refl;
   cut = refl;
@@ -22,4 +22,13 @@ returns c = record {
   no_part = refl;
   zero = refl;
   rbx = refl;
+  vectors_accepted = refl;
+  vectors = refl;
+  first_high = refl;
+  last_high = refl;
+  before_the_first = refl;
+  behind_the_last = refl;
+  vector_size = refl;
+  vectors_alone = refl;
+  status_as_vectors = refl;
 }

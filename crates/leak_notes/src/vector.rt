@@ -1,0 +1,38 @@
+//! A vector entry: the descriptor of a note of type NT_FPREGSET, which on x86-64 Linux is `struct user_fpregs_struct`,
+//! the 512 bytes that FXSAVE writes in 64-bit mode (Intel SDM, Layout of the 64-bit Mode FXSAVE Map).
+//!
+//! The registers xmm0 to xmm15 have 16 bytes each, the lower half first:
+//!
+//! | Words | Bytes | Register |
+//! |---|---|---|
+//! | 0, 1 | 160, 168 | xmm0 |
+//! | 2, 3 | 176, 184 | xmm1 |
+//! | .. | .. | .. |
+//! | 30, 31 | 400, 408 | xmm15 |
+//!
+//! Before them, up to byte 160, stand the control words and the x87 registers, whose eighty bits can't be told from a
+//! pointer's; from byte 416 on nothing is saved. The upper halves of ymm0 to ymm15 are in another note (NT_X86_XSTATE).
+
+ghost use Rattle.std.specs.Prelude.{◌≡◌, ◌++◌, ◌≤◌, length, OnOk};
+ghost use Rattle.leak_notes.specs.Entry.{words_of_vector};
+
+use crate::words::push_words;
+use std::alloc::AllocError;
+
+/// The size in bytes of a vector entry's descriptor.
+pub(crate) const VECTOR_SIZE: usize = 512;
+
+/// Where xmm0 begins, in bytes from its first.
+const VECTORS_AT: usize = 160;
+
+/// How many words there are, two for each register.
+const VECTOR_WORDS: usize = 32;
+
+/// Adds the vector registers of an entry behind the words.
+pub(crate) fn push_vectors(words: &mut Vec<u64>, vector: &[u8]) -> Result<(), AllocError>
+    requires { length vector.now ≡ 512 }
+    ensures ok { OnOk result (words.new.items ≡ words.old.items ++ words_of_vector vector.now) }
+    ensures kept { length words.old.items ≤ length words.new.items }
+{
+    push_words(words, vector, VECTORS_AT, VECTOR_WORDS)
+}
