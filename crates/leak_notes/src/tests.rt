@@ -156,7 +156,9 @@ fn the_parts_are_read_in_the_order_of_the_headers(rt: HostRuntime) -> Result<(),
 fn a_core_of_many_threads_is_read(rt: HostRuntime) -> Result<(), Fail> {
     let mut core = core_k(rt.alloc(), &[])?;
     let mut status = Vec::new(rt.alloc());
-    status.extend_from_slice(&core[176..532])?;
+    for byte in core.iter().skip(176).take(356) {
+        status.push(*byte)?;
+    }
     // The part of notes stands behind the segment.
     set(&mut core, 72, &8192u64.to_le_bytes());
     set(&mut core, 96, &(5_000 * 356u64).to_le_bytes());

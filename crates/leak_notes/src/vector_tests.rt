@@ -34,10 +34,10 @@ fn registers_with(alloc: Global, at: usize, word: u64) -> Result<Vec<u64>, Fail>
 }
 
 /// Why the notes of the sample core with a vector entry are refused once bytes of it are replaced.
-fn refusal_with(alloc: Global, changes: &[(usize, u64)]) -> Result<Option<NoteError>, Fail> {
+fn refusal_with(alloc: Global, changes: &[(usize, u32)]) -> Result<Option<NoteError>, Fail> {
     let mut core = with_vectors(alloc)?;
     for (at, number) in changes {
-        set(&mut core, *at, &(*number as u32).to_le_bytes());
+        set(&mut core, *at, &number.to_le_bytes());
     }
     let image = Image::read(alloc, core.as_slice())?;
     Ok(Threads::read(alloc, &image).err())
