@@ -10,6 +10,7 @@ use Rattle.leak_blocks.specs.declared.block.Block.{Block}
 use Rattle.leak_blocks.specs.Live.{Replay, live_of, replay_of}
 use Rattle.leak_blocks.proofs.LineLemmas.{live_of_lines}
 use Rattle.leak_index.specs.Hits.{Index}
+use Rattle.leak_notes.specs.Threads.{threads_of}
 use Rattle.leak_roots.specs.Places.{Places, words_at}
 use Rattle.leak_roots.specs.Roots.{AreRootsOf, root_words}
 use Rattle.leak_marks.specs.Reach.{Graph, Reach}
@@ -65,6 +66,10 @@ leaked_count (false ∷ set) (b ∷ blocks) same =
 pub found_words : (core : List ℕ) (blocks : List Block) (places : Places) → AreRootsOf core blocks places → words_at (word_of core) places ≡ root_words core blocks
 unfolding words_at root_words
 found_words core blocks places roots = rw (roots.registers, roots.memory) refl
+
+-- the threads that were read are those of the core that was read
+pub threads_read : (core log : List ℕ) (input : Input) → IsRead core log input → input.threads ≡ threads_of input.image
+threads_read core log input read = read.1.threads ∙ ap threads_of (sym read.1.image)
 
 -- the graph that was marked is that of the core and the lines
 pub marked_graph : (core : List ℕ) (reading : Option (List ℕ)) (lines : List Line) (blocks : List Block) (index : Index) (places : Places)

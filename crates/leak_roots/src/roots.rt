@@ -2,8 +2,8 @@
 
 ghost use Rattle.std.specs.Prelude.{◌≡◌, ◌↔◌, IfOk, Err};
 ghost use Rattle.leak_notes.specs.Threads.{threads_of};
-ghost use Rattle.leak_roots.specs.Places.{Places, AreRanges};
-ghost use Rattle.leak_roots.specs.Roots.{AreRootsOf};
+ghost use Rattle.leak_roots.specs.Places.{Places, AreRanges, memory_places};
+ghost use Rattle.leak_roots.specs.Roots.{AreRootsOf, root_places};
 ghost use Rattle.leak_roots.specs.Pieces.{AreCut};
 
 use crate::error::CutError;
@@ -32,14 +32,17 @@ impl Model for Roots {
 
 impl Roots {
     /// Finds the root words of a core, given its threads and the live blocks of its log.
+    ///
+    /// The threads are taken as they are given: only where they are the core's are the places those of its root words.
     pub fn find(
         alloc: Global,
         image: &Image,
         threads: &Threads,
         live: &Live,
     ) -> Result<Roots, AllocError>
-        requires { threads.now ≡ threads_of image.now }
-        ensures { IfOk result (AreRootsOf image.now live.now.blocks) }
+        ensures registers { IfOk result (λ roots. roots.registers ≡ threads.now.registers) }
+        ensures memory { IfOk result (λ roots. memory_places roots.memory ≡ root_places image.now live.now.blocks) }
+        ensures of_core { threads.now ≡ threads_of image.now → IfOk result (AreRootsOf image.now live.now.blocks) }
     {
         let registers = threads.registers().to_vec(alloc)?;
         let memory = find_ranges(alloc, image, live.blocks())?;

@@ -2,7 +2,8 @@
 
 ghost use Rattle.leak_roots.specs.Rows.{AreAnswers};
 
-/// The sample core has 539 root words: 27 registers and 512 words of its segment, 4 fewer with a block of 32 bytes.
+/// The sample core has 539 root words: 27 registers and 512 words of its segment, 4 fewer with a block of 32 bytes. With a
+/// vector entry it has 32 more.
 pub fn worked_roots()
     ensures { AreAnswers }
 {}

@@ -40,6 +40,47 @@ fn the_sample_has_a_root_word_at_each_place(rt: HostRuntime) -> Result<(), Fail>
 }
 
 #[test]
+fn vector_registers_are_roots(rt: HostRuntime) -> Result<(), Fail> {
+    let mut core = core_k(rt.alloc(), &[])?;
+    // A vector entry behind the thread status, and a word in the upper half of xmm15.
+    let entry = b"\x05\0\0\0\0\x02\0\0\x02\0\0\0CORE\0\0\0\0";
+    for (at, bytes) in [
+        (96usize, 888u64.to_le_bytes().as_slice()),
+        (532, entry.as_slice()),
+        (960, 7u64.to_le_bytes().as_slice()),
+    ] {
+        for (place, byte) in core.iter_mut().skip(at).zip(bytes) {
+            *place = *byte;
+        }
+    }
+    let all = roots(rt.alloc(), core.as_slice(), b"")?;
+    assert_eq!(rt; count(&all), 571);
+    assert_eq!(rt; all.registers().get(58).copied(), Some(7));
+    let pieces = all.cut(rt.alloc(), 32)?;
+    assert_eq!(rt; pieces.get(0).copied(), Some(Piece::Registers(0, 32)));
+    assert_eq!(rt; pieces.get(1).copied(), Some(Piece::Registers(32, 59)));
+    Ok(())
+}
+
+#[test]
+fn the_registers_are_those_of_the_threads_that_are_given(rt: HostRuntime) -> Result<(), Fail> {
+    let core = core_k(rt.alloc(), &[])?;
+    let mut other = core_k(rt.alloc(), &[])?;
+    for byte in other.iter_mut().skip(348).take(1) {
+        *byte = 7;
+    }
+    let image = Image::read(rt.alloc(), core.as_slice())?;
+    let other = Image::read(rt.alloc(), other.as_slice())?;
+    let threads = Threads::read(rt.alloc(), &other)?;
+    let log = Log::read(rt.alloc(), b"")?;
+    let live = replay(rt.alloc(), &log)?;
+    let roots = Roots::find(rt.alloc(), &image, &threads, &live)?;
+    assert_eq!(rt; roots.registers().get(5).copied(), Some(7));
+    assert_eq!(rt; roots.memory(), [(0x10000, 0x11000)].as_slice());
+    Ok(())
+}
+
+#[test]
 fn the_words_of_a_block_are_no_roots(rt: HostRuntime) -> Result<(), Fail> {
     let without = roots_of(rt.alloc(), b"+ 0x10100 0x20\n")?;
     assert_eq!(rt; count(&without), 535);

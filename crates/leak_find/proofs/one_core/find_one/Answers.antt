@@ -1,6 +1,6 @@
 use Rattle.std.proofs.Common.{ap, Err}
 use Rattle.std.proofs.lemmas.Result.{err_from_is_err_and}
-use Rattle.leak_find.proofs.SearchLemmas.{at_ok, finds_read, input_callers, marking_refused, ok_by}
+use Rattle.leak_find.proofs.SearchLemmas.{at_ok, finds_read, input_callers, marking_refused, ok_by, threads_read}
 use Rattle.leak_find.proofs.one_core.find_one.Goals as goal
 
 pub returns-in_err-marked-clause-refused : goal.returns-in_err-marked-clause-refused
@@ -14,5 +14,5 @@ report_of-requires-clause-in_log g c = input_callers _ _ _ c.in_ok-input.ensures
 pub returns-clause-ok : goal.returns-clause-ok
 returns-clause-ok g c = ok_by _ _ (λ found is.
     finds_read _ _ _ _ c.in_ok-input.input _ _ c.in_ok-marked.marked found c.in_ok-input.ensures.ok c.in_ok-marked.ensures.many.1
-    c.in_ok-lookup.ensures c.in_ok-roots.ensures c.in_ok-marked.ensures.marks
+    c.in_ok-lookup.ensures (c.in_ok-roots.ensures.of_core (threads_read _ _ _ c.in_ok-input.ensures.ok)) c.in_ok-marked.ensures.marks
     (at_ok _ _ found is c.report_of.ensures.report) (at_ok _ _ found is c.report_of.ensures.leaked) (at_ok _ _ found is c.report_of.ensures.claims))

@@ -2,7 +2,7 @@ use Rattle.std.proofs.Common.{◌∙◌, ap, ℕ, List, Err}
 use Rattle.std.proofs.lemmas.Result.{err_from_is_err_and}
 use Rattle.leak_blocks.specs.declared.block.Block.{Block}
 use Rattle.leak_find.specs.SearchTwo.{size_of}
-use Rattle.leak_find.proofs.SearchLemmas.{at_ok, input_callers, ok_by}
+use Rattle.leak_find.proofs.SearchLemmas.{at_ok, input_callers, ok_by, threads_read}
 use Rattle.leak_find.proofs.TwoLemmas.{carried, finds_two, for_memory, only_memory, paired}
 use Rattle.leak_find.proofs.two_cores.find_two.Goals as goal
 
@@ -36,6 +36,6 @@ returns-clause-refused g c = for_memory _ _ c.report_of.ensures.memory
 pub returns-clause-ok : goal.returns-clause-ok
 returns-clause-ok g c = ok_by _ _ (λ found is.
     finds_two _ _ _ _ _ _ c.in_ok-inputs.inputs _ _ c.in_ok-between.between c.in_ok-retraced.retraced _ _ found c.in_ok-inputs.ensures.read c.same_words_lead_within.ensures
-    (c.in_ok-between.ensures.between _ _ (paired _ _ _ _ _ c.in_ok-inputs.ensures.read)) c.in_ok-lookup.ensures c.in_ok-roots.ensures c.in_ok-retraced.ensures.traced (c.len.ensures ∙ c.in_ok-between.between.carry.fresh.ok.0)
+    (c.in_ok-between.ensures.between _ _ (paired _ _ _ _ _ c.in_ok-inputs.ensures.read)) c.in_ok-lookup.ensures (c.in_ok-roots.ensures.of_core (threads_read _ _ _ (c.in_ok-inputs.ensures.read.now, c.in_ok-inputs.ensures.read.second))) c.in_ok-retraced.ensures.traced (c.len.ensures ∙ c.in_ok-between.between.carry.fresh.ok.0)
     (c.sum_sizes.ensures ∙ ap (λ (bs : List Block). size_of bs c.deref.result.now) c.blocks-2.ensures.value ∙ ap (λ (xs : List ℕ). size_of c.in_ok-inputs.inputs.second.live.blocks xs) c.deref.ensures.value)
     (at_ok _ _ found is c.report_of.ensures.report) (at_ok _ _ found is c.report_of.ensures.leaked) (at_ok _ _ found is c.report_of.ensures.claims))

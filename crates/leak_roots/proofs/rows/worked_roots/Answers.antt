@@ -12,4 +12,4 @@ use Rattle.leak_roots.proofs.rows.worked_roots.Goals as goal
 
 pub returns : goal.returns
 unfolding sample front file_header zeros program_header note_entry number_at header_at headers segments_of note_parts_of word_of word_in entries_from registers_of root_places root_words
-returns c = record { without_blocks = refl; with_a_block = refl }
+returns c = record { without_blocks = refl; with_a_block = refl; with_vector_registers = refl }
