@@ -1,5 +1,5 @@
 #!/bin/sh
-# Builds leaky.c and in_flight.c, runs them under mtrace, takes cores of them, searches the cores, and compares each report
+# Builds leaky.c, in_vector.c and in_flight.c, runs them under mtrace, takes cores of them, searches the cores, and compares each report
 # with what the program's construction says: which sizes leaked, and that nothing else did.
 #
 #     examples/run.sh LEAK_FIND
@@ -13,6 +13,7 @@ process=
 trap 'test -z "$process" || kill -9 "$process" 2> /dev/null; rm -rf "$work"' EXIT
 gcc -g -O0 -Wno-unused-result -o "$work/leaky" "$here/leaky.c"
 gcc -g -O0 -Wno-unused-result -o "$work/in_flight" "$here/in_flight.c"
+gcc -g -O0 -Wno-unused-result -o "$work/in_vector" "$here/in_vector.c"
 cd "$work"
 
 # check NAME HEAD SIZES SUBCOMMAND FILE..: searches, shows the report, and compares its first lines, those that speak of live
@@ -85,6 +86,20 @@ if [ -n "$dead" ]; then
     name_lines leaky
 else
     echo "== no core by the kernel: $(cat /proc/sys/kernel/core_pattern) takes it elsewhere"
+fi
+
+# in_vector.c: two blocks are held by vector registers alone. What must be reported is the lost block, and the one that only an
+# x87 register points to.
+start in_vector
+dump in_vector 1
+stop
+check "vector registers, by gdb" "blocks 5 bytes 385" "45 93" one in_vector.core.1 in_vector.copy.1
+name_lines in_vector
+rm -f core core.*
+MALLOC_TRACE=dead.log LD_PRELOAD=libc_malloc_debug.so.0 ./in_vector dies 2> /dev/null || true
+dead=$(ls core core.* 2> /dev/null | head -n 1)
+if [ -n "$dead" ]; then
+    check "vector registers, by the kernel" "blocks 5 bytes 385" "45 93" one "$dead" dead.log
 fi
 
 # in_flight.c: three cores of one process, of which each but the first makes a pair with the one before.

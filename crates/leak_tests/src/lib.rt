@@ -39,6 +39,10 @@ mod workers;
 #[cfg(test)]
 mod two_cores;
 
+// Cores with vector registers.
+#[cfg(test)]
+mod vectors;
+
 // Schedules that a gate forces on the workers.
 #[cfg(test)]
 mod schedules;

@@ -28,6 +28,10 @@ fn texts_of_refused_inputs(rt: HostRuntime) -> Result<(), Fail> {
             "input 2: notes: no thread status",
         ),
         (
+            FindError::Notes(1, NoteError::VectorSize(532)),
+            "input 1: notes: vector registers at 532 have a wrong size",
+        ),
+        (
             FindError::Log(1, LogError::BadLine(2)),
             "input 1: log: line 2 is not an mtrace line",
         ),
