@@ -10,8 +10,8 @@
 //! | .. | .. | .. |
 //! | 30, 31 | 400, 408 | xmm15 |
 //!
-//! Before them, up to byte 160, stand the control words and the x87 registers, whose eighty bits can't be told from a
-//! pointer's; from byte 416 on nothing is saved. The upper halves of ymm0 to ymm15 are in another note (NT_X86_XSTATE).
+//! The bytes before 160 hold control words and the x87 registers, those from 416 on are reserved: no root is taken from
+//! them. The upper halves of ymm0 to ymm15 are in another note (NT_X86_XSTATE).
 
 ghost use Rattle.std.specs.Prelude.{◌≡◌, ◌++◌, ◌≤◌, length, OnOk};
 ghost use Rattle.leak_notes.specs.Entry.{words_of_vector};
