@@ -1,9 +1,9 @@
 -- Program headers (System V gABI, elf(5)).
-use Rattle.std.specs.Prelude.{ℕ, not, bit_and, max, min, nat_lt, ◌&&◌, ◌+◌, ◌*◌, List, Bool, map, ◌==◌}
+use Rattle.std.specs.Prelude.{ℕ, not, bit_and, max, min, nat_lt, ◌&&◌, ◌||◌, ◌+◌, ◌*◌, List, length, Bool, map, ◌==◌, if◌then◌else◌, Option, Some, None}
 use Rattle.std.specs.List.{range_with_len}
 use Rattle.std.specs.Int.{w32, w64}
 use Rattle.leak_elf.specs.declared.header.Header.{Header}
-use Rattle.leak_elf.specs.Fields.{number_at, e_phoff, e_phnum}
+use Rattle.leak_elf.specs.Fields.{number_at, e_phoff, e_shoff, e_phnum, sh_info}
 
 -- a program header; its address in physical memory and its alignment are not read
 unfoldable pub header_at : List ℕ → ℕ → Header
@@ -20,9 +20,25 @@ header_at file at = record {
 abbrev pub table_at : List ℕ → ℕ → ℕ → List Header
 table_at file start n = map (λ i. header_at file (start + 56 * i)) (range_with_len 0 n)
 
+-- extended numbering (PN_XNUM): the number of program headers stands in section header 0
+abbrev pub is_extended : List ℕ → Bool
+is_extended file = e_phnum file == 0xffff
+
+-- section header 0, of 64 bytes, is not in the file; where e_shoff is 0 there is none
+abbrev pub lacks_section_header : List ℕ → Bool
+lacks_section_header file = e_shoff file == 0 || nat_lt (length file) (e_shoff file + 64)
+
+-- how many program headers there are
+abbrev pub header_count : List ℕ → ℕ
+header_count file = if is_extended file then sh_info file else e_phnum file
+
+-- that number, where the file has it
+abbrev pub found_count : List ℕ → Option ℕ
+found_count file = if is_extended file && lacks_section_header file then None else Some (header_count file)
+
 -- the program headers, in the order of the file
 unfoldable pub headers : List ℕ → List Header
-headers file = table_at file (e_phoff file) (e_phnum file)
+headers file = table_at file (e_phoff file) (header_count file)
 
 -- PT_LOAD, PT_NOTE, PF_W
 abbrev pub is_load : Header → Bool

@@ -5,9 +5,9 @@ use Rattle.std.specs.List.{list_any}
 use Rattle.leak_elf.specs.declared.error.ElfError.{ElfError}
 use Rattle.leak_elf.specs.declared.error.ElfError.TheVariants.{Short, Magic, Class, Data, Version, Kind, Machine, EntrySize, Extended, TableCut, Truncated, SizeOrder, Wrap, Overlap}
 use Rattle.leak_elf.specs.declared.header.Header.{Header}
-use Rattle.leak_elf.specs.Fields.{e_type, e_machine, e_phoff, e_phentsize, e_phnum}
+use Rattle.leak_elf.specs.Fields.{e_type, e_machine, e_phoff, e_phentsize}
 use Rattle.leak_elf.specs.Segments.{meet_within}
-use Rattle.leak_elf.specs.Headers.{headers, is_load, is_note, share_address}
+use Rattle.leak_elf.specs.Headers.{is_extended, lacks_section_header, header_count, headers, is_load, is_note, share_address}
 
 -- the fault of the first condition that holds
 abbrev pub first_fault : {E : Type 0} → List (Bool × E) → Option E
@@ -25,8 +25,8 @@ file_faults file =
     ∷ (not (e_type file == 4), Kind)
     ∷ (not (e_machine file == 62), Machine)
     ∷ (not (e_phentsize file == 56), EntrySize)
-    ∷ (e_phnum file == 0xffff, Extended)
-    ∷ (nat_lt (length file) (e_phoff file + 56 * e_phnum file), TableCut)
+    ∷ (is_extended file && lacks_section_header file, Extended)
+    ∷ (nat_lt (length file) (e_phoff file + 56 * header_count file), TableCut)
     ∷ []
 
 -- the faults of the program header with the number by itself, in order

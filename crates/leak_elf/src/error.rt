@@ -36,8 +36,8 @@ pub enum ElfError {
     /// A program header doesn't have 56 bytes.
     #[error("program header size is not 56")]
     EntrySize,
-    /// The number of program headers stands elsewhere (PN_XNUM).
-    #[error("extended numbering is not read")]
+    /// The number of program headers stands in section header 0 (PN_XNUM), which is not in the file.
+    #[error("section header 0 is missing or cut off")]
     Extended,
     /// The program headers end past the end of the file.
     #[error("program headers are cut off")]

@@ -1,8 +1,8 @@
 //! Program headers (System V gABI, elf(5)).
 
-ghost use Rattle.std.specs.Prelude.{◌≡◌, ◌+◌, ◌*◌, ◌≤◌, length, IfOk, IfErr};
-ghost use Rattle.leak_elf.specs.Fields.{e_phoff, e_phnum};
-ghost use Rattle.leak_elf.specs.Headers.{header_at, headers};
+ghost use Rattle.std.specs.Prelude.{◌≡◌, ◌+◌, ◌*◌, ◌^◌, ◌≤◌, ◌<◌, length, IfOk, IfErr, IfSome};
+ghost use Rattle.leak_elf.specs.Fields.{e_phoff};
+ghost use Rattle.leak_elf.specs.Headers.{header_at, header_count, found_count, headers};
 
 use crate::error::ElfError;
 use crate::fields::{u16_at, u32_at, u64_at};
@@ -20,11 +20,13 @@ pub(crate) const PF_W: u32 = 2;
 pub(crate) const ET_CORE: u16 = 4;
 /// The machine of an x86-64 file.
 pub(crate) const EM_X86_64: u16 = 62;
-/// The count that says that the number of program headers stands elsewhere.
-pub(crate) const PN_XNUM: u16 = 0xffff;
+/// The count that says that the number of program headers stands in section header 0.
+const PN_XNUM: u16 = 0xffff;
 
 /// The size in bytes of a file header.
 pub(crate) const FILE_HEADER_SIZE: usize = 64;
+/// The size in bytes of a section header.
+const SECTION_HEADER_SIZE: usize = 64;
 /// The size in bytes of a program header.
 pub(crate) const HEADER_SIZE: usize = 56;
 
@@ -61,16 +63,40 @@ fn read_header(core: &[u8], at: usize) -> Header
     }
 }
 
-/// All program headers, in the order of the file.
+/// How many program headers the file has, if that can be read.
+///
+/// Where `e_phnum` is PN_XNUM, the number is `sh_info` of section header 0 (gABI, extended numbering).
+/// In all other files `e_shoff` is not looked at.
+pub(crate) fn count_headers(core: &[u8]) -> Option<usize>
+    requires { 64 ≤ length core.now }
+    ensures value { result ≡ found_count core.now }
+    ensures size { IfSome result (λ count. count < 2 ^ 32) }
+{
+    let count = u16_at(core, 56);
+    if count != PN_XNUM {
+        return Some(count as usize);
+    }
+    let start = u64_at(core, 40);
+    if start == 0 || start > (core.len() - SECTION_HEADER_SIZE) as u64 {
+        return None;
+    }
+    Some(u32_at(core, start as usize + 44) as usize)
+}
+
+/// All program headers, in the order of the file. The count is how many there are.
 #[tactic(auto, unfolding(crate::specs::Headers::headers))]
-pub(crate) fn read_headers(alloc: Global, core: &[u8]) -> Result<Vec<Header>, ElfError>
+pub(crate) fn read_headers(
+    alloc: Global,
+    core: &[u8],
+    count: usize,
+) -> Result<Vec<Header>, ElfError>
     requires short { 64 ≤ length core.now }
-    requires table { e_phoff core.now + 56 * e_phnum core.now ≤ length core.now }
+    requires count { count ≡ header_count core.now }
+    requires table { e_phoff core.now + 56 * count ≤ length core.now }
     ensures ok { IfOk result (λ v. v.items ≡ headers core.now) }
     ensures refused { IfErr result (λ e. e ≡ ElfError.NoMemory) }
 {
     let start = u64_at(core, 32) as usize;
-    let count = u16_at(core, 56) as usize;
     let mut headers = Vec::new(alloc);
     for i in 0..count {
         headers.push(read_header(core, start + HEADER_SIZE * i))?;

@@ -68,8 +68,8 @@ impl<'a> Image<'a> {
         ensures ok { IfOk result (λ image. (image ≡ core.now) × (fault_of core.now ≡ None)) }
         ensures refused { IfErr result (λ e. e ≢ ElfError.NoMemory → fault_of core.now ≡ Some e) }
     {
-        check_file(core)?;
-        let headers = read_headers(alloc, core)?;
+        let count = check_file(core)?;
+        let headers = read_headers(alloc, core, count)?;
         check_headers(alloc, core, headers.as_slice())?;
         let segments = kept_segments(alloc, headers.as_slice())?;
         let holders = find_holders(alloc, segments.as_slice())?;

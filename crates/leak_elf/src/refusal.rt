@@ -1,26 +1,28 @@
 //! Which files are accepted as cores.
 
 ghost use Rattle.std.specs.Prelude.{◌≡◌, ◌≢◌, ◌+◌, ◌*◌, ◌≤◌, length, IfOk, IfErr, OnOk, [], false, Some, None};
-ghost use Rattle.leak_elf.specs.Fields.{e_phoff, e_phnum};
+ghost use Rattle.leak_elf.specs.Fields.{e_phoff};
+ghost use Rattle.leak_elf.specs.Headers.{header_count};
 ghost use Rattle.leak_elf.specs.Refusals.{file_fault, extent_fault, faults_from, IsMeetingBefore};
 ghost use Rattle.leak_elf.specs.Segments.{meet_within};
 
 use crate::error::ElfError;
 use crate::fields::{u16_at, u64_at};
 use crate::header::{
-    EM_X86_64, ET_CORE, FILE_HEADER_SIZE, HEADER_SIZE, Header, PN_XNUM, PT_LOAD, PT_NOTE,
+    EM_X86_64, ET_CORE, FILE_HEADER_SIZE, HEADER_SIZE, Header, PT_LOAD, PT_NOTE, count_headers,
 };
 use crate::search::neighbors_meet;
 use crate::segment::kept_segments;
 use std::alloc::{AllocError, Global};
 
-/// Checks the file header.
+/// Checks the file header, and gives the number of program headers.
 #[tactic(auto, unfolding(crate::specs::Refusals::file_fault))]
-pub(crate) fn check_file(core: &[u8]) -> Result<(), ElfError>
+pub(crate) fn check_file(core: &[u8]) -> Result<usize, ElfError>
     ensures ok { OnOk result (file_fault core.now ≡ None) }
     ensures refused { IfErr result (λ e. file_fault core.now ≡ Some e) }
     ensures length { OnOk result (64 ≤ length core.now) }
-    ensures table { OnOk result (e_phoff core.now + 56 * e_phnum core.now ≤ length core.now) }
+    ensures count { IfOk result (λ count. count ≡ header_count core.now) }
+    ensures table { IfOk result (λ count. e_phoff core.now + 56 * count ≤ length core.now) }
 {
     if core.len() < FILE_HEADER_SIZE {
         return Err(ElfError::Short);
@@ -46,15 +48,14 @@ pub(crate) fn check_file(core: &[u8]) -> Result<(), ElfError>
     if u16_at(core, 54) as usize != HEADER_SIZE {
         return Err(ElfError::EntrySize);
     }
-    let count = u16_at(core, 56);
-    if count == PN_XNUM {
+    let Some(count) = count_headers(core) else {
         return Err(ElfError::Extended);
-    }
-    let table = HEADER_SIZE * count as usize;
+    };
+    let table = HEADER_SIZE * count;
     if core.len() < table || ((core.len() - table) as u64) < u64_at(core, 32) {
         return Err(ElfError::TableCut);
     }
-    Ok(())
+    Ok(count)
 }
 
 /// Checks one program header by itself.

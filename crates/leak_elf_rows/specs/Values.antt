@@ -1,11 +1,19 @@
 -- Values of the sample core, each changed in one way: its refusal, its parts and its words.
-use Rattle.std.specs.Prelude.{◌≡◌, [], ◌∷◌, length, take, Some, None}
+use Rattle.std.specs.Prelude.{◌≡◌, ℕ, ◌+◌, List, [], ◌∷◌, length, take, Some, None}
 use Rattle.std.specs.Int.{w16, w32, w64, to_le_bytes}
 use Rattle.leak_elf.specs.declared.error.ElfError.TheVariants.{Short, Magic, Class, Data, Version, Kind, Machine, EntrySize, Extended, TableCut, Truncated, SizeOrder, Wrap, Overlap}
 use Rattle.leak_elf.specs.Refusals.{fault_of}
 use Rattle.leak_elf.specs.Segments.{segments_of, note_parts_of, undumped_of}
 use Rattle.leak_elf.specs.Words.{word_of}
 use Rattle.leak_elf.specs.Sample.{sample, sample_with, patched, sample_of_three, program_header}
+
+-- the file with section header 0 at the offset, and the number there
+abbrev pub with_section : List ℕ → ℕ → ℕ → List ℕ
+with_section file e_shoff sh_info = patched (patched file 40 (to_le_bytes w64 e_shoff)) (e_shoff + 44) (to_le_bytes w32 sh_info)
+
+-- the sample, whose number of program headers stands there
+abbrev pub extended : ℕ → ℕ → List ℕ
+extended e_shoff sh_info = with_section (patched sample 56 (to_le_bytes w16 0xffff)) e_shoff sh_info
 
 pub record AreValues : Type 0 where
   pub accepted : fault_of sample ≡ None
@@ -17,7 +25,20 @@ pub record AreValues : Type 0 where
   pub kind : fault_of (patched sample 16 (2 ∷ [])) ≡ Some Kind
   pub machine : fault_of (patched sample 18 (3 ∷ [])) ≡ Some Machine
   pub entry_size : fault_of (patched sample 54 (32 ∷ [])) ≡ Some EntrySize
-  pub extended : fault_of (patched sample 56 (to_le_bytes w16 0xffff)) ≡ Some Extended
+  pub no_section : fault_of (patched sample 56 (to_le_bytes w16 0xffff)) ≡ Some Extended
+  pub section : fault_of (extended 600 2) ≡ None
+  pub section_segments : segments_of (extended 600 2) ≡ segments_of sample
+  pub section_parts : note_parts_of (extended 600 2) ≡ note_parts_of sample
+  pub cut_section : fault_of (patched (patched sample 56 (to_le_bytes w16 0xffff)) 40 (to_le_bytes w64 8129)) ≡ Some Extended
+  pub last_section : fault_of (extended 8128 0) ≡ None
+  pub last_section_segments : segments_of (extended 8128 0) ≡ []
+  pub last_section_parts : note_parts_of (extended 8128 0) ≡ []
+  pub section_past_all : fault_of (patched (patched sample 56 (to_le_bytes w16 0xffff)) 40 (to_le_bytes w64 0xffffffffffffffc0)) ≡ Some Extended
+  pub section_cut_table : fault_of (extended 600 200) ≡ Some TableCut
+  pub section_of_all : fault_of (extended 600 0xffffffff) ≡ Some TableCut
+  pub plain_section : fault_of (with_section sample 600 1) ≡ None
+  pub plain_section_segments : segments_of (with_section sample 600 1) ≡ segments_of sample
+  pub plain_section_parts : note_parts_of (with_section sample 600 1) ≡ note_parts_of sample
   pub cut_table : fault_of (patched sample 56 (200 ∷ [])) ≡ Some TableCut
   pub cut : fault_of (take 8191 sample) ≡ Some (Truncated 1)
   pub cut_notes : fault_of (patched sample 72 (to_le_bytes w64 8000)) ≡ Some (Truncated 0)

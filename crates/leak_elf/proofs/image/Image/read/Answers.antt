@@ -14,7 +14,7 @@ unfolding fault_of segments_of note_parts_of
 invariant_of-result c =
     let core = c.args.core.now in
     let hs : c.in_ok-headers.headers.items ≡ headers core = c.in_ok-headers.ensures.ok in
-    let ff = c.in_ok-check_file.ensures.ok in
+    let ff = c.in_ok-count.ensures.ok in
     let tf : faults_from core [] 0 (headers core) ≡ None = subst (λ (xs : List Header). faults_from core [] 0 xs ≡ None) (c.as_slice.ensures.value ∙ hs) c.in_ok-check_headers.ensures.ok in
     let ks = c.in_ok-segments.ensures.items ∙ ap (λ (xs : List Header). ascending [] (map segment_of (filter has_addresses xs))) (c.as_slice-2.ensures.value ∙ hs) in
     let ps = c.in_ok-parts.ensures ∙ ap (λ (xs : List Header). map part_of (filter is_note xs)) (c.as_slice-4.ensures.value ∙ hs) in
