@@ -1,8 +1,9 @@
-//! Numbers in the file. All are little-endian.
+//! Numbers and bytes in the file. All numbers are little-endian.
 
-ghost use Rattle.std.specs.Prelude.{◌≡◌, ◌+◌, ◌≤◌, length};
+ghost use Rattle.std.specs.Prelude.{◌≡◌, ◌+◌, ◌^◌, ◌<◌, ◌≤◌, length};
 ghost use Rattle.std.specs.Int.{w16, w32, w64};
 ghost use Rattle.leak_elf.specs.Fields.{number_at};
+ghost use Rattle.leak_elf.specs.Segments.{bytes_at};
 
 use byteorder::{ByteOrder, LittleEndian};
 
@@ -31,4 +32,16 @@ pub(crate) fn u64_at(bytes: &[u8], at: usize) -> u64
     ensures { result ≡ number_at w64 bytes.now at }
 {
     LittleEndian::read_u64(&bytes[at..at + 8])
+}
+
+/// The bytes of the file from the offset on. Where there are none, the offset may lie past its end.
+pub(crate) fn bytes_from(core: &[u8], offset: u64, filesz: u64) -> &[u8]
+    requires { 0 < filesz → offset + filesz ≤ length core.now }
+    ensures bytes { result.now ≡ bytes_at core.now offset filesz }
+    ensures end { offset + length result.now < 2 ^ 64 }
+{
+    if filesz == 0 {
+        return &[];
+    }
+    &core[offset as usize..(offset + filesz) as usize]
 }

@@ -8,10 +8,11 @@ ghost use Rattle.leak_elf.specs.Segments.{segments_of, note_parts_of, undumped_o
 ghost use Rattle.leak_elf.specs.Words.{word_of, AreHolders};
 
 use crate::error::ElfError;
+use crate::fields::bytes_from;
 use crate::header::read_headers;
 use crate::refusal::{check_file, check_headers};
-use crate::search::{bytes_from, find_holders, find_next, find_run, find_word, sum_undumped};
-use crate::segment::{NotePart, Segment, kept_parts, kept_segments};
+use crate::search::{find_holders, find_next, find_run, find_word};
+use crate::segment::{NotePart, Segment, kept_parts, sum_undumped};
 use crate::words::Words;
 use std::alloc::Global;
 use std::marker::Model;
@@ -70,8 +71,7 @@ impl<'a> Image<'a> {
     {
         let count = check_file(core)?;
         let headers = read_headers(alloc, core, count)?;
-        check_headers(alloc, core, headers.as_slice())?;
-        let segments = kept_segments(alloc, headers.as_slice())?;
+        let segments = check_headers(alloc, core, headers.as_slice())?;
         let holders = find_holders(alloc, segments.as_slice())?;
         let parts = kept_parts(alloc, headers.as_slice())?;
         Ok(Image {

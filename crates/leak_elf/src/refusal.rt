@@ -1,18 +1,17 @@
 //! Which files are accepted as cores.
 
-ghost use Rattle.std.specs.Prelude.{◌≡◌, ◌≢◌, ◌+◌, ◌*◌, ◌≤◌, length, IfOk, IfErr, OnOk, [], false, Some, None};
+ghost use Rattle.std.specs.Prelude.{◌≡◌, ◌≢◌, ◌+◌, ◌*◌, ◌≤◌, length, take, IfOk, IfErr, OnOk, [], false, true, Some, None};
 ghost use Rattle.leak_elf.specs.Fields.{e_phoff};
 ghost use Rattle.leak_elf.specs.Headers.{header_count};
 ghost use Rattle.leak_elf.specs.Refusals.{file_fault, extent_fault, faults_from, IsMeetingBefore};
-ghost use Rattle.leak_elf.specs.Segments.{meet_within};
+ghost use Rattle.leak_elf.specs.Segments.{kept_of, meet_within};
 
 use crate::error::ElfError;
 use crate::fields::{u16_at, u64_at};
 use crate::header::{
     EM_X86_64, ET_CORE, FILE_HEADER_SIZE, HEADER_SIZE, Header, PT_LOAD, PT_NOTE, count_headers,
 };
-use crate::search::neighbors_meet;
-use crate::segment::kept_segments;
+use crate::segment::{Segment, kept_segments, neighbors_meet};
 use std::alloc::{AllocError, Global};
 
 /// Checks the file header, and gives the number of program headers.
@@ -91,19 +90,14 @@ fn meet(alloc: Global, headers: &[Header], count: usize) -> Result<bool, AllocEr
     Ok(neighbors_meet(segments.as_slice()))
 }
 
-/// Checks that no two segments of the first headers have an address in common, or gives the first
-/// header that has one in common with an earlier header.
+/// The first header that has an address in common with an earlier one.
 ///
-/// Each test sorts the segments anew. So the search halves the headers, and a core without overlaps,
-/// which is the usual one, is sorted once.
-fn check_apart(alloc: Global, headers: &[Header], count: usize) -> Result<(), ElfError>
-    requires { count ≤ length headers.now }
-    ensures ok { OnOk result (meet_within headers.now count ≡ false) }
-    ensures refused { IfErr result (λ e. e ≢ ElfError.NoMemory → IsMeetingBefore headers.now count e) }
+/// Each test sorts the segments anew. So the search halves the headers.
+fn first_overlap(alloc: Global, headers: &[Header], count: usize) -> Result<usize, AllocError>
+    requires bound { count ≤ length headers.now }
+    requires meet { meet_within headers.now count ≡ true }
+    ensures { IfOk result (λ i. IsMeetingBefore headers.now count (ElfError.Overlap i)) }
 {
-    if !meet(alloc, headers, count)? {
-        return Ok(());
-    }
     let mut apart = 0;
     let mut met = count;
     while met - apart > 1 {
@@ -114,19 +108,41 @@ fn check_apart(alloc: Global, headers: &[Header], count: usize) -> Result<(), El
             apart = middle;
         }
     }
-    Err(ElfError::Overlap(apart))
+    Ok(apart)
 }
 
-/// Checks all program headers, in the order of the file.
-pub(crate) fn check_headers(alloc: Global, core: &[u8], headers: &[Header]) -> Result<(), ElfError>
+/// The segments of the first headers by ascending address, or the first overlap of two.
+///
+/// A core without overlaps, which is the usual one, is sorted once.
+#[tactic(auto, unfolding(crate::specs::Segments::meet_within))]
+fn apart_segments(alloc: Global, headers: &[Header], count: usize) -> Result<Vec<Segment>, ElfError>
+    requires { count ≤ length headers.now }
+    ensures items { IfOk result (λ v. v.items ≡ kept_of (take count headers.now)) }
+    ensures ok { OnOk result (meet_within headers.now count ≡ false) }
+    ensures refused { IfErr result (λ e. e ≢ ElfError.NoMemory → IsMeetingBefore headers.now count e) }
+{
+    let segments = kept_segments(alloc, &headers[..count])?;
+    if neighbors_meet(segments.as_slice()) {
+        return Err(ElfError::Overlap(first_overlap(alloc, headers, count)?));
+    }
+    Ok(segments)
+}
+
+/// Checks all program headers, in the order of the file, and gives their segments by ascending address.
+pub(crate) fn check_headers(
+    alloc: Global,
+    core: &[u8],
+    headers: &[Header],
+) -> Result<Vec<Segment>, ElfError>
+    ensures items { IfOk result (λ v. v.items ≡ kept_of headers.now) }
     ensures ok { OnOk result (faults_from core.now [] 0 headers.now ≡ None) }
     ensures refused { IfErr result (λ e. e ≢ ElfError.NoMemory → faults_from core.now [] 0 headers.now ≡ Some e) }
 {
     for (i, header) in headers.iter().enumerate() {
         if let Err(error) = check_extent(core, i, *header) {
-            check_apart(alloc, headers, i)?;
+            apart_segments(alloc, headers, i)?;
             return Err(error);
         }
     }
-    check_apart(alloc, headers, headers.len())
+    apart_segments(alloc, headers, headers.len())
 }

@@ -1,8 +1,8 @@
-//! Binary search over segments by ascending address.
+//! Searches among segments by ascending address.
 
 ghost use Rattle.std.specs.Prelude.{◌≡◌, ◌≤◌, ◌+◌, ◌<◌, ◌%◌, ◌^◌, ℕ, [], ◌∷◌, length, slice_index_or, IfSome, IfOk};
 ghost use Rattle.leak_elf.specs.declared.segment.Segment.{Segment};
-ghost use Rattle.leak_elf.specs.Segments.{IsAscending, AreSegments, IsKept, AreKept, any_meet, lacking, bytes_at};
+ghost use Rattle.leak_elf.specs.Segments.{IsAscending, AreSegments, IsKept, AreKept};
 ghost use Rattle.leak_elf.specs.Words.{IsRun, word_in, IsNextHeld, AreHolders};
 
 use crate::fields::u64_at;
@@ -74,8 +74,8 @@ pub(crate) fn find_holders(alloc: Global, segments: &[Segment]) -> Result<Vec<us
 
 /// The least address from `from` on that has a word.
 ///
-/// Of the segments that begin up to `from` only the last can hold it. Those behind are not gone over,
-/// since tens of thousands in a row may hold no word.
+/// Of the segments that begin up to `from` only the last can hold it. The table of holders gives the
+/// first of the later ones that can, since tens of thousands in a row may hold no word.
 pub(crate) fn find_next(segments: &[Segment], holders: &[usize], from: u64) -> Option<u64>
     requires kept { AreKept segments.now }
     requires holders { AreHolders segments.now holders.now }
@@ -91,49 +91,6 @@ pub(crate) fn find_next(segments: &[Segment], holders: &[usize], from: u64) -> O
     }
     let holder = *holders.get(count)?;
     find_next_in(*segments.get(holder)?, from)
-}
-
-/// How many bytes the file lacks of the writable segments.
-pub(crate) fn sum_undumped(segments: &[Segment]) -> u64
-    requires { AreKept segments.now }
-    ensures { result ≡ lacking segments.now }
-{
-    let mut total = 0;
-    for segment in segments {
-        if segment.writable {
-            total += segment.memsz - segment.filesz;
-        }
-    }
-    total
-}
-
-/// The bytes of the file from the offset on. Where there are none, the offset may lie past its end.
-pub(crate) fn bytes_from(core: &[u8], offset: u64, filesz: u64) -> &[u8]
-    requires { 0 < filesz → offset + filesz ≤ length core.now }
-    ensures bytes { result.now ≡ bytes_at core.now offset filesz }
-    ensures end { offset + length result.now < 2 ^ 64 }
-{
-    if filesz == 0 {
-        return &[];
-    }
-    &core[offset as usize..(offset + filesz) as usize]
-}
-
-/// Whether two of the segments have an address in common.
-///
-/// By ascending address it is enough to look at neighbors.
-pub(crate) fn neighbors_meet(segments: &[Segment]) -> bool
-    requires ascending { IsAscending segments.now }
-    requires some { (k : ℕ) (d : Segment) → k < length segments.now → 0 < (slice_index_or segments.now k d).memsz }
-    ensures { result ≡ any_meet segments.now }
-{
-    for i in 1..segments.len() {
-        let before = segments[i - 1];
-        if segments[i].vaddr - before.vaddr < before.memsz {
-            return true;
-        }
-    }
-    false
 }
 
 /// The dumped bytes from a multiple of 8 on, up to the end of those of its segment.

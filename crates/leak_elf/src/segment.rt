@@ -3,7 +3,7 @@
 ghost use Rattle.std.specs.Prelude.{◌≡◌, ◌<◌, ℕ, length, slice_index_or, map, filter, IfOk};
 ghost use Rattle.leak_elf.specs.declared.segment.Segment.{Segment};
 ghost use Rattle.leak_elf.specs.Headers.{is_note};
-ghost use Rattle.leak_elf.specs.Segments.{kept_of, IsAscending, segment_of, part_of};
+ghost use Rattle.leak_elf.specs.Segments.{kept_of, IsAscending, AreKept, segment_of, part_of, any_meet, lacking};
 
 use crate::header::{Header, PF_W, PT_LOAD, PT_NOTE};
 use std::alloc::{AllocError, Global};
@@ -61,6 +61,37 @@ pub(crate) fn kept_segments(alloc: Global, headers: &[Header]) -> Result<Vec<Seg
     }
     segments.sort_by_key(|segment| segment.vaddr)?;
     Ok(segments)
+}
+
+/// Whether two of the segments have an address in common.
+///
+/// By ascending address it is enough to look at neighbors.
+pub(crate) fn neighbors_meet(segments: &[Segment]) -> bool
+    requires ascending { IsAscending segments.now }
+    requires some { (k : ℕ) (d : Segment) → k < length segments.now → 0 < (slice_index_or segments.now k d).memsz }
+    ensures { result ≡ any_meet segments.now }
+{
+    for i in 1..segments.len() {
+        let before = segments[i - 1];
+        if segments[i].vaddr - before.vaddr < before.memsz {
+            return true;
+        }
+    }
+    false
+}
+
+/// How many bytes the file lacks of the writable segments.
+pub(crate) fn sum_undumped(segments: &[Segment]) -> u64
+    requires { AreKept segments.now }
+    ensures { result ≡ lacking segments.now }
+{
+    let mut total = 0;
+    for segment in segments {
+        if segment.writable {
+            total += segment.memsz - segment.filesz;
+        }
+    }
+    total
 }
 
 /// The parts of notes, in the order of the headers.

@@ -1,7 +1,7 @@
 use Rattle.std.proofs.Common.{◌≡◌, ℕ, ◌<◌, ◌≤◌, length, take, get_or}
 use Rattle.leak_elf.specs.declared.segment.Segment.{Segment}
 use Rattle.leak_elf.specs.Segments.{lacking}
-use Rattle.leak_elf.proofs.search.sum_undumped.Given as goal
+use Rattle.leak_elf.proofs.segment.sum_undumped.Given as goal
 
 abbrev pub invariant-loop-segment : goal.invariant-loop-segment
 invariant-loop-segment l = record {

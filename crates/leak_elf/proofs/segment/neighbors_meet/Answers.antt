@@ -3,7 +3,7 @@ use Rattle.std.proofs.lemmas.Bool.{cases_lt}
 use Rattle.leak_elf.specs.declared.segment.Segment.{Segment}
 use Rattle.leak_elf.proofs.Held.{get_any}
 use Rattle.leak_elf.proofs.Meeting.{none_meet, meet_at, share_next}
-use Rattle.leak_elf.proofs.search.neighbors_meet.Goals as goal
+use Rattle.leak_elf.proofs.segment.neighbors_meet.Goals as goal
 
 abbrev empty : Segment
 empty = record { vaddr = 0; memsz = 0; offset = 0; filesz = 0; writable = false }

@@ -2,8 +2,8 @@ use Rattle.std.proofs.Common.{arith, true, false}
 use Rattle.leak_elf.specs.declared.segment.Segment.{Segment}
 use Rattle.leak_elf.proofs.Kept.{lacking_more}
 use Rattle.leak_elf.proofs.Held.{get_any}
-use Rattle.leak_elf.proofs.search.sum_undumped.Goals as goal
-use Rattle.leak_elf.proofs.search.sum_undumped.Goals.{then-segment, else-segment}
+use Rattle.leak_elf.proofs.segment.sum_undumped.Goals as goal
+use Rattle.leak_elf.proofs.segment.sum_undumped.Goals.{then-segment, else-segment}
 
 abbrev empty : Segment
 empty = record { vaddr = 0; memsz = 0; offset = 0; filesz = 0; writable = false }

@@ -1,6 +1,6 @@
 use Rattle.std.proofs.Common.{◌≡◌, ◌-◌, ◌<◌, ◌≤◌, true, false}
 use Rattle.leak_elf.specs.Segments.{meet_within}
-use Rattle.leak_elf.proofs.refusal.check_apart.Given as goal
+use Rattle.leak_elf.proofs.refusal.first_overlap.Given as goal
 
 abbrev pub decreases-loop-met : goal.decreases-loop-met
 decreases-loop-met l = l.met - l.apart
