@@ -51,6 +51,10 @@ mod schedules;
 #[cfg(test)]
 mod refusals;
 
+// Cores of more program headers than the file header can number.
+#[cfg(test)]
+mod extended;
+
 // Two cores that are refused, and which refusal comes first.
 #[cfg(test)]
 mod refusals_of_two;
