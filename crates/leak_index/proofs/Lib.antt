@@ -3,3 +3,7 @@ pub mod Listed
 pub mod Listing
 pub mod Narrowing
 pub mod Near
+pub mod Ones
+pub mod RowCounts
+pub mod Ranking
+pub mod Ranked

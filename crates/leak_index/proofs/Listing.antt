@@ -23,7 +23,7 @@ pub record AreListedTo (blocks : List Block) (n next : ℕ) (pages firsts : List
 
 -- ---- one more block
 
-any_default : (bs : List Block) (k : ℕ) (d e : Block) → k < length bs → slice_index_or bs k d ≡ slice_index_or bs k e
+pub any_default : (bs : List Block) (k : ℕ) (d e : Block) → k < length bs → slice_index_or bs k d ≡ slice_index_or bs k e
 any_default [] k d e h = absurd (omega (arith, h))
 any_default (b ∷ bs) zero d e h = refl
 any_default (b ∷ bs) (suc k) d e h = any_default bs k d e (omega (arith, h))
@@ -48,13 +48,13 @@ listed_same blocks n next pages firsts e apart h known listed = record {
   rest = λ k d l m. listed.rest k d (omega arith) m;
 }
 
-at_front : (xs : List ℕ) (y k : ℕ) → k < length xs → slice_index_or (xs ++ y ∷ []) k 0 ≡ slice_index_or xs k 0
+pub at_front : (xs : List ℕ) (y k : ℕ) → k < length xs → slice_index_or (xs ++ y ∷ []) k 0 ≡ slice_index_or xs k 0
 at_front xs y k h = get_or_append_left xs (y ∷ []) 0 k h
 
-at_end : (xs : List ℕ) (y k : ℕ) → k ≡ length xs → slice_index_or (xs ++ y ∷ []) k 0 ≡ y
+pub at_end : (xs : List ℕ) (y k : ℕ) → k ≡ length xs → slice_index_or (xs ++ y ∷ []) k 0 ≡ y
 at_end xs y k e = ap (λ (j : ℕ). slice_index_or (xs ++ y ∷ []) j 0) e ∙ get_or-append_seam xs y [] 0
 
-one_more : (xs : List ℕ) (y : ℕ) → length (xs ++ y ∷ []) ≡ length xs + 1
+pub one_more : (xs : List ℕ) (y : ℕ) → length (xs ++ y ∷ []) ≡ length xs + 1
 one_more xs y = length-append xs (y ∷ [])
 
 -- its page is listed now

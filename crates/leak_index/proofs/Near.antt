@@ -146,7 +146,7 @@ from_number P [] h = tt
 from_number P (b ∷ bs) h = (h 0 b (omega arith), from_number P bs (λ k d l. h (suc k) d (omega (arith, l))))
 
 -- each ends where a later one begins, or before that
-ends_before : (bs : List Block) (i j : ℕ) (d : Block) → AreDisjoint bs → i < j → j < length bs → span_end (slice_index_or bs i d) ≤ (slice_index_or bs j d).start
+pub ends_before : (bs : List Block) (i j : ℕ) (d : Block) → AreDisjoint bs → i < j → j < length bs → span_end (slice_index_or bs i d) ≤ (slice_index_or bs j d).start
 ends_before [] i j d apart h l = absurd (omega (arith, l))
 ends_before (b ∷ bs) i zero d apart h l = absurd (omega (arith, h))
 ends_before (b ∷ bs) zero (suc j) d apart h l = at_number (λ c. span_end b ≤ c.start) bs j d apart.0 (omega (arith, l))

@@ -4,3 +4,5 @@ pub mod Hits
 pub mod Bounds
 pub mod Directory
 pub mod Rows
+pub mod Ranks
+pub mod Finder

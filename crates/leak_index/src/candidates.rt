@@ -67,8 +67,8 @@ impl<'a> Candidates<'a> {
         word < self.low || self.high < word
     }
 
-    /// The blocks that the word leads to, where so many begin at it or before it. Only the last two of these can be
-    /// such: each earlier one ends before the last begins.
+    /// The blocks that the word leads to, given how many blocks begin at the word or before it. Only the last two of
+    /// those are tried: each earlier one ends before the last of them begins.
     pub(crate) fn hits_near(&self, word: u64, count: usize) -> Hits
         requires { IsCountUpTo self.now.blocks word count }
         ensures { hits_in result ≡ hits_of self.now word }

@@ -19,14 +19,14 @@ pub(crate) struct Directory {
     pages: Vec<u64>,
     firsts: Vec<usize>,
     /// A help in finding entries. No answer rests on it.
-    rows: Vec<Row>,
+    runs: Vec<Run>,
 }
 
 /// An entry, counted from 0, whose page doesn't follow that of the entry before.
 ///
 /// Where blocks are small there are few: the entry of a page is then found by its distance from one of them.
 #[derive(Clone, Copy)]
-struct Row {
+struct Run {
     page: u64,
     entry: usize,
 }
@@ -49,11 +49,11 @@ impl Directory {
                 next = page + 1;
             }
         }
-        let rows = rows_of(alloc, pages.as_slice())?;
+        let runs = runs_of(alloc, pages.as_slice())?;
         Ok(Directory {
             pages,
             firsts,
-            rows,
+            runs,
         })
     }
 
@@ -94,40 +94,40 @@ impl Directory {
         if is_last(self.pages.as_slice(), guess, page) {
             return guess + 1;
         }
-        count_pages(self.pages.as_slice(), page)
+        count_all(self.pages.as_slice(), page)
     }
 
-    /// The last entry whose page isn't above the page, by the rows. It is only a guess.
+    /// A guess at the last entry whose page isn't above the given one. Nothing is promised of it.
     fn guess(&self, page: u64) -> usize {
-        let rows = self.rows.partition_point(|row| row.page <= page);
-        if rows == 0 {
+        let runs = self.runs.partition_point(|run| run.page <= page);
+        if runs == 0 {
             return 0;
         }
-        let row = self.rows[rows - 1];
-        let behind = if rows == self.rows.len() {
+        let run = self.runs[runs - 1];
+        let behind = if runs == self.runs.len() {
             self.pages.len()
         } else {
-            self.rows[rows].entry
+            self.runs[runs].entry
         };
-        let distance = page.saturating_sub(row.page) as usize;
-        row.entry
+        let distance = page.saturating_sub(run.page) as usize;
+        run.entry
             .saturating_add(distance)
             .min(behind.saturating_sub(1))
     }
 }
 
-/// The entries at which rows of pages that follow one another begin.
-fn rows_of(alloc: Global, pages: &[u64]) -> Result<Vec<Row>, AllocError> {
-    let mut rows = Vec::new(alloc);
+/// The entries at which runs of pages that follow one another begin.
+fn runs_of(alloc: Global, pages: &[u64]) -> Result<Vec<Run>, AllocError> {
+    let mut runs = Vec::new(alloc);
     let mut next = 0;
     for (entry, page) in pages.iter().enumerate() {
         let page = *page;
         if entry == 0 || page != next {
-            rows.push(Row { page, entry })?;
+            runs.push(Run { page, entry })?;
         }
         next = page.saturating_add(1);
     }
-    Ok(rows)
+    Ok(runs)
 }
 
 /// Whether the entry is the last whose page isn't above the page.
@@ -141,10 +141,18 @@ fn is_last(pages: &[u64], entry: usize, page: u64) -> bool
     entry == pages.len() - 1 || page < pages[entry + 1]
 }
 
-/// How many of the pages, which ascend, are not above the page. It is asked for where a guess fails.
+/// How many of the pages are not above the page, where a guess failed.
 #[cold]
 #[inline(never)]
-fn count_pages(pages: &[u64], page: u64) -> usize
+fn count_all(pages: &[u64], page: u64) -> usize
+    requires { IsStrictlyIncreasing pages.now }
+    ensures { AreUpTo pages.now page result }
+{
+    count_pages(pages, page)
+}
+
+/// How many of the pages, which ascend, are not above the page.
+pub(crate) fn count_pages(pages: &[u64], page: u64) -> usize
     requires { IsStrictlyIncreasing pages.now }
     ensures { AreUpTo pages.now page result }
 {

@@ -2,9 +2,10 @@
 //!
 //! [`Sorted`] and [`Paged`] take the live blocks of a log and a [`Reading`], and answer as [`Lookup`] which blocks a
 //! word leads to, as [`Hits`]: none, one, or two where a block begins at the address behind another's last byte.
-//! `Sorted` searches among all blocks and takes no memory. `Paged` searches among the pages in which blocks start, for
-//! which it takes memory, and then among the blocks of one page. A reading says how far from its start a block may be
-//! pointed at.
+//! `Sorted` searches among all blocks and takes no memory. `Paged` takes memory for a table of the addresses near which
+//! blocks start: where each starts at a multiple of 16, a row for each 1024 addresses, in which bits are counted, and
+//! otherwise an entry for each page in which blocks start, whose blocks are searched. A reading says how far from its
+//! start a block may be pointed at.
 //!
 //! The rule follows bdwgc's conservative marking with interior pointers: a word that could be an address into a block
 //! keeps it. Own rule: it counts for words of registers and stacks as for all others, the address behind the last
@@ -14,9 +15,13 @@
 mod candidates;
 mod directory;
 mod error;
+mod finder;
 mod hits;
 mod laws;
 mod paged;
+#[cfg(test)]
+mod rank_tests;
+mod ranks;
 mod reading;
 mod sorted;
 #[cfg(test)]

@@ -1,24 +1,25 @@
-//! A lookup by pages.
+//! A lookup by rows of addresses, or by pages.
 ghost use Rattle.std.specs.Prelude.{◌≡◌, IfOk};
-ghost use Rattle.leak_index.specs.Directory.{IsDirectory};
+ghost use Rattle.leak_index.specs.Finder.{Finds};
 ghost use Rattle.leak_index.specs.Hits.{Index};
 ghost use Rattle.leak_index.specs.Readings.{listed_by};
 
 use crate::candidates::Candidates;
-use crate::directory::Directory;
+use crate::finder::Finder;
 use crate::hits::{Hits, Lookup};
 use crate::reading::Reading;
 use leak_blocks::Live;
 use std::alloc::{AllocError, Global};
 use std::marker::Model;
 
-/// A lookup by binary search over the pages in which blocks start, and then over the blocks that start in one page.
+/// A lookup by what stands at the word's address: in rows of 1024 addresses where each block starts at a multiple of
+/// 16, and otherwise in the pages in which blocks start.
 ///
-/// It borrows the blocks. It takes memory for each such page, however long the blocks are.
+/// It borrows the blocks. It takes memory for the rows or pages near their starts, however long the blocks are.
 #[derive(Drop)]
 pub struct Paged<'a> {
     candidates: Candidates<'a>,
-    directory: Directory,
+    finder: Finder,
 }
 
 impl<'a> Model for Paged<'a> {
@@ -26,7 +27,7 @@ impl<'a> Model for Paged<'a> {
 
     ghost view = { λ paged. paged.candidates };
 
-    ghost invariant = { λ paged. IsDirectory paged.candidates.blocks paged.directory.pages.items paged.directory.firsts.items };
+    ghost invariant = { λ paged. Finds paged.candidates.blocks paged.finder };
 }
 
 impl<'a> Paged<'a> {
@@ -35,11 +36,8 @@ impl<'a> Paged<'a> {
         ensures { IfOk result (λ paged. paged ≡ record { blocks = live.now.blocks; reading = listed_by reading }) }
     {
         let candidates = Candidates::new(live, reading);
-        let directory = Directory::new(alloc, candidates.blocks())?;
-        Ok(Paged {
-            candidates,
-            directory,
-        })
+        let finder = Finder::new(alloc, candidates.blocks())?;
+        Ok(Paged { candidates, finder })
     }
 }
 
@@ -51,7 +49,7 @@ impl<'a> Lookup for Paged<'a> {
         if self.candidates.is_out(word) {
             return Hits::Zero;
         }
-        let count = self.directory.count_up_to(self.candidates.blocks(), word);
+        let count = self.finder.count_up_to(self.candidates.blocks(), word);
         self.candidates.hits_near(word, count)
     }
 }

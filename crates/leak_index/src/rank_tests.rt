@@ -1,0 +1,152 @@
+//! Lookups where blocks start at multiples of 16, and where they don't.
+use crate::{Hits, Lookup, Paged, Reading, Sorted};
+use leak_blocks::{Block, Live, replay};
+use leak_mtrace::Log;
+use std::alloc::{AllocError, Global};
+use std::process::Abort;
+use std::test::Fail;
+
+/// The live blocks of a log.
+fn lives(alloc: Global, text: &str) -> Result<Live, Fail> {
+    let log = Log::read(alloc, text.as_bytes())?;
+    Ok(replay(alloc, &log)?)
+}
+
+/// Adds so many blocks to a log, the distance apart, of sizes from 0 up to 16 below it.
+fn add(log: &mut String, start: u64, distance: u64, many: u64) -> Result<(), AllocError> {
+    for i in 0..many {
+        let size = i * 8 % (distance - 8);
+        writeln!(log, "+ 0x{:x} 0x{:x}", start + distance * i, size)?;
+    }
+    Ok(())
+}
+
+/// The log of blocks in five ranges: small ones side by side, some rows apart, far apart, over whole rows, and of
+/// which each ends where the next begins. They start so many bytes behind a multiple of 16.
+fn ranges(alloc: Global, behind: u64) -> Result<String, AllocError> {
+    let mut log = String::new(alloc);
+    add(&mut log, 0x10000 + behind, 32, 200)?;
+    add(&mut log, 0x20_0000 + behind, 0x1a40, 40)?;
+    add(&mut log, 0x7f00_0000_0000 + behind, 0x40_0010, 20)?;
+    for i in 0..40u64 {
+        let start = 0x7f80_0000_0000 + behind + 0x1230 * i;
+        writeln!(log, "+ 0x{start:x} 0x1220")?;
+    }
+    for i in 0..100u64 {
+        writeln!(log, "+ 0x{:x} 0x10", 0x7fc0_0000_03f0 + behind + 0x10 * i)?;
+    }
+    Ok(log)
+}
+
+/// The blocks that a word leads to, by the rule itself: the words from a block's start to its end lead to it.
+fn led_to(blocks: &[Block], word: u64) -> Hits {
+    let mut hits = Hits::Zero;
+    for (number, block) in blocks.iter().enumerate() {
+        if block.start <= word && word - block.start <= block.size {
+            hits = match hits {
+                Hits::One(first) => Hits::Two(first, number),
+                _ => Hits::One(number),
+            };
+        }
+    }
+    hits
+}
+
+/// Checks both lookups for a word.
+fn check_word(rt: &impl Abort, live: &Live, sorted: &Sorted, paged: &Paged, word: u64) {
+    let hits = led_to(live.blocks(), word);
+    assert_eq!(rt; sorted.hits(word), hits, "{word}, sorted");
+    assert_eq!(rt; paged.hits(word), hits, "{word}, by rows or pages");
+}
+
+#[test]
+fn lookups_agree_around_starts_and_ends(rt: HostRuntime) -> Result<(), Fail> {
+    let alloc = rt.alloc();
+    for behind in [0, 8, 1] {
+        let live = lives(alloc, ranges(alloc, behind)?.as_str())?;
+        assert_eq!(rt; live.blocks().len(), 400);
+        let sorted = Sorted::new(&live, Reading::interior());
+        let paged = Paged::new(alloc, &live, Reading::interior())?;
+        for block in live.blocks() {
+            let end = block.start + block.size;
+            for word in [
+                block.start - 1,
+                block.start,
+                block.start + 1,
+                end - 1,
+                end,
+                end + 1,
+            ] {
+                check_word(&rt, &live, &sorted, &paged, word);
+            }
+            check_word(&rt, &live, &sorted, &paged, block.start - 0x400);
+            check_word(&rt, &live, &sorted, &paged, end + 0x400);
+        }
+    }
+    Ok(())
+}
+
+#[test]
+fn one_start_in_many_is_no_multiple_of_16(rt: HostRuntime) -> Result<(), Fail> {
+    let alloc = rt.alloc();
+    let mut log = String::new(alloc);
+    add(&mut log, 0x10000, 32, 50)?;
+    writeln!(log, "+ 0x10fff 0x1")?;
+    let live = lives(alloc, log.as_str())?;
+    let paged = Paged::new(alloc, &live, Reading::interior())?;
+    let sorted = Sorted::new(&live, Reading::interior());
+    for word in 0xfff0..=0x11010 {
+        check_word(&rt, &live, &sorted, &paged, word);
+    }
+    Ok(())
+}
+
+#[test]
+fn the_first_and_the_last_addresses(rt: HostRuntime) -> Result<(), Fail> {
+    let alloc = rt.alloc();
+    let live = lives(
+        alloc,
+        "+ 0x10 0x3f0\n+ 0x400 0\n+ 0x10100 0x1000000000000000\n+ 0xfffffffffffffff0 0xf\n",
+    )?;
+    let paged = Paged::new(alloc, &live, Reading::interior())?;
+    let cases = [
+        (0, Hits::Zero),
+        (0xf, Hits::Zero),
+        (0x10, Hits::One(0)),
+        (0x3ff, Hits::One(0)),
+        (0x400, Hits::Two(0, 1)),
+        (0x401, Hits::Zero),
+        (0x100ff, Hits::Zero),
+        (0x10100, Hits::One(2)),
+        (0x0800_0000_0000_0000, Hits::One(2)),
+        (0x1000_0000_0001_0100, Hits::One(2)),
+        (0x1000_0000_0001_0101, Hits::Zero),
+        (0xffff_ffff_ffff_ffef, Hits::Zero),
+        (0xffff_ffff_ffff_fff0, Hits::One(3)),
+        (u64::MAX, Hits::One(3)),
+    ];
+    for (word, hits) in cases {
+        assert_eq!(rt; paged.hits(word), hits, "{word}");
+    }
+    Ok(())
+}
+
+/// Over a thousand runs of rows and over a thousand rows of one run, and as many pages.
+#[test]
+fn thousands_of_rows_and_pages(rt: HostRuntime) -> Result<(), Fail> {
+    let alloc = rt.alloc();
+    for start in [0x10000, 0x10008] {
+        for distance in [0x410, 0x2_0000] {
+            let mut log = String::new(alloc);
+            add(&mut log, start, distance, 3000)?;
+            let live = lives(alloc, log.as_str())?;
+            let paged = Paged::new(alloc, &live, Reading::interior())?;
+            for i in 0..3000u64 {
+                let number = i as usize;
+                assert_eq!(rt; paged.hits(start + distance * i), Hits::One(number), "{i}");
+                assert_eq!(rt; paged.hits(start + distance * i - 1), Hits::Zero, "{i}");
+            }
+        }
+    }
+    Ok(())
+}

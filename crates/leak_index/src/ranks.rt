@@ -1,0 +1,178 @@
+//! Rows of addresses, with a bit for each place in which a block starts.
+ghost use Rattle.std.specs.Prelude.{◌≡◌, ◌+◌, ◌%◌, ◌^◌, ◌<◌, ◌≤◌, length, count_ones, IfOk, IsTrue};
+ghost use Rattle.leak_blocks.specs.Span.{AreDisjoint};
+ghost use Rattle.leak_index.specs.Bounds.{IsCountUpTo};
+ghost use Rattle.leak_index.specs.Ranks.{AreAligned, IsMadeTo, IsRanked, end_of, row_of, start_of};
+
+use crate::directory::count_pages;
+use leak_blocks::Block;
+use std::alloc::{AllocError, Global};
+
+/// How many addresses a row has.
+const ROW: u64 = 1024;
+/// How many addresses a granule has. A row has 64 granules, and no two blocks start in one.
+const GRANULE: u64 = 16;
+/// How many rows in which no block starts may stand side by side.
+const GAP: u64 = 64;
+
+/// What a row says of the blocks that start in it.
+#[derive(Clone, Copy)]
+pub(crate) struct Row {
+    /// A bit for each granule in which a block starts.
+    bits: u64,
+    /// How many blocks start before the row.
+    first: usize,
+}
+
+/// Rows of addresses in runs. The rows of a run follow one another.
+///
+/// There are about as many rows as blocks at most, and no more runs than blocks.
+#[derive(Drop)]
+pub(crate) struct Ranks {
+    /// The number of each run's first row.
+    numbers: Vec<u64>,
+    /// Where in the list of rows each run begins.
+    places: Vec<usize>,
+    rows: Vec<Row>,
+    /// The number of the row after the last.
+    next: u64,
+}
+
+impl Ranks {
+    /// The rows for blocks by ascending start.
+    pub(crate) fn new(alloc: Global, blocks: &[Block]) -> Result<Ranks, AllocError>
+        requires disjoint { AreDisjoint blocks.now }
+        requires aligned { AreAligned blocks.now }
+        ensures { IfOk result (λ ranks. IsRanked blocks.now ranks) }
+    {
+        let mut ranks = Ranks {
+            numbers: Vec::new(alloc),
+            places: Vec::new(alloc),
+            rows: Vec::new(alloc),
+            next: 0,
+        };
+        for number in 0..blocks.len() {
+            ranks.add(blocks, number)?;
+        }
+        Ok(ranks)
+    }
+
+    /// Takes in the block with the number, the first that isn't yet.
+    fn add(&mut self, blocks: &[Block], number: usize) -> Result<(), AllocError>
+        requires disjoint { AreDisjoint blocks.now }
+        requires aligned { AreAligned blocks.now }
+        requires inside { number < length blocks.now }
+        requires made { IsMadeTo blocks.now number self.old }
+        requires rest { self.old.next ≤ row_of blocks.now number + 1 }
+        ensures { IfOk result (λ unit. IsMadeTo blocks.now (number + 1) self.new × (self.new.next ≡ row_of blocks.now number + 1)) }
+    {
+        self.reach(blocks, number)?;
+        let start = blocks[number].start;
+        let last = self.rows.len() - 1;
+        self.rows[last].bits += 1 << (start / GRANULE % 64);
+        Ok(())
+    }
+
+    /// Makes the row in which the block with the number starts, unless it is there. It is in the last run if that isn't far.
+    fn reach(&mut self, blocks: &[Block], number: usize) -> Result<(), AllocError>
+        requires inside { number < length blocks.now }
+        requires made { IsMadeTo blocks.now number self.old }
+        requires rest { self.old.next ≤ row_of blocks.now number + 1 }
+        ensures { IfOk result (λ unit. IsMadeTo blocks.now number self.new × (self.new.next ≡ row_of blocks.now number + 1)) }
+    {
+        let row = blocks[number].start / ROW;
+        if row < self.next {
+            return Ok(());
+        }
+        let is_near = row - self.next <= GAP && self.rows.len() <= number;
+        if self.numbers.is_empty() || !is_near {
+            return self.open(blocks, row, number);
+        }
+        while self.next <= row {
+            self.pad(blocks, number)?;
+        }
+        Ok(())
+    }
+
+    /// Makes one more row of the last run. So many blocks start before it.
+    fn pad(&mut self, blocks: &[Block], first: usize) -> Result<(), AllocError>
+        requires made { IsMadeTo blocks.now first self.old }
+        requires some { 0 < length self.old.numbers.items }
+        requires fits { self.old.next + 1 < 2 ^ 64 }
+        ensures made { IfOk result (λ unit. IsMadeTo blocks.now first self.new) }
+        ensures some { IfOk result (λ unit. 0 < length self.new.numbers.items) }
+        ensures next { IfOk result (λ unit. self.new.next ≡ self.old.next + 1) }
+    {
+        self.rows.push(Row { bits: 0, first })?;
+        self.next += 1;
+        Ok(())
+    }
+
+    /// Begins a run with the row with the number. So many blocks start before it.
+    fn open(&mut self, blocks: &[Block], row: u64, first: usize) -> Result<(), AllocError>
+        requires made { IsMadeTo blocks.now first self.old }
+        requires rest { self.old.next ≤ row }
+        requires fits { row + 1 < 2 ^ 64 }
+        ensures { IfOk result (λ unit. IsMadeTo blocks.now first self.new × (self.new.next ≡ row + 1)) }
+    {
+        self.numbers.push(row)?;
+        self.places.push(self.rows.len())?;
+        self.rows.push(Row { bits: 0, first })?;
+        self.next = row + 1;
+        Ok(())
+    }
+
+    /// How many of the blocks begin at the address or before it.
+    #[inline(always)]
+    pub(crate) fn count_up_to(&self, blocks: &[Block], address: u64) -> usize
+        requires ranked { IsRanked blocks.now self.now }
+        requires aligned { AreAligned blocks.now }
+        ensures { IsCountUpTo blocks.now address result }
+    {
+        let row = address / ROW;
+        let runs = count_pages(self.numbers.as_slice(), row);
+        if runs == 0 {
+            return 0;
+        }
+        let run = runs - 1;
+        let place = self.places[run];
+        let end = self.end(run);
+        let distance = row - self.numbers[run];
+        if distance < (end - place) as u64 {
+            let row = self.rows[place + distance as usize];
+            return row.first + ones_below(row.bits, address / GRANULE % 64 + 1);
+        }
+        let row = self.rows[end - 1];
+        row.first + ones_below(row.bits, 64)
+    }
+
+    /// Where the run ends in the list of rows.
+    #[inline(always)]
+    fn end(&self, run: usize) -> usize
+        requires inside { run < length self.now.numbers.items }
+        requires paired { length self.now.places.items ≡ length self.now.numbers.items }
+        ensures { result ≡ end_of self.now.places.items (length self.now.rows.items) run }
+    {
+        if run + 1 == self.places.len() {
+            return self.rows.len();
+        }
+        self.places[run + 1]
+    }
+}
+
+/// How many of the lowest bits are set, of which there are so many.
+#[inline(always)]
+fn ones_below(bits: u64, many: u64) -> usize
+    requires some { 0 < many }
+    requires within { many ≤ 64 }
+    ensures { result ≡ count_ones (bits % 2 ^ many) }
+{
+    (bits << (64 - many)).count_ones() as usize
+}
+
+/// Whether each block starts at a multiple of 16.
+pub(crate) fn are_aligned(blocks: &[Block]) -> bool
+    ensures { IsTrue result → AreAligned blocks.now }
+{
+    blocks.iter().all(|block| block.start % GRANULE == 0)
+}
