@@ -1,3 +1,4 @@
+pub mod Complete
 pub mod Items
 pub mod Lines
 pub mod Listing

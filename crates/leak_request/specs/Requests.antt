@@ -1,17 +1,22 @@
 -- What a command line asks for, by the subcommand that clap met and the rows that it found there. Own rule.
-use Rattle.std.specs.Prelude.{◌≡◌, ◌≤◌, ◌⊎◌, ℕ, Bool, List, [], Option, Some, None, map, codes, String, string_bytes, IfSome, IsSome, IsSomeAnd, if◌then◌else◌}
+use Rattle.std.specs.Prelude.{◌≡◌, ◌≤◌, ◌<◌, ◌^◌, ◌⊎◌, ℕ, Bool, List, [], Option, Some, None, map, codes, String, string_bytes, IfSome, IsSome, IsSomeAnd, if◌then◌else◌}
 use Rattle.std.specs.List.{All}
 use Rattle.std.specs.Str.Parse.{IsNumeral, digits_value, without_leading_plus}
-use Rattle.clap.specs.Words.{Row, Text, first_of, one_of, subcommand_of}
+use Rattle.clap.specs.Words.{Row, Text, first_of, found_of, one_of, rows_of, subcommand_of}
+use Rattle.clap.specs.declared.parser.matches.ArgMatches.{ArgMatches}
 use Rattle.clap.specs.Faults.{fault_of}
 use Rattle.leak_index.specs.Readings.{listed_by}
 use Rattle.leak_pool.specs.Plan.{IsBetween, Numbers}
 use Rattle.leak_request.specs.CommandLine.{command_line, name_of, path_ids}
-use Rattle.leak_request.specs.Displacements.{displace_fault_of, displacements_of}
+use Rattle.leak_request.specs.Displacements.{IsListed, displace_fault_of}
 use Rattle.leak_request.specs.declared.fault.DisplaceFault.{DisplaceFault}
 use Rattle.leak_request.specs.declared.fault.UsageFault.{UsageFault}
 use Rattle.leak_request.specs.declared.fault.UsageFault.TheVariants as fault
 use Rattle.leak_request.specs.declared.options.Request.{Request}
+
+-- the rows that clap found for a subcommand
+abbrev pub found_rows : ArgMatches → List Row
+found_rows found = rows_of (found_of found)
 
 -- the text is the number in decimal, as std reads it
 abbrev pub Writes : ℕ → Text → Type 0
@@ -21,10 +26,24 @@ Writes n text = IsNumeral 10 (without_leading_plus text) × (n ≡ digits_value 
 abbrev pub IsNumberAt : List Row → Text → ℕ → Type 0
 IsNumberAt rows id n = IsSomeAnd (one_of id rows) (Writes n)
 
+-- the value of the option is no number
+abbrev pub LacksNumberAt : List Row → Text → Type 0
+LacksNumberAt rows id = (n : ℕ) → n < 2 ^ 32 → IsNumberAt rows id n → ⊥
+
+-- the numbers of a plan
+pub record AreNumbersAt (rows : List Row) (n m k : ℕ) : Type 0 where
+  pub workers : IsNumberAt rows (codes "workers") n
+  pub piece : IsNumberAt rows (codes "piece") m
+  pub stack : IsNumberAt rows (codes "stack") k
+
+-- the list of displacements
+abbrev pub list_in : List Row → Option Text
+list_in rows = first_of (codes "displace") rows
+
 -- the text lists the displacements, and without a text all distances count
 abbrev pub IsListedBy : Option Text → Option (List ℕ) → Type 0
 IsListedBy None listed = listed ≡ None
-IsListedBy (Some text) listed = (displace_fault_of text ≡ None) × (listed ≡ Some (displacements_of text))
+IsListedBy (Some text) listed = IsListed text listed
 
 -- how many files a search reads
 abbrev pub file_count : Bool → ℕ
@@ -38,10 +57,8 @@ AreAt rows ids texts = map (λ text. Some (string_bytes text)) texts ≡ map (λ
 pub record IsRequest (name : Text) (rows : List Row) (r : Request) : Type 0 where
   pub two : name ≡ name_of r.options.two
   pub paths : AreAt rows (path_ids r.options.two) r.paths.items
-  pub workers : IsNumberAt rows (codes "workers") r.options.plan.workers
-  pub piece : IsNumberAt rows (codes "piece") r.options.plan.piece
-  pub stack : IsNumberAt rows (codes "stack") r.options.plan.stack
-  pub reading : IsListedBy (first_of (codes "displace") rows) (listed_by r.options.reading)
+  pub numbers : AreNumbersAt rows r.options.plan.workers r.options.plan.piece r.options.plan.stack
+  pub reading : IsListedBy (list_in rows) (listed_by r.options.reading)
   pub core_limit : r.options.core_limit ≡ 68719476736
   pub log_limit : r.options.log_limit ≡ 4294967296
 
@@ -52,7 +69,7 @@ LacksPath rows two = All (λ id. IsSome (first_of id rows)) (path_ids two) → �
 -- no numbers within the bounds of a plan are there
 abbrev pub LacksNumber : List Row → Type 0
 LacksNumber rows = (n : Numbers) → IsBetween 1 64 n.workers → IsBetween 1 65536 n.piece → n.stack ≤ 65536
-    → IsNumberAt rows (codes "workers") n.workers → IsNumberAt rows (codes "piece") n.piece → IsNumberAt rows (codes "stack") n.stack → ⊥
+    → AreNumbersAt rows n.workers n.piece n.stack → ⊥
 
 -- the subcommand is neither search, or a path or a number that it takes isn't there
 abbrev pub Lacks : Text → List Row → Type 0
@@ -67,11 +84,12 @@ IsBadBy reason fault.NoMemory = Unit {0}
 
 -- the list of displacements is refused for this
 abbrev pub IsListFaultAt : List Row → DisplaceFault → Type 0
-IsListFaultAt rows f = IsSomeAnd (first_of (codes "displace") rows) (λ text. displace_fault_of text ≡ Some f)
+IsListFaultAt rows f = IsSomeAnd (list_in rows) (λ text. displace_fault_of text ≡ Some f)
 
--- why what clap found is no request: something isn't there, or the list is refused
+-- Why what clap found is no request: something isn't there, which is answered first, or all else is there and the
+-- list is refused.
 abbrev pub IsRefusedAt : Text → List Row → UsageFault → Type 0
-IsRefusedAt name rows (fault.Displace f) = IsListFaultAt rows f
+IsRefusedAt name rows (fault.Displace f) = (Lacks name rows → ⊥) × IsListFaultAt rows f
 IsRefusedAt name rows f = IsBadBy (Lacks name rows) f
 
 -- clap takes the words, and the request is that of the subcommand that they name

@@ -1,11 +1,13 @@
 //! From a command line to what it asks for.
 
-ghost use Rattle.std.specs.Prelude.{◌≡◌, ◌≢◌, ◌<◌, IfOk, IfErr, IfNone, IfSome, OnOk, ℕ, ◌^◌, Bool, codes, length, map, option_map, string_bytes};
-ghost use Rattle.clap.specs.Words.{first_of, found_of, kind_of, rows_of};
+ghost use Rattle.std.specs.Prelude.{◌≡◌, ◌≢◌, ◌<◌, IfOk, IfErr, IfNone, IfSome, OnOk, Bool};
+ghost use Rattle.std.specs.Prelude.{length, map, option_map, string_bytes};
+ghost use Rattle.clap.specs.Words.{first_of, kind_of};
 ghost use Rattle.leak_index.specs.Readings.{listed_by};
 ghost use Rattle.leak_request.specs.CommandLine.{name_of, path_ids};
-ghost use Rattle.leak_request.specs.Requests.{AreAt, IsBadBy, IsListFaultAt, IsListedBy, IsNumberAt, IsRefusedAt, LacksNumber, LacksPath};
-ghost use Rattle.leak_request.specs.Requests.{IsRequest, IsRequestOf, IsUsageFaultOf, file_count};
+ghost use Rattle.leak_request.specs.Requests.{AreAt, AreNumbersAt, IsBadBy, IsListFaultAt, IsListedBy};
+ghost use Rattle.leak_request.specs.Requests.{IsNumberAt, IsRefusedAt, LacksNumber, LacksNumberAt, LacksPath};
+ghost use Rattle.leak_request.specs.Requests.{IsRequest, IsRequestOf, IsUsageFaultOf, file_count, found_rows, list_in};
 
 use crate::command_line::command;
 use crate::displacements::read_displace;
@@ -25,7 +27,8 @@ static TWO: [&str; 4] = ["core1", "log1", "core2", "log2"];
 
 /// Reads the words of a command line, which begin with the program's name.
 ///
-/// The text of a refusal, or of the help that was asked for, is clap's. Own rule: help is no request.
+/// The text of a refusal, or of the help that was asked for, is clap's. A list of displacements is refused only where
+/// nothing else is missing. Own rule: help is no request.
 pub fn request(alloc: Global, words: &[String]) -> Result<Request, UsageFault>
     requires { 0 < length words.now }
     ensures ok { IfOk result (IsRequestOf (map string_bytes words.now)) }
@@ -45,8 +48,8 @@ pub fn request(alloc: Global, words: &[String]) -> Result<Request, UsageFault>
 
 /// The request of the subcommand with the name, where clap found this for it.
 fn request_of(alloc: Global, name: &str, found: &ArgMatches) -> Result<Request, UsageFault>
-    ensures ok { IfOk result (IsRequest name.now (rows_of (found_of found.now))) }
-    ensures refused { IfErr result (IsRefusedAt name.now (rows_of (found_of found.now))) }
+    ensures ok { IfOk result (IsRequest name.now (found_rows found.now)) }
+    ensures refused { IfErr result (IsRefusedAt name.now (found_rows found.now)) }
 {
     let Some(two) = is_two(name) else {
         return Err(bad_arguments(alloc));
@@ -89,8 +92,8 @@ fn ids_of(two: bool) -> &'static [&'static str]
 }
 
 fn paths(alloc: Global, found: &ArgMatches, two: bool) -> Result<Vec<String>, UsageFault>
-    ensures ok { IfOk result (λ paths. AreAt (rows_of (found_of found.now)) (path_ids two) paths.items) }
-    ensures refused { IfErr result (IsBadBy (LacksPath (rows_of (found_of found.now)) two)) }
+    ensures ok { IfOk result (λ paths. AreAt (found_rows found.now) (path_ids two) paths.items) }
+    ensures refused { IfErr result (IsBadBy (LacksPath (found_rows found.now) two)) }
 {
     let mut paths = Vec::new(alloc);
     for id in ids_of(two) {
@@ -103,10 +106,8 @@ fn paths(alloc: Global, found: &ArgMatches, two: bool) -> Result<Vec<String>, Us
 }
 
 fn plan(alloc: Global, found: &ArgMatches) -> Result<Plan, UsageFault>
-    ensures workers { IfOk result (λ plan. IsNumberAt (rows_of (found_of found.now)) (codes "workers") plan.workers) }
-    ensures piece { IfOk result (λ plan. IsNumberAt (rows_of (found_of found.now)) (codes "piece") plan.piece) }
-    ensures stack { IfOk result (λ plan. IsNumberAt (rows_of (found_of found.now)) (codes "stack") plan.stack) }
-    ensures refused { IfErr result (IsBadBy (LacksNumber (rows_of (found_of found.now)))) }
+    ensures ok { IfOk result (λ p. AreNumbersAt (found_rows found.now) p.workers p.piece p.stack) }
+    ensures refused { IfErr result (IsBadBy (LacksNumber (found_rows found.now))) }
 {
     let Some(workers) = number(found, "workers") else {
         return Err(bad_arguments(alloc));
@@ -125,22 +126,22 @@ fn plan(alloc: Global, found: &ArgMatches) -> Result<Plan, UsageFault>
 
 /// The value of the argument, as text.
 fn value<'a>(found: &ArgMatches<'a>, id: &str) -> Option<&'a str>
-    ensures { option_map (λ text. text.now) result ≡ first_of id.now (rows_of (found_of found.now)) }
+    ensures { option_map (λ text. text.now) result ≡ first_of id.now (found_rows found.now) }
 {
     found.get_str(id)
 }
 
 /// The value of the option, as a number.
 fn number(found: &ArgMatches, id: &str) -> Option<u32>
-    ensures some { IfSome result (IsNumberAt (rows_of (found_of found.now)) id.now) }
-    ensures none { IfNone result ((n : ℕ) → n < 2 ^ 32 → IsNumberAt (rows_of (found_of found.now)) id.now n → ⊥) }
+    ensures some { IfSome result (IsNumberAt (found_rows found.now) id.now) }
+    ensures none { IfNone result (LacksNumberAt (found_rows found.now) id.now) }
 {
     found.get_one(id)
 }
 
 fn reading(found: &ArgMatches) -> Result<Reading, DisplaceFault>
-    ensures ok { IfOk result (λ reading. IsListedBy (first_of (codes "displace") (rows_of (found_of found.now))) (listed_by reading)) }
-    ensures refused { IfErr result (IsListFaultAt (rows_of (found_of found.now))) }
+    ensures ok { IfOk result (λ reading. IsListedBy (list_in (found_rows found.now)) (listed_by reading)) }
+    ensures refused { IfErr result (IsListFaultAt (found_rows found.now)) }
 {
     match value(found, "displace") {
         Some(list) => read_displace(list.as_bytes()),
@@ -148,7 +149,7 @@ fn reading(found: &ArgMatches) -> Result<Reading, DisplaceFault>
     }
 }
 
-/// What is answered where clap takes the words, but what they have to give isn't there.
+/// The refusal of words that clap accepts although a subcommand, a path or a number is missing.
 fn bad_arguments(alloc: Global) -> UsageFault
     ensures { IsBadBy (Unit {0}) result }
 {
@@ -158,7 +159,7 @@ fn bad_arguments(alloc: Global) -> UsageFault
     }
 }
 
-/// The text of an error of clap's, which asks for help or says what is wrong with the words.
+/// The text of clap's error: the help that was asked for, or what is wrong with the words.
 fn text_of(alloc: Global, error: &Error) -> Result<String, AllocError>
     ensures { OnOk result (kind_of error.now ≢ ErrorKind.OutOfMemory) }
 {

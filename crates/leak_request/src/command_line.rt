@@ -12,26 +12,26 @@ use std::alloc::{AllocError, Global};
 const CORE: &str = "An x86-64 ELF core, as the kernel or gcore writes it";
 
 /// What help says of a log.
-const LOG: &str = "The log that glibc's mtrace wrote of the process";
+const LOG: &str = "The allocation log of the process, as glibc's mtrace writes it";
 
 /// What help says of the first core of two.
 const FIRST_CORE: &str = "An x86-64 ELF core of the process, as the kernel or gcore writes it";
 
 /// What help says of the first log of two.
-const FIRST_LOG: &str = "The log that glibc's mtrace had written by then";
+const FIRST_LOG: &str = "Its allocation log when that core was taken, as glibc's mtrace writes it";
 
 /// What help says of the second core.
 const SECOND_CORE: &str = "A later core of the same process";
 
 /// What help says of the second log.
-const SECOND_LOG: &str = "Its log by then, which begins with LOG1";
+const SECOND_LOG: &str = "Its log when that core was taken; it begins with LOG1";
 
 /// `leak_find`, with a subcommand for the search of one core and one for that of two.
 pub(crate) fn command<'a>(alloc: Global) -> Result<Command<'a>, AllocError>
     ensures { IfOk result (λ c. app_of c ≡ command_line) }
 {
     let command = Command::new(alloc, "leak_find")
-        .about("Lists the blocks of a dead process to which no chain of words leads")
+        .about("Reports the allocated blocks of a dead process that no chain of pointers reaches")
         .subcommand_required(true);
     command.subcommand(one(alloc)?)?.subcommand(two(alloc)?)
 }
@@ -52,7 +52,9 @@ fn two<'a>(alloc: Global) -> Result<Command<'a>, AllocError>
     ensures local { IfOk result (λ c. has_globals c ≡ false) }
 {
     let command = Command::new(alloc, "two")
-        .about("Searches a later core and its log, from what an earlier core and its log say")
+        .about(
+            "Searches a later core and its log, given an earlier core and log of the same process",
+        )
         .arg(path(alloc, "core1", "CORE1", FIRST_CORE))?
         .arg(path(alloc, "log1", "LOG1", FIRST_LOG))?
         .arg(path(alloc, "core2", "CORE2", SECOND_CORE))?
@@ -90,7 +92,7 @@ fn workers<'a>(alloc: Global) -> Arg<'a>
         .value_name("N")
         .default_value("4")
         .value_parser(clap::value_parser!(u32).range(1..=64))
-        .help("How many worker threads mark, 1 to 64")
+        .help("Number of worker threads, 1 to 64")
 }
 
 fn piece<'a>(alloc: Global) -> Arg<'a>
@@ -102,7 +104,7 @@ fn piece<'a>(alloc: Global) -> Arg<'a>
         .value_name("N")
         .default_value("512")
         .value_parser(clap::value_parser!(u32).range(1..=65536))
-        .help("How many words of the roots a worker takes at a time, 1 to 65536")
+        .help("Number of root words that a worker takes at a time, 1 to 65536")
 }
 
 fn stack<'a>(alloc: Global) -> Arg<'a>
@@ -114,7 +116,7 @@ fn stack<'a>(alloc: Global) -> Arg<'a>
         .value_name("N")
         .default_value("1024")
         .value_parser(clap::value_parser!(u32).range(0..=65536))
-        .help("How many blocks a worker's stack holds, 0 to 65536")
+        .help("Number of blocks that a worker's stack holds, 0 to 65536")
 }
 
 fn displace<'a>(alloc: Global) -> Arg<'a>
@@ -124,7 +126,5 @@ fn displace<'a>(alloc: Global) -> Arg<'a>
     Arg::new(alloc, "displace")
         .long("displace")
         .value_name("LIST")
-        .help(
-            "At which distances from its start, in bytes, a block is led to, as 8,16. Without it: at all",
-        )
+        .help("Byte offsets at which a pointer keeps a block, besides 0, as 8,16 [default: any]")
 }

@@ -1,9 +1,9 @@
 //! The list of `--displace`.
 
-ghost use Rattle.std.specs.Prelude.{◌≡◌, ◌∷◌, ◌<◌, ◌+◌, ◌-◌, ◌*◌, ◌^◌, IsTrue, None, Some, SomeIff, IfOk, IfErr, IfSome, length, ◌==◌, position};
+ghost use Rattle.std.specs.Prelude.{◌≡◌, ◌∷◌, ◌<◌, IsTrue, Some, SomeIff, IfOk, IfErr, IfSome, length, ◌==◌, position};
 ghost use Rattle.leak_index.specs.Readings.{listed_by};
-ghost use Rattle.leak_request.specs.Displacements.{decimal_value, is_decimal, is_number, items_behind, items_of};
-ghost use Rattle.leak_request.specs.Displacements.{displacements_of, displace_fault_of};
+ghost use Rattle.leak_request.specs.Displacements.{IsListed, IsNextDigit, decimal_value, is_number};
+ghost use Rattle.leak_request.specs.Displacements.{displace_fault_of, items_after, items_of, next_value};
 
 use crate::fault::DisplaceFault;
 use leak_index::Reading;
@@ -18,14 +18,14 @@ const MOST_DIGITS: usize = 20;
 ///
 /// Own rule: a number has 1 to 20 digits, so zeros may lead. An empty text is one empty item.
 pub fn read_displace(text: &[u8]) -> Result<Reading, DisplaceFault>
-    ensures ok { IfOk result (λ reading. (displace_fault_of text.now ≡ None) × (listed_by reading ≡ Some (displacements_of text.now))) }
+    ensures ok { IfOk result (λ reading. IsListed text.now (listed_by reading)) }
     ensures refused { IfErr result (λ fault. displace_fault_of text.now ≡ Some fault) }
 {
     let mut values = [0; KEPT];
     let mut count = 0;
     let mut rest = Some(text);
     'items: while let Some(left) = rest {
-        let (item, behind) = cut(left);
+        let (item, after) = cut(left);
         let Some(value) = number(item) else {
             return Err(DisplaceFault::Number(count));
         };
@@ -33,7 +33,7 @@ pub fn read_displace(text: &[u8]) -> Result<Reading, DisplaceFault>
             values[count] = value;
         }
         count += 1;
-        rest = behind;
+        rest = after;
     }
     match Reading::displaced(&values[..count.min(KEPT)]) {
         Ok(reading) => Ok(reading),
@@ -41,10 +41,10 @@ pub fn read_displace(text: &[u8]) -> Result<Reading, DisplaceFault>
     }
 }
 
-/// The first item, and what stands behind its comma, if there is one.
+/// The first item, and what follows its comma, if there is one.
 fn cut(text: &[u8]) -> (&[u8], Option<&[u8]>)
-    ensures items { items_of text.now ≡ result.0.now ∷ items_behind result.1 }
-    ensures shorter { IfSome result.1 (λ behind. length behind.now < length text.now) }
+    ensures items { items_of text.now ≡ result.0.now ∷ items_after result.1 }
+    ensures shorter { IfSome result.1 (λ after. length after.now < length text.now) }
 {
     match comma_in(text) {
         Some(comma) => (&text[..comma], Some(&text[comma + 1..])),
@@ -73,9 +73,9 @@ fn number(item: &[u8]) -> Option<u64>
     Some(value)
 }
 
-/// The number with one digit more behind its others, where it is under 2^64.
+/// The number with one more digit at its end, where it is under 2^64.
 fn with_digit(value: u64, byte: u8) -> Option<u64>
-    ensures { SomeIff result (IsTrue (is_decimal byte) × (10 * value + (byte - 48) < 2 ^ 64)) (10 * value + (byte - 48)) }
+    ensures { SomeIff result (IsNextDigit value byte) (next_value value byte) }
 {
     if !byte.is_ascii_digit() {
         return None;

@@ -10,8 +10,7 @@ use thiserror::Error;
 /// Why the list of `--displace` is refused, in the order in which the reasons are tried.
 #[derive(Clone, Copy, Debug, PartialEq, Eq, Error)]
 pub enum DisplaceFault {
-    /// The item with the number is not 1 to 20 decimal digits with a value under 2^64, and the first such. Items
-    /// count from 0.
+    /// The item with the number, from 0, is the first that is not 1 to 20 decimal digits with a value under 2^64.
     #[error("--displace: item {0} is not a number")]
     Number(usize),
     /// The numbers are no reading.
@@ -25,10 +24,10 @@ pub enum UsageFault {
     /// The words are refused, or ask for help. The text is to be printed alone.
     #[error("{0}")]
     Words(String),
-    /// The list of displacements is refused.
+    /// The list of displacements is refused, and nothing else is missing.
     #[error("{0}")]
     Displace(DisplaceFault),
-    /// A growth of memory was refused.
+    /// An allocation failed.
     #[error("out of memory")]
     NoMemory,
 }

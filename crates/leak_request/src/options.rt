@@ -3,10 +3,10 @@
 use leak_index::Reading;
 use leak_pool::Plan;
 
-/// How many bytes a core has at most that the program reads: 64 GiB.
+/// The largest core that the program reads, in bytes: 64 GiB.
 pub const CORE_LIMIT: u64 = 68_719_476_736;
 
-/// How many bytes a log has at most that the program reads: 4 GiB.
+/// The largest log that the program reads, in bytes: 4 GiB.
 pub const LOG_LIMIT: u64 = 4_294_967_296;
 
 /// How a search is made.
@@ -14,20 +14,20 @@ pub const LOG_LIMIT: u64 = 4_294_967_296;
 pub struct Options {
     /// Whether there are two cores and two logs.
     pub two: bool,
-    /// How far from a block's start a word may point to keep it.
+    /// The distances from a block's start at which a word keeps the block.
     pub reading: Reading,
-    /// How the marking is shared out.
+    /// How marking is shared among the workers.
     pub plan: Plan,
-    /// How many bytes a core may have.
+    /// The largest core that is read, in bytes.
     pub core_limit: u64,
-    /// How many bytes a log may have.
+    /// The largest log that is read, in bytes.
     pub log_limit: u64,
 }
 
 /// What a command line asks for.
 #[derive(Debug, Drop)]
 pub struct Request {
-    /// The paths of the files: a core and its log, or the first core and its log, and then the second core and its log.
+    /// The paths of the files in order: a core and its log; with two cores, the second core and its log follow.
     pub paths: Vec<String>,
     /// How they are searched.
     pub options: Options,

@@ -5,7 +5,7 @@ use std::alloc::AllocError;
 use std::process::Abort;
 use std::test::*;
 
-/// What is answered to the words, which stand between spaces, behind the program's name.
+/// The answer to the words, which are separated by spaces and follow the program's name.
 fn asked<R: Abort + AllocGlobal>(
     rt: &R,
     line: &str,

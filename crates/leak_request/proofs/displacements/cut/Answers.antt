@@ -10,7 +10,7 @@ returns-in-Some-clause-items c =
     let at = first_item_at text c.in-Some.comma c.in-Some.ensures in
     let rest = drop (c.in-Some.comma + 1) text in
     let whole : take (length text - (c.in-Some.comma + 1)) rest ≡ rest = take_all _ rest (simp length-drop (omega arith)) in
-    at.1 ∙ ap (λ behind. take c.in-Some.comma text ∷ items_of behind) (sym whole)
+    at.1 ∙ ap (λ after. take c.in-Some.comma text ∷ items_of after) (sym whole)
 
 pub returns-in-None-clause-items : goal.returns-in-None-clause-items
 returns-in-None-clause-items c = no_comma c.args.text.now c.in-None.ensures
