@@ -1,0 +1,110 @@
+/* The blocks of a table, and those that an earlier log leaves live. */
+#define _GNU_SOURCE
+#include <stdio.h>
+#include <stdlib.h>
+#include <string.h>
+
+#include "log.h"
+
+int by_stamp(const void *a, const void *b)
+{
+    const struct block *x = a, *y = b;
+
+    return (x->stamp > y->stamp) - (x->stamp < y->stamp);
+}
+
+int by_start(const void *a, const void *b)
+{
+    const struct block *x = a, *y = b;
+
+    return x->start != y->start ? (x->start < y->start ? -1 : 1) : by_stamp(a, b);
+}
+
+/* Sorts by start, and keeps of the blocks with one start the newest, where it is one (its size is not 0 or
+ * `even_empty` is set). Gives how many are dropped. */
+static size_t keep_newest(struct blocks *blocks, int even_empty)
+{
+    size_t left = 0, count = blocks->count;
+    struct block *list = blocks->list;
+
+    qsort(list, count, sizeof *list, by_start);
+    for (size_t i = 0; i < count; i++)
+        if ((i + 1 == count || list[i + 1].start != list[i].start) && (list[i].size || even_empty))
+            list[left++] = list[i];
+    blocks->count = left;
+    return count - left;
+}
+
+static const struct table_head *head_of(struct file file, const struct core *core)
+{
+    const struct table_head *head = (const void *)file.bytes;
+
+    if (file.size < HEAD_BYTES || memcmp(head->magic, TABLE_MAGIC, sizeof head->magic))
+        fail(file.path, "not a table of leak_trace");
+    if (head->depth < 1 || head->depth > MAX_DEPTH
+        || head->used > (file.size - HEAD_BYTES) / 8 / (ENTRY_CALLERS + head->depth))
+        fail(file.path, "the table is cut off");
+    for (size_t i = 0; i < core->part_count; i++)
+        if (core->parts[i].start == head->base && !core->parts[i].offset)
+            return head;
+    fail(file.path, "the table is not of this core's process");
+}
+
+struct blocks read_table(struct file file, const struct core *core)
+{
+    const struct table_head *head = head_of(file, core);
+    struct blocks blocks = { .depth = head->depth };
+    const uint64_t *word = (const uint64_t *)(file.bytes + HEAD_BYTES);
+
+    for (uint64_t i = 0; i < head->used; i++, word += ENTRY_CALLERS + head->depth) {
+        if (!word[ENTRY_START])
+            continue;
+        blocks.list = grown(blocks.list, blocks.count, sizeof *blocks.list);
+        blocks.list[blocks.count++] = (struct block){ ~word[ENTRY_START], ~word[ENTRY_SIZE], ~word[ENTRY_STAMP],
+                                                      word + ENTRY_CALLERS };
+        if (blocks.moment < ~word[ENTRY_STAMP])
+            blocks.moment = ~word[ENTRY_STAMP];
+    }
+    size_t dropped = keep_newest(&blocks, 1);
+    tell_undumped(core, head);
+    if (head->missed)
+        fprintf(stderr, "leak_log: %llu blocks found no place in the table: leaks among them are not named\n",
+                (unsigned long long)head->missed);
+    if (dropped)
+        fprintf(stderr, "leak_log: %zu blocks were freed behind leak_trace's back: others of those may be named "
+                "wrongly\n", dropped);
+    return blocks;
+}
+
+static int begins(const char *at, const char *stop, const char *with)
+{
+    return (size_t)(stop - at) > strlen(with) && !memcmp(at, with, strlen(with));
+}
+
+/* What an earlier log of leak_log leaves live: of each start the last line, where it allocates. */
+struct blocks read_log(struct file file)
+{
+    static const char head[] = "= leak_log moment 0x", came[] = "] + 0x", went[] = "- 0x";
+    const char *at = (const char *)file.bytes, *end = at + file.size, *stop;
+    struct blocks blocks = { 0 };
+    int is_ours = 0;
+
+    for (; at < end; at = stop + 1) {
+        if (!(stop = memchr(at, '\n', end - at)))
+            fail(file.path, "the log ends in the middle of a line");
+        const char *where = memrchr(at, ']', stop - at), *start = where ? where + strlen(came) : at + strlen(went);
+        if (begins(at, stop, head)) {
+            blocks.moment = strtoull(at + strlen(head), NULL, 16);
+            is_ours = 1;
+        } else if (where ? begins(where, stop, came) : begins(at, stop, went)) {
+            blocks.list = grown(blocks.list, blocks.count, sizeof *blocks.list);
+            blocks.list[blocks.count] = (struct block){ strtoull(start, NULL, 16), where != NULL, blocks.count, NULL };
+            blocks.count++;
+        } else
+            fail(file.path, "not a log of leak_log");
+    }
+    if (!is_ours)
+        fail(file.path, "not a log of leak_log");
+    keep_newest(&blocks, 0);
+    return blocks;
+}

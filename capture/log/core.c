@@ -1,0 +1,89 @@
+/* A core file: its segments, and where files were mapped (gABI, Program Header; Linux, NT_FILE). */
+#include <stdio.h>
+#include <stdlib.h>
+#include <string.h>
+
+#include "log.h"
+
+static int holds(struct file file, uint64_t at, uint64_t size)
+{
+    return at <= file.size && size <= file.size - at;
+}
+
+static int by_part(const void *a, const void *b)
+{
+    const struct part *x = a, *y = b;
+
+    return (x->start > y->start) - (x->start < y->start);
+}
+
+/* An NT_FILE note: count and page size, then start, end and page of each part, then the names. */
+static void read_parts(struct core *core, const uint8_t *note, uint64_t size)
+{
+    const uint64_t *word = (const uint64_t *)note;
+    const char *path, *end = (const char *)note + size;
+
+    if (size < 16 || word[0] > (size - 16) / 24)
+        return;
+    path = (const char *)(word + 2 + 3 * word[0]);
+    for (uint64_t i = 0; i < word[0] && path < end && memchr(path, 0, end - path); i++) {
+        const uint64_t *part = word + 2 + 3 * i;
+        core->parts = grown(core->parts, core->part_count, sizeof *core->parts);
+        core->parts[core->part_count++] = (struct part){ part[0], part[1], part[2] * word[1], 0, path, 0 };
+        path += strlen(path) + 1;
+    }
+}
+
+static void read_notes(struct core *core, struct file file, uint64_t at, uint64_t end)
+{
+    while (at <= end && end - at >= sizeof(Elf64_Nhdr)) {
+        const Elf64_Nhdr *note = (const void *)(file.bytes + at);
+        uint64_t content = at + sizeof *note + ((note->n_namesz + 3ull) & ~3ull);
+        if (content > end || note->n_descsz > end - content)
+            return;
+        if (note->n_type == NT_FILE && note->n_namesz == 5 && !memcmp(note + 1, "CORE", 5))
+            read_parts(core, file.bytes + content, note->n_descsz);
+        at = content + ((note->n_descsz + 3ull) & ~3ull);
+    }
+}
+
+struct core read_core(struct file file)
+{
+    const Elf64_Ehdr *header = (const void *)file.bytes;
+    struct core core = { 0 };
+
+    if (!holds(file, 0, sizeof *header) || memcmp(header->e_ident, ELFMAG, SELFMAG) || header->e_type != ET_CORE)
+        fail(file.path, "not a core file");
+    core.segment_count = header->e_phnum;
+    if (header->e_phnum == PN_XNUM && holds(file, header->e_shoff, sizeof(Elf64_Shdr)))
+        core.segment_count = ((const Elf64_Shdr *)(file.bytes + header->e_shoff))->sh_info;
+    if (!holds(file, header->e_phoff, core.segment_count * sizeof(Elf64_Phdr)))
+        fail(file.path, "the core is cut off");
+    core.segments = (const void *)(file.bytes + header->e_phoff);
+    for (const Elf64_Phdr *p = core.segments; p < core.segments + core.segment_count; p++)
+        if (p->p_type == PT_NOTE && holds(file, p->p_offset, p->p_filesz))
+            read_notes(&core, file, p->p_offset, p->p_offset + p->p_filesz);
+    if (!core.part_count)
+        fail(file.path, "no list of mapped files (NT_FILE)");
+    qsort(core.parts, core.part_count, sizeof *core.parts, by_part);
+    return core;
+}
+
+/* Says of how much writable memory the core has no contents, and how much of that is the library's own, in
+ * which no block of the program is led to. A kernel's core lists such memory, gdb's does not. */
+void tell_undumped(const struct core *core, const struct table_head *head)
+{
+    uint64_t all = 0, own = 0;
+
+    for (const Elf64_Phdr *p = core->segments; p < core->segments + core->segment_count; p++) {
+        if (p->p_type != PT_LOAD || !(p->p_flags & PF_W))
+            continue;
+        all += p->p_memsz - p->p_filesz;
+        if (!p->p_filesz && (p->p_vaddr == head->base || p->p_vaddr - head->finder < head->finder_bytes))
+            own += p->p_memsz;
+    }
+    if (own)
+        fprintf(stderr, "leak_log: undumped: of %llu bytes %llu are leak_trace's own, where no pointer is missed; "
+                "%llu are the program's\n", (unsigned long long)all, (unsigned long long)own,
+                (unsigned long long)(all - own));
+}

@@ -1,0 +1,96 @@
+/* leak_log CORE TABLE [--after LOG]: writes the blocks of a table that leak_trace.so kept as a log in the
+ * format of glibc's mtrace, for leak_find. With --after it writes LOG first, which it made of an earlier
+ * table of the same process, and then what came and went since. */
+#include <errno.h>
+#include <fcntl.h>
+#include <stdio.h>
+#include <stdlib.h>
+#include <string.h>
+#include <sys/mman.h>
+#include <sys/stat.h>
+#include <unistd.h>
+
+#include "log.h"
+
+void fail(const char *what, const char *why)
+{
+    fprintf(stderr, "leak_log: %s: %s\n", what, why);
+    exit(2);
+}
+
+/* The list, with room for one more. */
+void *grown(void *list, size_t count, size_t each)
+{
+    if (count & (count - 1))
+        return list;
+    list = realloc(list, (count ? 2 * count : 1) * each);
+    if (!list)
+        fail("memory", strerror(errno));
+    return list;
+}
+
+struct file open_file(const char *path)
+{
+    struct file file = { (const uint8_t *)"", 0, path };
+    struct stat about;
+    int descriptor = open(path, O_RDONLY);
+
+    if (descriptor < 0 || fstat(descriptor, &about))
+        fail(path, strerror(errno));
+    if (about.st_size) {
+        file.bytes = mmap(NULL, about.st_size, PROT_READ, MAP_PRIVATE, descriptor, 0);
+        file.size = about.st_size;
+        if (file.bytes == MAP_FAILED)
+            fail(path, strerror(errno));
+    }
+    close(descriptor);
+    return file;
+}
+
+/* Writes the ends of the old blocks that are gone, and leaves the new ones in `blocks`. A block of the earlier
+ * log is live still where the table has its start with a stamp of that time. Both ascend by start. */
+static void write_ends(const struct blocks *old, struct blocks *blocks)
+{
+    size_t left = 0;
+
+    for (size_t i = 0, k = 0; i < old->count || k < blocks->count;) {
+        const struct block *was = old->list + i, *is = blocks->list + k;
+        int gone = k == blocks->count || (i < old->count && was->start < is->start);
+        int came = i == old->count || (k < blocks->count && is->start < was->start);
+        int anew = !gone && !came && is->stamp > old->moment;
+        if (gone || anew)
+            printf("- 0x%llx\n", (unsigned long long)was->start);
+        if (came || anew)
+            blocks->list[left++] = *is;
+        i += !came;
+        k += !gone;
+    }
+    blocks->count = left;
+}
+
+int main(int count, char **arguments)
+{
+    int is_later = count == 5 && !strcmp(arguments[3], "--after");
+
+    if (count != 3 && !is_later) {
+        fputs("usage: leak_log CORE TABLE [--after LOG]\n", stderr);
+        return 2;
+    }
+    struct core core = read_core(open_file(arguments[1]));
+    struct blocks blocks = read_table(open_file(arguments[2]), &core);
+    if (is_later) {
+        struct file log = open_file(arguments[4]);
+        struct blocks old = read_log(log);
+        fwrite(log.bytes, 1, log.size, stdout);
+        write_ends(&old, &blocks);
+        if (blocks.moment < old.moment)
+            blocks.moment = old.moment;
+    }
+    printf("= leak_log moment 0x%llx\n", (unsigned long long)blocks.moment);
+    qsort(blocks.list, blocks.count, sizeof *blocks.list, by_stamp);
+    for (size_t i = 0; i < blocks.count; i++)
+        print_block(&core, blocks.list + i, blocks.depth);
+    if (fflush(stdout) || ferror(stdout))
+        fail("standard output", strerror(errno));
+    return 0;
+}
