@@ -1,0 +1,33 @@
+# Six busy threads, stopped at many moments: each entry must be right, and none but lost blocks be named.
+echo "== six busy threads"
+moments=${MOMENTS:-20}
+[ "$quick" ] && moments=4
+build threads.c
+wait=1 start ./threads
+busy=$process
+strangers() { named "$1" | tr ' ' '\n' | grep -vxE '45|61|77|93|109|125|' | tr '\n' ' '; }
+wrong=0
+for _ in $(seq "$moments"); do
+    dump $busy "$work/threads" && python3 "$kit/tests/slots.py" ./threads threads.core threads.log > slots || { cat slots; wrong=$((wrong + 1)); }
+    search threads
+    strangers threads.report >> strangers
+    grep -c '^leak ' threads.report >> counts
+    sleep 0.$((RANDOM % 90 + 10))
+done
+verdict "entries, at $moments moments" 0 $wrong
+verdict 'wrongly named' '' "$(cat strangers)"
+echo "     of 600 lost blocks were named: $(sort -n counts | tr '\n' ' ')"
+
+echo "== pairs of dumps"
+for i in 1 2 3; do
+    dump $([ $i -gt 1 ] && echo --after "$work/two$((i - 1))") $busy "$work/two$i"
+    if [ $i -gt 1 ]; then
+        "$finder" two two$((i - 1)).{core,log} two$i.{core,log} > two.report 2>&1
+        verdict "pair $i is taken" 1 $?
+        verdict 'wrongly named' '' "$(strangers two.report)"
+        echo "     $(grep -E '^(blocks|new|leaked|unknown)' two.report | tr '\n' ' ')"
+    fi
+    sleep 0.4
+done
+{ kill -9 $busy && wait $busy; } 2> /dev/null
+rm -f threads.core two?.core

@@ -1,0 +1,37 @@
+# A crash, and the tables that dead processes leave behind.
+echo "== a crash, and the tables of dead processes"
+rm -f table.*
+build crash.c
+if [ "$dumps_core" ]; then
+    rm -f core core.*
+    (wait=0 start ./crash; echo $process > pid; wait $process) 2> /dev/null
+    core=$(kernel_core)
+    "$kit/leak_dump" --core "$core" "table.$(cat pid)" crash 2> said && search crash
+    verdict 'crash' "$(expected "$kit/tests/crash.c")" "$(named crash.report)"
+    verdict 'what is undumped is told' "$(awk '$1 == "undumped" { print $2 }' crash.report)" \
+        "$(sed -n 's/.*undumped: of \([0-9]*\) bytes.*/\1/p' said)"
+    verdict 'none of it is the program'"'"'s but untouched memory' small \
+        "$([ "$(sed -n 's/.*; \([0-9]*\) are the program.*/\1/p' said)" -lt 20000000 ] && echo small)"
+    "$kit/leak_log" "$core" <(head -c 3000 "table.$(cat pid)") > /dev/null 2>&1
+    verdict 'a table that is cut off' 2 $?
+    mv "table.$(cat pid)" crash.table && cp crash.table "table.$(cat pid)"
+    rm -f core core.*
+else
+    echo "     no core by the kernel: $(cat /proc/sys/kernel/core_pattern) takes it elsewhere"
+    start ./plain; kill -9 $process; wait $process 2> /dev/null; echo $process > pid
+fi
+start ./plain
+verdict 'one is dead, one lives' "$(cat pid) dead, $process live" \
+    "$("$kit/leak_trace" --list | awk 'NR > 1 { print $1, $2 }' | sort -k 2 | paste -s -d , | sed 's/,/, /')"
+"$kit/leak_trace" --remove > /dev/null
+verdict 'the dead one is removed' "$process live" "$("$kit/leak_trace" --list | awk 'NR > 1 { print $1, $2 }')"
+if [ -e crash.core ]; then
+    "$kit/leak_log" crash.core "table.$process" > /dev/null 2> said
+    verdict 'a table of another process' "is not of this core's process" "$(sed 's/.*the table //' said)"
+fi
+{ kill $process && wait $process; } 2> /dev/null
+verdict 'a killed process leaves its table' 1 "$(ls table.* | wc -l)"
+"$kit/leak_trace" --remove > /dev/null
+"$kit/leak_trace" true
+"$kit/leak_trace" sh -c 'true; (exit 3); exec true'
+verdict 'one that ends leaves none' 0 "$(ls table.* 2> /dev/null | wc -l)"
