@@ -1,6 +1,6 @@
 #!/bin/sh
-# Builds leaky.c, in_vector.c and in_flight.c, runs them under mtrace, takes cores of them, searches the cores, and compares each report
-# with what the program's construction says: which sizes leaked, and that nothing else did.
+# Builds leaky.c, in_vector.c and in_flight.c, runs them under mtrace and then with capture, takes cores of them, searches the
+# cores, and compares each report with what the program's construction says: which sizes leaked, and that nothing else did.
 #
 #     examples/run.sh LEAK_FIND
 #
@@ -47,15 +47,19 @@ start() {
     process=$!
 }
 
-# dump PROGRAM NUMBER: waits until it has said so many times that it is ready, stops it by gdb, dumps it, copies the log while it
-# stands still, and lets it go.
-dump() {
+# await PROGRAM NUMBER: waits until it has said so many times that it is ready.
+await() {
     tries=100
     until [ "$(grep -c ready "$1.said" 2> /dev/null)" = "$2" ]; do
         tries=$((tries - 1))
         [ "$tries" -gt 0 ] || { echo "$1 does not get ready" >&2; exit 1; }
         sleep 0.1
     done
+}
+
+# dump PROGRAM NUMBER: waits until it is ready, stops it by gdb, dumps it, copies the log while it stands still, and lets it go.
+dump() {
+    await "$1" "$2"
     gdb -nx --batch -p "$process" -ex "generate-core-file $1.core.$2" -ex "shell cp $1.log $1.copy.$2" -ex detach > gdb.out 2>&1
 }
 
@@ -122,4 +126,46 @@ name_lines in_flight
 check "the second and the third core" "blocks 7 bytes 651,new 0 bytes 0" "45 77 109" \
     two in_flight.core.2 in_flight.copy.2 in_flight.core.3 in_flight.copy.3
 name_lines in_flight
+
+# The same with capture, for which a program needs no mtrace(), no library of glibc's, and no flush.
+capture=$here/../capture
+make -s -C "$capture"
+
+# start_traced PROGRAM: runs it with a table of its own, and gives its id in process.
+start_traced() {
+    rm -f "$1.said"
+    LEAK_TRACE=$work/table.%p "$capture/leak_trace" -d 4 "./$1" 2> "$1.said" &
+    process=$!
+}
+
+# capture PROGRAM NUMBER: as dump, by leak_dump. From the second on the log begins with the one before.
+capture() {
+    await "$1" "$2"
+    if [ "$2" -gt 1 ]; then
+        "$capture/leak_dump" --after "$1.traced.$(($2 - 1))" "$process" "$1.traced.$2"
+    else
+        "$capture/leak_dump" "$process" "$1.traced.$2"
+    fi
+}
+
+start_traced leaky
+capture leaky 1
+stop
+check "leaky, by capture" "$leaky_head" "$leaky_sizes" one leaky.traced.1.core leaky.traced.1.log
+"$capture/leak_lines" report
+
+start_traced in_flight
+capture in_flight 1
+kill -USR1 "$process"
+capture in_flight 2
+kill -USR1 "$process"
+capture in_flight 3
+stop
+check "in_flight, by capture: the first core alone" "blocks 5 bytes 449" "45 61" \
+    one in_flight.traced.1.core in_flight.traced.1.log
+check "the first and the second core" "blocks 7 bytes 651,new 2 bytes 202" "45" \
+    two in_flight.traced.1.core in_flight.traced.1.log in_flight.traced.2.core in_flight.traced.2.log
+check "the second and the third core" "blocks 7 bytes 651,new 0 bytes 0" "45 77 109" \
+    two in_flight.traced.2.core in_flight.traced.2.log in_flight.traced.3.core in_flight.traced.3.log
+"$capture/leak_lines" report
 echo "as built"
