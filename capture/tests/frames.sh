@@ -3,7 +3,7 @@
 echo "== deep callers against libgcc's unwinder"
 mkdir -p ours them && cp "$kit/leak_trace" ours && cp "$kit/leak_trace" them && cp "$kit/leak_trace.so" ours
 (cd "$kit" && gcc -std=gnu11 -O2 -fPIC -fvisibility=hidden -ftls-model=initial-exec -shared -static-libgcc \
-    -Wl,-z,initfirst -o "$work/them/leak_trace.so" $(ls library/*.c | grep -v frames) tests/no_rules.c -lgcc_eh)
+    -Wl,-z,initfirst -o "$work/them/leak_trace.so" $(ls library/*.c | grep -v -e frames -e rows) tests/no_rules.c -lgcc_eh)
 
 # callers_of KIT PROGRAM..: the callers and sizes of the blocks of a program that waits for its input.
 callers_of() {
