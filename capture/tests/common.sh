@@ -41,9 +41,10 @@ settle() {
         0 | 7) still=$((still + 1)) ;;
         *) still=0 ;;
         esac
-        [ $still -lt 5 ] || return
+        [ $still -lt 5 ] || return 0
         sleep 0.1
     done
+    echo "process $1 does not come to rest" >&2
 }
 
 # start PROGRAM ARGS..: runs it traced in the background, gives its id in `process`, and waits until it rests.

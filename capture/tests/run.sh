@@ -13,11 +13,16 @@ for options in '' '-d 8' '-w -d 2'; do
         start ./$program
         look $program.c
     done
-    build cxx.cc && start ./cxx && look cxx.cc
-    build module.c -shared -fPIC && mv module module.so
-    build module_cxx.cc -shared -fPIC && mv module_cxx module_cxx.so
-    build dl.c && start ./dl ./module.so ./module_cxx.so && look dl.c
-    build bump.c -shared -fPIC && mv bump bump.so && build signals.c
+    build cxx.cc
+    start ./cxx
+    look cxx.cc
+    build module.c -shared -fPIC -o "$work/module.so"
+    build module_cxx.cc -shared -fPIC -o "$work/module_cxx.so"
+    build dl.c
+    start ./dl ./module.so ./module_cxx.so
+    look dl.c
+    build bump.c -shared -fPIC -o "$work/bump.so"
+    build signals.c
     LD_PRELOAD=$work/bump.so start ./signals
     look signals.c
 done
