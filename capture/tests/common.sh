@@ -81,8 +81,8 @@ dump() {
         local table
         table=$(sed -n 's/^[^ ]* rw-s [^/]*//p' "/proc/$1/maps" | grep "^$work/table" | head -n 1)
         rm -f core core.*
-        kill -ABRT "$1"
-        while [ -d "/proc/$1" ] && ! grep -q '^State:.*Z' "/proc/$1/status"; do sleep 0.05; done
+        { kill -ABRT "$1" && wait "$1"; } 2> /dev/null # a daemon is no child of ours:
+        while grep -qs '^State:.*[^ZX] (' "/proc/$1/status"; do sleep 0.05; done
         mv "$(kernel_core)" "$2.kernel"
         "$kit/leak_dump" --core "$2.kernel" "$table" "$2" 2> /dev/null
     fi

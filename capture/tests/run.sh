@@ -42,6 +42,8 @@ verdict 'its table has its pid' "$work/table.$daemon" "$(ls "$work"/table.$daemo
 look daemon.c "$daemon"
 
 echo "== the lines of the callers"
+start ./plain
+look plain.c
 "$kit/leak_lines" plain.report > lines
 verdict 'each line of plain.c that loses a block' \
     "$(grep -n 'LOSE(' "$kit/tests/plain.c" | grep -v strdup | cut -d : -f 1 | tr '\n' ' ')" \
