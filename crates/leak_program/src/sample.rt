@@ -1,25 +1,27 @@
 //! The search of a sample from memory.
 
+ghost use Rattle.std.specs.Prelude.{IfOk};
+ghost use Rattle.leak_program.specs.Sample.{SearchesSample};
+
 use crate::failure::Failure;
 use leak_elf::core_k;
-use leak_find::{CORE_LIMIT, LOG_LIMIT, Options, run};
-use leak_index::Reading;
-use leak_pool::Plan;
-use std::io;
-use std::io::Cursor;
+use leak_find::{CORE_LIMIT, LOG_LIMIT, Options, Plan, Reading, run};
+use std::io::Write;
 use std::thread::Threads;
 
 /// One allocation of 32 bytes.
 const LOG: &str = "@ ./a.out:[0x401136] + 0x10100 0x20\n";
 
 /// Searches a core in which one word leads to one allocated block: nothing leaked.
-pub(crate) fn search_sample<R: Print + AllocGlobal + Threads + Sync>(
+pub fn search_sample<R: AllocGlobal + Threads + Sync, W: Write>(
     rt: &R,
-) -> Result<u8, Failure> {
+    writer: &mut W,
+) -> Result<u8, Failure>
+    ensures { IfOk result (SearchesSample (W.contents writer.old) (W.contents writer.new)) }
+{
     let alloc = rt.alloc();
     let core = core_k(alloc, [(0x10008, 0x10100)].as_slice())?;
-    let log = LOG.as_bytes().to_vec(alloc)?;
-    let mut readers = [Cursor::new(core), Cursor::new(log)];
+    let mut readers = [core.as_slice(), LOG.as_bytes()];
     let options = Options {
         two: false,
         reading: Reading::interior(),
@@ -27,11 +29,8 @@ pub(crate) fn search_sample<R: Print + AllocGlobal + Threads + Sync>(
         core_limit: CORE_LIMIT,
         log_limit: LOG_LIMIT,
     };
-    Ok(run(
-        rt,
-        alloc,
-        readers.as_mut_slice(),
-        &options,
-        &mut io::writer(rt),
-    )?)
+    match run(rt, alloc, &mut readers, &options, writer) {
+        Ok(status) => Ok(status),
+        Err(fault) => Err(Failure::Run(fault)),
+    }
 }

@@ -1,34 +1,45 @@
 //! The search of files.
 
-ghost use Rattle.std.specs.Prelude.{◌≡◌, IfOk, length};
+ghost use Rattle.std.specs.Prelude.{◌≡◌, IfOk, IfErr, length, map, string_bytes};
 ghost use Rattle.leak_request.specs.Requests.{file_count};
+ghost use Rattle.leak_program.specs.Files.{IsFileFault, IsOpenFault, SearchesFiles};
 
 use crate::failure::Failure;
 use leak_find::{Request, run};
+use std::fs;
+use std::io::Write;
 use std::rt::Files;
 use std::thread::Threads;
-use std::{fs, io};
 
-/// Opens all files of the request in order, and then reads and searches them.
-pub(crate) fn search_files<R: Files + Print + AllocGlobal + Threads + Sync>(
+/// Opens all files of the request in order, and then reads and searches them and writes the report.
+pub fn search_files<R: Files + AllocGlobal + Threads + Sync, W: Write>(
     rt: &R,
     request: &Request,
+    writer: &mut W,
 ) -> Result<u8, Failure>
     requires { length request.now.paths.items ≡ file_count request.now.options.two }
+    ensures ok { IfOk result
+        (SearchesFiles request.now.options (W.contents writer.old) (W.contents writer.new)) }
+    ensures refused { IfErr result
+        (IsFileFault request.now (W.contents writer.old) (W.contents writer.new)) }
 {
     let mut files = opened(rt, request.paths.as_slice())?;
-    Ok(run(
+    match run(
         rt,
         rt.alloc(),
         files.as_mut_slice(),
         &request.options,
-        &mut io::writer(rt),
-    )?)
+        writer,
+    ) {
+        Ok(status) => Ok(status),
+        Err(fault) => Err(Failure::Run(fault)),
+    }
 }
 
 /// The files with the paths, opened in order, up to the first that can't be opened.
 fn opened<R: Files + AllocGlobal>(rt: &R, paths: &[String]) -> Result<Vec<R::File>, Failure>
-    ensures { IfOk result (λ files. length files.items ≡ length paths.now) }
+    ensures ok { IfOk result (λ files. length files.items ≡ length paths.now) }
+    ensures refused { IfErr result (IsOpenFault (map string_bytes paths.now)) }
 {
     let mut files = Vec::with_capacity(rt.alloc(), paths.len())?;
     for path in paths {

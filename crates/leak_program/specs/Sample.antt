@@ -1,0 +1,22 @@
+-- The search of the sample.
+use Rattle.std.specs.Prelude.{◌≡◌, ℕ, List, [], ◌∷◌, Option, None, Some, codes, false}
+use Rattle.leak_elf.specs.Sample.{sample_with}
+use Rattle.leak_index.specs.Readings.{listed_by}
+use Rattle.leak_request.specs.declared.options.Options.{Options}
+use Rattle.leak_find.specs.Run.{Runs}
+
+-- the log of one allocation of 32 bytes
+abbrev pub sample_log : List ℕ
+sample_log = codes "@ ./a.out:[0x401136] + 0x10100 0x20\n"
+
+-- the sample core, in which one word leads to the block, and its log
+abbrev pub sample_inputs : List (Option (List ℕ))
+sample_inputs = Some (sample_with ((0x10008, 0x10100) ∷ [])) ∷ Some sample_log ∷ []
+
+-- the sample was searched as one core with an interior reading, and the report was written
+pub record SearchesSample (held holds : Option (List ℕ)) (status : ℕ) : Type 0 where
+  pub options : Options
+  pub one : options.two ≡ false
+  pub interior : listed_by options.reading ≡ None
+  pub after : List (Option (List ℕ))
+  pub runs : Runs options sample_inputs after held holds status

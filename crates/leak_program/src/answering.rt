@@ -1,0 +1,37 @@
+//! What the program answers to the words of a command line.
+
+ghost use Rattle.std.specs.Prelude.{◌<◌, ◌≤◌, IfOk, IfErr, length, map, string_bytes};
+ghost use Rattle.leak_program.specs.Answer.{Answers, IsFailureOf};
+ghost use Rattle.leak_program.specs.Sample.{SearchesSample};
+
+use crate::failure::Failure;
+use crate::files::search_files;
+use crate::sample::search_sample;
+use leak_find::request;
+use std::io::Write;
+use std::rt::Files;
+use std::thread::Threads;
+
+/// Searches what the words ask for, which begin with the program's name, writes the report and gives the status: 0
+/// where nothing leaked, and 1 otherwise.
+///
+/// Where no word follows the name, a sample is searched. After a refusal nothing is written, unless it is the writer
+/// that failed.
+pub fn answer<R: Files + AllocGlobal + Threads + Sync, W: Write>(
+    rt: &R,
+    words: &[String],
+    writer: &mut W,
+) -> Result<u8, Failure>
+    ensures sample { length words.now < 2
+        → IfOk result (SearchesSample (W.contents writer.old) (W.contents writer.new)) }
+    ensures ok { 2 ≤ length words.now → IfOk result
+        (Answers (map string_bytes words.now) (W.contents writer.old) (W.contents writer.new)) }
+    ensures refused { 2 ≤ length words.now → IfErr result
+        (IsFailureOf (map string_bytes words.now) (W.contents writer.old) (W.contents writer.new)) }
+{
+    if words.len() < 2 {
+        return search_sample(rt, writer);
+    }
+    let request = request(rt.alloc(), words)?;
+    search_files(rt, &request, writer)
+}

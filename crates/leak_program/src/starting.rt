@@ -1,0 +1,65 @@
+//! The start of the program, and its exit status.
+
+ghost use Rattle.std.specs.Prelude.{◌≡◌, IfOk, IfErr};
+
+use crate::answering::answer;
+use crate::failure::Failure;
+use leak_find::UsageFault;
+use std::process::ExitCode;
+use std::rt::{Env, Files};
+use std::thread::Threads;
+use std::{env, io};
+
+/// The status of a refusal.
+const REFUSED: u8 = 2;
+
+/// Does what the words of the program's command line ask for, and prints the report or, on standard error, why there
+/// is none.
+pub fn start<R: Env + Files + Print + Eprint + AllocGlobal + Threads + Sync>(rt: &R) -> ExitCode {
+    let answer = answer_here(rt);
+    let status = status_of(&answer);
+    if let Err(failure) = answer {
+        tell(rt, failure);
+    }
+    ExitCode::from(status)
+}
+
+/// The exit status: that of the search, and 2 where there is no report.
+pub fn status_of(answer: &Result<u8, Failure>) -> u8
+    ensures ok { IfOk answer.now (λ status. result ≡ status) }
+    ensures refused { IfErr answer.now (λ failure. result ≡ 2) }
+{
+    match answer {
+        Ok(status) => *status,
+        Err(_) => REFUSED,
+    }
+}
+
+/// Answers the words of the program's command line, to standard output.
+fn answer_here<R: Env + Files + Print + AllocGlobal + Threads + Sync>(
+    rt: &R,
+) -> Result<u8, Failure> {
+    let words: Vec<String> = match env::args(rt) {
+        Ok(words) => words.collect(rt.alloc())?,
+        Err(error) => return Err(unread(&error)),
+    };
+    answer(rt, words.as_slice(), &mut io::writer(rt))
+}
+
+/// Why the words of the command line can't be had.
+fn unread(error: &io::Error) -> Failure {
+    if error.kind() == io::ErrorKind::OutOfMemory {
+        Failure::NoMemory
+    } else {
+        Failure::Word
+    }
+}
+
+/// Says on standard error why there is no report. Clap's text, help too, stands alone.
+fn tell<R: Eprint>(rt: &R, failure: Failure) {
+    // A refused write leaves nowhere to say so.
+    let _written = match failure {
+        Failure::Usage(UsageFault::Words(text)) => eprint!(rt; "{text}"),
+        other => eprintln!(rt; "leak_find: {other}"),
+    };
+}
