@@ -6,6 +6,7 @@ pub mod ReachLemmas
 pub mod RunLemmas
 pub mod RoundLemmas
 pub mod HalfLemmas
+pub mod StackLemmas
 pub mod ClaimLemmas
 pub mod Places
 pub mod Totals

@@ -7,5 +7,6 @@ pub mod Marks
 pub mod Seats
 pub mod Rounds
 pub mod Halves
+pub mod Stacks
 pub mod Retraces
 pub mod Laws

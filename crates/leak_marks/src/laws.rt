@@ -3,6 +3,7 @@ ghost use Rattle.leak_marks.specs.Halves.{HalvesAreKept, PartsInTurnAreKept, Rou
 ghost use Rattle.leak_marks.specs.Laws.{AttemptsAreReach, ListsAreFirstAttempts, ListsPartitionReach};
 ghost use Rattle.leak_marks.specs.Retraces.{RetraceIsWhole};
 ghost use Rattle.leak_marks.specs.Rounds.{Begins, GoesOn, Ends, StepsMakeARun};
+ghost use Rattle.leak_marks.specs.Stacks.{ItemsAreKept, NothingIsKept, OwnBlocksAreKept};
 
 /// What every lawful, complete run comes to, with any number of workers in any interleaving.
 pub fn whole_runs()
@@ -30,4 +31,12 @@ pub fn halves()
     ensures beside { HalvesAreKept }
     ensures in_turn { PartsInTurnAreKept }
     ensures rounds { RoundsAreKept }
+{}
+
+/// A worker that scans items, and then blocks that it claimed, keeps the promise of a step: what it claims is a target
+/// of an item or of an earlier claim of its list, and what it scanned is left no more.
+pub fn stacks()
+    ensures nothing { NothingIsKept }
+    ensures items { ItemsAreKept }
+    ensures own { OwnBlocksAreKept }
 {}
