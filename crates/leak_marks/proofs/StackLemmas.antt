@@ -1,6 +1,6 @@
 -- A worker that scans blocks of its own list.
 use Rattle.std.proofs.Common.{◌≡◌, ◌⊎◌, ℕ, inl, inr, ⊎_elim, sym, subst, List, [], ◌∷◌, ◌++◌}
-use Rattle.std.specs.List.{concat}
+use Rattle.std.specs.List.{concat, AllByRecursion}
 use Rattle.std.proofs.lemmas.List.{append-nil}
 use Rattle.leak_marks.specs.Lists.{Has, Within}
 use Rattle.leak_marks.specs.Rounds.{AreLed, IsKept, IsKeptInRounds}
@@ -20,6 +20,14 @@ led_from targets item P of_item of_block earlier (x ∷ xs) led b h = ⊎_elim
     (λ is. subst (λ (y : ℕ). P y) is (⊎_elim (λ i. of_item x i) (λ s. of_block s.0 x s.2) led.0))
     (λ r. led_from targets item P of_item of_block (x ∷ earlier) xs led.1 b r)
     (at_head x xs b h)
+
+pub all_led_from : (targets : ℕ → List ℕ) (item P : ℕ → Type 0) → ((b : ℕ) → item b → P b) → ((s b : ℕ) → Has (targets s) b → P b)
+    → (gained : List (List ℕ)) → AllByRecursion (AreLed targets item []) gained → (b : ℕ) → Has (concat gained) b → P b
+all_led_from targets item P of_item of_block [] led b h = absurd (none_has b h)
+all_led_from targets item P of_item of_block (g ∷ gs) led b h = ⊎_elim
+    (λ f. led_from targets item P of_item of_block [] g led.0 b f)
+    (λ r. all_led_from targets item P of_item of_block gs led.1 b r)
+    (of_append g (concat gs) b h)
 
 -- claims that items lead to, or claims before them
 module _ (targets : ℕ → List ℕ) (item more : ℕ → Type 0) where

@@ -15,7 +15,7 @@ use Rattle.leak_marks.specs.Laws.{ListsPartitionReach}
 use Rattle.leak_marks.specs.Rounds.{IsUnderWay}
 use Rattle.leak_marks.proofs.RunLemmas.{nothing_held}
 use Rattle.leak_marks.proofs.RoundLemmas.{begins, ends}
-use Rattle.leak_pool.specs.Items.{InRange, targets_at, targets_of_item}
+use Rattle.leak_pool.specs.Items.{InRange, targets_at, targets_of_block, targets_of_item}
 use Rattle.leak_pool.specs.declared.source.Item.{Item}
 use Rattle.leak_pool.specs.declared.source.Item.TheVariants.{Root, Block}
 use Rattle.leak_marks.proofs.ListLemmas.{has_front, has_back, of_append}
@@ -50,19 +50,20 @@ of_part (r ∷ rs) zero b h = has_front r (concat rs) b h
 of_part (r ∷ rs) (suc k) b h = has_back r (concat rs) b (of_part rs k b h)
 
 -- the first round
-pub first_going : (roots targets : List (List ℕ)) (start : List ℕ) (w : ℕ) (seat : Held) (claims longer : List (List ℕ)) (none more : List ℕ) (after : Held) (gained : List (List ℕ)) (items : List Item)
+pub first_going : (roots targets : List (List ℕ)) (start : List ℕ) (w : ℕ) (seat : Held) (claims longer : List (List ℕ)) (none more : List ℕ) (after : Held) (gained : List (List ℕ)) (left : List ℕ) (items : List Item)
     → IsGoing (graph_over roots targets start) (length targets) w seat.claims claims [] seat → none ≡ [] → length items ≡ length roots → ((k : ℕ) → k < length roots → get_or items k (Root 0) ≡ Root k)
     → ((i : Item) (b : ℕ) → Has (targets_of_item roots targets i) b → b < length targets)
-    → IsStep (InRange (targets_at roots targets items) 0 (length items)) w claims none seat longer more after gained
+    → IsStep (targets_of_block targets) (InRange (targets_at roots targets items) 0 (length items)) w claims none seat longer more after gained left
     → Going roots targets start w longer more after
-first_going roots targets start w seat claims longer none more after gained items going empty long at inside s = (
+first_going roots targets start w seat claims longer none more after gained left items going empty long at inside s = (
   seat.claims,
-  going_on (graph_over roots targets start) (length targets) w seat.claims (InRange T 0 (length items)) claims [] seat none longer more after gained more going s
+  going_on (graph_over roots targets start) (length targets) w seat.claims (InRange T 0 (length items)) claims [] seat none longer more after gained left more going s
       (λ b r. inl (let k : ℕ = r.0 in let below : k < length items = r.2 in of_part roots k b (subst (λ (i : Item). Has (targets_of_item roots targets i) b) (at k (omega arith)) r.3)))
       (λ b r. inside (get_or items r.0 (Root 0)) b r.3)
+      (λ x b h. inside (Block x) b h)
       (λ x h. none_has x h)
-      (λ x h. subst (λ (l : List ℕ). Has l x) (sym s.waiting_are) (has_back none (concat gained) x h))
-      (λ x h. ⊎_elim (λ old. none_has x (subst (λ (l : List ℕ). Has l x) empty old)) (λ new. inr new) (of_append none (concat gained) x (subst (λ (l : List ℕ). Has l x) s.waiting_are h))),
+      (λ x h. subst (λ (l : List ℕ). Has l x) (sym s.waiting_are) (has_back none left x h))
+      (λ x h. ⊎_elim (λ old. none_has x (subst (λ (l : List ℕ). Has l x) empty old)) (λ new. inr new) (of_append none left x (subst (λ (l : List ℕ). Has l x) s.waiting_are h))),
   λ b h. let p = part_of roots targets b h in let n : p.0 < length roots = p.1 in
       s.kept.covers b (p.0, omega arith, omega arith, subst (λ (i : Item). Has (targets_of_item roots targets i) b) (sym (at p.0 p.1)) p.2),
 )

@@ -1,6 +1,6 @@
 -- Promises of halves, put together.
-use Rattle.std.proofs.Common.{◌≡◌, ◌⊎◌, ℕ, ◌+◌, ◌-◌, ◌*◌, ◌/◌, ◌%◌, ◌<◌, ◌≤◌, List, [], ◌++◌, length, map, Ok, Err, sym, ap, ◌∙◌, subst, inl, inr, ⊎_elim, arith, append_assoc}
-use Rattle.std.specs.Prelude.{Result, IfOk, IsOkAnd}
+use Rattle.std.proofs.Common.{◌≡◌, ◌⊎◌, ℕ, ◌+◌, ◌-◌, ◌*◌, ◌/◌, ◌%◌, ◌<◌, ◌≤◌, List, [], ◌∷◌, ◌++◌, length, map, Ok, Err, sym, ap, ◌∙◌, subst, inl, inr, ⊎_elim, arith, append_assoc}
+use Rattle.std.specs.Prelude.{Option, Some, IfSome, Result, IfOk, IsOkAnd}
 use Rattle.std.specs.List.{concat}
 use Rattle.std.proofs.lemmas.Nat.{le-div}
 use Rattle.std.proofs.Math.Nat.{div-mul-le_self, mul-le-mul_right, mul-add-div_right, mul-div_cancel_left, mul-div-le, mul-add, mul_assoc}
@@ -10,10 +10,12 @@ use Rattle.std.proofs.lemmas.List.Folds.{concat-append}
 use mathlib.Core.Logic.{dite}
 use native.Mathlib.Decide.{dec_lt}
 use Rattle.leak_marks.specs.Seats.{Held, held}
-use Rattle.leak_marks.specs.Rounds.{IsKeptInRounds}
+use Rattle.leak_marks.specs.Lists.{Has, Within}
+use Rattle.leak_marks.specs.Rounds.{IsKept}
 use Rattle.leak_pool.specs.Items.{InRange, share}
-use Rattle.leak_pool.specs.Promises.{IsHalf}
-use Rattle.leak_marks.proofs.ListLemmas.{has_front, has_back, of_append}
+use Rattle.leak_pool.specs.Promises.{AreOwn, IsHalf}
+use Rattle.leak_marks.proofs.ListLemmas.{within_append}
+use Rattle.leak_marks.proofs.HalfLemmas.{kept_beside, kept_in_turn}
 
 pub share-mono : (a b n m : ℕ) → 0 < m → a ≤ b → share a n m ≤ share b n m
 unfolding share
@@ -52,51 +54,72 @@ module _ (targets : ℕ → List ℕ) (low middle high : ℕ) (lower : low ≤ m
   split_at : (b : ℕ) → InRange targets low high b → InRange targets low middle b ⊎ InRange targets middle high b
   split_at b r = dite (dec_lt r.0 middle) (λ lt. inl (r.0, r.1, lt, r.3)) (λ ge. inr (r.0, omega arith, r.2, r.3))
 
-  kept_after : (s0 s1 s2 g1 g2 : List ℕ) → IsKeptInRounds (InRange targets low middle) s0 s1 g1 → IsKeptInRounds (InRange targets middle high) s1 s2 g2 → IsKeptInRounds (InRange targets low high) s0 s2 (g1 ++ g2)
-  kept_after s0 s1 s2 g1 g2 a b = record {
-    keeps = λ x h. b.keeps x (a.keeps x h);
-    covers = λ x i. ⊎_elim (λ f. b.keeps x (a.covers x f)) (λ s. b.covers x s) (split_at x i);
-    fresh = λ x h was. ⊎_elim (λ f. a.fresh x f was) (λ s. b.fresh x s (a.keeps x was)) (of_append g1 g2 x h);
-    gains = λ x h. ⊎_elim (λ f. first_of x (a.gains x f)) (λ s. second_of x (b.gains x s)) (of_append g1 g2 x h);
-  }
+-- the lists of the first workers, and behind them those of the others
+own_both : (blocks targets : ℕ → List ℕ) (items workers low middle : ℕ) (g1 g2 : List (List ℕ)) → low + length g1 ≡ middle
+    → AreOwn blocks targets items workers low g1 → AreOwn blocks targets items workers middle g2 → AreOwn blocks targets items workers low (g1 ++ g2)
+own_both blocks targets items workers low middle [] g2 count a b = let is : middle ≡ low = omega arith in subst (λ (k : ℕ). AreOwn blocks targets items workers k g2) is b
+own_both blocks targets items workers low middle (g ∷ g1) g2 count a b = (a.0, own_both blocks targets items workers (low + 1) middle g1 g2 (omega arith) a.1 b)
 
-  kept_at_once : (s0 s1 s2 g1 g2 : List ℕ) → IsKeptInRounds (InRange targets low middle) s0 s1 g1 → IsKeptInRounds (InRange targets middle high) s0 s2 g2 → IsKeptInRounds (InRange targets low high) s0 (s1 ++ s2) (g1 ++ g2)
-  kept_at_once s0 s1 s2 g1 g2 a b = record {
-    keeps = λ x h. has_front s1 s2 x (a.keeps x h);
-    covers = λ x i. ⊎_elim (λ f. has_front s1 s2 x (a.covers x f)) (λ s. has_back s1 s2 x (b.covers x s)) (split_at x i);
-    fresh = λ x h was. ⊎_elim (λ f. a.fresh x f was) (λ s. b.fresh x s was) (of_append g1 g2 x h);
-    gains = λ x h. ⊎_elim (λ f. first_of x (a.gains x f)) (λ s. second_of x (b.gains x s)) (of_append g1 g2 x h);
-  }
-
-module _ (targets : ℕ → List ℕ) (items workers low middle high : ℕ) (some : 0 < workers) (lower : low ≤ middle) (upper : middle ≤ high) where
+module _ (blocks targets : ℕ → List ℕ) (items workers low middle high : ℕ) (some : 0 < workers) (lower : low ≤ middle) (upper : middle ≤ high) where
   counts : (g1 g2 : List (List ℕ)) → low + length g1 ≡ middle → middle + length g2 ≡ high → low + length (g1 ++ g2) ≡ high
   counts g1 g2 p q = let l = length-append g1 g2 in omega arith
 
+  -- where the shares begin
+  abbrev a : ℕ
+  a = share low items workers
+
+  abbrev b : ℕ
+  b = share middle items workers
+
+  abbrev c : ℕ
+  c = share high items workers
+
+  fewer : (g1 g2 : List (List ℕ)) (l1 l2 : List ℕ) → length l1 ≤ length (concat g1) → length l2 ≤ length (concat g2) → length (l1 ++ l2) ≤ length (concat (g1 ++ g2))
+  fewer g1 g2 l1 l2 p q =
+      let len : List ℕ → ℕ = λ l. length l in
+      let x = length-append l1 l2 in let y : length (concat (g1 ++ g2)) ≡ length (concat g1) + length (concat g2) = ap len (concat-append g1 g2) ∙ length-append (concat g1) (concat g2) in omega arith
+
+  within : (g1 g2 : List (List ℕ)) (l1 l2 : List ℕ) → Within l1 (concat g1) → Within l2 (concat g2) → Within (l1 ++ l2) (concat (g1 ++ g2))
+  within g1 g2 l1 l2 p q x h = subst (λ (l : List ℕ). Has l x) (sym (concat-append g1 g2)) (within_append l1 l2 (concat g1) (concat g2) p q x h)
+
   -- one half after the other
-  pub half_after : (s0 s1 s2 : Held) (g1 g2 : List (List ℕ)) → IsHalf targets items workers low middle s0 s1 g1 → IsHalf targets items workers middle high s1 s2 g2 → IsHalf targets items workers low high s0 s2 (g1 ++ g2)
-  half_after s0 s1 s2 g1 g2 a b = record {
-    count = counts g1 g2 a.count b.count;
-    listed = b.listed ∙ ap (λ (l : List ℕ). l ++ concat g2) a.listed ∙ append_assoc s0.claims (concat g1) (concat g2) ∙ ap (λ (l : List ℕ). s0.claims ++ l) (sym (concat-append g1 g2));
-    kept = subst (λ (l : List ℕ). IsKeptInRounds (InRange targets (share low items workers) (share high items workers)) s0.seen s2.seen l) (sym (concat-append g1 g2))
-        (kept_after targets (share low items workers) (share middle items workers) (share high items workers) (share-mono low middle items workers some lower) (share-mono middle high items workers some upper)
-        s0.seen s1.seen s2.seen (concat g1) (concat g2) a.kept b.kept);
+  pub half_after : (s0 s1 s2 : Held) (g1 g2 : List (List ℕ)) (l1 l2 : List ℕ) → IsHalf blocks targets items workers low middle s0 s1 g1 l1 → IsHalf blocks targets items workers middle high s1 s2 g2 l2
+      → IsHalf blocks targets items workers low high s0 s2 (g1 ++ g2) (l1 ++ l2)
+  half_after s0 s1 s2 g1 g2 l1 l2 x y = record {
+    count = counts g1 g2 x.count y.count;
+    listed = y.listed ∙ ap (λ (l : List ℕ). l ++ concat g2) x.listed ∙ append_assoc s0.claims (concat g1) (concat g2) ∙ ap (λ (l : List ℕ). s0.claims ++ l) (sym (concat-append g1 g2));
+    of_gained = within g1 g2 l1 l2 x.of_gained y.of_gained;
+    few = fewer g1 g2 l1 l2 x.few y.few;
+    own = own_both blocks targets items workers low middle g1 g2 x.count x.own y.own;
+    kept = let p = share-mono low middle items workers some lower in let q = share-mono middle high items workers some upper in
+        kept_in_turn blocks (InRange targets a b) (InRange targets b c) (InRange targets a c) (first_of targets a b c p q) (second_of targets a b c p q) (split_at targets a b c p q)
+        s0.seen s1.seen s2.seen g1 g2 l1 l2 x.kept y.kept;
   }
 
   -- the two at once
-  pub half_joined : (start giver given one two end : Held) (g1 g2 : List (List ℕ)) → giver ≡ held start.table start.claims start.seen (start.share - start.share / 2) → given ≡ held start.table [] start.seen (start.share / 2)
-      → IsHalf targets items workers low middle giver one g1 → IsHalf targets items workers middle high given two g2
-      → end ≡ held one.table (one.claims ++ two.claims) (one.seen ++ two.seen) (one.share + two.share) → IsHalf targets items workers low high start end (g1 ++ g2)
-  half_joined start giver given one two end g1 g2 giver_is given_is a b is = record {
-    count = counts g1 g2 a.count b.count;
-    listed = ap (λ (h : Held). h.claims) is ∙ ap (λ (l : List ℕ). one.claims ++ l) (b.listed ∙ ap (λ (h : Held). h.claims ++ concat g2) given_is) ∙ ap (λ (l : List ℕ). l ++ concat g2) (a.listed ∙ ap (λ (h : Held). h.claims ++ concat g1) giver_is)
+  pub half_joined : (start giver given one two end : Held) (g1 g2 : List (List ℕ)) (l1 l2 : List ℕ) → giver ≡ held start.table start.claims start.seen (start.share - start.share / 2) → given ≡ held start.table [] start.seen (start.share / 2)
+      → IsHalf blocks targets items workers low middle giver one g1 l1 → IsHalf blocks targets items workers middle high given two g2 l2
+      → end ≡ held one.table (one.claims ++ two.claims) (one.seen ++ two.seen) (one.share + two.share) → IsHalf blocks targets items workers low high start end (g1 ++ g2) (l1 ++ l2)
+  half_joined start giver given one two end g1 g2 l1 l2 giver_is given_is x y is = record {
+    count = counts g1 g2 x.count y.count;
+    listed = ap (λ (h : Held). h.claims) is ∙ ap (λ (l : List ℕ). one.claims ++ l) (y.listed ∙ ap (λ (h : Held). h.claims ++ concat g2) given_is) ∙ ap (λ (l : List ℕ). l ++ concat g2) (x.listed ∙ ap (λ (h : Held). h.claims ++ concat g1) giver_is)
         ∙ append_assoc start.claims (concat g1) (concat g2) ∙ ap (λ (l : List ℕ). start.claims ++ l) (sym (concat-append g1 g2));
-    kept = subst (λ (l : List ℕ). IsKeptInRounds (InRange targets (share low items workers) (share high items workers)) start.seen end.seen l) (sym (concat-append g1 g2))
-        (subst (λ (h : Held). IsKeptInRounds (InRange targets (share low items workers) (share high items workers)) start.seen h.seen (concat g1 ++ concat g2)) (sym is)
-        (kept_at_once targets (share low items workers) (share middle items workers) (share high items workers) (share-mono low middle items workers some lower) (share-mono middle high items workers some upper)
-        start.seen one.seen two.seen (concat g1) (concat g2)
-        (subst (λ (h : Held). IsKeptInRounds (InRange targets (share low items workers) (share middle items workers)) h.seen one.seen (concat g1)) giver_is a.kept)
-        (subst (λ (h : Held). IsKeptInRounds (InRange targets (share middle items workers) (share high items workers)) h.seen two.seen (concat g2)) given_is b.kept)));
+    of_gained = within g1 g2 l1 l2 x.of_gained y.of_gained;
+    few = fewer g1 g2 l1 l2 x.few y.few;
+    own = own_both blocks targets items workers low middle g1 g2 x.count x.own y.own;
+    kept = let p = share-mono low middle items workers some lower in let q = share-mono middle high items workers some upper in
+        subst (λ (h : Held). IsKept blocks (InRange targets a c) start.seen h.seen (g1 ++ g2) (l1 ++ l2)) (sym is)
+        (kept_beside blocks (InRange targets a b) (InRange targets b c) (InRange targets a c) (first_of targets a b c p q) (second_of targets a b c p q) (split_at targets a b c p q)
+        start.seen one.seen two.seen g1 g2 l1 l2
+        (subst (λ (h : Held). IsKept blocks (InRange targets a b) h.seen one.seen g1 l1) giver_is x.kept)
+        (subst (λ (h : Held). IsKept blocks (InRange targets b c) h.seen two.seen g2 l2) given_is y.kept));
   }
 
-pub add_two : {V : Type 0} (items : V → List ℕ) (P : List (List ℕ) → Type 0) (l a b : List V) → l ≡ a ++ b → P (map items a ++ map items b) → P (map items l)
-add_two items P l a b e h = subst P (sym (ap (λ (x : List _). map items x) e ∙ map-append items a b)) h
+-- a result that there is
+pub some_at : {X : Type 0} (r : Option X) (x : X) (P : X → Type 0) → r ≡ Some x → IfSome r P → P x
+some_at r x P e h = subst (λ (q : Option _). IfSome q P) e h
+
+-- the lists of two halves
+pub add_two : {V : Type 0} (items : V → List ℕ) (P : List (List ℕ) → List ℕ → Type 0) (l a b : List V) (rest more less : List ℕ) → l ≡ a ++ b → rest ≡ more ++ less
+    → P (map items a ++ map items b) (more ++ less) → P (map items l) rest
+add_two items P l a b rest more less e f h = subst (λ (x : List (List ℕ)). P x rest) (sym (ap (λ (x : List _). map items x) e ∙ map-append items a b)) (subst (λ (x : List ℕ). P (map items a ++ map items b) x) (sym f) h)

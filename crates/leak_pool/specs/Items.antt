@@ -4,6 +4,10 @@ use Rattle.leak_marks.specs.Lists.{Has}
 use Rattle.leak_pool.specs.declared.source.Item.{Item}
 use Rattle.leak_pool.specs.declared.source.Item.TheVariants.{Root, Block}
 
+-- what a block leads to, of all blocks
+abbrev pub targets_of_block : List (List ℕ) → ℕ → List ℕ
+targets_of_block targets b = slice_index_or targets b []
+
 -- what an item leads to
 abbrev pub targets_of_item : List (List ℕ) → List (List ℕ) → Item → List ℕ
 targets_of_item roots targets (Root k) = slice_index_or roots k []

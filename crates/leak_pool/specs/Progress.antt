@@ -1,7 +1,7 @@
 -- How far the marking of a scene has come.
 use Rattle.std.specs.Prelude.{◌≡◌, ℕ, ◌<◌, ◌≤◌, ◌^◌, List, [], length, replicate}
 use Rattle.leak_marks.specs.Seats.{held, IsSound}
-use Rattle.leak_pool.specs.Items.{targets_at, InRange}
+use Rattle.leak_pool.specs.Items.{targets_at, targets_of_block, InRange}
 use Rattle.leak_pool.specs.Scene.{Scene}
 use Rattle.leak_pool.specs.Promises.{as_lists}
 use Rattle.leak_pool.specs.Rounds.{IsStep, Going}
@@ -34,10 +34,11 @@ pub record IsBetween (scene : Scene) (p : Progress) : Type 0 where
   pub few : length p.waiting.items ≤ length p.seat.claims
   pub going : Going scene.roots scene.targets scene.given scene.workers (claims_of p) p.waiting.items p.seat
 
--- What these items lead to was scanned: what the seat claimed is on the lists of the workers, and waits.
+-- What these items lead to was scanned: what the seat claimed is on the lists of the workers, and what was left waits.
 abbrev pub HasScanned : (ℕ → Type 0) → Scene → Progress → Progress → Type 0
 HasScanned item scene before after =
-    (gained : List (List ℕ)) × IsStep item scene.workers (claims_of before) before.waiting.items before.seat (claims_of after) after.waiting.items after.seat gained
+    (gained : List (List ℕ)) × (left : List ℕ)
+    × IsStep (targets_of_block scene.targets) item scene.workers (claims_of before) before.waiting.items before.seat (claims_of after) after.waiting.items after.seat gained left
 
 -- one of the items leads to the block
 abbrev pub InItems : Scene → List Item → ℕ → Type 0

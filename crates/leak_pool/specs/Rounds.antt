@@ -8,22 +8,26 @@ use Rattle.leak_marks.specs.Partition.{Partitions}
 use Rattle.leak_pool.specs.Marking.{IsSet}
 use Rattle.leak_pool.specs.declared.source.Item.{Item}
 use Rattle.leak_pool.specs.declared.source.Item.TheVariants.{Block, Root}
-use Rattle.leak_marks.specs.Rounds.{IsKeptInRounds, appended_from, IsUnderWay}
+use Rattle.leak_marks.specs.Rounds.{IsKept, appended_from, IsUnderWay}
 
 -- what the parts of the roots lead to begins chains
 abbrev pub graph_over : List (List ℕ) → List (List ℕ) → List ℕ → Graph
 graph_over roots targets given = record { first = concat roots; targets = targets; given = given }
 
--- Items were scanned: the claims that the seat gained stand behind those of the workers, and behind the blocks that wait.
-pub record IsStep (item : ℕ → Type 0) (workers : ℕ) (claims : List (List ℕ)) (waiting : List ℕ) (before : Held) (longer : List (List ℕ)) (more : List ℕ) (after : Held) (gained : List (List ℕ)) : Type 0 where
+-- Items were scanned: the claims that the seat gained stand behind those of the workers, and those that were left behind
+-- the blocks that wait.
+pub record IsStep (blocks : ℕ → List ℕ) (item : ℕ → Type 0) (workers : ℕ) (claims : List (List ℕ)) (waiting : List ℕ) (before : Held)
+    (longer : List (List ℕ)) (more : List ℕ) (after : Held) (gained : List (List ℕ)) (left : List ℕ) : Type 0 where
   pub table : after.table ≡ before.table
   pub share : after.share ≡ before.share
   pub sound : IsSound after
   pub few : length gained ≤ workers
   pub claims_are : longer ≡ appended_from 0 claims gained
-  pub waiting_are : more ≡ waiting ++ concat gained
+  pub waiting_are : more ≡ waiting ++ left
   pub listed : after.claims ≡ before.claims ++ concat gained
-  pub kept : IsKeptInRounds item before.seen after.seen (concat gained)
+  pub of_gained : Within left (concat gained)
+  pub left_few : length left ≤ length (concat gained)
+  pub kept : IsKept blocks item before.seen after.seen gained left
 
 -- Marking between two rounds. The seat's claims are those of the start and those of the workers' lists.
 pub record IsGoing (graph : Graph) (blocks workers : ℕ) (base : List ℕ) (claims : List (List ℕ)) (waiting : List ℕ) (seat : Held) : Type 0 where

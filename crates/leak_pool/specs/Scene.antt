@@ -1,17 +1,18 @@
 -- What is searched, and what of it the workers of a round scan.
 use Rattle.std.specs.Prelude.{◌≡◌, ℕ, ◌<◌, ◌≤◌, ◌^◌, List, length, All}
 use Rattle.leak_marks.specs.Seats.{TableId, Held, IsSound}
-use Rattle.leak_pool.specs.Items.{IsItem, targets_at, InRange, share}
+use Rattle.leak_pool.specs.Items.{IsItem, targets_at, targets_of_block, InRange, share}
 use Rattle.leak_pool.specs.declared.source.Item.{Item}
 
--- the table of the marks, what each part of the roots and each block leads to, the blocks that are marked before, and
--- how many workers there are
+-- the table of the marks, what each part of the roots and each block leads to, the blocks that are marked before, how
+-- many workers there are, and how many entries a worker's stack has at most
 pub record Scene : Type 0 where
   pub table : TableId
   pub roots : List (List ℕ)
   pub targets : List (List ℕ)
   pub given : List ℕ
   pub workers : ℕ
+  pub stack : ℕ
 
 -- the marks are of these blocks, blocks alone are marked before, and there are 1 to 64 workers
 pub record IsSearch (blocks : ℕ) (targets : List (List ℕ)) (given : List ℕ) (workers : ℕ) : Type 0 where
@@ -25,6 +26,13 @@ pub record IsSearch (blocks : ℕ) (targets : List (List ℕ)) (given : List ℕ
 pub record Work : Type 0 where
   pub scene : Scene
   pub items : List Item
+
+-- what each block leads to, and what each of the items leads to
+abbrev pub blocks_of : Work → ℕ → List ℕ
+blocks_of work = targets_of_block work.scene.targets
+
+abbrev pub items_of : Work → ℕ → List ℕ
+items_of work = targets_at work.scene.roots work.scene.targets work.items
 
 -- each is an item of the scene, and there is a number of steps for each worker
 pub record IsRound (scene : Scene) (items : List Item) (steps : List ℕ) : Type 0 where
@@ -42,7 +50,7 @@ share_of work worker = share worker (length work.items) work.scene.workers
 
 -- an item in the shares of the workers from low up to high leads to the block
 abbrev pub InShares : Work → ℕ → ℕ → ℕ → Type 0
-InShares work low high = InRange (targets_at work.scene.roots work.scene.targets work.items) (share_of work low) (share_of work high)
+InShares work low high = InRange (items_of work) (share_of work low) (share_of work high)
 
 -- the workers from low up to middle have an item, and so have those from there up to high
 abbrev pub HaveBoth : Work → ℕ → ℕ → ℕ → Type 0

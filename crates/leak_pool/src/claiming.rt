@@ -43,6 +43,7 @@ fn claim(marks: &Marks, seat: &mut MarkSeat, list: &mut Vec<u32>, block: u32)
     ensures seen { seat.new.seen ≡ seat.old.seen ++ block ∷ [] }
     ensures listed { (base : List ℕ) → seat.old.claims ≡ base ++ list.old.items → seat.new.claims ≡ base ++ list.new.items }
     ensures gained { (b : ℕ) → Has list.new.items b → Has list.old.items b ⊎ ((b ≡ block) × (Has seat.old.seen block → ⊥)) }
+    ensures grown { (more : List ℕ) × (list.new.items ≡ list.old.items ++ more) }
 {
     if marks.seen(seat, block) || !marks.claim(seat, block) {
         return;

@@ -1,9 +1,9 @@
 //! Where a test can hold a worker.
 
-/// Is called by each worker before it scans an item: a piece of the roots, a part to scan again, or a block.
+/// Is called by each worker before it scans an item: a piece of the roots, a part to scan again, or a block that waited.
 ///
-/// What the caller scans of a later round before the workers start passes no gate. Gates are for tests, which hold a
-/// worker until another has come; [`Open`] holds none.
+/// Blocks that a worker takes from its stack pass no gate, nor does what the caller scans of a later round before the
+/// workers start. Gates are for tests, which hold a worker until another has come; [`Open`] holds none.
 pub trait Gate {
     /// Returns when the worker may scan its `step`-th item, counted from 0 over its own passes of the whole call.
     fn pass(&self, worker: u32, step: u64);

@@ -1,29 +1,32 @@
 //! The workers of a round, forked by halves. No other file starts a thread.
 ghost use Rattle.std.specs.Prelude.{◌≡◌, ◌++◌, IfOk, IsOkAnd};
 ghost use Rattle.leak_marks.specs.Seats.{IsSound, both_seats};
-ghost use Rattle.leak_pool.specs.Promises.{CanScan, HaveScanned};
+ghost use Rattle.leak_pool.specs.Promises.{AreBoth, CanScan, HaveScanned};
 
-use crate::task::{Lists, Task};
+use crate::task::{Gained, Task};
 use leak_marks::{MarkSeat, Marks};
 use std::alloc::Global;
 use std::thread::{Threads, join};
 
-// The lists of two halves, the first half's first.
-fn both(first: Lists, second: Lists) -> Lists
-    ensures { IfOk result (λ ls. IsOkAnd first (λ a. IsOkAnd second (λ b. ls.items ≡ a.items ++ b.items))) }
+// What two halves gained, the first half's first.
+fn both(first: Gained, second: Gained) -> Gained
+    ensures { IfOk result (λ all. IsOkAnd first (λ a. IsOkAnd second (λ b. AreBoth a b all))) }
 {
     let mut all = first?;
     let mut more = second?;
-    all.append(&mut more)?;
+    let claims = &mut all.claims;
+    claims.append(&mut more.claims)?;
+    let left = &mut all.left;
+    left.append(&mut more.left)?;
     Ok(all)
 }
 
 // Joins the seats of two halves.
-fn merge(marks: &Marks, lower: (MarkSeat, Lists), upper: (MarkSeat, Lists)) -> (MarkSeat, Lists)
+fn merge(marks: &Marks, lower: (MarkSeat, Gained), upper: (MarkSeat, Gained)) -> (MarkSeat, Gained)
     requires { (lower.0.table ≡ marks.now.table) × (upper.0.table ≡ marks.now.table) }
     ensures seat { result.0 ≡ both_seats lower.0 upper.0 }
     ensures sound { IsSound result.0 }
-    ensures lists { IfOk result.1 (λ ls. IsOkAnd lower.1 (λ a. IsOkAnd upper.1 (λ b. ls.items ≡ a.items ++ b.items))) }
+    ensures gained { IfOk result.1 (λ all. IsOkAnd lower.1 (λ a. IsOkAnd upper.1 (λ b. AreBoth a b all))) }
 {
     let (mut seat, first) = lower;
     let (other, second) = upper;
@@ -39,13 +42,13 @@ pub(crate) fn half<R: Threads + Sync, T: Task + Sync>(
     mut seat: MarkSeat,
     low: u32,
     high: u32,
-) -> (MarkSeat, Lists)
+) -> (MarkSeat, Gained)
     requires { CanScan (T.work task.now) low high seat }
     ensures { HaveScanned (T.work task.now) low high seat result.0 result.1 }
 {
     if high - low == 1 {
-        let lists = task.scan_share(alloc, &mut seat, low);
-        return (seat, lists);
+        let gained = task.scan_share(alloc, &mut seat, low);
+        return (seat, gained);
     }
     let middle = low + (high - low) / 2;
     if !task.is_shared(low, middle, high) {
@@ -53,16 +56,14 @@ pub(crate) fn half<R: Threads + Sync, T: Task + Sync>(
         let (seat, second) = half(rt, alloc, task, seat, middle, high);
         return (seat, both(first, second));
     }
-    let Some(other) = task.marks().split(&mut seat) else {
-        unreachable!()
-    };
+    let other = task.marks().split(&mut seat).unwrap();
     let (upper, lower) = join(
         rt,
-        move || -> (MarkSeat, Lists)
+        move || -> (MarkSeat, Gained)
             requires { CanScan (T.work task.now) middle high other }
             ensures { HaveScanned (T.work task.entry.now) middle high other result.0 result.1 }
         { half(rt, alloc, task, other, middle, high) },
-        move || -> (MarkSeat, Lists)
+        move || -> (MarkSeat, Gained)
             requires { CanScan (T.work task.now) low middle seat }
             ensures { HaveScanned (T.work task.entry.now) low middle seat result.0 result.1 }
         { half(rt, alloc, task, seat, low, middle) },

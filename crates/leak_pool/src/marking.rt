@@ -37,9 +37,7 @@ pub fn mark<R: Threads + Sync, W: Words + Sync, L: Lookup + Sync, G: Gate + Sync
         marked: Vec::new(alloc),
         rescan: Vec::new(alloc),
     };
-    let Some(pages) = Pages::new(Vec::new(alloc)) else {
-        unreachable!()
-    };
+    let pages = Pages::new(Vec::new(alloc)).unwrap();
     mark_from(
         rt, alloc, words, lookup, roots, live, plan, gate, &start, &pages,
     )
@@ -78,7 +76,7 @@ pub fn mark_from<R: Threads + Sync, W: Words + Sync, L: Lookup + Sync, G: Gate +
         pages,
     };
     let given = start.marked.as_slice();
-    let marked = mark_over(rt, alloc, &scope, gate, plan.workers(), given)?;
+    let marked = mark_over(rt, alloc, &scope, gate, plan, given)?;
     Ok(marked)
 }
 

@@ -8,12 +8,13 @@ ghost use Rattle.leak_pool.specs.Progress.{IsFresh, IsBetween};
 ghost use Rattle.leak_pool.specs.Marking.{IsSet};
 
 use crate::gate::Gate;
-use crate::later::{targets_are_blocks, until_none};
+use crate::later::until_none;
 use crate::marked::Marked;
+use crate::plan::Plan;
 use crate::progress::Progress;
 use crate::rounds::by_workers;
 use crate::search::Search;
-use crate::source::{Item, Source};
+use crate::source::{Item, Source, targets_are_blocks};
 use leak_marks::laws::whole_runs;
 use leak_marks::{MarkSeat, Marks};
 use std::alloc::{AllocError, Global};
@@ -79,16 +80,17 @@ fn mark_words<R: Threads + Sync, S: Source + Sync, G: Gate + Sync>(
     alloc: Global,
     source: &S,
     gate: &G,
-    workers: u32,
+    plan: Plan,
     given: &[u32],
 ) -> Result<(Vec<u64>, Vec<Vec<u32>>, u64), AllocError>
-    requires given { All (λ b. b < length (S.targets source.now)) given.now }
-    requires some { 0 < workers }
-    requires few { workers ≤ 64 }
+    requires { All (λ b. b < length (S.targets source.now)) given.now }
     ensures { let targets = S.targets source.now in let graph = graph_over (S.roots source.now) targets given.now in
-        IfOk result (λ r. AreWords graph (length targets) workers r.0.items (as_lists r.1.items) r.2) }
+        IfOk result (λ r. AreWords graph (length targets) plan.workers r.0.items (as_lists r.1.items) r.2) }
 {
     whole_runs();
+    let workers = plan.workers();
+    // A stack never holds more blocks than there are.
+    let stack = plan.stack().min(source.blocks());
     let (marks, seat) = Marks::new(alloc, source.blocks())?;
     let progress = Progress {
         seat,
@@ -102,6 +104,7 @@ fn mark_words<R: Threads + Sync, S: Source + Sync, G: Gate + Sync>(
         marks: &marks,
         given,
         workers,
+        stack,
     };
     let progress = first_round(rt, alloc, &search, progress)?;
     let (progress, rounds) = until_none(rt, alloc, &search, progress)?;
@@ -135,24 +138,22 @@ pub(crate) fn mark_over<R: Threads + Sync, S: Source + Sync, G: Gate + Sync>(
     alloc: Global,
     source: &S,
     gate: &G,
-    workers: u32,
+    plan: Plan,
     given: &[u32],
 ) -> Result<Marked, AllocError>
-    requires given { All (λ b. b < length (S.targets source.now)) given.now }
-    requires some { 0 < workers }
-    requires few { workers ≤ 64 }
+    requires { All (λ b. b < length (S.targets source.now)) given.now }
     ensures { let targets = S.targets source.now in let graph = graph_over (S.roots source.now) targets given.now in
-        IfOk result (λ m. IsMarked graph (length targets) workers m.set.items (as_lists m.claims.items) m.rounds) }
+        IfOk result (λ m. IsMarked graph (length targets) plan.workers m.set.items (as_lists m.claims.items) m.rounds) }
 {
     targets_are_blocks(source);
     if source.blocks() == 0 {
         return Ok(Marked {
             set: Vec::new(alloc),
-            claims: no_claims(alloc, workers)?,
+            claims: no_claims(alloc, plan.workers())?,
             rounds: 0,
         });
     }
-    let (words, claims, rounds) = mark_words(rt, alloc, source, gate, workers, given)?;
+    let (words, claims, rounds) = mark_words(rt, alloc, source, gate, plan, given)?;
     let set = set_of(alloc, words.as_slice(), source.blocks())?;
     Ok(Marked {
         set,

@@ -8,7 +8,7 @@ pub(crate) struct Progress {
     pub(crate) seat: MarkSeat,
     /// For each worker, the blocks that it claimed.
     pub(crate) claims: Vec<Vec<u32>>,
-    /// The blocks that were claimed in the round before.
+    /// The blocks that were claimed and are not scanned yet.
     pub(crate) waiting: Vec<u32>,
     /// For each worker, how many items it has scanned.
     pub(crate) steps: Vec<u64>,

@@ -1,6 +1,5 @@
 //! One round.
 ghost use Rattle.std.specs.Prelude.{◌≡◌, ◌≤◌, ◌++◌, length, All, IfOk};
-ghost use Rattle.std.specs.List.{concat};
 ghost use Rattle.leak_marks.specs.Lists.{Has};
 ghost use Rattle.leak_marks.specs.Rounds.{appended_from};
 ghost use Rattle.leak_pool.specs.Items.{IsItem, targets_of_item};
@@ -16,20 +15,21 @@ use crate::worker::share_start;
 use std::alloc::{AllocError, Global};
 use std::thread::Threads;
 
-// Puts the gained lists behind those of the workers, and behind the blocks that wait.
+// Puts the gained lists behind those of the workers, and the blocks that were left behind those that wait.
 fn absorb(
     claims: &mut Vec<Vec<u32>>,
     waiting: &mut Vec<u32>,
     gained: &[Vec<u32>],
+    left: &[u32],
 ) -> Result<(), AllocError>
     requires { length gained.now ≤ length claims.old.items }
     ensures count { length claims.new.items ≡ length claims.old.items }
     ensures claims { IfOk result (λ _. as_lists claims.new.items ≡ appended_from 0 (as_lists claims.old.items) (as_lists gained.now)) }
-    ensures waiting { IfOk result (λ _. waiting.new.items ≡ waiting.old.items ++ concat (as_lists gained.now)) }
+    ensures waiting { IfOk result (λ _. waiting.new.items ≡ waiting.old.items ++ left.now) }
 {
+    waiting.extend_from_slice(left)?;
     for k in 0..gained.len() {
         let more = gained[k].as_slice();
-        waiting.extend_from_slice(more)?;
         let list = &mut claims[k];
         list.extend_from_slice(more)?;
     }
@@ -81,7 +81,8 @@ pub(crate) fn by_workers<R: Threads + Sync, S: Source + Sync, G: Gate + Sync>(
     let (seat, gained) = half(rt, alloc, &round, seat, 0, search.workers);
     let gained = gained?;
     count_steps(&mut steps, items.len(), search.workers);
-    absorb(&mut claims, &mut waiting, gained.as_slice())?;
+    let left = gained.left.as_slice();
+    absorb(&mut claims, &mut waiting, gained.claims.as_slice(), left)?;
     Ok(Progress {
         seat,
         claims,
@@ -90,7 +91,7 @@ pub(crate) fn by_workers<R: Threads + Sync, S: Source + Sync, G: Gate + Sync>(
     })
 }
 
-/// The caller scans one item, as worker 0.
+/// The caller scans one item, as worker 0. What it claims waits for the next round.
 pub(crate) fn by_caller<S: Source, G: Gate>(
     alloc: Global,
     search: &Search<'_, S, G>,
@@ -109,5 +110,6 @@ pub(crate) fn by_caller<S: Source, G: Gate>(
     search.source.scan(search.marks, seat, &mut list, item)?;
     gained.push(list)?;
     let claims = &mut progress.claims;
-    absorb(claims, &mut progress.waiting, gained.as_slice())
+    let left = gained[0].as_slice();
+    absorb(claims, &mut progress.waiting, gained.as_slice(), left)
 }

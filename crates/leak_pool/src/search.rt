@@ -15,6 +15,8 @@ pub(crate) struct Search<'a, S: Source, G: Gate> {
     /// The blocks that are marked before the search.
     pub(crate) given: &'a [u32],
     pub(crate) workers: u32,
+    /// How many blocks a worker's stack holds at most.
+    pub(crate) stack: u32,
 }
 
 impl<'a, S: Source, G: Gate> Model for Search<'a, S, G> {
@@ -26,6 +28,7 @@ impl<'a, S: Source, G: Gate> Model for Search<'a, S, G> {
       targets = S.targets s.source.now;
       given = s.given.now;
       workers = s.workers;
+      stack = s.stack;
     } };
 
     ghost invariant = { λ s. IsSearch s.marks.now.blocks (S.targets s.source.now) s.given.now s.workers };

@@ -4,6 +4,7 @@ ghost use Rattle.leak_marks.specs.Lists.{Has};
 ghost use Rattle.leak_marks.specs.Seats.{IsSound};
 ghost use Rattle.leak_pool.specs.Items.{targets_of_item, IsItem};
 ghost use Rattle.leak_pool.specs.Promises.{IsScanned};
+ghost use Rattle.leak_pool.specs.declared.source.Item.{Item};
 
 use leak_marks::{MarkSeat, Marks};
 use std::alloc::AllocError;
@@ -51,4 +52,11 @@ pub(crate) trait Source {
 
     // a target is a block
     ghost inside: { (s : Self) (item : Item) (b : ℕ) → Has (targets_of_item (roots s) (targets s) item) b → b < length (targets s) };
+}
+
+/// What an item leads to are blocks: the law of the source, for its callers.
+pub(crate) fn targets_are_blocks<S: Source>(source: &S)
+    ensures { (item : Item) (b : ℕ) → Has (targets_of_item (S.roots source.now) (S.targets source.now) item) b → b < length (S.targets source.now) }
+{
+    let _ = source;
 }

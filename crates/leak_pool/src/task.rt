@@ -6,8 +6,17 @@ ghost use Rattle.leak_pool.specs.Promises.{HaveScanned};
 use leak_marks::{MarkSeat, Marks};
 use std::alloc::{AllocError, Global};
 
-/// For each worker the blocks that it claimed in a round.
-pub(crate) type Lists = Result<Vec<Vec<u32>>, AllocError>;
+/// What workers gained in a round.
+#[derive(Drop)]
+pub(crate) struct Gains {
+    /// For each worker, the blocks that it claimed.
+    pub(crate) claims: Vec<Vec<u32>>,
+    /// The blocks that were claimed and not scanned.
+    pub(crate) left: Vec<u32>,
+}
+
+/// What workers gained, unless memory ran out.
+pub(crate) type Gained = Result<Gains, AllocError>;
 
 /// Items of which each worker scans a share.
 pub(crate) trait Task {
@@ -24,7 +33,7 @@ pub(crate) trait Task {
         ensures { IsTrue result ↔ HaveBoth (work self.now) low middle high };
 
     /// One worker scans its share.
-    fn scan_share(&self, alloc: Global, seat: &mut MarkSeat, worker: u32) -> Lists
+    fn scan_share(&self, alloc: Global, seat: &mut MarkSeat, worker: u32) -> Gained
         requires seat { IsSeatOf (work self.now).scene seat.old }
         requires worker { worker < (work self.now).scene.workers }
         ensures { HaveScanned (work self.now) worker (worker + 1) seat.old seat.new result };

@@ -1,14 +1,15 @@
 //! What one worker does in a round.
-ghost use Rattle.std.specs.Prelude.{◌≡◌, ◌<◌, ◌≤◌, ◌+◌, [], ◌++◌, IfOk};
+ghost use Rattle.std.specs.Prelude.{◌≡◌, ◌<◌, ◌≤◌, ◌+◌, [], IfOk, vec_capacity};
 ghost use Rattle.leak_marks.specs.Seats.{IsSound};
-ghost use Rattle.leak_marks.specs.Rounds.{IsKeptInRounds};
-ghost use Rattle.leak_pool.specs.Items.{share};
-ghost use Rattle.leak_pool.specs.Scene.{IsSeatOf, InShares};
+ghost use Rattle.leak_pool.specs.Items.{IsItem, share, targets_of_item};
+ghost use Rattle.leak_pool.specs.Promises.{IsHolding, IsPutAway, IsWorking};
+ghost use Rattle.leak_pool.specs.Scene.{IsSeatOf, InShares, blocks_of};
 
 use crate::gate::Gate;
+use crate::hand::{Hand, put_away};
 use crate::search::Round;
-use crate::source::Source;
-use crate::task::{Lists, Task};
+use crate::source::{Item, Source, targets_are_blocks};
+use crate::task::{Gained, Gains, Task};
 use leak_marks::{MarkSeat, Marks};
 use std::alloc::{AllocError, Global};
 
@@ -26,33 +27,65 @@ pub(crate) fn share_start(worker: u32, items: usize, workers: u32) -> usize
     worker * (items / workers) + worker * (items % workers) / workers
 }
 
-// One worker scans its share.
+// Scans one item. What was claimed is put on the stack, or left.
+fn scan_one<S: Source, G: Gate>(
+    round: &Round<'_, '_, S, G>,
+    seat: &mut MarkSeat,
+    hand: &mut Hand,
+    item: Item,
+) -> Result<(), AllocError>
+    requires seat { IsSeatOf round.now.scene seat.old }
+    requires hand { IsHolding round.now.scene.stack seat.old hand.old }
+    requires item { IsItem round.now.scene.roots round.now.scene.targets item }
+    ensures same { (seat.new.table ≡ seat.old.table) × (seat.new.share ≡ seat.old.share) }
+    ensures sound { IsSound seat.new }
+    ensures done { let scene = round.now.scene in let targets = targets_of_item scene.roots scene.targets item in
+        IfOk result (λ _. IsPutAway targets scene.stack seat.old seat.new hand.old hand.new) }
+    ensures room { IfOk result (λ _. vec_capacity hand.new.stack ≡ vec_capacity hand.old.stack) }
+{
+    let search = round.search;
+    let from = hand.list.len();
+    let list = &mut hand.list;
+    search.source.scan(search.marks, seat, list, item)?;
+    let limit = search.stack as usize;
+    let claimed = &hand.list[from..];
+    put_away(claimed, limit, &mut hand.stack, &mut hand.left)
+}
+
+// One worker scans its share. Before each next item it empties its stack, by blocks that pass no gate.
 fn work<S: Source, G: Gate>(
     round: &Round<'_, '_, S, G>,
     seat: &mut MarkSeat,
-    list: &mut Vec<u32>,
+    hand: &mut Hand,
     worker: u32,
 ) -> Result<(), AllocError>
     requires seat { IsSeatOf round.now.scene seat.old }
     requires worker { worker < round.now.scene.workers }
-    requires empty { list.old.items ≡ [] }
+    requires none { (hand.old.list.items ≡ []) × (hand.old.stack.items ≡ []) × (hand.old.left.items ≡ []) }
+    requires room { round.now.scene.stack ≤ vec_capacity hand.old.stack }
     ensures same { (seat.new.table ≡ seat.old.table) × (seat.new.share ≡ seat.old.share) }
     ensures sound { IsSound seat.new }
-    ensures listed { IfOk result (λ _. seat.new.claims ≡ seat.old.claims ++ list.new.items) }
     ensures done { let share = InShares round.now worker (worker + 1) in
-        IfOk result (λ _. IsKeptInRounds share seat.old.seen seat.new.seen list.new.items) }
+        IfOk result (λ _. IsWorking (blocks_of round.now) share seat.old seat.new hand.new.list.items [] hand.new.left.items) }
 {
     let search = round.search;
+    targets_are_blocks(search.source);
     let items = round.items;
-    let first = share_start(worker, items.len(), search.workers);
+    let mut next = share_start(worker, items.len(), search.workers);
     let end = share_start(worker + 1, items.len(), search.workers);
     let mut step = round.steps[worker as usize];
-    for i in first..end {
-        search.gate.pass(worker, step);
-        step = step.wrapping_add(1);
-        search.source.scan(search.marks, seat, list, items[i])?;
+    'scan: loop {
+        if let Some(block) = hand.stack.pop() {
+            scan_one(round, seat, hand, Item::Block(block))?;
+        } else if next < end {
+            search.gate.pass(worker, step);
+            step = step.wrapping_add(1);
+            scan_one(round, seat, hand, items[next])?;
+            next += 1;
+        } else {
+            return Ok(());
+        }
     }
-    Ok(())
 }
 
 impl<'a, 'b, S: Source, G: Gate> Task for Round<'a, 'b, S, G> {
@@ -71,11 +104,17 @@ impl<'a, 'b, S: Source, G: Gate> Task for Round<'a, 'b, S, G> {
         share_start(low, items, workers) < start && start < share_start(high, items, workers)
     }
 
-    fn scan_share(&self, alloc: Global, seat: &mut MarkSeat, worker: u32) -> Lists {
-        let mut lists = Vec::with_capacity(alloc, 1)?;
-        let mut list = Vec::new(alloc);
-        work(self, seat, &mut list, worker)?;
-        lists.push(list)?;
-        Ok(lists)
+    fn scan_share(&self, alloc: Global, seat: &mut MarkSeat, worker: u32) -> Gained {
+        let search = self.search;
+        let mut claims = Vec::with_capacity(alloc, 1)?;
+        let mut hand = Hand {
+            list: Vec::new(alloc),
+            stack: Vec::with_capacity(alloc, search.stack as usize)?,
+            left: Vec::new(alloc),
+        };
+        work(self, seat, &mut hand, worker)?;
+        let Hand { list, left, .. } = hand;
+        claims.push(list)?;
+        Ok(Gains { claims, left })
     }
 }

@@ -78,3 +78,15 @@ mod fakes;
 // What a refusal prints.
 #[cfg(test)]
 mod texts;
+
+// Marking without a report.
+#[cfg(test)]
+mod marking;
+
+// Rounds, by the number of entries in a worker's stack.
+#[cfg(test)]
+mod stacks;
+
+// Gates that many workers pass.
+#[cfg(test)]
+mod gates;

@@ -12,6 +12,7 @@ loop-block-preserved g c = scanning_more _ _ _ c.in-Some.block _ _ c.loop-block.
     c.claim.ensures.same.0 c.claim.ensures.same.1 c.claim.ensures.sound c.claim.ensures.seen
     (λ base e. c.claim.ensures.listed base (e ∙ ap (λ (l : List ℕ). base ++ l) (sym c.reserve.ensures.items)))
     (λ b h. ⊎_elim (λ old. inl (subst (λ (l : List ℕ). Has l b) c.reserve.ensures.items old)) (λ new. inr new) (c.claim.ensures.gained b h))
+    (c.claim.ensures.grown.0, c.claim.ensures.grown.1 ∙ ap (λ (l : List ℕ). l ++ c.claim.ensures.grown.0) c.reserve.ensures.items)
 
 pub overflow_cast-block : goal.overflow_cast-block
 overflow_cast-block g c =

@@ -1,7 +1,7 @@
 use Rattle.std.proofs.Common.{◌≡◌, ◌<◌, ◌∙◌, ap, sym, subst, ◌∷◌, ℕ, List, [], Vec, Global, length, map, get_or, take, drop, ◌-◌, arith}
 use Rattle.std.proofs.lemmas.List.{get_or_read}
 use Rattle.leak_marks.specs.Lists.{Has}
-use Rattle.leak_pool.specs.Items.{IsItem}
+use Rattle.leak_pool.specs.Items.{IsItem, targets_of_block}
 use Rattle.leak_pool.specs.declared.source.Item.{Item}
 use Rattle.leak_pool.specs.declared.source.Item.TheVariants.{Block}
 use Rattle.leak_pool.specs.declared.progress.Progress.{Progress}
@@ -41,8 +41,8 @@ returns-clause-size g c =
     let scene = c.args.search.now in let from = c.args.progress in let mid = c.by_caller.new.progress in
     let first = c.in_ok-by_caller.ensures.done in
     if_ok (HasScanned (InItems scene c.as_slice.result.now) scene mid) _ c.by_workers.result
-    (λ (p : Progress) second. two_steps _ _ scene.workers (claims_of from) (claims_of mid) (claims_of p) c.replace-waiting.new.dest.items mid.waiting.items p.waiting.items from.seat mid.seat p.seat first.0 second.0
-    (ap (λ (v : Vec ℕ Global). v.items) c.replace-waiting.ensures.after ∙ c.new.ensures.items) first.1 second.1)
+    (λ (p : Progress) second. two_steps (targets_of_block scene.targets) _ _ scene.workers (claims_of from) (claims_of mid) (claims_of p) c.replace-waiting.new.dest.items mid.waiting.items p.waiting.items from.seat mid.seat p.seat first.0 second.0 first.1 second.1
+    (ap (λ (v : Vec ℕ Global). v.items) c.replace-waiting.ensures.after ∙ c.new.ensures.items) first.2 second.2)
     c.by_workers.ensures.done
 
 pub returns-clause-between : goal.returns-clause-between
@@ -57,20 +57,21 @@ returns-clause-between g c =
     let is : c.as_slice.result.now ≡ map Block ws = c.as_slice.ensures.value ∙ c.in_ok-items.ensures ∙ ap (λ (l : List ℕ). as_items (take (length l - 1) (drop 1 l))) c.deref.ensures.value in
     let going : IsGoing (graph_over scene.roots scene.targets scene.given) (length scene.targets) scene.workers base (claims_of from) (x ∷ ws) from.seat =
     subst (λ (l : List ℕ). IsGoing (graph_over scene.roots scene.targets scene.given) (length scene.targets) scene.workers base (claims_of from) l from.seat) (sym (ap (λ (v : Vec ℕ Global). v.items) c.replace-waiting.ensures.value) ∙ front_rest all.items some) c.requires.between.going.1 in
-    let one : IsStep (Has (get_or scene.targets x [])) scene.workers (claims_of from) c.replace-waiting.new.dest.items from.seat (claims_of mid) mid.waiting.items mid.seat first.0 =
-    subst (λ (b : ℕ). IsStep (Has (get_or scene.targets b [])) scene.workers (claims_of from) c.replace-waiting.new.dest.items from.seat (claims_of mid) mid.waiting.items mid.seat first.0) (get_or_read all.items _ _ some c.index.ensures 0) first.1 in
+    let blocks = targets_of_block scene.targets in
+    let one : IsStep blocks (Has (get_or scene.targets x [])) scene.workers (claims_of from) c.replace-waiting.new.dest.items from.seat (claims_of mid) mid.waiting.items mid.seat first.0 first.1 =
+    subst (λ (b : ℕ). IsStep blocks (Has (get_or scene.targets b [])) scene.workers (claims_of from) c.replace-waiting.new.dest.items from.seat (claims_of mid) mid.waiting.items mid.seat first.0 first.1) (get_or_read all.items _ _ some c.index.ensures 0) first.2 in
     let inside = subst (λ (s : Scene). (k b : ℕ) → Has (get_or s.targets k []) b → b < length s.targets) c.search.view_is (λ k b h. c.targets_are_blocks.ensures (Block k) b h) in
     ok_both (IsReady scene) (HasScanned (InItems scene c.as_slice.result.now) scene mid) (IsBetween scene) c.by_workers.result
     (λ (p : Progress) ready two. record {
       ready = ready;
       small = c.requires.between.small;
-      few = let s = two_steps _ _ scene.workers (claims_of from) (claims_of mid) (claims_of p) c.replace-waiting.new.dest.items mid.waiting.items p.waiting.items from.seat mid.seat p.seat first.0 two.0 none first.1 two.1 in omega arith;
+      few = let s = two_steps blocks _ _ scene.workers (claims_of from) (claims_of mid) (claims_of p) c.replace-waiting.new.dest.items mid.waiting.items p.waiting.items from.seat mid.seat p.seat first.0 two.0 first.1 two.1 none first.2 two.2 in omega arith;
       going = (
         base,
         later_round scene.roots scene.targets scene.given (length scene.targets) scene.workers base x ws (claims_of from) (claims_of mid) (claims_of p) c.replace-waiting.new.dest.items mid.waiting.items p.waiting.items
-            from.seat mid.seat p.seat first.0 two.0 c.as_slice.result.now
-            inside is (blocks_long ws) none going one two.1,
-        λ b h. two.1.kept.keeps b (one.kept.keeps b (c.requires.between.going.2 b h)),
+            from.seat mid.seat p.seat first.0 two.0 first.1 two.1 c.as_slice.result.now
+            inside is (blocks_long ws) none going one two.2,
+        λ b h. two.2.kept.keeps b (one.kept.keeps b (c.requires.between.going.2 b h)),
       );
     })
     c.by_workers.ensures.ready c.by_workers.ensures.done

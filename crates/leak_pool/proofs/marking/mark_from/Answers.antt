@@ -22,8 +22,8 @@ invariant_of-scope g c =
           (parts_inside (length c.args.live.now.blocks) c.args.start.now.marked.items c.args.start.now.rescan.items c.requires.start.inside c.requires.start.rescan));
     }
 
-pub mark_over-requires-clause-given : goal.mark_over-requires-clause-given
-mark_over-requires-clause-given g c κs within k d h =
+pub mark_over-requires-after_bounds : goal.mark_over-requires-after_bounds
+mark_over-requires-after_bounds g c κs within k d h =
     let w = g.W.Words.word_at c.args.words.now in let i = g.L.Lookup.index c.args.lookup.now in
     let v : c.as_slice-given.result.now ≡ c.args.start.now.marked.items = c.as_slice-given.ensures.value in
     let b = c.requires.start.inside (slice_index_or c.args.start.now.marked.items k d) (at_has_any c.args.start.now.marked.items k d (subst (λ (l : List ℕ). k < length l) v h)) in
@@ -35,13 +35,11 @@ pub returns-clause-marks : goal.returns-clause-marks
 returns-clause-marks g c =
     let w = g.W.Words.word_at c.args.words.now in let i = g.L.Lookup.index c.args.lookup.now in
     let m = c.in_ok-marked.marked in let s = c.args.start.now in
-    let a : IsMarked (graph_over (root_targets w i c.args.roots.now c.as_slice.result.now c.args.pages.now c.as_slice-2.result.now) (all_targets w i) c.as_slice-given.result.now) (length (all_targets w i)) c.workers.result m.set.items (lists_of m) m.rounds = c.in_ok-marked.ensures in
-    let b : IsMarked (graph_over (root_targets w i c.args.roots.now c.in_ok-pieces.pieces.items c.args.pages.now c.as_slice-2.result.now) (all_targets w i) c.as_slice-given.result.now) (length (all_targets w i)) c.workers.result m.set.items (lists_of m) m.rounds =
-    subst (λ (l : List Piece). IsMarked (graph_over (root_targets w i c.args.roots.now l c.args.pages.now c.as_slice-2.result.now) (all_targets w i) c.as_slice-given.result.now) (length (all_targets w i)) c.workers.result m.set.items (lists_of m) m.rounds) c.as_slice.ensures.value a in
-    let d : IsMarked (graph_over (root_targets w i c.args.roots.now c.in_ok-pieces.pieces.items c.args.pages.now s.rescan.items) (all_targets w i) c.as_slice-given.result.now) (length (all_targets w i)) c.workers.result m.set.items (lists_of m) m.rounds =
-    subst (λ (l : List (ℕ × Part)). IsMarked (graph_over (root_targets w i c.args.roots.now c.in_ok-pieces.pieces.items c.args.pages.now l) (all_targets w i) c.as_slice-given.result.now) (length (all_targets w i)) c.workers.result m.set.items (lists_of m) m.rounds) c.as_slice-2.ensures.value b in
-    let e : IsMarked (graph_over (root_targets w i c.args.roots.now c.in_ok-pieces.pieces.items c.args.pages.now s.rescan.items) (all_targets w i) s.marked.items) (length (all_targets w i)) c.workers.result m.set.items (lists_of m) m.rounds =
-    subst (λ (l : List ℕ). IsMarked (graph_over (root_targets w i c.args.roots.now c.in_ok-pieces.pieces.items c.args.pages.now s.rescan.items) (all_targets w i) l) (length (all_targets w i)) c.workers.result m.set.items (lists_of m) m.rounds) c.as_slice-given.ensures.value d in
-    let f : IsMarked (graph_over (root_targets w i c.args.roots.now c.in_ok-pieces.pieces.items c.args.pages.now s.rescan.items) (all_targets w i) s.marked.items) (length (all_targets w i)) c.args.plan.workers m.set.items (lists_of m) m.rounds =
-    subst (λ (n : ℕ). IsMarked (graph_over (root_targets w i c.args.roots.now c.in_ok-pieces.pieces.items c.args.pages.now s.rescan.items) (all_targets w i) s.marked.items) (length (all_targets w i)) n m.set.items (lists_of m) m.rounds) c.workers.ensures.number e in
-    marks_from w i c.args.roots.now c.in_ok-pieces.pieces.items c.args.pages.now s c.args.plan.workers c.args.plan.piece m c.in_ok-pieces.ensures f
+    let a : IsMarked (graph_over (root_targets w i c.args.roots.now c.as_slice.result.now c.args.pages.now c.as_slice-2.result.now) (all_targets w i) c.as_slice-given.result.now) (length (all_targets w i)) c.args.plan.workers m.set.items (lists_of m) m.rounds = c.in_ok-marked.ensures in
+    let b : IsMarked (graph_over (root_targets w i c.args.roots.now c.in_ok-pieces.pieces.items c.args.pages.now c.as_slice-2.result.now) (all_targets w i) c.as_slice-given.result.now) (length (all_targets w i)) c.args.plan.workers m.set.items (lists_of m) m.rounds =
+    subst (λ (l : List Piece). IsMarked (graph_over (root_targets w i c.args.roots.now l c.args.pages.now c.as_slice-2.result.now) (all_targets w i) c.as_slice-given.result.now) (length (all_targets w i)) c.args.plan.workers m.set.items (lists_of m) m.rounds) c.as_slice.ensures.value a in
+    let d : IsMarked (graph_over (root_targets w i c.args.roots.now c.in_ok-pieces.pieces.items c.args.pages.now s.rescan.items) (all_targets w i) c.as_slice-given.result.now) (length (all_targets w i)) c.args.plan.workers m.set.items (lists_of m) m.rounds =
+    subst (λ (l : List (ℕ × Part)). IsMarked (graph_over (root_targets w i c.args.roots.now c.in_ok-pieces.pieces.items c.args.pages.now l) (all_targets w i) c.as_slice-given.result.now) (length (all_targets w i)) c.args.plan.workers m.set.items (lists_of m) m.rounds) c.as_slice-2.ensures.value b in
+    let e : IsMarked (graph_over (root_targets w i c.args.roots.now c.in_ok-pieces.pieces.items c.args.pages.now s.rescan.items) (all_targets w i) s.marked.items) (length (all_targets w i)) c.args.plan.workers m.set.items (lists_of m) m.rounds =
+    subst (λ (l : List ℕ). IsMarked (graph_over (root_targets w i c.args.roots.now c.in_ok-pieces.pieces.items c.args.pages.now s.rescan.items) (all_targets w i) l) (length (all_targets w i)) c.args.plan.workers m.set.items (lists_of m) m.rounds) c.as_slice-given.ensures.value d in
+    marks_from w i c.args.roots.now c.in_ok-pieces.pieces.items c.args.pages.now s c.args.plan.workers c.args.plan.piece m c.in_ok-pieces.ensures e

@@ -1,7 +1,7 @@
 use Rattle.std.proofs.Common.{◌≡◌, ◌<◌, ◌∙◌, ap, sym, subst, ◌^◌, All, ℕ, List, length, arith}
 use Rattle.leak_marks.specs.Lists.{Has, Within}
 use Rattle.leak_marks.specs.Seats.{Held}
-use Rattle.leak_pool.specs.Items.{IsItem, targets_of_item}
+use Rattle.leak_pool.specs.Items.{IsItem, targets_of_block, targets_of_item}
 use Rattle.leak_pool.specs.declared.source.Item.{Item}
 use Rattle.leak_pool.specs.declared.source.Item.TheVariants.{Root}
 use Rattle.leak_pool.specs.Rounds.{AreRoots, graph_over}
@@ -38,8 +38,8 @@ returns g c =
     (λ (p : Progress) ready step. record {
       ready = ready;
       small = subst (λ (s : Scene). length s.targets < 2 ^ 32) c.search.view_is c.search.invariant.small;
-      few = one_step _ scene.workers (claims_of mid) (claims_of p) mid.waiting.items p.waiting.items seat p.seat step.0 c.requires.idle step.1;
-      going = first_going scene.roots scene.targets scene.given scene.workers seat (claims_of from) (claims_of p) from.waiting.items p.waiting.items p.seat step.0 c.as_slice.result.now
-          begun c.requires.idle (l ∙ n) (λ k h. r.each k (Root 0) (omega arith)) law step.1;
+      few = one_step (targets_of_block scene.targets) _ scene.workers (claims_of mid) (claims_of p) mid.waiting.items p.waiting.items seat p.seat step.0 step.1 c.requires.idle step.2;
+      going = first_going scene.roots scene.targets scene.given scene.workers seat (claims_of from) (claims_of p) from.waiting.items p.waiting.items p.seat step.0 step.1 c.as_slice.result.now
+          begun c.requires.idle (l ∙ n) (λ k h. r.each k (Root 0) (omega arith)) law step.2;
     })
     c.by_workers.ensures.ready c.by_workers.ensures.done

@@ -1,4 +1,4 @@
-use Rattle.std.proofs.Common.{◌≡◌, ℕ, List, Vec, Global, map, length, sym, subst, ◌∙◌, arith}
+use Rattle.std.proofs.Common.{◌≡◌, ℕ, List, [], Vec, Global, map, length, replicate, ap, sym, subst, ◌∙◌, arith}
 use Rattle.leak_marks.specs.Lists.{mark_of}
 use Rattle.leak_pool.specs.Marking.{IsSet}
 use Rattle.leak_pool.specs.Rounds.{graph_over}
@@ -16,10 +16,10 @@ returns g c =
     let set : IsSet c.in_ok-set.set.items c.blocks-3.result (λ b. mark_of c.as_slice.result.now b ≡ 1) = c.in_ok-set.ensures in
     let same : IsSet c.in_ok-set.set.items (length targets) (λ b. mark_of c.as_slice.result.now b ≡ 1) =
     subst (λ (n : ℕ). IsSet c.in_ok-set.set.items n (λ b. mark_of c.as_slice.result.now b ≡ 1)) c.blocks-3.ensures set in
-    marked_of_words (graph_over roots targets c.args.given.now) (length targets) c.args.workers c.in_ok-words.rounds c.in_ok-words.words.items (map items c.in_ok-words.claims.items) c.in_ok-set.set.items
+    marked_of_words (graph_over roots targets c.args.given.now) (length targets) c.args.plan.workers c.in_ok-words.rounds c.in_ok-words.words.items (map items c.in_ok-words.claims.items) c.in_ok-set.set.items
     (let z = c.if-blocks-eq0.false in omega arith) c.in_ok-words.ensures
     (subst (λ (l : List ℕ). IsSet c.in_ok-set.set.items (length targets) (λ b. mark_of l b ≡ 1)) c.as_slice.ensures.value same)
 
 pub returns-then-blocks-eq0 : goal.returns-then-blocks-eq0
-returns-then-blocks-eq0 g c = marked_none (g.S.Source.roots c.args.source.now) (g.S.Source.targets c.args.source.now) c.args.given.now c.args.workers (map items c.in_ok-no_claims.field-0.items) _
-    (sym c.blocks-2.ensures ∙ c.if-blocks-eq0.true) c.in_ok-no_claims.ensures.lists c.new.ensures.items (λ i b h. c.targets_are_blocks.ensures i b h)
+returns-then-blocks-eq0 g c = marked_none (g.S.Source.roots c.args.source.now) (g.S.Source.targets c.args.source.now) c.args.given.now c.args.plan.workers (map items c.in_ok-no_claims.field-0.items) _
+    (sym c.blocks-2.ensures ∙ c.if-blocks-eq0.true) (c.in_ok-no_claims.ensures.lists ∙ ap (λ (n : ℕ). replicate n []) c.workers.ensures.number) c.new.ensures.items (λ i b h. c.targets_are_blocks.ensures i b h)

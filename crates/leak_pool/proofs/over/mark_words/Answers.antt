@@ -1,6 +1,6 @@
-use Rattle.std.proofs.Common.{◌≡◌, ℕ, List, Vec, Global, ◌∙◌, ap, subst}
+use Rattle.std.proofs.Common.{◌≡◌, ℕ, List, Vec, Global, length, ◌∙◌, ap, subst}
 use Rattle.leak_marks.specs.Lists.{times, Within, mark_of, word_count}
-use Rattle.leak_pool.specs.Rounds.{Going}
+use Rattle.leak_pool.specs.Rounds.{AreWords, Going, graph_over}
 use Rattle.leak_pool.specs.Progress.{claims_of}
 use Rattle.leak_pool.proofs.StepLemmas.{ok_at}
 use Rattle.leak_pool.proofs.EndLemmas.{words_at_end}
@@ -13,9 +13,10 @@ pub returns : goal.returns
 returns g c =
     let roots = g.S.Source.roots c.args.source.now in let targets = g.S.Source.targets c.args.source.now in
     let p = c.in_ok-progress-2.progress in
-    let going = subst (λ (l : List ℕ). Going roots targets c.args.given.now c.args.workers (claims_of p) l p.seat) c.in_ok-progress-2.ensures.ended c.in_ok-progress-2.ensures.between.going in
-    words_at_end roots targets c.args.given.now c.args.workers c.in_ok-progress-2.rounds (claims_of p) p.seat c.in_ok-words.words.items
+    let going = subst (λ (l : List ℕ). Going roots targets c.args.given.now c.workers-workers.result (claims_of p) l p.seat) c.in_ok-progress-2.ensures.ended c.in_ok-progress-2.ensures.between.going in
+    subst (λ (n : ℕ). AreWords (graph_over roots targets c.args.given.now) (length targets) n c.in_ok-words.words.items (claims_of p) c.in_ok-progress-2.rounds) c.workers-workers.ensures.number
+    (words_at_end roots targets c.args.given.now c.workers-workers.result c.in_ok-progress-2.rounds (claims_of p) p.seat c.in_ok-words.words.items
     c.whole_runs.ensures.partition going
     (λ full. ok_at c.close.result c.in_ok-words.words (λ w. Within p.seat.seen p.seat.claims × ((b : ℕ) → mark_of w.items b ≡ times b p.seat.claims)) c.in_ok-words.was (c.close.ensures.whole full))
-    (c.in_ok-words.ensures.len ∙ ap word_count (c.in_ok-marks.ensures.0 ∙ c.blocks-2.ensures))
-    c.in_ok-progress-2.ensures.rounds
+    (c.in_ok-words.ensures.len ∙ ap word_count (c.in_ok-marks.ensures.0 ∙ c.blocks-3.ensures))
+    c.in_ok-progress-2.ensures.rounds)

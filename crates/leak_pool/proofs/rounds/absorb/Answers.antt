@@ -1,5 +1,5 @@
 use Rattle.std.proofs.Common.{ℕ, List, Vec, Global, ◌∙◌, length-set, arith}
-use Rattle.leak_pool.proofs.AbsorbLemmas.{claims_more, waiting_more}
+use Rattle.leak_pool.proofs.AbsorbLemmas.{claims_more}
 use Rattle.leak_pool.proofs.rounds.absorb.Goals as goal
 
 abbrev items : Vec ℕ Global → List ℕ
@@ -10,6 +10,4 @@ loop-k-preserved c = (
   length-set c.loop-k.claims.items c.loop-k.k c.extend_from_slice-in-loop-k.new.self ∙ c.loop-k.invariant.0,
   claims_more items c.loop-k.claims.items c.args.gained.now c.loop-k.k c.index_mut-list.result.now c.extend_from_slice-in-loop-k.new.self c.index-gained-k.result c.as_slice-more.result.now _ (omega (arith, c.loop-k.invariant.0, c.requires)) (omega arith) c.index_mut-list.ensures.value c.index-gained-k.is
       c.as_slice-more.ensures.value c.in_ok-extend_from_slice-2.ensures.items c.loop-k.invariant.1,
-  waiting_more items c.args.gained.now c.loop-k.k c.index-gained-k.result c.as_slice-more.result.now c.loop-k.waiting.items c.extend_from_slice.new.self.items _ (omega arith) c.index-gained-k.is
-      c.as_slice-more.ensures.value c.in_ok-extend_from_slice.ensures.items c.loop-k.invariant.2,
 )

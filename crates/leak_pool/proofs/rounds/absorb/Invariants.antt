@@ -1,5 +1,4 @@
-use Rattle.std.proofs.Common.{◌≡◌, ◌++◌, map, drop, length}
-use Rattle.std.specs.List.{concat}
+use Rattle.std.proofs.Common.{◌≡◌, map, drop, length}
 use Rattle.leak_marks.specs.Rounds.{appended_from}
 use Rattle.leak_pool.proofs.rounds.absorb.Given as goal
 
@@ -7,4 +6,3 @@ abbrev pub invariant-loop-k : goal.invariant-loop-k
 invariant-loop-k l =
     (length l.claims.items ≡ length l.initial.claims.items)
     × (appended_from l.k (map (λ v. v.items) l.claims.items) (drop l.k (map (λ v. v.items) l.gained)) ≡ appended_from 0 (map (λ v. v.items) l.initial.claims.items) (map (λ v. v.items) l.gained))
-    × (l.waiting.items ++ concat (drop l.k (map (λ v. v.items) l.gained)) ≡ l.initial.waiting.items ++ concat (map (λ v. v.items) l.gained))

@@ -1,40 +1,41 @@
 use Rattle.std.proofs.Common.{◌≡◌, ◌<◌, ◌∙◌, ap, subst, ◌++◌, ℕ, List, [], Vec, Global, length, map, arith, rules}
 use Rattle.std.specs.Prelude.{IfOk}
-use Rattle.std.specs.List.{concat}
 use Rattle.leak_marks.specs.Rounds.{appended_from}
-use Rattle.leak_pool.specs.Items.{targets_at}
+use Rattle.leak_pool.specs.Items.{targets_at, targets_of_block}
 use Rattle.leak_pool.specs.Promises.{IsHalf}
 use Rattle.leak_pool.specs.Scene.{Scene}
+use Rattle.leak_pool.specs.declared.task.Gains.{Gains}
 use Rattle.leak_pool.proofs.StepLemmas.{ok_at, step_of_half, step_of_none}
 use Rattle.leak_pool.proofs.rounds.by_workers.Goals as goal
 
 abbrev items : Vec ℕ Global → List ℕ
 items v = v.items
 
-abbrev Lists : Type 0
-Lists = Vec (Vec ℕ Global) Global
-
 pub returns-clause-done : goal.returns-clause-done
 returns-clause-done g c =
     let scene = c.args.search.now in let p = c.args.progress in
+    let blocks = targets_of_block scene.targets in
     let targets = targets_at scene.roots scene.targets c.args.items.now in
     let n : ℕ = length c.args.items.now in
     let w : ℕ = scene.workers in
     let same_workers : c.search.inside.workers ≡ w = ap (λ (s : Scene). s.workers) c.search.view_is in
     let some : 0 < w = let s = c.search.invariant.some in omega arith in
     let scanned = c.half-seat.ensures in
-    let done = subst (λ (k : ℕ). IfOk c.half-seat.result.1 (λ (ls : Lists). IsHalf targets n w 0 k p.seat c.half-seat.result.0 (map items ls.items))) same_workers scanned.done in
-    let h = ok_at c.half-seat.result.1 c.in_ok-gained.gained (λ (ls : Lists). IsHalf targets n w 0 w p.seat c.half-seat.result.0 (map items ls.items)) c.in_ok-gained.was done in
-    let same : c.as_slice-2.result.now ≡ c.in_ok-gained.gained.items = c.as_slice-2.ensures.value in (
-      map items c.in_ok-gained.gained.items,
-      step_of_half targets n w (map items p.claims.items) p.waiting.items p.seat (map items c.absorb.new.claims.items) c.absorb.new.waiting.items c.half-seat.result.0 (map items c.in_ok-gained.gained.items)
+    let gains : Gains = c.in_ok-gained.gained in
+    let done = subst (λ (k : ℕ). IfOk c.half-seat.result.1 (λ (g : Gains). IsHalf blocks targets n w 0 k p.seat c.half-seat.result.0 (map items g.claims.items) g.left.items)) same_workers scanned.done in
+    let h = ok_at c.half-seat.result.1 gains (λ (g : Gains). IsHalf blocks targets n w 0 w p.seat c.half-seat.result.0 (map items g.claims.items) g.left.items) c.in_ok-gained.was done in
+    let same : c.as_slice-2.result.now ≡ gains.claims.items = c.as_slice-2.ensures.value in
+    let left : c.as_slice-left.result.now ≡ gains.left.items = c.as_slice-left.ensures.value in (
+      map items gains.claims.items,
+      gains.left.items,
+      step_of_half blocks targets n w (map items p.claims.items) p.waiting.items p.seat (map items c.absorb.new.claims.items) c.absorb.new.waiting.items c.half-seat.result.0 (map items gains.claims.items) gains.left.items
           some h scanned.table scanned.share scanned.sound
           (c.in_ok-absorb.ensures.claims ∙ ap (λ (l : List (Vec ℕ Global)). appended_from 0 (map items p.claims.items) (map items l)) same)
-          (c.in_ok-absorb.ensures.waiting ∙ ap (λ (l : List (Vec ℕ Global)). p.waiting.items ++ concat (map items l)) same),
+          (c.in_ok-absorb.ensures.waiting ∙ ap (λ (l : List ℕ). p.waiting.items ++ l) left),
     )
 
 pub returns-then-is_empty-clause-done : goal.returns-then-is_empty-clause-done
 returns-then-is_empty-clause-done g c =
     let scene = c.args.search.now in let p = c.args.progress in
     let none : length c.args.items.now ≡ 0 = search rules in
-    ([], step_of_none (targets_at scene.roots scene.targets c.args.items.now) (length c.args.items.now) scene.workers (map items p.claims.items) p.waiting.items p.seat none c.requires.ready.sound)
+    ([], [], step_of_none (targets_of_block scene.targets) (targets_at scene.roots scene.targets c.args.items.now) (length c.args.items.now) scene.workers (map items p.claims.items) p.waiting.items p.seat none c.requires.ready.sound)

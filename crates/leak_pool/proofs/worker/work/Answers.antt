@@ -1,42 +1,117 @@
-use Rattle.std.proofs.Common.{◌≡◌, ◌+◌, ◌∙◌, arith, [], List, ℕ, ap, subst, length}
+use Rattle.std.proofs.Common.{◌≡◌, ◌<◌, ◌≤◌, ◌∙◌, ◌+◌, ◌-◌, ◌∷◌, ◌++◌, ap, sym, subst, ℕ, List, [], length, arith}
+use Rattle.std.specs.Prelude.{slice_index_or, vec_capacity}
+use Rattle.std.proofs.lemmas.List.{append-nil, length-append}
 use Rattle.leak_marks.specs.Lists.{Has}
-use Rattle.leak_marks.specs.Rounds.{IsKeptInRounds}
-use Rattle.leak_pool.specs.Items.{InRange, targets_at, share}
+use Rattle.leak_marks.proofs.ListLemmas.{has_back, has_last}
+use Rattle.leak_pool.specs.Items.{InRange, share, targets_of_item}
+use Rattle.leak_pool.specs.declared.hand.Hand.{Hand}
 use Rattle.leak_pool.specs.declared.source.Item.{Item}
-use Rattle.leak_pool.specs.Promises.{IsScanned}
-use Rattle.leak_pool.specs.Scene.{Scene, Work}
+use Rattle.leak_pool.specs.declared.source.Item.TheVariants.{Root}
+use Rattle.leak_pool.specs.Promises.{IsPutAway, IsWorking}
+use Rattle.leak_pool.specs.Scene.{Scene, Work, blocks_of, items_of}
 use Rattle.leak_pool.proofs.HalfLemmas.{share-mono}
-use Rattle.leak_pool.proofs.ScanLemmas.{scanning_item, scanning_nothing, kept_from_empty, claims_from_empty}
+use Rattle.leak_pool.proofs.WorkLemmas.{working_none, worker_inside, worker_few, put_block, put_item, put_few, put_grown, put_longer}
 use Rattle.leak_pool.proofs.worker.work.Goals as goal
 
 abbrev work : List Item → Scene → Work
 work items scene = record { scene = scene; items = items }
 
-abbrev targets : Work → ℕ → List ℕ
-targets w k = targets_at w.scene.roots w.scene.targets w.items k
-
-pub loop-i-init : goal.loop-i-init
-loop-i-init g c = scanning_nothing _ c.share_start-first.result c.args.seat.now c.args.list.now.items c.requires.seat.sound
-
-pub loop-i-preserved : goal.loop-i-preserved
-loop-i-preserved g c =
-    let is = ap (λ (s : Scene). work c.round.inside.items.now s) c.search.view_is ∙ c.round.view_is in
-    let done : IsScanned (Has (targets c.args.round.now c.loop-i.i)) [] c.loop-i.seat.seen c.loop-i.list.items c.scan.new.seat.seen c.scan.new.list.items =
-    subst (λ (w : Work). IsScanned (Has (targets w c.loop-i.i)) [] c.loop-i.seat.seen c.loop-i.list.items c.scan.new.seat.seen c.scan.new.list.items) is c.in_ok-scan.ensures.done in
-    scanning_item (targets c.args.round.now) c.share_start-first.result c.loop-i.i _ _ c.loop-i.seat c.loop-i.list.items _ _ (omega arith) c.loop-i.invariant
-    c.in_ok-scan.ensures.same.0 c.in_ok-scan.ensures.same.1 c.in_ok-scan.ensures.sound c.in_ok-scan.ensures.listed done
-
-pub returns-clause-done : goal.returns-clause-done
-returns-clause-done g c =
-    let is = ap (λ (s : Scene). work c.round.inside.items.now s) c.search.view_is ∙ c.round.view_is in
-    let w = c.args.round.now in let k = c.args.worker in
+pub scan-init : goal.scan-init
+scan-init g c =
+    let w = c.args.round.now in let k = c.args.worker in let first = c.share_start-next.result in
     let mono = share-mono k (k + 1) (length c.round.inside.items.now) c.search.inside.workers c.search.invariant.some (omega arith) in
-    let end : c.loop-i.i ≡ share (k + 1) (length c.round.inside.items.now) c.search.inside.workers = omega (arith, mono, c.share_start-first.ensures.start, c.share_start-end.ensures.start) in
-    let first : c.share_start-first.result ≡ share k (length w.items) w.scene.workers = c.share_start-first.ensures.start ∙ ap (λ (v : Work). share k (length v.items) v.scene.workers) is in
-    let last : c.loop-i.i ≡ share (k + 1) (length w.items) w.scene.workers = end ∙ ap (λ (v : Work). share (k + 1) (length v.items) v.scene.workers) is in
-    subst (λ (n : ℕ). IsKeptInRounds (InRange (targets w) n (share (k + 1) (length w.items) w.scene.workers)) c.args.seat.now.seen c.loop-i.seat.seen c.loop-i.list.items) first
-    (subst (λ (n : ℕ). IsKeptInRounds (InRange (targets w) c.share_start-first.result n) c.args.seat.now.seen c.loop-i.seat.seen c.loop-i.list.items) last
-    (kept_from_empty _ c.args.seat.now _ c.loop-i.seat c.loop-i.list.items c.requires.empty c.loop-i.invariant))
+    let empty : length c.args.hand.now.stack.items ≡ 0 = ap (λ (l : List ℕ). length l) c.requires.none.1 in
+    record {
+      from = omega arith;
+      to = omega (arith, mono, c.share_start-next.ensures.start, c.share_start-end.ensures.start);
+      room = c.requires.room;
+      few = omega arith;
+      working = working_none (blocks_of w) (InRange (items_of w) first first) c.args.seat.now c.args.hand.now.list.items c.args.hand.now.stack.items c.args.hand.now.left.items
+          (λ b r. let from : first ≤ r.0 = r.1 in let below : r.0 < first = r.2 in absurd (omega arith)) c.requires.seat.sound c.requires.none.0 c.requires.none.1 c.requires.none.2;
+    }
 
-pub returns-clause-listed : goal.returns-clause-listed
-returns-clause-listed g c = claims_from_empty _ c.args.seat.now _ c.loop-i.seat c.loop-i.list.items c.requires.empty c.loop-i.invariant
+pub scan_one-requires-clause-item : goal.scan_one-requires-clause-item
+scan_one-requires-clause-item g c =
+    let w = c.args.round.now in
+    let is = ap (λ (v : Work). v.scene) (ap (λ (s : Scene). work c.round.inside.items.now s) c.search.view_is ∙ c.round.view_is) in
+    let inside = subst (λ (s : Scene). (i : Item) (b : ℕ) → Has (targets_of_item s.roots s.targets i) b → b < length s.targets) is (λ i b h. c.targets_are_blocks.ensures i b h) in
+    let working = c.scan.invariant.working in
+    worker_inside w (length w.scene.targets) inside c.share_start-next.result c.scan.next c.args.seat.now c.scan.seat c.scan.hand.list.items c.scan.hand.stack.items c.scan.hand.left.items working c.in-Some.block
+    (working.of_list c.in-Some.block (has_back c.scan.hand.left.items c.scan.hand.stack.items c.in-Some.block
+    (subst (λ (l : List ℕ). Has l c.in-Some.block) (sym c.in-Some.ensures.items) (has_last c.pop.new.self.items c.in-Some.block))))
+
+pub scan-preserved-in-Continue-1 : goal.scan-preserved-in-Continue-1
+scan-preserved-in-Continue-1 g c =
+    let w = c.args.round.now in let i = c.scan.invariant in
+    let hand : Hand = record { list = c.scan.hand.list; stack = c.pop.new.self; left = c.scan.hand.left } in
+    let later : Hand = c.scan_one.new.hand in
+    let p : IsPutAway (blocks_of w c.in-Some.block) w.scene.stack c.scan.seat c.scan_one.new.seat hand later = c.in_ok-scan_one.ensures.done in
+    let popped : length c.scan.hand.stack.items ≡ length hand.stack.items + 1 = ap (λ (l : List ℕ). length l) c.in-Some.ensures.items ∙ length-append hand.stack.items (c.in-Some.block ∷ []) in
+    let less : length hand.stack.items ≤ w.scene.stack = let f = i.few in omega arith in
+    record {
+      from = i.from;
+      to = i.to;
+      room = let a = i.room in let b : vec_capacity later.stack ≡ vec_capacity c.scan.hand.stack = c.in_ok-scan_one.ensures.room ∙ c.pop.ensures.capacity in omega arith;
+      few = put_few _ w.scene.stack c.scan.seat c.scan_one.new.seat hand later less p;
+      working = put_block w w.scene.stack c.share_start-next.result c.scan.next c.in-Some.block c.args.seat.now c.scan.seat c.scan_one.new.seat hand later c.scan.hand.stack.items c.in-Some.ensures.items i.working
+          c.scan_one.ensures.same.0 c.scan_one.ensures.same.1 c.scan_one.ensures.sound p;
+    }
+
+pub scan-smaller-in-Continue-1 : goal.scan-smaller-in-Continue-1
+scan-smaller-in-Continue-1 g c =
+    let w = c.args.round.now in let i = c.scan.invariant in
+    let is = ap (λ (v : Work). v.scene) (ap (λ (s : Scene). work c.round.inside.items.now s) c.search.view_is ∙ c.round.view_is) in
+    let inside = subst (λ (s : Scene). (i : Item) (b : ℕ) → Has (targets_of_item s.roots s.targets i) b → b < length s.targets) is (λ i b h. c.targets_are_blocks.ensures i b h) in
+    let hand : Hand = record { list = c.scan.hand.list; stack = c.pop.new.self; left = c.scan.hand.left } in
+    let later : Hand = c.scan_one.new.hand in
+    let p : IsPutAway (blocks_of w c.in-Some.block) w.scene.stack c.scan.seat c.scan_one.new.seat hand later = c.in_ok-scan_one.ensures.done in
+    let popped : length c.scan.hand.stack.items ≡ length hand.stack.items + 1 = ap (λ (l : List ℕ). length l) c.in-Some.ensures.items ∙ length-append hand.stack.items (c.in-Some.block ∷ []) in
+    let working : IsWorking (blocks_of w) (InRange (items_of w) c.share_start-next.result c.scan.next) c.args.seat.now c.scan_one.new.seat later.list.items later.stack.items later.left.items =
+    put_block w w.scene.stack c.share_start-next.result c.scan.next c.in-Some.block c.args.seat.now c.scan.seat c.scan_one.new.seat hand later c.scan.hand.stack.items c.in-Some.ensures.items i.working
+    c.scan_one.ensures.same.0 c.scan_one.ensures.same.1 c.scan_one.ensures.sound p in
+    let few : length later.list.items ≤ length w.scene.targets = worker_few w (length w.scene.targets) inside c.share_start-next.result c.scan.next c.args.seat.now c.scan_one.new.seat later.list.items later.stack.items later.left.items working in
+    let grown : length later.stack.items + length c.scan.hand.list.items ≤ length hand.stack.items + length later.list.items = put_grown _ w.scene.stack c.scan.seat c.scan_one.new.seat hand later p in
+    let longer : length c.scan.hand.list.items ≤ length later.list.items = put_longer _ w.scene.stack c.scan.seat c.scan_one.new.seat hand later p in
+    omega arith
+
+pub scan-preserved : goal.scan-preserved
+scan-preserved g c =
+    let w = c.args.round.now in let i = c.scan.invariant in
+    let hand : Hand = record { list = c.scan.hand.list; stack = c.pop.new.self; left = c.scan.hand.left } in
+    let later : Hand = c.scan_one-then-next-end.new.hand in let after = c.scan_one-then-next-end.new.seat in
+    let items : c.round.inside.items.now ≡ w.items = ap (λ (v : Work). v.items) c.round.view_is in
+    let p : IsPutAway (items_of w c.scan.next) w.scene.stack c.scan.seat after hand later =
+    subst (λ (l : List Item). IsPutAway (targets_of_item w.scene.roots w.scene.targets (slice_index_or l c.scan.next (Root 0))) w.scene.stack c.scan.seat after hand later) items c.in_ok-scan_one-2.ensures.done in
+    let was : c.scan.hand.stack.items ≡ hand.stack.items = c.in_default.ensures.items ∙ append-nil hand.stack.items in
+    let less : length hand.stack.items ≤ w.scene.stack = let f = i.few in let e = ap (λ (l : List ℕ). length l) was in omega arith in
+    record {
+      from = let f = i.from in omega arith;
+      to = let t = c.if-next-end.true in omega arith;
+      room = let a = i.room in let b : vec_capacity later.stack ≡ vec_capacity c.scan.hand.stack = c.in_ok-scan_one-2.ensures.room ∙ c.pop.ensures.capacity in omega arith;
+      few = put_few _ w.scene.stack c.scan.seat after hand later less p;
+      working = put_item w w.scene.stack c.share_start-next.result c.scan.next c.args.seat.now c.scan.seat after hand later i.from
+          (subst (λ (l : List ℕ). IsWorking (blocks_of w) (InRange (items_of w) c.share_start-next.result c.scan.next) c.args.seat.now c.scan.seat c.scan.hand.list.items l c.scan.hand.left.items) was i.working)
+          c.scan_one-then-next-end.ensures.same.0 c.scan_one-then-next-end.ensures.same.1 c.scan_one-then-next-end.ensures.sound p;
+    }
+
+pub scan-smaller : goal.scan-smaller
+scan-smaller g c =
+    let w = c.args.round.now in let i = c.scan.invariant in
+    let is = ap (λ (v : Work). v.scene) (ap (λ (s : Scene). work c.round.inside.items.now s) c.search.view_is ∙ c.round.view_is) in
+    let inside = subst (λ (s : Scene). (i : Item) (b : ℕ) → Has (targets_of_item s.roots s.targets i) b → b < length s.targets) is (λ i b h. c.targets_are_blocks.ensures i b h) in
+    let hand : Hand = record { list = c.scan.hand.list; stack = c.pop.new.self; left = c.scan.hand.left } in
+    let later : Hand = c.scan_one-then-next-end.new.hand in let after = c.scan_one-then-next-end.new.seat in
+    let items : c.round.inside.items.now ≡ w.items = ap (λ (v : Work). v.items) c.round.view_is in
+    let p : IsPutAway (items_of w c.scan.next) w.scene.stack c.scan.seat after hand later =
+    subst (λ (l : List Item). IsPutAway (targets_of_item w.scene.roots w.scene.targets (slice_index_or l c.scan.next (Root 0))) w.scene.stack c.scan.seat after hand later) items c.in_ok-scan_one-2.ensures.done in
+    let was : c.scan.hand.stack.items ≡ hand.stack.items = c.in_default.ensures.items ∙ append-nil hand.stack.items in
+    let same : length c.scan.hand.stack.items ≡ length hand.stack.items = ap (λ (l : List ℕ). length l) was in
+    let working : IsWorking (blocks_of w) (InRange (items_of w) c.share_start-next.result (c.scan.next + 1)) c.args.seat.now after later.list.items later.stack.items later.left.items =
+    put_item w w.scene.stack c.share_start-next.result c.scan.next c.args.seat.now c.scan.seat after hand later i.from
+    (subst (λ (l : List ℕ). IsWorking (blocks_of w) (InRange (items_of w) c.share_start-next.result c.scan.next) c.args.seat.now c.scan.seat c.scan.hand.list.items l c.scan.hand.left.items) was i.working)
+    c.scan_one-then-next-end.ensures.same.0 c.scan_one-then-next-end.ensures.same.1 c.scan_one-then-next-end.ensures.sound p in
+    let few : length later.list.items ≤ length w.scene.targets = worker_few w (length w.scene.targets) inside c.share_start-next.result (c.scan.next + 1) c.args.seat.now after later.list.items later.stack.items later.left.items working in
+    let grown : length later.stack.items + length c.scan.hand.list.items ≤ length hand.stack.items + length later.list.items = put_grown _ w.scene.stack c.scan.seat after hand later p in
+    let longer : length c.scan.hand.list.items ≤ length later.list.items = put_longer _ w.scene.stack c.scan.seat after hand later p in
+    let next : c.scan.next < c.share_start-end.result = c.if-next-end.true in
+    omega arith

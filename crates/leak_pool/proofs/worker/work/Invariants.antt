@@ -1,7 +1,17 @@
-use Rattle.std.proofs.Common.{[]}
-use Rattle.leak_pool.specs.Items.{InRange, targets_at}
-use Rattle.leak_pool.specs.Promises.{IsScanning}
+use Rattle.std.proofs.Common.{◌+◌, ◌-◌, ◌≤◌, length, vec_capacity}
+use Rattle.leak_pool.specs.Items.{InRange}
+use Rattle.leak_pool.specs.Promises.{IsWorking}
+use Rattle.leak_pool.specs.Scene.{blocks_of, items_of}
 use Rattle.leak_pool.proofs.worker.work.Given as goal
 
-abbrev pub invariant-loop-i : goal.invariant-loop-i
-invariant-loop-i g l = IsScanning (InRange (targets_at l.round.scene.roots l.round.scene.targets l.round.items) l.first l.i) [] l.initial.seat l.initial.list.items l.seat l.list.items
+abbrev pub invariant-scan : goal.invariant-scan
+invariant-scan g l = record {
+  from : l.initial.next ≤ l.next;
+  to : l.next ≤ l.end;
+  room : l.round.scene.stack ≤ vec_capacity l.hand.stack;
+  few : length l.hand.stack.items ≤ l.round.scene.stack;
+  working : IsWorking (blocks_of l.round) (InRange (items_of l.round) l.initial.next l.next) l.initial.seat l.seat l.hand.list.items l.hand.stack.items l.hand.left.items;
+}
+
+abbrev pub decreases-scan : goal.decreases-scan
+decreases-scan g l = l.end - l.next + (length l.round.scene.targets - length l.hand.list.items) + length l.hand.stack.items

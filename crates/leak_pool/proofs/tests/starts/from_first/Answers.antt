@@ -3,7 +3,7 @@ use Rattle.std.specs.List.{AllByRecursion}
 use Rattle.leak_marks.specs.Lists.{Has}
 use Rattle.leak_marks.proofs.ListLemmas.{here, at_head}
 use Rattle.leak_pool.specs.declared.start.Part.{Part}
-use Rattle.leak_pool.proofs.tests.from_first.Goals as goal
+use Rattle.leak_pool.proofs.tests.starts.from_first.Goals as goal
 
 pub mark_from-requires-clause-start : goal.mark_from-requires-clause-start
 mark_from-requires-clause-start g c κs within = record {

@@ -1,0 +1,181 @@
+-- A worker on the way through its share.
+use Rattle.std.proofs.Common.{◌≡◌, ◌⊎◌, ℕ, ◌+◌, ◌-◌, ◌<◌, ◌≤◌, zero, suc, List, [], ◌∷◌, ◌++◌, length, get_or, take, drop, refl, sym, ap, ◌∙◌, subst, inl, inr, ⊎_elim, arith, append_assoc}
+use Rattle.std.specs.List.{concat}
+use Rattle.std.proofs.lemmas.List.{append-nil, length-append, take-append-drop}
+use mathlib.Core.Logic.{dite}
+use native.Mathlib.Decide.{dec_lt}
+use Rattle.leak_marks.specs.Lists.{Has, Within, IsDistinct}
+use Rattle.leak_marks.specs.Seats.{Held, IsSound}
+use Rattle.leak_marks.specs.Rounds.{IsKept, IsKeptInRounds}
+use Rattle.leak_marks.proofs.ListLemmas.{here, at_head, has_front, has_back, of_append, distinct_back}
+use Rattle.leak_marks.proofs.StackLemmas.{kept_more, kept_nothing, led_from}
+use Rattle.leak_pool.specs.Items.{InRange, share, targets_of_item}
+use Rattle.leak_pool.specs.declared.hand.Hand.{Hand}
+use Rattle.leak_pool.specs.declared.source.Item.{Item}
+use Rattle.leak_pool.specs.declared.source.Item.TheVariants.{Root, Block}
+use Rattle.leak_pool.specs.Promises.{IsPutAway, IsWorking, IsHalf}
+use Rattle.leak_pool.specs.Scene.{Work, blocks_of, items_of}
+use Rattle.leak_pool.proofs.ScanLemmas.{none_has}
+use Rattle.leak_pool.proofs.CountLemmas.{few_distinct}
+
+-- before the first item
+pub working_none : (blocks : ℕ → List ℕ) (item : ℕ → Type 0) (seat : Held) (list stack left : List ℕ) → ((b : ℕ) → item b → ⊥) → IsSound seat → list ≡ [] → stack ≡ [] → left ≡ []
+    → IsWorking blocks item seat seat list stack left
+working_none blocks item seat list stack left none sound list_is stack_is left_is = record {
+  table = refl;
+  share = refl;
+  sound = sound;
+  claims_are = sym (append-nil seat.claims) ∙ ap (λ (l : List ℕ). seat.claims ++ l) (sym list_is);
+  of_list = λ b h. none_has b (subst (λ (l : List ℕ). Has l b) empty h);
+  few = let len : List ℕ → ℕ = λ l. length l in let a : length stack ≡ 0 = ap len stack_is in let b : length left ≡ 0 = ap len left_is in omega arith;
+  kept = subst (λ (l : List ℕ). IsKept blocks item seat.seen seat.seen (l ∷ []) (left ++ stack)) (sym list_is)
+      (subst (λ (l : List ℕ). IsKept blocks item seat.seen seat.seen ([] ∷ []) l) (sym empty) (kept_nothing blocks item seat.seen none));
+}
+  where
+    empty : left ++ stack ≡ []
+    empty = ap (λ (l : List ℕ). l ++ stack) left_is ∙ stack_is
+
+-- Something more was scanned: `gone` are the blocks that were scanned by it, which came from the stack.
+module _ (blocks : ℕ → List ℕ) (item next whole : ℕ → Type 0) (before mid after : Held) (n : ℕ) (list stack gone top left more longer stack' left' : List ℕ) where
+  working_more : ((b : ℕ) → item b → whole b) → ((b : ℕ) → whole b → item b ⊎ next b) → ((b : ℕ) → next b → whole b ⊎ ((s : ℕ) × Has list s × Has (blocks s) b))
+      → ((s : ℕ) → Has gone s → (b : ℕ) → Has (blocks s) b → next b) → top ≡ stack ++ gone
+      → IsWorking blocks item before mid list top left
+      → after.table ≡ mid.table → after.share ≡ mid.share → IsSound after → after.claims ≡ mid.claims ++ more → IsKeptInRounds next mid.seen after.seen more
+      → longer ≡ list ++ more → stack' ≡ stack ++ take n more → left' ≡ left ++ drop n more
+      → IsWorking blocks whole before after longer stack' left'
+  working_more wider all leads of_gone top_is w table share sound claims kept longer_is stack_is left_is = record {
+    table = table ∙ w.table;
+    share = share ∙ w.share;
+    sound = sound;
+    claims_are = claims ∙ ap (λ (l : List ℕ). l ++ more) w.claims_are ∙ append_assoc before.claims list more ∙ ap (λ (l : List ℕ). before.claims ++ l) (sym longer_is);
+    of_list = λ b h. subst (λ (l : List ℕ). Has l b) (sym longer_is) (⊎_elim
+        (λ l. ⊎_elim (λ old. has_front list more b (w.of_list b (has_front left top b old))) (λ new. has_back list more b (all_of_more b (inr new))) (of_append left (drop n more) b (subst (λ (x : List ℕ). Has x b) left_is l)))
+        (λ s. ⊎_elim (λ old. has_front list more b (w.of_list b (has_back left top b (subst (λ (x : List ℕ). Has x b) (sym top_is) (has_front stack gone b old))))) (λ new. has_back list more b (all_of_more b (inl new)))
+        (of_append stack (take n more) b (subst (λ (x : List ℕ). Has x b) stack_is s)))
+        (of_append left' stack' b h));
+    few = let len : List ℕ → ℕ = λ l. length l in
+        let a : length left' ≡ length left + length (drop n more) = ap len left_is ∙ length-append left (drop n more) in
+        let b : length stack' ≡ length stack + length (take n more) = ap len stack_is ∙ length-append stack (take n more) in
+        let c : length (take n more) + length (drop n more) ≡ length more = sym (length-append (take n more) (drop n more)) ∙ ap len (take-append-drop n more) in
+        let d : length longer ≡ length list + length more = ap len longer_is ∙ length-append list more in
+        let e : length top ≡ length stack + length gone = ap len top_is ∙ length-append stack gone in
+        let f = w.few in omega arith;
+    kept = subst (λ (l : List ℕ). IsKept blocks whole before.seen after.seen (l ∷ []) (left' ++ stack')) (sym longer_is)
+        (kept_more blocks item next whole before.seen mid.seen after.seen list more (left ++ top) (left' ++ stack') wider all leads w.kept kept
+        (λ s h. ⊎_elim
+        (λ l. inr (has_front left' stack' s (subst (λ (x : List ℕ). Has x s) (sym left_is) (has_front left (drop n more) s l))))
+        (λ t. ⊎_elim (λ o. inr (has_back left' stack' s (subst (λ (x : List ℕ). Has x s) (sym stack_is) (has_front stack (take n more) s o)))) (λ g. inl (of_gone s g)) (of_append stack gone s (subst (λ (x : List ℕ). Has x s) top_is t)))
+        (of_append left top s h))
+        (λ b h. ⊎_elim (λ f. has_back left' stack' b (subst (λ (x : List ℕ). Has x b) (sym stack_is) (has_back stack (take n more) b f)))
+        (λ l. has_front left' stack' b (subst (λ (x : List ℕ). Has x b) (sym left_is) (has_back left (drop n more) b l)))
+        (of_append (take n more) (drop n more) b (subst (λ (x : List ℕ). Has x b) (sym (take-append-drop n more)) h))));
+  }
+    where
+      all_of_more : (b : ℕ) → Has (take n more) b ⊎ Has (drop n more) b → Has more b
+      all_of_more b h = subst (λ (x : List ℕ). Has x b) (take-append-drop n more) (⊎_elim (λ t. has_front (take n more) (drop n more) b t) (λ d. has_back (take n more) (drop n more) b d) h)
+
+-- the next item of the share
+pub working_item : (blocks targets : ℕ → List ℕ) (first i : ℕ) (before mid after : Held) (n : ℕ) (list stack left more longer stack' left' : List ℕ) → first ≤ i
+    → IsWorking blocks (InRange targets first i) before mid list stack left
+    → after.table ≡ mid.table → after.share ≡ mid.share → IsSound after → after.claims ≡ mid.claims ++ more → IsKeptInRounds (Has (targets i)) mid.seen after.seen more
+    → longer ≡ list ++ more → stack' ≡ stack ++ take n more → left' ≡ left ++ drop n more
+    → IsWorking blocks (InRange targets first (i + 1)) before after longer stack' left'
+working_item blocks targets first i before mid after n list stack left more longer stack' left' low w =
+    working_more blocks (InRange targets first i) (Has (targets i)) (InRange targets first (i + 1)) before mid after n list stack [] stack left more longer stack' left'
+    (λ b r. let below : r.0 < i = r.2 in (r.0, r.1, omega arith, r.3))
+    (λ b r. let k : ℕ = r.0 in let from : first ≤ k = r.1 in let below : k < i + 1 = r.2 in
+    dite (dec_lt k i) (λ lt. inl (k, from, lt, r.3)) (λ ge. let is : k ≡ i = omega arith in inr (subst (λ (m : ℕ). Has (targets m) b) is r.3)))
+    (λ b h. inl (i, low, omega arith, h))
+    (λ s h. none_has s h) (sym (append-nil stack)) w
+
+-- the block on top of the stack
+pub working_block : (blocks : ℕ → List ℕ) (item : ℕ → Type 0) (block : ℕ) (before mid after : Held) (n : ℕ) (list stack top left more longer stack' left' : List ℕ) → top ≡ stack ++ block ∷ []
+    → IsWorking blocks item before mid list top left
+    → after.table ≡ mid.table → after.share ≡ mid.share → IsSound after → after.claims ≡ mid.claims ++ more → IsKeptInRounds (Has (blocks block)) mid.seen after.seen more
+    → longer ≡ list ++ more → stack' ≡ stack ++ take n more → left' ≡ left ++ drop n more
+    → IsWorking blocks item before after longer stack' left'
+working_block blocks item block before mid after n list stack top left more longer stack' left' top_is w =
+    working_more blocks item (Has (blocks block)) item before mid after n list stack (block ∷ []) top left more longer stack' left'
+    (λ b h. h) (λ b h. inl h)
+    (λ b h. inr (block, w.of_list block (has_back left top block (subst (λ (l : List ℕ). Has l block) (sym top_is) (has_back stack (block ∷ []) block (here block [])))), h))
+    (λ s h b t. ⊎_elim (λ is. subst (λ (y : ℕ). Has (blocks y) b) (sym is) t) (λ no. none_has s no) (at_head block [] s h)) top_is w
+
+-- its claims are blocks
+pub working_inside : (blocks : ℕ → List ℕ) (item : ℕ → Type 0) (count : ℕ) (before after : Held) (list stack left : List ℕ) → IsWorking blocks item before after list stack left
+    → ((b : ℕ) → item b → b < count) → ((s b : ℕ) → Has (blocks s) b → b < count) → (b : ℕ) → Has list b → b < count
+working_inside blocks item count before after list stack left w of_item of_block b h = led_from blocks item (λ x. x < count) of_item of_block [] list w.kept.led.0 b h
+
+-- so there are no more of them than blocks
+pub working_few : (blocks : ℕ → List ℕ) (item : ℕ → Type 0) (count : ℕ) (before after : Held) (list stack left : List ℕ) → IsWorking blocks item before after list stack left
+    → ((b : ℕ) → item b → b < count) → ((s b : ℕ) → Has (blocks s) b → b < count) → length list ≤ count
+working_few blocks item count before after list stack left w of_item of_block =
+    few_distinct count list (distinct_back before.claims list (subst (λ (l : List ℕ). IsDistinct l) w.claims_are w.sound.distinct))
+    (working_inside blocks item count before after list stack left w of_item of_block)
+
+-- ---- by the promise of one scan
+
+module _ (w : Work) (count : ℕ) (inside : (i : Item) (b : ℕ) → Has (targets_of_item w.scene.roots w.scene.targets i) b → b < count) (first next : ℕ) (before after : Held) (list stack left : List ℕ)
+    (working : IsWorking (blocks_of w) (InRange (items_of w) first next) before after list stack left) where
+  pub worker_inside : (b : ℕ) → Has list b → b < count
+  worker_inside = working_inside (blocks_of w) (InRange (items_of w) first next) count before after list stack left working (λ b r. inside (get_or w.items r.0 (Root 0)) b r.3) (λ s b h. inside (Block s) b h)
+
+  pub worker_few : length list ≤ count
+  worker_few = working_few (blocks_of w) (InRange (items_of w) first next) count before after list stack left working (λ b r. inside (get_or w.items r.0 (Root 0)) b r.3) (λ s b h. inside (Block s) b h)
+
+pub put_block : (w : Work) (limit first next block : ℕ) (before mid after : Held) (hand later : Hand) (top : List ℕ) → top ≡ hand.stack.items ++ block ∷ []
+    → IsWorking (blocks_of w) (InRange (items_of w) first next) before mid hand.list.items top hand.left.items → after.table ≡ mid.table → after.share ≡ mid.share → IsSound after
+    → IsPutAway (blocks_of w block) limit mid after hand later → IsWorking (blocks_of w) (InRange (items_of w) first next) before after later.list.items later.stack.items later.left.items
+put_block w limit first next block before mid after hand later top top_is working table share sound p =
+    working_block (blocks_of w) (InRange (items_of w) first next) block before mid after (limit - length hand.stack.items) hand.list.items hand.stack.items top hand.left.items p.more
+    later.list.items later.stack.items later.left.items top_is working table share sound p.claims_are p.kept p.list_is p.stack_is p.left_is
+
+pub put_item : (w : Work) (limit first next : ℕ) (before mid after : Held) (hand later : Hand) → first ≤ next
+    → IsWorking (blocks_of w) (InRange (items_of w) first next) before mid hand.list.items hand.stack.items hand.left.items → after.table ≡ mid.table → after.share ≡ mid.share → IsSound after
+    → IsPutAway (items_of w next) limit mid after hand later → IsWorking (blocks_of w) (InRange (items_of w) first (next + 1)) before after later.list.items later.stack.items later.left.items
+put_item w limit first next before mid after hand later low working table share sound p =
+    working_item (blocks_of w) (items_of w) first next before mid after (limit - length hand.stack.items) hand.list.items hand.stack.items hand.left.items p.more
+    later.list.items later.stack.items later.left.items low working table share sound p.claims_are p.kept p.list_is p.stack_is p.left_is
+
+take_short : (n : ℕ) (xs : List ℕ) → length (take n xs) ≤ n
+take_short zero xs = omega arith
+take_short (suc n) [] = omega arith
+take_short (suc n) (x ∷ xs) = let r = take_short n xs in omega arith
+
+-- the stack has no more entries than it may have
+pub put_few : (targets : List ℕ) (limit : ℕ) (mid after : Held) (hand later : Hand) → length hand.stack.items ≤ limit → IsPutAway targets limit mid after hand later → length later.stack.items ≤ limit
+put_few targets limit mid after hand later few p =
+    let n : ℕ = limit - length hand.stack.items in
+    let a : length later.stack.items ≡ length hand.stack.items + length (take n p.more) = ap (λ (l : List ℕ). length l) p.stack_is ∙ length-append hand.stack.items (take n p.more) in
+    let b = take_short n p.more in omega arith
+
+-- no more blocks come to the stack than to the list
+pub put_grown : (targets : List ℕ) (limit : ℕ) (mid after : Held) (hand later : Hand) → IsPutAway targets limit mid after hand later → length later.stack.items + length hand.list.items ≤ length hand.stack.items + length later.list.items
+put_grown targets limit mid after hand later p =
+    let len : List ℕ → ℕ = λ l. length l in
+    let n : ℕ = limit - length hand.stack.items in
+    let a : length later.stack.items ≡ length hand.stack.items + length (take n p.more) = ap len p.stack_is ∙ length-append hand.stack.items (take n p.more) in
+    let b : length later.list.items ≡ length hand.list.items + length p.more = ap len p.list_is ∙ length-append hand.list.items p.more in
+    let c : length (take n p.more) + length (drop n p.more) ≡ length p.more = sym (length-append (take n p.more) (drop n p.more)) ∙ ap len (take-append-drop n p.more) in omega arith
+
+-- the list does not become shorter
+pub put_longer : (targets : List ℕ) (limit : ℕ) (mid after : Held) (hand later : Hand) → IsPutAway targets limit mid after hand later → length hand.list.items ≤ length later.list.items
+put_longer targets limit mid after hand later p =
+    let b : length later.list.items ≡ length hand.list.items + length p.more = ap (λ (l : List ℕ). length l) p.list_is ∙ length-append hand.list.items p.more in omega arith
+
+-- at the end of its share
+pub half_of_one : (blocks targets : ℕ → List ℕ) (items workers k : ℕ) (before after : Held) (list left : List ℕ) (gained : List (List ℕ)) (rest : List ℕ)
+    → IsWorking blocks (InRange targets (share k items workers) (share (k + 1) items workers)) before after list [] left → gained ≡ list ∷ [] → rest ≡ left
+    → IsHalf blocks targets items workers k (k + 1) before after gained rest
+half_of_one blocks targets items workers k before after list left gained rest w one rest_is =
+    subst (λ (l : List (List ℕ)). IsHalf blocks targets items workers k (k + 1) before after l rest) (sym one)
+    (subst (λ (l : List ℕ). IsHalf blocks targets items workers k (k + 1) before after (list ∷ []) l) (sym rest_is) (record {
+      count = refl;
+      listed = w.claims_are ∙ ap (λ (l : List ℕ). before.claims ++ l) (sym whole);
+      of_gained = λ b h. subst (λ (l : List ℕ). Has l b) (sym whole) (w.of_list b (has_front left [] b h));
+      few = let f = w.few in let e : length (concat (list ∷ [])) ≡ length list = ap (λ (l : List ℕ). length l) whole in omega arith;
+      own = (w.kept.led.0, tt);
+      kept = subst (λ (l : List ℕ). IsKept blocks (InRange targets (share k items workers) (share (k + 1) items workers)) before.seen after.seen (list ∷ []) l) (append-nil left) w.kept;
+    }))
+  where
+    whole : concat (list ∷ []) ≡ list
+    whole = append-nil list

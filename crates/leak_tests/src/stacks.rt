@@ -1,0 +1,102 @@
+//! Rounds of marking, by the number of entries in a worker's stack.
+
+use crate::claims::hold_each_once;
+use crate::hundreds::{chain, star};
+use crate::marking::{LONG, alone, by_plan, long_chain, marked_count};
+use leak_pool::{Open, Plan};
+use std::test::Fail;
+
+#[test]
+fn one_thread_makes_a_round_for_each_block_of_a_chain(rt: HostRuntime) -> Result<(), Fail> {
+    let marked = alone(rt.alloc(), &chain(rt.alloc())?)?;
+    assert_eq!(rt; marked.set.len(), 100);
+    assert_eq!(rt; marked_count(&marked), 100);
+    assert!(rt; hold_each_once(rt.alloc(), marked.claims.as_slice(), 100)?);
+    assert_eq!(rt; marked.rounds, 101);
+    Ok(())
+}
+
+#[test]
+fn one_thread_makes_four_rounds_of_a_star(rt: HostRuntime) -> Result<(), Fail> {
+    let marked = alone(rt.alloc(), &star(rt.alloc())?)?;
+    assert_eq!(rt; marked_count(&marked), 101);
+    assert_eq!(rt; marked.rounds, 4);
+    Ok(())
+}
+
+#[test]
+fn a_stack_follows_a_chain_in_the_first_round(rt: HostRuntime) -> Result<(), Fail> {
+    let sample = chain(rt.alloc())?;
+    for workers in [1, 2, 3, 64] {
+        for piece in [1, 65_536] {
+            for (stack, rounds) in [(0, 101), (1, 1), (65_536, 1)] {
+                let plan = Plan::new(workers, piece, stack)?;
+                let marked = by_plan(&rt, rt.alloc(), &sample, plan, &Open)?;
+                assert_eq!(rt; marked_count(&marked), 100, "by {plan:?}");
+                assert_eq!(rt; marked.claims.len(), workers as usize, "by {plan:?}");
+                let claims = marked.claims.as_slice();
+                assert!(rt; hold_each_once(rt.alloc(), claims, 100)?, "by {plan:?}");
+                assert_eq!(rt; marked.rounds, rounds, "by {plan:?}");
+            }
+        }
+    }
+    Ok(())
+}
+
+#[test]
+fn a_stack_follows_a_star_as_far_as_it_has_room(rt: HostRuntime) -> Result<(), Fail> {
+    let sample = star(rt.alloc())?;
+    for workers in [1, 2, 3, 64] {
+        for piece in [1, 65_536] {
+            // Of the fifty, a stack of one entry takes the first and leaves the others for the second round. The
+            // caller scans one of these; the block that it claims waits for the third.
+            for (stack, rounds) in [(0, 4), (1, 3), (65_536, 1)] {
+                let plan = Plan::new(workers, piece, stack)?;
+                let marked = by_plan(&rt, rt.alloc(), &sample, plan, &Open)?;
+                assert_eq!(rt; marked_count(&marked), 101, "by {plan:?}");
+                let claims = marked.claims.as_slice();
+                assert!(rt; hold_each_once(rt.alloc(), claims, 101)?, "by {plan:?}");
+                assert_eq!(rt; marked.rounds, rounds, "by {plan:?}");
+            }
+        }
+    }
+    Ok(())
+}
+
+#[test]
+fn whoever_scans_the_root_of_a_star_claims_all_of_it(rt: HostRuntime) -> Result<(), Fail> {
+    let sample = star(rt.alloc())?;
+    for workers in [2, 3, 64] {
+        for piece in [1, 65_536] {
+            let plan = Plan::new(workers, piece, 65_536)?;
+            let marked = by_plan(&rt, rt.alloc(), &sample, plan, &Open)?;
+            let mut whole = 0;
+            let mut empty = 0;
+            for list in marked.claims.as_slice() {
+                match list.len() {
+                    0 => empty += 1,
+                    101 => whole += 1,
+                    _ => {}
+                }
+            }
+            assert_eq!(rt; whole, 1, "by {plan:?}");
+            assert_eq!(rt; empty, workers - 1, "by {plan:?}");
+        }
+    }
+    Ok(())
+}
+
+#[test]
+fn a_chain_of_over_a_thousand_blocks(rt: HostRuntime) -> Result<(), Fail> {
+    let sample = long_chain(rt.alloc())?;
+    let marked = alone(rt.alloc(), &sample)?;
+    assert_eq!(rt; marked_count(&marked), LONG as usize);
+    assert_eq!(rt; marked.rounds, LONG + 1);
+    for (workers, stack, rounds) in [(1, 0, LONG + 1), (4, 0, LONG + 1), (1, 1, 1), (4, 1, 1)] {
+        let plan = Plan::new(workers, 512, stack)?;
+        let marked = by_plan(&rt, rt.alloc(), &sample, plan, &Open)?;
+        assert_eq!(rt; marked_count(&marked), LONG as usize, "by {plan:?}");
+        assert_eq!(rt; marked.rounds, rounds, "by {plan:?}");
+    }
+    Ok(())
+}
