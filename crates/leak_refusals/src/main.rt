@@ -1,0 +1,127 @@
+//! `leak_refusals`: makes each call that takes memory, and says what it answered.
+//!
+//! It is run with each of its allocations refused in turn (examples/refuse_memory.sh). A call is named by the only word;
+//! without a word each call is made once, and each has to answer as it does with ample memory. The status is 0 where
+//! each answer was that, 3 where a call answered want of memory, 4 where it answered anything else, and 5 where memory for
+//! the inputs was refused.
+#![tactic(auto)]
+
+mod answer;
+mod marking;
+mod reading;
+mod reporting;
+mod samples;
+mod searching;
+mod whole;
+
+use answer::Answer;
+use std::alloc::AllocError;
+use std::env;
+use std::process::ExitCode;
+use std::rt::Env;
+use std::thread::Threads;
+
+/// The calls, by name.
+static CALLS: [&str; 27] = [
+    "core_k",
+    "Image::read",
+    "Threads::read",
+    "Log::read",
+    "replay",
+    "Paged::new",
+    "Roots::find",
+    "cut",
+    "Claims::new",
+    "Marks::new",
+    "split",
+    "close",
+    "mark_alone",
+    "mark",
+    "mark_from",
+    "differing",
+    "carry",
+    "retrace",
+    "Totals::of",
+    "text",
+    "find_alone",
+    "find_one",
+    "find_two",
+    "read_all",
+    "run",
+    "run_two",
+    "request",
+];
+
+fn main(rt: HostRuntime) -> ExitCode {
+    match answers(&rt) {
+        Ok(answer) => ExitCode::from(answer.status()),
+        Err(_) => ExitCode::from(Answer::NoInput.status()),
+    }
+}
+
+/// Makes the call that the only word names, or else each call, and prints each answer.
+fn answers<R: Env + Print + AllocGlobal + Threads + Sync>(rt: &R) -> Result<Answer, AllocError> {
+    let words: Vec<String> = match env::args(rt) {
+        Ok(words) => match words.collect(rt.alloc()) {
+            Ok(words) => words,
+            Err(_) => return Err(AllocError),
+        },
+        Err(_) => return Err(AllocError),
+    };
+    match words.get(1) {
+        Some(name) => Ok(told(rt, name.as_str())),
+        None => {
+            let mut worst = Answer::Same;
+            for name in CALLS.as_slice() {
+                worst = worst.worse(told(rt, name));
+            }
+            Ok(worst)
+        }
+    }
+}
+
+/// Makes the call with the name and prints its answer.
+fn told<R: Print + AllocGlobal + Threads + Sync>(rt: &R, name: &str) -> Answer {
+    let answer = match answer_of(rt, name) {
+        Some(answer) => answer,
+        None => Answer::NoInput,
+    };
+    // The status tells it too.
+    let _printed = println!(rt; "{name}: {answer}");
+    answer
+}
+
+/// What the call with the name answers, or `None` where memory for its inputs was refused.
+fn answer_of<R: AllocGlobal + Threads + Sync>(rt: &R, name: &str) -> Option<Answer> {
+    let alloc = rt.alloc();
+    match name {
+        "core_k" => reading::sample(alloc),
+        "Image::read" => reading::image(alloc),
+        "Threads::read" => reading::threads(alloc),
+        "Log::read" => reading::log(alloc),
+        "replay" => reading::replayed(alloc),
+        "Paged::new" => searching::paged(alloc),
+        "Roots::find" => searching::roots(alloc),
+        "cut" => searching::pieces(alloc),
+        "Claims::new" => marking::claims(alloc),
+        "Marks::new" => marking::table(alloc),
+        "split" => marking::split(alloc),
+        "close" => marking::close(alloc),
+        "mark_alone" => marking::alone(alloc),
+        "mark" => marking::by_workers(rt),
+        "mark_from" => marking::from_a_start(rt),
+        "differing" => marking::pages(rt),
+        "carry" => marking::carried(alloc),
+        "retrace" => marking::retraced(rt),
+        "Totals::of" => reporting::totals(alloc),
+        "text" => reporting::report(alloc),
+        "find_alone" => whole::alone(alloc),
+        "find_one" => whole::by_workers(rt),
+        "find_two" => whole::two_cores(rt),
+        "read_all" => whole::input(alloc),
+        "run" => whole::runs(rt),
+        "run_two" => whole::runs_two(rt),
+        "request" => whole::command_line(alloc),
+        _ => None,
+    }
+}

@@ -1,0 +1,67 @@
+//! The calls that read cores and logs.
+
+use crate::answer::Answer;
+use crate::samples::{FOUR_CALLERS, core_of, set};
+use leak_blocks::replay;
+use leak_elf::{ElfError, Image, core_k};
+use leak_mtrace::{Log, LogError};
+use leak_notes::{NoteError, Threads};
+use std::alloc::Global;
+
+/// `core_k` with one word.
+pub(crate) fn sample(alloc: Global) -> Option<Answer> {
+    let wanted = core_of(alloc, &[(0x10008, 0x10100)])?;
+    match core_k(alloc, &[(0x10008, 0x10100)]) {
+        Ok(core) => Some(Answer::of(core == wanted)),
+        Err(_) => Some(Answer::Wanting),
+    }
+}
+
+/// `Image::read` of a core with a second segment, of which nothing is dumped.
+pub(crate) fn image(alloc: Global) -> Option<Answer> {
+    let mut core = core_of(alloc, &[])?;
+    // The part of notes becomes a segment, whose contents are said to be past the end of the file.
+    set(&mut core, 64, &1u32.to_le_bytes());
+    set(&mut core, 68, &6u32.to_le_bytes());
+    set(&mut core, 72, &1_000_000u64.to_le_bytes());
+    set(&mut core, 80, &0x11000u64.to_le_bytes());
+    set(&mut core, 96, &0u64.to_le_bytes());
+    set(&mut core, 104, &0x1000u64.to_le_bytes());
+    match Image::read(alloc, core.as_slice()) {
+        Ok(image) => Some(Answer::of(image.segments().len() == 2 && image.undumped() == 4096)),
+        Err(error) => Some(Answer::of_refusal(error == ElfError::NoMemory)),
+    }
+}
+
+/// `Threads::read` of the sample core.
+pub(crate) fn threads(alloc: Global) -> Option<Answer> {
+    let core = core_of(alloc, &[])?;
+    let image = Image::read(alloc, core.as_slice()).ok()?;
+    match Threads::read(alloc, &image) {
+        Ok(threads) => Some(Answer::of(threads.count() == 1 && threads.registers().len() == 27)),
+        Err(error) => Some(Answer::of_refusal(error == NoteError::NoMemory)),
+    }
+}
+
+/// `Log::read` of four lines.
+pub(crate) fn log(alloc: Global) -> Option<Answer> {
+    match Log::read(alloc, FOUR_CALLERS.as_bytes()) {
+        Ok(log) => Some(Answer::of(log.lines().len() == 4 && log.torn() == 0)),
+        Err(error) => Some(Answer::of_refusal(error == LogError::NoMemory)),
+    }
+}
+
+/// `replay` of three allocations, of which the last ends both others.
+pub(crate) fn replayed(alloc: Global) -> Option<Answer> {
+    let lines = "+ 0x100 0x10\n+ 0x120 0x10\n+ 0x108 0x20\n";
+    let log = Log::read(alloc, lines.as_bytes()).ok()?;
+    match replay(alloc, &log) {
+        Ok(live) => {
+            let last = live.blocks().first().map(|block| (block.start, block.size));
+            Some(Answer::of(
+                live.blocks().len() == 1 && last == Some((0x108, 32)) && live.displaced() == 2,
+            ))
+        }
+        Err(_) => Some(Answer::Wanting),
+    }
+}

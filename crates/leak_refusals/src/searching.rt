@@ -1,0 +1,64 @@
+//! The calls that make a search's lookup and roots.
+
+use crate::answer::Answer;
+use crate::samples::{core_of, live_of};
+use leak_elf::Image;
+use leak_index::{Hits, Lookup, Paged, Reading};
+use leak_notes::Threads;
+use leak_roots::{CutError, Piece, Roots};
+use std::alloc::Global;
+
+/// `Paged::new` over four blocks that touch.
+pub(crate) fn paged(alloc: Global) -> Option<Answer> {
+    let live = live_of(
+        alloc,
+        "+ 0x100 0x10\n+ 0x110 0\n+ 0x111 0xf\n+ 0x130 0x10\n",
+    )?;
+    match Paged::new(alloc, &live, Reading::interior()) {
+        Ok(lookup) => Some(Answer::of(
+            lookup.hits(0x110) == Hits::Two(0, 1) && lookup.hits(0x121) == Hits::Zero,
+        )),
+        Err(_) => Some(Answer::Wanting),
+    }
+}
+
+/// `Roots::find` of the sample core without a block.
+pub(crate) fn roots(alloc: Global) -> Option<Answer> {
+    let core = core_of(alloc, &[])?;
+    let image = Image::read(alloc, core.as_slice()).ok()?;
+    let threads = Threads::read(alloc, &image).ok()?;
+    let live = live_of(alloc, "")?;
+    match Roots::find(alloc, &image, &threads, &live) {
+        Ok(roots) => Some(Answer::of(
+            roots.registers().len() == 27
+                && roots.memory() == [(0x10000u64, 0x11000u64)].as_slice(),
+        )),
+        Err(_) => Some(Answer::Wanting),
+    }
+}
+
+/// How many words the pieces hold.
+fn words_in(pieces: &[Piece]) -> u64 {
+    let mut words = 0u64;
+    for piece in pieces {
+        let count = match *piece {
+            Piece::Registers(from, to) => to.saturating_sub(from) as u64,
+            Piece::Memory(from, to) => to.saturating_sub(from) / 8,
+        };
+        words = words.wrapping_add(count);
+    }
+    words
+}
+
+/// `cut` of the same roots with a block among them.
+pub(crate) fn pieces(alloc: Global) -> Option<Answer> {
+    let core = core_of(alloc, &[])?;
+    let image = Image::read(alloc, core.as_slice()).ok()?;
+    let threads = Threads::read(alloc, &image).ok()?;
+    let live = live_of(alloc, "+ 0x10100 0x20\n")?;
+    let roots = Roots::find(alloc, &image, &threads, &live).ok()?;
+    match roots.cut(alloc, 10) {
+        Ok(pieces) => Some(Answer::of(words_in(pieces.as_slice()) == 535)),
+        Err(error) => Some(Answer::of_refusal(error == CutError::NoMemory)),
+    }
+}

@@ -1,0 +1,205 @@
+//! The calls that search from bytes to a report.
+
+use crate::answer::Answer;
+use crate::samples::{MOVED, ONE_BLOCK, Sample, TWO_BLOCKS, chain, core_of, set};
+use leak_find::{
+    FindError, Found, Options, ReadFault, RunFault, UsageFault, find_alone, find_one, find_two,
+    read_all, request, run,
+};
+use leak_index::Reading;
+use leak_pool::{Open, Plan};
+use std::alloc::Global;
+use std::io::Cursor;
+use std::thread::Threads;
+
+/// How many blocks leaked, or why there is no report. A fault of an input is never want of memory.
+fn answer_of(found: Result<Found, FindError>, report: &str) -> Answer {
+    match found {
+        Ok(found) => Answer::of(found.report.as_slice() == report.as_bytes()),
+        Err(error) => Answer::of_refusal(error == FindError::NoMemory),
+    }
+}
+
+/// The report of one lost block.
+const LOST: &str = "blocks 1 bytes 32\n\
+                    undumped 0\n\
+                    unknown 0 displaced 0 torn 0\n\
+                    marked 0 bytes 0\n\
+                    leaked 1 bytes 32\n\
+                    caller 1 32 ./a.out:[0x401136]\n\
+                    leak 0x10100 32 1 ./a.out:[0x401136]\n";
+
+/// The report of one block that is held.
+const HELD: &str = "blocks 1 bytes 32\n\
+                    undumped 0\n\
+                    unknown 0 displaced 0 torn 0\n\
+                    marked 1 bytes 32\n\
+                    leaked 0 bytes 0\n";
+
+/// The report of the chain of a hundred.
+const CHAIN: &str = "blocks 100 bytes 1600\n\
+                     undumped 0\n\
+                     unknown 0 displaced 0 torn 0\n\
+                     marked 100 bytes 1600\n\
+                     leaked 0 bytes 0\n";
+
+/// The report of two cores between which a block was moved to where it was.
+const TWO: &str = "blocks 2 bytes 48\n\
+                   undumped 0\n\
+                   unknown 0 displaced 0 torn 0\n\
+                   new 1 bytes 32\n\
+                   reread 0\n\
+                   marked 2 bytes 48\n\
+                   leaked 0 bytes 0\n";
+
+/// `find_alone` of one lost block.
+pub(crate) fn alone(alloc: Global) -> Option<Answer> {
+    let core = core_of(alloc, &[])?;
+    let found = find_alone(
+        alloc,
+        core.as_slice(),
+        ONE_BLOCK.as_bytes(),
+        Reading::interior(),
+    );
+    Some(answer_of(found, LOST))
+}
+
+/// `find_one` of the chain of a hundred by three workers.
+pub(crate) fn by_workers<R: AllocGlobal + Threads + Sync>(rt: &R) -> Option<Answer> {
+    let sample: Sample = chain(rt.alloc())?;
+    let found = find_one(
+        rt,
+        rt.alloc(),
+        sample.core.as_slice(),
+        sample.log.as_bytes(),
+        Reading::interior(),
+        Plan::new(3, 16, 4).ok()?,
+        &Open,
+    );
+    Some(answer_of(found, CHAIN))
+}
+
+/// The later of the two cores: a register leads to the moved block.
+fn later_core(alloc: Global) -> Option<Vec<u8>> {
+    let mut core = core_of(alloc, &[(0x10100, 0x10200)])?;
+    set(&mut core, 348, &0x10100u64.to_le_bytes());
+    Some(core)
+}
+
+/// `find_two` of two cores by three workers.
+pub(crate) fn two_cores<R: AllocGlobal + Threads + Sync>(rt: &R) -> Option<Answer> {
+    let first = core_of(rt.alloc(), &[(0x10100, 0x10200)])?;
+    let second = later_core(rt.alloc())?;
+    let found = find_two(
+        rt,
+        rt.alloc(),
+        first.as_slice(),
+        TWO_BLOCKS.as_bytes(),
+        second.as_slice(),
+        MOVED.as_bytes(),
+        Reading::interior(),
+        Plan::new(3, 16, 4).ok()?,
+        &Open,
+    );
+    Some(answer_of(found, TWO))
+}
+
+/// `read_all` of five bytes with a limit of five.
+pub(crate) fn input(alloc: Global) -> Option<Answer> {
+    let mut reader = Cursor::new(b"bytes".to_vec(alloc).ok()?);
+    match read_all(alloc, &mut reader, 5) {
+        Ok(bytes) => Some(Answer::of(bytes.as_slice() == b"bytes".as_slice())),
+        Err(fault) => Some(Answer::of_refusal(fault == ReadFault::NoMemory)),
+    }
+}
+
+/// Whether a run met want of memory, in reading or in the search.
+fn is_wanting(fault: &RunFault) -> bool {
+    match fault {
+        RunFault::Read(_, ReadFault::NoMemory) => true,
+        RunFault::Find(FindError::NoMemory) => true,
+        _ => false,
+    }
+}
+
+/// What a run over the inputs answers, where it is to write the report and to end with the status. The writer has room for
+/// all of it, and after want of memory nothing is written.
+fn run_of<R: AllocGlobal + Threads + Sync>(
+    rt: &R,
+    inputs: Vec<Vec<u8>>,
+    two: bool,
+    report: &str,
+    status: u8,
+) -> Option<Answer> {
+    let mut readers = Vec::new(rt.alloc());
+    for input in inputs {
+        readers.push(Cursor::new(input)).ok()?;
+    }
+    let options = Options {
+        two,
+        reading: Reading::interior(),
+        plan: Plan::new(3, 16, 4).ok()?,
+        core_limit: 8192,
+        log_limit: 8192,
+    };
+    if readers.len() != if two { 4 } else { 2 } {
+        return Some(Answer::Other);
+    }
+    let mut written: Vec<u8> = Vec::with_capacity(rt.alloc(), 1000).ok()?;
+    match run(
+        rt,
+        rt.alloc(),
+        readers.as_mut_slice(),
+        &options,
+        &mut written,
+    ) {
+        Ok(given) => Some(Answer::of(given == status && written.as_slice() == report.as_bytes())),
+        Err(fault) => Some(Answer::of_refusal(is_wanting(&fault) && written.is_empty())),
+    }
+}
+
+/// `run` over one lost block, and over one that is held.
+pub(crate) fn runs<R: AllocGlobal + Threads + Sync>(rt: &R) -> Option<Answer> {
+    let alloc = rt.alloc();
+    let mut lost = Vec::new(alloc);
+    lost.push(core_of(alloc, &[])?).ok()?;
+    lost.push(ONE_BLOCK.as_bytes().to_vec(alloc).ok()?).ok()?;
+    let mut held = Vec::new(alloc);
+    held.push(core_of(alloc, &[(0x10008, 0x10100)])?).ok()?;
+    held.push(ONE_BLOCK.as_bytes().to_vec(alloc).ok()?).ok()?;
+    let first = run_of(rt, lost, false, LOST, 1)?;
+    Some(first.worse(run_of(rt, held, false, HELD, 0)?))
+}
+
+/// `run` over two cores.
+pub(crate) fn runs_two<R: AllocGlobal + Threads + Sync>(rt: &R) -> Option<Answer> {
+    let alloc = rt.alloc();
+    let mut inputs = Vec::new(alloc);
+    inputs.push(core_of(alloc, &[(0x10100, 0x10200)])?).ok()?;
+    inputs.push(TWO_BLOCKS.as_bytes().to_vec(alloc).ok()?).ok()?;
+    inputs.push(later_core(alloc)?).ok()?;
+    inputs.push(MOVED.as_bytes().to_vec(alloc).ok()?).ok()?;
+    run_of(rt, inputs, true, TWO, 0)
+}
+
+/// `request` of the plainest words.
+pub(crate) fn command_line(alloc: Global) -> Option<Answer> {
+    let mut words = Vec::new(alloc);
+    for word in ["leak_find", "one", "core.1", "trace.log"] {
+        words.push(word.to_string(alloc).ok()?).ok()?;
+    }
+    if words.is_empty() {
+        return Some(Answer::Other);
+    }
+    match request(alloc, words.as_slice()) {
+        Ok(request) => Some(Answer::of(
+            !request.options.two
+                && request.paths.len() == 2
+                && request.options.plan.workers() == 4
+                && request.options.plan.piece() == 512
+                && request.options.plan.stack() == 1024,
+        )),
+        Err(UsageFault::NoMemory) => Some(Answer::Wanting),
+        Err(_) => Some(Answer::Other),
+    }
+}
