@@ -23,6 +23,8 @@ pub use laws::{absent_are_fresh, same_words_lead_within, worked_cores};
 pub use retracing::{Retraced, retrace};
 
 #[cfg(test)]
+mod many_kept_tests;
+#[cfg(test)]
 mod retracing_tests;
 #[cfg(test)]
 mod tests;
