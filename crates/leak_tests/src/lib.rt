@@ -43,6 +43,10 @@ mod two_cores;
 #[cfg(test)]
 mod vectors;
 
+// Lists of claims are those of the workers that claimed.
+#[cfg(test)]
+mod lists;
+
 // Schedules that a gate forces on the workers.
 #[cfg(test)]
 mod schedules;
@@ -74,6 +78,10 @@ mod readers;
 // Readers and writers that are slow, fail or are interrupted.
 #[cfg(test)]
 mod fakes;
+
+// Inputs larger than the samples.
+#[cfg(test)]
+mod sizes;
 
 // What a refusal prints.
 #[cfg(test)]
