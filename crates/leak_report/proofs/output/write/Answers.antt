@@ -1,9 +1,11 @@
-use Rattle.leak_report.proofs.Writes.{Appends-more, fits_left}
+use Rattle.leak_report.proofs.Writes.{answers_ok, answers_fault, answers_short}
 use Rattle.leak_report.proofs.output.write.Goals as goal
 
-pub loop-written-preserved-then-count-gt0 : goal.loop-written-preserved-then-count-gt0
-loop-written-preserved-then-count-gt0 g c = (
-  fits_left c.loop-written.written c.in-Ok.count c.args.text.now c.loop-written.invariant.0 c.in-Ok.ensures.bound,
-  Appends-more (g.W.Write.contents c.args.writer.now) (g.W.Write.contents c.loop-written.writer) _ c.loop-written.written c.in-Ok.count c.args.text.now
-      c.loop-written.invariant.1 c.in-Ok.ensures.bytes,
-)
+pub returns-clause-ok : goal.returns-clause-ok
+returns-clause-ok g c = answers_ok g.W.Write.contents c.args.text.now c.args.writer.now c.hand_over.new.writer c.hand_over.result c.hand_over.ensures.ok
+
+pub returns-clause-fault : goal.returns-clause-fault
+returns-clause-fault g c = answers_fault g.W.Write.contents c.args.text.now c.args.writer.now c.hand_over.new.writer c.hand_over.result c.hand_over.ensures.fault
+
+pub returns-clause-short : goal.returns-clause-short
+returns-clause-short g c = answers_short _ c.args.text.now c.args.writer.now c.hand_over.new.writer c.hand_over.result c.hand_over.ensures.fault
