@@ -9,15 +9,14 @@ use Rattle.leak_index.specs.Readings.{listed_by}
 use Rattle.leak_find.specs.declared.error.FindError.{FindError}
 use Rattle.leak_find.specs.declared.error.FindError.TheVariants.{NoMemory}
 use Rattle.leak_find.specs.declared.fault.ReadFault.{ReadFault}
-use Rattle.leak_find.specs.declared.fault.ReadFault.TheVariants.{TooLong}
 use Rattle.leak_find.specs.declared.fault.RunFault.{RunFault}
 use Rattle.leak_find.specs.declared.fault.RunFault.TheVariants.{Read, Find, Write}
 use Rattle.leak_find.specs.declared.found.Found.{Found}
 use Rattle.leak_request.specs.declared.options.Options.{Options}
 use Rattle.leak_find.specs.Inputs.{IsFaultOfOne, IsFaultOfTwo}
-use Rattle.leak_find.specs.Reading.{IsWholeInput, Takes, TakesAtMost}
+use Rattle.leak_find.specs.Reading.{IsWholeInput, IsStopped}
 use Rattle.leak_request.specs.Requests.{file_count}
-use Rattle.leak_find.specs.Run.{left_in, input_at, limit_at, AreInputs, Finds, IsFaultOf, HasFound, IsStopped, IsReaderFault, IsFindFault, IsSearchFault}
+use Rattle.leak_find.specs.Run.{left_in, input_at, limit_at, AreInputs, Finds, IsFaultOf, HasFound, IsReaderFault, IsFindFault, IsSearchFault}
 use Rattle.leak_find.specs.Search.{FindsOne}
 use Rattle.leak_find.specs.SearchTwo.{FindsTwo}
 
@@ -47,11 +46,9 @@ of_reader before after left right limit bytes is_left is_right whole =
     subst (λ (o : Option (List ℕ)). IsWholeInput left o limit bytes) is_right (subst (λ (o : Option (List ℕ)). IsWholeInput o after limit bytes) is_left whole)
 
 pub is_stopped : (before after : List (Option (List ℕ))) (i limit : ℕ) (e : ReadFault) (left right : Option (List ℕ)) → left ≡ left_in before i → right ≡ left_in after i
-    → TakesAtMost left right limit → (e ≡ TooLong → Takes left right (limit + 1)) → IsStopped before after i limit e
-is_stopped before after i limit e left right is_left is_right few long = record {
-  bounded = subst (λ (o : Option (List ℕ)). TakesAtMost (left_in before i) o limit) is_right (subst (λ (o : Option (List ℕ)). TakesAtMost o right limit) is_left few);
-  too_long = λ is. subst (λ (o : Option (List ℕ)). Takes (left_in before i) o (limit + 1)) is_right (subst (λ (o : Option (List ℕ)). Takes o right (limit + 1)) is_left (long is));
-}
+    → IsStopped left right limit e → IsStopped (left_in before i) (left_in after i) limit e
+is_stopped before after i limit e left right is_left is_right stopped =
+    subst (λ (o : Option (List ℕ)). IsStopped (left_in before i) o limit e) is_right (subst (λ (o : Option (List ℕ)). IsStopped o right limit e) is_left stopped)
 
 -- ---- inputs read one after the other
 
@@ -102,7 +99,7 @@ stopped o before mid after inputs (Read number e) so_far few fault others = reco
   earlier = record {
     each = λ i h. subst (λ (r : Option (List ℕ)). IsWholeInput (left_in before i) r (limit_at o i) (input_at inputs i)) (sym (others i (λ same. absurd (omega (arith, h, same))))) (so_far.read.each i h);
   };
-  stopped = is_stopped before after (length inputs) (limit_at o (length inputs)) e (left_in mid (length inputs)) (left_in after (length inputs)) (so_far.later (length inputs) (omega arith)) refl fault.1.bounded fault.1.too_long;
+  stopped = is_stopped before after (length inputs) (limit_at o (length inputs)) e (left_in mid (length inputs)) (left_in after (length inputs)) (so_far.later (length inputs) (omega arith)) refl fault.1;
   later = λ i h. let n = fault.0 in others i (λ same. absurd (omega (arith, h, n, same))) ∙ so_far.later i (omega (arith, h, n));
 }
 stopped o before mid after inputs (Find e) so_far few fault others = absurd fault

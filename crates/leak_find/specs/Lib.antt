@@ -1,5 +1,6 @@
 pub mod Inputs
 pub mod Reading
+pub mod Reads
 pub mod Run
 pub mod Search
 pub mod SearchTwo

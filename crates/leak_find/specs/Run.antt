@@ -7,12 +7,11 @@ use Rattle.leak_find.specs.declared.error.FindError.{FindError}
 use Rattle.leak_find.specs.declared.error.FindError.TheVariants.{NoMemory}
 use Rattle.leak_find.specs.declared.found.Found.{Found}
 use Rattle.leak_find.specs.declared.fault.ReadFault.{ReadFault}
-use Rattle.leak_find.specs.declared.fault.ReadFault.TheVariants.{TooLong}
 use Rattle.leak_find.specs.declared.fault.RunFault.{RunFault}
 use Rattle.leak_find.specs.declared.fault.RunFault.TheVariants.{Read, Find, Write}
 use Rattle.leak_request.specs.declared.options.Options.{Options}
 use Rattle.leak_find.specs.Inputs.{IsFaultOfOne, IsFaultOfTwo}
-use Rattle.leak_find.specs.Reading.{IsWholeInput, Takes, TakesAtMost}
+use Rattle.leak_find.specs.Reading.{IsWholeInput, IsStopped}
 use Rattle.leak_request.specs.Requests.{file_count}
 use Rattle.leak_find.specs.Search.{FindsOne}
 use Rattle.leak_find.specs.SearchTwo.{FindsTwo}
@@ -58,14 +57,9 @@ pub record Runs (o : Options) (before after : List (Option (List ℕ))) (held ho
   pub written : Appends held holds found.report.items
   pub status_is : status ≡ (if nat_lt 0 found.leaked then 1 else 0)
 
--- of the reader with the number, from 0, no more than a byte over its limit was taken, and just that where it is too long
-pub record IsStopped (before after : List (Option (List ℕ))) (i limit : ℕ) (e : ReadFault) : Type 0 where
-  pub bounded : TakesAtMost (left_in before i) (left_in after i) limit
-  pub too_long : e ≡ TooLong → Takes (left_in before i) (left_in after i) (limit + 1)
-
 -- the reader with the number, from 0, was not read to its end
 abbrev pub IsReaderFault : List (Option (List ℕ)) → List (Option (List ℕ)) → ℕ → ℕ → RunFault → Type 0
-IsReaderFault before after i limit (Read n e) = (n ≡ i + 1) × IsStopped before after i limit e
+IsReaderFault before after i limit (Read n e) = (n ≡ i + 1) × IsStopped (left_in before i) (left_in after i) limit e
 IsReaderFault before after i limit (Find e) = ⊥
 IsReaderFault before after i limit (Write f) = ⊥
 
@@ -75,7 +69,7 @@ pub record IsReadFault (o : Options) (before after : List (Option (List ℕ))) (
   pub number_is : number ≡ length inputs + 1
   pub few : number ≤ file_count o.two
   pub earlier : AreInputs o before after inputs
-  pub stopped : IsStopped before after (length inputs) (limit_at o (length inputs)) e
+  pub stopped : IsStopped (left_in before (length inputs)) (left_in after (length inputs)) (limit_at o (length inputs)) e
   pub later : (i : ℕ) → number ≤ i → left_in after i ≡ left_in before i
 
 -- all readers were read to their ends, and what they held has this fault first

@@ -1,11 +1,14 @@
 //! Reading an input to its end.
 
-ghost use Rattle.std.specs.Prelude.{◌≡◌, ◌+◌, ◌<◌, length, IfOk, IfErr, IfSome, IfNone, OnErr};
-ghost use Rattle.leak_find.specs.Reading.{IsPiece, IsWholeInput, Takes, TakesAtMost};
-ghost use Rattle.std.specs.Io.KnownBytes.{Keeps};
+ghost use Rattle.std.specs.Prelude.{◌<◌, IfOk, IfErr};
+ghost use Rattle.std.specs.Io.{ReadsAtMost};
+ghost use Rattle.std.specs.Io.KnownBytes.{ReadConsumes};
+ghost use Rattle.leak_find.specs.Reading.{IsWholeInput, IsStopped};
+ghost use Rattle.leak_find.specs.Reads.{Calls, Follows, IsWhole, IsGivenUp};
 
 use crate::fault::ReadFault;
 use std::alloc::Global;
+use std::io;
 use std::io::{ErrorKind, Read};
 
 /// How many interrupted reads end the reading.
@@ -14,47 +17,97 @@ const MOST_INTERRUPTIONS: u32 = 1_000_000;
 /// How many bytes are asked for at a time.
 const PIECE: usize = 262_144;
 
+/// A reader whose single reads have a name in contracts. Each [`Read`] is one.
+///
+/// A function that knows nothing else of its reader has to tell each read that it makes.
+trait ReadCalls {
+    ghost calls: { Calls Self };
+
+    fn read_some(&mut self, piece: &mut [u8]) -> io::Result<usize>
+        ensures call { calls self.old piece.new result self.new }
+        ensures bound { ReadsAtMost result piece.new };
+}
+
+impl<R: Read> ReadCalls for R {
+    ghost calls = { λ before piece answer after.
+        ReadConsumes (R.remaining before) (R.remaining after) answer piece
+        × ReadsAtMost answer piece };
+
+    fn read_some(&mut self, piece: &mut [u8]) -> io::Result<usize> {
+        self.read(piece)
+    }
+}
+
 /// Reads all bytes that the reader has, at most `limit` bytes.
 ///
 /// What was read before a refusal is dropped.
 pub fn read_all<R: Read>(alloc: Global, reader: &mut R, limit: u64) -> Result<Vec<u8>, ReadFault>
-    ensures ok { IfOk result (λ v. IsWholeInput (R.remaining reader.old) (R.remaining reader.new) limit v.items) }
-    ensures too_long { IfErr result (λ e. e ≡ ReadFault.TooLong → Takes (R.remaining reader.old) (R.remaining reader.new) (limit + 1)) }
-    ensures bounded { OnErr result (TakesAtMost (R.remaining reader.old) (R.remaining reader.new) limit) }
+    ensures ok { IfOk result (λ v.
+        IsWholeInput (R.remaining reader.old) (R.remaining reader.new) limit v.items) }
+    ensures refused { IfErr result
+        (IsStopped (R.remaining reader.old) (R.remaining reader.new) limit) }
+{
+    read_on(alloc, reader, limit)
+}
+
+/// Reads until a read finds the end, or until an answer stops the reading.
+fn read_on<R: ReadCalls>(alloc: Global, reader: &mut R, limit: u64) -> Result<Vec<u8>, ReadFault>
+    ensures ok { IfOk result (λ v. IsWhole R.calls limit reader.old reader.new v.items) }
+    ensures refused { IfErr result (IsGivenUp R.calls limit reader.old reader.new) }
 {
     let mut buffer = vec![in alloc; 0u8; PIECE]?;
     let piece = buffer.as_mut_slice();
     let mut bytes: Vec<u8> = Vec::new(alloc);
-    let mut interruptions = 0u32;
-    'reading: while interruptions < MOST_INTERRUPTIONS {
+    let mut interruptions = 0;
+    'reading: loop {
         let left = limit - bytes.len() as u64;
         // A byte past the limit shows that there are too many.
         let room = left.saturating_add(1).min(PIECE as u64) as usize;
-        match read_piece(reader, &mut piece[..room])? {
-            Some(0) => return Ok(bytes),
-            Some(count) => {
-                if count as u64 > left {
-                    return Err(ReadFault::TooLong);
-                }
-                bytes.extend_from_slice(&piece[..count])?;
-            }
-            None => interruptions += 1,
+        let answer = reader.read_some(&mut piece[..room]);
+        match turn_after(answer, left, interruptions) {
+            Turn::End => return Ok(bytes),
+            Turn::Bytes(count) => bytes.extend_from_slice(&piece[..count])?,
+            Turn::Again(turns) => interruptions = turns,
+            Turn::Stop(fault) => return Err(fault),
         }
     }
-    Err(ReadFault::TooManyTurns)
 }
 
-/// How many bytes one read put at the front of the piece, or `None` where it was interrupted.
-fn read_piece<R: Read>(reader: &mut R, piece: &mut [u8]) -> Result<Option<usize>, ReadFault>
-    requires { 0 < length piece.old }
-    ensures some { IfOk result (λ turn. IfSome turn (λ count. IsPiece (R.remaining reader.old) (R.remaining reader.new) piece.new count)) }
-    ensures none { IfOk result (λ turn. IfNone turn (Keeps (R.remaining reader.old) (R.remaining reader.new))) }
-    ensures kept { OnErr result (Keeps (R.remaining reader.old) (R.remaining reader.new)) }
-    ensures device { IfErr result (λ e. e ≡ ReadFault.Device) }
+/// What follows the answer of a read.
+enum Turn {
+    /// The input has ended.
+    End,
+    /// So many bytes were read, within the limit.
+    Bytes(usize),
+    /// One more read was interrupted. So many were by now, and there may be more.
+    Again(u32),
+    /// The reading ends with a fault.
+    Stop(ReadFault),
+}
+
+/// What follows the answer, where the limit leaves so many bytes and so many reads were interrupted before.
+fn turn_after(answer: io::Result<usize>, left: u64, interruptions: u32) -> Turn
+    requires { interruptions < MOST_INTERRUPTIONS }
+    ensures { Follows left interruptions answer result }
 {
-    match reader.read(piece) {
-        Ok(count) => Ok(Some(count)),
-        Err(error) if error.kind() == ErrorKind::Interrupted => Ok(None),
-        Err(_) => Err(ReadFault::Device),
+    match answer {
+        Ok(0) => Turn::End,
+        Ok(count) => {
+            if count as u64 > left {
+                return Turn::Stop(ReadFault::TooLong);
+            }
+            Turn::Bytes(count)
+        }
+        Err(error) => {
+            if error.kind() != ErrorKind::Interrupted {
+                return Turn::Stop(ReadFault::Device);
+            }
+            let turns = interruptions + 1;
+            if turns < MOST_INTERRUPTIONS {
+                Turn::Again(turns)
+            } else {
+                Turn::Stop(ReadFault::TooManyTurns)
+            }
+        }
     }
 }

@@ -26,9 +26,13 @@ fn read_reader<R: Read>(
 ) -> Result<Vec<u8>, RunFault>
     requires there { number < length readers.old }
     requires few { number < 255 }
-    ensures ok { IfOk result (λ v. IsWholeInput (left_in (map R.remaining readers.old) number) (left_in (map R.remaining readers.new) number) limit v.items) }
-    ensures refused { IfErr result (IsReaderFault (map R.remaining readers.old) (map R.remaining readers.new) number limit) }
-    ensures others { (i : ℕ) → i ≢ number → left_in (map R.remaining readers.new) i ≡ left_in (map R.remaining readers.old) i }
+    ensures ok { IfOk result (λ v. IsWholeInput
+        (left_in (map R.remaining readers.old) number)
+        (left_in (map R.remaining readers.new) number) limit v.items) }
+    ensures refused { IfErr result (IsReaderFault
+        (map R.remaining readers.old) (map R.remaining readers.new) number limit) }
+    ensures others { (i : ℕ) → i ≢ number
+        → left_in (map R.remaining readers.new) i ≡ left_in (map R.remaining readers.old) i }
     ensures count { length readers.new ≡ length readers.old }
 {
     match read_all(alloc, &mut readers[number as usize], limit) {
@@ -46,8 +50,10 @@ fn search_one<T: Threads + Sync, R: Read>(
 ) -> Result<Found, RunFault>
     requires one { options.now.two ≡ false }
     requires readers { length readers.old ≡ 2 }
-    ensures ok { IfOk result (HasFound options.now (map R.remaining readers.old) (map R.remaining readers.new)) }
-    ensures refused { IfErr result (IsSearchFault options.now (map R.remaining readers.old) (map R.remaining readers.new)) }
+    ensures ok { IfOk result (HasFound options.now
+        (map R.remaining readers.old) (map R.remaining readers.new)) }
+    ensures refused { IfErr result (IsSearchFault options.now
+        (map R.remaining readers.old) (map R.remaining readers.new)) }
 {
     let core = read_reader(alloc, readers, 0, options.core_limit)?;
     let log = read_reader(alloc, readers, 1, options.log_limit)?;
@@ -66,8 +72,10 @@ fn search_two<T: Threads + Sync, R: Read>(
 ) -> Result<Found, RunFault>
     requires two { options.now.two ≡ true }
     requires readers { length readers.old ≡ 4 }
-    ensures ok { IfOk result (HasFound options.now (map R.remaining readers.old) (map R.remaining readers.new)) }
-    ensures refused { IfErr result (IsSearchFault options.now (map R.remaining readers.old) (map R.remaining readers.new)) }
+    ensures ok { IfOk result (HasFound options.now
+        (map R.remaining readers.old) (map R.remaining readers.new)) }
+    ensures refused { IfErr result (IsSearchFault options.now
+        (map R.remaining readers.old) (map R.remaining readers.new)) }
 {
     let core1 = read_reader(alloc, readers, 0, options.core_limit)?;
     let log1 = read_reader(alloc, readers, 1, options.log_limit)?;
@@ -97,8 +105,10 @@ fn search<T: Threads + Sync, R: Read>(
     options: &Options,
 ) -> Result<Found, RunFault>
     requires { length readers.old ≡ file_count options.now.two }
-    ensures ok { IfOk result (HasFound options.now (map R.remaining readers.old) (map R.remaining readers.new)) }
-    ensures refused { IfErr result (IsSearchFault options.now (map R.remaining readers.old) (map R.remaining readers.new)) }
+    ensures ok { IfOk result (HasFound options.now
+        (map R.remaining readers.old) (map R.remaining readers.new)) }
+    ensures refused { IfErr result (IsSearchFault options.now
+        (map R.remaining readers.old) (map R.remaining readers.new)) }
 {
     if options.two {
         search_two(rt, alloc, readers, options)
@@ -120,8 +130,12 @@ pub fn run<T: Threads + Sync, R: Read, W: Write>(
     writer: &mut W,
 ) -> Result<u8, RunFault>
     requires { length readers.old ≡ file_count options.now.two }
-    ensures ok { IfOk result (Runs options.now (map R.remaining readers.old) (map R.remaining readers.new) (W.contents writer.old) (W.contents writer.new)) }
-    ensures refused { IfErr result (IsRunFault options.now (map R.remaining readers.old) (map R.remaining readers.new) (W.contents writer.old) (W.contents writer.new)) }
+    ensures ok { IfOk result (Runs options.now
+        (map R.remaining readers.old) (map R.remaining readers.new)
+        (W.contents writer.old) (W.contents writer.new)) }
+    ensures refused { IfErr result (IsRunFault options.now
+        (map R.remaining readers.old) (map R.remaining readers.new)
+        (W.contents writer.old) (W.contents writer.new)) }
 {
     let found = search(rt, alloc, readers, options)?;
     match write(&found.report, writer) {

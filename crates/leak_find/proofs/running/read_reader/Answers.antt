@@ -1,4 +1,4 @@
-use Rattle.std.proofs.Common.{refl}
+use Rattle.std.proofs.Common.{refl, map, slice_set}
 use Rattle.leak_find.proofs.RunLemmas.{is_stopped, left_is, left_other, left_same, of_reader}
 use Rattle.leak_find.proofs.running.read_reader.Goals as goal
 
@@ -13,8 +13,9 @@ returns-in-Ok-clause-others g c = left_other g.R.Read.remaining c.args.readers.n
 pub returns-in-Err-clause-refused : goal.returns-in-Err-clause-refused
 returns-in-Err-clause-refused g c = (
   refl,
-  is_stopped _ _ _ _ _ _ _ (left_is g.R.Read.remaining c.args.readers.now c.args.number c.index-readers-number.result c.requires.there)
-      (left_same g.R.Read.remaining c.args.readers.now c.args.number c.read_all.new.reader c.requires.there) c.in-Err.ensures.bounded c.in-Err.ensures.too_long,
+  is_stopped (map g.R.Read.remaining c.args.readers.now) (map g.R.Read.remaining (slice_set c.args.readers.now c.args.number c.read_all.new.reader)) c.args.number _ _ _ _
+      (left_is g.R.Read.remaining c.args.readers.now c.args.number c.index-readers-number.result c.requires.there)
+      (left_same g.R.Read.remaining c.args.readers.now c.args.number c.read_all.new.reader c.requires.there) c.in-Err.ensures.refused,
 )
 
 pub returns-in-Err-clause-others : goal.returns-in-Err-clause-others
