@@ -3,7 +3,7 @@
 ghost use Rattle.std.specs.Prelude.{IfOk, IsFalse};
 
 use crate::examples::{EXAMPLES, HELD, LOST, ONE_BLOCK};
-use crate::fakes::{Sink, Source};
+use crate::fakes::{Giver, Sink, Source, Taker, Turn};
 use crate::samples::{Part, core_of};
 use leak_elf::ElfError;
 use leak_find::{FindError, Options, ReadFault, RunFault, run};
@@ -128,6 +128,59 @@ fn a_writer_that_fails_holds_what_the_fault_tells(rt: HostRuntime) -> Result<(),
             wanted.as_slice(),
             "room for {room} bytes"
         );
+    }
+    Ok(())
+}
+
+#[test]
+fn a_log_that_fails_at_any_read_leaves_nothing_written(rt: HostRuntime) -> Result<(), Fail> {
+    let core = core_of(rt.alloc(), &[])?;
+    let options = options(8192, 36)?;
+    // Three reads give the 36 bytes, and the fourth finds the end.
+    for reads in 0..4 {
+        let mut readers = [
+            Source::of(rt.alloc(), core.as_slice())?,
+            Source::slow(rt.alloc(), ONE_BLOCK.as_bytes(), 12)?.failing_after(reads),
+        ];
+        let mut out = Vec::new(rt.alloc());
+        let result = run(&rt, rt.alloc(), &mut readers, &options, &mut out);
+        assert_eq!(rt;
+            result,
+            Err(RunFault::Read(2, ReadFault::Device)),
+            "{reads}"
+        );
+        assert!(rt; out.is_empty(), "{reads}");
+    }
+    Ok(())
+}
+
+#[test]
+fn a_core_that_is_always_interrupted_leaves_the_log_unread(rt: HostRuntime) -> Result<(), Fail> {
+    let core = core_of(rt.alloc(), &[])?;
+    let turns = [Turn::Bytes(100), Turn::Interrupted(u64::MAX)];
+    let mut readers = [
+        Giver::of(rt.alloc(), core.as_slice(), &turns)?,
+        Giver::of(rt.alloc(), ONE_BLOCK.as_bytes(), &[])?,
+    ];
+    let mut out = Vec::new(rt.alloc());
+    let result = run(&rt, rt.alloc(), &mut readers, &options(8192, 36)?, &mut out);
+    assert_eq!(rt; result, Err(RunFault::Read(1, ReadFault::TooManyTurns)));
+    assert!(rt; out.is_empty());
+    assert_eq!(rt; readers.each_ref().map(|r| r.left()), [8092, 36]);
+    assert_eq!(rt; readers.each_ref().map(|r| r.reads), [1_000_001, 0]);
+    Ok(())
+}
+
+#[test]
+fn a_writer_that_takes_nothing_holds_nothing(rt: HostRuntime) -> Result<(), Fail> {
+    let core = core_of(rt.alloc(), &[])?;
+    let options = options(8192, 36)?;
+    for turn in [Turn::Bytes(0), Turn::Interrupted(u64::MAX), Turn::Fails] {
+        let mut readers = [core.as_slice(), ONE_BLOCK.as_bytes()];
+        let mut out = Taker::of(rt.alloc(), &[turn])?;
+        let result = run(&rt, rt.alloc(), &mut readers, &options, &mut out);
+        assert_eq!(rt; result, Err(RunFault::Write(WriteFault { written: 0 })));
+        assert!(rt; out.held.is_empty());
     }
     Ok(())
 }

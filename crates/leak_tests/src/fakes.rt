@@ -133,3 +133,116 @@ impl Read for Endless {
         Ok(buf.len())
     }
 }
+
+/// What a device does at a call.
+#[derive(Clone, Copy)]
+pub enum Turn {
+    /// Some bytes are given or taken, at most so many.
+    Bytes(usize),
+    /// The call is interrupted, and so are the next ones: so many in all.
+    Interrupted(u64),
+    /// The call fails.
+    Fails,
+}
+
+/// What a device does at its next calls. After them it gives or takes all that it can.
+#[derive(Drop)]
+struct Turns {
+    /// The last one first.
+    left: Vec<Turn>,
+}
+
+impl Turns {
+    fn of(alloc: Global, turns: &[Turn]) -> Result<Turns, Fail> {
+        let mut left = Vec::from_slice(alloc, turns)?;
+        left.reverse();
+        Ok(Turns { left })
+    }
+
+    /// How many bytes the next call moves at most, or its error.
+    fn take(&mut self) -> io::Result<usize> {
+        match self.left.pop() {
+            None => Ok(usize::MAX),
+            Some(Turn::Bytes(most)) => Ok(most),
+            Some(Turn::Fails) => Err(io::Error::from(ErrorKind::Other)),
+            Some(Turn::Interrupted(times)) => {
+                if times > 1 {
+                    self.left.push(Turn::Interrupted(times - 1))?;
+                }
+                Err(io::Error::from(ErrorKind::Interrupted))
+            }
+        }
+    }
+}
+
+/// A reader over memory that does what its turns say.
+#[derive(Drop)]
+pub struct Giver {
+    left: Vec<u8>,
+    turns: Turns,
+    /// How many reads were made.
+    pub reads: u64,
+}
+
+impl Giver {
+    pub fn of(alloc: Global, bytes: &[u8], turns: &[Turn]) -> Result<Giver, Fail> {
+        let mut left = Vec::from_slice(alloc, bytes)?;
+        left.reverse();
+        Ok(Giver {
+            left,
+            turns: Turns::of(alloc, turns)?,
+            reads: 0,
+        })
+    }
+
+    /// How many bytes were not read.
+    pub fn left(&self) -> usize {
+        self.left.len()
+    }
+}
+
+impl Read for Giver {
+    fn read(&mut self, buf: &mut [u8]) -> io::Result<usize> {
+        self.reads = self.reads.saturating_add(1);
+        let most = self.turns.take()?;
+        let count = buf.len().min(most).min(self.left.len());
+        for place in &mut buf[..count] {
+            if let Some(byte) = self.left.pop() {
+                *place = byte;
+            }
+        }
+        Ok(count)
+    }
+}
+
+/// A writer over memory that does what its turns say.
+#[derive(Drop)]
+pub struct Taker {
+    pub held: Vec<u8>,
+    turns: Turns,
+    /// How many writes were made.
+    pub writes: u64,
+}
+
+impl Taker {
+    pub fn of(alloc: Global, turns: &[Turn]) -> Result<Taker, Fail> {
+        Ok(Taker {
+            held: Vec::new(alloc),
+            turns: Turns::of(alloc, turns)?,
+            writes: 0,
+        })
+    }
+}
+
+impl Write for Taker {
+    fn write(&mut self, bytes: &[u8]) -> io::Result<usize> {
+        self.writes = self.writes.saturating_add(1);
+        let count = bytes.len().min(self.turns.take()?);
+        self.held.extend_from_slice(&bytes[..count])?;
+        Ok(count)
+    }
+
+    fn flush(&mut self) -> io::Result<()> {
+        Ok(())
+    }
+}

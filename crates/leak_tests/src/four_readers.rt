@@ -179,7 +179,7 @@ fn a_writer_that_fails_holds_what_the_fault_tells(rt: HostRuntime) -> Result<(),
     let core2 = core_of(rt.alloc(), &[Part::Word(0x10008, 0x10100)])?;
     let log = ONE_BLOCK.as_bytes();
     let report = HELD_UNREAD.as_bytes();
-    for room in [0, 1, 60, 115] {
+    for room in [0, 1, report.len() / 2, report.len().saturating_sub(1)] {
         let mut readers = sources(rt.alloc(), core1.as_slice(), log, core2.as_slice(), log)?;
         let mut out = Sink::of(rt.alloc(), room);
         let result = run(&rt, rt.alloc(), &mut readers, &options, &mut out);

@@ -75,6 +75,10 @@ mod four_readers;
 #[cfg(test)]
 mod readers;
 
+// Readers and writers that fail or are interrupted between their bytes.
+#[cfg(test)]
+mod turns;
+
 // Readers and writers that are slow, fail or are interrupted.
 #[cfg(test)]
 mod fakes;
