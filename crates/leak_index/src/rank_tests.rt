@@ -1,22 +1,17 @@
 //! Lookups where blocks start at multiples of 16, and where they don't.
+use crate::tests::lives;
 use crate::{Hits, Lookup, Paged, Reading, Sorted};
-use leak_blocks::{Block, Live, replay};
-use leak_mtrace::Log;
+use leak_blocks::{Block, Live};
 use std::alloc::{AllocError, Global};
 use std::process::Abort;
 use std::test::Fail;
 
-/// The live blocks of a log.
-fn lives(alloc: Global, text: &str) -> Result<Live, Fail> {
-    let log = Log::read(alloc, text.as_bytes())?;
-    Ok(replay(alloc, &log)?)
-}
-
-/// Adds so many blocks to a log, the distance apart, of sizes from 0 up to 16 below it.
+/// Adds so many blocks of 0, 8 or 16 bytes to a log, the distance apart.
 fn add(log: &mut String, start: u64, distance: u64, many: u64) -> Result<(), AllocError> {
     for i in 0..many {
-        let size = i * 8 % (distance - 8);
-        writeln!(log, "+ 0x{:x} 0x{:x}", start + distance * i, size)?;
+        let at = start.wrapping_add(distance.wrapping_mul(i));
+        let size = i % 3 * 8;
+        writeln!(log, "+ 0x{at:x} 0x{size:x}")?;
     }
     Ok(())
 }
@@ -25,15 +20,21 @@ fn add(log: &mut String, start: u64, distance: u64, many: u64) -> Result<(), All
 /// which each ends where the next begins. They start so many bytes behind a multiple of 16.
 fn ranges(alloc: Global, behind: u64) -> Result<String, AllocError> {
     let mut log = String::new(alloc);
-    add(&mut log, 0x10000 + behind, 32, 200)?;
-    add(&mut log, 0x20_0000 + behind, 0x1a40, 40)?;
-    add(&mut log, 0x7f00_0000_0000 + behind, 0x40_0010, 20)?;
+    add(&mut log, 0x10000u64.wrapping_add(behind), 32, 200)?;
+    add(&mut log, 0x20_0000u64.wrapping_add(behind), 0x1a40, 40)?;
+    add(
+        &mut log,
+        0x7f00_0000_0000u64.wrapping_add(behind),
+        0x40_0010,
+        20,
+    )?;
     for i in 0..40u64 {
-        let start = 0x7f80_0000_0000 + behind + 0x1230 * i;
+        let start = behind.wrapping_add(0x7f80_0000_0000 + 0x1230 * i);
         writeln!(log, "+ 0x{start:x} 0x1220")?;
     }
     for i in 0..100u64 {
-        writeln!(log, "+ 0x{:x} 0x10", 0x7fc0_0000_03f0 + behind + 0x10 * i)?;
+        let start = behind.wrapping_add(0x7fc0_0000_03f0 + 0x10 * i);
+        writeln!(log, "+ 0x{start:x} 0x10")?;
     }
     Ok(log)
 }
@@ -68,19 +69,15 @@ fn lookups_agree_around_starts_and_ends(rt: HostRuntime) -> Result<(), Fail> {
         let sorted = Sorted::new(&live, Reading::interior());
         let paged = Paged::new(alloc, &live, Reading::interior())?;
         for block in live.blocks() {
-            let end = block.start + block.size;
-            for word in [
-                block.start - 1,
-                block.start,
-                block.start + 1,
-                end - 1,
-                end,
-                end + 1,
-            ] {
+            let start = block.start;
+            let end = start.wrapping_add(block.size);
+            for word in [start, end] {
                 check_word(&rt, &live, &sorted, &paged, word);
+                check_word(&rt, &live, &sorted, &paged, word.wrapping_add(1));
+                check_word(&rt, &live, &sorted, &paged, word.wrapping_sub(1));
+                check_word(&rt, &live, &sorted, &paged, word.wrapping_add(0x400));
+                check_word(&rt, &live, &sorted, &paged, word.wrapping_sub(0x400));
             }
-            check_word(&rt, &live, &sorted, &paged, block.start - 0x400);
-            check_word(&rt, &live, &sorted, &paged, end + 0x400);
         }
     }
     Ok(())
@@ -141,10 +138,10 @@ fn thousands_of_rows_and_pages(rt: HostRuntime) -> Result<(), Fail> {
             add(&mut log, start, distance, 3000)?;
             let live = lives(alloc, log.as_str())?;
             let paged = Paged::new(alloc, &live, Reading::interior())?;
-            for i in 0..3000u64 {
-                let number = i as usize;
-                assert_eq!(rt; paged.hits(start + distance * i), Hits::One(number), "{i}");
-                assert_eq!(rt; paged.hits(start + distance * i - 1), Hits::Zero, "{i}");
+            for i in 0..3000usize {
+                let word = distance.wrapping_mul(i as u64).wrapping_add(start);
+                assert_eq!(rt; paged.hits(word), Hits::One(i), "{i}");
+                assert_eq!(rt; paged.hits(word.wrapping_sub(1)), Hits::Zero, "{i}");
             }
         }
     }

@@ -11,7 +11,7 @@ fn ask<L: Lookup>(lookup: &L, word: u64) -> Hits {
 }
 
 /// The live blocks of a log.
-fn lives(alloc: Global, text: &str) -> Result<Live, Fail> {
+pub(crate) fn lives(alloc: Global, text: &str) -> Result<Live, Fail> {
     let log = Log::read(alloc, text.as_bytes())?;
     Ok(replay(alloc, &log)?)
 }

@@ -6,7 +6,7 @@ use crate::samples::{Part, core_of, set};
 use leak_elf::ElfError;
 use leak_find::{FindError, find_alone, find_one};
 use leak_index::Reading;
-use leak_pool::Open;
+use leak_pool::{Open, Plan};
 use std::alloc::Global;
 use std::test::Fail;
 use std::thread::Threads;
@@ -31,17 +31,18 @@ fn with_headers_at_the_end(alloc: Global, parts: &[Part], headers: u32) -> Resul
     Ok(core)
 }
 
-/// Whether the search on the caller's thread and those by workers give the report.
+/// Whether the search on the caller's thread and those by the plans give the report.
 fn is_reported<R: Threads + Sync>(
     rt: &R,
     alloc: Global,
     core: &[u8],
+    plans: &[Plan],
     report: &str,
 ) -> Result<bool, Fail> {
     let log = ONE_BLOCK.as_bytes();
     let alone = find_alone(alloc, core, log, Reading::interior())?;
     let mut same = alone.report.as_slice() == report.as_bytes();
-    for plan in few_plans(alloc)?.as_slice() {
+    for plan in plans {
         let found = find_one(rt, alloc, core, log, Reading::interior(), *plan, &Open)?;
         same = same && found.report.as_slice() == report.as_bytes();
     }
@@ -51,7 +52,8 @@ fn is_reported<R: Threads + Sync>(
 #[test]
 fn two_headers_that_a_section_counts_are_read(rt: HostRuntime) -> Result<(), Fail> {
     let core = numbered(rt.alloc(), &[], 2)?;
-    assert!(rt; is_reported(&rt, rt.alloc(), core.as_slice(), LOST)?);
+    let plans = few_plans(rt.alloc())?;
+    assert!(rt; is_reported(&rt, rt.alloc(), core.as_slice(), plans.as_slice(), LOST)?);
     Ok(())
 }
 
@@ -62,7 +64,8 @@ fn seventy_thousand_headers_are_read(rt: HostRuntime) -> Result<(), Fail> {
     let mut core = with_headers_at_the_end(rt.alloc(), &held, 70_000)?;
     core.resize(8192 + 56 * 70_000, 0)?;
     assert_eq!(rt; core.len(), 3_928_192);
-    assert!(rt; is_reported(&rt, rt.alloc(), core.as_slice(), HELD)?);
+    let plans = few_plans(rt.alloc())?;
+    assert!(rt; is_reported(&rt, rt.alloc(), core.as_slice(), plans.as_slice(), HELD)?);
     Ok(())
 }
 
@@ -71,6 +74,7 @@ const ZERO: u64 = 4096;
 
 #[test]
 fn the_last_of_seventy_thousand_segments_holds_a_block(rt: HostRuntime) -> Result<(), Fail> {
+    let plans = [Plan::new(3, 512, 1024)?];
     for (word, report) in [(0x10100_u64, HELD), (0, LOST)] {
         let mut core = with_headers_at_the_end(rt.alloc(), &[], 70_002)?;
         // A place in the file that is in no other segment.
@@ -84,7 +88,7 @@ fn the_last_of_seventy_thousand_segments_holds_a_block(rt: HostRuntime) -> Resul
             }
         }
         assert!(rt;
-            is_reported(&rt, rt.alloc(), core.as_slice(), report)?,
+            is_reported(&rt, rt.alloc(), core.as_slice(), plans.as_slice(), report)?,
             "with {word}"
         );
     }

@@ -10,51 +10,41 @@ use std::test::Fail;
 enum Order {
     Ascending,
     Descending,
-    LastAtFirst,
 }
 
-/// A core of so many segments of a page each, in the order. From 65,535 on their number stands in
-/// section header 0.
-fn many_segments(alloc: Global, count: u64, order: Order) -> Result<Vec<u8>, Fail> {
-    let mut core = if count < 0xffff {
-        begun(alloc, count as u16)?
-    } else {
-        begun_with_section(alloc, count as u32)?
-    };
-    for i in 0..count {
+/// A core of 140,000 segments of a page each, in the order: more than `e_phnum` can give. Section
+/// header 0 gives the number of program headers, of which a caller may append more.
+fn many_segments(alloc: Global, headers: u32, order: Order) -> Result<Vec<u8>, Fail> {
+    let mut core = begun_with_section(alloc, headers)?;
+    for i in 0..140_000_u64 {
         let page = match order {
             Order::Ascending => i,
-            Order::Descending => count - 1 - i,
-            Order::LastAtFirst => i % (count - 1),
+            Order::Descending => 139_999 - i,
         };
         push_header(&mut core, 1, 0, 4096 * page, 0, 4096)?;
     }
     Ok(core)
 }
 
-/// The most segments that `e_phnum` can give, the fewest that it can't, and many more.
-const COUNTS: [u64; 3] = [0xfffe, 0xffff, 140_000];
-
 #[test]
 fn many_segments_are_read_in_any_order(rt: HostRuntime) -> Result<(), Fail> {
-    for count in COUNTS {
-        for order in [Order::Ascending, Order::Descending] {
-            let core = many_segments(rt.alloc(), count, order)?;
-            let image = Image::read(rt.alloc(), core.as_slice())?;
-            assert_eq!(rt; image.segments().len() as u64, count);
-            assert_eq!(rt; image.undumped(), 4096 * count);
-        }
+    for order in [Order::Ascending, Order::Descending] {
+        let core = many_segments(rt.alloc(), 140_000, order)?;
+        let image = Image::read(rt.alloc(), core.as_slice())?;
+        assert_eq!(rt; image.segments().len(), 140_000);
+        assert_eq!(rt; image.undumped(), 4096 * 140_000);
     }
     Ok(())
 }
 
 #[test]
 fn the_last_of_many_segments_may_overlap(rt: HostRuntime) -> Result<(), Fail> {
-    for count in COUNTS {
-        let core = many_segments(rt.alloc(), count, Order::LastAtFirst)?;
+    for order in [Order::Ascending, Order::Descending] {
+        let mut core = many_segments(rt.alloc(), 140_001, order)?;
+        push_header(&mut core, 1, 0, 4096 * 70_000, 0, 4096)?;
         assert_eq!(rt;
             refusal(rt.alloc(), core.as_slice()),
-            Some(ElfError::Overlap(count as usize - 1))
+            Some(ElfError::Overlap(140_000))
         );
     }
     Ok(())
