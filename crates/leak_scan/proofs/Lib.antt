@@ -4,3 +4,4 @@ pub mod Reached
 pub mod Ahead
 pub mod Advance
 pub mod Listing
+pub mod Held

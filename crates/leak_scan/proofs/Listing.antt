@@ -4,7 +4,7 @@ use Rattle.std.proofs.lemmas.Bool.{eq-eqb, ne_eqb}
 use Rattle.std.proofs.lemmas.List.Sorted.{IsNonDecreasingBy-from_all_adjacent}
 use Rattle.std.specs.Bool.{passes, fails}
 use Rattle.std.specs.List.Sorted.{IsStrictlyIncreasing, IsNonDecreasingBy}
-use Rattle.leak_scan.specs.Targets.{is_listed}
+use Rattle.leak_scan.specs.Targets.{is_listed, is_on}
 use Rattle.leak_scan.specs.Windows.{IsCountBelow, IsWindowAt}
 
 -- a number of the list is listed
@@ -72,6 +72,7 @@ pub window_at : (numbers : List ℕ) (from count d start : ℕ) → IsStrictlyIn
     start ≡ max from (min (slice_index_or numbers count d * 4096) 18446744073709551615) → from < 2 ^ 64 → IsWindowAt numbers from start (4096 - start % 4096)
 window_at numbers from count d start up below h e high = record {
   behind = omega arith;
+  here = begins (lt_cases (slice_index_or numbers count d * 4096) (2 ^ 64));
   none = λ a l u. not_listed numbers (a / 4096) (λ k b z same. before a l u k b z same (lt_cases k count));
   some = omega arith;
   all = λ a l u z. listed_at numbers count (a / 4096) d h (here a l u z (lt_cases (slice_index_or numbers count d * 4096) (2 ^ 64)));
@@ -79,6 +80,10 @@ window_at numbers from count d start up below h e high = record {
   where
     first : from / 4096 ≤ slice_index_or numbers count d
     first = below.others count d (omega arith) h
+
+    begins : (slice_index_or numbers count d * 4096 < 2 ^ 64) ⊎ (2 ^ 64 ≤ slice_index_or numbers count d * 4096) → (is_on numbers start ≡ true) ⊎ (start + 1 ≡ 2 ^ 64)
+    begins (inl low) = inl (listed_at numbers count (start / 4096) d h (let least = first in omega (arith, low)))
+    begins (inr past) = inr (omega (arith, past))
 
     before : (a : ℕ) → from ≤ a → a < start → (k b : ℕ) → k < length numbers → slice_index_or numbers k b ≡ a / 4096 → (k < count) ⊎ (count ≤ k) → ⊥
     before a l u k b z same (inl low) = let less : slice_index_or numbers k b < from / 4096 = below.below k b low in omega (arith, l, same)

@@ -1,4 +1,6 @@
 pub mod Targets
 pub mod Windows
 pub mod Places
+pub mod Heads
+pub mod Dropped
 pub mod Rows

@@ -1,9 +1,10 @@
--- Worked targets.
-use Rattle.std.specs.Prelude.{◌≡◌, ℕ, ◌%◌, List, [], ◌∷◌, find, ◌==◌, if◌then◌else◌, Option, Some, None}
+-- Worked targets, and worked heads.
+use Rattle.std.specs.Prelude.{◌≡◌, ℕ, ◌%◌, true, false, List, [], ◌∷◌, find, ◌==◌, if◌then◌else◌, Option, Some, None}
 use Rattle.std.specs.Option.{option_map_or}
 use Rattle.leak_blocks.specs.declared.block.Block.{Block}
 use Rattle.leak_index.specs.Hits.{Index}
 use Rattle.leak_scan.specs.Targets.{block_words, block_words_on, block_targets}
+use Rattle.leak_scan.specs.Heads.{heads_of}
 
 abbrev pub block : ℕ → ℕ → ℕ → Block
 block start size number = record { start = start; size = size; line = number; caller = (0, 0) }
@@ -21,3 +22,11 @@ pub record AreWorkedTargets : Type 0 where
   pub paged : block_words_on (memory ((0x10ff8, 1) ∷ (0x11000, 7) ∷ [])) (17 ∷ []) (block 0x10ff8 0x10 1) ≡ 7 ∷ []
   pub targets : block_targets (memory ((0x10100, 0x10200) ∷ [])) (index (block 0x10100 0x10 1 ∷ block 0x10200 0x10 2 ∷ [])) (block 0x10100 0x10 1) ≡ 1 ∷ []
   pub both : block_targets (memory ((0x10100, 0x10110) ∷ [])) (index (block 0x10100 0x10 1 ∷ block 0x10110 0x10 2 ∷ [])) (block 0x10100 0x10 1) ≡ 0 ∷ 1 ∷ []
+
+-- the first leads to the second and to itself; a word one past the end of the first leads to it; a ring; a holder that is
+-- in the set holds nothing
+pub record AreWorkedHeads : Type 0 where
+  pub own_word : heads_of (memory ((0x10100, 0x10200) ∷ (0x10108, 0x10100) ∷ [])) (index (block 0x10100 0x20 1 ∷ block 0x10200 0x10 2 ∷ block 0x10300 8 3 ∷ [])) (false ∷ false ∷ false ∷ []) ≡ true ∷ false ∷ true ∷ []
+  pub past_the_end : heads_of (memory ((0x10200, 0x10120) ∷ [])) (index (block 0x10100 0x20 1 ∷ block 0x10200 0x10 2 ∷ [])) (false ∷ false ∷ []) ≡ false ∷ true ∷ []
+  pub ring : heads_of (memory ((0x10100, 0x10200) ∷ (0x10200, 0x10100) ∷ [])) (index (block 0x10100 0x20 1 ∷ block 0x10200 0x10 2 ∷ [])) (false ∷ false ∷ []) ≡ false ∷ false ∷ []
+  pub marked : heads_of (memory ((0x10100, 0x10200) ∷ [])) (index (block 0x10100 0x20 1 ∷ block 0x10200 0x10 2 ∷ [])) (true ∷ false ∷ []) ≡ false ∷ true ∷ []

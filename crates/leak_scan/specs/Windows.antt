@@ -1,5 +1,5 @@
 -- The first addresses on listed pages.
-use Rattle.std.specs.Prelude.{◌≡◌, ℕ, ◌+◌, ◌%◌, length, slice_index_or, ◌<◌, ◌≤◌, false, true, List, Option, Some, None}
+use Rattle.std.specs.Prelude.{◌≡◌, ℕ, ◌+◌, ◌%◌, ◌^◌, ◌⊎◌, length, slice_index_or, ◌<◌, ◌≤◌, false, true, List, Option, Some, None}
 use Rattle.leak_scan.specs.Targets.{is_on}
 
 -- no address from the first up to the second, which is excluded, is on a listed page
@@ -7,9 +7,11 @@ abbrev pub NoneListed : List ℕ → ℕ → ℕ → Type 0
 NoneListed pages from to = (a : ℕ) → from ≤ a → a < to → is_on pages a ≡ false
 
 -- the addresses from the start on, so many, are the first from `from` on that stand on a listed page: none before them
--- does, and of them each multiple of 8 does
+-- does, and of them each multiple of 8 does. The start itself does, or it is the last address of all, which stands for a
+-- page behind it.
 pub record IsWindowAt (pages : List ℕ) (from start count : ℕ) : Type 0 where
   pub behind : from ≤ start
+  pub here : (is_on pages start ≡ true) ⊎ (start + 1 ≡ 2 ^ 64)
   pub none : NoneListed pages from start
   pub some : 0 < count
   pub all : (a : ℕ) → start ≤ a → a < start + count → a % 8 ≡ 0 → is_on pages a ≡ true

@@ -1,9 +1,9 @@
-//! Laws of the definitions, and worked targets.
+//! Laws of the definitions, worked targets and worked heads.
 ghost use Rattle.std.specs.Prelude.{ℕ, ◌<◌, List, length};
 ghost use Rattle.std.specs.List.{AllByRecursion};
 ghost use Rattle.leak_index.specs.Hits.{Index};
 ghost use Rattle.leak_scan.specs.Targets.{targets_of};
-ghost use Rattle.leak_scan.specs.Rows.{AreWorkedTargets};
+ghost use Rattle.leak_scan.specs.Rows.{AreWorkedTargets, AreWorkedHeads};
 
 use leak_index::hits_are_blocks;
 
@@ -17,4 +17,9 @@ pub fn targets_are_blocks()
 /// The words of some blocks, and the blocks that they lead to.
 pub fn worked_targets()
     ensures { AreWorkedTargets }
+{}
+
+/// The words of some blocks, and which of the blocks are heads.
+pub fn worked_heads()
+    ensures { AreWorkedHeads }
 {}

@@ -12,6 +12,7 @@
 #![tactic(auto)]
 
 mod first;
+mod holding;
 mod laws;
 mod pages;
 mod place;
@@ -20,6 +21,7 @@ mod targets;
 #[cfg(test)]
 mod tests;
 
-pub use laws::{targets_are_blocks, worked_targets};
+pub use holding::heads;
+pub use laws::{targets_are_blocks, worked_heads, worked_targets};
 pub use pages::Pages;
 pub use targets::Targets;

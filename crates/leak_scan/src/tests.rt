@@ -3,10 +3,10 @@ ghost use Rattle.leak_elf.specs.Words.{word_of};
 ghost use Rattle.leak_elf.specs.Aligned.{aligned_words};
 ghost use Rattle.leak_scan.specs.Targets.{targets_of, block_words};
 
-use crate::{Pages, Targets, targets_are_blocks};
+use crate::{Pages, Targets, heads, targets_are_blocks};
 use leak_blocks::{Block, Live, replay};
 use leak_elf::{Image, Words, core_k};
-use leak_index::{Lookup, Reading, Sorted};
+use leak_index::{Lookup, Paged, Reading, Sorted};
 use leak_mtrace::Log;
 use std::alloc::{AllocError, Global};
 use std::cell::Cell;
@@ -201,5 +201,63 @@ fn pages_ascend(rt: HostRuntime) -> Result<(), Fail> {
     ] {
         assert_eq!(rt; pages.has(page), has, "{page}");
     }
+    Ok(())
+}
+
+#[test]
+fn heads_of_leaked_blocks(rt: HostRuntime) -> Result<(), Fail> {
+    let alloc = rt.alloc();
+    let three = "+ 0x10100 0x20\n+ 0x10200 0x10\n+ 0x10300 0x8\n";
+    let own_word = [(0x10100, 0x10200), (0x10108, 0x10100)];
+    let ring = [(0x10100, 0x10200), (0x10200, 0x10100)];
+    let cases: [(&[(u64, u64)], &[bool], &[bool]); 5] = [
+        (&own_word, &[false, false, false], &[true, false, true]),
+        // one past the last byte of the first
+        (
+            &[(0x10200, 0x10120)],
+            &[false, false, false],
+            &[false, true, true],
+        ),
+        (&ring, &[false, false, false], &[false, false, true]),
+        // what a marked block leads to may be a head, and a marked block is none
+        (&own_word, &[true, false, false], &[false, true, true]),
+        (&ring, &[true, true, true], &[false, false, false]),
+    ];
+    for (words, set, wanted) in cases {
+        let core = core_k(alloc, words)?;
+        let image = Image::read(alloc, core.as_slice())?;
+        let live = lives(alloc, three)?;
+        assert!(rt; live.blocks().len() == set.len());
+        let sorted = Sorted::new(&live, Reading::interior());
+        assert_eq!(rt;
+            heads(alloc, &image, &sorted, &live, set)?.as_slice(),
+            wanted
+        );
+        let paged = Paged::new(alloc, &live, Reading::interior())?;
+        assert_eq!(rt;
+            heads(alloc, &image, &paged, &live, set)?.as_slice(),
+            wanted
+        );
+    }
+    Ok(())
+}
+
+#[test]
+fn words_of_marked_blocks_are_not_asked_for(rt: HostRuntime) -> Result<(), Fail> {
+    let alloc = rt.alloc();
+    let core = core_k(alloc, &WORDS)?;
+    let image = Image::read(alloc, core.as_slice())?;
+    let live = lives(alloc, BLOCKS)?;
+    let lookup = Sorted::new(&live, Reading::interior());
+    let counted = Counted {
+        image: &image,
+        asked: Cell::new(0),
+    };
+    let set = [true, false, true];
+    assert!(rt; live.blocks().len() == set.len());
+    let found = heads(alloc, &counted, &lookup, &live, &set)?;
+    assert_eq!(rt; found.as_slice(), [false, true, false].as_slice());
+    // the 16 bytes of the second block
+    assert_eq!(rt; counted.asked.get(), 2);
     Ok(())
 }
