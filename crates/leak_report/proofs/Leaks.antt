@@ -1,29 +1,60 @@
 -- The leaked blocks of the first entries of a set.
-use Rattle.std.proofs.Common.{suc, zero, add-one, ◌≡◌, ℕ, ◌+◌, ◌<◌, ◌≤◌, Bool, true, false, List, [], ◌∷◌, ◌++◌, length, take, drop, get_or, refl, ap, arith}
+use Rattle.std.proofs.Common.{suc, zero, add-one, add-zero, ◌≡◌, ℕ, ◌+◌, ◌<◌, ◌≤◌, Bool, true, false, not, cond, List, [], ◌∷◌, ◌++◌, length, take, drop, get_or, filter, refl, ap, sym, ◌∙◌, arith}
 use Rattle.std.proofs.lemmas.List.Sums.{sum_by-cons}
+use Rattle.std.proofs.lemmas.List.{append-nil, length-append, length-take-le}
+use Rattle.std.proofs.lemmas.List.Elements.{filter-append}
+use Rattle.std.proofs.lemmas.List.Filters.{length-filter_both}
 use Rattle.std.proofs.Math.Seq.{drop-cons}
 use Rattle.leak_blocks.specs.declared.block.Block.{Block}
-use Rattle.leak_report.specs.Totals.{leaked_in, marked_in, bytes_of}
+use Rattle.leak_report.specs.Totals.{Leak, leaked_in, leaks_in, marked_in, bytes_of, bytes_in, heads_in}
 
 -- one more block that is not in the set
-pub leaked_push : (set : List Bool) (blocks : List Block) (i : ℕ) (d : Bool) (b : Block) → i < length set → i < length blocks
-    → get_or set i d ≡ false → leaked_in (take (suc i) set) (take (suc i) blocks) ≡ leaked_in (take i set) (take i blocks) ++ get_or blocks i b ∷ []
-leaked_push [] blocks i d b p q e = absurd (omega arith)
-leaked_push (s ∷ set) [] i d b p q e = absurd (omega arith)
-leaked_push (true ∷ set) (x ∷ blocks) zero d b p q e = cc
-leaked_push (false ∷ set) (x ∷ blocks) zero d b p q e = refl
-leaked_push (true ∷ set) (x ∷ blocks) (suc i) d b p q e = leaked_push set blocks i d b (omega arith) (omega arith) e
-leaked_push (false ∷ set) (x ∷ blocks) (suc i) d b p q e = ap (λ bs. x ∷ bs) (leaked_push set blocks i d b (omega arith) (omega arith) e)
+pub leaks_push : (set heads : List Bool) (blocks : List Block) (i : ℕ) (d e : Bool) (b : Block) → i < length set → i < length heads → i < length blocks
+    → get_or set i d ≡ false
+    → leaks_in (take (suc i) set) (take (suc i) heads) (take (suc i) blocks)
+    ≡ leaks_in (take i set) (take i heads) (take i blocks) ++ record { block = get_or blocks i b; head = get_or heads i e } ∷ []
+leaks_push [] heads blocks i d e b p o q is = absurd (omega arith)
+leaks_push (s ∷ set) [] blocks i d e b p o q is = absurd (omega arith)
+leaks_push (s ∷ set) (h ∷ heads) [] i d e b p o q is = absurd (omega arith)
+leaks_push (true ∷ set) (h ∷ heads) (x ∷ blocks) zero d e b p o q is = cc
+leaks_push (false ∷ set) (h ∷ heads) (x ∷ blocks) zero d e b p o q is = refl
+leaks_push (true ∷ set) (h ∷ heads) (x ∷ blocks) (suc i) d e b p o q is = leaks_push set heads blocks i d e b (omega arith) (omega arith) (omega arith) is
+leaks_push (false ∷ set) (h ∷ heads) (x ∷ blocks) (suc i) d e b p o q is =
+    ap (λ ls. record { block = x; head = h } ∷ ls) (leaks_push set heads blocks i d e b (omega arith) (omega arith) (omega arith) is)
 
 -- one more that is in it
-pub leaked_stay : (set : List Bool) (blocks : List Block) (i : ℕ) (d : Bool) → i < length set → i < length blocks
-    → get_or set i d ≡ true → leaked_in (take (suc i) set) (take (suc i) blocks) ≡ leaked_in (take i set) (take i blocks)
-leaked_stay [] blocks i d p q e = absurd (omega arith)
-leaked_stay (s ∷ set) [] i d p q e = absurd (omega arith)
-leaked_stay (false ∷ set) (x ∷ blocks) zero d p q e = cc
-leaked_stay (true ∷ set) (x ∷ blocks) zero d p q e = refl
-leaked_stay (true ∷ set) (x ∷ blocks) (suc i) d p q e = leaked_stay set blocks i d (omega arith) (omega arith) e
-leaked_stay (false ∷ set) (x ∷ blocks) (suc i) d p q e = ap (λ bs. x ∷ bs) (leaked_stay set blocks i d (omega arith) (omega arith) e)
+pub leaks_stay : (set heads : List Bool) (blocks : List Block) (i : ℕ) (d : Bool) → i < length set → i < length heads → i < length blocks
+    → get_or set i d ≡ true
+    → leaks_in (take (suc i) set) (take (suc i) heads) (take (suc i) blocks) ≡ leaks_in (take i set) (take i heads) (take i blocks)
+leaks_stay [] heads blocks i d p o q is = absurd (omega arith)
+leaks_stay (s ∷ set) [] blocks i d p o q is = absurd (omega arith)
+leaks_stay (s ∷ set) (h ∷ heads) [] i d p o q is = absurd (omega arith)
+leaks_stay (false ∷ set) (h ∷ heads) (x ∷ blocks) zero d p o q is = cc
+leaks_stay (true ∷ set) (h ∷ heads) (x ∷ blocks) zero d p o q is = refl
+leaks_stay (true ∷ set) (h ∷ heads) (x ∷ blocks) (suc i) d p o q is = leaks_stay set heads blocks i d (omega arith) (omega arith) (omega arith) is
+leaks_stay (false ∷ set) (h ∷ heads) (x ∷ blocks) (suc i) d p o q is =
+    ap (λ ls. record { block = x; head = h } ∷ ls) (leaks_stay set heads blocks i d (omega arith) (omega arith) (omega arith) is)
+
+-- they have no more bytes than all blocks, and are no more
+pub bytes_in-leaks : (set heads : List Bool) (blocks : List Block) → bytes_in (leaks_in set heads blocks) ≤ bytes_of blocks
+bytes_in-leaks [] heads blocks = omega arith
+bytes_in-leaks (s ∷ set) [] blocks = omega arith
+bytes_in-leaks (s ∷ set) (h ∷ heads) [] = omega arith
+bytes_in-leaks (true ∷ set) (h ∷ heads) (b ∷ blocks) = omega (arith, bytes_in-leaks set heads blocks, sum_by-cons (λ (b : Block). b.size) b blocks)
+bytes_in-leaks (false ∷ set) (h ∷ heads) (b ∷ blocks) =
+    omega (
+      arith,
+      bytes_in-leaks set heads blocks,
+      sum_by-cons (λ (b : Block). b.size) b blocks,
+      sum_by-cons (λ (l : Leak). l.block.size) (record { block = b; head = h }) (leaks_in set heads blocks),
+    )
+
+pub length-leaks : (set heads : List Bool) (blocks : List Block) → length (leaks_in set heads blocks) ≤ length blocks
+length-leaks [] heads blocks = omega arith
+length-leaks (s ∷ set) [] blocks = omega arith
+length-leaks (s ∷ set) (h ∷ heads) [] = omega arith
+length-leaks (true ∷ set) (h ∷ heads) (b ∷ blocks) = omega (arith, length-leaks set heads blocks)
+length-leaks (false ∷ set) (h ∷ heads) (b ∷ blocks) = omega (arith, length-leaks set heads blocks)
 
 -- no more bytes than those of all blocks, and no more blocks
 pub bytes_of-leaked : (set : List Bool) (blocks : List Block) → bytes_of (leaked_in set blocks) ≤ bytes_of blocks
@@ -38,6 +69,65 @@ length-leaked [] blocks = omega arith
 length-leaked (s ∷ set) [] = omega arith
 length-leaked (true ∷ set) (b ∷ blocks) = omega (arith, length-leaked set blocks)
 length-leaked (false ∷ set) (b ∷ blocks) = omega (arith, length-leaked set blocks)
+
+-- one more element of a filtered list
+pub filter-push_yes : {X : Type 0} (p : X → Bool) (xs : List X) (x : X) → p x ≡ true → filter p (xs ++ x ∷ []) ≡ filter p xs ++ x ∷ []
+filter-push_yes p xs x h = rw (filter-append p xs (x ∷ []), h) refl
+
+pub filter-push_no : {X : Type 0} (p : X → Bool) (xs : List X) (x : X) → p x ≡ false → filter p (xs ++ x ∷ []) ≡ filter p xs
+filter-push_no p xs x h = rw (filter-append p xs (x ∷ []), h) (append-nil _)
+
+-- the heads with one more leaked block
+pub heads_in-push : (leaks : List Leak) (l : Leak) → heads_in (leaks ++ l ∷ []) ≡ heads_in leaks + cond l.head 1 0
+heads_in-push leaks l = go l.head refl
+  where
+    go : (t : Bool) → l.head ≡ t → heads_in (leaks ++ l ∷ []) ≡ heads_in leaks + cond t 1 0
+    go true e = ap (λ (ls : List Leak). length ls) (filter-push_yes (λ (x : Leak). x.head) leaks l e) ∙ length-append (filter (λ (x : Leak). x.head) leaks) (l ∷ [])
+    go false e = ap (λ (ls : List Leak). length ls) (filter-push_no (λ (x : Leak). x.head) leaks l e) ∙ sym (add-zero (heads_in leaks))
+
+-- no more heads than leaked blocks
+pub few_heads : (leaks : List Leak) → heads_in leaks ≤ length leaks
+few_heads leaks = omega (arith, length-filter_both (λ (x : Leak). x.head) (λ x. not x.head) (λ x. refl) leaks)
+
+-- the number of heads, with the next block: a head, one that is held, or a marked one
+pub heads_more : (set heads : List Bool) (blocks : List Block) (i number : ℕ) (b : Block) → i < length set → i < length heads → i < length blocks
+    → number ≡ heads_in (leaks_in (take i set) (take i heads) (take i blocks)) → get_or set i false ≡ false → get_or heads i false ≡ true
+    → number + 1 ≡ heads_in (leaks_in (take (i + 1) set) (take (i + 1) heads) (take (i + 1) blocks))
+heads_more set heads blocks i number b p o q e out head =
+    let before : List Leak = leaks_in (take i set) (take i heads) (take i blocks) in
+    ap (λ (n : ℕ). n + 1) e
+    ∙ ap (λ (t : Bool). heads_in before + cond t 1 0) (sym head)
+    ∙ sym (heads_in-push before (record { block = get_or blocks i b; head = get_or heads i false }))
+    ∙ ap (λ (ls : List Leak). heads_in ls) (sym (leaks_push set heads blocks i false false b p o q out))
+    ∙ ap (λ (n : ℕ). heads_in (leaks_in (take n set) (take n heads) (take n blocks))) (sym (add-one i))
+
+pub heads_held : (set heads : List Bool) (blocks : List Block) (i number : ℕ) (b : Block) → i < length set → i < length heads → i < length blocks
+    → number ≡ heads_in (leaks_in (take i set) (take i heads) (take i blocks)) → get_or set i false ≡ false → get_or heads i false ≡ false
+    → number ≡ heads_in (leaks_in (take (i + 1) set) (take (i + 1) heads) (take (i + 1) blocks))
+heads_held set heads blocks i number b p o q e out held =
+    let before : List Leak = leaks_in (take i set) (take i heads) (take i blocks) in
+    e ∙ sym (add-zero (heads_in before))
+    ∙ ap (λ (t : Bool). heads_in before + cond t 1 0) (sym held)
+    ∙ sym (heads_in-push before (record { block = get_or blocks i b; head = get_or heads i false }))
+    ∙ ap (λ (ls : List Leak). heads_in ls) (sym (leaks_push set heads blocks i false false b p o q out))
+    ∙ ap (λ (n : ℕ). heads_in (leaks_in (take n set) (take n heads) (take n blocks))) (sym (add-one i))
+
+pub heads_marked : (set heads : List Bool) (blocks : List Block) (i number : ℕ) → i < length set → i < length heads → i < length blocks
+    → number ≡ heads_in (leaks_in (take i set) (take i heads) (take i blocks)) → get_or set i false ≡ true
+    → number ≡ heads_in (leaks_in (take (i + 1) set) (take (i + 1) heads) (take (i + 1) blocks))
+heads_marked set heads blocks i number p o q e marked =
+    e ∙ ap (λ (ls : List Leak). heads_in ls) (sym (leaks_stay set heads blocks i false p o q marked))
+    ∙ ap (λ (n : ℕ). heads_in (leaks_in (take n set) (take n heads) (take n blocks))) (sym (add-one i))
+
+-- the heads so far are no more than the blocks so far
+pub heads_so_far : (set heads : List Bool) (blocks : List Block) (i : ℕ) → i ≤ length blocks → heads_in (leaks_in (take i set) (take i heads) (take i blocks)) ≤ i
+heads_so_far set heads blocks i h =
+    omega (
+      arith,
+      few_heads (leaks_in (take i set) (take i heads) (take i blocks)),
+      length-leaks (take i set) (take i heads) (take i blocks),
+      length-take-le i blocks h,
+    )
 
 -- marked and leaked blocks together are all
 pub bytes_of-both : (set : List Bool) (blocks : List Block) → length set ≡ length blocks

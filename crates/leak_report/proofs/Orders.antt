@@ -16,7 +16,7 @@ use Rattle.std.proofs.lemmas.Map.Views.{All-found}
 use denote.Ref.{Bor}
 use Rattle.leak_blocks.specs.declared.block.Block.{Block}
 use Rattle.leak_report.specs.declared.totals.CallerRow.{CallerRow}
-use Rattle.leak_report.specs.Totals.{IsIn, HaveCallersIn, bytes_of, text_at, with_text, has_same_text, first_of_each, row_of, rank, ranked, rows_of, leaked_in}
+use Rattle.leak_report.specs.Totals.{Leak, IsIn, HaveCallersIn, bytes_in, heads_in, text_at, with_text, has_same_text, first_of_each, row_of, rank, ranked, rows_of, leaks_in}
 use Rattle.leak_report.specs.Groups.{row_from, row_with, order_of_texts, AreGroups}
 use Rattle.leak_report.proofs.Members.{Has, each_implied, each_mapped, each_filtered, each_from_All, each_moved, Has-moved, same_elements}
 use Rattle.leak_report.proofs.Ranks.{rank_total, each_ranked, Has-ranked, sorted_ranked}
@@ -33,16 +33,16 @@ order_of_texts_total : IsTotalOrder order_of_texts
 order_of_texts_total = on_total (λ (x : Bor (List ℕ)). x.now) nat_list_cmp_total
 
 -- a row of a text has it
-row_with-text : (log : List ℕ) (blocks : List Block) (text : List ℕ) (row : CallerRow) → row_with log blocks text ≡ Some row → text_at log row.caller ≡ text
+row_with-text : (log : List ℕ) (blocks : List Leak) (text : List ℕ) (row : CallerRow) → row_with log blocks text ≡ Some row → text_at log row.caller ≡ text
 row_with-text log blocks text row is = go (with_text log text blocks) refl is
   where
-    go : (with : List Block) → with_text log text blocks ≡ with → row_from with ≡ Some row → text_at log row.caller ≡ text
+    go : (with : List Leak) → with_text log text blocks ≡ with → row_from with ≡ Some row → text_at log row.caller ≡ text
     go [] e r = cc
     go (b ∷ rest) e r =
-        let same : record { blocks = length (b ∷ rest); bytes = bytes_of (b ∷ rest); caller = b.caller } ≡ row = cc in
+        let same : record { blocks = length (b ∷ rest); bytes = bytes_in (b ∷ rest); heads = heads_in (b ∷ rest); caller = b.block.caller } ≡ row = cc in
         sym (ap (λ (x : CallerRow). text_at log x.caller) same) ∙ with_text-head log text blocks b rest e
 
-module _ (log : List ℕ) (blocks : List Block) (groups : BTreeMap (Bor (List ℕ)) CallerRow) (ordered : IsOrdered order_of_texts groups) (are : AreGroups log blocks groups) where
+module _ (log : List ℕ) (blocks : List Leak) (groups : BTreeMap (Bor (List ℕ)) CallerRow) (ordered : IsOrdered order_of_texts groups) (are : AreGroups log blocks groups) where
   each_entry : AllByRecursion (λ e. row_with log blocks e.0.now ≡ Some e.1) groups.entries
   each_entry = each_from_All (λ e. row_with log blocks e.0.now ≡ Some e.1) groups.entries
       (λ k d h. sym (are (get_or groups.entries k d).0.now) ∙ All-found order_of_texts_total groups ordered k d h)
@@ -102,7 +102,7 @@ sorted_values : (log : List ℕ) (vs rows : List CallerRow) → IsStrictlySorted
     → IsSortedByKey (λ (r : CallerRow). r.bytes) (λ x y. nat_cmp y x) rows → IsStableByKey (λ (r : CallerRow). r.bytes) (λ x y. nat_cmp y x) vs rows
     → IsStrictlySortedBy (rank log) rows
 sorted_values log vs rows up moved falls stable =
-    let nothing : CallerRow = record { blocks = 0; bytes = 0; caller = (0, 0) } in
+    let nothing : CallerRow = record { blocks = 0; bytes = 0; heads = 0; caller = (0, 0) } in
     let sorted : IsSortedBy (λ x y. is_lt (by_text log x y)) vs = λ k d l h.
     ap is_lt ((by_text_total log).antisymm (get_or vs (k + 1) d) (get_or vs k d)) ∙ ap (λ o. is_lt (ordering_reverse o)) (Less-from_sorted (by_text log) vs k (k + 1) d up (omega arith) h) in
     sorted_from_all_adjacent (rank_total log) rows nothing (λ k h.
@@ -114,7 +114,7 @@ sorted_values log vs rows up moved falls stable =
     (ranks_by nat_list_cmp_total (λ (r : CallerRow). text_at log r.caller)) (ranks_by (back_total nat_cmp_total) (λ (r : CallerRow). r.bytes))
     vs rows sorted stable k nothing h t))
 
-pub rows_are : (log : List ℕ) (blocks : List Block) (groups : BTreeMap (Bor (List ℕ)) CallerRow) (rows : List CallerRow)
+pub rows_are : (log : List ℕ) (blocks : List Leak) (groups : BTreeMap (Bor (List ℕ)) CallerRow) (rows : List CallerRow)
     → IsOrdered order_of_texts groups → AreGroups log blocks groups → IsPermutation (values groups) rows
     → IsSortedByKey (λ (r : CallerRow). r.bytes) (λ x y. nat_cmp y x) rows → IsStableByKey (λ (r : CallerRow). r.bytes) (λ x y. nat_cmp y x) (values groups) rows
     → rows ≡ rows_of log blocks
@@ -131,23 +131,24 @@ rows_are log blocks groups rows ordered are moved falls stable =
     (λ r is. Has-moved (values groups) rows r moved (lookup-Has (λ k. is_eq (slice_cmp nat_cmp (text_at log r.caller) k.now)) groups.entries r (are (text_at log r.caller) ∙ is))) each (each_is_row log blocks)))
 
 -- the rows name callers of the blocks
-first_of_each-in : (P : Block → Type 0) (log : List ℕ) (blocks : List Block) → AllByRecursion P blocks → AllByRecursion P (first_of_each log blocks)
+first_of_each-in : (P : Leak → Type 0) (log : List ℕ) (leaks : List Leak) → AllByRecursion P leaks → AllByRecursion P (first_of_each log leaks)
 first_of_each-in P log [] all = tt
-first_of_each-in P log (b ∷ blocks) all = (
+first_of_each-in P log (b ∷ leaks) all = (
   all.0,
-  each_implied (λ c. P c × (not (has_same_text log b c) ≡ true)) P (λ c h. h.0) (filter (λ c. not (has_same_text log b c)) (first_of_each log blocks))
-      (each_filtered (λ c. not (has_same_text log b c)) P (first_of_each log blocks) (first_of_each-in P log blocks all.1)),
+  each_implied (λ c. P c × (not (has_same_text log b c) ≡ true)) P (λ c h. h.0) (filter (λ c. not (has_same_text log b c)) (first_of_each log leaks))
+      (each_filtered (λ c. not (has_same_text log b c)) P (first_of_each log leaks) (first_of_each-in P log leaks all.1)),
 )
 
-pub each_leaked : (P : Block → Type 0) (set : List Bool) (blocks : List Block) → AllByRecursion P blocks → AllByRecursion P (leaked_in set blocks)
-each_leaked P [] blocks all = tt
-each_leaked P (s ∷ set) [] all = tt
-each_leaked P (true ∷ set) (b ∷ blocks) all = each_leaked P set blocks all.1
-each_leaked P (false ∷ set) (b ∷ blocks) all = (all.0, each_leaked P set blocks all.1)
+each_leak : (P : Block → Type 0) (set heads : List Bool) (blocks : List Block) → AllByRecursion P blocks → AllByRecursion (λ l. P l.block) (leaks_in set heads blocks)
+each_leak P [] heads blocks all = tt
+each_leak P (s ∷ set) [] blocks all = tt
+each_leak P (s ∷ set) (h ∷ heads) [] all = tt
+each_leak P (true ∷ set) (h ∷ heads) (b ∷ blocks) all = each_leak P set heads blocks all.1
+each_leak P (false ∷ set) (h ∷ heads) (b ∷ blocks) all = (all.0, each_leak P set heads blocks all.1)
 
-pub rows_of-in : (log : List ℕ) (set : List Bool) (blocks : List Block) → HaveCallersIn log blocks → AllByRecursion (λ r. IsIn log r.caller) (rows_of log (leaked_in set blocks))
+pub rows_of-in : (log : List ℕ) (set heads : List Bool) (blocks : List Block) → HaveCallersIn log blocks → AllByRecursion (λ r. IsIn log r.caller) (rows_of log (leaks_in set heads blocks))
 unfolding rows_of
-rows_of-in log set blocks all =
-    each_ranked (λ r. IsIn log r.caller) log (map (row_of log (leaked_in set blocks)) (first_of_each log (leaked_in set blocks)))
-    (each_mapped (row_of log (leaked_in set blocks)) (λ r. IsIn log r.caller) (first_of_each log (leaked_in set blocks))
-    (first_of_each-in (λ b. IsIn log b.caller) log (leaked_in set blocks) (each_leaked (λ b. IsIn log b.caller) set blocks all)))
+rows_of-in log set heads blocks all =
+    each_ranked (λ r. IsIn log r.caller) log (map (row_of log (leaks_in set heads blocks)) (first_of_each log (leaks_in set heads blocks)))
+    (each_mapped (row_of log (leaks_in set heads blocks)) (λ r. IsIn log r.caller) (first_of_each log (leaks_in set heads blocks))
+    (first_of_each-in (λ l. IsIn log l.block.caller) log (leaks_in set heads blocks) (each_leak (λ b. IsIn log b.caller) set heads blocks all)))

@@ -4,31 +4,31 @@ use Rattle.std.specs.List.{AllByRecursion, list_any}
 use Rattle.std.specs.List.Sorted.{IsStrictlySortedBy}
 use Rattle.leak_mtrace.specs.declared.line.Line.{Line}
 use Rattle.leak_mtrace.specs.Log.{CallersAreIn}
-use Rattle.leak_blocks.specs.declared.block.Block.{Block}
 use Rattle.leak_blocks.specs.Live.{live_of}
 use Rattle.leak_report.specs.declared.totals.CallerRow.{CallerRow}
-use Rattle.leak_report.specs.Totals.{HaveCallersIn, bytes_of, text_at, with_text, rank, rows_of}
+use Rattle.leak_report.specs.Totals.{Leak, HaveCallersIn, bytes_in, heads_in, text_at, with_text, rank, rows_of}
 
--- the row sums up the blocks with its text, of which there are some, and names the caller of the first
-pub record SumsUp (log : List ℕ) (blocks : List Block) (row : CallerRow) : Type 0 where
+-- the row sums up the leaked blocks with its text, of which there are some, and names the caller of the first
+pub record SumsUp (log : List ℕ) (leaks : List Leak) (row : CallerRow) : Type 0 where
   pub some : 0 < row.blocks
-  pub count : row.blocks ≡ length (with_text log (text_at log row.caller) blocks)
-  pub bytes : row.bytes ≡ bytes_of (with_text log (text_at log row.caller) blocks)
-  pub first : IfSome (slice_get (with_text log (text_at log row.caller) blocks) 0) (λ b. row.caller ≡ b.caller)
+  pub count : row.blocks ≡ length (with_text log (text_at log row.caller) leaks)
+  pub bytes : row.bytes ≡ bytes_in (with_text log (text_at log row.caller) leaks)
+  pub heads : row.heads ≡ heads_in (with_text log (text_at log row.caller) leaks)
+  pub first : IfSome (slice_get (with_text log (text_at log row.caller) leaks) 0) (λ l. row.caller ≡ l.block.caller)
 
--- a row has the block's text
-abbrev pub HasRow : List ℕ → List CallerRow → Block → Type 0
-HasRow log rows b = IsTrue (list_any (λ row. bytes_eq (text_at log row.caller) (text_at log b.caller)) rows)
+-- a row has the text of the leaked block
+abbrev pub HasRow : List ℕ → List CallerRow → Leak → Type 0
+HasRow log rows l = IsTrue (list_any (λ row. bytes_eq (text_at log row.caller) (text_at log l.block.caller)) rows)
 
--- each row sums up the blocks with its text, each block has a row, and each row ranks before the later ones
-pub record AreSums (log : List ℕ) (blocks : List Block) (rows : List CallerRow) : Type 0 where
-  pub each : AllByRecursion (SumsUp log blocks) rows
-  pub every : AllByRecursion (HasRow log rows) blocks
+-- each row sums up the leaked blocks with its text, each of these has a row, and each row ranks before the later ones
+pub record AreSums (log : List ℕ) (leaks : List Leak) (rows : List CallerRow) : Type 0 where
+  pub each : AllByRecursion (SumsUp log leaks) rows
+  pub every : AllByRecursion (HasRow log rows) leaks
   pub order : IsStrictlySortedBy (rank log) rows
 
 -- that fits one list of rows alone
 abbrev pub RowsAreSums : Type 0
-RowsAreSums = (log : List ℕ) (blocks : List Block) (rows : List CallerRow) → AreSums log blocks rows ↔ (rows ≡ rows_of log blocks)
+RowsAreSums = (log : List ℕ) (leaks : List Leak) (rows : List CallerRow) → AreSums log leaks rows ↔ (rows ≡ rows_of log leaks)
 
 -- where the callers of a log's lines are ranges of its bytes, so are those of its live blocks
 abbrev pub LiveHaveCallers : Type 0

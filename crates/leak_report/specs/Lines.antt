@@ -1,11 +1,11 @@
 -- The lines of the report (own rule). Numbers are decimal, an address is 0x and lower-case hexadecimal digits.
-use Rattle.std.specs.Prelude.{ℕ, false, List, [], ◌∷◌, ◌++◌, length, codes, decimal, Option, Some, None}
+use Rattle.std.specs.Prelude.{ℕ, Bool, true, false, List, [], ◌∷◌, ◌++◌, length, codes, decimal, Option, Some, None}
 use Rattle.std.specs.Fmt.{digits}
 use Rattle.leak_blocks.specs.declared.block.Block.{Block}
 use Rattle.leak_report.specs.declared.totals.CallerRow.{CallerRow}
 use Rattle.leak_report.specs.declared.head.Head.{Head}
 use Rattle.leak_report.specs.declared.head.Two.{Two}
-use Rattle.leak_report.specs.Totals.{bytes_of, text_at}
+use Rattle.leak_report.specs.Totals.{Leak, bytes_of, text_at}
 
 abbrev pub newline : List ℕ
 newline = 10 ∷ []
@@ -35,15 +35,26 @@ abbrev pub two_lines : Option Two → List ℕ
 two_lines None = []
 two_lines (Some two) = sizes_line (codes "new") two.fresh two.fresh_bytes ++ reread_line two
 
--- a caller's line, and a leaked block's, up to the text
-abbrev pub caller_front : ℕ → ℕ → List ℕ
-caller_front blocks bytes = codes "caller " ++ (decimal blocks ++ (codes " " ++ (decimal bytes ++ codes " ")))
+-- a number of heads
+abbrev pub heads_line : ℕ → List ℕ
+heads_line heads = codes "heads " ++ (decimal heads ++ newline)
 
-abbrev pub leak_front : ℕ → ℕ → ℕ → List ℕ
-leak_front start size line = codes "leak " ++ (hexadecimal start ++ (codes " " ++ (decimal size ++ (codes " " ++ (decimal line ++ codes " ")))))
+-- what a leaked block is: a head, or held by another
+abbrev pub kind_of : Bool → List ℕ
+kind_of true = codes "head"
+kind_of false = codes "held"
+
+-- a caller's line, and a leaked block's, up to the text
+abbrev pub caller_front : ℕ → ℕ → ℕ → List ℕ
+caller_front blocks bytes heads =
+    codes "caller " ++ (decimal blocks ++ (codes " " ++ (decimal bytes ++ (codes " " ++ (decimal heads ++ codes " ")))))
+
+abbrev pub leak_front : ℕ → ℕ → ℕ → List ℕ → List ℕ
+leak_front start size line kind =
+    codes "leak " ++ (hexadecimal start ++ (codes " " ++ (decimal size ++ (codes " " ++ (decimal line ++ (codes " " ++ (kind ++ codes " ")))))))
 
 abbrev pub caller_line : List ℕ → CallerRow → List ℕ
-caller_line log row = caller_front row.blocks row.bytes ++ text_at log row.caller ++ newline
+caller_line log row = caller_front row.blocks row.bytes row.heads ++ text_at log row.caller ++ newline
 
-abbrev pub leak_line : List ℕ → Block → List ℕ
-leak_line log b = leak_front b.start b.size b.line ++ text_at log b.caller ++ newline
+abbrev pub leak_line : List ℕ → Leak → List ℕ
+leak_line log l = leak_front l.block.start l.block.size l.block.line (kind_of l.head) ++ text_at log l.block.caller ++ newline

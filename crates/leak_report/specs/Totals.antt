@@ -24,6 +24,27 @@ leaked_in (false ∷ set) (b ∷ blocks) = b ∷ leaked_in set blocks
 abbrev pub bytes_of : List Block → ℕ
 bytes_of blocks = sum_by (λ b. b.size) blocks
 
+-- a leaked block, and whether it is a head
+pub record Leak : Type 0 where
+  pub block : Block
+  pub head : Bool
+
+-- the blocks that are not in the set, each with its entry among the heads, which has one for each block. The entry of a
+-- block in the set says nothing.
+abbrev pub leaks_in : List Bool → List Bool → List Block → List Leak
+leaks_in [] heads blocks = []
+leaks_in (s ∷ set) [] blocks = []
+leaks_in (s ∷ set) (h ∷ heads) [] = []
+leaks_in (true ∷ set) (h ∷ heads) (b ∷ blocks) = leaks_in set heads blocks
+leaks_in (false ∷ set) (h ∷ heads) (b ∷ blocks) = record { block = b; head = h } ∷ leaks_in set heads blocks
+
+-- the sum of the sizes of leaked blocks, and how many of them are heads
+abbrev pub bytes_in : List Leak → ℕ
+bytes_in leaks = sum_by (λ l. l.block.size) leaks
+
+abbrev pub heads_in : List Leak → ℕ
+heads_in leaks = length (filter (λ l. l.head) leaks)
+
 -- the range lies in the log
 pub record IsIn (log : List ℕ) (caller : ℕ × ℕ) : Type 0 where
   pub order : caller.0 ≤ caller.1
@@ -38,25 +59,26 @@ HaveCallersIn log blocks = AllByRecursion (λ b. IsIn log b.caller) blocks
 abbrev pub text_at : List ℕ → ℕ × ℕ → List ℕ
 text_at log caller = if nat_lt caller.0 caller.1 then slice_range log caller.0 caller.1 else 63 ∷ []
 
--- the blocks have the same text of the caller
-abbrev pub has_same_text : List ℕ → Block → Block → Bool
-has_same_text log a b = bytes_eq (text_at log a.caller) (text_at log b.caller)
+-- the leaked blocks have the same text of the caller
+abbrev pub has_same_text : List ℕ → Leak → Leak → Bool
+has_same_text log a b = bytes_eq (text_at log a.block.caller) (text_at log b.block.caller)
 
--- the blocks with the text
-abbrev pub with_text : List ℕ → List ℕ → List Block → List Block
-with_text log text blocks = filter (λ b. bytes_eq (text_at log b.caller) text) blocks
+-- those with the text
+abbrev pub with_text : List ℕ → List ℕ → List Leak → List Leak
+with_text log text leaks = filter (λ l. bytes_eq (text_at log l.block.caller) text) leaks
 
--- the first block of each text. Live blocks stand by ascending address, so it is the one at the least.
-abbrev pub first_of_each : List ℕ → List Block → List Block
+-- the first of each text. Live blocks stand by ascending address, so it is the one at the least.
+abbrev pub first_of_each : List ℕ → List Leak → List Leak
 first_of_each log [] = []
-first_of_each log (b ∷ blocks) = b ∷ filter (λ c. not (has_same_text log b c)) (first_of_each log blocks)
+first_of_each log (l ∷ leaks) = l ∷ filter (λ c. not (has_same_text log l c)) (first_of_each log leaks)
 
--- what the blocks with the text of this one come to
-abbrev pub row_of : List ℕ → List Block → Block → CallerRow
-row_of log blocks b = record {
-  blocks = length (with_text log (text_at log b.caller) blocks);
-  bytes = bytes_of (with_text log (text_at log b.caller) blocks);
-  caller = b.caller;
+-- what the leaked blocks with the text of this one come to
+abbrev pub row_of : List ℕ → List Leak → Leak → CallerRow
+row_of log leaks l = record {
+  blocks = length (with_text log (text_at log l.block.caller) leaks);
+  bytes = bytes_in (with_text log (text_at log l.block.caller) leaks);
+  heads = heads_in (with_text log (text_at log l.block.caller) leaks);
+  caller = l.block.caller;
 }
 
 -- more bytes first, ties by the ascending bytes of the text
@@ -72,6 +94,6 @@ abbrev pub ranked : List ℕ → List CallerRow → List CallerRow
 ranked log [] = []
 ranked log (r ∷ rows) = placed log r (ranked log rows)
 
--- one row for each text of the blocks' callers
-unfoldable pub rows_of : List ℕ → List Block → List CallerRow
-rows_of log blocks = ranked log (map (row_of log blocks) (first_of_each log blocks))
+-- one row for each text of the callers of the leaked blocks
+unfoldable pub rows_of : List ℕ → List Leak → List CallerRow
+rows_of log leaks = ranked log (map (row_of log leaks) (first_of_each log leaks))

@@ -1,10 +1,10 @@
 //! Leaked blocks by the text of their caller.
-ghost use Rattle.std.specs.Prelude.{◌≡◌, ℕ, ◌+◌, ◌^◌, ◌<◌, List, length, if◌then◌else◌, bytes_eq, IfOk, OnOk, IfSome, Some};
+ghost use Rattle.std.specs.Prelude.{◌≡◌, ◌^◌, ◌<◌, length, IfOk, OnOk, IfSome};
 ghost use Rattle.std.specs.List.Sorted.{IsPermutation, IsSortedByKey, IsStableByKey};
 ghost use Rattle.std.specs.Ordering.{nat_cmp};
 ghost use Rattle.std.specs.BTreeMap.{values, IsOrdered};
-ghost use Rattle.leak_report.specs.Totals.{leaked_in, bytes_of, HaveCallersIn};
-ghost use Rattle.leak_report.specs.Groups.{with_block, order_of_texts, group_at, AreGroups};
+ghost use Rattle.leak_report.specs.Totals.{leaks_in, bytes_of, HaveCallersIn};
+ghost use Rattle.leak_report.specs.Groups.{HasRoom, HasLeakAdded, order_of_texts, group_at, AreGroups};
 
 use crate::lines::caller_text;
 use crate::totals::CallerRow;
@@ -13,24 +13,28 @@ use std::alloc::{AllocError, Global};
 use std::cmp::Reverse;
 use std::collections::BTreeMap;
 
-/// Adds a block to the row of its caller's text, or begins that row with it.
+/// Adds a leaked block to the row of its caller's text, or begins that row with it.
 fn add<'a>(
     groups: &mut BTreeMap<&'a [u8], CallerRow>,
     text: &'a [u8],
     block: &Block,
+    head: bool,
 ) -> Result<(), AllocError>
-    requires { IfSome (group_at groups.old text.now) (λ row. (row.blocks + 1 < 2 ^ 64) × (row.bytes + block.now.size < 2 ^ 64)) }
-    ensures { OnOk result ((t : List ℕ) → group_at groups.new t ≡ (if bytes_eq text.now t then Some (with_block (group_at groups.old text.now) block.now) else group_at groups.old t)) }
+    requires { IfSome (group_at groups.old text.now) (λ row. HasRoom row block.now) }
+    ensures { OnOk result (HasLeakAdded groups.old groups.new text.now (record { block = block.now; head = head })) }
 {
+    let one = u64::from(head);
     let row = match groups.get(text) {
         Some(row) => CallerRow {
             blocks: row.blocks + 1,
             bytes: row.bytes + block.size,
+            heads: row.heads + one,
             caller: row.caller,
         },
         None => CallerRow {
             blocks: 1,
             bytes: block.size,
+            heads: one,
             caller: block.caller,
         },
     };
@@ -43,17 +47,19 @@ pub fn leaked_groups<'a>(
     alloc: Global,
     blocks: &[Block],
     set: &[bool],
+    heads: &[bool],
     log: &'a [u8],
 ) -> Result<BTreeMap<&'a [u8], CallerRow>, AllocError>
     requires one_each { length set.now ≡ length blocks.now }
+    requires an_entry_each { length heads.now ≡ length blocks.now }
     requires in_log { HaveCallersIn log.now blocks.now }
     requires fits { bytes_of blocks.now < 2 ^ 64 }
-    ensures { IfOk result (λ groups. AreGroups log.now (leaked_in set.now blocks.now) groups) }
+    ensures { IfOk result (λ groups. AreGroups log.now (leaks_in set.now heads.now blocks.now) groups) }
 {
     let mut groups = BTreeMap::new(alloc);
     for (i, block) in blocks.iter().enumerate() {
         if !set[i] {
-            add(&mut groups, caller_text(log, block.caller), block)?;
+            add(&mut groups, caller_text(log, block.caller), block, heads[i])?;
         }
     }
     Ok(groups)

@@ -1,7 +1,7 @@
 //! The lines of the report.
 ghost use Rattle.std.specs.Prelude.{◌≡◌, ◌++◌, OnOk, codes, string_bytes};
 ghost use Rattle.leak_report.specs.Totals.{IsIn, text_at};
-ghost use Rattle.leak_report.specs.Lines.{newline, sizes_line, undumped_line, log_line, reread_line, two_lines, caller_front, leak_front, caller_line, leak_line};
+ghost use Rattle.leak_report.specs.Lines.{newline, sizes_line, undumped_line, log_line, reread_line, two_lines, heads_line, kind_of, caller_front, leak_front, caller_line, leak_line};
 
 use crate::head::{Head, Two};
 use crate::totals::CallerRow;
@@ -60,6 +60,13 @@ pub fn push_two(out: &mut String, two: Option<Two>) -> Result<(), AllocError>
     writeln!(out, "reread {reread}")
 }
 
+/// Appends the line of a number of heads.
+pub fn push_heads(out: &mut String, heads: u64) -> Result<(), AllocError>
+    ensures { OnOk result (string_bytes out.new ≡ string_bytes out.old ++ heads_line heads) }
+{
+    writeln!(out, "heads {heads}")
+}
+
 /// Appends a line that ends in a text.
 fn push_line(out: &mut Vec<u8>, front: &str, text: &[u8]) -> Result<(), AllocError>
     ensures { OnOk result (out.new.items ≡ out.old.items ++ (front.now ++ text.now ++ newline)) }
@@ -83,11 +90,19 @@ pub fn push_caller(
     let CallerRow {
         blocks,
         bytes,
+        heads,
         caller,
     } = *row;
     buffer.clear();
-    write!(buffer, "caller {blocks} {bytes} ")?;
+    write!(buffer, "caller {blocks} {bytes} {heads} ")?;
     push_line(out, buffer.as_str(), caller_text(log, caller))
+}
+
+/// What a leaked block is: a head, or held by another.
+fn kind(head: bool) -> &'static str
+    ensures { result.now ≡ kind_of head }
+{
+    if head { "head" } else { "held" }
 }
 
 /// Appends a leaked block's line. Its front is made in the buffer.
@@ -95,10 +110,11 @@ pub fn push_leak(
     out: &mut Vec<u8>,
     buffer: &mut String,
     block: &Block,
+    head: bool,
     log: &[u8],
 ) -> Result<(), AllocError>
     requires { IsIn log.now block.now.caller }
-    ensures { OnOk result (out.new.items ≡ out.old.items ++ leak_line log.now block.now) }
+    ensures { OnOk result (out.new.items ≡ out.old.items ++ leak_line log.now (record { block = block.now; head = head })) }
 {
     let Block {
         start,
@@ -106,7 +122,8 @@ pub fn push_leak(
         line,
         caller,
     } = *block;
+    let kind = kind(head);
     buffer.clear();
-    write!(buffer, "leak 0x{start:x} {size} {line} ")?;
+    write!(buffer, "leak 0x{start:x} {size} {line} {kind} ")?;
     push_line(out, buffer.as_str(), caller_text(log, caller))
 }

@@ -1,33 +1,35 @@
 //! The whole report.
 ghost use Rattle.std.specs.Prelude.{◌≡◌, ◌++◌, ◌-◌, ◌≤◌, length, flat_map, codes, string_bytes, IfOk, OnOk};
 ghost use Rattle.std.specs.List.{AllByRecursion};
-ghost use Rattle.leak_report.specs.Totals.{bytes_of, leaked_in, IsIn, HaveCallersIn};
-ghost use Rattle.leak_report.specs.Lines.{sizes_line, undumped_line, log_line, two_lines, caller_line, leak_line};
+ghost use Rattle.leak_report.specs.Totals.{bytes_of, leaks_in, IsIn, HaveCallersIn};
+ghost use Rattle.leak_report.specs.Lines.{sizes_line, undumped_line, log_line, two_lines, heads_line, caller_line, leak_line};
 ghost use Rattle.leak_report.specs.Report.{text_of};
 
 use crate::head::Head;
-use crate::lines::{push_caller, push_head, push_leak, push_sizes, push_two};
+use crate::lines::{push_caller, push_head, push_heads, push_leak, push_sizes, push_two};
 use crate::totals::{CallerRow, Totals};
 use leak_blocks::{Block, Live};
 use std::alloc::{AllocError, Global};
 
-/// Makes the report of the live blocks, of which the set has the marked ones. The log's bytes are those that the
-/// callers are ranges of.
+/// Makes the report of the live blocks, of which the set has the marked ones, and of the others the heads are those with
+/// that entry. The entries of marked blocks say nothing. The log's bytes are those that the callers are ranges of.
 pub fn text(
     alloc: Global,
     head: &Head,
     live: &Live,
     set: &[bool],
+    heads: &[bool],
     log: &[u8],
 ) -> Result<Vec<u8>, AllocError>
     requires one_each { length set.now ≡ length live.now.blocks }
+    requires an_entry_each { length heads.now ≡ length live.now.blocks }
     requires in_log { HaveCallersIn log.now live.now.blocks }
-    ensures { IfOk result (λ out. out.items ≡ text_of head.now live.now.blocks set.now log.now) }
+    ensures { IfOk result (λ out. out.items ≡ text_of head.now live.now.blocks set.now heads.now log.now) }
 {
-    let totals = Totals::of(alloc, live, set, log)?;
+    let totals = Totals::of(alloc, live, set, heads, log)?;
     let mut out = sums(alloc, head, live, &totals)?.into_bytes();
     push_callers(alloc, &mut out, totals.rows.as_slice(), log)?;
-    push_leaks(alloc, &mut out, live.blocks(), set, log)?;
+    push_leaks(alloc, &mut out, live.blocks(), set, heads, log)?;
     Ok(out)
 }
 
@@ -39,7 +41,7 @@ fn sums(alloc: Global, head: &Head, live: &Live, totals: &Totals) -> Result<Stri
         sizes_line (codes "blocks") (length live.now.blocks) (bytes_of live.now.blocks)
         ++ undumped_line head.now ++ log_line head.now ++ two_lines head.now.two
         ++ sizes_line (codes "marked") (length live.now.blocks - totals.now.blocks) (bytes_of live.now.blocks - totals.now.bytes)
-        ++ sizes_line (codes "leaked") totals.now.blocks totals.now.bytes) }
+        ++ sizes_line (codes "leaked") totals.now.blocks totals.now.bytes ++ heads_line totals.now.heads) }
 {
     let (blocks, bytes) = (live.blocks().len() as u64, live.bytes());
     let mut out = String::new(alloc);
@@ -53,6 +55,7 @@ fn sums(alloc: Global, head: &Head, live: &Live, totals: &Totals) -> Result<Stri
         bytes - totals.bytes,
     )?;
     push_sizes(&mut out, "leaked", totals.blocks, totals.bytes)?;
+    push_heads(&mut out, totals.heads)?;
     Ok(out)
 }
 
@@ -79,16 +82,18 @@ fn push_leaks(
     out: &mut Vec<u8>,
     blocks: &[Block],
     set: &[bool],
+    heads: &[bool],
     log: &[u8],
 ) -> Result<(), AllocError>
     requires one_each { length set.now ≡ length blocks.now }
+    requires an_entry_each { length heads.now ≡ length blocks.now }
     requires in_log { HaveCallersIn log.now blocks.now }
-    ensures { OnOk result (out.new.items ≡ out.old.items ++ flat_map (leak_line log.now) (leaked_in set.now blocks.now)) }
+    ensures { OnOk result (out.new.items ≡ out.old.items ++ flat_map (leak_line log.now) (leaks_in set.now heads.now blocks.now)) }
 {
     let mut buffer = String::new(alloc);
     for (i, block) in blocks.iter().enumerate() {
         if !set[i] {
-            push_leak(out, &mut buffer, block, log)?;
+            push_leak(out, &mut buffer, block, heads[i], log)?;
         }
     }
     Ok(())

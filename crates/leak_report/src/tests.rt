@@ -25,19 +25,21 @@ const NOTHING_ODD: Head = Head {
     two: None,
 };
 
-/// The report of a log whose marked blocks are these.
+/// The report of a log whose marked blocks are these, and whose heads are those.
 fn report(
     rt: &impl Abort,
     alloc: Global,
     head: &Head,
     log: &str,
     marked: &[bool],
+    heads: &[bool],
 ) -> Result<Vec<u8>, Fail> {
     let lines = Log::read(alloc, log.as_bytes())?;
     let live = replay(alloc, &lines)?;
     assert!(rt; live.blocks().len() == marked.len());
+    assert!(rt; live.blocks().len() == heads.len());
     assert!(rt; have_callers_in(live.blocks(), log.as_bytes()));
-    Ok(text(alloc, head, &live, marked, log.as_bytes())?)
+    Ok(text(alloc, head, &live, marked, heads, log.as_bytes())?)
 }
 
 #[test]
@@ -46,35 +48,46 @@ fn whole_reports(rt: HostRuntime) -> Result<(), Fail> {
         (
             "",
             [].as_slice(),
-            "blocks 0 bytes 0\nundumped 0\nunknown 0 displaced 0 torn 0\nmarked 0 bytes 0\nleaked 0 bytes 0\n",
+            [].as_slice(),
+            "blocks 0 bytes 0\nundumped 0\nunknown 0 displaced 0 torn 0\nmarked 0 bytes 0\nleaked 0 bytes 0\nheads 0\n",
         ),
         (
             "@ ./a.out:[0x401136] + 0x10100 0x20\n",
             [true].as_slice(),
-            "blocks 1 bytes 32\nundumped 0\nunknown 0 displaced 0 torn 0\nmarked 1 bytes 32\nleaked 0 bytes 0\n",
+            [false].as_slice(),
+            "blocks 1 bytes 32\nundumped 0\nunknown 0 displaced 0 torn 0\nmarked 1 bytes 32\nleaked 0 bytes 0\nheads 0\n",
         ),
         // rows by their bytes, not by their blocks, and ties by the text
         (
             "@ a:[0x1] + 0x10100 0x20\n@ c:[0x3] + 0x10200 0x10\n@ c:[0x3] + 0x10300 0x18\n@ b:[0x2] + 0x10400 0x28\n",
             [false, false, false, false].as_slice(),
-            "blocks 4 bytes 112\nundumped 0\nunknown 0 displaced 0 torn 0\nmarked 0 bytes 0\nleaked 4 bytes 112\ncaller 1 40 b:[0x2]\ncaller 2 40 c:[0x3]\ncaller 1 32 a:[0x1]\nleak 0x10100 32 1 a:[0x1]\nleak 0x10200 16 2 c:[0x3]\nleak 0x10300 24 3 c:[0x3]\nleak 0x10400 40 4 b:[0x2]\n",
+            [true, true, true, true].as_slice(),
+            "blocks 4 bytes 112\nundumped 0\nunknown 0 displaced 0 torn 0\nmarked 0 bytes 0\nleaked 4 bytes 112\nheads 4\ncaller 1 40 1 b:[0x2]\ncaller 2 40 2 c:[0x3]\ncaller 1 32 1 a:[0x1]\nleak 0x10100 32 1 head a:[0x1]\nleak 0x10200 16 2 head c:[0x3]\nleak 0x10300 24 3 head c:[0x3]\nleak 0x10400 40 4 head b:[0x2]\n",
+        ),
+        // a row with a head and a block that is held
+        (
+            "+ 0x10100 0x20\n+ 0x10200 0x10\n+ 0x10300 0x8\n",
+            [false, false, false].as_slice(),
+            [true, false, true].as_slice(),
+            "blocks 3 bytes 56\nundumped 0\nunknown 0 displaced 0 torn 0\nmarked 0 bytes 0\nleaked 3 bytes 56\nheads 2\ncaller 3 56 2 ?\nleak 0x10100 32 1 head ?\nleak 0x10200 16 2 held ?\nleak 0x10300 8 3 head ?\n",
         ),
         // a caller that is a question mark, and no caller, have one row
         (
             "@ ? + 0x10100 0x20\n+ 0x10200 0x10\n+ 0x10300 0x8\n",
             [false, false, true].as_slice(),
-            "blocks 3 bytes 56\nundumped 0\nunknown 0 displaced 0 torn 0\nmarked 1 bytes 8\nleaked 2 bytes 48\ncaller 2 48 ?\nleak 0x10100 32 1 ?\nleak 0x10200 16 2 ?\n",
+            [false, true, false].as_slice(),
+            "blocks 3 bytes 56\nundumped 0\nunknown 0 displaced 0 torn 0\nmarked 1 bytes 8\nleaked 2 bytes 48\nheads 1\ncaller 2 48 1 ?\nleak 0x10100 32 1 held ?\nleak 0x10200 16 2 head ?\n",
         ),
     ];
-    for (log, marked, wanted) in cases {
-        let found = report(&rt, rt.alloc(), &NOTHING_ODD, log, marked)?;
+    for (log, marked, heads, wanted) in cases {
+        let found = report(&rt, rt.alloc(), &NOTHING_ODD, log, marked, heads)?;
         assert_eq!(rt; found.as_slice(), wanted.as_bytes(), "{log}");
     }
     Ok(())
 }
 
 #[test]
-fn heads_and_two_cores(rt: HostRuntime) -> Result<(), Fail> {
+fn first_lines_of_two_cores(rt: HostRuntime) -> Result<(), Fail> {
     let head = Head {
         undumped: 4096,
         unknown: 2,
@@ -87,9 +100,9 @@ fn heads_and_two_cores(rt: HostRuntime) -> Result<(), Fail> {
         }),
     };
     let log = "+ 0x10100 0x20\n+ 0x10200 0x10\n";
-    let found = report(&rt, rt.alloc(), &head, log, &[true, true])?;
+    let found = report(&rt, rt.alloc(), &head, log, &[true, true], &[false, false])?;
     let wanted =
-        "blocks 2 bytes 48\nundumped 4096\nunknown 2 displaced 1 torn 1\nnew 1 bytes 32\nreread 18446744073709551615\nmarked 2 bytes 48\nleaked 0 bytes 0\n";
+        "blocks 2 bytes 48\nundumped 4096\nunknown 2 displaced 1 torn 1\nnew 1 bytes 32\nreread 18446744073709551615\nmarked 2 bytes 48\nleaked 0 bytes 0\nheads 0\n";
     assert_eq!(rt; found.as_slice(), wanted.as_bytes());
     Ok(())
 }
@@ -99,16 +112,19 @@ fn totals_of_leaked_blocks(rt: HostRuntime) -> Result<(), Fail> {
     let log = "@ b + 0x100 0x8\n@ a + 0x200 0x8\n@ b + 0x300 0\n@ a + 0x400 0xffff\n";
     let live = replay(rt.alloc(), &Log::read(rt.alloc(), log.as_bytes())?)?;
     let set = [false, false, false, true];
+    // the entry of the marked block says nothing
+    let heads = [true, false, false, true];
     assert!(rt; live.blocks().len() == set.len());
+    assert!(rt; live.blocks().len() == heads.len());
     assert!(rt; have_callers_in(live.blocks(), log.as_bytes()));
-    let totals = Totals::of(rt.alloc(), &live, &set, log.as_bytes())?;
-    assert_eq!(rt; (totals.blocks, totals.bytes), (3, 16));
-    let rows = [(1, 8, (18, 19)), (2, 8, (2, 3))];
+    let totals = Totals::of(rt.alloc(), &live, &set, &heads, log.as_bytes())?;
+    assert_eq!(rt; (totals.blocks, totals.bytes, totals.heads), (3, 16, 1));
+    let rows = [(1, 8, 0, (18, 19)), (2, 8, 1, (2, 3))];
     assert_eq!(rt; totals.rows.len(), rows.len());
-    for (row, (blocks, bytes, caller)) in totals.rows.iter().zip(rows) {
+    for (row, (blocks, bytes, heads, caller)) in totals.rows.iter().zip(rows) {
         assert_eq!(rt;
-            (row.blocks, row.bytes, row.caller),
-            (blocks, bytes, caller)
+            (row.blocks, row.bytes, row.heads, row.caller),
+            (blocks, bytes, heads, caller)
         );
     }
     Ok(())
@@ -157,7 +173,7 @@ fn sink(alloc: Global, step: usize, room: usize, fails: bool, interruptions: u64
 
 #[test]
 fn a_fault_tells_what_was_taken(rt: HostRuntime) -> Result<(), Fail> {
-    let text = report(&rt, rt.alloc(), &NOTHING_ODD, "", &[])?;
+    let text = report(&rt, rt.alloc(), &NOTHING_ODD, "", &[], &[])?;
     for fails in [true, false] {
         let mut full = sink(rt.alloc(), 4, 10, fails, 3);
         let result = write(text.as_slice(), &mut full);

@@ -1,6 +1,6 @@
 //! The leaked blocks in sum, and by caller.
 ghost use Rattle.std.specs.Prelude.{◌≡◌, ◌^◌, ◌<◌, length, IfOk};
-ghost use Rattle.leak_report.specs.Totals.{marked_in, leaked_in, bytes_of, rows_of, HaveCallersIn};
+ghost use Rattle.leak_report.specs.Totals.{marked_in, leaked_in, leaks_in, bytes_of, heads_in, rows_of, HaveCallersIn};
 
 use crate::grouping::{leaked_groups, ranked_rows};
 use leak_blocks::{Block, Live};
@@ -13,6 +13,8 @@ pub struct CallerRow {
     pub blocks: u64,
     /// The sum of their sizes, in bytes.
     pub bytes: u64,
+    /// The number of the heads among them.
+    pub heads: u64,
     /// The caller of the one at the least address, as a range of the log's bytes with its end excluded.
     pub caller: (usize, usize),
 }
@@ -24,27 +26,39 @@ pub struct Totals {
     pub blocks: u64,
     /// The sum of their sizes, in bytes.
     pub bytes: u64,
+    /// The number of heads among them.
+    pub heads: u64,
     /// One row for each text of a caller, the most bytes first, ties by the ascending bytes of the text.
     pub rows: Vec<CallerRow>,
 }
 
 impl Totals {
-    /// Sums up the live blocks that the set leaves out. The log's bytes are those that the callers are ranges of.
-    pub fn of(alloc: Global, live: &Live, set: &[bool], log: &[u8]) -> Result<Totals, AllocError>
+    /// Sums up the live blocks that the set leaves out, of which the heads are those with that entry. The entries of
+    /// blocks in the set say nothing. The log's bytes are those that the callers are ranges of.
+    pub fn of(
+        alloc: Global,
+        live: &Live,
+        set: &[bool],
+        heads: &[bool],
+        log: &[u8],
+    ) -> Result<Totals, AllocError>
         requires one_each { length set.now ≡ length live.now.blocks }
+        requires an_entry_each { length heads.now ≡ length live.now.blocks }
         requires in_log { HaveCallersIn log.now live.now.blocks }
         ensures count { IfOk result (λ totals. totals.blocks ≡ length (leaked_in set.now live.now.blocks)) }
         ensures bytes { IfOk result (λ totals. totals.bytes ≡ bytes_of (leaked_in set.now live.now.blocks)) }
-        ensures rows { IfOk result (λ totals. totals.rows.items ≡ rows_of log.now (leaked_in set.now live.now.blocks)) }
+        ensures heads { IfOk result (λ totals. totals.heads ≡ heads_in (leaks_in set.now heads.now live.now.blocks)) }
+        ensures rows { IfOk result (λ totals. totals.rows.items ≡ rows_of log.now (leaks_in set.now heads.now live.now.blocks)) }
     {
         let blocks = live.blocks();
         let bytes = live.bytes();
         let (marked, marked_bytes) = marked_sizes(blocks, set);
-        let groups = leaked_groups(alloc, blocks, set, log)?;
+        let groups = leaked_groups(alloc, blocks, set, heads, log)?;
         let rows = ranked_rows(alloc, &groups)?;
         Ok(Totals {
             blocks: blocks.len() as u64 - marked,
             bytes: bytes - marked_bytes,
+            heads: count_heads(blocks, set, heads),
             rows,
         })
     }
@@ -66,4 +80,19 @@ fn marked_sizes(blocks: &[Block], set: &[bool]) -> (u64, u64)
         }
     }
     (number, bytes)
+}
+
+/// The number of the heads that the set leaves out.
+fn count_heads(blocks: &[Block], set: &[bool], heads: &[bool]) -> u64
+    requires one_each { length set.now ≡ length blocks.now }
+    requires an_entry_each { length heads.now ≡ length blocks.now }
+    ensures { result ≡ heads_in (leaks_in set.now heads.now blocks.now) }
+{
+    let mut number = 0;
+    for i in 0..blocks.len() {
+        if !set[i] && heads[i] {
+            number += 1;
+        }
+    }
+    number
 }

@@ -1,25 +1,26 @@
 use Rattle.std.proofs.Common.{List, false, take, get_or, arith, add-one}
 use Rattle.leak_blocks.specs.declared.block.Block.{Block}
-use Rattle.leak_report.specs.Totals.{leaked_in}
-use Rattle.leak_report.proofs.Leaks.{leaked_push, leaked_stay}
+use Rattle.leak_report.specs.Totals.{Leak, leaks_in}
+use Rattle.leak_report.proofs.Leaks.{leaks_push, leaks_stay}
 use Rattle.leak_report.proofs.Joins.{AreGroups-push, row_with-fits}
 use Rattle.leak_report.proofs.grouping.leaked_groups.Goals as goal
 use Rattle.leak_report.proofs.grouping.leaked_groups.Goals.{then-not-set-i+in_ok-add, else-not-set-i}
 
 pub add-requires : goal.add-requires
 add-requires c =
-    row_with-fits c.args.log.now c.args.set.now c.args.blocks.now c.loop-i.i false _ c.caller_text.result.now _ (c.loop-i.invariant c.caller_text.result.now)
-    (omega arith) c.loop-i-test.true c.if-not-set-i.true (omega arith) c.requires.fits
+    row_with-fits c.args.log.now c.args.set.now c.args.heads.now c.args.blocks.now c.loop-i.i false _ c.caller_text.result.now _ (c.loop-i.invariant c.caller_text.result.now)
+    (omega arith) (omega arith) c.loop-i-test.true c.if-not-set-i.true (omega arith) c.requires.fits
 
 pub loop-i-preserved : goal.loop-i-preserved
 loop-i-preserved c =
     let nothing : Block = record { start = 0; size = 0; line = 0; caller = (0, 0) } in
-    let before : List Block = leaked_in (take c.loop-i.i c.args.set.now) (take c.loop-i.i c.args.blocks.now) in
+    let before : List Leak = leaks_in (take c.loop-i.i c.args.set.now) (take c.loop-i.i c.args.heads.now) (take c.loop-i.i c.args.blocks.now) in
+    let leak : Leak = record { block = get_or c.args.blocks.now c.loop-i.i nothing; head = get_or c.args.heads.now c.loop-i.i false } in
     elim c.if-not-set-i.branch [
       | then-not-set-i+in_ok-add w ↦
-          rw (add-one, leaked_push c.args.set.now c.args.blocks.now c.loop-i.i false nothing (omega arith) c.loop-i-test.true w.if-not-set-i.true, w.groups-is)
-          (AreGroups-push c.args.log.now before (get_or c.args.blocks.now c.loop-i.i nothing) w.caller_text.result.now c.loop-i.groups w.add.new.groups
+          rw (add-one, leaks_push c.args.set.now c.args.heads.now c.args.blocks.now c.loop-i.i false false nothing (omega arith) (omega arith) c.loop-i-test.true w.if-not-set-i.true, w.groups-is)
+          (AreGroups-push c.args.log.now before leak w.caller_text.result.now c.loop-i.groups w.add.new.groups
           c.loop-i.invariant w.caller_text.ensures w.in_ok-add.ensures)
       | else-not-set-i w ↦
-          rw (add-one, leaked_stay c.args.set.now c.args.blocks.now c.loop-i.i false (omega arith) c.loop-i-test.true w.if-not-set-i.false, w.groups-is) c.loop-i.invariant
+          rw (add-one, leaks_stay c.args.set.now c.args.heads.now c.args.blocks.now c.loop-i.i false (omega arith) (omega arith) c.loop-i-test.true w.if-not-set-i.false, w.groups-is) c.loop-i.invariant
     ]

@@ -4,4 +4,4 @@ use Rattle.leak_report.proofs.Sums.{one_list, rows_sum_up}
 use Rattle.leak_report.proofs.laws.rows_are_sums.Goals as goal
 
 pub returns : goal.returns
-returns c = λ log blocks rows. (one_list log blocks rows, λ e. subst (AreSums log blocks) (sym e) (rows_sum_up log blocks))
+returns c = λ log leaks rows. (one_list log leaks rows, λ e. subst (AreSums log leaks) (sym e) (rows_sum_up log leaks))

@@ -10,9 +10,9 @@ loop-i-preserved c =
     let nothing : Block = record { start = 0; size = 0; line = 0; caller = (0, 0) } in
     elim c.if-not-set-i.branch [
       | then-not-set-i+in_ok-push_leak w ↦
-          ap (λ v. v.items) w.out-is ∙ w.in_ok-push_leak.ensures ∙ ap (λ o. o ++ leak_line c.args.log.now (get_or c.args.blocks.now c.loop-i.i nothing)) c.loop-i.invariant
-          ∙ leaked_line (leak_line c.args.log.now) c.args.set.now c.args.blocks.now c.loop-i.i false nothing c.args.out.now.items (omega arith) c.loop-i-test.true w.if-not-set-i.true
+          ap (λ v. v.items) w.out-is ∙ w.in_ok-push_leak.ensures ∙ ap (λ o. o ++ leak_line c.args.log.now (record { block = get_or c.args.blocks.now c.loop-i.i nothing; head = get_or c.args.heads.now c.loop-i.i false })) c.loop-i.invariant
+          ∙ leaked_line (leak_line c.args.log.now) c.args.set.now c.args.heads.now c.args.blocks.now c.loop-i.i false false nothing c.args.out.now.items (omega arith) (omega arith) c.loop-i-test.true w.if-not-set-i.true
       | else-not-set-i w ↦
           ap (λ v. v.items) w.out-is ∙ c.loop-i.invariant
-          ∙ no_line (leak_line c.args.log.now) c.args.set.now c.args.blocks.now c.loop-i.i false c.args.out.now.items (omega arith) c.loop-i-test.true w.if-not-set-i.false
+          ∙ no_line (leak_line c.args.log.now) c.args.set.now c.args.heads.now c.args.blocks.now c.loop-i.i false c.args.out.now.items (omega arith) (omega arith) c.loop-i-test.true w.if-not-set-i.false
     ]

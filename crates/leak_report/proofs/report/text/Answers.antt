@@ -1,6 +1,6 @@
 use Rattle.std.proofs.Common.{◌≡◌, sym, subst, ap, ◌∙◌, ◌++◌, flat_map, arith}
 use Rattle.std.specs.List.{AllByRecursion}
-use Rattle.leak_report.specs.Totals.{IsIn, leaked_in, rows_of}
+use Rattle.leak_report.specs.Totals.{IsIn, leaks_in, rows_of}
 use Rattle.leak_report.specs.Lines.{caller_line, leak_line}
 use Rattle.leak_report.specs.Report.{text_of, sums_of}
 use Rattle.leak_report.proofs.Leaks.{length-leaked, bytes_of-leaked}
@@ -17,20 +17,20 @@ sums-requires-clause-small c = omega (arith, c.in_ok-totals.ensures.bytes, bytes
 pub push_callers-requires : goal.push_callers-requires
 push_callers-requires c =
     subst (λ rows. AllByRecursion (λ row. IsIn c.args.log.now row.caller) rows) (sym (c.as_slice.ensures.value ∙ c.in_ok-totals.ensures.rows))
-    (rows_of-in c.args.log.now c.args.set.now c.args.live.now.blocks c.requires.in_log)
+    (rows_of-in c.args.log.now c.args.set.now c.args.heads.now c.args.live.now.blocks c.requires.in_log)
 
 pub returns : goal.returns
 unfolding text_of
 returns c =
-    let sums : c.into_bytes-out.result.items ≡ sums_of c.args.head.now c.args.live.now.blocks c.args.set.now =
+    let sums : c.into_bytes-out.result.items ≡ sums_of c.args.head.now c.args.live.now.blocks c.args.set.now c.args.heads.now =
     ap (λ v. v.items) c.into_bytes-out.ensures.value ∙ c.in_ok-sums.ensures
-    ∙ sums_are c.args.head.now c.args.live.now.blocks c.args.set.now c.in_ok-totals.totals.blocks c.in_ok-totals.totals.bytes c.requires.one_each
-    c.in_ok-totals.ensures.count c.in_ok-totals.ensures.bytes in
-    let callers : c.push_callers.new.out.items ≡ sums_of c.args.head.now c.args.live.now.blocks c.args.set.now
-    ++ flat_map (caller_line c.args.log.now) (rows_of c.args.log.now (leaked_in c.args.set.now c.args.live.now.blocks)) =
+    ∙ sums_are c.args.head.now c.args.live.now.blocks c.args.set.now c.args.heads.now c.in_ok-totals.totals.blocks c.in_ok-totals.totals.bytes c.in_ok-totals.totals.heads c.requires.one_each
+    c.in_ok-totals.ensures.count c.in_ok-totals.ensures.bytes c.in_ok-totals.ensures.heads in
+    let callers : c.push_callers.new.out.items ≡ sums_of c.args.head.now c.args.live.now.blocks c.args.set.now c.args.heads.now
+    ++ flat_map (caller_line c.args.log.now) (rows_of c.args.log.now (leaks_in c.args.set.now c.args.heads.now c.args.live.now.blocks)) =
     c.in_ok-push_callers.ensures
     ∙ ap (λ rows. c.into_bytes-out.result.items ++ flat_map (caller_line c.args.log.now) rows) (c.as_slice.ensures.value ∙ c.in_ok-totals.ensures.rows)
-    ∙ ap (λ o. o ++ flat_map (caller_line c.args.log.now) (rows_of c.args.log.now (leaked_in c.args.set.now c.args.live.now.blocks))) sums in
+    ∙ ap (λ o. o ++ flat_map (caller_line c.args.log.now) (rows_of c.args.log.now (leaks_in c.args.set.now c.args.heads.now c.args.live.now.blocks))) sums in
     c.in_ok-push_leaks.ensures
-    ∙ ap (λ bs. c.push_callers.new.out.items ++ flat_map (leak_line c.args.log.now) (leaked_in c.args.set.now bs)) c.blocks-2.ensures.value
-    ∙ ap (λ o. o ++ flat_map (leak_line c.args.log.now) (leaked_in c.args.set.now c.args.live.now.blocks)) callers
+    ∙ ap (λ bs. c.push_callers.new.out.items ++ flat_map (leak_line c.args.log.now) (leaks_in c.args.set.now c.args.heads.now bs)) c.blocks-2.ensures.value
+    ∙ ap (λ o. o ++ flat_map (leak_line c.args.log.now) (leaks_in c.args.set.now c.args.heads.now c.args.live.now.blocks)) callers
