@@ -11,6 +11,8 @@
 //! addresses are those of x86-64. The contracts don't say how much is read.
 #![tactic(auto)]
 
+#[cfg(test)]
+mod counted;
 mod first;
 mod holding;
 mod laws;

@@ -1,41 +1,17 @@
-ghost use Rattle.std.specs.Prelude.{◌≡◌, IfOk, ℕ, List, Option, length};
-ghost use Rattle.leak_elf.specs.Words.{word_of};
-ghost use Rattle.leak_elf.specs.Aligned.{aligned_words};
+ghost use Rattle.std.specs.Prelude.{◌≡◌, IfOk, length};
 ghost use Rattle.leak_scan.specs.Targets.{targets_of, block_words};
 
+use crate::counted::Counted;
 use crate::{Pages, Targets, heads, targets_are_blocks};
 use leak_blocks::{Block, Live, replay};
 use leak_elf::{Image, Words, core_k};
 use leak_index::{Lookup, Paged, Reading, Sorted};
 use leak_mtrace::Log;
 use std::alloc::{AllocError, Global};
-use std::cell::Cell;
 use std::test::Fail;
 
-/// The words of a core, which gives no runs and counts the words that it is asked for.
-#[derive(Drop)]
-struct Counted<'a> {
-    image: &'a Image<'a>,
-    asked: Cell<u64>,
-}
-
-impl<'a> Words for Counted<'a> {
-    ghost word_at = { λ counted. word_of counted.image.now };
-
-    fn word(&self, addr: u64) -> Option<u64> {
-        self.asked.set(self.asked.get().wrapping_add(1));
-        self.image.word(addr)
-    }
-
-    fn next(&self, from: u64) -> Option<u64> {
-        self.image.next(from)
-    }
-
-    ghost aligned = { λ counted. aligned_words counted.image.now };
-}
-
 /// All targets that are still to come.
-fn listed<W: Words, L: Lookup>(
+pub(crate) fn listed<W: Words, L: Lookup>(
     alloc: Global,
     targets: Targets<W, L>,
 ) -> Result<Vec<usize>, AllocError>
@@ -59,13 +35,13 @@ fn mark_targets<W: Words, L: Lookup>(words: &W, lookup: &L, block: &Block, set: 
 }
 
 /// The live blocks of a log.
-fn lives(alloc: Global, text: &str) -> Result<Live, Fail> {
+pub(crate) fn lives(alloc: Global, text: &str) -> Result<Live, Fail> {
     let log = Log::read(alloc, text.as_bytes())?;
     Ok(replay(alloc, &log)?)
 }
 
 /// A block that stands in no log.
-fn block(start: u64, size: u64) -> Block {
+pub(crate) fn block(start: u64, size: u64) -> Block {
     Block {
         start,
         size,
@@ -132,13 +108,10 @@ fn a_huge_block_costs_what_is_dumped(rt: HostRuntime) -> Result<(), Fail> {
     let live = lives(alloc, "+ 0x10100 0x1000000000000000\n")?;
     let lookup = Sorted::new(&live, Reading::interior());
     let huge = block(0x10100, 0x1000_0000_0000_0000);
-    let counted = Counted {
-        image: &image,
-        asked: Cell::new(0),
-    };
+    let counted = Counted::new(&image);
     let targets = listed(alloc, Targets::of_block(&counted, &lookup, &huge))?;
     assert_eq!(rt; targets.as_slice(), [0, 0].as_slice());
-    assert_eq!(rt; counted.asked.get(), 480);
+    assert_eq!(rt; counted.asked(), 480);
     let by_runs = listed(alloc, Targets::of_block(&image, &lookup, &huge))?;
     assert_eq!(rt; by_runs.as_slice(), [0, 0].as_slice());
     Ok(())
@@ -160,10 +133,7 @@ fn words_off_the_pages_are_not_asked_for(rt: HostRuntime) -> Result<(), Fail> {
         ([15, 17].as_slice(), 0, [].as_slice()),
     ];
     for (numbers, words, blocks) in cases {
-        let counted = Counted {
-            image: &image,
-            asked: Cell::new(0),
-        };
+        let counted = Counted::new(&image);
         let Some(pages) = Pages::new(Vec::from_slice(alloc, numbers)?) else {
             return Ok(assert!(rt; false, "the numbers ascend"));
         };
@@ -172,7 +142,7 @@ fn words_off_the_pages_are_not_asked_for(rt: HostRuntime) -> Result<(), Fail> {
             Targets::of_block_pages(&counted, &lookup, &held, &pages),
         )?;
         assert_eq!(rt; targets.as_slice(), blocks);
-        assert_eq!(rt; counted.asked.get(), words);
+        assert_eq!(rt; counted.asked(), words);
         let by_runs = listed(
             alloc,
             Targets::of_block_pages(&image, &lookup, &held, &pages),
@@ -249,15 +219,12 @@ fn words_of_marked_blocks_are_not_asked_for(rt: HostRuntime) -> Result<(), Fail>
     let image = Image::read(alloc, core.as_slice())?;
     let live = lives(alloc, BLOCKS)?;
     let lookup = Sorted::new(&live, Reading::interior());
-    let counted = Counted {
-        image: &image,
-        asked: Cell::new(0),
-    };
+    let counted = Counted::new(&image);
     let set = [true, false, true];
     assert!(rt; live.blocks().len() == set.len());
     let found = heads(alloc, &counted, &lookup, &live, &set)?;
     assert_eq!(rt; found.as_slice(), [false, true, false].as_slice());
     // the 16 bytes of the second block
-    assert_eq!(rt; counted.asked.get(), 2);
+    assert_eq!(rt; counted.asked(), 2);
     Ok(())
 }
