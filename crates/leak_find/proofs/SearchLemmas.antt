@@ -11,6 +11,7 @@ use Rattle.leak_blocks.specs.Live.{Replay, live_of, replay_of}
 use Rattle.leak_blocks.proofs.LineLemmas.{live_of_lines}
 use Rattle.leak_index.specs.Hits.{Index}
 use Rattle.leak_notes.specs.Threads.{threads_of}
+use Rattle.leak_scan.specs.Heads.{heads_of}
 use Rattle.leak_roots.specs.Places.{Places, words_at}
 use Rattle.leak_roots.specs.Roots.{AreRootsOf, root_words}
 use Rattle.leak_marks.specs.Reach.{Graph, Reach}
@@ -28,7 +29,7 @@ use Rattle.leak_pool.specs.declared.error.PoolError.TheVariants.{TooMany as TooM
 use Rattle.leak_find.specs.declared.found.Found.{Found}
 use Rattle.leak_find.specs.declared.inputs.Input.{Input}
 use Rattle.leak_find.specs.Inputs.{IsReadOf, IsRead, IsFaultOfOne, at_marking}
-use Rattle.leak_find.specs.Search.{FindsOne, graph_of_one, head_of_one, head_with}
+use Rattle.leak_find.specs.Search.{FindsOne, graph_of_one, head_of_one, head_with, index_of, text_with}
 
 -- the blocks of a replay are the live ones
 pub blocks_are : (lines : List Line) → (replay_of lines).blocks ≡ live_of lines
@@ -82,11 +83,14 @@ marked_graph core reading lines blocks index places are is roots =
 pub head_is : (core log : List ℕ) (input : Input) → (read : IsRead core log input) → head_with input None ≡ head_of_one core log read.0
 head_is core log input read = rw (read.1.image, read.1.live, read.1.torn) refl
 
+pub index_is : (reading : Option (List ℕ)) (lines : List Line) (blocks : List Block) (index : Index) → blocks ≡ live_of lines → index ≡ record { blocks = blocks; reading = reading } → index ≡ index_of reading lines
+index_is reading lines blocks index are is = rw (is, are) refl
+
 -- a search that read, found roots and marked
 pub finds_one : (core log : List ℕ) (reading : Option (List ℕ)) (workers : ℕ) (input : Input) (index : Index) (places : Places) (marked : Marked) (found : Found)
     → IsRead core log input → length input.live.blocks < 2 ^ 32 → index ≡ record { blocks = input.live.blocks; reading = reading }
     → AreRootsOf core input.live.blocks places → Marks (word_of core) index places workers marked
-    → found.report.items ≡ text_of (head_with input None) input.live.blocks marked.set.items log
+    → found.report.items ≡ text_of (head_with input None) input.live.blocks marked.set.items (heads_of (word_of core) index marked.set.items) log
     → found.leaked ≡ length (leaked_in marked.set.items input.live.blocks) → found.claims ≡ marked.claims
     → FindsOne core log reading workers found
 finds_one core log reading workers input index places marked found read few is roots marks report leaked claims =
@@ -102,8 +106,9 @@ finds_one core log reading workers input index places marked found read few is r
           subst (λ (bs : List Block). IsSet marked.set.items (length bs) (Reach (graph_of_one core reading read.0))) (ap (λ (i : Index). i.blocks) is ∙ e)
           (subst (λ (h : Graph). IsSet marked.set.items (length index.blocks) (Reach h)) g marks.set);
       report =
-          subst (λ (h : Head). found.report.items ≡ text_of h (live_of read.0) marked.set.items log) (head_is core log input read)
-          (subst (λ (bs : List Block). found.report.items ≡ text_of (head_with input None) bs marked.set.items log) e report);
+          subst (λ (h : Head). found.report.items ≡ text_of h (live_of read.0) marked.set.items (heads_of (word_of core) (index_of reading read.0) marked.set.items) log) (head_is core log input read)
+          (subst (λ (i : Index). found.report.items ≡ text_of (head_with input None) (live_of read.0) marked.set.items (heads_of (word_of core) i marked.set.items) log) (index_is reading read.0 input.live.blocks index e is)
+          (subst (λ (bs : List Block). found.report.items ≡ text_of (head_with input None) bs marked.set.items (heads_of (word_of core) index marked.set.items) log) e report));
       leaked = subst (λ (bs : List Block). found.leaked ≡ length (leaked_in marked.set.items bs)) e leaked;
       lists = rw (claims) marks.lists;
       claims = rw (claims) (subst (λ (h : Graph). Partitions (lists_of marked) (Reach h)) g marks.claims);
@@ -136,11 +141,12 @@ pub finds_read : (core log : List ℕ) (reading : Option (List ℕ)) (workers : 
     → IsRead core log input → (2 ^ 32 - 1 < length input.live.blocks → IsErrOf {T = Marked} {E = PoolError} (Ok marked) TooManyForPool)
     → index ≡ record { blocks = input.live.blocks; reading = reading }
     → AreRootsOf input.image input.live.blocks places → Marks (word_of input.image) index places workers marked
-    → found.report.items ≡ text_of (head_with input None) input.live.blocks marked.set.items log
+    → found.report.items ≡ text_with input None index marked.set.items log
     → found.leaked ≡ length (leaked_in marked.set.items input.live.blocks) → found.claims ≡ marked.claims
     → FindsOne core log reading workers found
 finds_read core log reading workers input index places marked found read many is roots marks report leaked claims =
     finds_one core log reading workers input index places marked found read (few_blocks (length input.live.blocks) (λ h. no_error marked (many h))) is
     (subst (λ (file : List ℕ). AreRootsOf file input.live.blocks places) read.1.image roots)
     (subst (λ (file : List ℕ). Marks (word_of file) index places workers marked) read.1.image marks)
-    report leaked claims
+    (subst (λ (file : List ℕ). found.report.items ≡ text_of (head_with input None) input.live.blocks marked.set.items (heads_of (word_of file) index marked.set.items) log) read.1.image report)
+    leaked claims

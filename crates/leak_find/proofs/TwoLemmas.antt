@@ -7,6 +7,7 @@ use Rattle.leak_mtrace.proofs.SameLogLemmas.{logs_continue}
 use Rattle.leak_blocks.specs.declared.block.Block.{Block}
 use Rattle.leak_blocks.specs.Live.{live_of}
 use Rattle.leak_index.specs.Hits.{Index}
+use Rattle.leak_scan.specs.Heads.{heads_of}
 use Rattle.leak_roots.specs.Places.{Places, words_at}
 use Rattle.leak_roots.specs.Roots.{AreRootsOf, root_words}
 use Rattle.leak_marks.specs.Lists.{Has}
@@ -34,9 +35,9 @@ use Rattle.leak_find.specs.declared.inputs.Input.{Input}
 use Rattle.leak_find.specs.declared.two_cores.Between.{Between}
 use Rattle.leak_find.specs.declared.two_cores.Inputs.{Inputs}
 use Rattle.leak_find.specs.Inputs.{IsReadOf, IsRead, IsInput, IsInputFault, IsFaultless, IsFaultOfTwo, IsTooMany, Continues, ArePaired, AreReadTwo, at_marking}
-use Rattle.leak_find.specs.Search.{graph_of_one, head_with, index_of}
+use Rattle.leak_find.specs.Search.{graph_of_one, head_with, index_of, text_with}
 use Rattle.leak_find.specs.SearchTwo.{IsMarkedEarlier, IsBetween, FindsLater, FindsTwo, graph_of_later, head_of_two, kept_blocks, new_blocks, numbers_of_two, size_of}
-use Rattle.leak_find.proofs.SearchLemmas.{found_words, input_blocks, marked_graph}
+use Rattle.leak_find.proofs.SearchLemmas.{found_words, index_is, input_blocks, marked_graph}
 
 -- ---- refusals
 
@@ -183,15 +184,12 @@ later_graph : (core : List ℕ) (reading : Option (List ℕ)) (lines : List Line
 later_graph core reading lines blocks index places kept fresh are is roots =
     rw (found_words core blocks places roots, is, are) refl
 
-index_is : (reading : Option (List ℕ)) (lines : List Line) (blocks : List Block) (index : Index) → blocks ≡ live_of lines → index ≡ record { blocks = blocks; reading = reading } → index ≡ index_of reading lines
-index_is reading lines blocks index are is = rw (is, are) refl
-
 -- a search of the later core that read, compared, found roots and marked again
 finds_later : (core log : List ℕ) (reading : Option (List ℕ)) (workers : ℕ) (lines : List Line) (input : Input) (index : Index) (places : Places) (pages : List ℕ) (c : Carry) (r : Retraced) (count bytes : ℕ) (found : Found)
     → IsReadOf core log lines input → index ≡ record { blocks = input.live.blocks; reading = reading } → AreRootsOf core input.live.blocks places
     → OthersLeadWithin (word_of core) (index_of reading lines) pages c.kept.items c.fresh.items
     → IsRetrace (word_of core) index places pages c workers r → count ≡ length c.fresh.items → bytes ≡ size_of input.live.blocks c.fresh.items
-    → found.report.items ≡ text_of (head_with input (Some (record { fresh = count; fresh_bytes = bytes; reread = r.reread }))) input.live.blocks r.marked.set.items log
+    → found.report.items ≡ text_of (head_with input (Some (record { fresh = count; fresh_bytes = bytes; reread = r.reread }))) input.live.blocks r.marked.set.items (heads_of (word_of core) index r.marked.set.items) log
     → found.leaked ≡ length (leaked_in r.marked.set.items input.live.blocks) → found.claims ≡ r.marked.claims
     → FindsLater core log reading lines pages c.kept.items c.fresh.items workers found
 finds_later core log reading workers lines input index places pages c r count bytes found read is roots others retrace counted sized report leaked claims =
@@ -214,11 +212,11 @@ finds_later core log reading workers lines input index places pages c r count by
     text_is : (core log : List ℕ) (reading : Option (List ℕ)) (lines : List Line) (input : Input) (index : Index) (pages : List ℕ) (c : Carry) (r : Retraced) (count bytes : ℕ)
         → IsReadOf core log lines input → index ≡ index_of reading lines → r.reread ≡ reread_of (word_of core) pages index.blocks c.kept.items
         → count ≡ length c.fresh.items → bytes ≡ size_of input.live.blocks c.fresh.items
-        → text_of (head_with input (Some (record { fresh = count; fresh_bytes = bytes; reread = r.reread }))) input.live.blocks r.marked.set.items log
-        ≡ text_of (head_of_two core log lines (numbers_of_two core pages (live_of lines) c.kept.items c.fresh.items)) (live_of lines) r.marked.set.items log
+        → text_of (head_with input (Some (record { fresh = count; fresh_bytes = bytes; reread = r.reread }))) input.live.blocks r.marked.set.items (heads_of (word_of core) index r.marked.set.items) log
+        ≡ text_of (head_of_two core log lines (numbers_of_two core pages (live_of lines) c.kept.items c.fresh.items)) (live_of lines) r.marked.set.items (heads_of (word_of core) (index_of reading lines) r.marked.set.items) log
     text_is core log reading lines input index pages c r count bytes read is reread counted sized =
         rw (counted, sized, reread, is, input_blocks core log lines input read)
-        (ap (λ (h : Head). text_of h (live_of lines) r.marked.set.items log)
+        (ap (λ (h : Head). text_of h (live_of lines) r.marked.set.items (heads_of (word_of core) (index_of reading lines) r.marked.set.items) log)
         (head_is_of_two core log lines input (numbers_of_two core pages (live_of lines) c.kept.items c.fresh.items) read))
 
 -- the same where the inputs are known by what was read
@@ -228,7 +226,7 @@ finds_inputs : (log1 log2 : List ℕ) (reading : Option (List ℕ)) (workers : �
     → IsBetween first.image second.image reading before now b
     → index ≡ record { blocks = second.live.blocks; reading = reading } → AreRootsOf second.image second.live.blocks places
     → IsRetrace (word_of second.image) index places b.pages b.carry workers r → count ≡ length b.carry.fresh.items → bytes ≡ size_of second.live.blocks b.carry.fresh.items
-    → found.report.items ≡ text_of (head_with second (Some (record { fresh = count; fresh_bytes = bytes; reread = r.reread }))) second.live.blocks r.marked.set.items log2
+    → found.report.items ≡ text_with second (Some (record { fresh = count; fresh_bytes = bytes; reread = r.reread })) index r.marked.set.items log2
     → found.leaked ≡ length (leaked_in r.marked.set.items second.live.blocks) → found.claims ≡ r.marked.claims
     → FindsTwo first.image log1 second.image log2 reading workers found
 finds_inputs log1 log2 reading workers before now first second index places b r count bytes found read1 read2 few1 few2 continued continues same between is roots retrace counted sized report leaked claims =
@@ -253,7 +251,7 @@ pub finds_two : (core1 log1 core2 log2 : List ℕ) (reading : Option (List ℕ))
     → IsBetween inputs.first.image inputs.second.image reading read.before read.now b
     → index ≡ record { blocks = inputs.second.live.blocks; reading = reading } → AreRootsOf inputs.second.image inputs.second.live.blocks places
     → IsRetrace (word_of inputs.second.image) index places b.pages b.carry workers r → count ≡ length b.carry.fresh.items → bytes ≡ size_of inputs.second.live.blocks b.carry.fresh.items
-    → found.report.items ≡ text_of (head_with inputs.second (Some (record { fresh = count; fresh_bytes = bytes; reread = r.reread }))) inputs.second.live.blocks r.marked.set.items log2
+    → found.report.items ≡ text_with inputs.second (Some (record { fresh = count; fresh_bytes = bytes; reread = r.reread })) index r.marked.set.items log2
     → found.leaked ≡ length (leaked_in r.marked.set.items inputs.second.live.blocks) → found.claims ≡ r.marked.claims
     → FindsTwo core1 log1 core2 log2 reading workers found
 finds_two core1 log1 core2 log2 reading workers inputs index places b r count bytes found read same between is roots retrace counted sized report leaked claims =

@@ -7,6 +7,7 @@ use Rattle.leak_mtrace.specs.Log.{IsLog, torn_of}
 use Rattle.leak_blocks.specs.Live.{live_of, replay_of}
 use Rattle.leak_index.specs.Hits.{Index}
 use Rattle.leak_roots.specs.Roots.{root_words}
+use Rattle.leak_scan.specs.Heads.{heads_of}
 use Rattle.leak_marks.specs.Reach.{Graph, Reach}
 use Rattle.leak_marks.specs.Partition.{Partitions}
 use Rattle.leak_pool.specs.Marking.{IsSet, graph_of}
@@ -46,12 +47,17 @@ head_with input two = record {
   two = two;
 }
 
+-- the report of an input that was read, with the blocks that are marked; the heads are those of its core
+abbrev pub text_with : Input → Option Two → Index → List Bool → List ℕ → List ℕ
+text_with input two index set log = text_of (head_with input two) input.live.blocks set (heads_of (word_of input.image) index set) log
+
 -- the lists of claims, worker by worker
 abbrev pub claims_of : Found → List (List ℕ)
 claims_of found = map (λ v. v.items) found.claims.items
 
 -- Core and log are free of faults, and the blocks are few enough to be numbered. The marked blocks are those that a
--- chain of words reaches from the roots; the report names the others; each marked block is claimed by one worker.
+-- chain of words reaches from the roots; the report names the others, and tells which of them are heads; each marked
+-- block is claimed by one worker.
 pub record FindsOne (core log : List ℕ) (reading : Option (List ℕ)) (workers : ℕ) (found : Found) : Type 0 where
   pub accepted : IsCore core
   pub lines : List Line
@@ -59,7 +65,7 @@ pub record FindsOne (core log : List ℕ) (reading : Option (List ℕ)) (workers
   pub few : length (live_of lines) < 2 ^ 32
   pub set : List Bool
   pub marked : IsSet set (length (live_of lines)) (Reach (graph_of_one core reading lines))
-  pub report : found.report.items ≡ text_of (head_of_one core log lines) (live_of lines) set log
+  pub report : found.report.items ≡ text_of (head_of_one core log lines) (live_of lines) set (heads_of (word_of core) (index_of reading lines) set) log
   pub leaked : found.leaked ≡ length (leaked_in set (live_of lines))
   pub lists : length (claims_of found) ≡ workers
   pub claims : Partitions (claims_of found) (Reach (graph_of_one core reading lines))

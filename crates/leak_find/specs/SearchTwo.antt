@@ -10,6 +10,7 @@ use Rattle.leak_mtrace.specs.Log.{is_continued_by, torn_of}
 use Rattle.leak_blocks.specs.declared.block.Block.{Block}
 use Rattle.leak_blocks.specs.Live.{live_of, replay_of}
 use Rattle.leak_roots.specs.Roots.{root_words}
+use Rattle.leak_scan.specs.Heads.{heads_of}
 use Rattle.leak_marks.specs.Lists.{Has}
 use Rattle.leak_marks.specs.Reach.{Graph, Reach}
 use Rattle.leak_marks.specs.Partition.{Partitions}
@@ -75,13 +76,13 @@ pub record IsBetween (core1 core2 : List ℕ) (reading : Option (List ℕ)) (bef
   pub pages : AreDiffering (word_of core1) (word_of core2) b.pages
 
 -- What is found in the later core where the numbered blocks are kept and new. The marked blocks are those that chains
--- reach; the report names the others; each marked block that is neither kept nor new is claimed by one worker; and a
+-- reach; the report names the others, and tells which of them are heads by words of the later core; each marked block that is neither kept nor new is claimed by one worker; and a
 -- block that chains of the later core reach from its roots alone is marked.
 pub record FindsLater (core log : List ℕ) (reading : Option (List ℕ)) (lines : List Line) (pages kept fresh : List ℕ) (workers : ℕ) (found : Found) : Type 0 where
   pub set : List Bool
   pub marked : IsSet set (length (live_of lines)) (Reach (graph_of_later core reading kept fresh lines))
   pub reached : (i : ℕ) → i < length (live_of lines) → Reach (graph_of_one core reading lines) i → slice_get set i ≡ Some true
-  pub report : found.report.items ≡ text_of (head_of_two core log lines (numbers_of_two core pages (live_of lines) kept fresh)) (live_of lines) set log
+  pub report : found.report.items ≡ text_of (head_of_two core log lines (numbers_of_two core pages (live_of lines) kept fresh)) (live_of lines) set (heads_of (word_of core) (index_of reading lines) set) log
   pub leaked : found.leaked ≡ length (leaked_in set (live_of lines))
   pub lists : length (claims_of found) ≡ workers
   pub claims : Partitions (claims_of found) (λ i. Reach (graph_of_later core reading kept fresh lines) i × ¬ Has kept i × ¬ Has fresh i)

@@ -28,5 +28,5 @@ pub fn find_alone(
     let roots = Roots::find(alloc, &input.image, &input.threads, &input.live)?;
     let lookup = Sorted::new(&input.live, reading);
     let marked = mark_alone(alloc, &input.image, &lookup, &roots, &input.live)?;
-    report_of(alloc, &input, log, marked, None)
+    report_of(alloc, &input, &lookup, log, marked, None)
 }

@@ -40,5 +40,5 @@ pub fn find_one<R: std::thread::Threads + Sync, G: Gate + Sync>(
         plan,
         gate,
     )?;
-    report_of(alloc, &input, log, marked, None)
+    report_of(alloc, &input, &lookup, log, marked, None)
 }

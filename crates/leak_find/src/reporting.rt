@@ -2,27 +2,30 @@
 
 ghost use Rattle.std.specs.Prelude.{◌≡◌, IfOk, IfErr, length, not, count_by};
 ghost use Rattle.leak_report.specs.Totals.{HaveCallersIn, leaked_in};
-ghost use Rattle.leak_report.specs.Report.{text_of};
-ghost use Rattle.leak_find.specs.Search.{head_with};
+ghost use Rattle.leak_find.specs.Search.{text_with};
 
 use crate::error::FindError;
 use crate::found::Found;
 use crate::inputs::Input;
+use leak_index::Lookup;
 use leak_pool::Marked;
 use leak_report::{Head, Two, text};
+use leak_scan::heads;
 use std::alloc::Global;
 
-/// The report of an input whose blocks are marked.
-pub(crate) fn report_of(
+/// The report of an input whose blocks are marked. Which of the others are heads, the words of its core tell.
+pub(crate) fn report_of<L: Lookup>(
     alloc: Global,
     input: &Input,
+    lookup: &L,
     log: &[u8],
     marked: Marked,
     two: Option<Two>,
 ) -> Result<Found, FindError>
     requires one_each { length marked.set.items ≡ length input.now.live.blocks }
+    requires same_blocks { (L.index lookup.now).blocks ≡ input.now.live.blocks }
     requires in_log { HaveCallersIn log.now input.now.live.blocks }
-    ensures report { IfOk result (λ found. found.report.items ≡ text_of (head_with input.now two) input.now.live.blocks marked.set.items log.now) }
+    ensures report { IfOk result (λ found. found.report.items ≡ text_with input.now two (L.index lookup.now) marked.set.items log.now) }
     ensures leaked { IfOk result (λ found. found.leaked ≡ length (leaked_in marked.set.items input.now.live.blocks)) }
     ensures claims { IfOk result (λ found. found.claims ≡ marked.claims) }
     ensures memory { IfErr result (λ e. e ≡ FindError.NoMemory) }
@@ -34,10 +37,12 @@ pub(crate) fn report_of(
         torn: input.torn,
         two,
     };
-    let report = text(alloc, &head, &input.live, marked.set.as_slice(), log)?;
+    let set = marked.set.as_slice();
+    let heads = heads(alloc, &input.image, lookup, &input.live, set)?;
+    let report = text(alloc, &head, &input.live, set, heads.as_slice(), log)?;
     Ok(Found {
         report,
-        leaked: count_clear(marked.set.as_slice()),
+        leaked: count_clear(set),
         claims: marked.claims,
     })
 }

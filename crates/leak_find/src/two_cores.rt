@@ -187,5 +187,5 @@ pub fn find_two<R: Threads + Sync, G: Gate + Sync>(
         fresh_bytes: sum_sizes(second.live.blocks(), &between.carry.fresh),
         reread: retraced.reread,
     };
-    report_of(alloc, &second, log2, retraced.marked, Some(two))
+    report_of(alloc, &second, &lookup, log2, retraced.marked, Some(two))
 }
