@@ -21,7 +21,8 @@ pub const NOTHING: &str = "blocks 0 bytes 0\n\
                            undumped 0\n\
                            unknown 0 displaced 0 torn 0\n\
                            marked 0 bytes 0\n\
-                           leaked 0 bytes 0\n";
+                           leaked 0 bytes 0\n\
+                           heads 0\n";
 
 /// The report where the one block leaked.
 pub const LOST: &str = "blocks 1 bytes 32\n\
@@ -29,15 +30,17 @@ pub const LOST: &str = "blocks 1 bytes 32\n\
                         unknown 0 displaced 0 torn 0\n\
                         marked 0 bytes 0\n\
                         leaked 1 bytes 32\n\
-                        caller 1 32 ./a.out:[0x401136]\n\
-                        leak 0x10100 32 1 ./a.out:[0x401136]\n";
+                        heads 1\n\
+                        caller 1 32 1 ./a.out:[0x401136]\n\
+                        leak 0x10100 32 1 head ./a.out:[0x401136]\n";
 
 /// The report where the one block is marked.
 pub const HELD: &str = "blocks 1 bytes 32\n\
                         undumped 0\n\
                         unknown 0 displaced 0 torn 0\n\
                         marked 1 bytes 32\n\
-                        leaked 0 bytes 0\n";
+                        leaked 0 bytes 0\n\
+                        heads 0\n";
 
 /// Each example but those of many blocks.
 pub static EXAMPLES: [Example; 22] = [
@@ -119,7 +122,8 @@ pub static EXAMPLES: [Example; 22] = [
                   undumped 0\n\
                   unknown 0 displaced 0 torn 0\n\
                   marked 2 bytes 48\n\
-                  leaked 0 bytes 0\n",
+                  leaked 0 bytes 0\n\
+                  heads 0\n",
         leaked: 0,
     },
     Example {
@@ -131,9 +135,10 @@ pub static EXAMPLES: [Example; 22] = [
                   unknown 0 displaced 0 torn 0\n\
                   marked 0 bytes 0\n\
                   leaked 2 bytes 48\n\
-                  caller 2 48 ?\n\
-                  leak 0x10100 32 1 ?\n\
-                  leak 0x10200 16 2 ?\n",
+                  heads 0\n\
+                  caller 2 48 0 ?\n\
+                  leak 0x10100 32 1 held ?\n\
+                  leak 0x10200 16 2 held ?\n",
         leaked: 2,
     },
     Example {
@@ -144,7 +149,8 @@ pub static EXAMPLES: [Example; 22] = [
                   undumped 0\n\
                   unknown 0 displaced 0 torn 0\n\
                   marked 1 bytes 0\n\
-                  leaked 0 bytes 0\n",
+                  leaked 0 bytes 0\n\
+                  heads 0\n",
         leaked: 0,
     },
     Example {
@@ -156,8 +162,9 @@ pub static EXAMPLES: [Example; 22] = [
                   unknown 0 displaced 0 torn 0\n\
                   marked 0 bytes 0\n\
                   leaked 1 bytes 0\n\
-                  caller 1 0 ?\n\
-                  leak 0x10200 0 1 ?\n",
+                  heads 1\n\
+                  caller 1 0 1 ?\n\
+                  leak 0x10200 0 1 head ?\n",
         leaked: 1,
     },
     Example {
@@ -169,8 +176,9 @@ pub static EXAMPLES: [Example; 22] = [
                   unknown 0 displaced 0 torn 0\n\
                   marked 1 bytes 12\n\
                   leaked 1 bytes 16\n\
-                  caller 1 16 ?\n\
-                  leak 0x10200 16 2 ?\n",
+                  heads 1\n\
+                  caller 1 16 1 ?\n\
+                  leak 0x10200 16 2 head ?\n",
         leaked: 1,
     },
     Example {
@@ -186,8 +194,9 @@ pub static EXAMPLES: [Example; 22] = [
                   unknown 2 displaced 1 torn 1\n\
                   marked 0 bytes 0\n\
                   leaked 1 bytes 32\n\
-                  caller 1 32 ?\n\
-                  leak 0x10110 32 2 ?\n",
+                  heads 1\n\
+                  caller 1 32 1 ?\n\
+                  leak 0x10110 32 2 head ?\n",
         leaked: 1,
     },
     Example {
@@ -198,7 +207,8 @@ pub static EXAMPLES: [Example; 22] = [
                   undumped 0\n\
                   unknown 0 displaced 0 torn 0\n\
                   marked 1 bytes 16\n\
-                  leaked 0 bytes 0\n",
+                  leaked 0 bytes 0\n\
+                  heads 0\n",
         leaked: 0,
     },
     Example {
@@ -210,8 +220,9 @@ pub static EXAMPLES: [Example; 22] = [
                   unknown 0 displaced 0 torn 0\n\
                   marked 0 bytes 0\n\
                   leaked 1 bytes 32\n\
-                  caller 1 32 ./a.out:[0x401136]\n\
-                  leak 0x10100 32 1 ./a.out:[0x401136]\n",
+                  heads 1\n\
+                  caller 1 32 1 ./a.out:[0x401136]\n\
+                  leak 0x10100 32 1 head ./a.out:[0x401136]\n",
         leaked: 1,
     },
     Example {
@@ -223,8 +234,9 @@ pub static EXAMPLES: [Example; 22] = [
                   unknown 0 displaced 0 torn 0\n\
                   marked 0 bytes 0\n\
                   leaked 1 bytes 15\n\
-                  caller 1 15 ?\n\
-                  leak 0xfffffffffffffff0 15 1 ?\n",
+                  heads 1\n\
+                  caller 1 15 1 ?\n\
+                  leak 0xfffffffffffffff0 15 1 head ?\n",
         leaked: 1,
     },
     Example {
@@ -235,7 +247,8 @@ pub static EXAMPLES: [Example; 22] = [
                   undumped 0\n\
                   unknown 0 displaced 0 torn 0\n\
                   marked 1 bytes 15\n\
-                  leaked 0 bytes 0\n",
+                  leaked 0 bytes 0\n\
+                  heads 0\n",
         leaked: 0,
     },
     Example {
@@ -250,13 +263,14 @@ pub static EXAMPLES: [Example; 22] = [
                   unknown 0 displaced 0 torn 0\n\
                   marked 0 bytes 0\n\
                   leaked 4 bytes 112\n\
-                  caller 1 40 b:[0x2]\n\
-                  caller 2 40 c:[0x3]\n\
-                  caller 1 32 a:[0x1]\n\
-                  leak 0x10100 32 1 a:[0x1]\n\
-                  leak 0x10200 16 2 c:[0x3]\n\
-                  leak 0x10300 24 3 c:[0x3]\n\
-                  leak 0x10400 40 4 b:[0x2]\n",
+                  heads 4\n\
+                  caller 1 40 1 b:[0x2]\n\
+                  caller 2 40 2 c:[0x3]\n\
+                  caller 1 32 1 a:[0x1]\n\
+                  leak 0x10100 32 1 head a:[0x1]\n\
+                  leak 0x10200 16 2 head c:[0x3]\n\
+                  leak 0x10300 24 3 head c:[0x3]\n\
+                  leak 0x10400 40 4 head b:[0x2]\n",
         leaked: 4,
     },
     Example {
@@ -267,7 +281,8 @@ pub static EXAMPLES: [Example; 22] = [
                   undumped 0\n\
                   unknown 0 displaced 0 torn 0\n\
                   marked 1 bytes 1152921504606846976\n\
-                  leaked 0 bytes 0\n",
+                  leaked 0 bytes 0\n\
+                  heads 0\n",
         leaked: 0,
     },
 ];

@@ -4,7 +4,8 @@ ghost use Rattle.std.specs.Prelude.{IfOk, IsTrue};
 
 use crate::examples::ONE_BLOCK;
 use crate::fakes::{Sink, Source};
-use crate::pairs::{HELD_UNREAD, PAIRS};
+use crate::pair_reports::HELD_UNREAD;
+use crate::pairs::PAIRS;
 use crate::samples::{Part, core_of};
 use leak_elf::ElfError;
 use leak_find::{FindError, Options, ReadFault, RunFault, run};

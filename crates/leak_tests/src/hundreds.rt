@@ -16,14 +16,16 @@ pub const CHAIN: &str = "blocks 100 bytes 1600\n\
                          undumped 0\n\
                          unknown 0 displaced 0 torn 0\n\
                          marked 100 bytes 1600\n\
-                         leaked 0 bytes 0\n";
+                         leaked 0 bytes 0\n\
+                         heads 0\n";
 
 /// The report of the star of a hundred and one.
 pub const STAR: &str = "blocks 101 bytes 1600\n\
                         undumped 0\n\
                         unknown 0 displaced 0 torn 0\n\
                         marked 101 bytes 1600\n\
-                        leaked 0 bytes 0\n";
+                        leaked 0 bytes 0\n\
+                        heads 0\n";
 
 /// A hundred blocks of 16 bytes, each but the last holding the start of the next.
 pub fn chain(alloc: Global) -> Result<Sample, Fail> {

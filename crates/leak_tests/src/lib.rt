@@ -15,6 +15,10 @@ mod examples;
 #[cfg(test)]
 mod hundreds;
 
+// Logs and reports that stand in more than one of the examples of two cores.
+#[cfg(test)]
+mod pair_reports;
+
 // The table of examples of two cores.
 #[cfg(test)]
 mod pairs;
@@ -46,6 +50,10 @@ mod vectors;
 // Lists of claims are those of the workers that claimed.
 #[cfg(test)]
 mod lists;
+
+// Which leaked blocks are heads, in one core and in two.
+#[cfg(test)]
+mod heads;
 
 // Schedules that a gate forces on the workers.
 #[cfg(test)]

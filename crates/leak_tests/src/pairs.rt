@@ -1,6 +1,9 @@
 //! The table of examples of two cores: cores, logs and the report that they give.
 
 use crate::examples::ONE_BLOCK;
+use crate::pair_reports::{
+    HELD_REREAD, HELD_UNREAD, KEPT_AND_NEW, ONE_NEW, THREE_BLOCKS, THREE_LESS_ONE, TWO_BLOCKS,
+};
 use crate::samples::Part;
 
 /// Two cores of one process and their logs by name, and what they give.
@@ -19,51 +22,6 @@ pub struct Pair {
     pub claimed: &'static [u32],
 }
 
-/// The log of two blocks.
-const TWO_BLOCKS: &str = "+ 0x10100 0x20\n+ 0x10200 0x10\n";
-
-/// The log of three blocks, of which the first two touch.
-const THREE_BLOCKS: &str = "+ 0x10100 0x20\n+ 0x10120 0x10\n+ 0x10200 0x10\n";
-
-/// The log of three blocks, and the second is given back.
-const THREE_LESS_ONE: &str = "+ 0x10100 0x20\n+ 0x10120 0x10\n+ 0x10200 0x10\n- 0x10120\n";
-
-/// The report of a kept block and a new one.
-const KEPT_AND_NEW: &str = "blocks 2 bytes 48\n\
-                            undumped 0\n\
-                            unknown 0 displaced 0 torn 0\n\
-                            new 1 bytes 16\n\
-                            reread 0\n\
-                            marked 2 bytes 48\n\
-                            leaked 0 bytes 0\n";
-
-/// The report where the one block is marked, and is not read again.
-pub const HELD_UNREAD: &str = "blocks 1 bytes 32\n\
-                           undumped 0\n\
-                           unknown 0 displaced 0 torn 0\n\
-                           new 0 bytes 0\n\
-                           reread 0\n\
-                           marked 1 bytes 32\n\
-                           leaked 0 bytes 0\n";
-
-/// The report where the one block was marked before, and is read again.
-const HELD_REREAD: &str = "blocks 1 bytes 32\n\
-                           undumped 0\n\
-                           unknown 0 displaced 0 torn 0\n\
-                           new 0 bytes 0\n\
-                           reread 4\n\
-                           marked 1 bytes 32\n\
-                           leaked 0 bytes 0\n";
-
-/// The report where the one block is new.
-const ONE_NEW: &str = "blocks 1 bytes 32\n\
-                       undumped 0\n\
-                       unknown 0 displaced 0 torn 0\n\
-                       new 1 bytes 32\n\
-                       reread 0\n\
-                       marked 1 bytes 32\n\
-                       leaked 0 bytes 0\n";
-
 /// Each example of two cores but those of many blocks.
 pub static PAIRS: [Pair; 16] = [
     Pair {
@@ -78,7 +36,8 @@ pub static PAIRS: [Pair; 16] = [
                  new 1 bytes 32\n\
                  reread 0\n\
                  marked 2 bytes 48\n\
-                 leaked 0 bytes 0\n",
+                 leaked 0 bytes 0\n\
+                 heads 0\n",
         leaked: 0,
         claimed: &[1],
     },
@@ -94,7 +53,8 @@ pub static PAIRS: [Pair; 16] = [
                  new 0 bytes 0\n\
                  reread 0\n\
                  marked 2 bytes 48\n\
-                 leaked 0 bytes 0\n",
+                 leaked 0 bytes 0\n\
+                 heads 0\n",
         leaked: 0,
         claimed: &[],
     },
@@ -114,7 +74,8 @@ pub static PAIRS: [Pair; 16] = [
                  new 0 bytes 0\n\
                  reread 6\n\
                  marked 2 bytes 48\n\
-                 leaked 0 bytes 0\n",
+                 leaked 0 bytes 0\n\
+                 heads 0\n",
         leaked: 0,
         claimed: &[],
     },
@@ -171,8 +132,9 @@ pub static PAIRS: [Pair; 16] = [
                  reread 2\n\
                  marked 2 bytes 48\n\
                  leaked 1 bytes 24\n\
-                 caller 1 24 ?\n\
-                 leak 0x10300 24 2 ?\n",
+                 heads 1\n\
+                 caller 1 24 1 ?\n\
+                 leak 0x10300 24 2 head ?\n",
         leaked: 1,
         claimed: &[],
     },
@@ -208,7 +170,8 @@ pub static PAIRS: [Pair; 16] = [
                  new 0 bytes 0\n\
                  reread 4\n\
                  marked 2 bytes 48\n\
-                 leaked 0 bytes 0\n",
+                 leaked 0 bytes 0\n\
+                 heads 0\n",
         leaked: 0,
         claimed: &[1],
     },
@@ -224,7 +187,8 @@ pub static PAIRS: [Pair; 16] = [
                  new 0 bytes 0\n\
                  reread 2\n\
                  marked 1 bytes 16\n\
-                 leaked 0 bytes 0\n",
+                 leaked 0 bytes 0\n\
+                 heads 0\n",
         leaked: 0,
         claimed: &[],
     },
@@ -243,8 +207,9 @@ pub static PAIRS: [Pair; 16] = [
                  reread 0\n\
                  marked 2 bytes 40\n\
                  leaked 1 bytes 32\n\
-                 caller 1 32 a:[0x1]\n\
-                 leak 0x10100 32 1 a:[0x1]\n",
+                 heads 1\n\
+                 caller 1 32 1 a:[0x1]\n\
+                 leak 0x10100 32 1 head a:[0x1]\n",
         leaked: 1,
         claimed: &[],
     },
@@ -264,7 +229,8 @@ pub static PAIRS: [Pair; 16] = [
                  new 1 bytes 32\n\
                  reread 0\n\
                  marked 1 bytes 32\n\
-                 leaked 0 bytes 0\n",
+                 leaked 0 bytes 0\n\
+                 heads 0\n",
         leaked: 0,
         claimed: &[],
     },
@@ -290,7 +256,8 @@ pub static PAIRS: [Pair; 16] = [
                  new 0 bytes 0\n\
                  reread 0\n\
                  marked 1 bytes 32\n\
-                 leaked 0 bytes 0\n",
+                 leaked 0 bytes 0\n\
+                 heads 0\n",
         leaked: 0,
         claimed: &[],
     },

@@ -75,7 +75,8 @@ fn a_log_that_is_cut_short_is_torn(rt: HostRuntime) -> Result<(), Fail> {
                 undumped 0\n\
                 unknown 0 displaced 0 torn 1\n\
                 marked 0 bytes 0\n\
-                leaked 0 bytes 0\n";
+                leaked 0 bytes 0\n\
+                heads 0\n";
     let mut log = Vec::from_slice(rt.alloc(), ONE_BLOCK.as_bytes())?;
     for len in (0..ONE_BLOCK.len()).rev() {
         log.truncate(len);
