@@ -16,26 +16,27 @@ gcc -g -O0 -Wno-unused-result -o "$work/in_flight" "$here/in_flight.c"
 gcc -g -O0 -Wno-unused-result -o "$work/in_vector" "$here/in_vector.c"
 cd "$work"
 
-# check NAME HEAD SIZES SUBCOMMAND FILE..: searches, shows the report, and compares its first lines, those that speak of live
-# and of new blocks, and the sizes of the leaked blocks.
+# check NAME LINES SIZES HEADS SUBCOMMAND FILE..: searches, shows the report, and compares its first lines, those that speak of
+# live and of new blocks, the sizes of the leaked blocks, and those of the heads among them.
 check() {
-    name=$1 head=$2 wanted=$3
-    shift 3
+    name=$1 lines=$2 wanted=$3 wanted_heads=$4
+    shift 4
     status=0
     "$leak_find" "$@" > report || status=$?
     echo "== $name"
     cat report
     found=$(awk '$1 == "leak" { print $3 }' report | sort -n | tr '\n' ' ' | sed 's/ $//')
+    heads=$(awk '$1 == "leak" && $5 == "head" { print $3 }' report | sort -n | tr '\n' ' ' | sed 's/ $//')
     begins=$(awk '$1 == "blocks" || $1 == "new"' report | tr '\n' ',' | sed 's/,$//')
-    if [ "$status" != 1 ] || [ "$found" != "$wanted" ] || [ "$begins" != "$head" ]; then
-        echo "NOT as built: status $status, $begins, leaked sizes: $found" >&2
+    if [ "$status" != 1 ] || [ "$found" != "$wanted" ] || [ "$heads" != "$wanted_heads" ] || [ "$begins" != "$lines" ]; then
+        echo "NOT as built: status $status, $begins, leaked sizes: $found, heads: $heads" >&2
         exit 1
     fi
 }
 
 # name_lines PROGRAM: the line of the source for each leaked block of the last report.
 name_lines() {
-    awk '$1 == "leak" { print $3, $5 }' report | while read -r size caller; do
+    awk '$1 == "leak" { print $3, $6 }' report | while read -r size caller; do
         offset=$(printf '%s\n' "$caller" | sed 's/.*\[\(0x[0-9a-f]*\)\]$/\1/')
         echo "$size bytes: $(basename "$(addr2line -e "$1" "$offset")")"
     done
@@ -70,15 +71,17 @@ stop() {
     process=
 }
 
-# leaky.c: what must be reported is the lost block, the chain behind a lost head, the ring. All else is held.
-leaky_head="blocks 12 bytes 1596"
+# leaky.c: what must be reported is the lost block, the chain behind a lost head, the ring. All else is held. Heads are the lost
+# block and the first of the chain; the ring has none.
+leaky_lines="blocks 12 bytes 1596"
 leaky_sizes="45 61 77 93 109 125"
+leaky_heads="45 61"
 
 # A process that goes on living.
 start leaky
 dump leaky 1
 stop
-check "a core by gdb" "$leaky_head" "$leaky_sizes" one leaky.core.1 leaky.copy.1
+check "a core by gdb" "$leaky_lines" "$leaky_sizes" "$leaky_heads" one leaky.core.1 leaky.copy.1
 name_lines leaky
 
 # A process that dies: the kernel dumps it, where it may write a file named core.
@@ -86,7 +89,7 @@ ulimit -c unlimited
 MALLOC_TRACE=dead.log LD_PRELOAD=libc_malloc_debug.so.0 ./leaky dies 2> /dev/null || true
 dead=$(ls core core.* 2> /dev/null | head -n 1)
 if [ -n "$dead" ]; then
-    check "a core by the kernel" "$leaky_head" "$leaky_sizes" one "$dead" dead.log
+    check "a core by the kernel" "$leaky_lines" "$leaky_sizes" "$leaky_heads" one "$dead" dead.log
     name_lines leaky
 else
     echo "== no core by the kernel: $(cat /proc/sys/kernel/core_pattern) takes it elsewhere"
@@ -115,15 +118,16 @@ kill -USR1 "$process"
 dump in_flight 3
 stop
 
-# One core names what is in the pipe (61 at the first, 93 at the second), beside what is lost.
-check "the first core alone" "blocks 5 bytes 449" "45 61" one in_flight.core.1 in_flight.copy.1
-check "the second core alone" "blocks 7 bytes 651" "45 77 93 109" one in_flight.core.2 in_flight.copy.2
+# One core names what is in the pipe (61 at the first, 93 at the second), beside what is lost. No leaked block points to another,
+# so each is a head.
+check "the first core alone" "blocks 5 bytes 449" "45 61" "45 61" one in_flight.core.1 in_flight.copy.1
+check "the second core alone" "blocks 7 bytes 651" "45 77 93 109" "45 77 93 109" one in_flight.core.2 in_flight.copy.2
 
 # The pair names what was lost at the first core and is lost at the second. What was lost in between waits for the next pair.
-check "the first and the second core" "blocks 7 bytes 651,new 2 bytes 202" "45" \
+check "the first and the second core" "blocks 7 bytes 651,new 2 bytes 202" "45" "45" \
     two in_flight.core.1 in_flight.copy.1 in_flight.core.2 in_flight.copy.2
 name_lines in_flight
-check "the second and the third core" "blocks 7 bytes 651,new 0 bytes 0" "45 77 109" \
+check "the second and the third core" "blocks 7 bytes 651,new 0 bytes 0" "45 77 109" "45 77 109" \
     two in_flight.core.2 in_flight.copy.2 in_flight.core.3 in_flight.copy.3
 name_lines in_flight
 
