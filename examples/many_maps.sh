@@ -56,7 +56,7 @@ check() {
     "$leak_find" one core many_maps.log > report || status=$?
     echo "== $1, by $by: $(readelf -h core 2> /dev/null | sed -n 's/^ *Number of program headers: *//p') program headers"
     cat report
-    awk '$1 == "leak" { print $3, $5 }' report | while read -r size caller; do
+    awk '$1 == "leak" { print $3, $6 }' report | while read -r size caller; do
         offset=$(printf '%s\n' "$caller" | sed 's/.*\[\(0x[0-9a-f]*\)\]$/\1/')
         echo "$size bytes: $(basename "$(addr2line -e many_maps "$offset")")"
     done

@@ -24,7 +24,8 @@ fn no_word_searches_the_sample(rt: HostRuntime) -> Result<(), Fail> {
           undumped 0\n\
           unknown 0 displaced 0 torn 0\n\
           marked 1 bytes 32\n\
-          leaked 0 bytes 0\n"
+          leaked 0 bytes 0\n\
+          heads 0\n"
             .as_slice()
     );
     Ok(())

@@ -22,10 +22,11 @@ use std::rt::Env;
 use std::thread::Threads;
 
 /// The calls, by name.
-static CALLS: [&str; 27] = [
+static CALLS: [&str; 30] = [
     "core_k",
     "Image::read",
     "Threads::read",
+    "Threads::read_vectors",
     "Log::read",
     "replay",
     "Paged::new",
@@ -41,9 +42,11 @@ static CALLS: [&str; 27] = [
     "differing",
     "carry",
     "retrace",
+    "heads",
     "Totals::of",
     "text",
     "find_alone",
+    "find_alone_vectors",
     "find_one",
     "find_two",
     "read_all",
@@ -98,6 +101,7 @@ fn answer_of<R: AllocGlobal + Threads + Sync>(rt: &R, name: &str) -> Option<Answ
         "core_k" => reading::sample(alloc),
         "Image::read" => reading::image(alloc),
         "Threads::read" => reading::threads(alloc),
+        "Threads::read_vectors" => reading::vectors(alloc),
         "Log::read" => reading::log(alloc),
         "replay" => reading::replayed(alloc),
         "Paged::new" => searching::paged(alloc),
@@ -113,9 +117,11 @@ fn answer_of<R: AllocGlobal + Threads + Sync>(rt: &R, name: &str) -> Option<Answ
         "differing" => marking::pages(rt),
         "carry" => marking::carried(alloc),
         "retrace" => marking::retraced(rt),
+        "heads" => marking::headed(alloc),
         "Totals::of" => reporting::totals(alloc),
         "text" => reporting::report(alloc),
         "find_alone" => whole::alone(alloc),
+        "find_alone_vectors" => whole::vectors(alloc),
         "find_one" => whole::by_workers(rt),
         "find_two" => whole::two_cores(rt),
         "read_all" => whole::input(alloc),

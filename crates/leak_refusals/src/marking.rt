@@ -10,7 +10,7 @@ use leak_marks::{Claims, Marks};
 use leak_notes::Threads;
 use leak_pool::{Marked, Open, Part, Plan, PoolError, Start, mark, mark_alone, mark_from};
 use leak_roots::Roots;
-use leak_scan::Pages;
+use leak_scan::{Pages, heads};
 use std::alloc::Global;
 
 /// `Claims::new`, and attempts of two workers.
@@ -242,5 +242,21 @@ pub(crate) fn retraced<R: AllocGlobal + std::thread::Threads + Sync>(rt: &R) -> 
                 && retraced.reread == 0,
         )),
         Err(error) => Some(Answer::of_refusal(error == PoolError::NoMemory)),
+    }
+}
+
+/// `heads` of three lost blocks, of which the first leads to the second and to itself.
+pub(crate) fn headed(alloc: Global) -> Option<Answer> {
+    let core = core_of(alloc, &[(0x10100, 0x10200), (0x10108, 0x10100)])?;
+    let image = Image::read(alloc, core.as_slice()).ok()?;
+    let live = live_of(alloc, "+ 0x10100 0x20\n+ 0x10200 0x10\n+ 0x10300 0x8\n")?;
+    let lookup = Sorted::new(&live, Reading::interior());
+    let set = [false; 3];
+    if live.blocks().len() != 3 {
+        return Some(Answer::Other);
+    }
+    match heads(alloc, &image, &lookup, &live, &set) {
+        Ok(heads) => Some(Answer::of(heads.as_slice() == [true, false, true].as_slice())),
+        Err(_) => Some(Answer::Wanting),
     }
 }

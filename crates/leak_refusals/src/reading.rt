@@ -1,7 +1,7 @@
 //! The calls that read cores and logs.
 
 use crate::answer::Answer;
-use crate::samples::{FOUR_CALLERS, core_of, set};
+use crate::samples::{FOUR_CALLERS, core_of, set, vector_core};
 use leak_blocks::replay;
 use leak_elf::{ElfError, Image, core_k};
 use leak_mtrace::{Log, LogError};
@@ -39,6 +39,16 @@ pub(crate) fn threads(alloc: Global) -> Option<Answer> {
     let image = Image::read(alloc, core.as_slice()).ok()?;
     match Threads::read(alloc, &image) {
         Ok(threads) => Some(Answer::of(threads.count() == 1 && threads.registers().len() == 27)),
+        Err(error) => Some(Answer::of_refusal(error == NoteError::NoMemory)),
+    }
+}
+
+/// `Threads::read` of a core with vector registers.
+pub(crate) fn vectors(alloc: Global) -> Option<Answer> {
+    let core = vector_core(alloc)?;
+    let image = Image::read(alloc, core.as_slice()).ok()?;
+    match Threads::read(alloc, &image) {
+        Ok(threads) => Some(Answer::of(threads.count() == 1 && threads.registers().len() == 59)),
         Err(error) => Some(Answer::of_refusal(error == NoteError::NoMemory)),
     }
 }

@@ -15,13 +15,14 @@ const REPORT: &str = "blocks 4 bytes 112\n\
                       unknown 0 displaced 0 torn 0\n\
                       marked 0 bytes 0\n\
                       leaked 4 bytes 112\n\
-                      caller 1 40 b:[0x2]\n\
-                      caller 2 40 c:[0x3]\n\
-                      caller 1 32 a:[0x1]\n\
-                      leak 0x10100 32 1 a:[0x1]\n\
-                      leak 0x10200 16 2 c:[0x3]\n\
-                      leak 0x10300 24 3 c:[0x3]\n\
-                      leak 0x10400 40 4 b:[0x2]\n";
+                      heads 4\n\
+                      caller 1 40 1 b:[0x2]\n\
+                      caller 2 40 2 c:[0x3]\n\
+                      caller 1 32 1 a:[0x1]\n\
+                      leak 0x10100 32 1 head a:[0x1]\n\
+                      leak 0x10200 16 2 head c:[0x3]\n\
+                      leak 0x10300 24 3 head c:[0x3]\n\
+                      leak 0x10400 40 4 head b:[0x2]\n";
 
 /// Whether the callers of the blocks are ranges of the log.
 fn have_callers_in(blocks: &[Block], log: &[u8]) -> bool
@@ -34,12 +35,16 @@ fn have_callers_in(blocks: &[Block], log: &[u8]) -> bool
 pub(crate) fn totals(alloc: Global) -> Option<Answer> {
     let live = live_of(alloc, FOUR_CALLERS)?;
     let set = [false; 4];
+    let heads = [true; 4];
     if live.blocks().len() != 4 || !have_callers_in(live.blocks(), FOUR_CALLERS.as_bytes()) {
         return Some(Answer::Other);
     }
-    match Totals::of(alloc, &live, &set, FOUR_CALLERS.as_bytes()) {
+    match Totals::of(alloc, &live, &set, &heads, FOUR_CALLERS.as_bytes()) {
         Ok(totals) => Some(Answer::of(
-            totals.blocks == 4 && totals.bytes == 112 && totals.rows.len() == 3,
+            totals.blocks == 4
+                && totals.bytes == 112
+                && totals.heads == 4
+                && totals.rows.len() == 3,
         )),
         Err(_) => Some(Answer::Wanting),
     }
@@ -49,6 +54,7 @@ pub(crate) fn totals(alloc: Global) -> Option<Answer> {
 pub(crate) fn report(alloc: Global) -> Option<Answer> {
     let live = live_of(alloc, FOUR_CALLERS)?;
     let set = [false; 4];
+    let heads = [true; 4];
     if live.blocks().len() != 4 || !have_callers_in(live.blocks(), FOUR_CALLERS.as_bytes()) {
         return Some(Answer::Other);
     }
@@ -59,7 +65,7 @@ pub(crate) fn report(alloc: Global) -> Option<Answer> {
         torn: 0,
         two: None,
     };
-    match text(alloc, &head, &live, &set, FOUR_CALLERS.as_bytes()) {
+    match text(alloc, &head, &live, &set, &heads, FOUR_CALLERS.as_bytes()) {
         Ok(text) => Some(Answer::of(text.as_slice() == REPORT.as_bytes())),
         Err(_) => Some(Answer::Wanting),
     }

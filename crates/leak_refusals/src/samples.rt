@@ -42,6 +42,19 @@ pub(crate) fn core_of(alloc: Global, words: &[(u64, u64)]) -> Option<Vec<u8>> {
     Some(core)
 }
 
+/// The sample core with vector registers behind its thread status, of which the upper half of xmm0 leads to the one block.
+pub(crate) fn vector_core(alloc: Global) -> Option<Vec<u8>> {
+    let mut core = core_of(alloc, &[])?;
+    set(&mut core, 96, &888u64.to_le_bytes());
+    set(
+        &mut core,
+        532,
+        b"\x05\0\0\0\0\x02\0\0\x02\0\0\0CORE\0\0\0\0",
+    );
+    set(&mut core, 720, &0x10100u64.to_le_bytes());
+    Some(core)
+}
+
 /// The live blocks of the log.
 pub(crate) fn live_of(alloc: Global, log: &str) -> Option<Live> {
     let log = Log::read(alloc, log.as_bytes()).ok()?;

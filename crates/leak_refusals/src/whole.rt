@@ -1,7 +1,7 @@
 //! The calls that search from bytes to a report.
 
 use crate::answer::Answer;
-use crate::samples::{MOVED, ONE_BLOCK, Sample, TWO_BLOCKS, chain, core_of, set};
+use crate::samples::{MOVED, ONE_BLOCK, Sample, TWO_BLOCKS, chain, core_of, set, vector_core};
 use leak_find::{
     FindError, Found, Options, ReadFault, RunFault, UsageFault, find_alone, find_one, find_two,
     read_all, request, run,
@@ -26,22 +26,25 @@ const LOST: &str = "blocks 1 bytes 32\n\
                     unknown 0 displaced 0 torn 0\n\
                     marked 0 bytes 0\n\
                     leaked 1 bytes 32\n\
-                    caller 1 32 ./a.out:[0x401136]\n\
-                    leak 0x10100 32 1 ./a.out:[0x401136]\n";
+                    heads 1\n\
+                    caller 1 32 1 ./a.out:[0x401136]\n\
+                    leak 0x10100 32 1 head ./a.out:[0x401136]\n";
 
 /// The report of one block that is held.
 const HELD: &str = "blocks 1 bytes 32\n\
                     undumped 0\n\
                     unknown 0 displaced 0 torn 0\n\
                     marked 1 bytes 32\n\
-                    leaked 0 bytes 0\n";
+                    leaked 0 bytes 0\n\
+                    heads 0\n";
 
 /// The report of the chain of a hundred.
 const CHAIN: &str = "blocks 100 bytes 1600\n\
                      undumped 0\n\
                      unknown 0 displaced 0 torn 0\n\
                      marked 100 bytes 1600\n\
-                     leaked 0 bytes 0\n";
+                     leaked 0 bytes 0\n\
+                     heads 0\n";
 
 /// The report of two cores between which a block was moved to where it was.
 const TWO: &str = "blocks 2 bytes 48\n\
@@ -50,7 +53,8 @@ const TWO: &str = "blocks 2 bytes 48\n\
                    new 1 bytes 32\n\
                    reread 0\n\
                    marked 2 bytes 48\n\
-                   leaked 0 bytes 0\n";
+                   leaked 0 bytes 0\n\
+                   heads 0\n";
 
 /// `find_alone` of one lost block.
 pub(crate) fn alone(alloc: Global) -> Option<Answer> {
@@ -62,6 +66,18 @@ pub(crate) fn alone(alloc: Global) -> Option<Answer> {
         Reading::interior(),
     );
     Some(answer_of(found, LOST))
+}
+
+/// `find_alone` of one block that a vector register holds.
+pub(crate) fn vectors(alloc: Global) -> Option<Answer> {
+    let core = vector_core(alloc)?;
+    let found = find_alone(
+        alloc,
+        core.as_slice(),
+        ONE_BLOCK.as_bytes(),
+        Reading::interior(),
+    );
+    Some(answer_of(found, HELD))
 }
 
 /// `find_one` of the chain of a hundred by three workers.
