@@ -5,6 +5,7 @@ failed=0
 started=
 export LEAK_TRACE=$work/table.%p
 trap 'kill -9 $started 2> /dev/null; cd /; rm -rf "$work"' EXIT
+trap 'exit 1' INT TERM
 ulimit -c unlimited
 
 built=$kit/../crates/leak_cli/out/leak_cli

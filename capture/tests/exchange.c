@@ -7,7 +7,7 @@
 #include <sys/mman.h>
 #include "../table.h"
 #include "lose.h"
-enum { THREADS = 6, SLOTS = 4096, ROUNDS = 3000000 };
+enum { THREADS = 6, SLOTS = 4096, ROUNDS = 1000000 };
 static void *_Atomic slots[SLOTS];
 static void *work(void *which)
 {

@@ -36,10 +36,14 @@ echo "== a daemon that closes all its descriptors"
 build daemon.c
 wait=1 start ./daemon
 daemon=$(pgrep -f '^./daemon$' | head -n 1)
-settle "$daemon"
 started="$started $daemon"
+settle "$daemon"
 verdict 'its table has its pid' "$work/table.$daemon" "$(ls "$work"/table.$daemon)"
-look daemon.c "$daemon"
+if [ "$attaches" ]; then
+    look daemon.c "$daemon"
+else
+    echo "     it is not dumped: the kernel would write its core into /"
+fi
 
 echo "== the lines of the callers"
 start ./plain
@@ -68,6 +72,9 @@ verdict exchange 'wrong 0 others few missed 0' "$("$kit/leak_trace" ./exchange "
 . "$kit/tests/tables.sh"
 [ "$attaches" ] && . "$kit/tests/moments.sh"
 . "$kit/tests/untraced.sh"
-[ ! "$quick" ] && [ "$attaches" ] && . "$kit/tests/mtrace.sh"
+if [ ! "$quick" ] && [ "$attaches" ]; then
+    . "$kit/tests/mtrace.sh"
+    . "$kit/tests/servers.sh"
+fi
 [ "$failed" = 0 ] && echo "all as built"
 exit $failed
