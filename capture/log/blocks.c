@@ -53,7 +53,7 @@ static const struct table_head *head_of(struct file file, const struct core *cor
 struct blocks read_table(struct file file, const struct core *core)
 {
     const struct table_head *head = head_of(file, core);
-    struct blocks blocks = { .depth = head->depth };
+    struct blocks blocks = { .depth = head->depth, .base = head->base };
     const uint64_t *word = (const uint64_t *)(file.bytes + HEAD_BYTES);
 
     for (uint64_t i = 0; i < head->used; i++, word += ENTRY_CALLERS + head->depth) {
@@ -84,7 +84,7 @@ static int begins(const char *at, const char *stop, const char *with)
 /* What an earlier log of leak_log leaves live: of each start the last line, where it allocates. */
 struct blocks read_log(struct file file)
 {
-    static const char head[] = "= leak_log moment 0x", came[] = "] + 0x", went[] = "- 0x";
+    static const char head[] = "= leak_log moment 0x", base[] = " table 0x", came[] = "] + 0x", went[] = "- 0x";
     const char *at = (const char *)file.bytes, *end = at + file.size, *stop;
     struct blocks blocks = { 0 };
     int is_ours = 0;
@@ -94,8 +94,10 @@ struct blocks read_log(struct file file)
             fail(file.path, "the log ends in the middle of a line");
         const char *where = memrchr(at, ']', stop - at), *start = where ? where + strlen(came) : at + strlen(went);
         if (begins(at, stop, head)) {
-            blocks.moment = strtoull(at + strlen(head), NULL, 16);
-            is_ours = 1;
+            char *rest;
+            blocks.moment = strtoull(at + strlen(head), &rest, 16);
+            is_ours = begins(rest, stop, base);
+            blocks.base = is_ours ? strtoull(rest + strlen(base), NULL, 16) : 0;
         } else if (where ? begins(where, stop, came) : begins(at, stop, went)) {
             blocks.list = grown(blocks.list, blocks.count, sizeof *blocks.list);
             blocks.list[blocks.count] = (struct block){ strtoull(start, NULL, 16), where != NULL, blocks.count, NULL };

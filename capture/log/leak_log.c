@@ -81,12 +81,14 @@ int main(int count, char **arguments)
     if (is_later) {
         struct file log = open_file(arguments[4]);
         struct blocks old = read_log(log);
+        if (old.base != blocks.base)
+            fail(log.path, "the earlier log is of another process");
         fwrite(log.bytes, 1, log.size, stdout);
         write_ends(&old, &blocks);
         if (blocks.moment < old.moment)
             blocks.moment = old.moment;
     }
-    printf("= leak_log moment 0x%llx\n", (unsigned long long)blocks.moment);
+    printf("= leak_log moment 0x%llx table 0x%llx\n", (unsigned long long)blocks.moment, (unsigned long long)blocks.base);
     qsort(blocks.list, blocks.count, sizeof *blocks.list, by_stamp);
     for (size_t i = 0; i < blocks.count; i++)
         print_block(&core, blocks.list + i, blocks.depth);

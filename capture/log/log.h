@@ -39,6 +39,7 @@ struct blocks {
     size_t count;
     uint64_t depth;             /* callers of a block */
     uint64_t moment;            /* the newest stamp */
+    uint64_t base;              /* where the process has its table */
 };
 
 /* leak_log.c */
