@@ -50,7 +50,7 @@ start ./plain
 look plain.c
 "$kit/leak_lines" plain.report > lines
 verdict 'each line of plain.c that loses a block' \
-    "$(grep -n 'LOSE(' "$kit/tests/plain.c" | grep -v strdup | cut -d : -f 1 | tr '\n' ' ')" \
+    "$(grep -n 'LOSE(\|loses' "$kit/tests/plain.c" | grep -v strdup | cut -d : -f 1 | tr '\n' ' ')" \
     "$(sed -n 's/.*plain\.c:\([0-9]*\)$/\1/p' lines | sort -nu | grep -vx "$(grep -n strdup "$kit/tests/plain.c" | cut -d : -f 1)" | tr '\n' ' ')"
 verdict 'the function' work "$(awk '/plain\.c:/ { print $3 }' lines | sort -u)"
 for form in plain heads; do
