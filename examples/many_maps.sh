@@ -5,8 +5,8 @@
 #     examples/many_maps.sh LEAK_FIND
 #
 # LEAK_FIND is the installed program. Needs gcc, readelf and addr2line; 300 MB in the folder for temporary files ($TMPDIR); a kernel
-# that writes a file named core (see /proc/sys/kernel/core_pattern), or else gdb's gcore, and leave to attach to a process of one's
-# own; and vm.max_map_count of at least 70,100, or leave to raise it for the time of the run, as root has.
+# that writes a file named core (see /proc/sys/kernel/core_pattern), or else gdb's gcore, and permission to attach to a process of one's
+# own; and vm.max_map_count of at least 70,100, or permission to raise it for the time of the run, as root has.
 set -eu
 leak_find=${1:?usage: many_maps.sh LEAK_FIND}
 here=$(cd "$(dirname "$0")" && pwd)

@@ -4,7 +4,7 @@
 #
 #     examples/run.sh LEAK_FIND
 #
-# LEAK_FIND is the installed program. Needs gcc, gdb and addr2line, and leave to attach to a process of one's own.
+# LEAK_FIND is the installed program. Needs gcc, gdb and addr2line, and permission to attach to a process of one's own.
 set -eu
 leak_find=${1:?usage: run.sh LEAK_FIND}
 here=$(cd "$(dirname "$0")" && pwd)
