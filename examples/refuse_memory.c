@@ -1,5 +1,5 @@
 /* A preloaded library that refuses one allocation of a program: the one that REFUSE numbers, counted from 1 over malloc, calloc, realloc,
-   aligned_alloc, memalign and posix_memalign. At the end it tells on standard error whether it refused one. */
+   aligned_alloc, memalign and posix_memalign. It says on standard error when it does. */
 
 #define _GNU_SOURCE
 #include <dlfcn.h>
@@ -18,7 +18,6 @@ extern void *__libc_memalign(size_t alignment, size_t size);
 
 static atomic_ulong made;
 static unsigned long refused_number;
-static atomic_int refused;
 static int is_counting;
 
 __attribute__((constructor)) static void start(void)
@@ -28,18 +27,12 @@ __attribute__((constructor)) static void start(void)
     is_counting = 1;
 }
 
-__attribute__((destructor)) static void end(void)
-{
-    if (refused)
-        (void)!write(2, "refused\n", 8);
-}
-
 /* Whether this allocation is the one to be refused. */
 static int refuses(void)
 {
     if (!is_counting || atomic_fetch_add(&made, 1) + 1 != refused_number)
         return 0;
-    refused = 1;
+    (void)!write(2, "refused\n", 8);
     errno = ENOMEM;
     return 1;
 }

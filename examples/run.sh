@@ -100,13 +100,13 @@ fi
 start in_vector
 dump in_vector 1
 stop
-check "vector registers, by gdb" "blocks 5 bytes 385" "45 93" one in_vector.core.1 in_vector.copy.1
+check "vector registers, by gdb" "blocks 5 bytes 385" "45 93" "45 93" one in_vector.core.1 in_vector.copy.1
 name_lines in_vector
 rm -f core core.*
 MALLOC_TRACE=dead.log LD_PRELOAD=libc_malloc_debug.so.0 ./in_vector dies 2> /dev/null || true
 dead=$(ls core core.* 2> /dev/null | head -n 1)
 if [ -n "$dead" ]; then
-    check "vector registers, by the kernel" "blocks 5 bytes 385" "45 93" one "$dead" dead.log
+    check "vector registers, by the kernel" "blocks 5 bytes 385" "45 93" "45 93" one "$dead" dead.log
 fi
 
 # in_flight.c: three cores of one process, of which each but the first makes a pair with the one before.
@@ -155,7 +155,7 @@ capture() {
 start_traced leaky
 capture leaky 1
 stop
-check "leaky, by capture" "$leaky_head" "$leaky_sizes" one leaky.traced.1.core leaky.traced.1.log
+check "leaky, by capture" "$leaky_lines" "$leaky_sizes" "$leaky_heads" one leaky.traced.1.core leaky.traced.1.log
 "$capture/leak_lines" report
 
 start_traced in_flight
@@ -165,11 +165,11 @@ capture in_flight 2
 kill -USR1 "$process"
 capture in_flight 3
 stop
-check "in_flight, by capture: the first core alone" "blocks 5 bytes 449" "45 61" \
+check "in_flight, by capture: the first core alone" "blocks 5 bytes 449" "45 61" "45 61" \
     one in_flight.traced.1.core in_flight.traced.1.log
-check "the first and the second core" "blocks 7 bytes 651,new 2 bytes 202" "45" \
+check "the first and the second core" "blocks 7 bytes 651,new 2 bytes 202" "45" "45" \
     two in_flight.traced.1.core in_flight.traced.1.log in_flight.traced.2.core in_flight.traced.2.log
-check "the second and the third core" "blocks 7 bytes 651,new 0 bytes 0" "45 77 109" \
+check "the second and the third core" "blocks 7 bytes 651,new 0 bytes 0" "45 77 109" "45 77 109" \
     two in_flight.traced.2.core in_flight.traced.2.log in_flight.traced.3.core in_flight.traced.3.log
 "$capture/leak_lines" report
 echo "as built"
