@@ -31,12 +31,12 @@ row() {
         number=$((number + 1))
     done
     [ "$status" = 0 ] || other=$((other + 1))
-    printf '%-20s %7d %6d %7d %6d\n' "$1" "$wanting" "$same" "$inputs" "$other"
+    printf '%-22s %7d %6d %7d %6d\n' "$1" "$wanting" "$same" "$inputs" "$other"
     [ "$other" = 0 ] || faults=1
 }
 
 faults=0
-printf '%-20s %7s %6s %7s %6s\n' call wanting same inputs other
+printf '%-22s %7s %6s %7s %6s\n' call wanting same inputs other
 "$program" | sed 's/: [^:]*$//' >"$work/calls"
 while read -r call; do
     row "$call"

@@ -1,7 +1,7 @@
 //! Cores with vector registers: xmm0 to xmm15 hold blocks, and nothing else of their entry does.
 
 use crate::examples::{HELD, LOST, ONE_BLOCK};
-use crate::pairs::HELD_UNREAD;
+use crate::pair_reports::HELD_UNREAD;
 use crate::plans::{few_plans, plans};
 use crate::samples::{Part, core_of, set};
 use leak_blocks::replay;
