@@ -1,10 +1,11 @@
 -- Rounds of marking.
-use Rattle.std.specs.Prelude.{◌≡◌, ◌⊎◌, ◌↔◌, ℕ, ◌+◌, ◌<◌, ◌≤◌, Bool, List, ◌++◌, length, map, slice_index_or}
+use Rattle.std.specs.Prelude.{◌≡◌, ◌⊎◌, ◌↔◌, ℕ, ◌+◌, ◌-◌, ◌%◌, ◌^◌, ◌<◌, ◌≤◌, Bool, List, ◌++◌, length, map, slice_index_or}
 use Rattle.std.specs.List.{concat}
 use Rattle.leak_marks.specs.Lists.{times, Has, Within, mark_of, word_count}
 use Rattle.leak_marks.specs.Seats.{Held, IsSound}
 use Rattle.leak_marks.specs.Reach.{Graph, Reach}
 use Rattle.leak_marks.specs.Partition.{Partitions}
+use Rattle.leak_pool.specs.Items.{share}
 use Rattle.leak_pool.specs.Marking.{IsSet}
 use Rattle.leak_pool.specs.declared.source.Item.{Item}
 use Rattle.leak_pool.specs.declared.source.Item.TheVariants.{Block, Root}
@@ -55,6 +56,11 @@ pub record IsMarked (graph : Graph) (blocks workers : ℕ) (tests : List Bool) (
   pub partition : Partitions claims (Reach graph)
   pub few : rounds ≤ blocks + 1
   pub none : blocks ≡ 0 → rounds ≡ 0
+
+-- The steps of the first `until` workers have grown by their shares of so many items, modulo 2^64; those of the others stay.
+pub record AreCounted (items workers until : ℕ) (before after : List ℕ) : Type 0 where
+  pub grown : (k : ℕ) → k < until → slice_index_or after k 0 ≡ (slice_index_or before k 0 + (share (k + 1) items workers - share k items workers)) % 2 ^ 64
+  pub rest : (k : ℕ) → until ≤ k → slice_index_or after k 0 ≡ slice_index_or before k 0
 
 -- the first n parts of the roots as items
 pub record AreRoots (n : ℕ) (items : List Item) : Type 0 where

@@ -13,7 +13,7 @@ use crate::start::Start;
 use leak_blocks::Live;
 use leak_elf::Words;
 use leak_index::Lookup;
-use leak_roots::{CutError, Piece, Roots};
+use leak_roots::{Piece, Roots};
 use leak_scan::Pages;
 use std::alloc::{AllocError, Global};
 use std::thread::Threads;
@@ -80,13 +80,11 @@ pub fn mark_from<R: Threads + Sync, W: Words + Sync, L: Lookup + Sync, G: Gate +
     Ok(marked)
 }
 
-// The pieces of the roots.
+// The pieces of the roots. A piece of a plan has a word, so memory alone can be missing.
 fn pieces_of(alloc: Global, roots: &Roots, plan: Plan) -> Result<Vec<Piece>, AllocError>
     ensures { IfOk result (λ pieces. AreCut roots.now plan.piece pieces.items) }
 {
-    match roots.cut(alloc, plan.piece() as usize) {
-        Ok(pieces) => Ok(pieces),
-        Err(CutError::NoMemory) => Err(AllocError),
-        Err(CutError::Zero) => unreachable!(),
-    }
+    roots
+        .cut(alloc, plan.piece() as usize)
+        .map_err(|_| AllocError)
 }

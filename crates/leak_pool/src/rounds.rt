@@ -5,6 +5,7 @@ ghost use Rattle.leak_marks.specs.Rounds.{appended_from};
 ghost use Rattle.leak_pool.specs.Items.{IsItem, targets_of_item};
 ghost use Rattle.leak_pool.specs.Promises.{as_lists};
 ghost use Rattle.leak_pool.specs.Progress.{IsReady, HasScanned, InItems};
+ghost use Rattle.leak_pool.specs.Rounds.{AreCounted};
 
 use crate::gate::Gate;
 use crate::halves::half;
@@ -36,18 +37,18 @@ fn absorb(
     Ok(())
 }
 
-// The steps of the workers after a round of so many items.
+// Adds to the steps of each worker, modulo 2^64, as many as its share of so many items has.
 fn count_steps(steps: &mut Vec<u64>, items: usize, workers: u32)
     requires few { workers ≤ 64 }
     requires steps { length steps.old.items ≡ workers }
-    ensures { length steps.new.items ≡ workers }
+    ensures len { length steps.new.items ≡ workers }
+    ensures each { AreCounted items workers workers steps.old.items steps.new.items }
 {
     for k in 0..workers {
         let first = share_start(k, items, workers);
         let end = share_start(k + 1, items, workers);
-        let scanned = end.wrapping_sub(first) as u64;
         let step = steps[k as usize];
-        steps[k as usize] = step.wrapping_add(scanned);
+        steps[k as usize] = step.wrapping_add((end - first) as u64);
     }
 }
 
