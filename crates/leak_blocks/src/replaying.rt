@@ -142,7 +142,12 @@ fn placed<'a>(
 fn sorted(alloc: Global, numbers: Numbers<'_>) -> Result<Vec<usize>, AllocError>
     ensures { IfOk result (λ v. v.items ≡ values numbers.entry) }
 {
-    numbers.into_values().collect(alloc)
+    // A list that is collected may do without the room that it asks for first.
+    let mut values = Vec::with_capacity(alloc, numbers.len())?;
+    for value in numbers.into_values() {
+        values.push(value)?;
+    }
+    Ok(values)
 }
 
 /// Goes over the next line, and then over others until few of the arena's bytes are left.

@@ -65,6 +65,20 @@ pub fn leaked_groups<'a>(
     Ok(groups)
 }
 
+/// The rows, in the order of their texts.
+fn rows_of(alloc: Global, groups: &BTreeMap<&[u8], CallerRow>) -> Result<Vec<CallerRow>, AllocError>
+    ensures ordered { IsOrdered order_of_texts groups.now }
+    ensures rows { IfOk result (λ rows. rows.items ≡ values groups.now) }
+{
+    // A list that is collected may do without the room that it asks for first.
+    let given = groups.values();
+    let mut rows = Vec::with_capacity(alloc, groups.len())?;
+    for row in given {
+        rows.push(*row)?;
+    }
+    Ok(rows)
+}
+
 /// The rows, the most bytes first. Those with equal bytes stay in the order of their texts, since the sort is stable.
 pub fn ranked_rows(
     alloc: Global,
@@ -75,7 +89,7 @@ pub fn ranked_rows(
     ensures sorted { IfOk result (λ rows. IsSortedByKey (λ row. row.bytes) (λ x y. nat_cmp y x) rows.items) }
     ensures stable { IfOk result (λ rows. IsStableByKey (λ row. row.bytes) (λ x y. nat_cmp y x) (values groups.now) rows.items) }
 {
-    let mut rows: Vec<CallerRow> = groups.values().copied().collect(alloc)?;
+    let mut rows = rows_of(alloc, groups)?;
     rows.sort_by_key(|row| Reverse(row.bytes))?;
     Ok(rows)
 }

@@ -35,7 +35,12 @@ pub fn heads<W: Words, L: Lookup>(
 fn leaked(alloc: Global, set: &[bool]) -> Result<Vec<bool>, AllocError>
     ensures { IfOk result (λ leaked. leaked.items ≡ map not set.now) }
 {
-    set.iter().map(|marked| !*marked).collect(alloc)
+    // A list that is collected may do without the room that it asks for first.
+    let mut leaked = Vec::with_capacity(alloc, set.len())?;
+    for marked in set {
+        leaked.push(!*marked)?;
+    }
+    Ok(leaked)
 }
 
 /// Drops from the heads what the blocks outside the set hold.
