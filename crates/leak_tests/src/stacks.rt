@@ -70,12 +70,12 @@ fn whoever_scans_the_root_of_a_star_claims_all_of_it(rt: HostRuntime) -> Result<
         for piece in [1, 65_536] {
             let plan = Plan::new(workers, piece, 65_536)?;
             let marked = by_plan(&rt, rt.alloc(), &sample, plan, &Open)?;
-            let mut whole = 0;
-            let mut empty = 0;
+            let mut whole = 0u32;
+            let mut empty = 0u32;
             for list in marked.claims.as_slice() {
                 match list.len() {
-                    0 => empty += 1,
-                    101 => whole += 1,
+                    0 => empty = empty.wrapping_add(1),
+                    101 => whole = whole.wrapping_add(1),
                     _ => {}
                 }
             }
