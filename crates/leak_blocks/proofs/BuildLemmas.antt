@@ -85,7 +85,7 @@ among_last : (b : Block) (bs : List Block) → AllByRecursion (λ c. span_end c 
 among_last b [] h = refl
 among_last b (c ∷ bs) h = among_behind b c bs (is_not_less b.start c.start (omega (arith, h.0))) ∙ ap (λ (l : List Block). c ∷ l) (among_last b bs h.1)
 
--- the block of the next number goes behind those that are there
+-- the block of the next number goes after those that are there
 pub next_placed : (lines : List Line) (blocks : List Block) (entries now : List (ℕ × ℕ)) (before numbers : List ℕ) (number : ℕ) (found : Block) → AllByRecursion (IsOfLine lines) blocks → AreDisjoint blocks →
     ArePlaced blocks entries before → before ≡ number ∷ numbers → IsBlockAt lines number found → now ≡ insert_entry nat_cmp entries found.start number → ArePlaced blocks now numbers
 next_placed lines blocks entries now before numbers number found all d p e at i =

@@ -15,7 +15,7 @@ use Rattle.leak_blocks.proofs.DisjointLemmas.{all_ascending}
 use Rattle.leak_blocks.proofs.OrderLemmas.{less_of, not_less_of}
 use Rattle.leak_blocks.proofs.GrowthLemmas.{live_from}
 
--- the line behind the first ones
+-- the line after the first ones
 line_behind : (q : List Line) (x : Line) (xs : List Line) → slice_get (q ++ x ∷ xs) (length q) ≡ Some x
 line_behind [] x xs = refl
 line_behind (y ∷ q) x xs = line_behind q x xs

@@ -12,7 +12,7 @@ abbrev pub AreDisjoint : List Block → Type 0
 AreDisjoint [] = ⊤
 AreDisjoint (b ∷ blocks) = AllByRecursion (λ c. span_end b ≤ c.start) blocks × AreDisjoint blocks
 
--- the block begins above address 0, and the address behind its last byte fits 64 bits
+-- the block begins above address 0, and the address after its last byte fits 64 bits
 pub record IsAddressed (b : Block) : Type 0 where
   pub above : 0 < b.start
   pub fits : b.start + b.size < 2 ^ 64

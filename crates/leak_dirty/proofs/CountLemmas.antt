@@ -22,7 +22,7 @@ few_words f from (suc count) = go (f from) (few_words f (from + 1) count)
     go None h = omega arith
     go (Some w) h = omega arith
 
--- words that stand one behind another, and the others
+-- words that stand one after another, and the others
 pub count_more : (f : ℕ → Option ℕ) → IsAligned f → (n from count : ℕ) → ((k : ℕ) → k < n → IsSome (f (from + 8 * k))) → 8 * n ≤ count + 7 →
     length (words_from f from count) ≡ n + length (words_from f (from + 8 * n) (count - 8 * n))
 count_more f aligned zero from count some few = ap length (same_range f from (from + 8 * 0) count (count - 8 * 0) (omega arith) (omega arith)) ∙ omega arith

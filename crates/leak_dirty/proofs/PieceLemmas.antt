@@ -46,7 +46,7 @@ filter_more p from n page found pages longer t place so_far is e =
     joined true = refl
     joined false = sym (append-nil pages)
 
--- the pages that pass of two stretches, one behind the other
+-- the pages that pass of two stretches, one after the other
 pub filter_join : (p : ℕ → Bool) (from page next : ℕ) (pages longer : List ℕ) → from ≤ page → page ≤ next → pages ≡ filter p (range_with_len from (page - from)) →
     longer ≡ pages ++ filter p (range_with_len page (next - page)) → longer ≡ filter p (range_with_len from (next - from))
 filter_join p from page next pages longer low high so_far e =
@@ -121,7 +121,7 @@ cover_bounds word_at page (r ∷ rs) c (suc k) d h = cover_bounds word_at r.1 rs
 abbrev pub oks : List (Vec ℕ Global) → List (Result (Vec ℕ Global) AllocError)
 oks lists = map Ok lists
 
--- the lists that the pieces gave, one behind the other
+-- the lists that the pieces gave, one after the other
 found_joined : (p : ℕ → Bool) (pieces : List (Bor (ℕ × ℕ))) (lists : List (Vec ℕ Global)) →
     AllZip (λ r x. IfOk x (λ v. v.items ≡ filter p (range_with_len r.now.0 (r.now.1 - r.now.0)))) pieces (oks lists) →
     flat_map (λ v. v.items) lists ≡ passing p (map (λ (r : Bor (ℕ × ℕ)). r.now) pieces)

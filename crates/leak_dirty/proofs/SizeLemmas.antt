@@ -25,7 +25,7 @@ rises low (x ∷ y ∷ xs) up h = (h 0 (omega arith), rises (x + 1) (y ∷ xs) (
 abbrev pub size_at : List Block → ℕ → ℕ
 size_at blocks k = option_map_or (λ b. b.size) (slice_get blocks k) 0
 
--- numbers above the first, in the list behind it
+-- numbers above the first, in the list after it
 shifted : (b : Block) (blocks : List Block) (n m : ℕ) (xs : List ℕ) → n + 1 ≤ m → Rises m xs → sum_by (λ i. size_at (b ∷ blocks) (i - n)) xs ≡ sum_by (λ i. size_at blocks (i - (n + 1))) xs
 shifted b blocks n m [] h r = refl
 shifted b blocks n m (x ∷ xs) h r =

@@ -119,7 +119,7 @@ fn pieces_of(alloc: Global, core: &Image) -> Result<Vec<(u64, u64)>, AllocError>
     Ok(pieces)
 }
 
-/// The lists one behind the other.
+/// The lists one after the other.
 fn joined(alloc: Global, lists: &[Vec<u64>]) -> Result<Vec<u64>, AllocError>
     ensures { IfOk result (λ v. v.items ≡ flat_map (λ l. l.items) lists.now) }
 {

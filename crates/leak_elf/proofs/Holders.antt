@@ -50,7 +50,7 @@ holder_set segs hs i j holder l e here done k d le lk =
       | inr u ↦ let same : k ≡ i = omega arith in rw (same, get_or-set_same hs i holder d l) here
     ]
 
--- behind the last segment there is none
+-- after the last segment there is none
 pub holder_end : (segs : List Segment) (n : ℕ) → n ≡ length segs → IsHolder segs n n
 holder_end segs n e = record {
   from_on = omega arith;

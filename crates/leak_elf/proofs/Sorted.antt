@@ -91,7 +91,7 @@ same (a ∷ as') (b ∷ bs) u v h =
       ]
     ]
 
--- a segment comes behind those that begin where it does
+-- a segment comes after those that begin where it does
 first_ties : (x s t : Segment) (ts : List Segment) (b : Bool) → IsAscending (t ∷ ts) → s.vaddr < t.vaddr → tie x s ≡ b → filter (tie x) (s ∷ t ∷ ts) ≡ filter (tie x) (t ∷ ts) ++ filter (tie x) (s ∷ [])
 first_ties x s t ts true up l e =
     let same_place = tie_equal x s e in

@@ -41,7 +41,7 @@ extent_faults file i h =
 abbrev pub overlaps : List Header → Header → Bool
 overlaps earlier h = is_load h && list_any (λ g. is_load g && share_address g h) earlier
 
--- the faults of the program header with the number, behind the earlier ones, in order
+-- the faults of the program header with the number, after the earlier ones, in order
 abbrev pub header_faults : List ℕ → List Header → ℕ → Header → List (Bool × ElfError)
 header_faults file earlier i h = extent_faults file i h ++ (overlaps earlier h, Overlap i) ∷ []
 

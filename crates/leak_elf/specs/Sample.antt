@@ -10,7 +10,7 @@ zeros n = replicate n 0
 abbrev pub patched : List ℕ → ℕ → List ℕ → List ℕ
 patched file offset bytes = take offset file ++ bytes ++ drop (offset + length bytes) file
 
--- the file header of a core with so many program headers, which stand behind it
+-- the file header of a core with so many program headers, which stand after it
 unfoldable pub file_header : ℕ → List ℕ
 file_header phnum =
     (0x7f ∷ 0x45 ∷ 0x4c ∷ 0x46 ∷ 2 ∷ 1 ∷ 1 ∷ []) ++ zeros 9
@@ -22,7 +22,7 @@ program_header kind flags offset vaddr filesz memsz align =
     to_le_bytes w32 kind ++ to_le_bytes w32 flags ++ to_le_bytes w64 offset ++ to_le_bytes w64 vaddr
     ++ to_le_bytes w64 0 ++ to_le_bytes w64 filesz ++ to_le_bytes w64 memsz ++ to_le_bytes w64 align
 
--- a thread status of zeros, behind the sizes and the name of its entry
+-- a thread status of zeros, after the sizes and the name of its entry
 unfoldable pub note_entry : List ℕ
 note_entry = to_le_bytes w32 5 ++ to_le_bytes w32 336 ++ to_le_bytes w32 1 ++ (0x43 ∷ 0x4f ∷ 0x52 ∷ 0x45 ∷ []) ++ zeros 4 ++ zeros 336
 

@@ -40,7 +40,7 @@ pub still_long : (room : ℕ) (new piece : List ℕ) → length new ≡ length (
 still_long room new piece is_new =
     rw (length-append new (drop room piece), length-drop room piece, is_new, length-take room piece) (omega arith)
 
--- bytes at the front of the piece, and of the piece with what stands behind it
+-- bytes at the front of the piece, and of the piece with what stands after it
 pub in_front : (count : ℕ) (piece rest : List ℕ) → count ≤ length piece → count ≤ length (piece ++ rest)
 in_front count piece rest within = rw (length-append piece rest) (omega (arith, within))
 

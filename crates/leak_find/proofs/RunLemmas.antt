@@ -52,7 +52,7 @@ is_stopped before after i limit e left right is_left is_right stopped =
 
 -- ---- inputs read one after the other
 
--- these inputs were read, and the readers behind theirs are as they were
+-- these inputs were read, and the readers after theirs are as they were
 pub record SoFar (o : Options) (before after : List (Option (List ℕ))) (inputs : List (List ℕ)) : Type 0 where
   pub read : AreInputs o before after inputs
   pub later : (i : ℕ) → length inputs ≤ i → left_in after i ≡ left_in before i

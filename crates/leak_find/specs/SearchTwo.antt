@@ -87,7 +87,7 @@ pub record FindsLater (core log : List ℕ) (reading : Option (List ℕ)) (lines
   pub lists : length (claims_of found) ≡ workers
   pub claims : Partitions (claims_of found) (λ i. Reach (graph_of_later core reading kept fresh lines) i × ¬ Has kept i × ¬ Has fresh i)
 
--- Cores and logs are free of faults, the whole lines of the first log begin the second, and the blocks of each are few
+-- Cores and logs are free of faults, the complete lines of the first log begin the second, and the blocks of each are few
 -- enough to be numbered. The search of the later core begins with what chains of the earlier core reach and with what
 -- was allocated since. The pages that differ are told by a number of the report alone.
 pub record FindsTwo (core1 log1 core2 log2 : List ℕ) (reading : Option (List ℕ)) (workers : ℕ) (found : Found) : Type 0 where

@@ -23,13 +23,13 @@ pub enum FindError {
     /// The log is refused.
     #[error("input {0}: log: {1}")]
     Log(u8, LogError),
-    /// The whole lines of log 1 do not begin log 2.
+    /// The complete lines of log 1 do not begin log 2.
     #[error("log 1 is not a prefix of log 2")]
     NotPrefix,
     /// There are over 2^32 - 1 live blocks.
     #[error("too many blocks")]
     TooMany,
-    /// A growth of memory was refused.
+    /// An allocation failed.
     #[error("out of memory")]
     NoMemory,
 }

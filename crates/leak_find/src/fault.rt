@@ -20,7 +20,7 @@ pub enum ReadFault {
     /// Reads were interrupted 1,000,000 times.
     #[error("too many interrupted reads")]
     TooManyTurns,
-    /// A growth of memory was refused.
+    /// An allocation failed.
     #[error("out of memory")]
     NoMemory,
 }

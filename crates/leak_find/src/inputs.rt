@@ -18,7 +18,7 @@ pub(crate) struct Input<'a> {
     pub live: Live,
     /// How many of the log's lines are torn.
     pub torn: u64,
-    /// How many bytes of the log its whole lines take.
+    /// How many bytes of the log its complete lines take.
     pub whole_len: usize,
 }
 

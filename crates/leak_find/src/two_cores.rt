@@ -32,7 +32,7 @@ struct Inputs<'a, 'b> {
     second: Input<'b>,
 }
 
-/// Whether the log's whole lines, which take so many of its bytes, begin the later log.
+/// Whether the log's complete lines, which take so many of its bytes, begin the later log.
 fn is_continued(log: &[u8], whole_len: usize, later: &[u8]) -> bool
     requires { whole_len ≡ whole_len_of log.now }
     ensures { result ≡ is_continued_by log.now later.now }
@@ -41,7 +41,7 @@ fn is_continued(log: &[u8], whole_len: usize, later: &[u8]) -> bool
 }
 
 /// Reads two inputs, or gives their first fault: those of the first, then those of the second, then that the first
-/// log's whole lines don't begin the second log, then that there are too many blocks.
+/// log's complete lines don't begin the second log, then that there are too many blocks.
 fn read_two<'a, 'b>(
     alloc: Global,
     core1: &'a [u8],

@@ -60,7 +60,7 @@ narrowed bs pages firsts w m high apart directory inside here bound behind = rec
     before : (k : ℕ) (d : Block) → k < slice_index_or firsts m 0 → (slice_index_or bs k d).start < w
     before k d h = below (slice_index_or bs k d).start w (omega (arith, first.earlier k d h, here))
 
--- the blocks of a page above begin behind
+-- the blocks of a page above begin after
 pub behind_page : (bs : List Block) (pages firsts : List ℕ) (w m : ℕ) → AreDisjoint bs → IsDirectory bs pages firsts → m < length pages → w / 4096 < slice_index_or pages m 0 →
     (k : ℕ) (d : Block) → slice_index_or firsts m 0 ≤ k → k < length bs → w < (slice_index_or bs k d).start
 behind_page bs pages firsts w m apart directory inside above k d h l =

@@ -33,7 +33,7 @@ behind_end r w b h = ap (λ t. t && allows r (w - b.start)) (and_false (nat_le b
 skipped : (n : ℕ) (r : Option (List ℕ)) (b : Block) (bs : List Block) (w : ℕ) → leads r w b ≡ false → hits_from n r (b ∷ bs) w ≡ hits_from (n + 1) r bs w
 skipped n r b bs w h = ap (λ t. if t then n ∷ hits_from (n + 1) r bs w else hits_from (n + 1) r bs w) h
 
--- none of a list, where each begins behind the word
+-- none of a list, where each begins after the word
 pub none_below : (n : ℕ) (r : Option (List ℕ)) (bs : List Block) (w : ℕ) → AllByRecursion (λ b. w < b.start) bs → hits_from n r bs w ≡ []
 none_below n r [] w h = refl
 none_below n r (b ∷ bs) w h = skipped n r b bs w (before_start r w b h.0) ∙ none_below (n + 1) r bs w h.1
@@ -43,7 +43,7 @@ pub none_above : (n : ℕ) (r : Option (List ℕ)) (bs : List Block) (w : ℕ) �
 none_above n r [] w h = refl
 none_above n r (b ∷ bs) w h = skipped n r b bs w (behind_end r w b h.0) ∙ none_above (n + 1) r bs w h.1
 
--- each of a list that begins at `low` or behind it begins behind a word below
+-- each of a list that begins at `low` or after it begins after a word below
 pub all_behind : (low w : ℕ) (bs : List Block) → w < low → AllByRecursion (λ b. low ≤ b.start) bs → AllByRecursion (λ b. w < b.start) bs
 all_behind low w [] h above = tt
 all_behind low w (b ∷ bs) h above = (omega (arith, above.0), all_behind low w bs h above.1)
@@ -55,7 +55,7 @@ all_before high w (b ∷ bs) h below = (omega (arith, below.0), all_before high 
 
 -- ---- by number
 
--- where the others begin behind the word, by number
+-- where the others begin after the word, by number
 by_number : (w : ℕ) (bs : List Block) → ((k : ℕ) (d : Block) → k < length bs → w < (slice_index_or bs k d).start) → AllByRecursion (λ b. w < b.start) bs
 by_number w [] h = tt
 by_number w (b ∷ bs) h = (h 0 b (omega arith), by_number w bs (λ k d l. h (suc k) d (omega (arith, l))))

@@ -21,7 +21,7 @@ pub ranked_inside : (bs : List Block) (numbers places : List ℕ) (rows : List R
 ranked_inside bs numbers places rows w e i d ranked aligned h low high is =
     up_to bs w (1024 * number_at numbers places e i + 16 * (w / 16 % 64 + 1)) _ aligned (omega (arith, is)) ((ranked.each e i d h low high).counts (w / 16 % 64 + 1) (omega arith))
 
--- the address is behind the run, and before the next
+-- the address is after the run, and before the next
 pub ranked_behind : (bs : List Block) (numbers places : List ℕ) (rows : List Row) (w e : ℕ) (d : Row) → AreRanked bs (length bs) numbers places rows → e < length numbers →
     number_at numbers places e (end_of places (length rows) e) ≤ w / 1024 → (e + 1 < length numbers → w / 1024 < slice_index_or numbers (e + 1) 0) →
     IsCountUpTo bs w ((slice_index_or rows (end_of places (length rows) e - 1) d).first + count_ones ((slice_index_or rows (end_of places (length rows) e - 1) d).bits % 2 ^ 64))

@@ -46,7 +46,7 @@ row_before bs n number row h old = record {
   counts = λ g l. extended bs n (1024 * number + 16 * g) (row.first + count_ones (row.bits % 2 ^ g)) (omega (arith, h, l)) (old.counts g l);
 }
 
--- of a block that starts in the row, behind the others
+-- of a block that starts in the row, after the others
 pub is_free : (bs : List Block) (n number g : ℕ) (row : Row) → AreDisjoint bs → n < length bs → start_of bs n ≡ 1024 * number + 16 * g → g < 64 → row.bits < 2 ^ 64 → IsRow bs n number row →
     (row.bits < 2 ^ g) × (n ≤ row.first + count_ones (row.bits % 2 ^ g))
 is_free bs n number g row apart h is l fits old = (all_low row.bits g (omega (arith, whole, all, (old.counts 64 (omega arith)).bound)), all)

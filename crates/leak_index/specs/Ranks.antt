@@ -21,7 +21,7 @@ row_of blocks k = start_of blocks k / 1024
 pub record AreAligned (blocks : List Block) : Type 0 where
   pub each : (k : ℕ) → k < length blocks → start_of blocks k % 16 ≡ 0
 
--- of the first n blocks, so many begin below the address, and the others at it or behind it
+-- of the first n blocks, so many begin below the address, and the others at it or after it
 pub record IsCountBelow (blocks : List Block) (n address count : ℕ) : Type 0 where
   pub bound : count ≤ n
   pub below : (k : ℕ) → k < count → start_of blocks k < address
@@ -46,7 +46,7 @@ pub record AreRuns (numbers places : List ℕ) (total : ℕ) : Type 0 where
 abbrev pub number_at : List ℕ → List ℕ → ℕ → ℕ → ℕ
 number_at numbers places e i = slice_index_or numbers e 0 + (i - slice_index_or places e 0)
 
--- the rows of the first n blocks: each row counts, and no block starts before, between or behind the runs
+-- the rows of the first n blocks: each row counts, and no block starts before, between or after the runs
 pub record AreRanked (blocks : List Block) (n : ℕ) (numbers places : List ℕ) (rows : List Row) : Type 0 where
   pub runs : AreRuns numbers places (length rows)
   pub each : (e i : ℕ) (d : Row) → e < length numbers → slice_index_or places e 0 ≤ i → i < end_of places (length rows) e → IsRow blocks n (number_at numbers places e i) (slice_index_or rows i d)

@@ -1,4 +1,4 @@
--- Worked words: four blocks, two of which another begins right behind, in two readings.
+-- Worked words: four blocks, two of which another begins right after, in two readings.
 use Rattle.std.specs.Prelude.{◌≡◌, ℕ, List, [], ◌∷◌, Option, Some, None}
 use Rattle.leak_blocks.specs.declared.block.Block.{Block}
 use Rattle.leak_index.specs.Hits.{hits_of}

@@ -104,7 +104,7 @@ impl Directory {
             return 0;
         }
         let run = self.runs[runs - 1];
-        let behind = if runs == self.runs.len() {
+        let end = if runs == self.runs.len() {
             self.pages.len()
         } else {
             self.runs[runs].entry
@@ -112,7 +112,7 @@ impl Directory {
         let distance = page.saturating_sub(run.page) as usize;
         run.entry
             .saturating_add(distance)
-            .min(behind.saturating_sub(1))
+            .min(end.saturating_sub(1))
     }
 }
 

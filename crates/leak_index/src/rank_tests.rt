@@ -17,23 +17,23 @@ fn add(log: &mut String, start: u64, distance: u64, many: u64) -> Result<(), All
 }
 
 /// The log of blocks in five ranges: small ones side by side, some rows apart, far apart, over whole rows, and of
-/// which each ends where the next begins. They start so many bytes behind a multiple of 16.
-fn ranges(alloc: Global, behind: u64) -> Result<String, AllocError> {
+/// which each ends where the next begins. They start so many bytes past a multiple of 16.
+fn ranges(alloc: Global, offset: u64) -> Result<String, AllocError> {
     let mut log = String::new(alloc);
-    add(&mut log, 0x10000u64.wrapping_add(behind), 32, 200)?;
-    add(&mut log, 0x20_0000u64.wrapping_add(behind), 0x1a40, 40)?;
+    add(&mut log, 0x10000u64.wrapping_add(offset), 32, 200)?;
+    add(&mut log, 0x20_0000u64.wrapping_add(offset), 0x1a40, 40)?;
     add(
         &mut log,
-        0x7f00_0000_0000u64.wrapping_add(behind),
+        0x7f00_0000_0000u64.wrapping_add(offset),
         0x40_0010,
         20,
     )?;
     for i in 0..40u64 {
-        let start = behind.wrapping_add(0x7f80_0000_0000 + 0x1230 * i);
+        let start = offset.wrapping_add(0x7f80_0000_0000 + 0x1230 * i);
         writeln!(log, "+ 0x{start:x} 0x1220")?;
     }
     for i in 0..100u64 {
-        let start = behind.wrapping_add(0x7fc0_0000_03f0 + 0x10 * i);
+        let start = offset.wrapping_add(0x7fc0_0000_03f0 + 0x10 * i);
         writeln!(log, "+ 0x{start:x} 0x10")?;
     }
     Ok(log)
@@ -63,8 +63,8 @@ fn check_word(rt: &impl Abort, live: &Live, sorted: &Sorted, paged: &Paged, word
 #[test]
 fn lookups_agree_around_starts_and_ends(rt: HostRuntime) -> Result<(), Fail> {
     let alloc = rt.alloc();
-    for behind in [0, 8, 1] {
-        let live = lives(alloc, ranges(alloc, behind)?.as_str())?;
+    for offset in [0, 8, 1] {
+        let live = lives(alloc, ranges(alloc, offset)?.as_str())?;
         assert_eq!(rt; live.blocks().len(), 400);
         let sorted = Sorted::new(&live, Reading::interior());
         let paged = Paged::new(alloc, &live, Reading::interior())?;

@@ -52,7 +52,7 @@ impl Reading {
         })
     }
 
-    /// Whether a word that far behind a block's start leads to the block.
+    /// Whether a word that far past a block's start leads to the block.
     pub(crate) fn allows(&self, distance: u64) -> bool
         ensures { result ≡ allows (listed_by self.now) distance }
     {

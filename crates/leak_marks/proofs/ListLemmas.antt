@@ -166,7 +166,7 @@ distinct_front xs ys d x = let p = times-append x xs ys in let a = d x in omega 
 pub distinct_back : (xs ys : List ℕ) → IsDistinct (xs ++ ys) → IsDistinct ys
 distinct_back xs ys d x = let p = times-append x xs ys in let a = d x in omega arith
 
--- what stands in the front of such a list does not stand behind it
+-- what stands in the front of such a list does not stand after it
 pub distinct_apart : (xs ys : List ℕ) → IsDistinct (xs ++ ys) → (x : ℕ) → Has xs x → ¬ Has ys x
 distinct_apart xs ys d x h k = let p = times-append x xs ys in let a = d x in omega arith
 

@@ -87,7 +87,7 @@ looks_at_named blocks slots id b b' word m is share inside e = subst
     is
     (looks_at blocks slots id b word m share inside e)
 
--- what the receiver has after a join and the load behind it
+-- what the receiver has after a join and the load after it
 pub record Joined (v w : View) (m' : Sat) : Type 0 where
   pub share : v.share + w.share ≡ m'.0.share
   pub most : v.share + w.share ≤ 4294967296

@@ -24,7 +24,7 @@ pub length_appended : (k : ℕ) (lists gained : List (List ℕ)) → length (app
 length_appended k lists [] = refl
 length_appended k lists (g ∷ gs) = length_appended (k + 1) (set lists k (get_or lists k [] ++ g)) gs ∙ length-set lists k (get_or lists k [] ++ g)
 
--- ---- runs, one behind the other
+-- ---- runs, one after the other
 
 after-append : (lists : List (List ℕ)) (r q : List Attempt) → after lists (r ++ q) ≡ after (after lists r) q
 after-append lists [] q = refl
@@ -121,7 +121,7 @@ pub record IsBlock (g : Graph) (workers : ℕ) (e : List ℕ) (lists later : Lis
   pub lawful : IsLawfulAfter g e run
   pub gives : after lists run ≡ later
 
--- a run of a block behind the run of a list
+-- a run of a block after the run of a list
 block_behind : (g : Graph) (workers : ℕ) (e : List ℕ) (lists one later : List (List ℕ)) (r q : List Attempt) → AllByRecursion (λ a. a.worker < workers) r → IsLawfulAfter g e r
     → after lists r ≡ one → IsBlock g workers (onto (targets_in r) e) one later q → IsBlock g workers e lists later (r ++ q)
 block_behind g workers e lists one later r q within lawful gives block = record {

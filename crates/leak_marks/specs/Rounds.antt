@@ -28,7 +28,7 @@ pub record IsKeptInRounds (item : ℕ → Type 0) (before after : List ℕ) (gai
   pub fresh : (b : ℕ) → Has gained b → Has before b → ⊥
   pub gains : (b : ℕ) → Has gained b → item b
 
--- the gained lists behind those from the worker k on
+-- the gained lists after those from the worker k on
 abbrev pub appended_from : ℕ → List (List ℕ) → List (List ℕ) → List (List ℕ)
 appended_from k lists [] = lists
 appended_from k lists (g ∷ gained) = appended_from (k + 1) (slice_set lists k (slice_index_or lists k [] ++ g)) gained

@@ -115,7 +115,7 @@ impl Marks {
         })
     }
 
-    /// Puts the claims, what was seen and the share of another seat behind those of this one.
+    /// Puts the claims, what was seen and the share of another seat after those of this one.
     pub fn join(&self, seat: &mut MarkSeat, other: MarkSeat)
         requires table { seat.old.table ≡ self.now.table }
         requires other { other.table ≡ self.now.table }

@@ -1,4 +1,4 @@
-//! A thread's leave to claim marks.
+//! A thread's permission to claim marks.
 use crate::view::View;
 use atomic_table::Seat;
 use std::marker::Model;

@@ -40,7 +40,7 @@ two_and_rest [] a b h x y = absurd (omega arith)
 two_and_rest (p ∷ []) a b h x y = absurd (omega arith)
 two_and_rest (p ∷ q ∷ text) a b h x y = ap (λ t. t ∷ q ∷ text) x ∙ ap (λ t. a ∷ t ∷ text) y ∙ ap (λ t. a ∷ b ∷ t) (sym (take_rest (p ∷ q ∷ text) 2))
 
--- a sign, a space and what is no body behind the sign
+-- a sign, a space and what is no body after the sign
 pub no_body : (text : List ℕ) (k : Kind) → get_or text 0 0 ≡ sign_of k → ((p : ℕ × ℕ) → IsBody k (take (length text - 2) (drop 2 text)) p.0 p.1 → ⊥) → (k' : Kind) (m n : ℕ) → IsCall k' text m n → ⊥
 no_body text k first none k' m n c =
     let b : (rest : List ℕ) × (text ≡ sign_of k' ∷ 32 ∷ rest) × IsBody k' rest m n = call_body k' text m n c in

@@ -54,7 +54,7 @@ one_size text m n (inl h) (inr k) = absurd (no_cons (tail (sym h.0 ∙ k.1)))
 one_size text m n (inr h) (inl k) = absurd (no_cons (tail (sym k.0 ∙ h.1)))
 one_size text m n (inr h) (inr k) = one_hex text m n h k
 
--- ---- calls, behind the sign
+-- ---- calls, after the sign
 
 -- an address, a space and a size
 sized_one : (a s a' s' : List ℕ) (m n m' n' : ℕ) → IsAddress a m → IsSize s n → IsAddress a' m' → IsSize s' n' → a ++ 32 ∷ s ≡ a' ++ 32 ∷ s' → (m ≡ m') × (n ≡ n')
@@ -109,7 +109,7 @@ pub one_kind : (k k' : Kind) (text : List ℕ) (m n m' n' : ℕ) → IsCall k te
 one_kind k k' text m n m' n' c d =
     sym (kind_of_sign k) ∙ ap kind_of (some_same (sign_of k) (sign_of k') (sym (first_byte k text m n c) ∙ first_byte k' text m' n' d)) ∙ kind_of_sign k'
 
--- no call begins behind a space of a call
+-- no call begins after a space of a call
 pub begins_no_sign : (k : Kind) (r : List ℕ) (m n : ℕ) → IsCall k r m n → Begins r → ⊥
 begins_no_sign k r m n c b = go k (first_byte k r m n c) c b
   where

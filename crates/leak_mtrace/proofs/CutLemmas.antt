@@ -1,4 +1,4 @@
--- The bytes of a log are its whole lines, each with its line feed, and the torn piece.
+-- The bytes of a log are its complete lines, each with its line feed, and the torn piece.
 use Rattle.std.proofs.Common.{◌≡◌, ℕ, ◌+◌, ◌-◌, ◌<◌, ◌≤◌, false, not, ◌==◌, refl, sym, ap, ◌∙◌, List, [], ◌∷◌, ◌++◌, arith, length, get_or, take, drop, append_assoc, append-nil, length-append, eq-eqb, ne_eqb, ⊎_elim}
 use Rattle.std.proofs.lemmas.Bool.{cases_eq}
 use Rattle.std.proofs.lemmas.List.{take_at, drop_at, get_or_at, get_or-append_right}
@@ -43,7 +43,7 @@ pub cut_of : (bytes : List ℕ) → Cut bytes
 cut_of [] = record { texts = []; torn = []; whole = refl; plain = tt; rest = All-nil (λ b. (b == 10) ≡ false) }
 cut_of (b ∷ bytes) = ⊎_elim (λ e. cut_at_feed b bytes e (cut_of bytes)) (λ n. cut_in_line b bytes (ne_eqb b 10 n) (cut_of bytes)) (cases_eq b 10)
 
--- ---- the whole lines
+-- ---- the complete lines
 
 pub lines_of_joined : (texts : List (List ℕ)) (rest : List ℕ) → AllByRecursion HasNoFeed texts → whole_lines (joined texts ++ rest) ≡ texts ++ whole_lines rest
 lines_of_joined [] rest p = refl
@@ -81,6 +81,6 @@ len_of_cut bytes c =
     ∙ ap (λ t. length (drop front t)) c.whole ∙ ap length (drop_at (joined c.texts) c.torn front refl) in
     omega arith
 
--- the whole lines, as bytes
+-- the complete lines, as bytes
 pub bytes_of_cut : (bytes : List ℕ) (c : Cut bytes) → take (whole_len_of bytes) bytes ≡ joined c.texts
 bytes_of_cut bytes c = ap (take (whole_len_of bytes)) c.whole ∙ take_at (joined c.texts) c.torn (whole_len_of bytes) (sym (len_of_cut bytes c))

@@ -1,4 +1,4 @@
--- A line behind its first two bytes.
+-- A line after its first two bytes.
 use Rattle.std.proofs.Common.{◌≡◌, ◌≢◌, ℕ, ◌+◌, ◌<◌, ◌≤◌, ◌⊎◌, inl, inr, refl, sym, subst, ap, ◌∙◌, ◌==◌, Bool, true, false, true≢false, eqb-true, List, [], ◌∷◌, ◌++◌, Option, Some, None, arith, length, get_or, take, drop, append_assoc, length-append}
 use Rattle.std.proofs.lemmas.List.{drop_at, take-append-drop}
 use Rattle.std.specs.Cmp.Lexicographic.{pointwise}
@@ -6,30 +6,30 @@ use Rattle.leak_mtrace.specs.declared.line.Kind.{Kind}
 use Rattle.leak_mtrace.specs.declared.line.Kind.TheVariants.{Alloc, Free, MoveOut, MoveIn, Failed, Remark}
 use Rattle.leak_mtrace.specs.declared.line.Line.{Line}
 use Rattle.leak_mtrace.specs.declared.call.Call.{Call}
-use Rattle.leak_mtrace.specs.Line.{IsPlace, IsRemark, IsPlain, IsPlaced, IsBehind, IsCall, IsLine, sign_of}
+use Rattle.leak_mtrace.specs.Line.{IsPlace, IsRemark, IsPlain, IsPlaced, IsAfterPlace, IsCall, IsLine, sign_of}
 use Rattle.leak_mtrace.specs.Decided.{Decides}
 use Rattle.leak_mtrace.specs.Place.{IsPlaceEnd}
 use Rattle.leak_mtrace.proofs.SplitLemmas.{tail, some_same, and_left}
 use Rattle.leak_mtrace.proofs.PlaceLemmas.{place_end_is}
 use Rattle.leak_mtrace.proofs.BodyLemmas.{call_front, call_not_remark}
 
-pub behind_placed : (text rest : List ℕ) (x : Line) → text ≡ 64 ∷ 32 ∷ rest → IsBehind rest x → IsPlaced text x
+pub behind_placed : (text rest : List ℕ) (x : Line) → text ≡ 64 ∷ 32 ∷ rest → IsAfterPlace rest x → IsPlaced text x
 behind_placed text rest x e h = (h.0, h.1, e ∙ ap (λ t. 64 ∷ 32 ∷ t) (h.2 ∙ sym (append_assoc h.0 (32 ∷ []) h.1)), h.3, h.4, h.5)
 
-pub placed_behind : (text rest : List ℕ) (x : Line) → text ≡ 64 ∷ 32 ∷ rest → IsPlaced text x → IsBehind rest x
+pub placed_behind : (text rest : List ℕ) (x : Line) → text ≡ 64 ∷ 32 ∷ rest → IsPlaced text x → IsAfterPlace rest x
 placed_behind text rest x e h = (h.0, h.1, tail (tail (sym e ∙ h.2)) ∙ append_assoc h.0 (32 ∷ []) h.1, h.3, h.4, h.5)
 
 -- ---- what stands around the end that was found
 
 -- no end was found
-pub behind_no_end : (text : List ℕ) → IsPlaceEnd text None → (x : Line) → IsBehind text x → ⊥
+pub behind_no_end : (text : List ℕ) → IsPlaceEnd text None → (x : Line) → IsAfterPlace text x → ⊥
 behind_no_end text f x h = let e : None ≡ Some (length h.0) = place_end_is text h.0 h.1 None x.kind x.addr x.size f h.2 h.3 h.4 in cc
 
-pub behind_end : (text : List ℕ) (end : ℕ) (x : Line) → IsPlaceEnd text (Some end) → (h : IsBehind text x) → end ≡ length h.0
+pub behind_end : (text : List ℕ) (end : ℕ) (x : Line) → IsPlaceEnd text (Some end) → (h : IsAfterPlace text x) → end ≡ length h.0
 behind_end text end x f h = some_same _ _ (place_end_is text h.0 h.1 (Some end) x.kind x.addr x.size f h.2 h.3 h.4)
 
 -- it is the beginning
-pub behind_end_zero : (text : List ℕ) → IsPlaceEnd text (Some 0) → (x : Line) → IsBehind text x → ⊥
+pub behind_end_zero : (text : List ℕ) → IsPlaceEnd text (Some 0) → (x : Line) → IsAfterPlace text x → ⊥
 behind_end_zero text f x h = go h.0 (behind_end text 0 x f h) h.3
   where
     go : (place : List ℕ) → 0 ≡ length place → IsPlace place → ⊥
@@ -37,18 +37,18 @@ behind_end_zero text f x h = go h.0 (behind_end text 0 x f h) h.3
     go (b ∷ place) e p = absurd (omega arith)
 
 -- what stands there
-pub behind_cut : (text back : List ℕ) (end : ℕ) (x : Line) → back ≡ drop end text → IsPlaceEnd text (Some end) → (h : IsBehind text x) → back ≡ 32 ∷ h.1
+pub behind_cut : (text back : List ℕ) (end : ℕ) (x : Line) → back ≡ drop end text → IsPlaceEnd text (Some end) → (h : IsAfterPlace text x) → back ≡ 32 ∷ h.1
 behind_cut text back end x e f h = e ∙ ap (drop end) h.2 ∙ drop_at h.0 (32 ∷ h.1) end (sym (behind_end text end x f h))
 
 abbrev begins : List ℕ → List ℕ → Bool
 begins text front = pointwise ◌==◌ (take (length front) text) front
 
 -- no space stands there
-pub behind_no_space : (text back space : List ℕ) (end : ℕ) → back ≡ drop end text → space ≡ 32 ∷ [] → IsPlaceEnd text (Some end) → begins back space ≡ false → (x : Line) → IsBehind text x → ⊥
+pub behind_no_space : (text back space : List ℕ) (end : ℕ) → back ≡ drop end text → space ≡ 32 ∷ [] → IsPlaceEnd text (Some end) → begins back space ≡ false → (x : Line) → IsAfterPlace text x → ⊥
 behind_no_space text back space end e s f never x h = true≢false (sym (ap (begins back) s ∙ ap (λ t. begins t (32 ∷ [])) (behind_cut text back end x e f h)) ∙ never)
 
--- no call stands behind the space
-pub behind_no_call : (text back space rest : List ℕ) (end : ℕ) → back ≡ drop end text → space ≡ 32 ∷ [] → rest ≡ drop (length space) back → IsPlaceEnd text (Some end) → ((y : Call) → IsCall y.kind rest y.addr y.size → ⊥) → (x : Line) → IsBehind text x → ⊥
+-- no call stands after the space
+pub behind_no_call : (text back space rest : List ℕ) (end : ℕ) → back ≡ drop end text → space ≡ 32 ∷ [] → rest ≡ drop (length space) back → IsPlaceEnd text (Some end) → ((y : Call) → IsCall y.kind rest y.addr y.size → ⊥) → (x : Line) → IsAfterPlace text x → ⊥
 behind_no_call text back space rest end e s r f never x h =
     never (record { kind = x.kind; addr = x.addr; size = x.size }) (subst (λ (t : List ℕ). IsCall x.kind t x.addr x.size) (sym (r ∙ ap (λ t. drop (length t) back) s ∙ ap (drop 1) (behind_cut text back end x e f h))) h.4)
 
@@ -56,7 +56,7 @@ space_and_rest : (text : List ℕ) → begins text (32 ∷ []) ≡ true → text
 space_and_rest [] h = absurd (true≢false (sym h))
 space_and_rest (b ∷ text) h = ap (λ t. t ∷ text) (eqb-true b 32 (and_left (b == 32) true h))
 
--- the place, the space and what stands behind it
+-- the place, the space and what stands after it
 pub behind_whole : (text back space rest : List ℕ) (end : ℕ) → back ≡ drop end text → space ≡ 32 ∷ [] → rest ≡ drop (length space) back → begins back space ≡ true → text ≡ take end text ++ 32 ∷ rest
 behind_whole text back space rest end e s r h =
     sym (take-append-drop end text) ∙ ap (λ t. take end text ++ t) (sym e ∙ space_and_rest back (sym (ap (begins back) s) ∙ h) ∙ ap (λ t. 32 ∷ t) (sym (r ∙ ap (λ t. drop (length t) back) s)))
@@ -91,8 +91,8 @@ sign_other MoveIn h = (λ e. absurd (omega (arith, e)), λ e. absurd (omega (ari
 sign_other Failed h = (λ e. absurd (omega (arith, e)), λ e. absurd (omega (arith, e)))
 sign_other Remark h = absurd (h refl)
 
--- behind '@' and a space nothing but a call behind its place
-pub line_behind : (text back : List ℕ) (r : Option Line) → text ≡ 64 ∷ 32 ∷ back → Decides (IsBehind back) r → Decides (IsLine text) r
+-- after '@' and a space nothing but a call after its place
+pub line_behind : (text back : List ℕ) (r : Option Line) → text ≡ 64 ∷ 32 ∷ back → Decides (IsAfterPlace back) r → Decides (IsLine text) r
 unfolding IsLine
 line_behind text back None e h = λ x l. elim l [
   | inl m ↦ elim (remark_first text x m) [ inl z ↦ absurd (omega (arith, sym z ∙ ap length e)) | inr f ↦ absurd (omega (arith, sym f ∙ ap (λ t. get_or t 0 0) e)) ]

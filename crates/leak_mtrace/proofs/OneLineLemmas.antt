@@ -1,4 +1,4 @@
--- A line says one thing at most: by the first byte, and for a call behind its place by the space before it.
+-- A line says one thing at most: by the first byte, and for a call after its place by the space before it.
 use Rattle.std.proofs.Common.{◌≡◌, ℕ, ◌+◌, ◌⊎◌, inl, inr, sym, subst, ap, ◌∙◌, List, [], ◌∷◌, Some, None, slice_get, arith, append_assoc, length}
 use Rattle.leak_mtrace.specs.declared.line.Kind.{Kind}
 use Rattle.leak_mtrace.specs.declared.line.Kind.TheVariants.{Alloc, Free, MoveOut, MoveIn, Failed, Remark}
@@ -51,7 +51,7 @@ one_plain text x y h k =
     let call : (x.addr ≡ y.addr) × (x.size ≡ y.size) = one_call x.kind text x.addr x.size y.addr y.size h.0 (subst (λ (z : Kind). IsCall z text y.addr y.size) (sym kind) k.0) in
     same_line x y kind call.0 call.1 (h.1 ∙ sym k.1)
 
--- the place and the call behind it
+-- the place and the call after it
 one_cut : (text : List ℕ) (x y : Line) (h : IsPlaced text x) (k : IsPlaced text y) → (h.0 ≡ k.0) × (h.1 ≡ k.1)
 one_cut text x y h k =
     elim (compared h.0 k.0 h.1 k.1 (sym (append_assoc h.0 (32 ∷ []) h.1) ∙ tail (tail (sym h.2 ∙ k.2)) ∙ append_assoc k.0 (32 ∷ []) k.1)) [

@@ -26,7 +26,7 @@ no_space_in [] (y ∷ q) r h e = no_cons e
 no_space_in (x ∷ text) [] r h e = h.0 (head e)
 no_space_in (x ∷ text) (y ∷ q) r h e = no_space_in text q r h.1 (tail e)
 
--- a space behind a text without one
+-- a space after a text without one
 pub behind : (text rest q r : List ℕ) → HasNoSpace text → text ++ rest ≡ q ++ 32 ∷ r → (p : List ℕ) × (rest ≡ p ++ 32 ∷ r)
 behind [] rest q r h e = (q, e)
 behind (x ∷ text) rest [] r h e = absurd (h.0 (head e))

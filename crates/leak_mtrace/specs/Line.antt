@@ -38,12 +38,12 @@ IsRemark text x = ((text ≡ []) ⊎ (slice_get text 0 ≡ Some 61))
 abbrev pub IsPlain : List ℕ → Line → Type 0
 IsPlain text x = IsCall x.kind text x.addr x.size × (x.caller ≡ (0, 0))
 
--- a call behind its place, where the '@' and the space before the place are cut off
-abbrev pub IsBehind : List ℕ → Line → Type 0
-IsBehind text x = (place : List ℕ) × (rest : List ℕ) × (text ≡ place ++ 32 ∷ rest) × IsPlace place
+-- a call after its place, where the '@' and the space before the place are cut off
+abbrev pub IsAfterPlace : List ℕ → Line → Type 0
+IsAfterPlace text x = (place : List ℕ) × (rest : List ℕ) × (text ≡ place ++ 32 ∷ rest) × IsPlace place
     × IsCall x.kind rest x.addr x.size × (x.caller ≡ (2, 2 + length place))
 
--- a call behind its place
+-- a call after its place
 abbrev pub IsPlaced : List ℕ → Line → Type 0
 IsPlaced text x = (place : List ℕ) × (rest : List ℕ) × (text ≡ codes "@ " ++ place ++ codes " " ++ rest)
     × IsPlace place × IsCall x.kind rest x.addr x.size × (x.caller ≡ (2, 2 + length place))
@@ -52,9 +52,9 @@ IsPlaced text x = (place : List ℕ) × (rest : List ℕ) × (text ≡ codes "@ 
 unfoldable pub IsLine : List ℕ → Line → Type 0
 IsLine text x = IsRemark text x ⊎ (IsPlain text x ⊎ IsPlaced text x)
 
--- ---- a call, cut behind its sign
+-- ---- a call, cut after its sign
 
--- what stands behind a call's sign and space
+-- what stands after a call's sign and space
 abbrev pub IsBody : Kind → List ℕ → ℕ → ℕ → Type 0
 IsBody Alloc = IsPair
 IsBody Free = λ text addr size. IsAddress text addr × (size ≡ 0)

@@ -96,6 +96,6 @@ abbrev pub HasItsPlace : List ℕ → ℕ × List ℕ → Line → Type 0
 HasItsPlace bytes t x = ((x.caller ≡ (0, 0)) × ((y : Line) → IsPlaced t.1 y → ⊥))
     ⊎ ((y : Line) × (p : IsPlaced t.1 y) × (in_range bytes x.caller ≡ p.0))
 
--- the whole lines of log 1, as bytes, begin log 2
+-- the complete lines of log 1, as bytes, begin log 2
 abbrev pub is_continued_by : List ℕ → List ℕ → Bool
 is_continued_by log1 log2 = starts_with nat_eq log2 (take (whole_len_of log1) log1)

@@ -17,7 +17,7 @@ is_spot text k = slice_index text k == 32 && (is_sign (slice_index text (k + 1))
 abbrev pub IsLastSpot : List ℕ → Option ℕ → Type 0
 IsLastSpot text r = IsLast (λ k. is_spot text k ≡ true) 0 (length text) r
 
--- behind the last ']', or else at the last space that a sign and a space follow
+-- after the last ']', or else at the last space that a sign and a space follow
 abbrev pub IsPlaceEnd : List ℕ → Option ℕ → Type 0
 IsPlaceEnd text r = (bracket : Option ℕ) × IsLastByte (is_byte 93) text bracket
     × MatchOption bracket (IsLastSpot text r) (λ at. r ≡ Some (at + 1))
@@ -40,7 +40,7 @@ IsWhere text place =
     ⊎ (IsTrue (not (has_bracket text)) × (rest : List ℕ) × (text ≡ place ++ 32 ∷ rest) × BeginsCall rest
     × ((q r : List ℕ) → rest ≡ q ++ 32 ∷ r → BeginsCall r → ⊥))
 
--- a call behind its place, by that rule
+-- a call after its place, by that rule
 abbrev pub IsPlacedByRule : List ℕ → Line → Type 0
 IsPlacedByRule text x = (place : List ℕ) × (rest : List ℕ) × (text ≡ codes "@ " ++ place ++ codes " " ++ rest)
     × ((place ≢ []) × IsWhere (place ++ 32 ∷ rest) place)

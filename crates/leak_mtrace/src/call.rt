@@ -28,7 +28,7 @@ fn kind_of(sign: u8) -> Option<Kind>
     }
 }
 
-/// The address and the size behind a sign.
+/// The address and the size after a sign.
 fn body(kind: Kind, text: &[u8]) -> Option<(u64, u64)>
     ensures { Decides (λ p. IsBody kind text.now p.0 p.1) result }
 {

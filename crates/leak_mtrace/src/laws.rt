@@ -8,7 +8,7 @@ pub fn lines_are_one()
     ensures { LinesAreOne }
 {}
 
-/// The place of a call ends behind the last `]`, or else at the last space that a sign and a space follow.
+/// The place of a call ends after the last `]`, or else at the last space that a sign and a space follow.
 pub fn places_are_one()
     ensures { PlacesAreOne }
 {}
@@ -38,7 +38,7 @@ pub fn callers_hold_their_places()
     ensures { CallersHoldTheirPlaces }
 {}
 
-/// A log that begins with the whole lines of another has that log's lines, and then its own.
+/// A log that begins with the complete lines of another has that log's lines, and then its own.
 pub fn logs_continue()
     ensures { LogsContinue }
 {}

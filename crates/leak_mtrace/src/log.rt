@@ -102,7 +102,7 @@ impl Log {
         self.torn
     }
 
-    /// How many bytes the whole lines take, the last line feed included.
+    /// How many bytes the complete lines take, the last line feed included.
     pub fn whole_len(&self) -> usize
         ensures { result ≡ self.now.whole_len }
     {

@@ -1,16 +1,16 @@
 //! Reads one line of the log.
 ghost use Rattle.std.specs.Prelude.{◌<◌, ◌+◌, ◌^◌, length};
 ghost use Rattle.leak_mtrace.specs.Decided.{Decides};
-ghost use Rattle.leak_mtrace.specs.Line.{IsBehind, IsPlain, IsLine};
+ghost use Rattle.leak_mtrace.specs.Line.{IsAfterPlace, IsPlain, IsLine};
 
 use crate::call::read_call;
 use crate::line::{Kind, Line};
 use crate::place::place_end;
 
-/// Reads a call behind its place, in the line's text behind `@ `.
+/// Reads a call after its place, in the line's text after `@ `.
 fn placed(text: &[u8]) -> Option<Line>
     requires { length text.now + 2 < 2 ^ 64 }
-    ensures { Decides (IsBehind text.now) result }
+    ensures { Decides (IsAfterPlace text.now) result }
 {
     let end = place_end(text)?;
     if end == 0 {

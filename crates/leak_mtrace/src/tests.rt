@@ -105,7 +105,7 @@ fn lines_that_mtrace_does_not_write(rt: HostRuntime) {
         "@",
         "@ + 0x1 0x1",
         "@  + 0x1 0x1",
-        // no space behind the place
+        // no space after the place
         "@ [0x1159]+ 0x55d0 0x20",
         "@ [0x1159]",
         "@ ./a.out = Start",
@@ -137,7 +137,7 @@ fn a_log_with_its_remarks(rt: HostRuntime) -> Result<(), Fail> {
     Ok(())
 }
 
-/// Lines, torn lines and the length of the whole lines, or the refusal.
+/// Lines, torn lines and the length of the complete lines, or the refusal.
 fn outcome(alloc: Global, text: &str) -> Result<(usize, u64, usize), LogError> {
     let log = Log::read(alloc, text.as_bytes())?;
     Ok((log.lines().len(), log.torn(), log.whole_len()))

@@ -19,7 +19,7 @@ first_behind : (t : Bool) (e : NoteError) (cs ds : List (Bool × NoteError)) →
 first_behind true e cs ds rec none = absurd cc
 first_behind false e cs ds rec none = rec none
 
--- behind conditions that don't hold
+-- after conditions that don't hold
 pub first_fault-behind : (cs ds : List (Bool × NoteError)) → first_fault cs ≡ None → first_fault (cs ++ ds) ≡ first_fault ds
 first_fault-behind [] ds none = refl
 first_fault-behind (c ∷ cs) ds none = first_behind c.0 c.1 cs ds (first_fault-behind cs ds) none

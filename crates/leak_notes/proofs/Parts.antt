@@ -41,7 +41,7 @@ parts_split file i d h =
     ap (entries_of_parts file) (sym (take-append-drop i ps)) ∙ parts-append file (take i ps) (drop i ps)
     ∙ ap (λ (qs : List NotePart). entries_of_parts file (take i ps) ++ entries_of_parts file qs) cut
 
--- a fault of a part behind parts without one
+-- a fault of a part after parts without one
 pub part_refused : (file : List ℕ) (i : ℕ) (d : NotePart) (threads : Registers) (e : NoteError) → i < length (note_parts_of file) → AreTaken file i threads → first_fault_among (entries_from (first_entry file (get_or (note_parts_of file) i d))) ≡ Some e → note_fault_of file ≡ Some e
 unfolding note_fault_of
 part_refused file i d threads e h taken fault =

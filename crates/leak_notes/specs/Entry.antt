@@ -37,7 +37,7 @@ desc e = slice_range e.bytes (desc_at e) (desc_at e + desc_size e)
 abbrev pub entry_size : Entry → ℕ
 entry_size e = min (desc_at e + padded (desc_size e)) (length e.bytes)
 
--- what stands behind it in the part
+-- what stands after it in the part
 abbrev pub following : Entry → Entry
 following e = record { offset = e.offset + entry_size e; bytes = drop (entry_size e) e.bytes }
 
@@ -45,7 +45,7 @@ following e = record { offset = e.offset + entry_size e; bytes = drop (entry_siz
 abbrev pub is_cut : Entry → Bool
 is_cut e = nat_lt (length e.bytes) 12 || nat_lt (length e.bytes) (desc_at e + desc_size e)
 
--- the name of Linux's register sets: `CORE` with a zero byte behind it
+-- the name of Linux's register sets: `CORE` with a zero byte after it
 abbrev pub is_core : Entry → Bool
 is_core e = bytes_eq (name e) (0x43 ∷ 0x4f ∷ 0x52 ∷ 0x45 ∷ 0 ∷ [])
 

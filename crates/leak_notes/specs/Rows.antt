@@ -5,7 +5,7 @@ use Rattle.leak_elf.specs.Sample.{sample, patched}
 use Rattle.leak_notes.specs.declared.error.NoteError.TheVariants.{Cut, StatusSize, VectorSize, NoThread}
 use Rattle.leak_notes.specs.Threads.{note_fault_of, registers_of, threads_of}
 
--- the sample with a vector entry behind its thread status: the descriptor of 512 zero bytes begins at 552
+-- the sample with a vector entry after its thread status: the descriptor of 512 zero bytes begins at 552
 abbrev pub with_vectors : List ℕ
 with_vectors =
     patched (patched sample 96 (to_le_bytes w64 888)) 532

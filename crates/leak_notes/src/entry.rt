@@ -153,7 +153,7 @@ impl<'a> Entry<'a> {
         &self.bytes[start..start + self.desc_size()]
     }
 
-    /// The entry behind it, or the end of the part. The padding of the last descriptor may be missing.
+    /// The entry after it, or the end of the part. The padding of the last descriptor may be missing.
     pub(crate) fn following(&self) -> Entry<'a>
         requires { IsFalse (is_cut self.now) }
         ensures { result ≡ following self.now }

@@ -51,7 +51,7 @@ fn an_entry_that_passes_the_end_of_its_part_is_cut_off(rt: HostRuntime) -> Resul
         refusal_of(rt.alloc(), 300, 0, &[])?,
         Some(NoteError::Cut(176))
     );
-    // Four bytes are left behind the first entry.
+    // Four bytes are left after the first entry.
     assert_eq!(rt;
         refusal_of(rt.alloc(), 360, 0, &[])?,
         Some(NoteError::Cut(532))
@@ -159,7 +159,7 @@ fn a_core_of_many_threads_is_read(rt: HostRuntime) -> Result<(), Fail> {
     for byte in core.iter().skip(176).take(356) {
         status.push(*byte)?;
     }
-    // The part of notes stands behind the segment.
+    // The part of notes stands after the segment.
     set(&mut core, 72, &8192u64.to_le_bytes());
     set(&mut core, 96, &(5_000 * 356u64).to_le_bytes());
     for _ in 0..5_000 {

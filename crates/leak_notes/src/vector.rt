@@ -28,7 +28,7 @@ const VECTORS_AT: usize = 160;
 /// How many words there are, two for each register.
 const VECTOR_WORDS: usize = 32;
 
-/// Adds the vector registers of an entry behind the words.
+/// Adds the vector registers of an entry after the words.
 pub(crate) fn push_vectors(words: &mut Vec<u64>, vector: &[u8]) -> Result<(), AllocError>
     requires { length vector.now ≡ 512 }
     ensures ok { OnOk result (words.new.items ≡ words.old.items ++ words_of_vector vector.now) }

@@ -16,7 +16,7 @@ fn set(core: &mut Vec<u8>, at: usize, bytes: &[u8]) {
     }
 }
 
-/// The sample core with a vector entry behind its thread status: xmm0 to xmm15 stand from 712 to 968.
+/// The sample core with a vector entry after its thread status: xmm0 to xmm15 stand from 712 to 968.
 fn with_vectors(alloc: Global) -> Result<Vec<u8>, Fail> {
     let mut core = core_k(alloc, &[])?;
     set(&mut core, 96, &888u64.to_le_bytes());
@@ -80,7 +80,7 @@ fn the_words_are_those_of_xmm0_to_xmm15(rt: HostRuntime) -> Result<(), Fail> {
 #[test]
 fn the_words_stand_in_the_order_of_the_entries(rt: HostRuntime) -> Result<(), Fail> {
     let mut core = with_vectors(rt.alloc())?;
-    // The vector entry at 176, its status behind it at 708; then a second status at 1064.
+    // The vector entry at 176, its status after it at 708; then a second status at 1064.
     set(&mut core, 96, &(532 + 356 + 356u64).to_le_bytes());
     set(&mut core, 176, VECTOR);
     set(&mut core, 532, &[0; 20]);
@@ -106,7 +106,7 @@ fn a_vector_entry_of_another_size_is_refused(rt: HostRuntime) -> Result<(), Fail
     assert_eq!(rt; refusal_with(rt.alloc(), &[(96, 884), (536, 508)])?, wrong);
     assert_eq!(rt; refusal_with(rt.alloc(), &[(96, 892), (536, 516)])?, wrong);
     assert_eq!(rt; refusal_with(rt.alloc(), &[(96, 376), (536, 0)])?, wrong);
-    // Before that there is no thread status, and behind a status of another size.
+    // Before that there is no thread status, and after a status of another size.
     assert_eq!(rt;
         refusal_with(rt.alloc(), &[(96, 884), (536, 508), (184, 6)])?,
         wrong

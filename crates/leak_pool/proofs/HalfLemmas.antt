@@ -54,7 +54,7 @@ module _ (targets : ℕ → List ℕ) (low middle high : ℕ) (lower : low ≤ m
   split_at : (b : ℕ) → InRange targets low high b → InRange targets low middle b ⊎ InRange targets middle high b
   split_at b r = dite (dec_lt r.0 middle) (λ lt. inl (r.0, r.1, lt, r.3)) (λ ge. inr (r.0, omega arith, r.2, r.3))
 
--- the lists of the first workers, and behind them those of the others
+-- the lists of the first workers, and after them those of the others
 own_both : (blocks targets : ℕ → List ℕ) (items workers low middle : ℕ) (g1 g2 : List (List ℕ)) → low + length g1 ≡ middle
     → AreOwn blocks targets items workers low g1 → AreOwn blocks targets items workers middle g2 → AreOwn blocks targets items workers low (g1 ++ g2)
 own_both blocks targets items workers low middle [] g2 count a b = let is : middle ≡ low = omega arith in subst (λ (k : ℕ). AreOwn blocks targets items workers k g2) is b

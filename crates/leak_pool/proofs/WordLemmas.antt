@@ -116,7 +116,7 @@ values_of : (word_at : ℕ → Option ℕ) (p : Places) (x : Piece) → IsPiece 
 values_of word_at p (Registers from to) h = values_in_registers word_at p (to - from) from (let a = h.0 in let b = h.1 in omega arith)
 values_of word_at p (Memory from to) h = values_in_memory word_at p (addresses_in (from, to))
 
--- the words of the pieces, one piece behind the other, are the root words
+-- the words of the pieces, one piece after the other, are the root words
 pub words_of_pieces : (word_at : ℕ → Option ℕ) (p : Places) (n : ℕ) (pieces : List Piece) → AreCut p n pieces → flat_map (words_of word_at p) pieces ≡ words_at word_at p
 unfolding words_at
 words_of_pieces word_at p n pieces cut =

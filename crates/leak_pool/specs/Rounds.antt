@@ -15,7 +15,7 @@ use Rattle.leak_marks.specs.Rounds.{IsKept, appended_from, IsUnderWay}
 abbrev pub graph_over : List (List ℕ) → List (List ℕ) → List ℕ → Graph
 graph_over roots targets given = record { first = concat roots; targets = targets; given = given }
 
--- Items were scanned: the claims that the seat gained stand behind those of the workers, and those that were left behind
+-- Items were scanned: the claims that the seat gained stand after those of the workers, and those that were left after
 -- the blocks that wait.
 pub record IsStep (blocks : ℕ → List ℕ) (item : ℕ → Type 0) (workers : ℕ) (claims : List (List ℕ)) (waiting : List ℕ) (before : Held)
     (longer : List (List ℕ)) (more : List ℕ) (after : Held) (gained : List (List ℕ)) (left : List ℕ) : Type 0 where

@@ -1,4 +1,4 @@
--- What marking scans: pieces of the root words, behind them parts of blocks that are scanned again, and blocks.
+-- What marking scans: pieces of the root words, after them parts of blocks that are scanned again, and blocks.
 use Rattle.std.specs.Prelude.{ℕ, ◌<◌, List, ◌++◌, map, Option}
 use Rattle.std.specs.List.{AllByRecursion}
 use Rattle.leak_index.specs.Hits.{Index}

@@ -16,7 +16,7 @@ use crate::worker::share_start;
 use std::alloc::{AllocError, Global};
 use std::thread::Threads;
 
-// Puts the gained lists behind those of the workers, and the blocks that were left behind those that wait.
+// Puts the gained lists after those of the workers, and the blocks that were left after those that wait.
 fn absorb(
     claims: &mut Vec<Vec<u32>>,
     waiting: &mut Vec<u32>,

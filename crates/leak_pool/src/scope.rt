@@ -16,7 +16,7 @@ use leak_roots::{Piece, Roots};
 use leak_scan::{Pages, Targets};
 use std::alloc::AllocError;
 
-/// The pieces of the root words, behind them the parts of blocks that are scanned again, and the blocks.
+/// The pieces of the root words, after them the parts of blocks that are scanned again, and the blocks.
 #[derive(Drop)]
 pub(crate) struct Scope<'a, W: Words, L: Lookup> {
     pub(crate) words: &'a W,

@@ -42,7 +42,7 @@ pub(crate) fn core_of(alloc: Global, words: &[(u64, u64)]) -> Option<Vec<u8>> {
     Some(core)
 }
 
-/// The sample core with vector registers behind its thread status, of which the upper half of xmm0 leads to the one block.
+/// The sample core with vector registers after its thread status, of which the upper half of xmm0 leads to the one block.
 pub(crate) fn vector_core(alloc: Global) -> Option<Vec<u8>> {
     let mut core = core_of(alloc, &[])?;
     set(&mut core, 96, &888u64.to_le_bytes());

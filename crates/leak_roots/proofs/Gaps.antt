@@ -36,11 +36,11 @@ and_false : (x : Bool) → (x && false) ≡ false
 and_false true = refl
 and_false false = refl
 
--- the first blocks have no byte at the address or behind it
+-- the first blocks have no byte at the address or after it
 abbrev pub IsPast : List Block → ℕ → ℕ → Type 0
 IsPast bs i c = (k : ℕ) (d : Block) → k < i → k < length bs → ((get_or bs k d).size ≡ 0) ⊎ ((get_or bs k d).start + (get_or bs k d).size ≤ c)
 
--- a word behind the first blocks and before the others
+-- a word after the first blocks and before the others
 between : (bs : List Block) (i c a : ℕ) (d : Block) → IsPast bs i c → c ≤ a → ((k : ℕ) → i ≤ k → k < length bs → a + 8 ≤ (get_or bs k d).start) → is_free bs a ≡ eqb (a % 8) 0
 between bs i c a d past l before =
     let all = all_true (is_apart a) bs d (λ k h.
@@ -64,7 +64,7 @@ later_start bs i k d ordered l h =
 three_ranges : (c n x y z : ℕ) → n ≡ x + (y + z) → range_with_len c n ≡ range_with_len c x ++ (range_with_len (c + x) y ++ range_with_len (c + x + y) z)
 three_ranges c n x y z e = rw (e, range-append c x (y + z), range-append (c + x) y z) refl
 
--- the words up to a block are those before its bytes and those behind them
+-- the words up to a block are those before its bytes and those after them
 pub gap_step : (bs : List Block) (i c to : ℕ) (d : Block) → AreOrdered bs → i < length bs → IsPast bs i c → 0 < (get_or bs i d).size → (get_or bs i d).start ≤ to
     → filter (is_free bs) (places c to) ≡ aligned_places c (get_or bs i d).start ++ filter (is_free bs) (places (max c ((get_or bs i d).start + (get_or bs i d).size)) to)
 gap_step bs i c to d ordered h past some low =
@@ -84,7 +84,7 @@ gap_step bs i c to d ordered h past some low =
     ∙ ap (λ (xs : List ℕ). filter (is_free bs) (range_with_len c x) ++ xs) (filter-append (is_free bs) (range_with_len (c + x) y) (range_with_len (c + x + y) z))
     ∙ (rw (first, middle, last) refl)
 
--- behind the last block
+-- after the last block
 pub gap_end : (bs : List Block) (i c to : ℕ) (d : Block) → IsPast bs i c → ((k : ℕ) → i ≤ k → k < length bs → to ≤ (get_or bs k d).start) → filter (is_free bs) (places c to) ≡ aligned_places c to
 gap_end bs i c to d past high =
     filter_same (is_free bs) (λ (a : ℕ). eqb (a % 8) 0) c (to - 7 - c) (λ a l m. between bs i c a d past l (λ k o p. let s = high k o p in omega arith))
@@ -109,7 +109,7 @@ past_first bs n c ordered l within k d m o = let a = ordered.apart k (k + 1) d (
 pub starts_ascend : (bs : List Block) (j k : ℕ) (d : Block) (c : ℕ) → AreOrdered bs → j ≤ k → k < length bs → (get_or bs k d).start ≤ c → (get_or bs j d).start ≤ c
 starts_ascend bs j k d c ordered l h e = let s = later_start bs j k d ordered l h in omega arith
 
--- The words before the cursor were added, and no range passes it. What is left of the words stands behind it.
+-- The words before the cursor were added, and no range passes it. What is left of the words stands after it.
 pub record Filled (bs : List Block) (to : ℕ) (all : List ℕ) (memory : List (ℕ × ℕ)) (i cursor : ℕ) : Type 0 where
   pub ranges : AreRanges memory
   pub low : EndBy cursor memory

@@ -22,7 +22,7 @@ pub record IsRange (range : ℕ × ℕ) : Type 0 where
   pub from_multiple : range.0 % 8 ≡ 0
   pub to_multiple : range.1 % 8 ≡ 0
 
--- such ranges, each behind the one before
+-- such ranges, each after the one before
 abbrev pub AreRanges : List (ℕ × ℕ) → Type 0
 AreRanges [] = ⊤
 AreRanges (r ∷ rs) = IsRange r × AllByRecursion (λ s. r.1 ≤ s.0) rs × AreRanges rs

@@ -11,7 +11,7 @@ use leak_blocks::Block;
 use leak_elf::Image;
 use std::alloc::{AllocError, Global};
 
-/// Adds the words whose bytes lie between two addresses, as one range behind the others.
+/// Adds the words whose bytes lie between two addresses, as one range after the others.
 fn push_range(memory: &mut Vec<(u64, u64)>, from: u64, to: u64) -> Result<(), AllocError>
     requires ranges { AreRanges memory.old.items }
     requires ends { EndBy from memory.old.items }

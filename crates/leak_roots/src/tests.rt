@@ -42,7 +42,7 @@ fn the_sample_has_a_root_word_at_each_place(rt: HostRuntime) -> Result<(), Fail>
 #[test]
 fn vector_registers_are_roots(rt: HostRuntime) -> Result<(), Fail> {
     let mut core = core_k(rt.alloc(), &[])?;
-    // A vector entry behind the thread status, and a word in the upper half of xmm15.
+    // A vector entry after the thread status, and a word in the upper half of xmm15.
     let entry = b"\x05\0\0\0\0\x02\0\0\x02\0\0\0CORE\0\0\0\0";
     for (at, bytes) in [
         (96usize, 888u64.to_le_bytes().as_slice()),

@@ -42,7 +42,7 @@ skip f (suc n) from (suc count) to left e d h =
     step f from count ∙ ap (λ o. cons_option o (words_from f (from + 1) count)) (h from (omega arith) (omega arith))
     ∙ skip f n (from + 1) count to left (omega (arith, e)) (omega (arith, d)) (λ a l u. h a (omega (arith, l)) (omega (arith, u)))
 
--- the first address has one, and the 7 behind it have none
+-- the first address has one, and the 7 after it have none
 pub one_word : (f : ℕ → Option ℕ) (from count w : ℕ) → IsAligned f → f from ≡ Some w → 0 < count → words_from f from count ≡ w ∷ words_from f (from + 8) (count - 8)
 one_word f from zero w aligned e h = absurd (omega (arith, h))
 one_word f from (suc count) w aligned e h =

@@ -24,7 +24,7 @@ read_run word_at from window whole later run front aligned is_run e high some fi
       inside = λ a low up s. let z = aligned a s in omega (arith, low, up);
     }
 
--- the next word is behind the window
+-- the next word is after the window
 pub read_none : (word_at : ℕ → Option ℕ) (from window next : ℕ) → 0 < window → window ≤ next - from → ((a : ℕ) → from ≤ a → a < next → word_at a ≡ None) → IsRead word_at from window Nothing next
 read_none word_at from window next some far none = record {
   on = omega arith;

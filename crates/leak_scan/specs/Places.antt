@@ -46,7 +46,7 @@ words_left word_at list run from count = list ++ (words_in run ++ words_from wor
 abbrev pub words_ahead : (ℕ → Option ℕ) → Place → List ℕ
 words_ahead word_at place = words_left word_at place.list.now place.run.now place.from place.count
 
--- the hits are those of the first word ahead that leads anywhere, and the place behind has what follows that word
+-- the hits are those of the first word ahead that leads anywhere, and the place after has what follows that word
 pub record AreNextHits (word_at : ℕ → Option ℕ) (index : Index) (place : Place) (hits : Hits) (behind : Place) : Type 0 where
   pub split : targets_of index (words_ahead word_at place) ≡ hits_in hits ++ targets_of index (words_ahead word_at behind)
   pub end : hits ≡ Zero → words_ahead word_at behind ≡ []

@@ -8,7 +8,7 @@ NoneListed pages from to = (a : ℕ) → from ≤ a → a < to → is_on pages a
 
 -- the addresses from the start on, so many, are the first from `from` on that stand on a listed page: none before them
 -- does, and of them each multiple of 8 does. The start itself does, or it is the last address of all, which stands for a
--- page behind it.
+-- page after it.
 pub record IsWindowAt (pages : List ℕ) (from start count : ℕ) : Type 0 where
   pub behind : from ≤ start
   pub here : (is_on pages start ≡ true) ⊎ (start + 1 ≡ 2 ^ 64)

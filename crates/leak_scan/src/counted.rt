@@ -96,7 +96,7 @@ const BLOCKS: [(u64, u64, u64); 12] = [
     (0x10100, 7, 0),
     (0x10107, 1, 0),
     (0x10100, 0, 0),
-    // the core ends behind the first page
+    // the core ends after the first page
     (0x10ff4, 0x14, 1),
     (0xfff4, 0x14, 1),
 ];

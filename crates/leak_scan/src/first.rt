@@ -9,7 +9,7 @@ ghost use Rattle.leak_scan.specs.Places.{words_in};
 use byteorder::{ByteOrder, LittleEndian};
 use leak_index::{Hits, Lookup};
 
-/// The blocks that the first such word leads to, and the words behind it.
+/// The blocks that the first such word leads to, and the words after it.
 pub(crate) fn first_of_list<'a, L: Lookup>(lookup: &L, words: &'a [u64]) -> (Hits, &'a [u64])
     ensures split { targets_of (L.index lookup.now) words.now ≡ hits_in result.0 ++ targets_of (L.index lookup.now) result.1.now }
     ensures end { result.0 ≡ Hits.Zero → result.1.now ≡ [] }
@@ -42,7 +42,7 @@ pub(crate) fn first_of_run<'a, L: Lookup>(lookup: &L, bytes: &'a [u8]) -> (Hits,
     (Hits::Zero, rest)
 }
 
-/// The word that the first 8 bytes are, and the bytes behind them.
+/// The word that the first 8 bytes are, and the bytes past them.
 #[tactic(auto, unfolding(leak_elf::specs::Fields::number_at))]
 fn split_word(bytes: &[u8]) -> (u64, &[u8])
     requires { 8 ≤ length bytes.now }

@@ -48,7 +48,7 @@ impl Pages {
     }
 
     /// The least address from `from` on that is on a listed page, and how many addresses from there on are on that
-    /// page. The last address of all stands for a page behind it.
+    /// page. The last address of all stands for a page after it.
     pub fn window(&self, from: u64) -> Option<(u64, u64)>
         ensures { IsWindow self.now from result }
     {

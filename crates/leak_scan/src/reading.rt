@@ -15,7 +15,7 @@ pub(crate) enum Found<'a> {
 }
 
 /// The first words from the address on, and the address up to which the memory has no others. Words that stand
-/// `window` addresses behind it or further are not read. None where there is no word at all.
+/// `window` addresses after it or further are not read. None where there is no word at all.
 pub(crate) fn read_on<'a, W: Words>(
     words: &'a W,
     from: u64,

@@ -69,7 +69,7 @@ fn targets_of_ranges_and_registers(rt: HostRuntime) -> Result<(), Fail> {
     let lookup = Sorted::new(&live, Reading::interior());
     let all = listed(alloc, Targets::of_range(&image, &lookup, 0, u64::MAX))?;
     assert_eq!(rt; all.as_slice(), [0, 1, 2, 2, 0].as_slice());
-    // the word at 0x10008 ends behind the range, and the others begin before it
+    // the word at 0x10008 ends after the range, and the others begin before it
     let none = listed(alloc, Targets::of_range(&image, &lookup, 0x10009, 0x10107))?;
     assert_eq!(rt; none.as_slice(), [].as_slice());
     let first = listed(alloc, Targets::of_range(&image, &lookup, 0x10001, 0x10108))?;

@@ -100,7 +100,7 @@ pub static PAIRS: [Pair; 16] = [
         claimed: &[],
     },
     Pair {
-        name: "first log without a whole line",
+        name: "first log without a complete line",
         core1: &[Part::Word(0x10008, 0x10100)],
         log1: "no line",
         core2: &[],

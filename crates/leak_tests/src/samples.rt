@@ -4,7 +4,7 @@ use leak_elf::core_k;
 use std::alloc::Global;
 use std::test::Fail;
 
-/// How far behind its file offset a word of the sample's segment has its address.
+/// How far past its file offset a word of the sample's segment has its address.
 const SHIFT: u64 = 0xf000;
 
 /// What the sample core has in place of a zero, or of a field.

@@ -18,7 +18,7 @@ use std::test::Fail;
 /// The fields and the name of a vector entry.
 const VECTOR: &[u8] = b"\x05\0\0\0\0\x02\0\0\x02\0\0\0CORE\0\0\0\0";
 
-/// The sample core with a vector entry behind its thread status, and with 32 bits or 64 bits at file offsets.
+/// The sample core with a vector entry after its thread status, and with 32 bits or 64 bits at file offsets.
 ///
 /// The entry begins at 532 and its descriptor at 552; xmm0 to xmm15 stand from 712 to 968.
 fn with_vectors(alloc: Global, changes: &[(u64, u32)], word: (u64, u64)) -> Result<Vec<u8>, Fail> {
@@ -77,7 +77,7 @@ fn vector_registers_are_root_words(rt: HostRuntime) -> Result<(), Fail> {
 #[test]
 fn a_pointer_in_a_vector_register_alone_holds_a_block(rt: HostRuntime) -> Result<(), Fail> {
     let plans = plans(rt.alloc())?;
-    // The halves of xmm0 and xmm15, then the word before and the word behind all registers, and the first of the entry.
+    // The halves of xmm0 and xmm15, then the word before and the word after all registers, and the first of the entry.
     let rows = [
         (712, HELD),
         (720, HELD),

@@ -42,7 +42,7 @@ pub fn begun(alloc: Global, headers: u16) -> Result<Vec<u8>, Fail> {
     Ok(core)
 }
 
-/// A core that begins with the sample's file header and has section header 0 behind it, with the
+/// A core that begins with the sample's file header and has section header 0 after it, with the
 /// number of program headers there.
 pub fn begun_with_section(alloc: Global, headers: u32) -> Result<Vec<u8>, Fail> {
     let mut core = begun(alloc, 0xffff)?;

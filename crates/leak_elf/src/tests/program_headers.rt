@@ -36,7 +36,7 @@ fn each_fault_of_a_program_header_is_refused(rt: HostRuntime) -> Result<(), Fail
 }
 
 #[test]
-fn a_segment_behind_another_may_be_left_out_of_the_file(rt: HostRuntime) -> Result<(), Fail> {
+fn a_segment_after_another_may_be_left_out_of_the_file(rt: HostRuntime) -> Result<(), Fail> {
     let core = three(rt.alloc(), 1_000_000, 0x11000, 0, 0x1000)?;
     let image = Image::read(rt.alloc(), core.as_slice())?;
     assert_eq!(rt; image.undumped(), 4096);

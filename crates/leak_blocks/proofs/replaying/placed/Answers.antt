@@ -1,4 +1,4 @@
--- The block of each number goes behind those in the map.
+-- The block of each number goes after those in the map.
 use Rattle.std.proofs.Common.{◌≡◌, ◌∙◌, sym, ap, subst, List, ◌∷◌, ℕ, ◌+◌, ◌<◌, ◌≤◌, length, drop, get_or}
 use Rattle.std.proofs.lemmas.List.{drop_more}
 use Rattle.leak_blocks.proofs.BuildLemmas.{ArePlaced, IsNext, next_built, next_placed}

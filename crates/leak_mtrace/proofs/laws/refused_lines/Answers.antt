@@ -1,4 +1,4 @@
--- Each has a sign and a space, and no body behind them.
+-- Each has a sign and a space, and no body after them.
 use Rattle.std.proofs.Common.{◌≡◌, ℕ, inl, inr, refl, sym, subst, ap, ◌∙◌, List, [], ◌∷◌, ◌++◌, Some, None, slice_get, ◌-◌, length, take, drop, arith, codes}
 use Rattle.leak_mtrace.specs.declared.line.Kind.{Kind}
 use Rattle.leak_mtrace.specs.declared.line.Kind.TheVariants.{Alloc, Free, MoveOut, MoveIn, Failed, Remark}

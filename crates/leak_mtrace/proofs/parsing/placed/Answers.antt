@@ -1,7 +1,7 @@
 -- A reading has its place up to the end that was found.
 use Rattle.std.proofs.Common.{◌+◌, Some, take, arith, sym, subst, ap, ◌∙◌}
 use Rattle.std.proofs.lemmas.List.{take_rest, length-take-le}
-use Rattle.leak_mtrace.specs.Line.{IsBehind}
+use Rattle.leak_mtrace.specs.Line.{IsAfterPlace}
 use Rattle.leak_mtrace.specs.Place.{IsPlaceEnd}
 use Rattle.leak_mtrace.proofs.DecideLemmas.{decides_none}
 use Rattle.leak_mtrace.proofs.PlaceLemmas.{place_end_within, place_end_place}
@@ -9,7 +9,7 @@ use Rattle.leak_mtrace.proofs.LineLemmas.{behind_no_end, behind_end_zero, behind
 use Rattle.leak_mtrace.proofs.parsing.placed.Goals as goal
 
 pub returns-in_err-end : goal.returns-in_err-end
-returns-in_err-end c = decides_none (IsBehind c.args.text.now) _ c.from_residual.ensures (behind_no_end c.args.text.now (subst (IsPlaceEnd c.args.text.now) c.in_err-end.was c.place_end.ensures))
+returns-in_err-end c = decides_none (IsAfterPlace c.args.text.now) _ c.from_residual.ensures (behind_no_end c.args.text.now (subst (IsPlaceEnd c.args.text.now) c.in_err-end.was c.place_end.ensures))
 
 pub returns-then-end-eq0 : goal.returns-then-end-eq0
 returns-then-end-eq0 c = behind_end_zero c.args.text.now (subst (IsPlaceEnd c.args.text.now) (c.in_ok-end.was ∙ ap (λ n. Some n) c.if-end-eq0.true) c.place_end.ensures)
@@ -17,13 +17,13 @@ returns-then-end-eq0 c = behind_end_zero c.args.text.now (subst (IsPlaceEnd c.ar
 pub returns-in_err-rest : goal.returns-in_err-rest
 returns-in_err-rest c =
     let ends : IsPlaceEnd c.args.text.now (Some c.in_ok-end.end) = c.in_ok-end.ensures in
-    decides_none (IsBehind c.args.text.now) _ c.from_residual-in_err-rest.ensures (behind_no_space c.args.text.now _ _ c.in_ok-end.end (take_rest c.args.text.now c.in_ok-end.end) c.as_slice.ensures ends c.in_err-rest.ensures.cases)
+    decides_none (IsAfterPlace c.args.text.now) _ c.from_residual-in_err-rest.ensures (behind_no_space c.args.text.now _ _ c.in_ok-end.end (take_rest c.args.text.now c.in_ok-end.end) c.as_slice.ensures ends c.in_err-rest.ensures.cases)
 
 pub returns-in_err-call : goal.returns-in_err-call
 returns-in_err-call c =
     let ends : IsPlaceEnd c.args.text.now (Some c.in_ok-end.end) = c.in_ok-end.ensures in
     let space = c.in_ok-rest.ensures.cases in
-    decides_none (IsBehind c.args.text.now) _ c.from_residual-in_err-call.ensures (behind_no_call c.args.text.now _ _ _ c.in_ok-end.end (take_rest c.args.text.now c.in_ok-end.end) c.as_slice.ensures space.1 ends c.in_err-call.ensures)
+    decides_none (IsAfterPlace c.args.text.now) _ c.from_residual-in_err-call.ensures (behind_no_call c.args.text.now _ _ _ c.in_ok-end.end (take_rest c.args.text.now c.in_ok-end.end) c.as_slice.ensures space.1 ends c.in_err-call.ensures)
 
 pub returns : goal.returns
 returns c =
