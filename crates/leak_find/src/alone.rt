@@ -15,6 +15,8 @@ use leak_roots::Roots;
 use std::alloc::Global;
 
 /// Searches a core and its log on the caller's thread, with one list of claims.
+///
+/// It gives what [`find_one`](crate::find_one) gives with one worker, and refuses what that refuses, in the same order.
 pub fn find_alone(
     alloc: Global,
     core: &[u8],

@@ -14,7 +14,17 @@ use leak_pool::{Gate, Plan, mark};
 use leak_roots::Roots;
 use std::alloc::Global;
 
-/// Searches a core and its log by the workers of the plan, with a list of claims for each.
+/// Searches a core and its log by the workers of the plan.
+///
+/// `core` holds the bytes of an ELF64 core of x86-64 Linux, and `log` those that mtrace(3) wrote for the same process.
+/// Which words lead to a block, `reading` says. The report, the leaked blocks and which blocks are claimed don't depend on
+/// the plan, on the gate, or on how the workers meet; by which worker a block is claimed does. There is one list of claims
+/// for each worker, also where it is empty.
+///
+/// # Errors
+///
+/// The first by the order of [`FindError`], with input number 1: `Core`, `Notes`, `Log`, `TooMany`. `NoMemory` can come at
+/// any time. Threads that can't be had are no error: the caller does their share.
 pub fn find_one<R: std::thread::Threads + Sync, G: Gate + Sync>(
     rt: &R,
     alloc: Global,

@@ -148,7 +148,12 @@ fn sum_sizes(blocks: &[Block], numbers: &[u32]) -> u64
 /// The first log has to begin the second, up to its own last line feed. Marked in the second core are the blocks that
 /// were marked in the first core and are still live, those allocated since, and what chains lead to from these and from
 /// the roots (after Boehm, Demers and Shenker, PLDI 1991; that new blocks count is own rule). The report is that of the
-/// second core and its log, and the claims are of the marking there. A refusal is the first by the order of [`FindError`].
+/// second core and its log, and the claims are of the marking there.
+///
+/// # Errors
+///
+/// The first refusal of input 1 (`Core`, `Notes`, `Log`), then of input 2, then `NotPrefix`, then `TooMany`. `NoMemory` can
+/// come at any time.
 pub fn find_two<R: Threads + Sync, G: Gate + Sync>(
     rt: &R,
     alloc: Global,

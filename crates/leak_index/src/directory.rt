@@ -97,7 +97,8 @@ impl Directory {
         count_all(self.pages.as_slice(), page)
     }
 
-    /// A guess at the last entry whose page isn't above the given one. Nothing is promised of it.
+    /// A guess at the last entry whose page is at or below the given one: right where the pages of its run follow one
+    /// another. Nothing is promised of it, and the caller tests it.
     fn guess(&self, page: u64) -> usize {
         let runs = self.runs.partition_point(|run| run.page <= page);
         if runs == 0 {

@@ -1,6 +1,6 @@
 //! Where a test can hold a worker.
 
-/// Is called by each worker before it scans an item: a piece of the roots, a part to scan again, or a block that waited.
+/// Each worker calls `pass` before it scans an item: a piece of the roots, a part to scan again, or a block that waited.
 ///
 /// Blocks that a worker takes from its stack pass no gate, nor does what the caller scans of a later round before the
 /// workers start. Gates are for tests, which hold a worker until another has come; [`Open`] holds none.

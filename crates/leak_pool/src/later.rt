@@ -42,7 +42,8 @@ pub(crate) fn later<R: Threads + Sync, S: Source + Sync, G: Gate + Sync>(
     by_workers(rt, alloc, search, items.as_slice(), progress)
 }
 
-/// The rounds after the first, until no block waits, and how many rounds there were with the first.
+/// Runs the rounds after the first, until no block waits. Gives what is marked then, and the number of rounds, the first
+/// included.
 pub(crate) fn until_none<R: Threads + Sync, S: Source + Sync, G: Gate + Sync>(
     rt: &R,
     alloc: Global,

@@ -33,7 +33,7 @@ pub(crate) trait Source {
     fn roots(&self) -> usize
         ensures { result ≡ length (roots self.now) };
 
-    /// Claims what an item leads to, and lists what was claimed. No claim is on no list, also after an error.
+    /// Claims what an item leads to, and adds each claim to the list. After an error too, each claim is on the list.
     fn scan(
         &self,
         marks: &Marks,

@@ -13,8 +13,8 @@ use crate::task::{Gained, Gains, Task};
 use leak_marks::{MarkSeat, Marks};
 use std::alloc::{AllocError, Global};
 
-/// Where the share of a worker begins, and that of the worker before it ends: `worker * items / workers`, by a way
-/// that can't overflow.
+/// The first item of a worker's share, where the share before it ends: `worker * items / workers`, computed so that
+/// nothing overflows.
 pub(crate) fn share_start(worker: u32, items: usize, workers: u32) -> usize
     requires some { 0 < workers }
     requires few { workers ≤ 64 }

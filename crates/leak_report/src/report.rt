@@ -11,8 +11,11 @@ use crate::totals::{CallerRow, Totals};
 use leak_blocks::{Block, Live};
 use std::alloc::{AllocError, Global};
 
-/// Makes the report of the live blocks, of which the set has the marked ones, and of the others the heads are those with
-/// that entry. The entries of marked blocks say nothing. The log's bytes are those that the callers are ranges of.
+/// Makes the report of the live blocks: its lines in ASCII, each with its line feed, as docs/FORMAT.md has them.
+///
+/// `set` and `heads` have one entry for each block. A block is marked where `set` says so; of the others the heads are those
+/// with that entry in `heads`, whose entries of marked blocks say nothing. `log` is the log that the callers are ranges of,
+/// in bytes. It fails where memory is refused, and then alone.
 pub fn text(
     alloc: Global,
     head: &Head,

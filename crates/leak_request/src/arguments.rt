@@ -149,7 +149,7 @@ fn reading(found: &ArgMatches) -> Result<Reading, DisplaceFault>
     }
 }
 
-/// The refusal of words that clap accepts although a subcommand, a path or a number is missing.
+/// The refusal where clap accepts the words, and a subcommand, a path or a number is missing.
 fn bad_arguments(alloc: Global) -> UsageFault
     ensures { IsBadBy (Unit {0}) result }
 {

@@ -33,7 +33,10 @@ impl Model for Roots {
 impl Roots {
     /// Finds the root words of a core, given its threads and the live blocks of its log.
     ///
-    /// The threads are taken as they are given: only where they are the core's are the places those of its root words.
+    /// They are the register words of the threads, as they are given, and the words of 8 bytes at the multiples of 8 in
+    /// writable segments that share no byte with a live block and whose bytes the core holds: registers, stacks and
+    /// static data, as Boehm's collector takes them. Only where the threads are the core's are these the core's root
+    /// words. It fails where memory is refused, and then alone.
     pub fn find(
         alloc: Global,
         image: &Image,

@@ -68,7 +68,7 @@ fn first_window(pages: Option<&Pages>, from: u64, count: u64) -> Option<(u64, u6
     Some((start, window.min(count - skipped)))
 }
 
-/// The blocks that the first word that leads to any leads to, and what is left after that word.
+/// Scans up to the next word that leads to a block: the blocks that it leads to, and the words after it.
 pub(crate) fn next_hits<'a, W: Words, L: Lookup>(
     words: &'a W,
     lookup: &L,
