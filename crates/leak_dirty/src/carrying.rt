@@ -29,7 +29,8 @@ fn sorted_marked_lines(
 ) -> Result<Vec<usize>, AllocError>
     requires { length marked.now ≡ length blocks.now }
     ensures ascending { IfOk result (λ v. IsNonDecreasing v.items) }
-    ensures lines { IfOk result (λ v. (line : _) → has v.items line ≡ has_marked_line marked.now blocks.now line) }
+    ensures lines { IfOk result (λ v.
+        (line : _) → has v.items line ≡ has_marked_line marked.now blocks.now line) }
 {
     let mut lines = Vec::new(alloc);
     for (i, block) in blocks.iter().enumerate() {
@@ -61,8 +62,10 @@ pub fn carry(
 ) -> Result<Carry, AllocError>
     requires tests { length marked.now ≡ length earlier.now.blocks }
     requires few { length later.now.blocks < 2 ^ 32 }
-    ensures kept { IfOk result (λ c. c.kept.items ≡ kept_of earlier.now.blocks marked.now later.now.blocks) }
-    ensures fresh { IfOk result (λ c. c.fresh.items ≡ absent_of earlier.now.blocks later.now.blocks) }
+    ensures kept { IfOk result (λ c.
+        c.kept.items ≡ kept_of earlier.now.blocks marked.now later.now.blocks) }
+    ensures fresh { IfOk result (λ c.
+        c.fresh.items ≡ absent_of earlier.now.blocks later.now.blocks) }
     ensures lists { IfOk result (IsCarry (length later.now.blocks)) }
 {
     let lines = sorted_lines(alloc, earlier.blocks())?;

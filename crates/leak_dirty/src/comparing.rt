@@ -44,8 +44,10 @@ fn words_differ(first: &Image, second: &Image, page: u64) -> bool
 fn runs_differ(before: &[u8], now: &[u8]) -> bool
     requires before { 4096 ≤ length before.now }
     requires now { 4096 ≤ length now.now }
-    ensures differ { IsTrue result → (k : ℕ) × (k < 512) × (number_at w64 before.now (8 * k) ≢ number_at w64 now.now (8 * k)) }
-    ensures same { IsFalse result → (k : ℕ) → k < 512 → number_at w64 before.now (8 * k) ≡ number_at w64 now.now (8 * k) }
+    ensures differ { IsTrue result →
+        (k : ℕ) × (k < 512) × (number_at w64 before.now (8 * k) ≢ number_at w64 now.now (8 * k)) }
+    ensures same { IsFalse result →
+        (k : ℕ) → k < 512 → number_at w64 before.now (8 * k) ≡ number_at w64 now.now (8 * k) }
 {
     before[..4096] != now[..4096]
 }
@@ -93,7 +95,9 @@ fn differing_in(
     to: u64,
 ) -> Result<Vec<u64>, AllocError>
     requires { to ≤ 2 ^ 52 }
-    ensures { IfOk result (λ v. v.items ≡ filter (differs (word_of first.now) (word_of second.now)) (range_with_len from (to - from))) }
+    ensures { IfOk result (λ v.
+        v.items ≡ filter (differs (word_of first.now) (word_of second.now))
+        (range_with_len from (to - from))) }
 {
     let mut pages = Vec::new(alloc);
     let mut page = from;
@@ -149,7 +153,9 @@ pub fn differing<R: Threads + Sync>(
         .map(
             |piece: &(u64, u64)| -> Result<Vec<u64>, AllocError>
                 requires { piece.now.1 ≤ 2 ^ 52 }
-                ensures { IfOk result (λ v. v.items ≡ filter (differs (word_of first.entry.now) (word_of second.entry.now)) (range_with_len piece.now.0 (piece.now.1 - piece.now.0))) }
+                ensures { IfOk result (λ v.
+                    v.items ≡ filter (differs (word_of first.entry.now) (word_of second.entry.now))
+                    (range_with_len piece.now.0 (piece.now.1 - piece.now.0))) }
             { differing_in(alloc, first, second, piece.0, piece.1) },
         )
         .collect::<Result<Vec<Vec<u64>>, AllocError>>(rt, alloc)??;

@@ -26,7 +26,8 @@ pub struct Retraced {
 
 /// The kept blocks and the fresh ones, by ascending number.
 fn marked_by(alloc: Global, carry: &Carry) -> Result<Vec<u32>, AllocError>
-    ensures { IfOk result (λ v. IsPermutation (carry.now.kept.items ++ carry.now.fresh.items) v.items) }
+    ensures { IfOk result (λ v.
+        IsPermutation (carry.now.kept.items ++ carry.now.fresh.items) v.items) }
 {
     let mut marked = Vec::with_capacity(alloc, carry.kept.len())?;
     marked.extend_from_slice(&carry.kept)?;
@@ -48,8 +49,11 @@ fn push_parts(parts: &mut Vec<(u32, Part)>, blocks: &[u32], part: Part) -> Resul
 /// The state to mark from: kept and fresh blocks are marked. Of the kept ones only the differing pages are scanned
 /// again, since their other words lead to no block outside the start; the fresh ones are scanned whole.
 fn start_of(alloc: Global, carry: &Carry) -> Result<Start, AllocError>
-    ensures marked { IfOk result (λ s. IsPermutation (carry.now.kept.items ++ carry.now.fresh.items) s.marked.items) }
-    ensures rescan { IfOk result (λ s. s.rescan.items ≡ map (λ b. (b, Part.Differing)) carry.now.kept.items ++ map (λ b. (b, Part.Whole)) carry.now.fresh.items) }
+    ensures marked { IfOk result (λ s.
+        IsPermutation (carry.now.kept.items ++ carry.now.fresh.items) s.marked.items) }
+    ensures rescan { IfOk result (λ s.
+        s.rescan.items ≡ map (λ b. (b, Part.Differing)) carry.now.kept.items
+        ++ map (λ b. (b, Part.Whole)) carry.now.fresh.items) }
 {
     let marked = marked_by(alloc, carry)?;
     let mut rescan = Vec::new(alloc);
@@ -77,7 +81,8 @@ pub fn retrace<R: Threads + Sync, W: Words + Sync, L: Lookup + Sync, G: Gate + S
     requires blocks { (L.index lookup.now).blocks ≡ live.now.blocks }
     requires carried { IsCarry (length live.now.blocks) carry.now }
     ensures many { IsErrOf result PoolError.TooMany ↔ (2 ^ 32 - 1 < length live.now.blocks) }
-    ensures traced { IfOk result (IsRetrace (W.word_at second.now) (L.index lookup.now) roots.now pages.now carry.now plan.workers) }
+    ensures traced { IfOk result (IsRetrace (W.word_at second.now) (L.index lookup.now)
+        roots.now pages.now carry.now plan.workers) }
 {
     if live.blocks().len() > u32::MAX as usize {
         return Err(PoolError::TooMany);

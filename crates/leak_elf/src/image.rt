@@ -102,7 +102,9 @@ impl<'a> Image<'a> {
     #[tactic(auto, unfolding(crate::specs::Segments::segments_of))]
     pub fn bytes_of(&self, i: usize) -> &'a [u8]
         requires { i < length (segments_of self.now) }
-        ensures { (d : Segment) → let s = slice_index_or (segments_of self.now) i d in result.now ≡ bytes_at self.now s.offset s.filesz }
+        ensures { (d : Segment) →
+            let s = slice_index_or (segments_of self.now) i d in
+            result.now ≡ bytes_at self.now s.offset s.filesz }
     {
         let segment = self.segments[i];
         bytes_from(self.core, segment.offset, segment.filesz)
@@ -112,8 +114,12 @@ impl<'a> Image<'a> {
     #[tactic(auto, unfolding(crate::specs::Segments::note_parts_of))]
     pub fn note_bytes(&self, i: usize) -> &'a [u8]
         requires { i < length (note_parts_of self.now) }
-        ensures value { (d : NotePart) → let p = slice_index_or (note_parts_of self.now) i d in result.now ≡ bytes_at self.now p.offset p.filesz }
-        ensures end { (d : NotePart) → let p = slice_index_or (note_parts_of self.now) i d in p.offset + length result.now < 2 ^ 64 }
+        ensures value { (d : NotePart) →
+            let p = slice_index_or (note_parts_of self.now) i d in
+            result.now ≡ bytes_at self.now p.offset p.filesz }
+        ensures end { (d : NotePart) →
+            let p = slice_index_or (note_parts_of self.now) i d in
+            p.offset + length result.now < 2 ^ 64 }
     {
         let part = self.parts[i];
         bytes_from(self.core, part.offset, part.filesz)

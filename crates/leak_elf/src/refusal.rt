@@ -119,7 +119,8 @@ fn apart_segments(alloc: Global, headers: &[Header], count: usize) -> Result<Vec
     requires { count ≤ length headers.now }
     ensures items { IfOk result (λ v. v.items ≡ kept_of (take count headers.now)) }
     ensures ok { OnOk result (meet_within headers.now count ≡ false) }
-    ensures refused { IfErr result (λ e. e ≢ ElfError.NoMemory → IsMeetingBefore headers.now count e) }
+    ensures refused { IfErr result (λ e.
+        e ≢ ElfError.NoMemory → IsMeetingBefore headers.now count e) }
 {
     let segments = kept_segments(alloc, &headers[..count])?;
     if neighbors_meet(segments.as_slice()) {
@@ -136,7 +137,8 @@ pub(crate) fn check_headers(
 ) -> Result<Vec<Segment>, ElfError>
     ensures items { IfOk result (λ v. v.items ≡ kept_of headers.now) }
     ensures ok { OnOk result (faults_from core.now [] 0 headers.now ≡ None) }
-    ensures refused { IfErr result (λ e. e ≢ ElfError.NoMemory → faults_from core.now [] 0 headers.now ≡ Some e) }
+    ensures refused { IfErr result (λ e.
+        e ≢ ElfError.NoMemory → faults_from core.now [] 0 headers.now ≡ Some e) }
 {
     for (i, header) in headers.iter().enumerate() {
         if let Err(error) = check_extent(core, i, *header) {

@@ -97,7 +97,9 @@ fn push_file_header(core: &mut Vec<u8>, count: u16) -> Result<(), AllocError>
 /// Appends a program header.
 #[tactic(auto, unfolding(crate::specs::Sample::program_header))]
 fn push_header(core: &mut Vec<u8>, header: Header, align: u64) -> Result<(), AllocError>
-    ensures { OnOk result (core.new.items ≡ core.old.items ++ program_header header.kind header.flags header.offset header.vaddr header.filesz header.memsz align) }
+    ensures { OnOk result (core.new.items ≡ core.old.items
+        ++ program_header header.kind header.flags header.offset header.vaddr header.filesz
+        header.memsz align) }
 {
     push(core, &header.kind.to_le_bytes())?;
     push(core, &header.flags.to_le_bytes())?;

@@ -13,8 +13,10 @@ use std::alloc::{AllocError, Global};
 pub(crate) fn count_up_to(segments: &[Segment], addr: u64) -> usize
     requires { IsAscending segments.now }
     ensures bound { result ≤ length segments.now }
-    ensures within { (k : ℕ) (d : Segment) → k < result → (slice_index_or segments.now k d).vaddr ≤ addr }
-    ensures beyond { (k : ℕ) (d : Segment) → result ≤ k → k < length segments.now → addr < (slice_index_or segments.now k d).vaddr }
+    ensures within { (k : ℕ) (d : Segment) →
+        k < result → (slice_index_or segments.now k d).vaddr ≤ addr }
+    ensures beyond { (k : ℕ) (d : Segment) →
+        result ≤ k → k < length segments.now → addr < (slice_index_or segments.now k d).vaddr }
 {
     segments.partition_point(|segment| segment.vaddr <= addr)
 }

@@ -51,7 +51,8 @@ fn read_segment(header: Header) -> Segment
 pub(crate) fn kept_segments(alloc: Global, headers: &[Header]) -> Result<Vec<Segment>, AllocError>
     ensures items { IfOk result (λ v. v.items ≡ kept_of headers.now) }
     ensures ascending { IfOk result (λ v. IsAscending v.items) }
-    ensures some { IfOk result (λ v. (k : ℕ) (d : Segment) → k < length v.items → 0 < (slice_index_or v.items k d).memsz) }
+    ensures some { IfOk result (λ v.
+        (k : ℕ) (d : Segment) → k < length v.items → 0 < (slice_index_or v.items k d).memsz) }
 {
     let mut segments = Vec::new(alloc);
     for header in headers {
@@ -68,7 +69,8 @@ pub(crate) fn kept_segments(alloc: Global, headers: &[Header]) -> Result<Vec<Seg
 /// By ascending address it is enough to look at neighbors.
 pub(crate) fn neighbors_meet(segments: &[Segment]) -> bool
     requires ascending { IsAscending segments.now }
-    requires some { (k : ℕ) (d : Segment) → k < length segments.now → 0 < (slice_index_or segments.now k d).memsz }
+    requires some { (k : ℕ) (d : Segment) →
+        k < length segments.now → 0 < (slice_index_or segments.now k d).memsz }
     ensures { result ≡ any_meet segments.now }
 {
     for i in 1..segments.len() {

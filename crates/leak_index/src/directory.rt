@@ -35,7 +35,8 @@ impl Directory {
     /// The directory of blocks by ascending start.
     pub(crate) fn new(alloc: Global, blocks: &[Block]) -> Result<Directory, AllocError>
         requires { AreDisjoint blocks.now }
-        ensures { IfOk result (λ directory. IsDirectory blocks.now directory.pages.items directory.firsts.items) }
+        ensures { IfOk result (λ directory.
+            IsDirectory blocks.now directory.pages.items directory.firsts.items) }
     {
         let mut pages = Vec::new(alloc);
         let mut firsts = Vec::new(alloc);

@@ -7,12 +7,14 @@ ghost use Rattle.leak_index.specs.Rows.{AreWorkedWords};
 
 /// A word leads to two blocks of a log at most.
 pub fn at_most_two()
-    ensures { (index : Index) (word : ℕ) → AreDisjoint index.blocks → length (hits_of index word) ≤ 2 }
+    ensures { (index : Index) (word : ℕ) →
+        AreDisjoint index.blocks → length (hits_of index word) ≤ 2 }
 {}
 
 /// The numbers of the blocks that a word leads to are below the number of blocks.
 pub fn hits_are_blocks()
-    ensures { (index : Index) (word : ℕ) → AllByRecursion (λ block. block < length index.blocks) (hits_of index word) }
+    ensures { (index : Index) (word : ℕ) →
+        AllByRecursion (λ block. block < length index.blocks) (hits_of index word) }
 {}
 
 /// The blocks that some words lead to.

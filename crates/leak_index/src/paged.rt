@@ -33,7 +33,8 @@ impl<'a> Model for Paged<'a> {
 impl<'a> Paged<'a> {
     /// The lookup among the blocks by the reading.
     pub fn new(alloc: Global, live: &'a Live, reading: Reading) -> Result<Paged<'a>, AllocError>
-        ensures { IfOk result (λ paged. paged ≡ record { blocks = live.now.blocks; reading = listed_by reading }) }
+        ensures { IfOk result (λ paged.
+            paged ≡ record { blocks = live.now.blocks; reading = listed_by reading }) }
     {
         let candidates = Candidates::new(live, reading);
         let finder = Finder::new(alloc, candidates.blocks())?;

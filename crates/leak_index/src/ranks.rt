@@ -64,7 +64,9 @@ impl Ranks {
         requires inside { number < length blocks.now }
         requires made { IsMadeTo blocks.now number self.old }
         requires rest { self.old.next ≤ row_of blocks.now number + 1 }
-        ensures { IfOk result (λ unit. IsMadeTo blocks.now (number + 1) self.new × (self.new.next ≡ row_of blocks.now number + 1)) }
+        ensures { IfOk result (λ unit.
+            IsMadeTo blocks.now (number + 1) self.new
+            × (self.new.next ≡ row_of blocks.now number + 1)) }
     {
         self.reach(blocks, number)?;
         let start = blocks[number].start;
@@ -78,7 +80,8 @@ impl Ranks {
         requires inside { number < length blocks.now }
         requires made { IsMadeTo blocks.now number self.old }
         requires rest { self.old.next ≤ row_of blocks.now number + 1 }
-        ensures { IfOk result (λ unit. IsMadeTo blocks.now number self.new × (self.new.next ≡ row_of blocks.now number + 1)) }
+        ensures { IfOk result (λ unit.
+            IsMadeTo blocks.now number self.new × (self.new.next ≡ row_of blocks.now number + 1)) }
     {
         let row = blocks[number].start / ROW;
         if row < self.next {
@@ -113,7 +116,8 @@ impl Ranks {
         requires made { IsMadeTo blocks.now first self.old }
         requires rest { self.old.next ≤ row }
         requires fits { row + 1 < 2 ^ 64 }
-        ensures { IfOk result (λ unit. IsMadeTo blocks.now first self.new × (self.new.next ≡ row + 1)) }
+        ensures { IfOk result (λ unit.
+            IsMadeTo blocks.now first self.new × (self.new.next ≡ row + 1)) }
     {
         self.numbers.push(row)?;
         self.places.push(self.rows.len())?;

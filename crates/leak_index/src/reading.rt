@@ -32,7 +32,8 @@ impl Reading {
 
     /// The distance 0 and the listed ones. A value may stand in the list more than once.
     pub fn displaced(values: &[u64]) -> Result<Reading, ReadingError>
-        ensures ok { IfOk result (λ reading. (listed_by reading ≡ Some values.now) × (refusal_of values.now ≡ None)) }
+        ensures ok { IfOk result (λ reading.
+            (listed_by reading ≡ Some values.now) × (refusal_of values.now ≡ None)) }
         ensures refused { IfErr result (λ e. refusal_of values.now ≡ Some e) }
     {
         if values.len() > 16 {

@@ -35,7 +35,8 @@ impl Model for Marks {
 impl Marks {
     /// Makes a table in which no block is marked, and its first seat, which has the whole share.
     pub fn new(alloc: Global, blocks: u32) -> Result<(Marks, MarkSeat), AllocError>
-        ensures { IfOk result (λ r. (r.0.blocks ≡ blocks) × (r.1 ≡ held r.0.table [] [] 4294967296)) }
+        ensures { IfOk result (λ r.
+            (r.0.blocks ≡ blocks) × (r.1 ≡ held r.0.table [] [] 4294967296)) }
     {
         let zeros = vec![in alloc; 0u64; count_for(blocks)]?;
         let (words, seat) = Table::of_words(alloc, zeros.as_slice(), &blocks)?;
@@ -52,7 +53,8 @@ impl Marks {
     pub fn claim(&self, seat: &mut MarkSeat, block: u32) -> bool
         requires table { seat.old.table ≡ self.now.table }
         requires block { block < self.now.blocks }
-        ensures won { IsTrue result → (seat.new ≡ with_claim seat.old block) × ¬ Has seat.old.seen block }
+        ensures won { IsTrue result →
+            (seat.new ≡ with_claim seat.old block) × ¬ Has seat.old.seen block }
         ensures lost { result ≡ false → seat.new ≡ with_sight seat.old block }
         ensures table { seat.new.table ≡ seat.old.table }
         ensures sound { IsSound seat.new }
@@ -142,7 +144,8 @@ impl Marks {
         ensures clear { IfOk result (λ w. (b : ℕ) → self.blocks ≤ b → mark_of w.items b ≡ 0) }
         ensures claimed { IfOk result (λ w. (b : ℕ) → Has seat.claims b → mark_of w.items b ≡ 1) }
         ensures seen { IfOk result (λ w. (b : ℕ) → Has seat.seen b → mark_of w.items b ≡ 1) }
-        ensures whole { seat.share ≡ 4294967296 → IfOk result (λ w. Within seat.seen seat.claims × ((b : ℕ) → mark_of w.items b ≡ times b seat.claims)) }
+        ensures whole { seat.share ≡ 4294967296 → IfOk result (λ w.
+            Within seat.seen seat.claims × ((b : ℕ) → mark_of w.items b ≡ times b seat.claims)) }
     {
         let MarkSeat {
             seat: last,

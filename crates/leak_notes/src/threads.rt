@@ -32,7 +32,8 @@ impl Threads {
     fn take_entry(&mut self, entry: &Entry) -> Result<(), NoteError>
         ensures ok { OnOk result (TakesUp self.old self.new (entry.now ∷ [])) }
         ensures whole { OnOk result (IsFalse (is_cut entry.now)) }
-        ensures refused { IfErr result (λ e. e ≢ NoteError.NoMemory → first_fault_among (entry.now ∷ []) ≡ Some e) }
+        ensures refused { IfErr result (λ e.
+            e ≢ NoteError.NoMemory → first_fault_among (entry.now ∷ []) ≡ Some e) }
     {
         if entry.is_cut() {
             return Err(NoteError::Cut(entry.offset()));
@@ -55,8 +56,12 @@ impl Threads {
     /// Takes up the entries of a part that begins at the offset in the file.
     fn take_part(&mut self, offset: u64, part: &[u8]) -> Result<(), NoteError>
         requires { offset + length part.now < 2 ^ 64 }
-        ensures ok { OnOk result (TakesUp self.old self.new (entries_from (record { offset = offset; bytes = part.now }))) }
-        ensures refused { IfErr result (λ e. e ≢ NoteError.NoMemory → first_fault_among (entries_from (record { offset = offset; bytes = part.now })) ≡ Some e) }
+        ensures ok { OnOk result (TakesUp self.old self.new
+            (entries_from (record { offset = offset; bytes = part.now }))) }
+        ensures refused { IfErr result (λ e.
+            e ≢ NoteError.NoMemory →
+            first_fault_among (entries_from (record { offset = offset; bytes = part.now }))
+            ≡ Some e) }
     {
         let mut entry = Entry::first(offset, part);
         while !entry.is_end() {
@@ -68,8 +73,10 @@ impl Threads {
 
     /// Reads the notes of a core, or gives the first reason against them.
     pub fn read(alloc: Global, image: &Image) -> Result<Threads, NoteError>
-        ensures ok { IfOk result (λ t. (t ≡ threads_of image.now) × (note_fault_of image.now ≡ None)) }
-        ensures refused { IfErr result (λ e. e ≢ NoteError.NoMemory → note_fault_of image.now ≡ Some e) }
+        ensures ok { IfOk result (λ t.
+            (t ≡ threads_of image.now) × (note_fault_of image.now ≡ None)) }
+        ensures refused { IfErr result (λ e.
+            e ≢ NoteError.NoMemory → note_fault_of image.now ≡ Some e) }
     {
         let mut threads = Threads {
             words: Vec::new(alloc),

@@ -11,7 +11,8 @@ use leak_index::{Hits, Lookup};
 
 /// The blocks that the first such word leads to, and the words after it.
 pub(crate) fn first_of_list<'a, L: Lookup>(lookup: &L, words: &'a [u64]) -> (Hits, &'a [u64])
-    ensures split { targets_of (L.index lookup.now) words.now ≡ hits_in result.0 ++ targets_of (L.index lookup.now) result.1.now }
+    ensures split { targets_of (L.index lookup.now) words.now
+        ≡ hits_in result.0 ++ targets_of (L.index lookup.now) result.1.now }
     ensures end { result.0 ≡ Hits.Zero → result.1.now ≡ [] }
 {
     let mut rest = words;
@@ -27,7 +28,8 @@ pub(crate) fn first_of_list<'a, L: Lookup>(lookup: &L, words: &'a [u64]) -> (Hit
 
 /// The same over bytes, each 8 of which are a word.
 pub(crate) fn first_of_run<'a, L: Lookup>(lookup: &L, bytes: &'a [u8]) -> (Hits, &'a [u8])
-    ensures split { targets_of (L.index lookup.now) (words_in bytes.now) ≡ hits_in result.0 ++ targets_of (L.index lookup.now) (words_in result.1.now) }
+    ensures split { targets_of (L.index lookup.now) (words_in bytes.now)
+        ≡ hits_in result.0 ++ targets_of (L.index lookup.now) (words_in result.1.now) }
     ensures end { result.0 ≡ Hits.Zero → words_in result.1.now ≡ [] }
 {
     let mut rest = bytes;

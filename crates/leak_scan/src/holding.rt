@@ -24,7 +24,8 @@ pub fn heads<W: Words, L: Lookup>(
 ) -> Result<Vec<bool>, AllocError>
     requires one_each { length set.now ≡ length live.now.blocks }
     requires same_blocks { (L.index lookup.now).blocks ≡ live.now.blocks }
-    ensures { IfOk result (λ heads. heads.items ≡ heads_of (W.word_at words.now) (L.index lookup.now) set.now) }
+    ensures { IfOk result (λ heads.
+        heads.items ≡ heads_of (W.word_at words.now) (L.index lookup.now) set.now) }
 {
     let mut heads = leaked(alloc, set)?;
     drop_held(words, lookup, live.blocks(), set, heads.as_mut_slice());
@@ -68,7 +69,8 @@ fn drop_held<W: Words, L: Lookup>(
 /// Drops the targets of a block from the heads, but for the block itself.
 fn drop_targets<W: Words, L: Lookup>(targets: Targets<'_, W, L>, own: usize, heads: &mut [bool])
     requires inside { AllByRecursion (λ b. b < length heads.old) targets }
-    ensures { (b : ℕ) → slice_index_or heads.new b false ≡ after_targets heads.old own targets.entry b }
+    ensures { (b : ℕ) →
+        slice_index_or heads.new b false ≡ after_targets heads.old own targets.entry b }
 {
     for target in targets {
         if target != own {

@@ -9,7 +9,8 @@ use leak_index::hits_are_blocks;
 
 /// The numbers of the blocks that words lead to are below the number of blocks.
 pub fn targets_are_blocks()
-    ensures { (index : Index) (words : List ℕ) → AllByRecursion (λ block. block < length index.blocks) (targets_of index words) }
+    ensures { (index : Index) (words : List ℕ) →
+        AllByRecursion (λ block. block < length index.blocks) (targets_of index words) }
 {
     hits_are_blocks();
 }

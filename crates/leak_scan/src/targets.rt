@@ -76,7 +76,8 @@ impl<'a, W: Words, L: Lookup> Targets<'a, W, L> {
         block: &Block,
         pages: &'a Pages,
     ) -> Targets<'a, W, L>
-        ensures { result ≡ targets_of (L.index lookup.now) (block_words_on (W.word_at words.now) pages.now block.now) }
+        ensures { result ≡ targets_of (L.index lookup.now)
+            (block_words_on (W.word_at words.now) pages.now block.now) }
     {
         let count = block.size.saturating_sub(7);
         Targets::over(words, lookup, Some(pages), block.start, count)
