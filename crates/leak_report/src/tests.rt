@@ -42,15 +42,13 @@ fn report(
     Ok(text(alloc, head, &live, marked, heads, log.as_bytes())?)
 }
 
+/// The report of a log without a live block.
+const NO_BLOCK: &str = "blocks 0 bytes 0\nundumped 0\nunknown 0 displaced 0 torn 0\nmarked 0 bytes 0\nleaked 0 bytes 0\nheads 0\n";
+
 #[test]
 fn whole_reports(rt: HostRuntime) -> Result<(), Fail> {
     let cases = [
-        (
-            "",
-            [].as_slice(),
-            [].as_slice(),
-            "blocks 0 bytes 0\nundumped 0\nunknown 0 displaced 0 torn 0\nmarked 0 bytes 0\nleaked 0 bytes 0\nheads 0\n",
-        ),
+        ("", [].as_slice(), [].as_slice(), NO_BLOCK),
         (
             "@ ./a.out:[0x401136] + 0x10100 0x20\n",
             [true].as_slice(),

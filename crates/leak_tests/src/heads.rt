@@ -90,12 +90,9 @@ fn heads_of_two_cores_are_those_of_the_later(rt: HostRuntime) -> Result<(), Fail
     let empty = core_of(rt.alloc(), &[])?;
     let held = core_of(rt.alloc(), &[Part::Word(0x10100, 0x10200)])?;
     let front = "blocks 2 bytes 48\n\
-                 undumped 0\n\
-                 unknown 0 displaced 0 torn 0\n\
-                 new 0 bytes 0\n\
-                 reread 0\n\
-                 marked 0 bytes 0\n\
-                 leaked 2 bytes 48\n";
+                 undumped 0\nunknown 0 displaced 0 torn 0\n\
+                 new 0 bytes 0\nreread 0\n\
+                 marked 0 bytes 0\nleaked 2 bytes 48\n";
     let now_held = "heads 1\n\
                     caller 2 48 1 ?\n\
                     leak 0x10100 32 1 head ?\n\

@@ -45,7 +45,21 @@ fn texts_of_refused_inputs(rt: HostRuntime) -> Result<(), Fail> {
     ];
     for (error, text) in rows {
         assert_eq!(rt; error.to_string(rt.alloc())?.as_str(), text);
-        // A run prints the text of the search.
+    }
+    Ok(())
+}
+
+#[test]
+fn a_run_tells_the_text_of_its_search(rt: HostRuntime) -> Result<(), Fail> {
+    let rows = [
+        (
+            FindError::Log(2, LogError::BadLine(2)),
+            "input 2: log: line 2 is not an mtrace line",
+        ),
+        (FindError::NotPrefix, "log 1 is not a prefix of log 2"),
+        (FindError::NoMemory, "out of memory"),
+    ];
+    for (error, text) in rows {
         let fault = RunFault::Find(error);
         assert_eq!(rt; fault.to_string(rt.alloc())?.as_str(), text);
     }
