@@ -87,6 +87,7 @@ pub fn retrace<R: Threads + Sync, W: Words + Sync, L: Lookup + Sync, G: Gate + S
     if live.blocks().len() > u32::MAX as usize {
         return Err(PoolError::TooMany);
     }
+    // (a law, for the proof: what is marked from kept and new blocks comes to what is marked of all)
     retraces();
     let start = start_of(alloc, carry)?;
     let marked = mark_from(

@@ -116,6 +116,7 @@ fn compare<R: Threads + Sync, G: Gate + Sync>(
     ensures between { IfOk result (λ between. (before now : List Line) → ArePaired before now inputs.now → IsBetween inputs.now.first.image inputs.now.second.image (listed_by reading) before now between) }
     ensures memory { IfErr result (λ e. e ≡ FindError.NoMemory) }
 {
+    // (a law, for the proof: blocks that the first log lacks are new)
     absent_are_fresh();
     let marked = mark_earlier(rt, alloc, &inputs.first, reading, plan, gate)?;
     let carry = carry(
@@ -168,6 +169,7 @@ pub fn find_two<R: Threads + Sync, G: Gate + Sync>(
     ensures ok { IfOk result (FindsTwo core1.now log1.now core2.now log2.now (listed_by reading) plan.workers) }
     ensures refused { IfErr result (λ e. e ≢ FindError.NoMemory → IsFaultOfTwo core1.now log1.now core2.now log2.now e) }
 {
+    // (a law, for the proof: words on pages that are the same need no second scan)
     same_words_lead_within();
     let inputs = read_two(alloc, core1, log1, core2, log2)?;
     let between = compare(rt, alloc, &inputs, reading, plan, gate)?;

@@ -87,6 +87,7 @@ fn mark_words<R: Threads + Sync, S: Source + Sync, G: Gate + Sync>(
     ensures { let targets = S.targets source.now in let graph = graph_over (S.roots source.now) targets given.now in
         IfOk result (λ r. AreWords graph (length targets) plan.workers r.0.items (as_lists r.1.items) r.2) }
 {
+    // (a law, for the proof: a whole run marks what chains reach, and its claims are one for each block)
     whole_runs();
     let workers = plan.workers();
     // A stack never holds more blocks than there are.

@@ -19,5 +19,6 @@ pub fn worked_reports()
 pub fn live_have_callers()
     ensures { LiveHaveCallers }
 {
+    // (a law, for the proof: each live block is of a line)
     live_are_of_lines();
 }

@@ -12,6 +12,7 @@ pub fn targets_are_blocks()
     ensures { (index : Index) (words : List ℕ) →
         AllByRecursion (λ block. block < length index.blocks) (targets_of index words) }
 {
+    // (a law, for the proof: each hit is the number of a block)
     hits_are_blocks();
 }
 
