@@ -1,2 +1,4 @@
 pub mod Fit
 pub mod Rows
+pub mod FreeLinks
+pub mod LinkRows

@@ -1,6 +1,6 @@
 //! Size words of chunks (glibc's malloc, `struct malloc_chunk`).
-ghost use Rattle.std.specs.Prelude.{◌≡◌};
-ghost use Rattle.leak_fit.specs.Fit.{is_previous_in_use, is_mapped, chunk_size, is_mapping_for, is_heap_chunk_for};
+ghost use Rattle.std.specs.Prelude.{◌≡◌, ◌≤◌, ◌^◌, MatchOption};
+ghost use Rattle.leak_fit.specs.Fit.{is_previous_in_use, is_mapped, chunk_size, is_mapping_for, is_heap_chunk_for, least_chunk};
 
 /// PREV_INUSE, a flag of a size word: the chunk before this one is in use.
 const PREV_INUSE: u64 = 0b001;
@@ -47,10 +47,21 @@ pub(crate) fn is_mapping_for(size: u64, chunk: u64) -> bool
 pub(crate) fn is_heap_chunk_for(size: u64, chunk: u64) -> bool
     ensures { result ≡ is_heap_chunk_for size chunk }
 {
-    // A request near 2^64 bytes has no chunk, since its size would not fit a word.
-    let Some(padded) = size.checked_add(23) else {
+    let Some(least) = least_chunk(size) else {
         return false;
     };
-    let least = (padded / 16 * 16).max(32);
     matches!(chunk.checked_sub(least), Some(0 | 16 | 32))
+}
+
+/// The size of the least chunk of a heap for a block of the size, in bytes.
+///
+/// A block near 2^64 bytes has none, since that size would not fit a word.
+pub(crate) fn least_chunk(size: u64) -> Option<u64>
+    ensures { MatchOption result (2 ^ 64 ≤ least_chunk size) (λ least. least ≡ least_chunk size) }
+{
+    let Some(padded) = size.checked_add(23) else {
+        return None;
+    };
+    let least = (padded / 16 * 16).max(32);
+    Some(least)
 }

@@ -64,7 +64,7 @@ fn follows_one_in_use<W: Words>(words: &W, addr: u64, bytes: u64) -> bool
 }
 
 /// The word so many bytes after the address, if there is one.
-fn word_after<W: Words>(words: &W, addr: u64, bytes: u64) -> Option<u64>
+pub(crate) fn word_after<W: Words>(words: &W, addr: u64, bytes: u64) -> Option<u64>
     ensures { result ≡ W.word_at words.now (addr + bytes) }
 {
     match addr.checked_add(bytes) {

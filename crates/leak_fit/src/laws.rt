@@ -1,8 +1,21 @@
-//! Worked chunks.
+//! Worked chunks, and worked links.
 ghost use Rattle.leak_fit.specs.Rows.{AreWorkedChunks};
+ghost use Rattle.leak_fit.specs.LinkRows.{AreWorkedLinks, AreWorkedHits};
 
 /// Some size words, and whether a block fits them.
 #[tactic(auto, unfolding(crate::specs::Fit::fits_core))]
 pub fn worked_chunks()
     ensures { AreWorkedChunks }
+{}
+
+/// Some words, and whether they are links to free chunks.
+#[tactic(auto, unfolding(crate::specs::FreeLinks::is_free_link))]
+pub fn worked_links()
+    ensures { AreWorkedLinks }
+{}
+
+/// The blocks that a word leads to, and those that are left without links to free chunks.
+#[tactic(auto, unfolding(crate::specs::FreeLinks::is_free_link))]
+pub fn worked_hits()
+    ensures { AreWorkedHits }
 {}

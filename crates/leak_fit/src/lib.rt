@@ -4,6 +4,10 @@
 //! one is in use. [`fits`] compares that with the live blocks of a log: a block that the core's heap does not have as the
 //! log has it was given back, or is of another moment or another process.
 //!
+//! By the same words [`is_free_link`] tells a link of malloc to a free chunk from a pointer of the program:
+//! the words of malloc's lists, and its pointers to the tops of heaps, are addresses of headers, which stand in the last bytes
+//! of the block before them, or one past its end. [`without_free_links`] takes such a block from the ones that a word leads to.
+//!
 //! The rule is that of `struct malloc_chunk` in glibc's malloc.c, on a machine with words of 8 bytes. What it reads is
 //! any `leak_elf::Words`. The contracts don't say that a block which fits is of this log: another one of its size at its
 //! address fits as well. They say nothing of other allocators, whose blocks have no such words.
@@ -11,9 +15,13 @@
 
 mod chunk;
 mod fitting;
+mod free_link;
 mod laws;
+#[cfg(test)]
+mod link_tests;
 #[cfg(test)]
 mod tests;
 
 pub use fitting::{count_misfits, fits};
-pub use laws::worked_chunks;
+pub use free_link::{is_free_link, without_free_links};
+pub use laws::{worked_chunks, worked_hits, worked_links};

@@ -8,8 +8,8 @@ use std::test::Fail;
 /// How far after its file offset a word of the sample's segment has its address.
 const SHIFT: u64 = 0xf000;
 
-/// Which blocks of a log fit the sample core with the words set.
-fn fits_with(alloc: Global, log: &str, words: &[(u64, u64)]) -> Result<Vec<bool>, Fail> {
+/// The bytes of the sample core with the words set.
+pub(crate) fn core_with(alloc: Global, words: &[(u64, u64)]) -> Result<Vec<u8>, Fail> {
     let mut core = core_k(alloc, &[])?;
     for (addr, word) in words {
         let at = addr.saturating_sub(SHIFT) as usize;
@@ -17,6 +17,12 @@ fn fits_with(alloc: Global, log: &str, words: &[(u64, u64)]) -> Result<Vec<bool>
             *place = *byte;
         }
     }
+    Ok(core)
+}
+
+/// Which blocks of a log fit the sample core with the words set.
+fn fits_with(alloc: Global, log: &str, words: &[(u64, u64)]) -> Result<Vec<bool>, Fail> {
+    let core = core_with(alloc, words)?;
     let image = Image::read(alloc, core.as_slice())?;
     let lines = Log::read(alloc, log.as_bytes())?;
     let live = replay(alloc, &lines)?;
