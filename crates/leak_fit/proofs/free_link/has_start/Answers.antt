@@ -1,5 +1,5 @@
 -- The first block that doesn't begin before the address tells.
-use Rattle.std.proofs.Common.{◌≡◌, ℕ, ◌+◌, ◌∙◌, ap, sym, arith}
+use Rattle.std.proofs.Common.{◌≡◌, ◌+◌, ◌∙◌, ap, sym, arith}
 use Rattle.std.proofs.lemmas.Bool.{le-ltb}
 use Rattle.leak_fit.specs.FreeLinks.{has_start}
 use Rattle.leak_fit.proofs.Starts.{first_tells, all_start_before, none_past_the_last}
