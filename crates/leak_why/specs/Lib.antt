@@ -1,0 +1,4 @@
+pub mod Asked
+pub mod Leading
+pub mod Chains
+pub mod Entries

@@ -1,0 +1,111 @@
+//! The chain back from an entry.
+ghost use Rattle.std.specs.Prelude.{◌≡◌, ◌<◌, [], length, OnOk, IfOk, slice_index_or};
+ghost use Rattle.leak_blocks.specs.declared.block.Block.{Block};
+ghost use Rattle.leak_blocks.specs.Span.{AreAddressed};
+ghost use Rattle.leak_marks.specs.Lists.{Has};
+ghost use Rattle.leak_scan.specs.Targets.{block_targets, targets_of};
+ghost use Rattle.leak_why.specs.Chains.{IsRoot, IsLink};
+ghost use Rattle.leak_why.specs.Entries.{AreLedByBlocks, AreTraced, IsOrigin, words_from};
+
+use crate::chain::{Chain, Link, RootPlace, RootWord};
+use crate::finding::{first_register, first_word};
+use crate::found::{Entry, Origin, Source};
+use leak_blocks::Block;
+use leak_elf::Words;
+use leak_index::Lookup;
+use leak_roots::Roots;
+use std::alloc::AllocError;
+
+/// A word of the holder that leads to the block.
+fn link_to<W: Words, L: Lookup>(
+    words: &W,
+    lookup: &L,
+    blocks: &[Block],
+    holder: usize,
+    block: usize,
+) -> Link
+    requires holder { holder < length blocks.now }
+    requires addressed { AreAddressed blocks.now }
+    requires blocks { (L.index lookup.now).blocks ≡ blocks.now }
+    requires leads { (d : Block) → Has (block_targets (W.word_at words.now) (L.index lookup.now) (slice_index_or blocks.now holder d)) block }
+    ensures holder { result.holder ≡ holder }
+    ensures link { IsLink (W.word_at words.now) (L.index lookup.now) result block }
+{
+    let of = &blocks[holder];
+    let Some((address, word)) = first_word(words, lookup, of.start, of.start + of.size, block)
+    else {
+        unreachable!()
+    };
+    Link {
+        holder,
+        address,
+        word,
+    }
+}
+
+/// Goes back from the entry with the number to one that a root word led to, and adds the links between them. Gives that
+/// root word's origin, and the block that it led to.
+pub(crate) fn trace<W: Words, L: Lookup>(
+    words: &W,
+    lookup: &L,
+    blocks: &[Block],
+    entries: &[Entry],
+    last: usize,
+    links: &mut Vec<Link>,
+) -> Result<(Origin, usize), AllocError>
+    requires blocks { (L.index lookup.now).blocks ≡ blocks.now }
+    requires addressed { AreAddressed blocks.now }
+    requires led { AreLedByBlocks (W.word_at words.now) (L.index lookup.now) entries.now }
+    requires last { last < length entries.now }
+    requires none { links.old.items ≡ [] }
+    ensures { IfOk result (λ r. AreTraced (W.word_at words.now) (L.index lookup.now) entries.now last links.new.items r.0 r.1) }
+{
+    let mut at = last;
+    'back: loop {
+        let entry = entries[at];
+        match entry.source {
+            Source::Root(origin) => return Ok((origin, entry.block)),
+            Source::Earlier(number) => {
+                let holder = entries[number].block;
+                links.push(link_to(words, lookup, blocks, holder, entry.block))?;
+                at = number;
+            }
+        }
+    }
+}
+
+/// A root word of the origin that leads to the block.
+pub(crate) fn root_of<W: Words, L: Lookup>(
+    words: &W,
+    lookup: &L,
+    roots: &Roots,
+    origin: Origin,
+    block: usize,
+) -> RootWord
+    requires origin { IsOrigin roots.now origin }
+    requires leads { Has (targets_of (L.index lookup.now) (words_from (W.word_at words.now) roots.now origin)) block }
+    ensures { IsRoot (W.word_at words.now) (L.index lookup.now) roots.now result block }
+{
+    match origin {
+        Origin::Registers => {
+            let registers = roots.registers();
+            let Some(i) = first_register(lookup, registers, block) else {
+                unreachable!()
+            };
+            RootWord {
+                place: RootPlace::Register(i),
+                word: registers[i],
+            }
+        }
+        Origin::Range(i) => {
+            let (from, to) = roots.memory()[i];
+            let Some((address, word)) = first_word(words, lookup, from, to, block) else {
+                unreachable!()
+            };
+            RootWord {
+                place: RootPlace::Address(address),
+                word,
+            }
+        }
+    }
+}
