@@ -15,6 +15,8 @@ mod chain;
 mod finding;
 mod found;
 mod spreading;
+#[cfg(test)]
+mod tests;
 mod tracing;
 
 pub use asked::block_at;

@@ -1,0 +1,120 @@
+use crate::{Chain, Link, RootPlace, RootWord, block_at, why};
+use leak_blocks::{Live, replay};
+use leak_elf::{Image, core_k};
+use leak_index::{Reading, Sorted};
+use leak_mtrace::Log;
+use leak_notes::Threads;
+use leak_roots::Roots;
+use std::alloc::Global;
+use std::test::Fail;
+
+/// The live blocks of a log.
+fn lives(alloc: Global, text: &str) -> Result<Live, Fail> {
+    let log = Log::read(alloc, text.as_bytes())?;
+    Ok(replay(alloc, &log)?)
+}
+
+/// Why the block with the number is held.
+fn answer(alloc: Global, core: &[u8], log: &str, block: usize) -> Result<Option<Chain>, Fail> {
+    let image = Image::read(alloc, core)?;
+    let threads = Threads::read(alloc, &image)?;
+    let live = lives(alloc, log)?;
+    let roots = Roots::find(alloc, &image, &threads, &live)?;
+    let lookup = Sorted::new(&live, Reading::interior());
+    Ok(why(alloc, &image, &lookup, &roots, &live, block)?)
+}
+
+/// Whether the chain is of that root word and of these links.
+fn is_chain(chain: &Option<Chain>, place: RootPlace, word: u64, links: &[Link]) -> bool {
+    match chain {
+        None => false,
+        Some(chain) => { chain.root == RootWord { place, word } && chain.links.as_slice() == links }
+    }
+}
+
+fn link(holder: usize, address: u64, word: u64) -> Link {
+    Link {
+        holder,
+        address,
+        word,
+    }
+}
+
+const BLOCKS: &str = "+ 0x10100 0x20\n+ 0x10200 0x20\n+ 0x10300 0x20\n+ 0x10400 0x20\n";
+
+#[test]
+fn a_root_word_holds_a_block_by_its_end(rt: HostRuntime) -> Result<(), Fail> {
+    let core = core_k(rt.alloc(), &[(0x10008, 0x10120)])?;
+    let found = answer(rt.alloc(), core.as_slice(), BLOCKS, 0)?;
+    assert!(rt; is_chain(&found, RootPlace::Address(0x10008), 0x10120, &[]));
+    assert!(rt; answer(rt.alloc(), core.as_slice(), BLOCKS, 1)?.is_none());
+    // no block has the number
+    assert!(rt; answer(rt.alloc(), core.as_slice(), BLOCKS, 4)?.is_none());
+    Ok(())
+}
+
+#[test]
+fn a_ring_holds_no_block(rt: HostRuntime) -> Result<(), Fail> {
+    let core = core_k(rt.alloc(), &[(0x10100, 0x10200), (0x10200, 0x10100)])?;
+    assert!(rt; answer(rt.alloc(), core.as_slice(), BLOCKS, 0)?.is_none());
+    Ok(())
+}
+
+#[test]
+fn a_block_of_two_roots_is_held_directly(rt: HostRuntime) -> Result<(), Fail> {
+    let words = [(0x10008, 0x10100), (0x10108, 0x10210), (0x10ff8, 0x10200)];
+    let core = core_k(rt.alloc(), &words)?;
+    let found = answer(rt.alloc(), core.as_slice(), BLOCKS, 1)?;
+    assert!(rt; is_chain(&found, RootPlace::Address(0x10ff8), 0x10200, &[]));
+    Ok(())
+}
+
+#[test]
+fn the_shorter_of_two_ways_is_told(rt: HostRuntime) -> Result<(), Fail> {
+    // the blocks 0, 1 and 2 hold one another in turn, and the block 3 holds the block 2
+    let core = core_k(
+        rt.alloc(),
+        &[
+            (0x10008, 0x10100),
+            (0x10010, 0x10408),
+            (0x10100, 0x10200),
+            (0x10200, 0x10300),
+            (0x10410, 0x10300),
+        ],
+    )?;
+    let found = answer(rt.alloc(), core.as_slice(), BLOCKS, 2)?;
+    let links = [link(3, 0x10410, 0x10300)];
+    assert!(rt; is_chain(&found, RootPlace::Address(0x10010), 0x10408, &links));
+    Ok(())
+}
+
+#[test]
+fn a_register_holds_a_block(rt: HostRuntime) -> Result<(), Fail> {
+    let mut core = core_k(rt.alloc(), &[(0x10118, 0x10300)])?;
+    // rbx, the sixth register of the first thread
+    for (place, byte) in core.iter_mut().skip(348).zip(0x10100u64.to_le_bytes()) {
+        *place = byte;
+    }
+    let found = answer(rt.alloc(), core.as_slice(), BLOCKS, 2)?;
+    let links = [link(0, 0x10118, 0x10300)];
+    assert!(rt; is_chain(&found, RootPlace::Register(5), 0x10100, &links));
+    Ok(())
+}
+
+#[test]
+fn addresses_ask_for_blocks(rt: HostRuntime) -> Result<(), Fail> {
+    let live = lives(rt.alloc(), "+ 0x10100 0x20\n+ 0x10120 0\n+ 0x10121 0x1\n")?;
+    let cases = [
+        (0x100ff, None),
+        (0x10100, Some(0)),
+        (0x1011f, Some(0)),
+        (0x10120, Some(1)),
+        (0x10121, Some(2)),
+        (0x10122, None),
+        (u64::MAX, None),
+    ];
+    for (address, block) in cases {
+        assert_eq!(rt; block_at(&live, address), block, "{address}");
+    }
+    Ok(())
+}
