@@ -89,6 +89,34 @@ marks_from_none word_at index places pages s workers m unmarked unread from = re
         ∙ ap (λ (l : List ℕ). graph_of word_at index l s.marked.items) (append-nil (words_at word_at places))
         ∙ ap (λ (l : List ℕ). graph_of word_at index (words_at word_at places) l) unmarked
 
+-- from no start, over pieces of the roots alone
+pub marks_of_pieces : (word_at : ℕ → Option ℕ) (index : Index) (places : Places) (pieces : List Piece) (pages : List ℕ) (workers n : ℕ) (m : Marked) → AreCut places n pieces
+    → IsMarked (graph_over (root_targets word_at index places pieces pages []) (all_targets word_at index) []) (length (all_targets word_at index)) workers m.set.items (lists_of m) m.rounds
+    → Marks word_at index places workers m
+unfolding graph_of
+marks_of_pieces word_at index places pieces pages workers n m cut marked = record {
+  set = record {
+    len = marked.set.len ∙ long;
+    each = λ k h. let e = marked.set.each k (omega (arith, long, h)) in (
+      λ t. ⊎_elim (λ given. absurd (let z : 0 < 0 = given in omega arith)) (λ r. subst (λ (g : Graph). Reach g k) same r) (e.0 t),
+      λ r. e.1 (inr (subst (λ (g : Graph). Reach g k) (sym same) r)),
+    );
+  };
+  lists = marked.lists;
+  claims = subst (λ (g : Graph). Partitions (lists_of m) (Reach g)) same marked.partition;
+  rounds = let f = marked.few in omega (arith, long, f);
+  none = λ z. marked.none (long ∙ z);
+}
+  where
+    long : length (all_targets word_at index) ≡ length index.blocks
+    long = long_all word_at index
+
+    with_first : List ℕ → Graph
+    with_first l = record { first = l; targets = all_targets word_at index; given = [] }
+
+    same : graph_over (root_targets word_at index places pieces pages []) (all_targets word_at index) [] ≡ graph_of word_at index (words_at word_at places) []
+    same = ap (λ (l : List ℕ). with_first l) (first_is word_at index places pieces pages [] n cut ∙ ap (λ (l : List ℕ). targets_of index l) (append-nil (words_at word_at places)))
+
 pub if_ok : {X E : Type 0} (P Q : X → Type 0) (r : Result X E) → ((x : X) → P x → Q x) → IfOk r P → IfOk r Q
 if_ok P Q (Ok x) f h = f x h
 if_ok P Q (Err e) f h = tt

@@ -5,6 +5,7 @@ pub mod GraphLemmas
 pub mod WordLemmas
 pub mod AloneLemmas
 pub mod ScanLemmas
+pub mod LinkLemmas
 pub mod WorkLemmas
 pub mod HalfLemmas
 pub mod AbsorbLemmas

@@ -8,3 +8,5 @@ pub mod Progress
 pub mod Marking
 pub mod Scopes
 pub mod ScopeLaw
+pub mod Links
+pub mod LinksLaw

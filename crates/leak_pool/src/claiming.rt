@@ -33,6 +33,28 @@ pub(crate) fn claim_all<W: Words, L: Lookup>(
     Ok(())
 }
 
+/// Claims the blocks of a list, and lists those whose claim is won, as [`claim_all`] does.
+pub(crate) fn claim_listed(
+    targets: &[u32],
+    marks: &Marks,
+    seat: &mut MarkSeat,
+    list: &mut Vec<u32>,
+) -> Result<(), AllocError>
+    requires table { seat.old.table ≡ marks.now.table }
+    requires inside { (b : ℕ) → Has targets.now b → b < marks.now.blocks }
+    requires sound { IsSound seat.old }
+    ensures same { (seat.new.table ≡ seat.old.table) × (seat.new.share ≡ seat.old.share) }
+    ensures sound { IsSound seat.new }
+    ensures listed { (base : List ℕ) → seat.old.claims ≡ base ++ list.old.items → seat.new.claims ≡ base ++ list.new.items }
+    ensures done { IfOk result (λ _. IsScanned (Has targets.now) [] seat.old.seen list.old.items seat.new.seen list.new.items) }
+{
+    for block in targets {
+        list.reserve(1)?;
+        claim(marks, seat, list, *block);
+    }
+    Ok(())
+}
+
 // Claims a block, and lists it where the claim is won.
 fn claim(marks: &Marks, seat: &mut MarkSeat, list: &mut Vec<u32>, block: u32)
     requires table { seat.old.table ≡ marks.now.table }

@@ -80,8 +80,8 @@ pub fn mark_from<R: Threads + Sync, W: Words + Sync, L: Lookup + Sync, G: Gate +
     Ok(marked)
 }
 
-// The pieces of the roots. A piece of a plan has a word, so memory alone can be missing.
-fn pieces_of(alloc: Global, roots: &Roots, plan: Plan) -> Result<Vec<Piece>, AllocError>
+/// The pieces of the roots. A piece of a plan has a word, so memory alone can be missing.
+pub(crate) fn pieces_of(alloc: Global, roots: &Roots, plan: Plan) -> Result<Vec<Piece>, AllocError>
     ensures { IfOk result (λ pieces. AreCut roots.now plan.piece pieces.items) }
 {
     roots

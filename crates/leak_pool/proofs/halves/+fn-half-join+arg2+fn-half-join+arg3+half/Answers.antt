@@ -1,4 +1,4 @@
-use Rattle.std.proofs.Common.{◌≡◌, ◌<◌, ◌≤◌, ◌∙◌, ap, sym, ◌+◌, ◌-◌, ◌/◌, ◌++◌, ℕ, List, Vec, Global, length, map, arith}
+use Rattle.std.proofs.Common.{◌≡◌, ◌<◌, ◌≤◌, ◌∙◌, ap, sym, ◌+◌, ◌-◌, ◌/◌, ℕ, List, Vec, Global, length, map, arith}
 use Rattle.leak_marks.specs.Seats.{Held, kept_half, given_half}
 use Rattle.leak_pool.specs.Promises.{AreBoth, IsHalf}
 use Rattle.leak_pool.specs.Scene.{blocks_of, items_of}

@@ -1,0 +1,80 @@
+//! Marking by worker threads over links.
+ghost use Rattle.std.specs.Prelude.{◌≡◌, ◌↔◌, ◌<◌, ◌-◌, ◌^◌, [], IfOk, IfSome, IsErrOf, length};
+ghost use Rattle.leak_pool.specs.Marking.{Marks};
+ghost use Rattle.leak_pool.specs.Promises.{as_lists};
+ghost use Rattle.leak_pool.specs.Rounds.{IsMarked, graph_over};
+
+use crate::error::PoolError;
+use crate::gate::Gate;
+use crate::links::{Links, links_of};
+use crate::marked::Marked;
+use crate::marking::pieces_of;
+use crate::over::mark_over;
+use crate::plan::Plan;
+use crate::scope::Scope;
+use crate::source::Source;
+use leak_blocks::Live;
+use leak_elf::Words;
+use leak_index::Lookup;
+use leak_roots::Roots;
+use leak_scan::Pages;
+use std::alloc::{AllocError, Global};
+use std::thread::Threads;
+
+/// Marks what the roots lead to, as [`mark`] does. What each block leads to is listed first, by the workers, so that
+/// marking reads no words of blocks; where that were over `room` targets, it marks without.
+///
+/// A target takes four bytes. Room is shared out among the workers, so one that has blocks with many targets may have too little.
+pub fn mark_by_links<R: Threads + Sync, W: Words + Sync, L: Lookup + Sync, G: Gate + Sync>(
+    rt: &R,
+    alloc: Global,
+    words: &W,
+    lookup: &L,
+    roots: &Roots,
+    live: &Live,
+    plan: Plan,
+    gate: &G,
+    room: usize,
+) -> Result<Marked, PoolError>
+    requires { (L.index lookup.now).blocks ≡ live.now.blocks }
+    ensures many { IsErrOf result PoolError.TooMany ↔ (2 ^ 32 - 1 < length live.now.blocks) }
+    ensures marks { IfOk result (Marks (W.word_at words.now) (L.index lookup.now) roots.now plan.workers) }
+{
+    let blocks = live.blocks();
+    if blocks.len() > u32::MAX as usize {
+        return Err(PoolError::TooMany);
+    }
+    let pieces = pieces_of(alloc, roots, plan)?;
+    let pages = Pages::new(Vec::new(alloc)).unwrap();
+    let scope = Scope {
+        words,
+        lookup,
+        blocks,
+        roots,
+        pieces: pieces.as_slice(),
+        rescan: &[],
+        pages: &pages,
+    };
+    let links = links_of(rt, alloc, &scope, plan.workers(), room)?;
+    let marked = mark_linked(rt, alloc, &scope, links, plan, gate)?;
+    Ok(marked)
+}
+
+// Marks over the links of the source, or over the source itself where there are none.
+fn mark_linked<R: Threads + Sync, S: Source + Sync, G: Gate + Sync>(
+    rt: &R,
+    alloc: Global,
+    source: &S,
+    links: Option<Links<'_, S>>,
+    plan: Plan,
+    gate: &G,
+) -> Result<Marked, AllocError>
+    requires { IfSome links (λ l. l.source.now ≡ source.now) }
+    ensures { let targets = S.targets source.now in let graph = graph_over (S.roots source.now) targets [] in
+        IfOk result (λ m. IsMarked graph (length targets) plan.workers m.set.items (as_lists m.claims.items) m.rounds) }
+{
+    match links {
+        Some(links) => mark_over(rt, alloc, &links, gate, plan, &[]),
+        None => mark_over(rt, alloc, source, gate, plan, &[]),
+    }
+}

@@ -1,0 +1,179 @@
+//! What each block leads to, listed once before marking, so that marking reads no words of blocks.
+ghost use Rattle.std.specs.Prelude.{◌≡◌, ◌<◌, ◌≤◌, ◌^◌, ◌++◌, ℕ, List, Ok, Some, length, map, slice_index_or, IfOk, IfSome, IsTrue};
+ghost use Rattle.leak_marks.specs.Lists.{Has};
+ghost use Rattle.leak_marks.specs.Seats.{IsSound};
+ghost use Rattle.leak_scan.specs.Targets.{block_targets};
+ghost use Rattle.leak_pool.specs.Items.{targets_of_block};
+ghost use Rattle.leak_pool.specs.Links.{AreListed, AreLinks};
+ghost use Rattle.leak_pool.specs.LinksLaw.{links_prop};
+ghost use Rattle.leak_pool.specs.Promises.{IsScanned};
+ghost use Rattle.leak_pool.specs.Scopes.{all_targets};
+
+use crate::claiming::claim_listed;
+use crate::scope::Scope;
+use crate::source::{Item, Source};
+use leak_blocks::Block;
+use leak_elf::Words;
+use leak_index::Lookup;
+use leak_marks::{MarkSeat, Marks};
+use leak_scan::Targets;
+use std::alloc::{AllocError, Global};
+use std::thread::{Threads, map_chunks};
+
+/// What some blocks lead to, block by block.
+#[derive(Drop)]
+pub(crate) struct Rows {
+    /// Where the targets of each block begin, and at last where those of the last block end.
+    pub(crate) starts: Vec<u32>,
+    /// The targets of all of them, one block's behind another's.
+    pub(crate) targets: Vec<u32>,
+}
+
+/// A source whose blocks' targets are listed. Its roots are scanned as before, since that is done once.
+#[derive(Drop)]
+pub(crate) struct Links<'a, S: Source> {
+    pub(crate) source: &'a S,
+    /// How many blocks each row has, but for the last.
+    pub(crate) size: usize,
+    pub(crate) rows: Vec<Rows>,
+    ghost listed: { AreLinks (S.targets source.now) size rows.items } by { links_prop (S.targets source.now) size rows.items },
+}
+
+// Lists the targets of a block behind the others, unless that makes more than so many.
+fn list_targets<W: Words, L: Lookup>(
+    found: Targets<'_, W, L>,
+    room: usize,
+    targets: &mut Vec<u32>,
+) -> Result<bool, AllocError>
+    requires small { (b : ℕ) → Has found b → b < 2 ^ 32 }
+    requires within { length targets.old.items ≤ room }
+    ensures within { length targets.new.items ≤ room }
+    ensures listed { IfOk result (λ fits. IsTrue fits → targets.new.items ≡ targets.old.items ++ found.entry) }
+{
+    for block in found {
+        if targets.len() == room {
+            return Ok(false);
+        }
+        targets.push(block as u32)?;
+    }
+    Ok(true)
+}
+
+// What the blocks lead to, unless they lead to more than so many.
+fn rows_of<W: Words, L: Lookup>(
+    alloc: Global,
+    words: &W,
+    lookup: &L,
+    blocks: &[Block],
+    room: u32,
+) -> Result<Option<Rows>, AllocError>
+    requires few { length (L.index lookup.now).blocks < 2 ^ 32 }
+    ensures { let targets = map (block_targets (W.word_at words.now) (L.index lookup.now)) blocks.now in
+        IfOk result (λ rows. IfSome rows (λ r. AreListed (targets_of_block targets) (length blocks.now) r.starts.items r.targets.items)) }
+{
+    let mut starts = Vec::new(alloc);
+    starts.reserve(blocks.len())?;
+    starts.push(0)?;
+    let mut targets = Vec::new(alloc);
+    for k in 0..blocks.len() {
+        let found = Targets::of_block(words, lookup, &blocks[k]);
+        if !list_targets(found, room as usize, &mut targets)? {
+            return Ok(None);
+        }
+        starts.push(targets.len() as u32)?;
+    }
+    Ok(Some(Rows { starts, targets }))
+}
+
+// The rows, unless one is missing.
+fn all_rows(
+    alloc: Global,
+    parts: Vec<Result<Option<Rows>, AllocError>>,
+) -> Result<Option<Vec<Rows>>, AllocError>
+    ensures { IfOk result (λ rows. IfSome rows (λ r. parts.items ≡ map (λ x. Ok (Some x)) r.items)) }
+{
+    let mut rows = Vec::new(alloc);
+    for part in parts {
+        let Some(row) = part? else {
+            return Ok(None);
+        };
+        rows.push(row)?;
+    }
+    Ok(Some(rows))
+}
+
+/// The links of a scope, made by so many workers, each of a share of the blocks. Nothing where one has more than its
+/// share of the room.
+pub(crate) fn links_of<'a, 'b, R: Threads + Sync, W: Words + Sync, L: Lookup + Sync>(
+    rt: &R,
+    alloc: Global,
+    scope: &'a Scope<'b, W, L>,
+    workers: u32,
+    room: usize,
+) -> Result<Option<Links<'a, Scope<'b, W, L>>>, AllocError>
+    requires { 0 < workers }
+    ensures { IfOk result (λ links. IfSome links (λ l. l.source.now ≡ scope.now)) }
+{
+    let workers = workers as usize;
+    let size = scope.blocks.len().div_ceil(workers).max(1);
+    let share = (room / workers).min(u32::MAX as usize) as u32;
+    let (words, lookup) = (scope.words, scope.lookup);
+    let rows_of_part = move |_start: usize, part: &[Block]| -> Result<Option<Rows>, AllocError>
+        requires { length (L.index lookup.now).blocks < 2 ^ 32 }
+        ensures { let targets = map (block_targets (W.word_at words.entry.now) (L.index lookup.entry.now)) part.entry.now in
+            IfOk result (λ rows. IfSome rows (λ r. AreListed (targets_of_block targets) (length part.entry.now) r.starts.items r.targets.items)) }
+    { rows_of(alloc, words, lookup, part, share) };
+    let parts = map_chunks(rt, alloc, scope.blocks, size, &rows_of_part)?;
+    let Some(rows) = all_rows(alloc, parts)? else {
+        return Ok(None);
+    };
+    Ok(Some(Links {
+        source: scope,
+        size,
+        rows,
+    }))
+}
+
+impl<'a, S: Source> Links<'a, S> {
+    // What a block leads to.
+    fn targets(&self, block: u32) -> &[u32]
+        requires { block < length (S.targets self.now.source.now) }
+        ensures { result.now ≡ targets_of_block (S.targets self.now.source.now) block }
+    {
+        let block = block as usize;
+        let rows = &self.rows[block / self.size];
+        let place = block % self.size;
+        let start = rows.starts[place] as usize;
+        let end = rows.starts[place + 1] as usize;
+        &rows.targets[start..end]
+    }
+}
+
+impl<'a, S: Source> Source for Links<'a, S> {
+    ghost roots = { λ l. S.roots l.source.now };
+
+    ghost targets = { λ l. S.targets l.source.now };
+
+    ghost inside = { λ l. S.inside l.source.now };
+
+    fn blocks(&self) -> u32 {
+        self.source.blocks()
+    }
+
+    fn roots(&self) -> usize {
+        self.source.roots()
+    }
+
+    fn scan(
+        &self,
+        marks: &Marks,
+        seat: &mut MarkSeat,
+        list: &mut Vec<u32>,
+        item: Item,
+    ) -> Result<(), AllocError> {
+        match item {
+            Item::Root(_) => self.source.scan(marks, seat, list, item),
+            Item::Block(block) => claim_listed(self.targets(block), marks, seat, list),
+        }
+    }
+}
