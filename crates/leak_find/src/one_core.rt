@@ -10,9 +10,13 @@ use crate::found::Found;
 use crate::inputs::read_input;
 use crate::reporting::report_of;
 use leak_index::{Paged, Reading};
-use leak_pool::{Gate, Plan, mark};
+use leak_pool::{Gate, Plan, mark_by_links};
 use leak_roots::Roots;
 use std::alloc::Global;
+
+/// What blocks lead to is listed where that takes an eighth of the core at most, at four bytes a target. Own rule: lists of
+/// a core that is all addresses would take half of it.
+const LINK_SHARE: usize = 32;
 
 /// Searches a core and its log by the workers of the plan.
 ///
@@ -40,7 +44,7 @@ pub fn find_one<R: std::thread::Threads + Sync, G: Gate + Sync>(
     let input = read_input(alloc, 1, core, log)?;
     let roots = Roots::find(alloc, &input.image, &input.threads, &input.live)?;
     let lookup = Paged::new(alloc, &input.live, reading)?;
-    let marked = mark(
+    let marked = mark_by_links(
         rt,
         alloc,
         &input.image,
@@ -49,6 +53,7 @@ pub fn find_one<R: std::thread::Threads + Sync, G: Gate + Sync>(
         &input.live,
         plan,
         gate,
+        core.len() / LINK_SHARE,
     )?;
     report_of(alloc, &input, &lookup, log, marked, None)
 }

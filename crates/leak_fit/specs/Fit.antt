@@ -25,7 +25,7 @@ is_mapping_for size chunk = nat_le (size + 16) chunk && nat_lt chunk (size + 412
 abbrev pub least_chunk : ℕ → ℕ
 least_chunk size = max 32 ((size + 8 + 15) / 16 * 16)
 
--- a rest of 16 bytes, which is too small for a chunk, stays with the block, and behind an aligned block up to 32 bytes
+-- a rest of 16 bytes, which is too small for a chunk, stays with the block, and after an aligned block up to 32 bytes
 abbrev pub is_heap_chunk_for : ℕ → ℕ → Bool
 is_heap_chunk_for size chunk =
     (chunk == least_chunk size) || (chunk == least_chunk size + 16) || (chunk == least_chunk size + 32)

@@ -1,4 +1,4 @@
--- What blocks lead to, listed once: the targets of one block behind those of another.
+-- What blocks lead to, listed once: the targets of one block after those of another.
 use Rattle.std.specs.Prelude.{◌≡◌, ℕ, suc, ◌-◌, ◌/◌, ◌%◌, ◌<◌, ◌≤◌, List, length, take, drop, slice_index_or}
 use Rattle.leak_pool.specs.Items.{targets_of_block}
 use Rattle.leak_pool.specs.declared.links.Rows.{Rows}
@@ -10,7 +10,7 @@ pub record IsListAt (starts targets : List ℕ) (k : ℕ) (list : List ℕ) : Ty
   pub inside : slice_index_or starts (suc k) 0 ≤ length targets
   pub same : take (slice_index_or starts (suc k) 0 - slice_index_or starts k 0) (drop (slice_index_or starts k 0) targets) ≡ list
 
--- n lists stand there, and nothing behind them
+-- n lists stand there, and nothing after them
 pub record AreListed (lists : ℕ → List ℕ) (n : ℕ) (starts targets : List ℕ) : Type 0 where
   pub len : length starts ≡ suc n
   pub last : slice_index_or starts n 0 ≡ length targets

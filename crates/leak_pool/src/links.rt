@@ -25,7 +25,7 @@ use std::thread::{Threads, map_chunks};
 pub(crate) struct Rows {
     /// Where the targets of each block begin, and at last where those of the last block end.
     pub(crate) starts: Vec<u32>,
-    /// The targets of all of them, one block's behind another's.
+    /// The targets of all of them, one block's after another's.
     pub(crate) targets: Vec<u32>,
 }
 
@@ -39,7 +39,7 @@ pub(crate) struct Links<'a, S: Source> {
     ghost listed: { AreLinks (S.targets source.now) size rows.items } by { links_prop (S.targets source.now) size rows.items },
 }
 
-// Lists the targets of a block behind the others, unless that makes more than so many.
+// Lists the targets of a block after the others, unless that makes more than so many.
 fn list_targets<W: Words, L: Lookup>(
     found: Targets<'_, W, L>,
     room: usize,

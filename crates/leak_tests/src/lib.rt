@@ -107,6 +107,10 @@ mod marking;
 #[cfg(test)]
 mod stacks;
 
+// Marking by links, and without where they have no room.
+#[cfg(test)]
+mod links;
+
 // Gates that many workers pass.
 #[cfg(test)]
 mod gates;

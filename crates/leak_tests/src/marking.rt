@@ -7,7 +7,7 @@ use leak_elf::Image;
 use leak_index::{Reading, Sorted};
 use leak_mtrace::Log;
 use leak_notes::Threads;
-use leak_pool::{Gate, Marked, Plan, mark, mark_alone};
+use leak_pool::{Gate, Marked, Open, Plan, mark, mark_alone, mark_by_links};
 use leak_roots::Roots;
 use std::alloc::Global;
 use std::test::Fail;
@@ -38,6 +38,25 @@ pub fn by_plan<R: std::thread::Threads + Sync, G: Gate + Sync>(
     let roots = Roots::find(alloc, &image, &threads, &live)?;
     let lookup = Sorted::new(&live, Reading::interior());
     Ok(mark(rt, alloc, &image, &lookup, &roots, &live, plan, gate)?)
+}
+
+/// Marks a sample by the workers of the plan, over links where there are no more than the room.
+pub fn by_links<R: std::thread::Threads + Sync>(
+    rt: &R,
+    alloc: Global,
+    sample: &Sample,
+    plan: Plan,
+    room: usize,
+) -> Result<Marked, Fail> {
+    let image = Image::read(alloc, sample.core.as_slice())?;
+    let threads = Threads::read(alloc, &image)?;
+    let log = Log::read(alloc, sample.log.as_bytes())?;
+    let live = replay(alloc, &log)?;
+    let roots = Roots::find(alloc, &image, &threads, &live)?;
+    let lookup = Sorted::new(&live, Reading::interior());
+    Ok(mark_by_links(
+        rt, alloc, &image, &lookup, &roots, &live, plan, &Open, room,
+    )?)
 }
 
 /// How many blocks are marked.

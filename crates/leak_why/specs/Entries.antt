@@ -74,7 +74,7 @@ pub record IsScanned (graph : Graph) (es : List Entry) (i : ℕ) : Type 0 where
   pub near : (b : ℕ) → Has (targets_in graph entry.block) b → IsNear es (suc steps) b
 
 -- Breadth first: the first n entries are scanned. Those before `turn` are at most k steps away, and just k from n on;
--- those behind it are one step further away.
+-- those after it are one step further away.
 pub record IsSpread (graph : Graph) (es : List Entry) (n k turn : ℕ) : Type 0 where
   pub from : n ≤ turn
   pub to : turn ≤ length es

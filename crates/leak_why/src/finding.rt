@@ -35,7 +35,7 @@ pub(crate) fn first_register<L: Lookup>(
     None
 }
 
-/// The first word whose 8 bytes all lie from `from` on and before `to` that leads to the block, behind its address.
+/// The first word whose 8 bytes all lie from `from` on and before `to` that leads to the block, with its address.
 pub(crate) fn first_word<W: Words, L: Lookup>(
     words: &W,
     lookup: &L,
