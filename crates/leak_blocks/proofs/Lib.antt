@@ -8,3 +8,4 @@ pub mod ChangeLemmas
 pub mod StepLemmas
 pub mod SumLemmas
 pub mod BuildLemmas
+pub mod SmallLemmas

@@ -1,6 +1,7 @@
 pub mod Span
 pub mod Live
 pub mod Steps
+pub mod Small
 pub mod Laws
 pub mod Numbers
 pub mod Examples

@@ -12,6 +12,7 @@ mod block;
 mod laws;
 mod live;
 mod replaying;
+mod small;
 #[cfg(test)]
 mod tests;
 
@@ -22,3 +23,4 @@ pub use laws::{
 };
 pub use live::Live;
 pub use replaying::replay;
+pub use small::{SmallSpans, Span, small_spans};

@@ -25,7 +25,7 @@ const NODE_BYTES: usize = 48;
 const PATH_BYTES: usize = 8192;
 
 /// Whether the line allocates a block.
-fn is_allocation(line: &Line) -> bool
+pub(crate) fn is_allocation(line: &Line) -> bool
     ensures { result ≡ is_allocation line.now }
 {
     matches!(line.kind, Kind::Alloc | Kind::MoveIn) && line.addr != 0

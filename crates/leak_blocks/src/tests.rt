@@ -144,3 +144,51 @@ fn nodes_made_over_and_over(rt: HostRuntime) -> Result<(), Fail> {
     assert_eq!(rt; counts, (2, 1, 0));
     Ok(())
 }
+
+/// A log, and the ranges of its small allocations, as the first and the last address of each.
+type Ranges<'a> = (&'a str, &'a [(u64, u64)]);
+
+#[test]
+fn small_allocations_as_ranges(rt: HostRuntime) -> Result<(), Fail> {
+    let cases: [Ranges; 12] = [
+        ("", &[]),
+        ("+ 0x100 0x20\n- 0x100\n", &[(0x100, 0x11f)]),
+        // live blocks and displaced ones are taken as well
+        ("+ 0x100 0x20\n+ 0x110 0x8\n", &[(0x100, 0x11f)]),
+        // those that touch are one range, whatever their order
+        ("+ 0x120 0x10\n+ 0x100 0x20\n", &[(0x100, 0x12f)]),
+        (
+            "+ 0x121 0x10\n+ 0x100 0x20\n",
+            &[(0x100, 0x11f), (0x121, 0x130)],
+        ),
+        // an allocation of no bytes has its first address
+        ("+ 0x100 0\n+ 0x102 0\n", &[(0x100, 0x100), (0x102, 0x102)]),
+        ("+ 0x1000 0x20000\n", &[]),
+        ("+ 0x1000 0x1ffff\n", &[(0x1000, 0x20ffe)]),
+        // a move allocates, and a failed one does not
+        (
+            "+ 0x100 0x8\n< 0x100\n> 0x200 0x8\n",
+            &[(0x100, 0x107), (0x200, 0x207)],
+        ),
+        ("! 0x100 0x20\n- 0x300\n", &[]),
+        ("+ (nil) 0x20\n", &[]),
+        (
+            "+ 0xffffffffffffffff 0\n+ 0xfffffffffffffff0 0xe\n",
+            &[
+                (0xffff_ffff_ffff_fff0, 0xffff_ffff_ffff_fffd),
+                (0xffff_ffff_ffff_ffff, 0xffff_ffff_ffff_ffff),
+            ],
+        ),
+    ];
+    for (text, ranges) in cases {
+        let log = Log::read(rt.alloc(), text.as_bytes())?;
+        let found = small_spans(rt.alloc(), &log)?;
+        let mut pairs = Vec::new(rt.alloc());
+        for range in found.ranges() {
+            pairs.push((range.first, range.last))?;
+        }
+        assert_eq!(rt; pairs.as_slice(), ranges, "{text}");
+    }
+    assert_eq!(rt; SmallSpans::none(rt.alloc()).ranges().len(), 0);
+    Ok(())
+}

@@ -1,0 +1,202 @@
+-- The spans of small allocations, and their addresses as ranges that are apart.
+use Rattle.std.proofs.Common.{◌≡◌, ℕ, ◌+◌, ◌-◌, ◌<◌, ◌≤◌, max, leb, Bool, true, false, cond, ◌&&◌, ◌||◌, List, [], ◌∷◌, ◌++◌, length, map, filter, take, get_or, slice_get, Some, zero, suc, ◌⊎◌, inl, inr, refl, sym, ap, subst, ◌∙◌, arith}
+use Rattle.std.specs.List.{All, AllByRecursion, list_any}
+use Rattle.std.specs.Result.{OnOk}
+use Rattle.std.specs.declared.result.Result.{Result}
+use Rattle.std.specs.declared.result.Result.TheVariants.{Ok, Err}
+use Rattle.std.specs.List.Sorted.{IsPermutation, IsNonDecreasingBy}
+use Rattle.std.proofs.lemmas.Bool.{le-leb, lt-leb, cases_lt}
+use Rattle.std.proofs.lemmas.List.{map-append, take_all}
+use Rattle.std.proofs.lemmas.List.Elements.{filter_more}
+use Rattle.std.proofs.lemmas.List.Folds.{list_any-append, list_any_more}
+use Rattle.std.proofs.lemmas.List.Sorted.{list_any-IsPermutation}
+use Rattle.leak_mtrace.specs.declared.line.Line.{Line}
+use Rattle.leak_blocks.specs.declared.small.Span.{Span}
+use Rattle.leak_blocks.specs.Small.{is_small, span_of, small_spans_of, holds, is_covered, CoverSame, AreSpans, AreApart}
+
+-- ---- the spans of lines
+
+map_cond : (b : Bool) (x : Line) → map span_of (cond b (x ∷ []) []) ≡ cond b (span_of x ∷ []) []
+map_cond true x = refl
+map_cond false x = refl
+
+-- one line more
+pub spans_more : (lines : List Line) (i : ℕ) (d : Line) → i < length lines → small_spans_of (take (i + 1) lines) ≡ small_spans_of (take i lines) ++ cond (is_small (get_or lines i d)) (span_of (get_or lines i d) ∷ []) []
+unfolding small_spans_of
+spans_more lines i d h =
+    ap (map span_of) (filter_more is_small lines i d h)
+    ∙ map-append span_of (filter is_small (take i lines)) (cond (is_small (get_or lines i d)) (get_or lines i d ∷ []) [])
+    ∙ ap (λ (xs : List Span). map span_of (filter is_small (take i lines)) ++ xs) (map_cond (is_small (get_or lines i d)) (get_or lines i d))
+
+spans_at : (xs : List Line) → AreSpans (map span_of xs)
+spans_at [] k d h = absurd (omega arith)
+spans_at (x ∷ xs) zero d h = omega arith
+spans_at (x ∷ xs) (suc k) d h = spans_at xs k d (omega arith)
+
+pub are_spans : (lines : List Line) → AreSpans (small_spans_of lines)
+unfolding small_spans_of
+are_spans lines = spans_at (filter is_small lines)
+
+-- ---- sorting
+
+pub same_sorted : (xs ys : List Span) → IsPermutation xs ys → CoverSame ys xs
+unfolding is_covered
+same_sorted xs ys h a = sym (list_any-IsPermutation (holds a) xs ys h)
+
+-- ---- merging
+
+in_span : (a : ℕ) (s : Span) → s.first ≤ a → a ≤ s.last → holds a s ≡ true
+in_span a s l m = rw (le-leb s.first a l, le-leb a s.last m) refl
+
+before_span : (a : ℕ) (s : Span) → a < s.first → holds a s ≡ false
+before_span a s l = rw (lt-leb s.first a l) refl
+
+and_false : (x : Bool) → (x && false) ≡ false
+and_false true = refl
+and_false false = refl
+
+behind_span : (a : ℕ) (s : Span) → s.last < a → holds a s ≡ false
+behind_span a s l = rw (lt-leb a s.last l) (and_false (leb s.first a))
+
+or_true : (x : Bool) → (x || true) ≡ true
+or_true true = refl
+or_true false = refl
+
+or_false : (x : Bool) → (x || false) ≡ x
+or_false true = refl
+or_false false = refl
+
+or_assoc : (x y z : Bool) → ((x || y) || z) ≡ (x || (y || z))
+or_assoc true y z = refl
+or_assoc false y z = refl
+
+or_twice : (x y : Bool) → (x || (x || y)) ≡ (x || y)
+or_twice true y = refl
+or_twice false y = refl
+
+-- where one span meets or touches another that begins no later, the joined one has the addresses of both
+joined : (a : ℕ) (s t u : Span) → s.first ≤ t.first → t.first ≤ s.last + 1 → u.first ≡ s.first → u.last ≡ max s.last t.last → holds a u ≡ (holds a s || holds a t)
+joined a s t u l m f g =
+    elim (cases_lt a s.first) [
+      | inl b ↦ rw (before_span a u (omega arith), before_span a s b, before_span a t (omega arith)) refl
+      | inr b ↦ elim (cases_lt s.last a) [
+        | inr e ↦ rw (in_span a u (omega arith) (omega arith), in_span a s b e) refl
+        | inl e ↦ elim (cases_lt t.last a) [
+          | inl o ↦ rw (behind_span a u (omega arith), behind_span a s e, behind_span a t o) refl
+          | inr o ↦ rw (in_span a u (omega arith) (omega arith), in_span a t (omega arith) o) (sym (or_true (holds a s)))
+        ]
+      ]
+    ]
+
+-- one span more
+covered_push : (spans : List Span) (s : Span) (a : ℕ) → is_covered (spans ++ s ∷ []) a ≡ (is_covered spans a || holds a s)
+unfolding is_covered
+covered_push spans s a = list_any-append (holds a) spans (s ∷ []) ∙ ap (λ (b : Bool). list_any (holds a) spans || b) (or_false (holds a s))
+
+covered_more : (spans : List Span) (i : ℕ) (d : Span) (a : ℕ) → i < length spans → is_covered (take (i + 1) spans) a ≡ (is_covered (take i spans) a || holds a (get_or spans i d))
+unfolding is_covered
+covered_more spans i d a h = list_any_more (holds a) spans i d h
+
+all_last : (P : Span → Type 0) (spans : List Span) (s t : Span) → AllByRecursion P (spans ++ s ∷ []) → (P s → P t) → AllByRecursion P (spans ++ t ∷ [])
+all_last P [] s t h p = (p h.0, tt)
+all_last P (x ∷ spans) s t h p = (h.0, all_last P spans s t h.1 p)
+
+last_of : (P : Span → Type 0) (spans : List Span) (s : Span) → AllByRecursion P (spans ++ s ∷ []) → P s
+last_of P [] s h = h.0
+last_of P (x ∷ spans) s h = last_of P spans s h.1
+
+all_push : (P : Span → Type 0) (spans : List Span) (s : Span) → AllByRecursion P spans → P s → AllByRecursion P (spans ++ s ∷ [])
+all_push P [] s h p = (p, tt)
+all_push P (x ∷ spans) s h p = (h.0, all_push P spans s h.1 p)
+
+last_is_span : (spans : List Span) (s : Span) → AreApart (spans ++ s ∷ []) → s.first ≤ s.last
+last_is_span [] s h = h.0
+last_is_span (x ∷ spans) s h = last_is_span spans s h.2
+
+-- the last range ends later
+apart_widen : (spans : List Span) (s u : Span) → AreApart (spans ++ s ∷ []) → u.first ≡ s.first → s.last ≤ u.last → AreApart (spans ++ u ∷ [])
+apart_widen [] s u h e l = (let f = h.0 in omega arith, tt, tt)
+apart_widen (x ∷ spans) s u h e l = (h.0, all_last (λ (t : Span). x.last + 1 < t.first) spans s u h.1 (λ f. omega arith), apart_widen spans s u h.2 e l)
+
+-- a range more, behind the last
+apart_push : (spans : List Span) (s t : Span) → AreApart (spans ++ s ∷ []) → t.first ≤ t.last → s.last + 1 < t.first → AreApart ((spans ++ s ∷ []) ++ t ∷ [])
+apart_push [] s t h o l = (h.0, (l, tt), (o, tt, tt))
+apart_push (x ∷ spans) s t h o l =
+    let before = last_of (λ (u : Span). x.last + 1 < u.first) spans s h.1 in
+    let fits = last_is_span spans s h.2 in
+    (h.0, all_push (λ (u : Span). x.last + 1 < u.first) (spans ++ s ∷ []) t h.1 (omega arith), apart_push spans s t h.2 o l)
+
+any_default : (spans : List Span) (k : ℕ) (d e : Span) → k < length spans → get_or spans k d ≡ get_or spans k e
+any_default [] k d e h = absurd (omega arith)
+any_default (s ∷ spans) zero d e h = refl
+any_default (s ∷ spans) (suc k) d e h = any_default spans k d e (omega arith)
+
+-- the ranges and the open one have the addresses of the first span and of the spans so far
+pub record AreMerged (spans : List Span) (first : Span) (i : ℕ) (ranges : List Span) (open' : Span) : Type 0 where
+  pub apart : AreApart (ranges ++ open' ∷ [])
+  pub same : (a : ℕ) → is_covered (ranges ++ open' ∷ []) a ≡ (holds a first || is_covered (take i spans) a)
+  pub low : (k : ℕ) (d : Span) → i ≤ k → k < length spans → open'.first ≤ (get_or spans k d).first
+
+pub merged_first : (spans : List Span) (first : Span) → AreSpans spans → IsNonDecreasingBy (λ s. s.first) spans → 0 < length spans → first ≡ get_or spans 0 first → AreMerged spans first 0 [] first
+unfolding is_covered
+merged_first spans first each ascending some is = record {
+  apart = (let e = each 0 first some in subst (λ (s : Span). s.first ≤ s.last) (sym is) e, tt, tt);
+  same = λ a. refl;
+  low = λ k d l m. subst (λ (s : Span). s.first ≤ (get_or spans k d).first) (sym (is ∙ any_default spans 0 first d some)) (ascending 0 k d (omega arith) m);
+}
+
+-- the next span meets or touches the open one
+pub merged_wider : (spans : List Span) (first : Span) (i : ℕ) (ranges : List Span) (open' later : Span) (d : Span) → AreMerged spans first i ranges open' → i < length spans → (get_or spans i d).first ≤ open'.last + 1
+    → later.first ≡ open'.first → later.last ≡ max open'.last (get_or spans i d).last → AreMerged spans first (i + 1) ranges later
+merged_wider spans first i ranges open' later d merged h near f l =
+    let s = get_or spans i d in
+    record {
+      apart = apart_widen ranges open' later merged.apart f (omega arith);
+      same = λ a. covered_push ranges later a
+          ∙ ap (λ (b : Bool). is_covered ranges a || b) (joined a open' s later (merged.low i d (omega arith) h) near f l)
+          ∙ sym (or_assoc (is_covered ranges a) (holds a open') (holds a s))
+          ∙ ap (λ (b : Bool). b || holds a s) (sym (covered_push ranges open' a) ∙ merged.same a)
+          ∙ or_assoc (holds a first) (is_covered (take i spans) a) (holds a s)
+          ∙ ap (λ (b : Bool). holds a first || b) (sym (covered_more spans i d a h));
+      low = λ k e m n. let b = merged.low k e (omega arith) n in omega arith;
+    }
+
+-- the next span begins behind it
+pub merged_next : (spans : List Span) (first : Span) (i : ℕ) (ranges : List Span) (open' : Span) (d : Span) → AreMerged spans first i ranges open' → AreSpans spans → IsNonDecreasingBy (λ s. s.first) spans → i < length spans
+    → open'.last + 1 < (get_or spans i d).first → AreMerged spans first (i + 1) (ranges ++ open' ∷ []) (get_or spans i d)
+merged_next spans first i ranges open' d merged each ascending h far =
+    let s = get_or spans i d in
+    record {
+      apart = apart_push ranges open' s merged.apart (each i d h) far;
+      same = λ a. covered_push (ranges ++ open' ∷ []) s a
+          ∙ ap (λ (b : Bool). b || holds a s) (merged.same a)
+          ∙ or_assoc (holds a first) (is_covered (take i spans) a) (holds a s)
+          ∙ ap (λ (b : Bool). holds a first || b) (sym (covered_more spans i d a h));
+      low = λ k e m n. subst (λ (t : Span). t.first ≤ (get_or spans k e).first) (any_default spans i e d h) (ascending i k e (omega arith) n);
+    }
+
+covered_all : (spans : List Span) (first : Span) (a : ℕ) → 0 < length spans → first ≡ get_or spans 0 first → (holds a first || is_covered spans a) ≡ is_covered spans a
+unfolding is_covered
+covered_all [] first a some is = absurd (omega arith)
+covered_all (s ∷ spans) first a some is = rw is (or_twice (holds a s) (list_any (holds a) spans))
+
+pub merged_all : (spans : List Span) (first : Span) (i : ℕ) (ranges : List Span) (open' : Span) → AreMerged spans first i ranges open' → 0 < length spans → first ≡ get_or spans 0 first → length spans ≤ i → CoverSame (ranges ++ open' ∷ []) spans
+merged_all spans first i ranges open' merged some is all a =
+    merged.same a ∙ ap (λ (xs : List Span). holds a first || is_covered xs a) (take_all i spans all) ∙ covered_all spans first a some is
+
+-- what holds of a result whatever it is
+pub ok_always : {T E P : Type 0} (r : Result T E) → P → OnOk r P
+ok_always (Ok x) p = p
+ok_always (Err e) p = tt
+
+unfoldable pub no_span : Span
+no_span = record { first = 0; last = 0 }
+
+-- what the first of a list is
+pub record IsFirst (spans : List Span) (s : Span) : Type 0 where
+  pub some : 0 < length spans
+  pub is : s ≡ get_or spans 0 s
+
+pub is_first : (spans : List Span) (s : Span) → slice_get spans 0 ≡ Some s → IsFirst spans s
+is_first [] s e = cc
+is_first (x ∷ spans) s e = record { some = omega arith; is = cc }

@@ -1,0 +1,41 @@
+-- The addresses of small allocations. Own rule: freed memory of a heap serves later blocks of that heap alone. From
+-- 131,072 bytes on glibc's malloc maps a block by itself (its first M_MMAP_THRESHOLD), and memory that is given back to
+-- the system then may serve anything, as a stack.
+use Rattle.std.specs.Prelude.{◌≡◌, ℕ, ◌+◌, ◌-◌, ◌<◌, ◌≤◌, max, Bool, ◌&&◌, nat_lt, nat_le, List, [], ◌∷◌, map, filter, ⊤}
+use Rattle.std.specs.List.{All, AllByRecursion, list_any}
+use Rattle.leak_mtrace.specs.declared.line.Line.{Line}
+use Rattle.leak_blocks.specs.declared.small.Span.{Span}
+use Rattle.leak_blocks.specs.Live.{is_allocation}
+
+-- the line allocates a block that is taken from a heap
+abbrev pub is_small : Line → Bool
+is_small x = is_allocation x && nat_lt x.size 131072
+
+-- the addresses of an allocation; one of no bytes has its first address
+abbrev pub span_of : Line → Span
+span_of x = record { first = x.addr; last = x.addr + (max x.size 1 - 1) }
+
+-- the spans of all small allocations of a log, whatever later lines say of them
+unfoldable pub small_spans_of : List Line → List Span
+small_spans_of lines = map span_of (filter is_small lines)
+
+-- the address is in the span
+abbrev pub holds : ℕ → Span → Bool
+holds a s = nat_le s.first a && nat_le a s.last
+
+-- the address is in one of the spans
+unfoldable pub is_covered : List Span → ℕ → Bool
+is_covered spans a = list_any (holds a) spans
+
+-- the spans have the same addresses
+abbrev pub CoverSame : List Span → List Span → Type 0
+CoverSame spans others = (a : ℕ) → is_covered spans a ≡ is_covered others a
+
+-- each span has an address
+abbrev pub AreSpans : List Span → Type 0
+AreSpans spans = All (λ s. s.first ≤ s.last) spans
+
+-- by ascending address, and between two of them is an address that is in none
+abbrev pub AreApart : List Span → Type 0
+AreApart [] = ⊤
+AreApart (s ∷ spans) = (s.first ≤ s.last) × AllByRecursion (λ t. s.last + 1 < t.first) spans × AreApart spans

@@ -1,0 +1,137 @@
+//! The addresses of small allocations, live or given back.
+
+ghost use Rattle.std.specs.Prelude.{◌≡◌, IfOk, OnOk, List, []};
+ghost use Rattle.std.specs.List.Sorted.{IsNonDecreasingBy};
+ghost use Rattle.leak_mtrace.specs.Log.{LinesFit};
+ghost use Rattle.leak_blocks.specs.declared.small.Span.{Span};
+ghost use Rattle.leak_blocks.specs.Small.{is_small, small_spans_of, AreApart, AreSpans, CoverSame};
+
+use crate::replaying::is_allocation;
+use leak_mtrace::{Line, Log};
+use std::alloc::{AllocError, Global};
+use std::marker::Model;
+
+/// A range of addresses, by its first and its last, so that it can end with the last address of all.
+#[derive(Clone, Copy, Debug, PartialEq, Eq)]
+pub struct Span {
+    /// The first address.
+    pub first: u64,
+    /// The last address, which is in the range.
+    pub last: u64,
+}
+
+/// The bytes from which on glibc's malloc maps a block by itself (the first value of its `M_MMAP_THRESHOLD`).
+const MAPPED_BYTES: u64 = 131_072;
+
+/// The addresses of small allocations, as ranges.
+#[derive(Drop)]
+pub struct SmallSpans {
+    ranges: Vec<Span>,
+}
+
+impl Model for SmallSpans {
+    ghost Value = { List Span };
+
+    ghost view = { λ spans. spans.ranges.items };
+
+    ghost invariant = { λ spans. AreApart spans.ranges.items };
+}
+
+/// Whether the line allocates a block that glibc's malloc takes from a heap.
+fn is_small(line: &Line) -> bool
+    ensures { result ≡ is_small line.now }
+{
+    is_allocation(line) && line.size < MAPPED_BYTES
+}
+
+/// How many of the lines allocate small blocks.
+fn count_small(lines: &[Line]) -> usize {
+    let mut count = 0usize;
+    for line in lines {
+        count = count.saturating_add(usize::from(is_small(line)));
+    }
+    count
+}
+
+/// The spans of the small allocations, in the order of their lines.
+fn spans_of(alloc: Global, lines: &[Line]) -> Result<Vec<Span>, AllocError>
+    requires { LinesFit lines.now }
+    ensures { IfOk result (λ spans. spans.items ≡ small_spans_of lines.now) }
+{
+    let mut spans = Vec::with_capacity(alloc, count_small(lines))?;
+    for line in lines {
+        if is_small(line) {
+            spans.push(Span {
+                first: line.addr,
+                last: line.addr + (line.size.max(1) - 1),
+            })?;
+        }
+    }
+    Ok(spans)
+}
+
+/// Puts the spans by ascending first address.
+fn sort(spans: &mut Vec<Span>) -> Result<(), AllocError>
+    requires { AreSpans spans.old.items }
+    ensures ascending { OnOk result (IsNonDecreasingBy (λ s. s.first) spans.new.items) }
+    ensures spans { OnOk result (AreSpans spans.new.items) }
+    ensures same { OnOk result (CoverSame spans.new.items spans.old.items) }
+{
+    spans.sort_by_key(|span| span.first)
+}
+
+/// The addresses of the spans as ranges that are apart, from spans by ascending first address.
+fn merged(alloc: Global, spans: &[Span]) -> Result<Vec<Span>, AllocError>
+    requires ascending { IsNonDecreasingBy (λ s. s.first) spans.now }
+    requires spans { AreSpans spans.now }
+    ensures apart { IfOk result (λ ranges. AreApart ranges.items) }
+    ensures same { IfOk result (λ ranges. CoverSame ranges.items spans.now) }
+{
+    let mut ranges = Vec::new(alloc);
+    let Some(first) = spans.first() else {
+        return Ok(ranges);
+    };
+    let mut open = *first;
+    for span in spans {
+        if span.first <= open.last.saturating_add(1) {
+            open.last = open.last.max(span.last);
+        } else {
+            ranges.push(open)?;
+            open = *span;
+        }
+    }
+    ranges.push(open)?;
+    Ok(ranges)
+}
+
+impl SmallSpans {
+    /// No address.
+    pub fn none(alloc: Global) -> SmallSpans
+        ensures { result ≡ [] }
+    {
+        SmallSpans {
+            ranges: Vec::new(alloc),
+        }
+    }
+
+    /// The addresses as ranges, by ascending address. Between two of them is an address that is in none.
+    pub fn ranges(&self) -> &[Span]
+        ensures value { result.now ≡ self.now }
+        ensures apart { AreApart result.now }
+    {
+        self.ranges.as_slice()
+    }
+}
+
+/// The addresses of the log's small allocations: each span of fewer than 131,072 bytes, whether its block is live, was
+/// given back or was displaced.
+///
+/// While they are found it takes 16 bytes for each allocation, and as much again to sort them.
+pub fn small_spans(alloc: Global, log: &Log) -> Result<SmallSpans, AllocError>
+    ensures { IfOk result (λ spans. CoverSame spans (small_spans_of log.now.lines)) }
+{
+    let mut spans = spans_of(alloc, log.lines())?;
+    sort(&mut spans)?;
+    let ranges = merged(alloc, &spans)?;
+    Ok(SmallSpans { ranges })
+}
