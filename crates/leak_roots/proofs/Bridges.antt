@@ -9,6 +9,7 @@ use Rattle.std.proofs.lemmas.Option.{slice_get-get_or}
 use Rattle.std.proofs.lemmas.List.Elements.{filter_map-append}
 use Rattle.leak_elf.specs.Words.{word_of}
 use Rattle.leak_blocks.specs.declared.block.Block.{Block}
+use Rattle.leak_blocks.specs.declared.small.Span.{Span}
 use Rattle.leak_roots.specs.declared.piece.Piece.{Piece}
 use Rattle.leak_roots.specs.declared.piece.Piece.TheVariants.{Registers, Memory}
 use Rattle.leak_roots.specs.Places.{Places, addresses_in, memory_places, words_at}
@@ -65,6 +66,6 @@ made_of_pieces f g (x ∷ xs) = ap (λ (ys : List ℕ). flat_map f (g x) ++ ys) 
 pub pieces_made : (f : ℕ → List ℕ) (word_at : ℕ → Option ℕ) (p : Places) (words : ℕ) (pieces : List Piece) → AreCut p words pieces → flat_map (λ piece. flat_map f (words_of word_at p piece)) pieces ≡ flat_map f (words_at word_at p)
 pieces_made f word_at p words pieces cut = made_of_pieces f (words_of word_at p) pieces ∙ ap (flat_map f) (pieces_words word_at p words pieces cut)
 
-pub places_words : (file : List ℕ) (blocks : List Block) (p : Places) → AreRootsOf file blocks p → words_at (word_of file) p ≡ root_words file blocks
+pub places_words : (file : List ℕ) (blocks : List Block) (spans : List Span) (p : Places) → AreRootsOf file blocks spans p → words_at (word_of file) p ≡ root_words file blocks spans
 unfolding words_at root_words
-places_words file blocks p roots = rw (roots.registers, roots.memory) refl
+places_words file blocks spans p roots = rw (roots.registers, roots.memory) refl

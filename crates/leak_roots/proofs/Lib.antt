@@ -4,3 +4,4 @@ pub mod Gaps
 pub mod Writable
 pub mod Cutting
 pub mod Bridges
+pub mod LeftOut

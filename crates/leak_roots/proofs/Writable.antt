@@ -14,7 +14,7 @@ use Rattle.leak_elf.proofs.Accepted.{accepted, no_first}
 use Rattle.leak_elf.proofs.Held.{word_some, word_odd}
 use Rattle.leak_blocks.specs.declared.block.Block.{Block}
 use Rattle.leak_roots.specs.Places.{AreRanges, EndBy, memory_places}
-use Rattle.leak_roots.specs.Roots.{is_apart, is_free, root_places, root_places_in}
+use Rattle.leak_roots.specs.Roots.{is_apart, is_free, outside_places, outside_places_in}
 use Rattle.leak_roots.proofs.Addresses.{filter_same}
 use Rattle.leak_roots.proofs.Ranges.{end_later}
 
@@ -33,7 +33,7 @@ has_word file i a d kept h low high =
     ]
 
 places_of_segment : (file : List ℕ) (bs : List Block) (i : ℕ) (d : Segment) → AreKept (segments_of file) → i < length (segments_of file)
-    → root_places_in file bs (get_or (segments_of file) i d) ≡ filter (is_free bs) (places (get_or (segments_of file) i d).vaddr ((get_or (segments_of file) i d).vaddr + (get_or (segments_of file) i d).filesz))
+    → outside_places_in file bs (get_or (segments_of file) i d) ≡ filter (is_free bs) (places (get_or (segments_of file) i d).vaddr ((get_or (segments_of file) i d).vaddr + (get_or (segments_of file) i d).filesz))
 places_of_segment file bs i d kept h =
     let s = get_or (segments_of file) i d in
     filter_same (λ (a : ℕ). is_some (word_of file a) && list_all (is_apart a) bs) (is_free bs) s.vaddr (s.vaddr + s.filesz - 7 - s.vaddr)
@@ -43,23 +43,23 @@ places_of_segment file bs i d kept h =
 pub record AreFound (file : List ℕ) (bs : List Block) (i : ℕ) (memory : List (ℕ × ℕ)) : Type 0 where
   pub ranges : AreRanges memory
   pub ends : (k : ℕ) (d : Segment) → i ≤ k → k < length (segments_of file) → EndBy (get_or (segments_of file) k d).vaddr memory
-  pub found : memory_places memory ≡ flat_map (root_places_in file bs) (filter (λ s. s.writable) (take i (segments_of file)))
+  pub found : memory_places memory ≡ flat_map (outside_places_in file bs) (filter (λ s. s.writable) (take i (segments_of file)))
 
-one_writable : (file : List ℕ) (bs : List Block) (s : Segment) → s.writable ≡ true → flat_map (root_places_in file bs) (filter (λ s. s.writable) (s ∷ [])) ≡ root_places_in file bs s
-one_writable file bs s w = rw w (append-nil (root_places_in file bs s))
+one_writable : (file : List ℕ) (bs : List Block) (s : Segment) → s.writable ≡ true → flat_map (outside_places_in file bs) (filter (λ s. s.writable) (s ∷ [])) ≡ outside_places_in file bs s
+one_writable file bs s w = rw w (append-nil (outside_places_in file bs s))
 
-one_other : (file : List ℕ) (bs : List Block) (s : Segment) → s.writable ≡ false → flat_map (root_places_in file bs) (filter (λ s. s.writable) (s ∷ [])) ≡ []
+one_other : (file : List ℕ) (bs : List Block) (s : Segment) → s.writable ≡ false → flat_map (outside_places_in file bs) (filter (λ s. s.writable) (s ∷ [])) ≡ []
 one_other file bs s w = rw w refl
 
 segment_more : (file : List ℕ) (bs : List Block) (i : ℕ) (d : Segment) → i < length (segments_of file)
-    → flat_map (root_places_in file bs) (filter (λ s. s.writable) (take (i + 1) (segments_of file)))
-    ≡ flat_map (root_places_in file bs) (filter (λ s. s.writable) (take i (segments_of file))) ++ flat_map (root_places_in file bs) (filter (λ s. s.writable) (get_or (segments_of file) i d ∷ []))
+    → flat_map (outside_places_in file bs) (filter (λ s. s.writable) (take (i + 1) (segments_of file)))
+    ≡ flat_map (outside_places_in file bs) (filter (λ s. s.writable) (take i (segments_of file))) ++ flat_map (outside_places_in file bs) (filter (λ s. s.writable) (get_or (segments_of file) i d ∷ []))
 segment_more file bs i d h =
     let segs = segments_of file in
     let w = λ (s : Segment). s.writable in
-    ap (λ (xs : List Segment). flat_map (root_places_in file bs) (filter w xs)) (take_more segs i d h)
-    ∙ ap (flat_map (root_places_in file bs)) (filter-append w (take i segs) (get_or segs i d ∷ []))
-    ∙ flat_map-append (root_places_in file bs) (filter w (take i segs)) (filter w (get_or segs i d ∷ []))
+    ap (λ (xs : List Segment). flat_map (outside_places_in file bs) (filter w xs)) (take_more segs i d h)
+    ∙ ap (flat_map (outside_places_in file bs)) (filter-append w (take i segs) (get_or segs i d ∷ []))
+    ∙ flat_map-append (outside_places_in file bs) (filter w (take i segs)) (filter w (get_or segs i d ∷ []))
 
 pub found_more : (file : List ℕ) (bs : List Block) (i : ℕ) (d : Segment) (memory more : List (ℕ × ℕ)) → AreKept (segments_of file) → i < length (segments_of file) → (get_or (segments_of file) i d).writable ≡ true → AreFound file bs i memory
     → memory_places more ≡ memory_places memory ++ filter (is_free bs) (places (get_or (segments_of file) i d).vaddr ((get_or (segments_of file) i d).vaddr + (get_or (segments_of file) i d).filesz)) → AreRanges more → EndBy ((get_or (segments_of file) i d).vaddr + (get_or (segments_of file) i d).filesz) more
@@ -89,8 +89,8 @@ found_same file bs i d memory h w found = record {
 pub found_first : (file : List ℕ) (bs : List Block) → AreFound file bs 0 []
 found_first file bs = record { ranges = tt; ends = λ k d l m. tt; found = refl }
 
-pub found_all : (file : List ℕ) (bs : List Block) (i : ℕ) (memory : List (ℕ × ℕ)) → length (segments_of file) ≤ i → AreFound file bs i memory → memory_places memory ≡ root_places file bs
-unfolding root_places
+pub found_all : (file : List ℕ) (bs : List Block) (i : ℕ) (memory : List (ℕ × ℕ)) → length (segments_of file) ≤ i → AreFound file bs i memory → memory_places memory ≡ outside_places file bs
+unfolding outside_places
 found_all file bs i memory h found =
     let all : take i (segments_of file) ≡ segments_of file = take_all i (segments_of file) h in
     found.found ∙ (rw all refl)
@@ -105,7 +105,7 @@ read_more file bs segs i d memory more e ok h w found places' ranges' ends' =
 pub read_same : (file : List ℕ) (bs : List Block) (segs : List Segment) (i : ℕ) (d : Segment) (memory : List (ℕ × ℕ)) → segs ≡ segments_of file → i < length segs → (get_or segs i d).writable ≡ false → AreFound file bs i memory → AreFound file bs (i + 1) memory
 read_same file bs segs i d memory e h w found = found_same file bs i d memory (rw e at h) (rw e at w) found
 
-pub read_all : (file : List ℕ) (bs : List Block) (segs : List Segment) (i : ℕ) (memory : List (ℕ × ℕ)) → segs ≡ segments_of file → length segs ≤ i → AreFound file bs i memory → memory_places memory ≡ root_places file bs
+pub read_all : (file : List ℕ) (bs : List Block) (segs : List Segment) (i : ℕ) (memory : List (ℕ × ℕ)) → segs ≡ segments_of file → length segs ≤ i → AreFound file bs i memory → memory_places memory ≡ outside_places file bs
 read_all file bs segs i memory e h found = found_all file bs i memory (rw e at h) found
 
 pub dumped_fits : (file : List ℕ) (segs : List Segment) (i : ℕ) (d : Segment) → segs ≡ segments_of file → fault_of file ≡ None → i < length segs → (get_or segs i d).vaddr + (get_or segs i d).filesz < 2 ^ 64

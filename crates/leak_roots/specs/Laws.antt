@@ -2,6 +2,7 @@
 use Rattle.std.specs.Prelude.{◌≡◌, ℕ, List, Option, flat_map}
 use Rattle.leak_elf.specs.Words.{word_of}
 use Rattle.leak_blocks.specs.declared.block.Block.{Block}
+use Rattle.leak_blocks.specs.declared.small.Span.{Span}
 use Rattle.leak_roots.specs.declared.piece.Piece.{Piece}
 use Rattle.leak_roots.specs.Places.{Places, words_at}
 use Rattle.leak_roots.specs.Pieces.{AreCut, words_of}
@@ -17,4 +18,5 @@ PiecesGiveAll = (f : ℕ → List ℕ) (word_at : ℕ → Option ℕ) (p : Place
 
 -- the words at the places of a core's root words are its root words
 abbrev pub PlacesHoldRootWords : Type 0
-PlacesHoldRootWords = (file : List ℕ) (blocks : List Block) (p : Places) → AreRootsOf file blocks p → words_at (word_of file) p ≡ root_words file blocks
+PlacesHoldRootWords =
+    (file : List ℕ) (blocks : List Block) (spans : List Span) (p : Places) → AreRootsOf file blocks spans p → words_at (word_of file) p ≡ root_words file blocks spans

@@ -1,5 +1,6 @@
 pub mod Places
 pub mod Roots
+pub mod Skipped
 pub mod Pieces
 pub mod Laws
 pub mod Rows

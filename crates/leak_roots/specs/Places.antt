@@ -3,10 +3,11 @@ use Rattle.std.specs.Prelude.{◌≡◌, ℕ, ◌<◌, ◌≤◌, ◌%◌, ◌+�
 use Rattle.std.specs.List.{range_with_len, AllByRecursion}
 use Rattle.leak_elf.specs.Words.{places}
 
--- the register words, and ranges of addresses, each with its end excluded
+-- the register words, ranges of addresses, each with its end excluded, and how many freed places are not among them
 pub record Places : Type 0 where
   pub registers : List ℕ
   pub memory : List (ℕ × ℕ)
+  pub freed : ℕ
 
 -- each eighth address of a range
 abbrev pub addresses_in : ℕ × ℕ → List ℕ

@@ -1,12 +1,15 @@
 -- Root words: the registers, and the readable words of writable segments that share no byte with a live block
--- (after bdwgc's roots). Own rule: freed memory and dead stack are roots, since what points from there is not known.
+-- (after bdwgc's roots). Own rule: freed memory and dead stack are roots, since what points from there is not known. Of
+-- freed memory that is so unless the spans of small allocations are given: then its words are left out.
 use Rattle.std.specs.Prelude.{◌≡◌, ℕ, ◌+◌, ◌<◌, ◌≤◌, ◌^◌, length, slice_index_or, min, max, Bool, not, ◌&&◌, ◌%◌, ◌==◌, List, ◌++◌, nat_lt, filter, flat_map, filter_map, is_some}
-use Rattle.std.specs.List.{list_all}
+use Rattle.std.specs.List.{list_all, range_with_len}
 use Rattle.leak_elf.specs.declared.segment.Segment.{Segment}
 use Rattle.leak_elf.specs.Segments.{segments_of}
 use Rattle.leak_elf.specs.Words.{places, word_of}
 use Rattle.leak_notes.specs.Threads.{registers_of}
 use Rattle.leak_blocks.specs.declared.block.Block.{Block}
+use Rattle.leak_blocks.specs.declared.small.Span.{Span}
+use Rattle.leak_blocks.specs.Small.{is_covered}
 use Rattle.leak_roots.specs.Places.{Places, memory_places, AreRanges}
 
 -- the 8 bytes from the address on are apart from the bytes of the block; a block of size 0 has none
@@ -22,20 +25,33 @@ pub record AreOrdered (blocks : List Block) : Type 0 where
 abbrev pub is_free : List Block → ℕ → Bool
 is_free blocks a = (a % 8 == 0) && list_all (is_apart a) blocks
 
--- the addresses of a segment that hold a root word
-abbrev pub root_places_in : List ℕ → List Block → Segment → List ℕ
-root_places_in file blocks s = filter (λ a. is_some (word_of file a) && list_all (is_apart a) blocks) (places s.vaddr (s.vaddr + s.filesz))
+-- the addresses of a segment that hold a word and share no byte with a live block
+abbrev pub outside_places_in : List ℕ → List Block → Segment → List ℕ
+outside_places_in file blocks s = filter (λ a. is_some (word_of file a) && list_all (is_apart a) blocks) (places s.vaddr (s.vaddr + s.filesz))
+
+-- the addresses of writable segments that do, in ascending order
+unfoldable pub outside_places : List ℕ → List Block → List ℕ
+outside_places file blocks = flat_map (outside_places_in file blocks) (filter (λ s. s.writable) (segments_of file))
+
+-- each of the 8 bytes from the address on lies in a span, not all of them in the same one
+abbrev pub is_freed : List Span → ℕ → Bool
+is_freed spans a = list_all (is_covered spans) (range_with_len a 8)
+
+-- the addresses outside live blocks whose words are left out
+unfoldable pub freed_places : List ℕ → List Block → List Span → List ℕ
+freed_places file blocks spans = filter (is_freed spans) (outside_places file blocks)
 
 -- the addresses that hold a root word, in ascending order
-unfoldable pub root_places : List ℕ → List Block → List ℕ
-root_places file blocks = flat_map (root_places_in file blocks) (filter (λ s. s.writable) (segments_of file))
+unfoldable pub root_places : List ℕ → List Block → List Span → List ℕ
+root_places file blocks spans = filter (λ a. not (is_freed spans a)) (outside_places file blocks)
 
 -- the root words of a core: registers first, then memory by address
-unfoldable pub root_words : List ℕ → List Block → List ℕ
-root_words file blocks = registers_of file ++ filter_map (word_of file) (root_places file blocks)
+unfoldable pub root_words : List ℕ → List Block → List Span → List ℕ
+root_words file blocks spans = registers_of file ++ filter_map (word_of file) (root_places file blocks spans)
 
--- these are the places of the core's root words, each once
-pub record AreRootsOf (file : List ℕ) (blocks : List Block) (p : Places) : Type 0 where
+-- these are the places of the core's root words, each once, and the number of freed places
+pub record AreRootsOf (file : List ℕ) (blocks : List Block) (spans : List Span) (p : Places) : Type 0 where
   pub registers : p.registers ≡ registers_of file
-  pub memory : memory_places p.memory ≡ root_places file blocks
+  pub memory : memory_places p.memory ≡ root_places file blocks spans
   pub ranges : AreRanges p.memory
+  pub freed : p.freed ≡ length (freed_places file blocks spans)

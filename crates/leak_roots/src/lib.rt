@@ -5,15 +5,19 @@
 //! of addresses, so it is small. [`Roots::cut`] makes [`Piece`]s of it, units of work of bounded size.
 //!
 //! Registers and writable memory as roots follow bdwgc. That freed memory and dead stack are roots too is own rule,
-//! with that no stack limit is read from a register. What the contracts don't say is whether a root word is a pointer.
+//! with that no stack limit is read from a register. Where the spans of small allocations are given, the words of freed
+//! memory are left out: those whose 8 bytes each lie in such a span. What the contracts don't say is whether a root word
+//! is a pointer.
 #![tactic(auto)]
 
 mod error;
+mod freed;
 mod laws;
 mod piece;
 mod places;
 mod roots;
 mod rows;
+mod skip;
 #[cfg(test)]
 mod tests;
 
@@ -22,3 +26,4 @@ pub use laws::pieces_hold_root_words;
 pub use piece::Piece;
 pub use roots::Roots;
 pub use rows::worked_roots;
+pub use skip::Skip;

@@ -1,11 +1,11 @@
-//! Ranges of root words in memory.
+//! Ranges of the words in memory outside the live blocks.
 
 ghost use Rattle.std.specs.Prelude.{◌≡◌, ◌+◌, ◌++◌, ◌<◌, ◌≤◌, ◌^◌, ℕ, length, filter, slice_index_or, OnOk, IfOk};
 ghost use Rattle.leak_elf.specs.Words.{places};
 ghost use Rattle.leak_blocks.specs.declared.block.Block.{Block};
 ghost use Rattle.leak_blocks.specs.Span.{AreAddressed, AreDisjoint};
 ghost use Rattle.leak_roots.specs.Places.{memory_places, aligned_places, AreRanges, EndBy};
-ghost use Rattle.leak_roots.specs.Roots.{AreOrdered, is_free, root_places};
+ghost use Rattle.leak_roots.specs.Roots.{AreOrdered, is_free, outside_places};
 
 use leak_blocks::Block;
 use leak_elf::Image;
@@ -65,14 +65,14 @@ fn push_gaps(
     push_range(memory, cursor, to)
 }
 
-/// Finds the root words in memory: those of writable segments that share no byte with a block.
+/// Finds the words of writable segments that share no byte with a block.
 pub(crate) fn find_ranges(
     alloc: Global,
     image: &Image,
     blocks: &[Block],
 ) -> Result<Vec<(u64, u64)>, AllocError>
     requires { AreOrdered blocks.now }
-    ensures places { IfOk result (λ memory. memory_places memory.items ≡ root_places image.now blocks.now) }
+    ensures places { IfOk result (λ memory. memory_places memory.items ≡ outside_places image.now blocks.now) }
     ensures ranges { IfOk result (λ memory. AreRanges memory.items) }
 {
     let mut memory = Vec::new(alloc);

@@ -1,15 +1,18 @@
 //! The root words of a core.
 
-ghost use Rattle.std.specs.Prelude.{◌≡◌, ◌↔◌, IfOk, Err};
+ghost use Rattle.std.specs.Prelude.{◌≡◌, ◌↔◌, IfOk, Err, List, length};
 ghost use Rattle.leak_notes.specs.Threads.{threads_of};
+ghost use Rattle.leak_blocks.specs.declared.small.Span.{Span};
+ghost use Rattle.leak_blocks.specs.Small.{CoverSame};
 ghost use Rattle.leak_roots.specs.Places.{Places, AreRanges, memory_places};
-ghost use Rattle.leak_roots.specs.Roots.{AreRootsOf, root_places};
+ghost use Rattle.leak_roots.specs.Roots.{AreRootsOf, freed_places, root_places};
 ghost use Rattle.leak_roots.specs.Pieces.{AreCut};
 
 use crate::error::CutError;
+use crate::freed::leave_out_freed;
 use crate::piece::{Piece, push_memory, push_registers};
 use crate::places::find_ranges;
-use leak_blocks::Live;
+use leak_blocks::{Live, SmallSpans};
 use leak_elf::Image;
 use leak_notes::Threads;
 use std::alloc::{AllocError, Global};
@@ -20,18 +23,20 @@ use std::marker::Model;
 pub struct Roots {
     registers: Vec<u64>,
     memory: Vec<(u64, u64)>,
+    freed: u64,
 }
 
 impl Model for Roots {
     ghost Value = { Places };
 
-    ghost view = { λ roots. record { registers = roots.registers.items; memory = roots.memory.items } };
+    ghost view = { λ roots. record { registers = roots.registers.items; memory = roots.memory.items; freed = roots.freed } };
 
     ghost invariant = { λ roots. AreRanges roots.memory.items };
 }
 
 impl Roots {
-    /// Finds the root words of a core, given its threads and the live blocks of its log.
+    /// Finds the root words of a core, given its threads, the live blocks of its log and the spans of small allocations
+    /// whose freed places are left out: those of the log, or none.
     ///
     /// They are the register words of the threads, as they are given, and the words of 8 bytes at the multiples of 8 in
     /// writable segments that share no byte with a live block and whose bytes the core holds: registers, stacks and
@@ -42,14 +47,21 @@ impl Roots {
         image: &Image,
         threads: &Threads,
         live: &Live,
+        small: &SmallSpans,
     ) -> Result<Roots, AllocError>
         ensures registers { IfOk result (λ roots. roots.registers ≡ threads.now.registers) }
-        ensures memory { IfOk result (λ roots. memory_places roots.memory ≡ root_places image.now live.now.blocks) }
-        ensures of_core { threads.now ≡ threads_of image.now → IfOk result (AreRootsOf image.now live.now.blocks) }
+        ensures memory { IfOk result (λ roots. memory_places roots.memory ≡ root_places image.now live.now.blocks small.now) }
+        ensures freed { IfOk result (λ roots. roots.freed ≡ length (freed_places image.now live.now.blocks small.now)) }
+        ensures of_core { (spans : List Span) → CoverSame small.now spans → threads.now ≡ threads_of image.now → IfOk result (AreRootsOf image.now live.now.blocks spans) }
     {
         let registers = threads.registers().to_vec(alloc)?;
-        let memory = find_ranges(alloc, image, live.blocks())?;
-        Ok(Roots { registers, memory })
+        let outside = find_ranges(alloc, image, live.blocks())?;
+        let (memory, freed) = leave_out_freed(alloc, outside, small.ranges())?;
+        Ok(Roots {
+            registers,
+            memory,
+            freed,
+        })
     }
 
     /// The register words.
@@ -66,6 +78,13 @@ impl Roots {
         ensures ranges { AreRanges result.now }
     {
         self.memory.as_slice()
+    }
+
+    /// How many places in memory hold no root word since they are freed.
+    pub fn freed(&self) -> u64
+        ensures { result ≡ self.now.freed }
+    {
+        self.freed
     }
 
     /// Cuts the root words into pieces of at most so many words.

@@ -1,5 +1,5 @@
-use crate::{CutError, Piece, Roots};
-use leak_blocks::{Live, replay};
+use crate::{CutError, Piece, Roots, Skip};
+use leak_blocks::{Live, SmallSpans, replay};
 use leak_elf::{Image, core_k};
 use leak_mtrace::Log;
 use leak_notes::Threads;
@@ -12,7 +12,19 @@ fn roots(alloc: Global, core: &[u8], log: &[u8]) -> Result<Roots, Fail> {
     let threads = Threads::read(alloc, &image)?;
     let log = Log::read(alloc, log)?;
     let live = replay(alloc, &log)?;
-    Ok(Roots::find(alloc, &image, &threads, &live)?)
+    let small = Skip::none().spans(alloc, &log)?;
+    Ok(Roots::find(alloc, &image, &threads, &live, &small)?)
+}
+
+/// The root words of the sample core outside freed memory.
+fn unfreed_roots_of(alloc: Global, log: &str) -> Result<Roots, Fail> {
+    let core = core_k(alloc, &[])?;
+    let image = Image::read(alloc, core.as_slice())?;
+    let threads = Threads::read(alloc, &image)?;
+    let log = Log::read(alloc, log.as_bytes())?;
+    let live = replay(alloc, &log)?;
+    let small = Skip { freed: true }.spans(alloc, &log)?;
+    Ok(Roots::find(alloc, &image, &threads, &live, &small)?)
 }
 
 /// The root words of the sample core.
@@ -74,7 +86,8 @@ fn the_registers_are_those_of_the_threads_that_are_given(rt: HostRuntime) -> Res
     let threads = Threads::read(rt.alloc(), &other)?;
     let log = Log::read(rt.alloc(), b"")?;
     let live = replay(rt.alloc(), &log)?;
-    let roots = Roots::find(rt.alloc(), &image, &threads, &live)?;
+    let small = SmallSpans::none(rt.alloc());
+    let roots = Roots::find(rt.alloc(), &image, &threads, &live, &small)?;
     assert_eq!(rt; roots.registers().get(5).copied(), Some(7));
     assert_eq!(rt; roots.memory(), [(0x10000, 0x11000)].as_slice());
     Ok(())
@@ -156,6 +169,66 @@ fn pieces_have_the_words_that_are_asked(rt: HostRuntime) -> Result<(), Fail> {
     assert_eq!(rt; without.cut(rt.alloc(), 1)?.len(), 535);
     let most = without.cut(rt.alloc(), usize::MAX)?;
     assert_eq!(rt; most.len(), 3);
+    Ok(())
+}
+
+/// A log, how many places of the sample core are freed, and the ranges of the other places.
+type Case<'a> = (&'a str, u64, &'a [(u64, u64)]);
+
+#[test]
+fn freed_places_are_no_roots(rt: HostRuntime) -> Result<(), Fail> {
+    let cases: [Case; 9] = [
+        ("", 0, &[(0x10000, 0x11000)]),
+        (
+            "+ 0x10100 0x20\n- 0x10100\n",
+            4,
+            &[(0x10000, 0x10100), (0x10120, 0x11000)],
+        ),
+        // a place that is half outside the span stays
+        (
+            "+ 0x10100 0xc\n- 0x10100\n",
+            1,
+            &[(0x10000, 0x10100), (0x10108, 0x11000)],
+        ),
+        // two spans hold the bytes of one place
+        (
+            "+ 0x10100 0x4\n+ 0x10104 0x4\n- 0x10100\n- 0x10104\n",
+            1,
+            &[(0x10000, 0x10100), (0x10108, 0x11000)],
+        ),
+        // what lies in a live block is no place, and is not counted
+        (
+            "+ 0x10100 0x20\n+ 0x10110 0x10\n",
+            2,
+            &[(0x10000, 0x10100), (0x10120, 0x11000)],
+        ),
+        // spans may pass the ends of the segment
+        (
+            "+ 0xff00 0x108\n- 0xff00\n+ 0x10ff4 0x100\n- 0x10ff4\n",
+            2,
+            &[(0x10008, 0x10ff8)],
+        ),
+        ("+ 0x10100 0x1ffff\n- 0x10100\n", 480, &[(0x10000, 0x10100)]),
+        ("+ 0x10100 0x20000\n- 0x10100\n", 0, &[(0x10000, 0x11000)]),
+        (
+            "+ 0x10002 0x4\n- 0x10002\n+ 0x10010 0x7\n- 0x10010\n",
+            0,
+            &[(0x10000, 0x10010), (0x10010, 0x11000)],
+        ),
+    ];
+    for (log, freed, memory) in cases {
+        let roots = unfreed_roots_of(rt.alloc(), log)?;
+        assert_eq!(rt; roots.freed(), freed, "{log}");
+        assert_eq!(rt; roots.memory(), memory, "{log}");
+    }
+    Ok(())
+}
+
+#[test]
+fn without_spans_nothing_is_freed(rt: HostRuntime) -> Result<(), Fail> {
+    let all = roots_of(rt.alloc(), b"+ 0x10100 0x20\n- 0x10100\n")?;
+    assert_eq!(rt; all.freed(), 0);
+    assert_eq!(rt; all.memory(), [(0x10000, 0x11000)].as_slice());
     Ok(())
 }
 

@@ -1,0 +1,341 @@
+-- Places that are freed, by ranges that are apart.
+use Rattle.std.proofs.Common.{◌≡◌, ℕ, zero, suc, ◌+◌, ◌-◌, ◌*◌, ◌/◌, ◌%◌, ◌<◌, ◌≤◌, leb, Bool, true, false, not, ◌&&◌, ◌⊎◌, inl, inr, List, [], ◌∷◌, ◌++◌, length, get_or, take, map, filter, refl, sym, ap, subst, ◌∙◌, append-nil, append_assoc, arith}
+use Rattle.std.specs.List.{AllByRecursion, list_all, range_with_len}
+use Rattle.std.proofs.lemmas.Bool.{leb-true, le-leb, cases_lt}
+use Rattle.std.proofs.lemmas.List.{take_more, take_all, get_or_default, length-map, length-append}
+use Rattle.std.proofs.lemmas.List.Elements.{filter-append}
+use Rattle.std.proofs.lemmas.List.Folds.{list_all_at, list_any_at}
+use Rattle.std.proofs.lemmas.List.FromFn.{get_or-range_with_len, length-range_with_len}
+use Rattle.leak_blocks.specs.declared.block.Block.{Block}
+use Rattle.leak_blocks.specs.declared.small.Span.{Span}
+use Rattle.leak_blocks.specs.Small.{AreApart, CoverSame, holds, is_covered}
+use Rattle.leak_roots.specs.Places.{IsRange, AreRanges, EndBy, addresses_in, memory_places}
+use Rattle.leak_roots.specs.Roots.{is_freed, outside_places, freed_places, root_places}
+use Rattle.leak_roots.proofs.Addresses.{addresses_in-split}
+use Rattle.leak_roots.proofs.Ranges.{end_later, ranges_push, places_push, all_push}
+
+-- ---- ranges that are apart
+
+pub behind_at : (end : ℕ) (spans : List Span) (k : ℕ) (d : Span) → AllByRecursion (λ t. end < t.first) spans → k < length spans → end < (get_or spans k d).first
+behind_at end [] k d h l = absurd (omega arith)
+behind_at end (s ∷ spans) zero d h l = h.0
+behind_at end (s ∷ spans) (suc k) d h l = behind_at end spans k d h.1 (omega arith)
+
+pub apart_at : (spans : List Span) (j k : ℕ) (d : Span) → AreApart spans → j < k → k < length spans → (get_or spans j d).last + 1 < (get_or spans k d).first
+apart_at [] j k d h l m = absurd (omega arith)
+apart_at (s ∷ spans) j zero d h l m = absurd (omega arith)
+apart_at (s ∷ spans) zero (suc k) d h l m = behind_at (s.last + 1) spans k d h.1 (omega arith)
+apart_at (s ∷ spans) (suc j) (suc k) d h l m = apart_at spans j k d h.2 (omega arith) (omega arith)
+
+pub span_at : (spans : List Span) (k : ℕ) (d : Span) → AreApart spans → k < length spans → (get_or spans k d).first ≤ (get_or spans k d).last
+span_at [] k d h l = absurd (omega arith)
+span_at (s ∷ spans) zero d h l = h.0
+span_at (s ∷ spans) (suc k) d h l = span_at spans k d h.2 (omega arith)
+
+-- the last addresses ascend
+pub lasts_ascend : (spans : List Span) (j k : ℕ) (d : Span) (c : ℕ) → AreApart spans → j ≤ k → k < length spans → (get_or spans k d).last < c → (get_or spans j d).last < c
+lasts_ascend spans j k d c apart l h e =
+    elim (cases_lt j k) [
+      | inl m ↦ let a = apart_at spans j k d apart m h in let s = span_at spans k d apart h in omega arith
+      | inr m ↦ let q : j ≡ k = omega arith in rw q e
+    ]
+
+pub firsts_ascend : (spans : List Span) (j k : ℕ) (d : Span) → AreApart spans → j ≤ k → k < length spans → (get_or spans j d).first ≤ (get_or spans k d).first
+firsts_ascend spans j k d apart l h =
+    elim (cases_lt j k) [
+      | inl m ↦ let a = apart_at spans j k d apart m h in let s = span_at spans j d apart (omega arith) in omega arith
+      | inr m ↦ let q : j ≡ k = omega arith in rw q (omega arith)
+    ]
+
+-- ---- one place
+
+and_first : (x y : Bool) → (x && y) ≡ true → x ≡ true
+and_first true y h = refl
+and_first false y h = absurd cc
+
+and_second : (x y : Bool) → (x && y) ≡ true → y ≡ true
+and_second true y h = h
+and_second false y h = absurd cc
+
+-- a span that has the address
+record IsHeld (spans : List Span) (d : Span) (a : ℕ) : Type 0 where
+  place : ℕ
+  within : place < length spans
+  low : (get_or spans place d).first ≤ a
+  high : a ≤ (get_or spans place d).last
+
+held_more : (spans : List Span) (s d : Span) (a : ℕ) (b : Bool) → holds a s ≡ b → (b ≡ false → IsHeld spans d a) → IsHeld (s ∷ spans) d a
+held_more spans s d a true e h = record { place = 0; within = omega arith; low = leb-true s.first a (and_first (leb s.first a) (leb a s.last) e); high = leb-true a s.last (and_second (leb s.first a) (leb a s.last) e) }
+held_more spans s d a false e h =
+    let r = h refl in
+    record { place = suc r.place; within = let w = r.within in omega arith; low = r.low; high = r.high }
+
+held : (spans : List Span) (d : Span) (a : ℕ) → is_covered spans a ≡ true → IsHeld spans d a
+unfolding is_covered
+held [] d a h = absurd cc
+held (s ∷ spans) d a h = held_more spans s d a (holds a s) refl (λ e. held spans d a (rw e at h))
+
+covered_at : (spans : List Span) (k : ℕ) (d : Span) (a : ℕ) → k < length spans → (get_or spans k d).first ≤ a → a ≤ (get_or spans k d).last → is_covered spans a ≡ true
+unfolding is_covered
+covered_at spans k d a h l m = list_any_at (holds a) spans k d h (rw (le-leb (get_or spans k d).first a l, le-leb a (get_or spans k d).last m) refl)
+
+all_true : (p : ℕ → Bool) (a n : ℕ) → ((x : ℕ) → a ≤ x → x < a + n → p x ≡ true) → list_all p (range_with_len a n) ≡ true
+all_true p a zero h = refl
+all_true p a (suc n) h = rw (h a (omega arith) (omega arith), all_true p (a + 1) n (λ x l m. h x (omega arith) (omega arith))) refl
+
+-- all bytes of the place are in one span
+pub freed_inside : (spans : List Span) (k : ℕ) (d : Span) (a : ℕ) → k < length spans → (get_or spans k d).first ≤ a → a + 7 ≤ (get_or spans k d).last → is_freed spans a ≡ true
+freed_inside spans k d a h l m = all_true (is_covered spans) a 8 (λ x low high. covered_at spans k d x h (omega arith) (omega arith))
+
+one_false : (p : ℕ → Bool) (a x : ℕ) → a ≤ x → x < a + 8 → p x ≡ false → list_all p (range_with_len a 8) ≡ false
+one_false p a x l m e =
+    list_all_at p (range_with_len a 8) (x - a) 0 (rw (length-range_with_len a 8) (omega arith))
+    (rw (get_or-range_with_len a 8 (x - a) 0 (omega arith)) (let s : a + (x - a) ≡ x = omega arith in rw s e))
+
+true_or_false : (b : Bool) → (b ≡ true) ⊎ (b ≡ false)
+true_or_false true = inl refl
+true_or_false false = inr refl
+
+-- the byte after a span is in none
+after_span : (spans : List Span) (j : ℕ) (d : Span) → AreApart spans → j < length spans → is_covered spans ((get_or spans j d).last + 1) ≡ false
+after_span spans j d apart h =
+    elim (true_or_false (is_covered spans ((get_or spans j d).last + 1))) [
+      | inr e ↦ e
+      | inl e ↦
+          let r = held spans d ((get_or spans j d).last + 1) e in
+          let w = r.within in
+          let l = r.low in
+          let m = r.high in
+          absurd (elim (cases_lt r.place j) [
+            | inl q ↦ let a = apart_at spans r.place j d apart q h in let s = span_at spans j d apart h in omega arith
+            | inr q ↦ elim (cases_lt j r.place) [
+              | inl o ↦ let a = apart_at spans j r.place d apart o w in omega arith
+              | inr o ↦ let same : r.place ≡ j = omega arith in let n = rw same at m in omega arith
+            ]
+          ])
+    ]
+
+-- the first spans end before the place does, and the others begin behind its first byte
+pub freed_none : (spans : List Span) (k : ℕ) (d : Span) (a : ℕ) → AreApart spans → ((j : ℕ) → j < k → j < length spans → (get_or spans j d).last < a + 7) → ((j : ℕ) → k ≤ j → j < length spans → a < (get_or spans j d).first) → is_freed spans a ≡ false
+freed_none spans k d a apart past later =
+    elim (true_or_false (is_covered spans a)) [
+      | inr e ↦ one_false (is_covered spans) a a (omega arith) (omega arith) e
+      | inl e ↦
+          let r = held spans d a e in
+          let w = r.within in
+          let l = r.low in
+          let m = r.high in
+          elim (cases_lt r.place k) [
+            | inl q ↦ let p = past r.place q w in one_false (is_covered spans) a ((get_or spans r.place d).last + 1) (omega arith) (omega arith) (after_span spans r.place d apart w)
+            | inr q ↦ absurd (let b = later r.place q w in omega arith)
+          ]
+    ]
+
+-- ---- places of which each is freed, or none
+
+filter_true : (p : ℕ → Bool) (f : ℕ → ℕ) (i n : ℕ) → ((k : ℕ) → i ≤ k → k < i + n → p (f k) ≡ true) → filter p (map f (range_with_len i n)) ≡ map f (range_with_len i n)
+filter_true p f i zero h = refl
+filter_true p f i (suc n) h = rw (h i (omega arith) (omega arith), filter_true p f (i + 1) n (λ k l m. h k (omega arith) (omega arith))) refl
+
+filter_false : (p : ℕ → Bool) (f : ℕ → ℕ) (i n : ℕ) → ((k : ℕ) → i ≤ k → k < i + n → p (f k) ≡ false) → filter p (map f (range_with_len i n)) ≡ []
+filter_false p f i zero h = refl
+filter_false p f i (suc n) h = rw (h i (omega arith) (omega arith)) (filter_false p f (i + 1) n (λ k l m. h k (omega arith) (omega arith)))
+
+length-addresses : (from to : ℕ) → length (addresses_in (from, to)) ≡ (to - from) / 8
+length-addresses from to = length-map (range_with_len 0 ((to - from) / 8)) (λ (i : ℕ). from + 8 * i) ∙ length-range_with_len 0 ((to - from) / 8)
+
+pass_all : (p : ℕ → Bool) (from to : ℕ) → from % 8 ≡ 0 → ((a : ℕ) → from ≤ a → a < to → a % 8 ≡ 0 → p a ≡ true) → filter p (addresses_in (from, to)) ≡ addresses_in (from, to)
+pass_all p from to m h = filter_true p (λ (i : ℕ). from + 8 * i) 0 ((to - from) / 8) (λ k l n. h (from + 8 * k) (omega arith) (omega arith) (omega arith))
+
+pass_none : (p : ℕ → Bool) (from to : ℕ) → from % 8 ≡ 0 → ((a : ℕ) → from ≤ a → a < to → a % 8 ≡ 0 → p a ≡ false) → filter p (addresses_in (from, to)) ≡ []
+pass_none p from to m h = filter_false p (λ (i : ℕ). from + 8 * i) 0 ((to - from) / 8) (λ k l n. h (from + 8 * k) (omega arith) (omega arith) (omega arith))
+
+-- the places of the range before the cursor: those that aren't freed were added, and the others counted
+pub record AreKept (spans : List Span) (range : ℕ × ℕ) (old new : List (ℕ × ℕ)) (freed cursor : ℕ) : Type 0 where
+  pub low : range.0 ≤ cursor
+  pub high : cursor ≤ range.1
+  pub multiple : cursor % 8 ≡ 0
+  pub ranges : AreRanges new
+  pub ends : EndBy cursor new
+  pub kept : memory_places new ≡ memory_places old ++ filter (λ a. not (is_freed spans a)) (addresses_in (range.0, cursor))
+  pub counted : freed ≡ length (filter (is_freed spans) (addresses_in (range.0, cursor)))
+  pub few : range.0 + 8 * freed ≤ cursor
+
+pub kept_first : (spans : List Span) (range : ℕ × ℕ) (old : List (ℕ × ℕ)) → IsRange range → AreRanges old → EndBy range.0 old → AreKept spans range old old 0 range.0
+kept_first spans range old is ranges' ends' = record {
+  low = omega arith;
+  high = let s = is.some in omega arith;
+  multiple = is.from_multiple;
+  ranges = ranges';
+  ends = ends';
+  kept = let z : (range.0 - range.0) / 8 ≡ 0 = omega arith in rw z (sym (append-nil (memory_places old)));
+  counted = let z : (range.0 - range.0) / 8 ≡ 0 = omega arith in rw z refl;
+  few = omega arith;
+}
+
+filter_split : (p : ℕ → Bool) (a b c : ℕ) → a % 8 ≡ 0 → b % 8 ≡ 0 → c % 8 ≡ 0 → a ≤ b → b ≤ c → filter p (addresses_in (a, c)) ≡ filter p (addresses_in (a, b)) ++ filter p (addresses_in (b, c))
+filter_split p a b c x y z l m = ap (filter p) (addresses_in-split a b c x y z l m) ∙ filter-append p (addresses_in (a, b)) (addresses_in (b, c))
+
+-- places more that aren't freed
+pub kept_more : (spans : List Span) (range : ℕ × ℕ) (old new more : List (ℕ × ℕ)) (freed cursor end : ℕ) → IsRange range → AreKept spans range old new freed cursor → cursor < end → end ≤ range.1 → end % 8 ≡ 0
+    → ((a : ℕ) → cursor ≤ a → a < end → a % 8 ≡ 0 → is_freed spans a ≡ false) → more ≡ new ++ (cursor, end) ∷ [] → AreKept spans range old more freed end
+kept_more spans range old new more freed cursor end is k some high' multiple' alike e =
+    let low' = k.low in
+    let f = is.from_multiple in
+    let g = k.multiple in
+    let few' = k.few in
+    let one : IsRange (cursor, end) = record { some = some; from_multiple = g; to_multiple = multiple' } in
+    record {
+      low = omega arith;
+      high = high';
+      multiple = multiple';
+      ranges = rw e (ranges_push new (cursor, end) k.ranges k.ends one);
+      ends = rw e (all_push (λ (r : ℕ × ℕ). r.1 ≤ end) new (cursor, end) (end_later cursor end new (omega arith) k.ends) (omega arith));
+      kept = ap memory_places e ∙ places_push new (cursor, end)
+          ∙ ap (λ (xs : List ℕ). xs ++ addresses_in (cursor, end)) k.kept
+          ∙ append_assoc (memory_places old) (filter (λ a. not (is_freed spans a)) (addresses_in (range.0, cursor))) (addresses_in (cursor, end))
+          ∙ ap (λ (xs : List ℕ). memory_places old ++ xs)
+          (ap (λ (xs : List ℕ). filter (λ a. not (is_freed spans a)) (addresses_in (range.0, cursor)) ++ xs) (sym (pass_all (λ a. not (is_freed spans a)) cursor end g (λ a l m n. ap not (alike a l m n))))
+          ∙ sym (filter_split (λ a. not (is_freed spans a)) range.0 cursor end f g multiple' low' (omega arith)));
+      counted = k.counted
+          ∙ ap length (sym (append-nil (filter (is_freed spans) (addresses_in (range.0, cursor)))))
+          ∙ ap (λ (xs : List ℕ). length (filter (is_freed spans) (addresses_in (range.0, cursor)) ++ xs)) (sym (pass_none (is_freed spans) cursor end g alike))
+          ∙ ap length (sym (filter_split (is_freed spans) range.0 cursor end f g multiple' low' (omega arith)));
+      few = omega arith;
+    }
+
+-- places more that are freed
+pub kept_less : (spans : List Span) (range : ℕ × ℕ) (old new : List (ℕ × ℕ)) (freed more cursor end : ℕ) → IsRange range → AreKept spans range old new freed cursor → cursor < end → end ≤ range.1 → end % 8 ≡ 0
+    → ((a : ℕ) → cursor ≤ a → a < end → a % 8 ≡ 0 → is_freed spans a ≡ true) → more ≡ freed + (end - cursor) / 8 → AreKept spans range old new more end
+kept_less spans range old new freed more cursor end is k some high' multiple' alike e =
+    let low' = k.low in
+    let f = is.from_multiple in
+    let g = k.multiple in
+    let few' = k.few in
+    record {
+      low = omega arith;
+      high = high';
+      multiple = multiple';
+      ranges = k.ranges;
+      ends = end_later cursor end new (omega arith) k.ends;
+      kept = k.kept
+          ∙ ap (λ (xs : List ℕ). memory_places old ++ xs)
+          (sym (append-nil (filter (λ a. not (is_freed spans a)) (addresses_in (range.0, cursor))))
+          ∙ ap (λ (xs : List ℕ). filter (λ a. not (is_freed spans a)) (addresses_in (range.0, cursor)) ++ xs) (sym (pass_none (λ a. not (is_freed spans a)) cursor end g (λ a l m n. ap not (alike a l m n))))
+          ∙ sym (filter_split (λ a. not (is_freed spans a)) range.0 cursor end f g multiple' low' (omega arith)));
+      counted = e ∙ ap (λ (n : ℕ). n + (end - cursor) / 8) k.counted
+          ∙ ap (λ (n : ℕ). length (filter (is_freed spans) (addresses_in (range.0, cursor))) + n) (sym (length-addresses cursor end))
+          ∙ sym (length-append (filter (is_freed spans) (addresses_in (range.0, cursor))) (addresses_in (cursor, end)))
+          ∙ ap (λ (xs : List ℕ). length (filter (is_freed spans) (addresses_in (range.0, cursor)) ++ xs)) (sym (pass_all (is_freed spans) cursor end g alike))
+          ∙ ap length (sym (filter_split (is_freed spans) range.0 cursor end f g multiple' low' (omega arith)));
+      few = omega arith;
+    }
+
+pub kept_all : (spans : List Span) (range : ℕ × ℕ) (old new : List (ℕ × ℕ)) (freed cursor : ℕ) → range.1 ≤ cursor → AreKept spans range old new freed cursor → AreKept spans range old new freed range.1
+kept_all spans range old new freed cursor end k = let h = k.high in let e : cursor ≡ range.1 = omega arith in subst (λ (c : ℕ). AreKept spans range old new freed c) e k
+
+-- ---- one range after another
+
+ranges_behind : (r : ℕ × ℕ) (rs : List (ℕ × ℕ)) (k : ℕ) (d : ℕ × ℕ) → AllByRecursion (λ s. r.1 ≤ s.0) rs → k < length rs → r.1 ≤ (get_or rs k d).0
+ranges_behind r [] k d h l = absurd (omega arith)
+ranges_behind r (s ∷ rs) zero d h l = h.0
+ranges_behind r (s ∷ rs) (suc k) d h l = ranges_behind r rs k d h.1 (omega arith)
+
+ranges_apart : (rs : List (ℕ × ℕ)) (j k : ℕ) (d : ℕ × ℕ) → AreRanges rs → j < k → k < length rs → (get_or rs j d).1 ≤ (get_or rs k d).0
+ranges_apart [] j k d h l m = absurd (omega arith)
+ranges_apart (r ∷ rs) j zero d h l m = absurd (omega arith)
+ranges_apart (r ∷ rs) zero (suc k) d h l m = ranges_behind r rs k d h.1 (omega arith)
+ranges_apart (r ∷ rs) (suc j) (suc k) d h l m = ranges_apart rs j k d h.2 (omega arith) (omega arith)
+
+-- the places of the first ranges: those that aren't freed were added, and the others counted
+pub record AreAllKept (spans : List Span) (memory : List (ℕ × ℕ)) (i : ℕ) (kept : List (ℕ × ℕ)) (freed : ℕ) : Type 0 where
+  pub ranges : AreRanges kept
+  pub ends : (k : ℕ) (d : ℕ × ℕ) → i ≤ k → k < length memory → EndBy (get_or memory k d).0 kept
+  pub few : (k : ℕ) (d : ℕ × ℕ) → i ≤ k → k < length memory → 8 * freed ≤ (get_or memory k d).0
+  pub places : memory_places kept ≡ filter (λ a. not (is_freed spans a)) (memory_places (take i memory))
+  pub counted : freed ≡ length (filter (is_freed spans) (memory_places (take i memory)))
+
+pub all_kept_first : (spans : List Span) (memory : List (ℕ × ℕ)) → AreAllKept spans memory 0 [] 0
+all_kept_first spans memory = record { ranges = tt; ends = λ k d l m. tt; few = λ k d l m. omega arith; places = refl; counted = refl }
+
+filter_more : (p : ℕ → Bool) (memory : List (ℕ × ℕ)) (i : ℕ) (d : ℕ × ℕ) → i < length memory → filter p (memory_places (take (i + 1) memory)) ≡ filter p (memory_places (take i memory)) ++ filter p (addresses_in (get_or memory i d))
+filter_more p memory i d h =
+    ap (λ (rs : List (ℕ × ℕ)). filter p (memory_places rs)) (take_more memory i d h)
+    ∙ ap (filter p) (places_push (take i memory) (get_or memory i d))
+    ∙ filter-append p (memory_places (take i memory)) (addresses_in (get_or memory i d))
+
+pub all_kept_more : (spans : List Span) (memory : List (ℕ × ℕ)) (i : ℕ) (kept more : List (ℕ × ℕ)) (freed count : ℕ) (d : ℕ × ℕ) → AreRanges memory → i < length memory → AreAllKept spans memory i kept freed
+    → memory_places more ≡ memory_places kept ++ filter (λ a. not (is_freed spans a)) (addresses_in (get_or memory i d)) → AreRanges more → EndBy (get_or memory i d).1 more
+    → count ≡ length (filter (is_freed spans) (addresses_in (get_or memory i d))) → (get_or memory i d).0 + 8 * count ≤ (get_or memory i d).1 → AreAllKept spans memory (i + 1) more (freed + count)
+all_kept_more spans memory i kept more freed count d are h k places' ranges' ends' counted' few' = record {
+  ranges = ranges';
+  ends = λ j e l m. end_later (get_or memory i d).1 (get_or memory j e).0 more (let a = ranges_apart memory i j d are (omega arith) m in let q = get_or_default memory j d e m in rw (← q) a) ends';
+  few = λ j e l m. let a = ranges_apart memory i j d are (omega arith) m in let q = get_or_default memory j d e m in let b = k.few i d (omega arith) h in rw (← q) (omega arith);
+  places = places' ∙ ap (λ (xs : List ℕ). xs ++ filter (λ a. not (is_freed spans a)) (addresses_in (get_or memory i d))) k.places ∙ sym (filter_more (λ a. not (is_freed spans a)) memory i d h);
+  counted = ap (λ (n : ℕ). n + count) k.counted
+      ∙ ap (λ (n : ℕ). length (filter (is_freed spans) (memory_places (take i memory))) + n) counted'
+      ∙ sym (length-append (filter (is_freed spans) (memory_places (take i memory))) (filter (is_freed spans) (addresses_in (get_or memory i d))))
+      ∙ ap length (sym (filter_more (is_freed spans) memory i d h));
+}
+
+pub all_kept_all : (spans : List Span) (memory : List (ℕ × ℕ)) (i : ℕ) (kept : List (ℕ × ℕ)) (freed : ℕ) → length memory ≤ i → AreAllKept spans memory i kept freed → AreAllKept spans memory (length memory) kept freed
+all_kept_all spans memory i kept freed h k = record {
+  ranges = k.ranges;
+  ends = λ j d l m. absurd (omega arith);
+  few = λ j d l m. absurd (omega arith);
+  places = k.places ∙ (rw (take_all i memory h, take_all (length memory) memory (omega arith)) refl);
+  counted = k.counted ∙ (rw (take_all i memory h, take_all (length memory) memory (omega arith)) refl);
+}
+
+-- ---- spans with the same addresses
+
+list_all_same : (p q : ℕ → Bool) (xs : List ℕ) → ((a : ℕ) → p a ≡ q a) → list_all p xs ≡ list_all q xs
+list_all_same p q [] h = refl
+list_all_same p q (x ∷ xs) h = rw (h x, list_all_same p q xs h) refl
+
+pub freed_same : (spans others : List Span) (a : ℕ) → CoverSame spans others → is_freed spans a ≡ is_freed others a
+freed_same spans others a same = list_all_same (is_covered spans) (is_covered others) (range_with_len a 8) same
+
+pub filter_alike : (p q : ℕ → Bool) (xs : List ℕ) → ((a : ℕ) → p a ≡ q a) → filter p xs ≡ filter q xs
+filter_alike p q [] h = refl
+filter_alike p q (x ∷ xs) h = rw (h x, filter_alike p q xs h) refl
+
+pub root_places_same : (file : List ℕ) (blocks : List Block) (spans others : List Span) → CoverSame spans others → root_places file blocks spans ≡ root_places file blocks others
+unfolding root_places
+root_places_same file blocks spans others same = filter_alike (λ a. not (is_freed spans a)) (λ a. not (is_freed others a)) (outside_places file blocks) (λ a. ap not (freed_same spans others a same))
+
+pub freed_places_same : (file : List ℕ) (blocks : List Block) (spans others : List Span) → CoverSame spans others → freed_places file blocks spans ≡ freed_places file blocks others
+unfolding freed_places
+freed_places_same file blocks spans others same = filter_alike (is_freed spans) (is_freed others) (outside_places file blocks) (λ a. freed_same spans others a same)
+
+-- ---- no spans
+
+pub none_freed : (spans : List Span) (a : ℕ) → length spans ≡ 0 → is_freed spans a ≡ false
+unfolding is_covered
+none_freed [] a h = refl
+none_freed (s ∷ spans) a h = absurd (omega arith)
+
+filter_whole : (p : ℕ → Bool) (xs : List ℕ) → ((a : ℕ) → p a ≡ true) → filter p xs ≡ xs
+filter_whole p [] h = refl
+filter_whole p (x ∷ xs) h = rw (h x) (ap (λ (ys : List ℕ). x ∷ ys) (filter_whole p xs h))
+
+filter_empty : (p : ℕ → Bool) (xs : List ℕ) → ((a : ℕ) → p a ≡ false) → filter p xs ≡ []
+filter_empty p [] h = refl
+filter_empty p (x ∷ xs) h = rw (h x) (filter_empty p xs h)
+
+pub none_left_out : (spans : List Span) (places : List ℕ) → length spans ≡ 0 → places ≡ filter (λ a. not (is_freed spans a)) places
+none_left_out spans places none = sym (filter_whole (λ a. not (is_freed spans a)) places (λ a. ap not (none_freed spans a none)))
+
+pub none_counted : (spans : List Span) (places : List ℕ) → length spans ≡ 0 → 0 ≡ length (filter (is_freed spans) places)
+none_counted spans places none = sym (ap length (filter_empty (is_freed spans) places (λ a. none_freed spans a none)))
+
+pub root_places_some : (file : List ℕ) (blocks : List Block) (spans : List Span) (places : List ℕ) → places ≡ outside_places file blocks → filter (λ a. not (is_freed spans a)) places ≡ root_places file blocks spans
+unfolding root_places
+root_places_some file blocks spans places e = ap (filter (λ a. not (is_freed spans a))) e
+
+pub freed_places_some : (file : List ℕ) (blocks : List Block) (spans : List Span) (places : List ℕ) → places ≡ outside_places file blocks → filter (is_freed spans) places ≡ freed_places file blocks spans
+unfolding freed_places
+freed_places_some file blocks spans places e = ap (filter (is_freed spans)) e
+
+unfoldable pub no_span : Span
+no_span = record { first = 0; last = 0 }

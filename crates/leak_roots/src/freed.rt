@@ -1,0 +1,128 @@
+//! Leaving out freed memory.
+
+ghost use Rattle.std.specs.Prelude.{◌≡◌, ◌+◌, ◌++◌, ◌<◌, ◌≤◌, ◌*◌, ◌^◌, ◌%◌, ℕ, length, slice_index_or, filter, not, OnOk, IfOk};
+ghost use Rattle.leak_blocks.specs.declared.small.Span.{Span};
+ghost use Rattle.leak_blocks.specs.Small.{AreApart};
+ghost use Rattle.leak_roots.specs.Places.{memory_places, addresses_in, IsRange, AreRanges, EndBy};
+ghost use Rattle.leak_roots.specs.Roots.{is_freed};
+
+use leak_blocks::Span;
+use std::alloc::{AllocError, Global};
+
+/// Places of which each is freed, or none.
+#[derive(Clone, Copy)]
+struct Run {
+    /// Whether they are freed.
+    freed: bool,
+    /// Where they end, excluded: a multiple of 8.
+    end: u64,
+}
+
+/// How many of the spans end before the address.
+fn count_before(spans: &[Span], addr: u64) -> usize
+    requires { AreApart spans.now }
+    ensures bound { result ≤ length spans.now }
+    ensures within { (k : ℕ) (d : Span) → k < result → (slice_index_or spans.now k d).last < addr }
+    ensures beyond { (k : ℕ) (d : Span) → result ≤ k → k < length spans.now → addr ≤ (slice_index_or spans.now k d).last }
+{
+    spans.partition_point(|span| span.last < addr)
+}
+
+/// Places from `from` on, up to `to` at most, of which each is freed, or none.
+fn run_from(spans: &[Span], from: u64, to: u64) -> Run
+    requires apart { AreApart spans.now }
+    requires range { IsRange (from, to) }
+    ensures some { from < result.end }
+    ensures within { result.end ≤ to }
+    ensures multiple { result.end % 8 ≡ 0 }
+    ensures alike { (a : ℕ) → from ≤ a → a < result.end → a % 8 ≡ 0 → is_freed spans.now a ≡ result.freed }
+{
+    let last = from + 7;
+    let next = count_before(spans, last);
+    if next == spans.len() {
+        return Run {
+            freed: false,
+            end: to,
+        };
+    }
+    let span = spans[next];
+    let freed = span.first <= from;
+    let words = if freed {
+        (span.last - last) / 8 + 1
+    } else {
+        (span.first - from).div_ceil(8)
+    };
+    Run {
+        freed,
+        end: from + 8 * words.min((to - from) / 8),
+    }
+}
+
+/// Adds the places of a range that aren't freed, and counts the others.
+fn push_kept(
+    kept: &mut Vec<(u64, u64)>,
+    range: (u64, u64),
+    spans: &[Span],
+) -> Result<u64, AllocError>
+    requires apart { AreApart spans.now }
+    requires range { IsRange range }
+    requires ranges { AreRanges kept.old.items }
+    requires ends { EndBy range.0 kept.old.items }
+    ensures places { OnOk result (memory_places kept.new.items ≡ memory_places kept.old.items ++ filter (λ a. not (is_freed spans.now a)) (addresses_in range)) }
+    ensures ranges { OnOk result (AreRanges kept.new.items) }
+    ensures ends { OnOk result (EndBy range.1 kept.new.items) }
+    ensures freed { IfOk result (λ freed. freed ≡ length (filter (is_freed spans.now) (addresses_in range))) }
+    ensures few { IfOk result (λ freed. range.0 + 8 * freed ≤ range.1) }
+    ensures fits { IfOk result (λ freed. range.0 + 8 * freed < 2 ^ 64) }
+{
+    let (mut from, to) = range;
+    let mut freed = 0;
+    while from < to {
+        let run = run_from(spans, from, to);
+        if run.freed {
+            freed += (run.end - from) / 8;
+        } else {
+            kept.push((from, run.end))?;
+        }
+        from = run.end;
+    }
+    Ok(freed)
+}
+
+/// The places in the ranges that aren't freed, and how many are.
+fn keep_others(
+    alloc: Global,
+    memory: &[(u64, u64)],
+    spans: &[Span],
+) -> Result<(Vec<(u64, u64)>, u64), AllocError>
+    requires apart { AreApart spans.now }
+    requires ranges { AreRanges memory.now }
+    ensures places { IfOk result (λ found. memory_places found.0.items ≡ filter (λ a. not (is_freed spans.now a)) (memory_places memory.now)) }
+    ensures ranges { IfOk result (λ found. AreRanges found.0.items) }
+    ensures freed { IfOk result (λ found. found.1 ≡ length (filter (is_freed spans.now) (memory_places memory.now))) }
+{
+    let mut kept = Vec::new(alloc);
+    let mut freed = 0;
+    for range in memory {
+        freed += push_kept(&mut kept, *range, spans)?;
+    }
+    Ok((kept, freed))
+}
+
+/// The places in the ranges that aren't freed, and how many are. Without spans these are the ranges.
+pub(crate) fn leave_out_freed(
+    alloc: Global,
+    memory: Vec<(u64, u64)>,
+    spans: &[Span],
+) -> Result<(Vec<(u64, u64)>, u64), AllocError>
+    requires apart { AreApart spans.now }
+    requires ranges { AreRanges memory.items }
+    ensures places { IfOk result (λ found. memory_places found.0.items ≡ filter (λ a. not (is_freed spans.now a)) (memory_places memory.items)) }
+    ensures ranges { IfOk result (λ found. AreRanges found.0.items) }
+    ensures freed { IfOk result (λ found. found.1 ≡ length (filter (is_freed spans.now) (memory_places memory.items))) }
+{
+    if spans.is_empty() {
+        return Ok((memory, 0));
+    }
+    keep_others(alloc, &memory, spans)
+}

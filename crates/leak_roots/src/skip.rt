@@ -1,0 +1,37 @@
+//! What a search leaves out of the root words.
+
+ghost use Rattle.std.specs.Prelude.{◌≡◌, IfOk, false};
+ghost use Rattle.leak_blocks.specs.Small.{CoverSame};
+ghost use Rattle.leak_roots.specs.Skipped.{spans_of};
+
+use leak_blocks::{SmallSpans, small_spans};
+use leak_mtrace::Log;
+use std::alloc::{AllocError, Global};
+
+/// What a search leaves out of the root words.
+#[derive(Clone, Copy, Debug, PartialEq, Eq)]
+pub struct Skip {
+    /// The words of freed memory: those whose 8 bytes each lie in the span of a small allocation of the log, and in no
+    /// live block.
+    pub freed: bool,
+}
+
+impl Skip {
+    /// Nothing is left out.
+    pub fn none() -> Skip
+        ensures { result ≡ record { freed = false } }
+    {
+        Skip { freed: false }
+    }
+
+    /// The spans of a log whose freed places are left out.
+    pub fn spans(self, alloc: Global, log: &Log) -> Result<SmallSpans, AllocError>
+        ensures { IfOk result (λ spans. CoverSame spans (spans_of self log.now.lines)) }
+    {
+        if self.freed {
+            small_spans(alloc, log)
+        } else {
+            Ok(SmallSpans::none(alloc))
+        }
+    }
+}
