@@ -27,6 +27,11 @@ abbrev pub log_line : Head → List ℕ
 log_line head =
     codes "unknown " ++ (decimal head.unknown ++ (codes " displaced " ++ (decimal head.displaced ++ (codes " torn " ++ (decimal head.torn ++ newline)))))
 
+-- where freed memory is left out alone
+abbrev pub freed_lines : Option ℕ → List ℕ
+freed_lines None = []
+freed_lines (Some freed) = codes "freed " ++ (decimal freed ++ newline)
+
 abbrev pub reread_line : Two → List ℕ
 reread_line two = codes "reread " ++ (decimal two.reread ++ newline)
 

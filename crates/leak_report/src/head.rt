@@ -11,6 +11,8 @@ pub struct Head {
     pub displaced: u64,
     /// 1 where something follows the log's last line feed, else 0.
     pub torn: u64,
+    /// Words of freed memory that are left out of the root words, where they are.
+    pub freed: Option<u64>,
     /// What two cores add. The other numbers are then of the second core and its log.
     pub two: Option<Two>,
 }

@@ -1,7 +1,7 @@
 //! The lines of the report.
 ghost use Rattle.std.specs.Prelude.{◌≡◌, ◌++◌, OnOk, codes, string_bytes};
 ghost use Rattle.leak_report.specs.Totals.{IsIn, text_at};
-ghost use Rattle.leak_report.specs.Lines.{newline, sizes_line, undumped_line, log_line, reread_line, two_lines, heads_line, kind_of, caller_front, leak_front, caller_line, leak_line};
+ghost use Rattle.leak_report.specs.Lines.{newline, sizes_line, undumped_line, log_line, freed_lines, reread_line, two_lines, heads_line, kind_of, caller_front, leak_front, caller_line, leak_line};
 
 use crate::head::{Head, Two};
 use crate::totals::CallerRow;
@@ -40,6 +40,16 @@ pub fn push_head(out: &mut String, head: &Head) -> Result<(), AllocError>
     } = *head;
     writeln!(out, "undumped {undumped}")?;
     writeln!(out, "unknown {unknown} displaced {displaced} torn {torn}")
+}
+
+/// Appends the line of the words of freed memory, where they are left out.
+pub fn push_freed(out: &mut String, freed: Option<u64>) -> Result<(), AllocError>
+    ensures { OnOk result (string_bytes out.new ≡ string_bytes out.old ++ freed_lines freed) }
+{
+    match freed {
+        Some(freed) => writeln!(out, "freed {freed}"),
+        None => Ok(()),
+    }
 }
 
 /// Appends the lines of a search in two cores.

@@ -22,6 +22,7 @@ const NOTHING_ODD: Head = Head {
     unknown: 0,
     displaced: 0,
     torn: 0,
+    freed: None,
     two: None,
 };
 
@@ -91,6 +92,7 @@ fn first_lines_of_two_cores(rt: HostRuntime) -> Result<(), Fail> {
         unknown: 2,
         displaced: 1,
         torn: 1,
+        freed: Some(7),
         two: Some(Two {
             fresh: 1,
             fresh_bytes: 32,
@@ -100,7 +102,7 @@ fn first_lines_of_two_cores(rt: HostRuntime) -> Result<(), Fail> {
     let log = "+ 0x10100 0x20\n+ 0x10200 0x10\n";
     let found = report(&rt, rt.alloc(), &head, log, &[true, true], &[false, false])?;
     let wanted =
-        "blocks 2 bytes 48\nundumped 4096\nunknown 2 displaced 1 torn 1\nnew 1 bytes 32\nreread 18446744073709551615\nmarked 2 bytes 48\nleaked 0 bytes 0\nheads 0\n";
+        "blocks 2 bytes 48\nundumped 4096\nunknown 2 displaced 1 torn 1\nfreed 7\nnew 1 bytes 32\nreread 18446744073709551615\nmarked 2 bytes 48\nleaked 0 bytes 0\nheads 0\n";
     assert_eq!(rt; found.as_slice(), wanted.as_bytes());
     Ok(())
 }
