@@ -2,6 +2,7 @@
 use Rattle.std.specs.Prelude.{ℕ, Bool, true, false, List, [], ◌∷◌, codes, map, pos, Some}
 use Rattle.std.specs.List.{fold}
 use Rattle.clap.specs.Words.{App, Rule, Text, new_app, new_rule, with_rule, with_subcommand}
+use Rattle.clap.specs.declared.builder.action.ArgAction.TheVariants.{SetTrue}
 use Rattle.clap.specs.declared.builder.command.Command.{Command}
 use Rattle.clap.specs.declared.builder.command.Command.TheViews.{out-Command}
 use Rattle.clap.specs.declared.builder.value_parser.ValueParser.TheVariants as parser
@@ -19,12 +20,17 @@ number_rule id default low high =
 abbrev pub text_rule : Text → Rule
 text_rule id = record (new_rule id) { long = Some id; value_names = 1 }
 
+-- a flag, which may be left out
+abbrev pub flag_rule : Text → Rule
+flag_rule id = record (new_rule id) { long = Some id; action = Some SetTrue }
+
 -- the options of a search
 abbrev pub option_rules : List Rule
 option_rules = number_rule (codes "workers") (codes "4") 1 64
     ∷ number_rule (codes "piece") (codes "512") 1 65536
     ∷ number_rule (codes "stack") (codes "1024") 0 65536
-    ∷ text_rule (codes "displace") ∷ []
+    ∷ text_rule (codes "displace")
+    ∷ flag_rule (codes "skip-freed") ∷ []
 
 -- the subcommand of a search of one core, or of two
 abbrev pub name_of : Bool → Text

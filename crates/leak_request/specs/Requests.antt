@@ -1,5 +1,5 @@
 -- What a command line asks for, by the subcommand that clap met and the rows that it found there. Own rule.
-use Rattle.std.specs.Prelude.{◌≡◌, ◌≤◌, ◌<◌, ◌^◌, ◌⊎◌, ℕ, Bool, List, [], Option, Some, None, map, codes, String, string_bytes, IfSome, IsSome, IsSomeAnd, if◌then◌else◌}
+use Rattle.std.specs.Prelude.{◌≡◌, ◌↔◌, ◌≤◌, ◌<◌, ◌^◌, ◌⊎◌, ℕ, Bool, List, [], Option, Some, None, map, codes, String, string_bytes, IfSome, IsSome, IsTrue, IsSomeAnd, if◌then◌else◌}
 use Rattle.std.specs.List.{All}
 use Rattle.std.specs.Str.Parse.{IsNumeral, digits_value, without_leading_plus}
 use Rattle.clap.specs.Words.{Row, Text, first_of, found_of, one_of, rows_of, subcommand_of}
@@ -45,6 +45,10 @@ abbrev pub IsListedBy : Option Text → Option (List ℕ) → Type 0
 IsListedBy None listed = listed ≡ None
 IsListedBy (Some text) listed = IsListed text listed
 
+-- the flag was given
+abbrev pub IsGiven : List Row → Text → Type 0
+IsGiven rows id = first_of id rows ≡ Some (codes "true")
+
 -- how many files a search reads
 abbrev pub file_count : Bool → ℕ
 file_count two = if two then 4 else 2
@@ -59,6 +63,7 @@ pub record IsRequest (name : Text) (rows : List Row) (r : Request) : Type 0 wher
   pub paths : AreAt rows (path_ids r.options.two) r.paths.items
   pub numbers : AreNumbersAt rows r.options.plan.workers r.options.plan.piece r.options.plan.stack
   pub reading : IsListedBy (list_in rows) (listed_by r.options.reading)
+  pub skip : IsTrue r.options.skip.freed ↔ IsGiven rows (codes "skip-freed")
   pub core_limit : r.options.core_limit ≡ 68719476736
   pub log_limit : r.options.log_limit ≡ 4294967296
 

@@ -1,11 +1,11 @@
 //! From a command line to what it asks for.
 
-ghost use Rattle.std.specs.Prelude.{◌≡◌, ◌≢◌, ◌<◌, IfOk, IfErr, IfNone, IfSome, OnOk, Bool};
+ghost use Rattle.std.specs.Prelude.{◌≡◌, ◌≢◌, ◌<◌, ◌↔◌, IfOk, IsTrue, IfErr, IfNone, IfSome, OnOk, Bool};
 ghost use Rattle.std.specs.Prelude.{length, map, option_map, string_bytes};
 ghost use Rattle.clap.specs.Words.{first_of, kind_of};
 ghost use Rattle.leak_index.specs.Readings.{listed_by};
 ghost use Rattle.leak_request.specs.CommandLine.{name_of, path_ids};
-ghost use Rattle.leak_request.specs.Requests.{AreAt, AreNumbersAt, IsBadBy, IsListFaultAt, IsListedBy};
+ghost use Rattle.leak_request.specs.Requests.{AreAt, AreNumbersAt, IsBadBy, IsGiven, IsListFaultAt, IsListedBy};
 ghost use Rattle.leak_request.specs.Requests.{IsNumberAt, IsRefusedAt, LacksNumber, LacksNumberAt, LacksPath};
 ghost use Rattle.leak_request.specs.Requests.{IsRequest, IsRequestOf, IsUsageFaultOf, file_count, found_rows, list_in};
 
@@ -17,6 +17,7 @@ use clap::error::ErrorKind;
 use clap::{ArgMatches, Error};
 use leak_index::Reading;
 use leak_pool::Plan;
+use leak_roots::Skip;
 use std::alloc::{AllocError, Global};
 
 /// The ids of the paths of a search of one core.
@@ -65,6 +66,9 @@ fn request_of(alloc: Global, name: &str, found: &ArgMatches) -> Result<Request, 
         options: Options {
             two,
             reading,
+            skip: Skip {
+                freed: is_given(found, "skip-freed"),
+            },
             plan,
             core_limit: CORE_LIMIT,
             log_limit: LOG_LIMIT,
@@ -147,6 +151,13 @@ fn reading(found: &ArgMatches) -> Result<Reading, DisplaceFault>
         Some(list) => read_displace(list.as_bytes()),
         None => Ok(Reading::interior()),
     }
+}
+
+/// Whether the flag was given.
+fn is_given(found: &ArgMatches, id: &str) -> bool
+    ensures { IsTrue result ↔ IsGiven (found_rows found.now) id.now }
+{
+    matches!(value(found, id), Some("true"))
 }
 
 /// The refusal where clap accepts the words, and a subcommand, a path or a number is missing.

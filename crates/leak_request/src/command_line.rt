@@ -2,10 +2,10 @@
 
 ghost use Rattle.std.specs.Prelude.{◌≡◌, IfOk, false, true, codes};
 ghost use Rattle.clap.specs.Words.{app_of, rule_of};
-ghost use Rattle.leak_request.specs.CommandLine.{command_line, has_globals, number_rule, option_rules, path_rule};
+ghost use Rattle.leak_request.specs.CommandLine.{command_line, flag_rule, has_globals, number_rule, option_rules, path_rule};
 ghost use Rattle.leak_request.specs.CommandLine.{search_line, text_rule, with_rules};
 
-use clap::{Arg, Command};
+use clap::{Arg, ArgAction, Command};
 use std::alloc::{AllocError, Global};
 
 /// What help says of a core.
@@ -70,7 +70,8 @@ fn with_options<'a>(alloc: Global, command: Command<'a>) -> Result<Command<'a>, 
         .arg(workers(alloc))?
         .arg(piece(alloc))?
         .arg(stack(alloc))?
-        .arg(displace(alloc))
+        .arg(displace(alloc))?
+        .arg(skip_freed(alloc))
 }
 
 fn path<'a>(alloc: Global, id: &'a str, name: &'a str, what: &'a str) -> Arg<'a>
@@ -127,4 +128,14 @@ fn displace<'a>(alloc: Global) -> Arg<'a>
         .long("displace")
         .value_name("LIST")
         .help("Byte offsets at which a pointer keeps a block, besides 0, as 8,16 [default: any]")
+}
+
+fn skip_freed<'a>(alloc: Global) -> Arg<'a>
+    ensures rule { rule_of result ≡ flag_rule (codes "skip-freed") }
+    ensures local { result.global ≡ false }
+{
+    Arg::new(alloc, "skip-freed")
+        .long("skip-freed")
+        .action(ArgAction::SetTrue)
+        .help("Leave out pointers in freed memory of blocks below 131072 bytes")
 }

@@ -2,6 +2,7 @@
 
 use leak_index::Reading;
 use leak_pool::Plan;
+use leak_roots::Skip;
 
 /// The largest core that the program reads, in bytes: 64 GiB.
 pub const CORE_LIMIT: u64 = 68_719_476_736;
@@ -16,6 +17,8 @@ pub struct Options {
     pub two: bool,
     /// The distances from a block's start at which a word keeps the block.
     pub reading: Reading,
+    /// What is left out of the root words.
+    pub skip: Skip,
     /// How marking is shared among the workers.
     pub plan: Plan,
     /// The largest core that is read, in bytes.

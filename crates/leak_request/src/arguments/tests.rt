@@ -1,6 +1,7 @@
 use crate::{DisplaceFault, Options, Request, UsageFault, request};
 use leak_index::{Reading, ReadingError};
 use leak_pool::Plan;
+use leak_roots::Skip;
 use std::alloc::AllocError;
 use std::process::Abort;
 use std::test::*;
@@ -33,9 +34,18 @@ fn options(two: bool, reading: Reading, plan: Plan) -> Options {
     Options {
         two,
         reading,
+        skip: Skip::none(),
         plan,
         core_limit: 68_719_476_736,
         log_limit: 4_294_967_296,
+    }
+}
+
+/// The options with freed memory left out.
+fn unfreed(options: Options) -> Options {
+    Options {
+        skip: Skip { freed: true },
+        ..options
     }
 }
 
@@ -70,6 +80,8 @@ fn requests_of_one_core(rt: HostRuntime) -> Result<(), Fail> {
         options(false, interior, Plan::new(4, 1, 0)?),
         "a b",
     )?;
+    takes(&rt, "one a b --skip-freed", unfreed(usual), "a b")?;
+    takes(&rt, "one --skip-freed a b", unfreed(usual), "a b")?;
     takes(
         &rt,
         "one --workers=64 --piece=65536 --stack=65536 -- -a -b",
@@ -106,6 +118,9 @@ fn refused_words(rt: HostRuntime) -> Result<(), Fail> {
         "one core.1 trace.log --piece 65537",
         "one core.1 trace.log --stack 65537",
         "one core.1 trace.log --stack x",
+        "one core.1 trace.log --skip-freed --skip-freed",
+        "two a b c d --skip-freed a --skip-freed",
+        "one core.1 trace.log --skip-freed=true",
         "--workers 2 one core.1 trace.log",
         "two a b",
         "two a b c",
