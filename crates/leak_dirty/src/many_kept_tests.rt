@@ -2,7 +2,7 @@ ghost use Rattle.leak_elf.specs.Words.{word_of};
 ghost use Rattle.leak_elf.specs.Aligned.{aligned_words};
 
 use crate::{carry, differing, retrace};
-use leak_blocks::{Live, replay};
+use leak_blocks::{Live, SmallSpans, replay};
 use leak_elf::{Image, Words, core_k};
 use leak_index::{Reading, Sorted};
 use leak_mtrace::Log;
@@ -91,7 +91,8 @@ fn no_word_of_two_thousand_kept_blocks_is_read_off_differing_pages(
     let carried = carry(alloc, &live, &marked, &live)?;
     assert_eq!(rt; carried.kept.len(), 2048);
     let threads = Threads::read(alloc, &second)?;
-    let roots = Roots::find(alloc, &second, &threads, &live)?;
+    let small = SmallSpans::none(alloc);
+    let roots = Roots::find(alloc, &second, &threads, &live, &small)?;
     let lookup = Sorted::new(&live, Reading::interior());
     let words = Counting {
         image: &second,

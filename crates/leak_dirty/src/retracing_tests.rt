@@ -2,7 +2,7 @@ ghost use Rattle.leak_elf.specs.Words.{word_of};
 ghost use Rattle.leak_elf.specs.Aligned.{aligned_words};
 
 use crate::{Retraced, carry, differing, retrace};
-use leak_blocks::replay;
+use leak_blocks::{SmallSpans, replay};
 use leak_elf::{Image, Words, core_k};
 use leak_index::{Reading, Sorted};
 use leak_mtrace::Log;
@@ -86,7 +86,8 @@ fn traced<R: std::thread::Threads + Sync>(
     let marked = vec![in alloc; is_marked; earlier.blocks().len()]?;
     let carried = carry(alloc, &earlier, &marked, &later)?;
     let threads = Threads::read(alloc, &second)?;
-    let roots = Roots::find(alloc, &second, &threads, &later)?;
+    let small = SmallSpans::none(alloc);
+    let roots = Roots::find(alloc, &second, &threads, &later, &small)?;
     let lookup = Sorted::new(&later, Reading::interior());
     let words = Counting {
         image: &second,

@@ -1,19 +1,26 @@
 -- From what was read and marked to what a search comes to.
-use Rattle.std.proofs.Common.{◌≡◌, ℕ, ◌-◌, ◌≤◌, ◌<◌, ◌^◌, List, [], ◌∷◌, length, Bool, true, false, not, Option, None, Result, Ok, Err, IfOk, refl, ap, subst, sym, ◌∙◌, zero-add, arith, inr}
-use Rattle.std.specs.Prelude.{cond}
+use Rattle.std.proofs.Common.{◌≡◌, ℕ, ◌-◌, ◌≤◌, ◌<◌, ◌^◌, List, [], ◌∷◌, length, Bool, true, false, not, Option, Some, None, Result, Ok, Err, IfOk, refl, ap, subst, sym, ◌∙◌, zero-add, arith, inr}
+use Rattle.std.specs.Prelude.{cond, if◌then◌else◌}
+use Rattle.leak_elf.specs.Segments.{undumped_of}
+use Rattle.leak_mtrace.specs.Log.{torn_of}
+use Rattle.leak_report.specs.declared.head.Two.{Two}
 use Rattle.std.proofs.lemmas.List.Sums.{sum_by-cons}
 use Rattle.std.specs.Result.{IsErrOf}
 use Rattle.std.specs.List.{count_by}
 use Rattle.leak_elf.specs.Words.{word_of}
 use Rattle.leak_mtrace.specs.declared.line.Line.{Line}
 use Rattle.leak_blocks.specs.declared.block.Block.{Block}
+use Rattle.leak_blocks.specs.declared.small.Span.{Span}
+use Rattle.leak_blocks.specs.Small.{small_spans_of}
 use Rattle.leak_blocks.specs.Live.{Replay, live_of, replay_of}
 use Rattle.leak_blocks.proofs.LineLemmas.{live_of_lines}
 use Rattle.leak_index.specs.Hits.{Index}
 use Rattle.leak_notes.specs.Threads.{threads_of}
 use Rattle.leak_scan.specs.Heads.{heads_of}
 use Rattle.leak_roots.specs.Places.{Places, words_at}
-use Rattle.leak_roots.specs.Roots.{AreRootsOf, root_words}
+use Rattle.leak_roots.specs.Roots.{AreRootsOf, freed_places, root_words}
+use Rattle.leak_roots.specs.Skipped.{spans_of, freed_of}
+use Rattle.leak_roots.specs.declared.skip.Skip.{Skip}
 use Rattle.leak_marks.specs.Reach.{Graph, Reach}
 use Rattle.leak_marks.specs.Partition.{Partitions}
 use Rattle.leak_pool.specs.declared.marked.Marked.{Marked}
@@ -29,7 +36,7 @@ use Rattle.leak_pool.specs.declared.error.PoolError.TheVariants.{TooMany as TooM
 use Rattle.leak_find.specs.declared.found.Found.{Found}
 use Rattle.leak_find.specs.declared.inputs.Input.{Input}
 use Rattle.leak_find.specs.Inputs.{IsReadOf, IsRead, IsFaultOfOne, at_marking}
-use Rattle.leak_find.specs.Search.{FindsOne, graph_of_one, head_of_one, head_with, index_of, text_with}
+use Rattle.leak_find.specs.Search.{FindsOne, graph_of_one, head_with, index_of, text_with}
 
 -- the blocks of a replay are the live ones
 pub blocks_are : (lines : List Line) → (replay_of lines).blocks ≡ live_of lines
@@ -64,38 +71,51 @@ leaked_count (false ∷ set) (b ∷ blocks) same =
     rw (one, ← rest) (omega arith)
 
 -- the words at the places found are the root words
-pub found_words : (core : List ℕ) (blocks : List Block) (places : Places) → AreRootsOf core blocks places → words_at (word_of core) places ≡ root_words core blocks
+pub found_words : (core : List ℕ) (blocks : List Block) (spans : List Span) (places : Places) → AreRootsOf core blocks spans places → words_at (word_of core) places ≡ root_words core blocks spans
 unfolding words_at root_words
-found_words core blocks places roots = rw (roots.registers, roots.memory) refl
+found_words core blocks spans places roots = rw (roots.registers, roots.memory) refl
 
 -- the threads that were read are those of the core that was read
 pub threads_read : (core log : List ℕ) (input : Input) → IsRead core log input → input.threads ≡ threads_of input.image
 threads_read core log input read = read.1.threads ∙ ap threads_of (sym read.1.image)
 
 -- the graph that was marked is that of the core and the lines
-pub marked_graph : (core : List ℕ) (reading : Option (List ℕ)) (lines : List Line) (blocks : List Block) (index : Index) (places : Places)
-    → blocks ≡ live_of lines → index ≡ record { blocks = blocks; reading = reading } → AreRootsOf core blocks places
-    → graph_of (word_of core) index (words_at (word_of core) places) [] ≡ graph_of_one core reading lines
-marked_graph core reading lines blocks index places are is roots =
-    rw (found_words core blocks places roots, is, are) refl
+pub marked_graph : (core : List ℕ) (reading : Option (List ℕ)) (skip : Skip) (lines : List Line) (blocks : List Block) (index : Index) (places : Places)
+    → blocks ≡ live_of lines → index ≡ record { blocks = blocks; reading = reading } → AreRootsOf core blocks (spans_of skip lines) places
+    → graph_of (word_of core) index (words_at (word_of core) places) [] ≡ graph_of_one core reading skip lines
+marked_graph core reading skip lines blocks index places are is roots =
+    rw (found_words core blocks (spans_of skip lines) places roots, is, are) refl
+
+counted : (asked : Bool) (core : List ℕ) (blocks : List Block) (small : List Span) (places : Places) → places.freed ≡ length (freed_places core blocks (if asked then small else []))
+    → (if asked then Some places.freed else None) ≡ (if asked then Some (length (freed_places core blocks small)) else None)
+counted true core blocks small places is = ap (λ (n : ℕ). Some n) is
+counted false core blocks small places is = refl
+
+-- the number of freed places is told where they are left out
+pub freed_is : (skip : Skip) (core : List ℕ) (blocks : List Block) (lines : List Line) (places : Places) → AreRootsOf core blocks (spans_of skip lines) places
+    → (if skip.freed then Some places.freed else None) ≡ freed_of skip core blocks lines
+freed_is skip core blocks lines places roots = counted skip.freed core blocks (small_spans_of lines) places roots.freed
 
 -- the numbers of the first lines
-pub head_is : (core log : List ℕ) (input : Input) → (read : IsRead core log input) → head_with input None ≡ head_of_one core log read.0
-head_is core log input read = rw (read.1.image, read.1.live, read.1.torn) refl
+pub head_is : (core log : List ℕ) (lines : List Line) (input : Input) (places : Places) (two : Option Two) → IsReadOf core log lines input → AreRootsOf core input.live.blocks (spans_of input.skip lines) places
+    → head_with input places two ≡ record { undumped = undumped_of core; unknown = (replay_of lines).unknown; displaced = (replay_of lines).displaced; torn = torn_of log; freed = freed_of input.skip core (live_of lines) lines; two = two }
+head_is core log lines input places two read roots =
+    let f = subst (λ (bs : List Block). (if input.skip.freed then Some places.freed else None) ≡ freed_of input.skip core bs lines) (input_blocks core log lines input read) (freed_is input.skip core input.live.blocks lines places roots) in
+    rw (f, read.image, read.live, read.torn) refl
 
 pub index_is : (reading : Option (List ℕ)) (lines : List Line) (blocks : List Block) (index : Index) → blocks ≡ live_of lines → index ≡ record { blocks = blocks; reading = reading } → index ≡ index_of reading lines
 index_is reading lines blocks index are is = rw (is, are) refl
 
 -- a search that read, found roots and marked
-pub finds_one : (core log : List ℕ) (reading : Option (List ℕ)) (workers : ℕ) (input : Input) (index : Index) (places : Places) (marked : Marked) (found : Found)
-    → IsRead core log input → length input.live.blocks < 2 ^ 32 → index ≡ record { blocks = input.live.blocks; reading = reading }
-    → AreRootsOf core input.live.blocks places → Marks (word_of core) index places workers marked
-    → found.report.items ≡ text_of (head_with input None) input.live.blocks marked.set.items (heads_of (word_of core) index marked.set.items) log
+pub finds_one : (core log : List ℕ) (reading : Option (List ℕ)) (workers : ℕ) (input : Input) (index : Index) (places : Places) (head : Head) (marked : Marked) (found : Found)
+    → (read : IsRead core log input) → length input.live.blocks < 2 ^ 32 → index ≡ record { blocks = input.live.blocks; reading = reading }
+    → AreRootsOf core input.live.blocks (spans_of input.skip read.0) places → Marks (word_of core) index places workers marked → head ≡ head_with input places None
+    → found.report.items ≡ text_of head input.live.blocks marked.set.items (heads_of (word_of core) index marked.set.items) log
     → found.leaked ≡ length (leaked_in marked.set.items input.live.blocks) → found.claims ≡ marked.claims
-    → FindsOne core log reading workers found
-finds_one core log reading workers input index places marked found read few is roots marks report leaked claims =
+    → FindsOne core log reading input.skip workers found
+finds_one core log reading workers input index places head marked found read few is roots marks head_at report leaked claims =
     let e = input_blocks core log read.0 input read.1 in
-    let g = marked_graph core reading read.0 input.live.blocks index places e is roots in
+    let g = marked_graph core reading input.skip read.0 input.live.blocks index places e is roots in
     record {
       accepted = read.1.accepted;
       lines = read.0;
@@ -103,12 +123,12 @@ finds_one core log reading workers input index places marked found read few is r
       few = subst (λ (bs : List Block). length bs < 2 ^ 32) e few;
       set = marked.set.items;
       marked =
-          subst (λ (bs : List Block). IsSet marked.set.items (length bs) (Reach (graph_of_one core reading read.0))) (ap (λ (i : Index). i.blocks) is ∙ e)
+          subst (λ (bs : List Block). IsSet marked.set.items (length bs) (Reach (graph_of_one core reading input.skip read.0))) (ap (λ (i : Index). i.blocks) is ∙ e)
           (subst (λ (h : Graph). IsSet marked.set.items (length index.blocks) (Reach h)) g marks.set);
       report =
-          subst (λ (h : Head). found.report.items ≡ text_of h (live_of read.0) marked.set.items (heads_of (word_of core) (index_of reading read.0) marked.set.items) log) (head_is core log input read)
-          (subst (λ (i : Index). found.report.items ≡ text_of (head_with input None) (live_of read.0) marked.set.items (heads_of (word_of core) i marked.set.items) log) (index_is reading read.0 input.live.blocks index e is)
-          (subst (λ (bs : List Block). found.report.items ≡ text_of (head_with input None) bs marked.set.items (heads_of (word_of core) index marked.set.items) log) e report));
+          subst (λ (h : Head). found.report.items ≡ text_of h (live_of read.0) marked.set.items (heads_of (word_of core) (index_of reading read.0) marked.set.items) log) (head_at ∙ head_is core log read.0 input places None read.1 roots)
+          (subst (λ (i : Index). found.report.items ≡ text_of head (live_of read.0) marked.set.items (heads_of (word_of core) i marked.set.items) log) (index_is reading read.0 input.live.blocks index e is)
+          (subst (λ (bs : List Block). found.report.items ≡ text_of head bs marked.set.items (heads_of (word_of core) index marked.set.items) log) e report));
       leaked = subst (λ (bs : List Block). found.leaked ≡ length (leaked_in marked.set.items bs)) e leaked;
       lists = rw (claims) marks.lists;
       claims = rw (claims) (subst (λ (h : Graph). Partitions (lists_of marked) (Reach h)) g marks.claims);
@@ -137,16 +157,18 @@ few_blocks : (n : ℕ) → (2 ^ 32 - 1 < n → ⊥) → n < 2 ^ 32
 few_blocks n not_many = omega (arith, not_many)
 
 -- the same of an input as it was read
-pub finds_read : (core log : List ℕ) (reading : Option (List ℕ)) (workers : ℕ) (input : Input) (index : Index) (places : Places) (marked : Marked) (found : Found)
-    → IsRead core log input → (2 ^ 32 - 1 < length input.live.blocks → IsErrOf {T = Marked} {E = PoolError} (Ok marked) TooManyForPool)
+pub finds_read : (core log : List ℕ) (reading : Option (List ℕ)) (skip : Skip) (workers : ℕ) (input : Input) (index : Index) (places : Places) (head : Head) (marked : Marked) (found : Found)
+    → (read : IsRead core log input) → input.skip ≡ skip → (2 ^ 32 - 1 < length input.live.blocks → IsErrOf {T = Marked} {E = PoolError} (Ok marked) TooManyForPool)
     → index ≡ record { blocks = input.live.blocks; reading = reading }
-    → AreRootsOf input.image input.live.blocks places → Marks (word_of input.image) index places workers marked
-    → found.report.items ≡ text_with input None index marked.set.items log
+    → AreRootsOf input.image input.live.blocks (spans_of input.skip read.0) places → Marks (word_of input.image) index places workers marked → head ≡ head_with input places None
+    → found.report.items ≡ text_with head input index marked.set.items log
     → found.leaked ≡ length (leaked_in marked.set.items input.live.blocks) → found.claims ≡ marked.claims
-    → FindsOne core log reading workers found
-finds_read core log reading workers input index places marked found read many is roots marks report leaked claims =
-    finds_one core log reading workers input index places marked found read (few_blocks (length input.live.blocks) (λ h. no_error marked (many h))) is
-    (subst (λ (file : List ℕ). AreRootsOf file input.live.blocks places) read.1.image roots)
+    → FindsOne core log reading skip workers found
+finds_read core log reading skip workers input index places head marked found read skips many is roots marks head_at report leaked claims =
+    subst (λ (s : Skip). FindsOne core log reading s workers found) skips
+    (finds_one core log reading workers input index places head marked found read (few_blocks (length input.live.blocks) (λ h. no_error marked (many h))) is
+    (subst (λ (file : List ℕ). AreRootsOf file input.live.blocks (spans_of input.skip read.0) places) read.1.image roots)
     (subst (λ (file : List ℕ). Marks (word_of file) index places workers marked) read.1.image marks)
-    (subst (λ (file : List ℕ). found.report.items ≡ text_of (head_with input None) input.live.blocks marked.set.items (heads_of (word_of file) index marked.set.items) log) read.1.image report)
-    leaked claims
+    head_at
+    (subst (λ (file : List ℕ). found.report.items ≡ text_of head input.live.blocks marked.set.items (heads_of (word_of file) index marked.set.items) log) read.1.image report)
+    leaked claims)

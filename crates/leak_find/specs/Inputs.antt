@@ -11,6 +11,8 @@ use Rattle.leak_mtrace.specs.declared.error.LogError.{LogError}
 use Rattle.leak_mtrace.specs.declared.error.LogError.TheVariants.{NoMemory as NoMemoryForLog}
 use Rattle.leak_mtrace.specs.Log.{IsLog, IsFirstFault, CallersAreIn, is_continued_by, torn_of, whole_len_of}
 use Rattle.leak_blocks.specs.Live.{live_of, replay_of}
+use Rattle.leak_blocks.specs.Small.{CoverSame}
+use Rattle.leak_roots.specs.Skipped.{spans_of}
 use Rattle.leak_pool.specs.declared.error.PoolError.{PoolError}
 use Rattle.leak_pool.specs.declared.error.PoolError.TheVariants.{TooMany as TooManyForPool, NoMemory as NoMemoryForPool}
 use Rattle.leak_find.specs.declared.inputs.Input.{Input}
@@ -88,6 +90,7 @@ pub record IsReadOf (core log : List ℕ) (lines : List Line) (input : Input) : 
   pub whole_len : input.whole_len ≡ whole_len_of log
   pub callers : CallersAreIn log lines
   pub live : input.live ≡ replay_of lines
+  pub small : CoverSame input.small (spans_of input.skip lines)
 
 -- they were read, with the lines that the log has
 abbrev pub IsRead : List ℕ → List ℕ → Input → Type 0

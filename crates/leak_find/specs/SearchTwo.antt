@@ -9,7 +9,9 @@ use Rattle.leak_mtrace.specs.declared.line.Line.{Line}
 use Rattle.leak_mtrace.specs.Log.{is_continued_by, torn_of}
 use Rattle.leak_blocks.specs.declared.block.Block.{Block}
 use Rattle.leak_blocks.specs.Live.{live_of, replay_of}
+use Rattle.leak_roots.specs.declared.skip.Skip.{Skip}
 use Rattle.leak_roots.specs.Roots.{root_words}
+use Rattle.leak_roots.specs.Skipped.{spans_of, freed_of}
 use Rattle.leak_scan.specs.Heads.{heads_of}
 use Rattle.leak_marks.specs.Lists.{Has}
 use Rattle.leak_marks.specs.Reach.{Graph, Reach}
@@ -28,8 +30,8 @@ use Rattle.leak_find.specs.Inputs.{IsFaultless}
 use Rattle.leak_find.specs.Search.{index_of, graph_of_one, claims_of}
 
 -- the blocks that chains of the earlier core reach, as tests for the live blocks of its log
-abbrev pub IsMarkedEarlier : List ℕ → Option (List ℕ) → List Line → List Bool → Type 0
-IsMarkedEarlier core reading lines set = IsSet set (length (live_of lines)) (Reach (graph_of_one core reading lines))
+abbrev pub IsMarkedEarlier : List ℕ → Option (List ℕ) → Skip → List Line → List Bool → Type 0
+IsMarkedEarlier core reading skip lines set = IsSet set (length (live_of lines)) (Reach (graph_of_one core reading skip lines))
 
 -- the live blocks of the later log that were marked in the earlier core; a block is its line
 abbrev pub kept_blocks : List Line → List Bool → List Line → List ℕ
@@ -40,9 +42,9 @@ abbrev pub new_blocks : List Line → List Line → List ℕ
 new_blocks before now = fresh_of (length before) (live_of now)
 
 -- chains of the later core begin at kept blocks, at new ones, and at those that its root words lead to
-abbrev pub graph_of_later : List ℕ → Option (List ℕ) → List ℕ → List ℕ → List Line → Graph
-graph_of_later core reading kept fresh lines =
-    graph_of_two (word_of core) (index_of reading lines) (root_words core (live_of lines)) kept fresh
+abbrev pub graph_of_later : List ℕ → Option (List ℕ) → Skip → List ℕ → List ℕ → List Line → Graph
+graph_of_later core reading skip kept fresh lines =
+    graph_of_two (word_of core) (index_of reading lines) (root_words core (live_of lines) (spans_of skip lines)) kept fresh
 
 -- the sum of the sizes of the numbered blocks
 unfoldable pub size_of : List Block → List ℕ → ℕ
@@ -57,19 +59,20 @@ numbers_of_two core pages blocks kept fresh = record {
 }
 
 -- the numbers of the report's first lines: those of the later core and log, and those of two cores
-abbrev pub head_of_two : List ℕ → List ℕ → List Line → Two → Head
-head_of_two core log lines two = record {
+abbrev pub head_of_two : List ℕ → List ℕ → Skip → List Line → Two → Head
+head_of_two core log skip lines two = record {
   undumped = undumped_of core;
   unknown = (replay_of lines).unknown;
   displaced = (replay_of lines).displaced;
   torn = torn_of log;
+  freed = freed_of skip core (live_of lines) lines;
   two = Some two;
 }
 
 -- what the later log has in common with the earlier input: kept and new blocks, and the pages that differ
-pub record IsBetween (core1 core2 : List ℕ) (reading : Option (List ℕ)) (before now : List Line) (b : Between) : Type 0 where
+pub record IsBetween (core1 core2 : List ℕ) (reading : Option (List ℕ)) (skip : Skip) (before now : List Line) (b : Between) : Type 0 where
   pub earlier : List Bool
-  pub marked : IsMarkedEarlier core1 reading before earlier
+  pub marked : IsMarkedEarlier core1 reading skip before earlier
   pub kept : b.carry.kept.items ≡ kept_blocks before earlier now
   pub fresh : b.carry.fresh.items ≡ new_blocks before now
   pub lists : IsCarry (length (live_of now)) b.carry
@@ -78,26 +81,26 @@ pub record IsBetween (core1 core2 : List ℕ) (reading : Option (List ℕ)) (bef
 -- What is found in the later core where the numbered blocks are kept and new. The marked blocks are those that chains
 -- reach; the report names the others, and tells which of them are heads by words of the later core; each marked block that is neither kept nor new is claimed by one worker; and a
 -- block that chains of the later core reach from its roots alone is marked.
-pub record FindsLater (core log : List ℕ) (reading : Option (List ℕ)) (lines : List Line) (pages kept fresh : List ℕ) (workers : ℕ) (found : Found) : Type 0 where
+pub record FindsLater (core log : List ℕ) (reading : Option (List ℕ)) (skip : Skip) (lines : List Line) (pages kept fresh : List ℕ) (workers : ℕ) (found : Found) : Type 0 where
   pub set : List Bool
-  pub marked : IsSet set (length (live_of lines)) (Reach (graph_of_later core reading kept fresh lines))
-  pub reached : (i : ℕ) → i < length (live_of lines) → Reach (graph_of_one core reading lines) i → slice_get set i ≡ Some true
-  pub report : found.report.items ≡ text_of (head_of_two core log lines (numbers_of_two core pages (live_of lines) kept fresh)) (live_of lines) set (heads_of (word_of core) (index_of reading lines) set) log
+  pub marked : IsSet set (length (live_of lines)) (Reach (graph_of_later core reading skip kept fresh lines))
+  pub reached : (i : ℕ) → i < length (live_of lines) → Reach (graph_of_one core reading skip lines) i → slice_get set i ≡ Some true
+  pub report : found.report.items ≡ text_of (head_of_two core log skip lines (numbers_of_two core pages (live_of lines) kept fresh)) (live_of lines) set (heads_of (word_of core) (index_of reading lines) set) log
   pub leaked : found.leaked ≡ length (leaked_in set (live_of lines))
   pub lists : length (claims_of found) ≡ workers
-  pub claims : Partitions (claims_of found) (λ i. Reach (graph_of_later core reading kept fresh lines) i × ¬ Has kept i × ¬ Has fresh i)
+  pub claims : Partitions (claims_of found) (λ i. Reach (graph_of_later core reading skip kept fresh lines) i × ¬ Has kept i × ¬ Has fresh i)
 
 -- Cores and logs are free of faults, the complete lines of the first log begin the second, and the blocks of each are few
 -- enough to be numbered. The search of the later core begins with what chains of the earlier core reach and with what
 -- was allocated since. The pages that differ are told by a number of the report alone.
-pub record FindsTwo (core1 log1 core2 log2 : List ℕ) (reading : Option (List ℕ)) (workers : ℕ) (found : Found) : Type 0 where
+pub record FindsTwo (core1 log1 core2 log2 : List ℕ) (reading : Option (List ℕ)) (skip : Skip) (workers : ℕ) (found : Found) : Type 0 where
   pub first : IsFaultless core1 log1
   pub second : IsFaultless core2 log2
   pub continued : IsTrue (is_continued_by log1 log2)
   pub few_before : length (live_of first.lines) < 2 ^ 32
   pub few_now : length (live_of second.lines) < 2 ^ 32
   pub earlier : List Bool
-  pub marked : IsMarkedEarlier core1 reading first.lines earlier
+  pub marked : IsMarkedEarlier core1 reading skip first.lines earlier
   pub pages : List ℕ
   pub differing : AreDiffering (word_of core1) (word_of core2) pages
-  pub finds : FindsLater core2 log2 reading second.lines pages (kept_blocks first.lines earlier second.lines) (new_blocks first.lines second.lines) workers found
+  pub finds : FindsLater core2 log2 reading skip second.lines pages (kept_blocks first.lines earlier second.lines) (new_blocks first.lines second.lines) workers found

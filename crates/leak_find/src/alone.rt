@@ -8,10 +8,10 @@ ghost use Rattle.leak_find.specs.Search.{FindsOne};
 use crate::error::FindError;
 use crate::found::Found;
 use crate::inputs::read_input;
-use crate::reporting::report_of;
+use crate::reporting::{head_of, report_of};
 use leak_index::{Reading, Sorted};
 use leak_pool::mark_alone;
-use leak_roots::Roots;
+use leak_roots::{Roots, Skip};
 use std::alloc::Global;
 
 /// Searches a core and its log on the caller's thread, with one list of claims.
@@ -22,13 +22,21 @@ pub fn find_alone(
     core: &[u8],
     log: &[u8],
     reading: Reading,
+    skip: Skip,
 ) -> Result<Found, FindError>
-    ensures ok { IfOk result (FindsOne core.now log.now (listed_by reading) 1) }
+    ensures ok { IfOk result (FindsOne core.now log.now (listed_by reading) skip 1) }
     ensures refused { IfErr result (λ e. e ≢ FindError.NoMemory → IsFaultOfOne core.now log.now e) }
 {
-    let input = read_input(alloc, 1, core, log)?;
-    let roots = Roots::find(alloc, &input.image, &input.threads, &input.live)?;
+    let input = read_input(alloc, 1, skip, core, log)?;
+    let roots = Roots::find(
+        alloc,
+        &input.image,
+        &input.threads,
+        &input.live,
+        &input.small,
+    )?;
     let lookup = Sorted::new(&input.live, reading);
     let marked = mark_alone(alloc, &input.image, &lookup, &roots, &input.live)?;
-    report_of(alloc, &input, &lookup, log, marked, None)
+    let head = head_of(&input, &roots, None);
+    report_of(alloc, &input, &head, &lookup, log, marked)
 }

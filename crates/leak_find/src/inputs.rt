@@ -4,10 +4,11 @@ ghost use Rattle.std.specs.Prelude.{◌≡◌, ◌≢◌, IfOk, IfErr};
 ghost use Rattle.leak_find.specs.Inputs.{IsInputFault, IsRead};
 
 use crate::error::{FindError, at_core, at_log, at_notes};
-use leak_blocks::{Live, replay};
+use leak_blocks::{Live, SmallSpans, replay};
 use leak_elf::Image;
 use leak_mtrace::Log;
 use leak_notes::Threads;
+use leak_roots::Skip;
 use std::alloc::Global;
 
 /// A core and its log, read: nothing is marked yet. The log's lines are dropped, and their live blocks are kept.
@@ -16,6 +17,10 @@ pub(crate) struct Input<'a> {
     pub image: Image<'a>,
     pub threads: Threads,
     pub live: Live,
+    /// What a search leaves out of the root words.
+    pub skip: Skip,
+    /// The spans of the log whose freed places are left out.
+    pub small: SmallSpans,
     /// How many of the log's lines are torn.
     pub torn: u64,
     /// How many bytes of the log its complete lines take.
@@ -26,10 +31,12 @@ pub(crate) struct Input<'a> {
 pub(crate) fn read_input<'a>(
     alloc: Global,
     number: u8,
+    skip: Skip,
     core: &'a [u8],
     log: &[u8],
 ) -> Result<Input<'a>, FindError>
     ensures ok { IfOk result (IsRead core.now log.now) }
+    ensures skip { IfOk result (λ input. input.skip ≡ skip) }
     ensures refused { IfErr result (λ e. e ≢ FindError.NoMemory → IsInputFault number core.now log.now e) }
 {
     let image = match Image::read(alloc, core) {
@@ -45,10 +52,13 @@ pub(crate) fn read_input<'a>(
         Err(error) => return Err(at_log(number, error)),
     };
     let live = replay(alloc, &log)?;
+    let small = skip.spans(alloc, &log)?;
     Ok(Input {
         image,
         threads,
         live,
+        skip,
+        small,
         torn: log.torn(),
         whole_len: log.whole_len(),
     })

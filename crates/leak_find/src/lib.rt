@@ -13,11 +13,11 @@
 //!
 //! ```text
 //! use leak_elf::core_k;
-//! use leak_find::{Reading, find_alone};
+//! use leak_find::{Reading, Skip, find_alone};
 //!
 //! let core = core_k(alloc, &[])?;
 //! let log = b"@ ./a.out:[0x401136] + 0x10100 0x20\n";
-//! let found = find_alone(alloc, &core, log, Reading::interior())?;
+//! let found = find_alone(alloc, &core, log, Reading::interior(), Skip::none())?;
 //! assert_eq!(rt; found.leaked, 1);
 //! ```
 //!
@@ -46,6 +46,7 @@ pub use leak_report::{WriteFault, write};
 pub use leak_request::{
     CORE_LIMIT, DisplaceFault, LOG_LIMIT, Options, Request, UsageFault, read_displace, request,
 };
+pub use leak_roots::Skip;
 pub use one_core::find_one;
 pub use readers::read_all;
 pub use running::run;

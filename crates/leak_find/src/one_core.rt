@@ -8,10 +8,10 @@ ghost use Rattle.leak_find.specs.Search.{FindsOne};
 use crate::error::FindError;
 use crate::found::Found;
 use crate::inputs::read_input;
-use crate::reporting::report_of;
+use crate::reporting::{head_of, report_of};
 use leak_index::{Paged, Reading};
 use leak_pool::{Gate, Plan, mark_by_links};
-use leak_roots::Roots;
+use leak_roots::{Roots, Skip};
 use std::alloc::Global;
 
 /// What blocks lead to is listed where that takes an eighth of the core at most, at four bytes a target. Own rule: lists of
@@ -35,14 +35,21 @@ pub fn find_one<R: std::thread::Threads + Sync, G: Gate + Sync>(
     core: &[u8],
     log: &[u8],
     reading: Reading,
+    skip: Skip,
     plan: Plan,
     gate: &G,
 ) -> Result<Found, FindError>
-    ensures ok { IfOk result (FindsOne core.now log.now (listed_by reading) plan.workers) }
+    ensures ok { IfOk result (FindsOne core.now log.now (listed_by reading) skip plan.workers) }
     ensures refused { IfErr result (λ e. e ≢ FindError.NoMemory → IsFaultOfOne core.now log.now e) }
 {
-    let input = read_input(alloc, 1, core, log)?;
-    let roots = Roots::find(alloc, &input.image, &input.threads, &input.live)?;
+    let input = read_input(alloc, 1, skip, core, log)?;
+    let roots = Roots::find(
+        alloc,
+        &input.image,
+        &input.threads,
+        &input.live,
+        &input.small,
+    )?;
     let lookup = Paged::new(alloc, &input.live, reading)?;
     let marked = mark_by_links(
         rt,
@@ -55,5 +62,6 @@ pub fn find_one<R: std::thread::Threads + Sync, G: Gate + Sync>(
         gate,
         core.len() / LINK_SHARE,
     )?;
-    report_of(alloc, &input, &lookup, log, marked, None)
+    let head = head_of(&input, &roots, None);
+    report_of(alloc, &input, &head, &lookup, log, marked)
 }

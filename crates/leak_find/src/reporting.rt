@@ -2,7 +2,7 @@
 
 ghost use Rattle.std.specs.Prelude.{◌≡◌, IfOk, IfErr, length, not, count_by};
 ghost use Rattle.leak_report.specs.Totals.{HaveCallersIn, leaked_in};
-ghost use Rattle.leak_find.specs.Search.{text_with};
+ghost use Rattle.leak_find.specs.Search.{head_with, text_with};
 
 use crate::error::FindError;
 use crate::found::Found;
@@ -10,36 +10,48 @@ use crate::inputs::Input;
 use leak_index::Lookup;
 use leak_pool::Marked;
 use leak_report::{Head, Two, text};
+use leak_roots::Roots;
 use leak_scan::heads;
 use std::alloc::Global;
+
+/// The numbers of the report's first lines, of an input and its root words.
+pub(crate) fn head_of(input: &Input, roots: &Roots, two: Option<Two>) -> Head
+    ensures { result ≡ head_with input.now roots.now two }
+{
+    Head {
+        undumped: input.image.undumped(),
+        unknown: input.live.unknown(),
+        displaced: input.live.displaced(),
+        torn: input.torn,
+        freed: if input.skip.freed {
+            Some(roots.freed())
+        } else {
+            None
+        },
+        two,
+    }
+}
 
 /// The report of an input whose blocks are marked. Which of the others are heads, the words of its core tell.
 pub(crate) fn report_of<L: Lookup>(
     alloc: Global,
     input: &Input,
+    head: &Head,
     lookup: &L,
     log: &[u8],
     marked: Marked,
-    two: Option<Two>,
 ) -> Result<Found, FindError>
     requires one_each { length marked.set.items ≡ length input.now.live.blocks }
     requires same_blocks { (L.index lookup.now).blocks ≡ input.now.live.blocks }
     requires in_log { HaveCallersIn log.now input.now.live.blocks }
-    ensures report { IfOk result (λ found. found.report.items ≡ text_with input.now two (L.index lookup.now) marked.set.items log.now) }
+    ensures report { IfOk result (λ found. found.report.items ≡ text_with head.now input.now (L.index lookup.now) marked.set.items log.now) }
     ensures leaked { IfOk result (λ found. found.leaked ≡ length (leaked_in marked.set.items input.now.live.blocks)) }
     ensures claims { IfOk result (λ found. found.claims ≡ marked.claims) }
     ensures memory { IfErr result (λ e. e ≡ FindError.NoMemory) }
 {
-    let head = Head {
-        undumped: input.image.undumped(),
-        unknown: input.live.unknown(),
-        displaced: input.live.displaced(),
-        torn: input.torn,
-        two,
-    };
     let set = marked.set.as_slice();
     let heads = heads(alloc, &input.image, lookup, &input.live, set)?;
-    let report = text(alloc, &head, &input.live, set, heads.as_slice(), log)?;
+    let report = text(alloc, head, &input.live, set, heads.as_slice(), log)?;
     Ok(Found {
         report,
         leaked: count_clear(set),

@@ -57,7 +57,16 @@ fn search_one<T: Threads + Sync, R: Read>(
 {
     let core = read_reader(alloc, readers, 0, options.core_limit)?;
     let log = read_reader(alloc, readers, 1, options.log_limit)?;
-    match find_one(rt, alloc, &core, &log, options.reading, options.plan, &Open) {
+    match find_one(
+        rt,
+        alloc,
+        &core,
+        &log,
+        options.reading,
+        options.skip,
+        options.plan,
+        &Open,
+    ) {
         Ok(found) => Ok(found),
         Err(error) => Err(RunFault::Find(error)),
     }
@@ -89,6 +98,7 @@ fn search_two<T: Threads + Sync, R: Read>(
         &core2,
         &log2,
         options.reading,
+        options.skip,
         options.plan,
         &Open,
     ) {

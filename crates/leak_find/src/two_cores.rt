@@ -14,13 +14,13 @@ ghost use Rattle.leak_find.specs.SearchTwo.{IsMarkedEarlier, IsBetween, FindsTwo
 use crate::error::FindError;
 use crate::found::Found;
 use crate::inputs::{Input, read_input};
-use crate::reporting::report_of;
+use crate::reporting::{head_of, report_of};
 use leak_blocks::Block;
 use leak_dirty::{Carry, absent_are_fresh, carry, differing, retrace, same_words_lead_within};
 use leak_index::{Paged, Reading};
 use leak_pool::{Gate, Marked, Plan, mark};
 use leak_report::Two;
-use leak_roots::Roots;
+use leak_roots::{Roots, Skip};
 use leak_scan::Pages;
 use std::alloc::Global;
 use std::thread::Threads;
@@ -44,16 +44,18 @@ fn is_continued(log: &[u8], whole_len: usize, later: &[u8]) -> bool
 /// log's complete lines don't begin the second log, then that there are too many blocks.
 fn read_two<'a, 'b>(
     alloc: Global,
+    skip: Skip,
     core1: &'a [u8],
     log1: &[u8],
     core2: &'b [u8],
     log2: &[u8],
 ) -> Result<Inputs<'a, 'b>, FindError>
     ensures read { IfOk result (AreReadTwo core1.now log1.now core2.now log2.now) }
+    ensures skip { IfOk result (λ inputs. (inputs.first.skip ≡ skip) × (inputs.second.skip ≡ skip)) }
     ensures refused { IfErr result (λ e. e ≢ FindError.NoMemory → IsFaultOfTwo core1.now log1.now core2.now log2.now e) }
 {
-    let first = read_input(alloc, 1, core1, log1)?;
-    let second = read_input(alloc, 2, core2, log2)?;
+    let first = read_input(alloc, 1, skip, core1, log1)?;
+    let second = read_input(alloc, 2, skip, core2, log2)?;
     if !is_continued(log1, first.whole_len, log2) {
         return Err(FindError::NotPrefix);
     }
@@ -84,10 +86,16 @@ fn mark_earlier<R: Threads + Sync, G: Gate + Sync>(
 ) -> Result<Marked, FindError>
     requires read { (lines : List Line) × IsInput lines input.now }
     requires few { length input.now.live.blocks < 2 ^ 32 }
-    ensures marked { IfOk result (λ marked. (lines : List Line) → IsInput lines input.now → IsMarkedEarlier input.now.image (listed_by reading) lines marked.set.items) }
+    ensures marked { IfOk result (λ marked. (lines : List Line) → IsInput lines input.now → IsMarkedEarlier input.now.image (listed_by reading) input.now.skip lines marked.set.items) }
     ensures memory { IfErr result (λ e. e ≡ FindError.NoMemory) }
 {
-    let roots = Roots::find(alloc, &input.image, &input.threads, &input.live)?;
+    let roots = Roots::find(
+        alloc,
+        &input.image,
+        &input.threads,
+        &input.live,
+        &input.small,
+    )?;
     let lookup = Paged::new(alloc, &input.live, reading)?;
     let marked = mark(
         rt,
@@ -113,7 +121,7 @@ fn compare<R: Threads + Sync, G: Gate + Sync>(
 ) -> Result<Between, FindError>
     requires paired { (before : List Line) × (now : List Line) × ArePaired before now inputs.now }
     requires few { (length inputs.now.first.live.blocks < 2 ^ 32) × (length inputs.now.second.live.blocks < 2 ^ 32) }
-    ensures between { IfOk result (λ between. (before now : List Line) → ArePaired before now inputs.now → IsBetween inputs.now.first.image inputs.now.second.image (listed_by reading) before now between) }
+    ensures between { IfOk result (λ between. (before now : List Line) → ArePaired before now inputs.now → IsBetween inputs.now.first.image inputs.now.second.image (listed_by reading) inputs.now.first.skip before now between) }
     ensures memory { IfErr result (λ e. e ≡ FindError.NoMemory) }
 {
     // (a law, for the proof: blocks that the first log lacks are new)
@@ -163,19 +171,26 @@ pub fn find_two<R: Threads + Sync, G: Gate + Sync>(
     core2: &[u8],
     log2: &[u8],
     reading: Reading,
+    skip: Skip,
     plan: Plan,
     gate: &G,
 ) -> Result<Found, FindError>
-    ensures ok { IfOk result (FindsTwo core1.now log1.now core2.now log2.now (listed_by reading) plan.workers) }
+    ensures ok { IfOk result (FindsTwo core1.now log1.now core2.now log2.now (listed_by reading) skip plan.workers) }
     ensures refused { IfErr result (λ e. e ≢ FindError.NoMemory → IsFaultOfTwo core1.now log1.now core2.now log2.now e) }
 {
     // (a law, for the proof: words on pages that are the same need no second scan)
     same_words_lead_within();
-    let inputs = read_two(alloc, core1, log1, core2, log2)?;
+    let inputs = read_two(alloc, skip, core1, log1, core2, log2)?;
     let between = compare(rt, alloc, &inputs, reading, plan, gate)?;
     let Inputs { first, second } = inputs;
     drop(first); // no more is asked of it
-    let roots = Roots::find(alloc, &second.image, &second.threads, &second.live)?;
+    let roots = Roots::find(
+        alloc,
+        &second.image,
+        &second.threads,
+        &second.live,
+        &second.small,
+    )?;
     let lookup = Paged::new(alloc, &second.live, reading)?;
     let retraced = retrace(
         rt,
@@ -194,5 +209,6 @@ pub fn find_two<R: Threads + Sync, G: Gate + Sync>(
         fresh_bytes: sum_sizes(second.live.blocks(), &between.carry.fresh),
         reread: retraced.reread,
     };
-    report_of(alloc, &second, &lookup, log2, retraced.marked, Some(two))
+    let head = head_of(&second, &roots, Some(two));
+    report_of(alloc, &second, &head, &lookup, log2, retraced.marked)
 }

@@ -5,7 +5,7 @@ ghost use Rattle.leak_program.specs.Sample.{SearchesSample};
 
 use crate::failure::Failure;
 use leak_elf::core_k;
-use leak_find::{CORE_LIMIT, LOG_LIMIT, Options, Plan, Reading, run};
+use leak_find::{CORE_LIMIT, LOG_LIMIT, Options, Plan, Reading, Skip, run};
 use std::io::Write;
 use std::thread::Threads;
 
@@ -25,6 +25,7 @@ pub fn search_sample<R: AllocGlobal + Threads + Sync, W: Write>(
     let options = Options {
         two: false,
         reading: Reading::interior(),
+        skip: Skip::none(),
         plan: Plan::new(4, 512, 1024).unwrap(),
         core_limit: CORE_LIMIT,
         log_limit: LOG_LIMIT,

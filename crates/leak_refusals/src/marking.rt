@@ -2,7 +2,7 @@
 
 use crate::answer::Answer;
 use crate::samples::{MOVED, Sample, TWO_BLOCKS, chain, core_of, live_of, star};
-use leak_blocks::Live;
+use leak_blocks::{Live, SmallSpans};
 use leak_dirty::{Carry, carry, differing, retrace};
 use leak_elf::Image;
 use leak_index::{Reading, Sorted};
@@ -93,7 +93,8 @@ fn scene_of<'a>(alloc: Global, core: &'a [u8], log: &str) -> Option<Scene<'a>> {
     let image = Image::read(alloc, core).ok()?;
     let threads = Threads::read(alloc, &image).ok()?;
     let live = live_of(alloc, log)?;
-    let roots = Roots::find(alloc, &image, &threads, &live).ok()?;
+    let small = SmallSpans::none(alloc);
+    let roots = Roots::find(alloc, &image, &threads, &live, &small).ok()?;
     Some(Scene { image, live, roots })
 }
 

@@ -63,6 +63,7 @@ pub(crate) fn report(alloc: Global) -> Option<Answer> {
         unknown: 0,
         displaced: 0,
         torn: 0,
+        freed: None,
         two: None,
     };
     match text(alloc, &head, &live, &set, &heads, FOUR_CALLERS.as_bytes()) {

@@ -2,6 +2,7 @@
 
 use crate::answer::Answer;
 use crate::samples::{core_of, live_of};
+use leak_blocks::SmallSpans;
 use leak_elf::Image;
 use leak_index::{Hits, Lookup, Paged, Reading};
 use leak_notes::Threads;
@@ -28,7 +29,8 @@ pub(crate) fn roots(alloc: Global) -> Option<Answer> {
     let image = Image::read(alloc, core.as_slice()).ok()?;
     let threads = Threads::read(alloc, &image).ok()?;
     let live = live_of(alloc, "")?;
-    match Roots::find(alloc, &image, &threads, &live) {
+    let small = SmallSpans::none(alloc);
+    match Roots::find(alloc, &image, &threads, &live, &small) {
         Ok(roots) => Some(Answer::of(
             roots.registers().len() == 27
                 && roots.memory() == [(0x10000u64, 0x11000u64)].as_slice(),
@@ -56,7 +58,8 @@ pub(crate) fn pieces(alloc: Global) -> Option<Answer> {
     let image = Image::read(alloc, core.as_slice()).ok()?;
     let threads = Threads::read(alloc, &image).ok()?;
     let live = live_of(alloc, "+ 0x10100 0x20\n")?;
-    let roots = Roots::find(alloc, &image, &threads, &live).ok()?;
+    let small = SmallSpans::none(alloc);
+    let roots = Roots::find(alloc, &image, &threads, &live, &small).ok()?;
     match roots.cut(alloc, 10) {
         Ok(pieces) => Some(Answer::of(words_in(pieces.as_slice()) == 535)),
         Err(error) => Some(Answer::of_refusal(error == CutError::NoMemory)),

@@ -3,8 +3,8 @@
 use crate::answer::Answer;
 use crate::samples::{MOVED, ONE_BLOCK, Sample, TWO_BLOCKS, chain, core_of, set, vector_core};
 use leak_find::{
-    FindError, Found, Options, ReadFault, RunFault, UsageFault, find_alone, find_one, find_two,
-    read_all, request, run,
+    FindError, Found, Options, ReadFault, RunFault, Skip, UsageFault, find_alone, find_one,
+    find_two, read_all, request, run,
 };
 use leak_index::Reading;
 use leak_pool::{Open, Plan};
@@ -64,6 +64,7 @@ pub(crate) fn alone(alloc: Global) -> Option<Answer> {
         core.as_slice(),
         ONE_BLOCK.as_bytes(),
         Reading::interior(),
+        Skip::none(),
     );
     Some(answer_of(found, LOST))
 }
@@ -76,6 +77,7 @@ pub(crate) fn vectors(alloc: Global) -> Option<Answer> {
         core.as_slice(),
         ONE_BLOCK.as_bytes(),
         Reading::interior(),
+        Skip::none(),
     );
     Some(answer_of(found, HELD))
 }
@@ -89,6 +91,7 @@ pub(crate) fn by_workers<R: AllocGlobal + Threads + Sync>(rt: &R) -> Option<Answ
         sample.core.as_slice(),
         sample.log.as_bytes(),
         Reading::interior(),
+        Skip::none(),
         Plan::new(3, 16, 4).ok()?,
         &Open,
     );
@@ -114,6 +117,7 @@ pub(crate) fn two_cores<R: AllocGlobal + Threads + Sync>(rt: &R) -> Option<Answe
         second.as_slice(),
         MOVED.as_bytes(),
         Reading::interior(),
+        Skip::none(),
         Plan::new(3, 16, 4).ok()?,
         &Open,
     );
@@ -154,6 +158,7 @@ fn run_of<R: AllocGlobal + Threads + Sync>(
     let options = Options {
         two,
         reading: Reading::interior(),
+        skip: Skip::none(),
         plan: Plan::new(3, 16, 4).ok()?,
         core_limit: 8192,
         log_limit: 8192,

@@ -6,7 +6,7 @@ use crate::examples::{EXAMPLES, HELD, LOST, ONE_BLOCK};
 use crate::fakes::{Giver, Sink, Source, Taker, Turn};
 use crate::samples::{Part, core_of};
 use leak_elf::ElfError;
-use leak_find::{FindError, Options, ReadFault, RunFault, run};
+use leak_find::{FindError, Options, ReadFault, RunFault, Skip, run};
 use leak_index::Reading;
 use leak_pool::Plan;
 use leak_report::WriteFault;
@@ -19,6 +19,7 @@ fn options(core_limit: u64, log_limit: u64) -> Result<Options, Fail>
     Ok(Options {
         two: false,
         reading: Reading::interior(),
+        skip: Skip::none(),
         plan: Plan::new(2, 512, 1024)?,
         core_limit,
         log_limit,

@@ -4,7 +4,7 @@ use crate::examples::{HELD, LOST, ONE_BLOCK};
 use crate::plans::few_plans;
 use crate::samples::{Part, core_of, set};
 use leak_elf::ElfError;
-use leak_find::{FindError, find_alone, find_one};
+use leak_find::{FindError, Skip, find_alone, find_one};
 use leak_index::Reading;
 use leak_pool::{Open, Plan};
 use std::alloc::Global;
@@ -40,10 +40,19 @@ fn is_reported<R: Threads + Sync>(
     report: &str,
 ) -> Result<bool, Fail> {
     let log = ONE_BLOCK.as_bytes();
-    let alone = find_alone(alloc, core, log, Reading::interior())?;
+    let alone = find_alone(alloc, core, log, Reading::interior(), Skip::none())?;
     let mut same = alone.report.as_slice() == report.as_bytes();
     for plan in plans {
-        let found = find_one(rt, alloc, core, log, Reading::interior(), *plan, &Open)?;
+        let found = find_one(
+            rt,
+            alloc,
+            core,
+            log,
+            Reading::interior(),
+            Skip::none(),
+            *plan,
+            &Open,
+        )?;
         same = same && found.report.as_slice() == report.as_bytes();
     }
     Ok(same)
@@ -100,7 +109,13 @@ fn a_missing_section_header_is_told(rt: HostRuntime) -> Result<(), Fail> {
     let mut core = core_of(rt.alloc(), &[])?;
     set(&mut core, 56, &[0xff, 0xff]);
     let log = ONE_BLOCK.as_bytes();
-    let found = find_alone(rt.alloc(), core.as_slice(), log, Reading::interior());
+    let found = find_alone(
+        rt.alloc(),
+        core.as_slice(),
+        log,
+        Reading::interior(),
+        Skip::none(),
+    );
     let missing = FindError::Core(1, ElfError::Extended);
     assert_eq!(rt; found.err(), Some(missing));
     let text = missing.to_string(rt.alloc())?;

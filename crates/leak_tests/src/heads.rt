@@ -3,7 +3,7 @@
 use crate::pair_reports::TWO_BLOCKS;
 use crate::plans::plans;
 use crate::samples::{Part, core_of};
-use leak_find::{find_alone, find_one, find_two};
+use leak_find::{Skip, find_alone, find_one, find_two};
 use leak_index::Reading;
 use leak_pool::Open;
 use std::test::Fail;
@@ -53,12 +53,21 @@ fn reports_of_one_core_tell_heads(rt: HostRuntime) -> Result<(), Fail> {
         let core = core_of(rt.alloc(), parts)?;
         let core = core.as_slice();
         let log = log.as_bytes();
-        let alone = find_alone(rt.alloc(), core, log, Reading::interior())?;
+        let alone = find_alone(rt.alloc(), core, log, Reading::interior(), Skip::none())?;
         assert_eq!(rt; alone.report.as_slice(), report.as_bytes());
         assert!(rt; alone.leaked > 0);
         for plan in plans.as_slice() {
             let reading = Reading::interior();
-            let found = find_one(&rt, rt.alloc(), core, log, reading, *plan, &Open)?;
+            let found = find_one(
+                &rt,
+                rt.alloc(),
+                core,
+                log,
+                reading,
+                Skip::none(),
+                *plan,
+                &Open,
+            )?;
             assert_eq!(rt; found.report.as_slice(), report.as_bytes(), "by {plan:?}");
             assert_eq!(rt; found.leaked, alone.leaked, "by {plan:?}");
         }
@@ -71,7 +80,7 @@ fn heads_are_those_of_the_reading(rt: HostRuntime) -> Result<(), Fail> {
     let core = core_of(rt.alloc(), &PAST_THE_END)?;
     let reading = Reading::displaced(&[8])?;
     let log = TWO_BLOCKS.as_bytes();
-    let found = find_alone(rt.alloc(), core.as_slice(), log, reading)?;
+    let found = find_alone(rt.alloc(), core.as_slice(), log, reading, Skip::none())?;
     let wanted = "blocks 2 bytes 48\n\
                   undumped 0\n\
                   unknown 0 displaced 0 torn 0\n\
@@ -114,6 +123,7 @@ fn heads_of_two_cores_are_those_of_the_later(rt: HostRuntime) -> Result<(), Fail
                 second.as_slice(),
                 log,
                 Reading::interior(),
+                Skip::none(),
                 *plan,
                 &Open,
             )?;

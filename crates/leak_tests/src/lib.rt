@@ -43,6 +43,10 @@ mod workers;
 #[cfg(test)]
 mod two_cores;
 
+// Reports that leave out the words of freed memory.
+#[cfg(test)]
+mod freed;
+
 // Cores with vector registers.
 #[cfg(test)]
 mod vectors;

@@ -1,9 +1,9 @@
 //! Lists of claims are those of the workers that claimed: no list is dealt out afterwards.
 
 use crate::samples::{Part, core_of};
-use leak_blocks::replay;
+use leak_blocks::{SmallSpans, replay};
 use leak_elf::Image;
-use leak_find::{find_one, find_two};
+use leak_find::{Skip, find_one, find_two};
 use leak_index::{Reading, Sorted};
 use leak_mtrace::Log;
 use leak_notes::Threads;
@@ -36,7 +36,8 @@ fn a_search_of_one_core_has_the_lists_of_marking(rt: HostRuntime) -> Result<(), 
     let threads = Threads::read(alloc, &image)?;
     let log = Log::read(alloc, BLOCKS.as_bytes())?;
     let live = replay(alloc, &log)?;
-    let roots = Roots::find(alloc, &image, &threads, &live)?;
+    let small = SmallSpans::none(alloc);
+    let roots = Roots::find(alloc, &image, &threads, &live, &small)?;
     let lookup = Sorted::new(&live, Reading::interior());
     let marked = mark(&rt, alloc, &image, &lookup, &roots, &live, plan, &Open)?;
     assert!(rt; are_apart(marked.claims.as_slice()));
@@ -46,6 +47,7 @@ fn a_search_of_one_core_has_the_lists_of_marking(rt: HostRuntime) -> Result<(), 
         core.as_slice(),
         BLOCKS.as_bytes(),
         Reading::interior(),
+        Skip::none(),
         plan,
         &Open,
     )?;
@@ -66,6 +68,7 @@ fn a_search_of_two_cores_has_the_lists_of_the_second_marking(rt: HostRuntime) ->
         later.as_slice(),
         BLOCKS.as_bytes(),
         Reading::interior(),
+        Skip::none(),
         Plan::new(2, 1, 0)?,
         &Open,
     )?;

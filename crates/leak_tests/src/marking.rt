@@ -2,7 +2,7 @@
 
 use crate::hundreds::Sample;
 use crate::samples::{core_of, set, set_word};
-use leak_blocks::replay;
+use leak_blocks::{SmallSpans, replay};
 use leak_elf::Image;
 use leak_index::{Reading, Sorted};
 use leak_mtrace::Log;
@@ -18,7 +18,8 @@ pub fn alone(alloc: Global, sample: &Sample) -> Result<Marked, Fail> {
     let threads = Threads::read(alloc, &image)?;
     let log = Log::read(alloc, sample.log.as_bytes())?;
     let live = replay(alloc, &log)?;
-    let roots = Roots::find(alloc, &image, &threads, &live)?;
+    let small = SmallSpans::none(alloc);
+    let roots = Roots::find(alloc, &image, &threads, &live, &small)?;
     let lookup = Sorted::new(&live, Reading::interior());
     Ok(mark_alone(alloc, &image, &lookup, &roots, &live)?)
 }
@@ -35,7 +36,8 @@ pub fn by_plan<R: std::thread::Threads + Sync, G: Gate + Sync>(
     let threads = Threads::read(alloc, &image)?;
     let log = Log::read(alloc, sample.log.as_bytes())?;
     let live = replay(alloc, &log)?;
-    let roots = Roots::find(alloc, &image, &threads, &live)?;
+    let small = SmallSpans::none(alloc);
+    let roots = Roots::find(alloc, &image, &threads, &live, &small)?;
     let lookup = Sorted::new(&live, Reading::interior());
     Ok(mark(rt, alloc, &image, &lookup, &roots, &live, plan, gate)?)
 }

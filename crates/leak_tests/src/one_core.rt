@@ -4,7 +4,7 @@ use crate::claims::hold_each_once;
 use crate::examples::{EXAMPLES, HELD, LOST, ONE_BLOCK};
 use crate::hundreds::{CHAIN, STAR, chain, star};
 use crate::samples::{Part, core_of};
-use leak_find::find_alone;
+use leak_find::{Skip, find_alone};
 use leak_index::Reading;
 use std::test::Fail;
 
@@ -13,7 +13,13 @@ fn each_example_gives_its_report(rt: HostRuntime) -> Result<(), Fail> {
     for example in &EXAMPLES {
         let core = core_of(rt.alloc(), example.core)?;
         let log = example.log.as_bytes();
-        let found = find_alone(rt.alloc(), core.as_slice(), log, Reading::interior())?;
+        let found = find_alone(
+            rt.alloc(),
+            core.as_slice(),
+            log,
+            Reading::interior(),
+            Skip::none(),
+        )?;
         let name = example.name;
         assert_eq!(rt;
             found.report.as_slice(),
@@ -37,7 +43,13 @@ fn displacements_alone_keep_a_block(rt: HostRuntime) -> Result<(), Fail> {
     for (word, report) in cases {
         let core = core_of(rt.alloc(), &[Part::Word(0x10008, word)])?;
         let reading = Reading::displaced(&[8])?;
-        let found = find_alone(rt.alloc(), core.as_slice(), ONE_BLOCK.as_bytes(), reading)?;
+        let found = find_alone(
+            rt.alloc(),
+            core.as_slice(),
+            ONE_BLOCK.as_bytes(),
+            reading,
+            Skip::none(),
+        )?;
         assert_eq!(rt; found.report.as_slice(), report.as_bytes(), "at {word}");
     }
     Ok(())
@@ -47,7 +59,13 @@ fn displacements_alone_keep_a_block(rt: HostRuntime) -> Result<(), Fail> {
 fn a_chain_is_followed_to_its_end(rt: HostRuntime) -> Result<(), Fail> {
     let sample = chain(rt.alloc())?;
     let log = sample.log.as_bytes();
-    let found = find_alone(rt.alloc(), sample.core.as_slice(), log, Reading::interior())?;
+    let found = find_alone(
+        rt.alloc(),
+        sample.core.as_slice(),
+        log,
+        Reading::interior(),
+        Skip::none(),
+    )?;
     assert_eq!(rt; found.report.as_slice(), CHAIN.as_bytes());
     assert_eq!(rt; found.leaked, 0);
     assert_eq!(rt; found.claims.len(), 1);
@@ -59,7 +77,13 @@ fn a_chain_is_followed_to_its_end(rt: HostRuntime) -> Result<(), Fail> {
 fn a_star_is_followed_to_all_ends(rt: HostRuntime) -> Result<(), Fail> {
     let sample = star(rt.alloc())?;
     let log = sample.log.as_bytes();
-    let found = find_alone(rt.alloc(), sample.core.as_slice(), log, Reading::interior())?;
+    let found = find_alone(
+        rt.alloc(),
+        sample.core.as_slice(),
+        log,
+        Reading::interior(),
+        Skip::none(),
+    )?;
     assert_eq!(rt; found.report.as_slice(), STAR.as_bytes());
     assert_eq!(rt; found.leaked, 0);
     assert_eq!(rt; found.claims.len(), 1);

@@ -3,7 +3,7 @@
 use crate::examples::{NOTHING, ONE_BLOCK};
 use crate::samples::{Part, core_of, set};
 use leak_elf::ElfError;
-use leak_find::{FindError, find_alone};
+use leak_find::{FindError, Skip, find_alone};
 use leak_index::Reading;
 use leak_mtrace::LogError;
 use leak_notes::NoteError;
@@ -15,7 +15,14 @@ const BAD_LINE: &str = "+ 0x10100\n";
 
 /// Why the core and the log give no report.
 fn refusal(alloc: Global, core: &[u8], log: &str) -> Option<FindError> {
-    find_alone(alloc, core, log.as_bytes(), Reading::interior()).err()
+    find_alone(
+        alloc,
+        core,
+        log.as_bytes(),
+        Reading::interior(),
+        Skip::none(),
+    )
+    .err()
 }
 
 /// Why the sample core with the parts and the log give no report.
@@ -85,6 +92,7 @@ fn a_log_that_is_cut_short_is_torn(rt: HostRuntime) -> Result<(), Fail> {
             core.as_slice(),
             log.as_slice(),
             Reading::interior(),
+            Skip::none(),
         )?;
         let wanted = if len == 0 { NOTHING } else { torn };
         assert_eq!(rt;

@@ -3,7 +3,7 @@
 use crate::examples::ONE_BLOCK;
 use crate::samples::{Part, core_of, set};
 use leak_elf::ElfError;
-use leak_find::{FindError, find_two};
+use leak_find::{FindError, Skip, find_two};
 use leak_index::Reading;
 use leak_mtrace::LogError;
 use leak_notes::NoteError;
@@ -38,7 +38,18 @@ fn refusal<R: Threads + Sync>(
     let (core2, log2) = second;
     let reading = Reading::interior();
     let plan = Plan::new(workers, 512, 1024)?;
-    let result = find_two(rt, alloc, core1, log1, core2, log2, reading, plan, &Open);
+    let result = find_two(
+        rt,
+        alloc,
+        core1,
+        log1,
+        core2,
+        log2,
+        reading,
+        Skip::none(),
+        plan,
+        &Open,
+    );
     Ok(result.err())
 }
 

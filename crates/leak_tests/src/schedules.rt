@@ -4,7 +4,7 @@ use crate::claims::hold_each_once;
 use crate::hundreds::{CHAIN, chain};
 use crate::samples::core_of;
 use crate::two_cores::with_lines;
-use leak_find::{find_one, find_two};
+use leak_find::{Skip, find_one, find_two};
 use leak_index::Reading;
 use leak_pool::{Gate, Plan};
 use std::sync::atomic::{AtomicU64, Ordering};
@@ -61,7 +61,16 @@ fn either_of_two_workers_may_begin(rt: HostRuntime) -> Result<(), Fail> {
     for held in [0, 1] {
         let gate = Holding::of(held);
         let plan = Plan::new(2, 1, 0)?;
-        let found = find_one(&rt, rt.alloc(), core, log, Reading::interior(), plan, &gate)?;
+        let found = find_one(
+            &rt,
+            rt.alloc(),
+            core,
+            log,
+            Reading::interior(),
+            Skip::none(),
+            plan,
+            &gate,
+        )?;
         assert_eq!(rt;
             gate.passed.load(Ordering::SeqCst),
             1,
@@ -95,7 +104,18 @@ fn either_of_two_workers_may_begin_in_two_cores(rt: HostRuntime) -> Result<(), F
         let gate = Holding::of(held);
         let reading = Reading::interior();
         let plan = Plan::new(2, 1, 0)?;
-        let found = find_two(&rt, alloc, core1, log, core2, log, reading, plan, &gate)?;
+        let found = find_two(
+            &rt,
+            alloc,
+            core1,
+            log,
+            core2,
+            log,
+            reading,
+            Skip::none(),
+            plan,
+            &gate,
+        )?;
         assert_eq!(rt;
             gate.passed.load(Ordering::SeqCst),
             1,

@@ -1,7 +1,7 @@
 //! Inputs larger than the samples: a call that has memory does not answer that it wants some.
 
 use crate::samples::{core_of, set};
-use leak_blocks::{Live, replay};
+use leak_blocks::{Live, SmallSpans, replay};
 use leak_elf::Image;
 use leak_index::{Hits, Lookup, Paged, Reading};
 use leak_marks::{Claims, Marks};
@@ -47,7 +47,8 @@ fn four_thousand_ranges_of_roots_are_cut(rt: HostRuntime) -> Result<(), Fail> {
     let image = Image::read(alloc, core.as_slice())?;
     let threads = Threads::read(alloc, &image)?;
     let live = live_of(alloc, row_of_blocks(alloc, 4096, 8, 16)?.as_str())?;
-    let roots = Roots::find(alloc, &image, &threads, &live)?;
+    let small = SmallSpans::none(alloc);
+    let roots = Roots::find(alloc, &image, &threads, &live, &small)?;
     assert_eq!(rt; roots.memory().len(), 4096);
     let pieces = roots.cut(alloc, 1)?;
     assert_eq!(rt; pieces.len(), 4123);

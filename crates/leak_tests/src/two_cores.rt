@@ -6,7 +6,7 @@ use crate::hundreds::{CHAIN, STAR, chain, star};
 use crate::pairs::PAIRS;
 use crate::plans::few_plans;
 use crate::samples::{Part, core_of};
-use leak_find::{FindError, Found, find_two};
+use leak_find::{FindError, Found, Skip, find_two};
 use leak_index::Reading;
 use leak_pool::{Open, Plan};
 use std::alloc::Global;
@@ -24,7 +24,18 @@ fn search<R: Threads + Sync>(
 ) -> Result<Found, FindError> {
     let (core1, log1) = first;
     let (core2, log2) = second;
-    find_two(rt, alloc, core1, log1, core2, log2, reading, plan, &Open)
+    find_two(
+        rt,
+        alloc,
+        core1,
+        log1,
+        core2,
+        log2,
+        reading,
+        Skip::none(),
+        plan,
+        &Open,
+    )
 }
 
 /// A report of one core with the lines that one of two cores has in addition.

@@ -4,9 +4,9 @@ use crate::examples::{HELD, LOST, ONE_BLOCK};
 use crate::pair_reports::HELD_UNREAD;
 use crate::plans::{few_plans, plans};
 use crate::samples::{Part, core_of, set};
-use leak_blocks::replay;
+use leak_blocks::{SmallSpans, replay};
 use leak_elf::Image;
-use leak_find::{FindError, Found, find_alone, find_one, find_two};
+use leak_find::{FindError, Found, Skip, find_alone, find_one, find_two};
 use leak_index::Reading;
 use leak_mtrace::Log;
 use leak_notes::{NoteError, Threads};
@@ -39,7 +39,13 @@ fn with_word(alloc: Global, at: u64) -> Result<Vec<u8>, Fail> {
 
 /// What a search of the core on the caller's thread gives, with the log of one block.
 fn search(alloc: Global, core: &[u8]) -> Result<Found, FindError> {
-    find_alone(alloc, core, ONE_BLOCK.as_bytes(), Reading::interior())
+    find_alone(
+        alloc,
+        core,
+        ONE_BLOCK.as_bytes(),
+        Reading::interior(),
+        Skip::none(),
+    )
 }
 
 /// Cores whose notes are refused, and why.
@@ -65,7 +71,8 @@ fn vector_registers_are_root_words(rt: HostRuntime) -> Result<(), Fail> {
     assert_eq!(rt; threads.registers(), [0u64; 59].as_slice());
     let log = Log::read(rt.alloc(), b"")?;
     let live = replay(rt.alloc(), &log)?;
-    let roots = Roots::find(rt.alloc(), &image, &threads, &live)?;
+    let small = SmallSpans::none(rt.alloc());
+    let roots = Roots::find(rt.alloc(), &image, &threads, &live, &small)?;
     let mut words = roots.registers().len() as u64;
     for (from, to) in roots.memory() {
         words = words.saturating_add(to.saturating_sub(*from) / 8);
@@ -99,6 +106,7 @@ fn a_pointer_in_a_vector_register_alone_holds_a_block(rt: HostRuntime) -> Result
                 core,
                 ONE_BLOCK.as_bytes(),
                 Reading::interior(),
+                Skip::none(),
                 *plan,
                 &Open,
             )?;
@@ -131,6 +139,7 @@ fn a_vector_register_of_either_core_holds_a_block(rt: HostRuntime) -> Result<(),
                 core2,
                 log,
                 reading,
+                Skip::none(),
                 *plan,
                 &Open,
             )?;
@@ -154,7 +163,17 @@ fn vector_entries_are_refused_as_notes_are(rt: HostRuntime) -> Result<(), Fail> 
         let first = Some(FindError::Notes(1, *error));
         assert_eq!(rt; search(rt.alloc(), core).err(), first);
         let reading = Reading::interior();
-        let refusal = find_one(&rt, rt.alloc(), core, log, reading, plan, &Open).err();
+        let refusal = find_one(
+            &rt,
+            rt.alloc(),
+            core,
+            log,
+            reading,
+            Skip::none(),
+            plan,
+            &Open,
+        )
+        .err();
         assert_eq!(rt; refusal, first);
         let refusal = find_two(
             &rt,
@@ -164,6 +183,7 @@ fn vector_entries_are_refused_as_notes_are(rt: HostRuntime) -> Result<(), Fail> 
             core,
             log,
             Reading::interior(),
+            Skip::none(),
             plan,
             &Open,
         )

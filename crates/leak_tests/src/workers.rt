@@ -6,7 +6,7 @@ use crate::hundreds::{CHAIN, STAR, chain, star};
 use crate::plans::plans;
 use crate::samples::{Part, core_of};
 use leak_elf::ElfError;
-use leak_find::{FindError, find_one};
+use leak_find::{FindError, Skip, find_one};
 use leak_index::Reading;
 use leak_mtrace::LogError;
 use leak_notes::NoteError;
@@ -31,6 +31,7 @@ fn each_example_gives_its_report(rt: HostRuntime) -> Result<(), Fail> {
                 core,
                 log,
                 Reading::interior(),
+                Skip::none(),
                 *plan,
                 &Open,
             )?;
@@ -65,7 +66,16 @@ fn displacements_alone_keep_a_block(rt: HostRuntime) -> Result<(), Fail> {
         let core = core.as_slice();
         for plan in plans.as_slice() {
             let reading = Reading::displaced(&[8])?;
-            let found = find_one(&rt, rt.alloc(), core, log, reading, *plan, &Open)?;
+            let found = find_one(
+                &rt,
+                rt.alloc(),
+                core,
+                log,
+                reading,
+                Skip::none(),
+                *plan,
+                &Open,
+            )?;
             assert_eq!(rt;
                 found.report.as_slice(),
                 report.as_bytes(),
@@ -93,6 +103,7 @@ fn chains_and_stars_are_followed_to_their_ends(rt: HostRuntime) -> Result<(), Fa
                 core,
                 log,
                 Reading::interior(),
+                Skip::none(),
                 *plan,
                 &Open,
             )?;
@@ -122,6 +133,7 @@ fn refuse_alike<R: Threads + Sync + Abort>(
             core.as_slice(),
             log.as_bytes(),
             Reading::interior(),
+            Skip::none(),
             plan,
             &Open,
         );

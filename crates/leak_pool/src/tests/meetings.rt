@@ -5,7 +5,7 @@ ghost use Rattle.leak_elf.specs.Aligned.{aligned_words};
 
 use crate::tests::samples::{TURNS, core_of, two_apart};
 use crate::{Open, Plan, Start, mark, mark_from};
-use leak_blocks::replay;
+use leak_blocks::{SmallSpans, replay};
 use leak_elf::{Image, Words};
 use leak_index::{Reading, Sorted};
 use leak_mtrace::Log;
@@ -96,7 +96,8 @@ fn two_workers_scan_and_claim_at_the_same_time(rt: HostRuntime) -> Result<(), Fa
     let threads = Threads::read(alloc, &image)?;
     let log = Log::read(alloc, sample.log.as_bytes())?;
     let live = replay(alloc, &log)?;
-    let roots = Roots::find(alloc, &image, &threads, &live)?;
+    let small = SmallSpans::none(alloc);
+    let roots = Roots::find(alloc, &image, &threads, &live, &small)?;
     let lookup = Sorted::new(&live, Reading::interior());
     let plan = Plan::new(2, 1, 0)?;
     let nothing = no_start(alloc);

@@ -1,7 +1,7 @@
 //! Samples, and marking of them.
 
 use crate::{Gate, Marked, Plan, mark, mark_alone};
-use leak_blocks::replay;
+use leak_blocks::{SmallSpans, replay};
 use leak_elf::{Image, core_k};
 use leak_index::{Reading, Sorted};
 use leak_mtrace::Log;
@@ -72,7 +72,8 @@ pub(crate) fn alone(alloc: Global, sample: &Sample) -> Result<Marked, Fail> {
     let threads = Threads::read(alloc, &image)?;
     let log = Log::read(alloc, sample.log.as_bytes())?;
     let live = replay(alloc, &log)?;
-    let roots = Roots::find(alloc, &image, &threads, &live)?;
+    let small = SmallSpans::none(alloc);
+    let roots = Roots::find(alloc, &image, &threads, &live, &small)?;
     let lookup = Sorted::new(&live, Reading::interior());
     Ok(mark_alone(alloc, &image, &lookup, &roots, &live)?)
 }
@@ -90,7 +91,8 @@ pub(crate) fn by_workers<R: std::thread::Threads + Sync, G: Gate + Sync>(
     let threads = Threads::read(alloc, &image)?;
     let log = Log::read(alloc, sample.log.as_bytes())?;
     let live = replay(alloc, &log)?;
-    let roots = Roots::find(alloc, &image, &threads, &live)?;
+    let small = SmallSpans::none(alloc);
+    let roots = Roots::find(alloc, &image, &threads, &live, &small)?;
     let lookup = Sorted::new(&live, Reading::interior());
     Ok(mark(rt, alloc, &image, &lookup, &roots, &live, plan, gate)?)
 }

@@ -3,7 +3,7 @@ ghost use Rattle.std.specs.Prelude.{◌<◌, length};
 
 use crate::tests::samples::{Sample, alone, by_workers, claim_count};
 use crate::{Marked, Open, Part, Plan, Start, mark_from};
-use leak_blocks::{Live, replay};
+use leak_blocks::{Live, SmallSpans, replay};
 use leak_elf::{Image, core_k};
 use leak_index::{Reading, Sorted};
 use leak_mtrace::Log;
@@ -65,7 +65,8 @@ fn a_start_is_scanned_again_in_parts(rt: HostRuntime) -> Result<(), Fail> {
     let threads = Threads::read(alloc, &image)?;
     let log = Log::read(alloc, b"+ 0x10100 0x20\n+ 0x10200 0x10\n")?;
     let live = replay(alloc, &log)?;
-    let roots = Roots::find(alloc, &image, &threads, &live)?;
+    let small = SmallSpans::none(alloc);
+    let roots = Roots::find(alloc, &image, &threads, &live, &small)?;
     let cases = [
         (Part::Whole, 17u64, 1usize),
         (Part::Differing, 16, 1),

@@ -1,5 +1,6 @@
 use Rattle.std.proofs.Common.{ap, Err}
 use Rattle.std.proofs.lemmas.Result.{err_from_is_err_and}
+use Rattle.leak_roots.specs.Skipped.{spans_of}
 use Rattle.leak_find.proofs.SearchLemmas.{at_ok, finds_read, input_callers, marking_refused, ok_by, threads_read}
 use Rattle.leak_find.proofs.alone.find_alone.Goals as goal
 
@@ -13,6 +14,6 @@ report_of-requires-clause-in_log c = input_callers _ _ _ c.in_ok-input.ensures.o
 
 pub returns-clause-ok : goal.returns-clause-ok
 returns-clause-ok c = ok_by _ _ (λ found is.
-    finds_read _ _ _ _ c.in_ok-input.input _ _ c.in_ok-marked.marked found c.in_ok-input.ensures.ok c.in_ok-marked.ensures.many.1
-    c.new-lookup.ensures (c.in_ok-roots.ensures.of_core (threads_read _ _ _ c.in_ok-input.ensures.ok)) c.in_ok-marked.ensures.marks
+    finds_read _ _ _ _ _ c.in_ok-input.input _ _ _ c.in_ok-marked.marked found c.in_ok-input.ensures.ok c.in_ok-input.ensures.skip c.in_ok-marked.ensures.many.1
+    c.new-lookup.ensures (c.in_ok-roots.ensures.of_core (spans_of c.in_ok-input.input.skip c.in_ok-input.ensures.ok.0) c.in_ok-input.ensures.ok.1.small (threads_read _ _ _ c.in_ok-input.ensures.ok)) c.in_ok-marked.ensures.marks c.head_of-head.ensures
     (at_ok _ _ found is c.report_of.ensures.report) (at_ok _ _ found is c.report_of.ensures.leaked) (at_ok _ _ found is c.report_of.ensures.claims))

@@ -1,6 +1,8 @@
 use Rattle.std.proofs.Common.{ap, Err}
 use Rattle.std.proofs.lemmas.Result.{err_from_is_err_and}
+use Rattle.leak_roots.specs.Skipped.{spans_of}
 use Rattle.leak_find.proofs.SearchLemmas.{at_ok, finds_read, input_callers, marking_refused, ok_by, threads_read}
+use Rattle.leak_find.proofs.TwoLemmas.{for_memory}
 use Rattle.leak_find.proofs.one_core.find_one.Goals as goal
 
 pub returns-in_err-marked-clause-refused : goal.returns-in_err-marked-clause-refused
@@ -13,6 +15,9 @@ report_of-requires-clause-in_log g c = input_callers _ _ _ c.in_ok-input.ensures
 
 pub returns-clause-ok : goal.returns-clause-ok
 returns-clause-ok g c = ok_by _ _ (λ found is.
-    finds_read _ _ _ _ c.in_ok-input.input _ _ c.in_ok-marked.marked found c.in_ok-input.ensures.ok c.in_ok-marked.ensures.many.1
-    c.in_ok-lookup.ensures (c.in_ok-roots.ensures.of_core (threads_read _ _ _ c.in_ok-input.ensures.ok)) c.in_ok-marked.ensures.marks
+    finds_read _ _ _ _ _ c.in_ok-input.input _ _ _ c.in_ok-marked.marked found c.in_ok-input.ensures.ok c.in_ok-input.ensures.skip c.in_ok-marked.ensures.many.1
+    c.in_ok-lookup.ensures (c.in_ok-roots.ensures.of_core (spans_of c.in_ok-input.input.skip c.in_ok-input.ensures.ok.0) c.in_ok-input.ensures.ok.1.small (threads_read _ _ _ c.in_ok-input.ensures.ok)) c.in_ok-marked.ensures.marks c.head_of-head.ensures
     (at_ok _ _ found is c.report_of.ensures.report) (at_ok _ _ found is c.report_of.ensures.leaked) (at_ok _ _ found is c.report_of.ensures.claims))
+
+pub returns-clause-refused : goal.returns-clause-refused
+returns-clause-refused g c = for_memory _ _ c.report_of.ensures.memory

@@ -12,6 +12,6 @@ carry-requires-clause-tests g c =
 
 pub returns-clause-between : goal.returns-clause-between
 returns-clause-between g c = λ before now pair.
-    is_between _ before now _ _ c.in_ok-marked.marked.set.items c.in_ok-carry.carry _ pair.first pair.second pair.continued c.absent_are_fresh.ensures (c.in_ok-marked.ensures.marked before pair.first)
+    is_between _ _ before now _ _ c.in_ok-marked.marked.set.items c.in_ok-carry.carry _ pair.first pair.second pair.continued c.absent_are_fresh.ensures (c.in_ok-marked.ensures.marked before pair.first)
     (c.in_ok-carry.ensures.kept ∙ ap (λ (set : List Bool). kept_of c.args.inputs.now.first.live.blocks set c.args.inputs.now.second.live.blocks) c.as_slice.ensures.value)
     c.in_ok-carry.ensures.fresh c.in_ok-carry.ensures.lists refl c.in_ok-pages.ensures
