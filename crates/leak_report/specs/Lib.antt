@@ -4,4 +4,6 @@ pub mod Laws
 pub mod Lines
 pub mod Report
 pub mod Writing
+pub mod Warnings
 pub mod Examples
+pub mod WarningExamples

@@ -1,5 +1,6 @@
-//! Laws of the definitions, and worked reports.
+//! Laws of the definitions, worked reports and worked warnings.
 ghost use Rattle.leak_report.specs.Examples.{AreWorkedReports};
+ghost use Rattle.leak_report.specs.WarningExamples.{AreWorkedWarnings};
 ghost use Rattle.leak_report.specs.Laws.{RowsAreSums, LiveHaveCallers};
 
 use leak_blocks::live_are_of_lines;
@@ -13,6 +14,11 @@ pub fn rows_are_sums()
 /// The reports of some blocks.
 pub fn worked_reports()
     ensures { AreWorkedReports }
+{}
+
+/// The warnings of some inputs.
+pub fn worked_warnings()
+    ensures { AreWorkedWarnings }
 {}
 
 /// The live blocks of a log have their callers in it, as [`text`](crate::text) wants.

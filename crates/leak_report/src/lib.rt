@@ -3,7 +3,8 @@
 //! [`text`] makes the whole report from the live blocks of a log, the set of those that are marked and the numbers of
 //! a [`Head`]. [`Totals`] sums the leaked blocks up by the text of their caller, and [`write`] hands a text to a
 //! writer. The lines and their order are own rule, stated in `specs/Report.antt`; what a live block and its caller are
-//! is said in `leak_blocks`.
+//! is said in `leak_blocks`. [`warnings`] makes the lines that tell what is odd about the inputs, from
+//! their [`Signs`].
 //!
 //! The contracts say nothing of which blocks are marked, and what a file or a terminal holds after a write is known
 //! for a writer that tells its bytes alone.
@@ -15,12 +16,16 @@ mod laws;
 mod lines;
 mod output;
 mod report;
+mod signs;
 #[cfg(test)]
 mod tests;
 mod totals;
+mod warning;
 
 pub use head::{Head, Two};
-pub use laws::{live_have_callers, rows_are_sums, worked_reports};
+pub use laws::{live_have_callers, rows_are_sums, worked_reports, worked_warnings};
 pub use output::{WriteFault, write};
 pub use report::text;
+pub use signs::Signs;
 pub use totals::{CallerRow, Totals};
+pub use warning::warnings;
