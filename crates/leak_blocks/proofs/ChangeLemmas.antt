@@ -68,10 +68,10 @@ looked_up a (b ∷ bs) =
     go true rest = refl
     go false rest = rest
 
-is_same : (a k : ℕ) → a ≡ k → (a == k) ≡ true
+pub is_same : (a k : ℕ) → a ≡ k → (a == k) ≡ true
 is_same a k h = grind (arith, nat_tests)
 
-not_same : (a k : ℕ) → a ≢ k → (a == k) ≡ false
+pub not_same : (a k : ℕ) → a ≢ k → (a == k) ≡ false
 not_same a k h = grind (arith, nat_tests)
 
 is_less_cmp : (m n : ℕ) → nat_lt m n ≡ true → nat_cmp m n ≡ Less

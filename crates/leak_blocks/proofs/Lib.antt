@@ -9,3 +9,5 @@ pub mod StepLemmas
 pub mod SumLemmas
 pub mod BuildLemmas
 pub mod SmallLemmas
+pub mod RunLemmas
+pub mod CourseLemmas

@@ -61,7 +61,7 @@ at_of P b [] h i = elim i [ ]
 at_of P b (c ∷ cs) h (inl e) = subst P e h.0
 at_of P b (c ∷ cs) h (inr i) = at_of P b cs h.1 i
 
-all_weaker : (P Q : Block → Type 0) → ((c : Block) → P c → Q c) → (bs : List Block) → AllByRecursion P bs → AllByRecursion Q bs
+pub all_weaker : (P Q : Block → Type 0) → ((c : Block) → P c → Q c) → (bs : List Block) → AllByRecursion P bs → AllByRecursion Q bs
 all_weaker P Q f [] h = tt
 all_weaker P Q f (b ∷ bs) h = (f b h.0, all_weaker P Q f bs h.1)
 

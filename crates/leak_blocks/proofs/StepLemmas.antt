@@ -1,24 +1,21 @@
 -- A line of the log, as the replay takes it.
-use Rattle.std.proofs.Common.{◌≡◌, ℕ, ◌+◌, ◌<◌, ◌≤◌, Bool, true, false, not, ◌&&◌, cond, refl, sym, subst, ap, ◌∙◌, List, [], ◌∷◌, ◌++◌, length, map, filter, count_by, take, get_or, Option, arith, ◌==◌, if◌then◌else◌}
+use Rattle.std.proofs.Common.{◌≡◌, ℕ, ◌+◌, ◌<◌, ◌≤◌, Bool, true, false, not, ◌&&◌, cond, refl, sym, subst, ap, ◌∙◌, List, [], ◌∷◌, ◌++◌, length, map, filter, count_by, take, slice_get, Some, arith, ◌==◌, if◌then◌else◌}
 use Rattle.std.specs.List.{list_any}
-use Rattle.std.specs.Option.{is_some}
-use Rattle.std.specs.Ordering.{nat_cmp}
-use Rattle.std.specs.BTreeMap.{insert_entry, is_at}
-use Rattle.std.specs.Map.{remove_entry, lookup}
 use Rattle.std.proofs.Math.Seq.{take-length}
 use Rattle.std.proofs.lemmas.List.{take_more, length-take}
+use Rattle.std.proofs.lemmas.Option.{slice_get_within}
 use Rattle.std.proofs.lemmas.List.Elements.{filter_agree}
 use Rattle.std.proofs.lemmas.List.Sums.{length-filter, count_by-le-length}
 use Rattle.leak_mtrace.specs.declared.line.Line.{Line}
 use Rattle.leak_blocks.specs.declared.block.Block.{Block}
 use Rattle.leak_blocks.specs.Live.{Replay, moments, block_of, live_of, replay_of, is_allocation, is_give_back, is_displaced, is_unknown, among}
 use Rattle.leak_blocks.specs.Steps.{meets, ends_block, left_by, after_line, misses}
-use Rattle.leak_blocks.specs.Numbers.{entries_of, AreOf, AreNumbered, AreSortedOf, ArePlacedOf, AreBlocksOf, IsAfter, IsNumberedAfter}
+use Rattle.leak_blocks.specs.Numbers.{entries_of, AreOf, AreNumbered, AreBlocksOf, IsNumberedAfter}
 use Rattle.leak_blocks.proofs.DisjointLemmas.{live_disjoint}
 use Rattle.leak_blocks.proofs.LineLemmas.{first_of_lines}
-use Rattle.leak_blocks.proofs.GrowthLemmas.{ends_met, ends_given, ends_none, left_apart, gives_nothing, allocates_nothing, live_grown, displaced_grown, unknown_grown, displaced_by, moments_many}
-use Rattle.leak_blocks.proofs.BuildLemmas.{numbered}
-use Rattle.leak_blocks.proofs.ChangeLemmas.{elsewhere, unmet, removed, looked_up, inserted}
+use Rattle.leak_blocks.proofs.NumberLemmas.{got}
+use Rattle.leak_blocks.proofs.GrowthLemmas.{ends_met, ends_given, ends_none, gives_nothing, allocates_nothing, live_grown, displaced_grown, unknown_grown, displaced_by, moments_many}
+use Rattle.leak_blocks.proofs.ChangeLemmas.{elsewhere, unmet}
 
 -- ---- what each kind of line leaves
 
@@ -40,7 +37,7 @@ counted_met x a bs = sym (length-filter (ends_block x) bs) ∙ ap length (filter
 
 -- ---- the lines so far
 
-replayed : (lines : List Line) → (replay_of lines).blocks ≡ live_of lines
+pub replayed : (lines : List Line) → (replay_of lines).blocks ≡ live_of lines
 unfolding replay_of
 replayed lines = refl
 
@@ -52,12 +49,8 @@ displaced_of : (lines : List Line) → (replay_of lines).displaced ≡ count_by 
 unfolding replay_of
 displaced_of lines = refl
 
-pub first_are_of : (lines : List Line) (n : ℕ) (entries : List (ℕ × ℕ)) → entries ≡ entries_of (replay_of (take n lines)).blocks → AreOf lines entries (live_of (take n lines))
-first_are_of lines n entries e = record {
-  listed = e ∙ ap entries_of (replayed (take n lines));
-  numbered = first_of_lines lines n;
-  disjoint = live_disjoint (take n lines);
-}
+pub first_are_of : (lines : List Line) (n : ℕ) (entries : List (ℕ × ℕ)) → entries ≡ entries_of (live_of (take n lines)) → AreOf lines entries (live_of (take n lines))
+first_are_of lines n entries e = record { listed = e; numbered = first_of_lines lines n; disjoint = live_disjoint (take n lines) }
 
 -- the counts are at most the number of lines
 pub unknown_fits : (lines : List Line) (n : ℕ) → (replay_of (take n lines)).unknown ≤ length lines
@@ -68,78 +61,76 @@ displaced_fits lines n = omega (arith, displaced_of (take n lines), count_by-le-
 
 -- ---- one line
 
-abbrev one_if : Bool → ℕ
+abbrev pub one_if : Bool → ℕ
 one_if t = cond t 1 0
 
-module _ (lines : List Line) (index : ℕ) (in_log : index < length lines) (d : Line) where
-  first : List Line
-  first = take index lines
+module _ (lines : List Line) (index : ℕ) (x : Line) (at : slice_get lines index ≡ Some x) where
+  -- the blocks before the line
+  abbrev first : List Block
+  first = live_of (take index lines)
 
-  -- the line
-  abbrev this : Line
-  this = get_or lines index d
+  in_log : index < length lines
+  in_log = slice_get_within lines index x at
 
-  grown : take (index + 1) lines ≡ take index lines ++ this ∷ []
-  grown = take_more lines index d in_log
+  grown : take (index + 1) lines ≡ take index lines ++ x ∷ []
+  grown = take_more lines index x in_log ∙ ap (λ (y : Line). take index lines ++ y ∷ []) (got lines index x x at)
 
   number : length (take index lines) ≡ index
-  number = omega (arith, length-take index lines)
+  number = omega (arith, in_log, length-take index lines)
 
-  blocks_after : (replay_of (take (index + 1) lines)).blocks ≡ after_line (index + 1) this (live_of (take index lines))
-  blocks_after = replayed (take (index + 1) lines) ∙ ap live_of grown ∙ live_grown (take index lines) this ∙ ap (λ (n : ℕ). after_line (n + 1) this (live_of (take index lines))) number
+  blocks_after : live_of (take (index + 1) lines) ≡ after_line (index + 1) x first
+  blocks_after = ap live_of grown ∙ live_grown (take index lines) x ∙ ap (λ (n : ℕ). after_line (n + 1) x first) number
 
-  unknown_after : (replay_of (take (index + 1) lines)).unknown ≡ (replay_of (take index lines)).unknown + cond (misses this (live_of (take index lines))) 1 0
-  unknown_after = unknown_of (take (index + 1) lines) ∙ ap (λ (l : List Line). count_by is_unknown (moments l)) grown ∙ unknown_grown (take index lines) this
-      ∙ ap {B = ℕ} (λ (n : ℕ). n + cond (misses this (live_of (take index lines))) 1 0) (sym (unknown_of (take index lines)))
+  unknown_after : (replay_of (take (index + 1) lines)).unknown ≡ (replay_of (take index lines)).unknown + cond (misses x first) 1 0
+  unknown_after = unknown_of (take (index + 1) lines) ∙ ap (λ (l : List Line). count_by is_unknown (moments l)) grown ∙ unknown_grown (take index lines) x
+      ∙ ap {B = ℕ} (λ (n : ℕ). n + cond (misses x first) 1 0) (sym (unknown_of (take index lines)))
 
-  displaced_after : (replay_of (take (index + 1) lines)).displaced ≡ (replay_of (take index lines)).displaced + displaced_by this (live_of (take index lines))
-  displaced_after = displaced_of (take (index + 1) lines) ∙ ap (λ (l : List Line). count_by is_displaced (moments l)) grown ∙ displaced_grown (take index lines) this
-      ∙ ap (λ (n : ℕ). n + displaced_by this (live_of (take index lines))) (sym (displaced_of (take index lines)))
+  displaced_after : (replay_of (take (index + 1) lines)).displaced ≡ (replay_of (take index lines)).displaced + displaced_by x first
+  displaced_after = displaced_of (take (index + 1) lines) ∙ ap (λ (l : List Line). count_by is_displaced (moments l)) grown ∙ displaced_grown (take index lines) x
+      ∙ ap (λ (n : ℕ). n + displaced_by x first) (sym (displaced_of (take index lines)))
 
-  misses_not : is_give_back this ≡ false → one_if (misses this (live_of (take index lines))) ≡ 0
-  misses_not g = ap {B = ℕ} (λ (t : Bool). cond (t && not (list_any (λ b. b.start == this.addr) (live_of (take index lines)))) 1 0) g
+  misses_not : is_give_back x ≡ false → one_if (misses x first) ≡ 0
+  misses_not g = ap {B = ℕ} (λ (t : Bool). cond (t && not (list_any (λ b. b.start == x.addr) first)) 1 0) g
 
-  displaces_not : is_allocation this ≡ false → displaced_by this (live_of (take index lines)) ≡ 0
-  displaces_not a = ap {B = ℕ} (λ (t : Bool). if t then count_by (ends_block this) (live_of (take index lines)) else 0) a
+  displaces_not : is_allocation x ≡ false → displaced_by x first ≡ 0
+  displaces_not a = ap {B = ℕ} (λ (t : Bool). if t then count_by (ends_block x) first else 0) a
 
-  left_after_line : is_allocation this ≡ false → after_line (index + 1) this (live_of (take index lines)) ≡ left_by this (live_of (take index lines))
-  left_after_line a = ap (λ (t : Bool). if t then among (block_of (index + 1) this) (left_by this (live_of (take index lines))) else left_by this (live_of (take index lines))) a
+  left_after_line : is_allocation x ≡ false → after_line (index + 1) x first ≡ left_by x first
+  left_after_line a = ap (λ (t : Bool). if t then among (block_of (index + 1) x) (left_by x first) else left_by x first) a
 
-  module _ (entries : List (ℕ × ℕ)) (unknown displaced : ℕ) (so_far : IsAfter lines index entries unknown displaced) where
-    pub of_so_far : AreOf lines entries (live_of (take index lines))
-    of_so_far = first_are_of lines index entries so_far.blocks
+  -- an allocation
+  module _ (a : is_allocation x ≡ true) where
+    pub blocks_allocated : live_of (take (index + 1) lines) ≡ among (block_of (index + 1) x) (unmet x first)
+    blocks_allocated = blocks_after ∙ ap (λ (t : Bool). if t then among (block_of (index + 1) x) (left_by x first) else left_by x first) a
+        ∙ ap (among (block_of (index + 1) x)) (left_unmet x a first)
 
-    pub after_allocation : is_allocation this ≡ true → (cleared now : List (ℕ × ℕ)) (count : ℕ) → cleared ≡ entries_of (unmet this (live_of (take index lines))) →
-        count ≡ count_by (meets this) (live_of (take index lines)) → now ≡ insert_entry nat_cmp cleared this.addr (index + 1) → IsAfter lines (index + 1) now unknown (displaced + count)
-    after_allocation a cleared now count e k i = record {
-      blocks = i ∙ ap (λ (l : List (ℕ × ℕ)). insert_entry nat_cmp l this.addr (index + 1)) (e ∙ ap entries_of (sym (left_unmet this a (live_of (take index lines)))))
-          ∙ inserted (block_of (index + 1) this) (left_by this (live_of (take index lines))) (left_apart this a (live_of (take index lines)))
-          ∙ ap entries_of (sym (blocks_after ∙ ap (λ (t : Bool). if t then among (block_of (index + 1) this) (left_by this (live_of (take index lines))) else left_by this (live_of (take index lines))) a));
-      missed = omega (arith, so_far.missed, unknown_after, misses_not (gives_nothing this a));
-      ended = omega (arith, so_far.ended, displaced_after, k, counted_met this a (live_of (take index lines)), ap {B = ℕ} (λ (t : Bool). if t then count_by (ends_block this) (live_of (take index lines)) else 0) a);
-    }
+    pub unknown_allocated : (replay_of (take (index + 1) lines)).unknown ≡ (replay_of (take index lines)).unknown
+    unknown_allocated = omega (arith, unknown_after, misses_not (gives_nothing x a))
 
-    pub after_give_back : is_give_back this ≡ true → (now : List (ℕ × ℕ)) (old : Option ℕ) (count : ℕ) → now ≡ remove_entry (is_at (nat_cmp this.addr)) entries →
-        old ≡ lookup (is_at (nat_cmp this.addr)) entries → count ≡ cond (not (is_some old)) 1 0 → IsAfter lines (index + 1) now (unknown + count) displaced
-    after_give_back g now old count e o k = record {
-      blocks = e ∙ ap (remove_entry (is_at (nat_cmp this.addr))) of_so_far.listed ∙ removed this.addr (live_of (take index lines)) of_so_far.disjoint
-          ∙ ap entries_of (sym (left_elsewhere this g (live_of (take index lines))) ∙ sym (blocks_after ∙ left_after_line (allocates_nothing this g)));
-      missed = omega (arith, so_far.missed, unknown_after, k, missed);
-      ended = omega (arith, so_far.ended, displaced_after, displaces_not (allocates_nothing this g));
-    }
-      where
-        found : is_some old ≡ list_any (λ b. b.start == this.addr) (live_of (take index lines))
-        found = ap is_some o ∙ ap (λ (l : List (ℕ × ℕ)). is_some (lookup (is_at (nat_cmp this.addr)) l)) of_so_far.listed ∙ looked_up this.addr (live_of (take index lines))
+    pub displaced_allocated : (replay_of (take (index + 1) lines)).displaced ≡ (replay_of (take index lines)).displaced + count_by (meets x) first
+    displaced_allocated = omega (arith, displaced_after, counted_met x a first, ap {B = ℕ} (λ (t : Bool). if t then count_by (ends_block x) first else 0) a)
 
-        missed : one_if (not (is_some old)) ≡ one_if (misses this (live_of (take index lines)))
-        missed = ap {B = ℕ} (λ (t : Bool). cond (not t) 1 0) found ∙ sym (ap {B = ℕ} (λ (t : Bool). cond (t && not (list_any (λ b. b.start == this.addr) (live_of (take index lines)))) 1 0) g)
+  -- a give-back
+  module _ (g : is_give_back x ≡ true) where
+    pub blocks_given : live_of (take (index + 1) lines) ≡ elsewhere x.addr first
+    blocks_given = blocks_after ∙ left_after_line (allocates_nothing x g) ∙ left_elsewhere x g first
 
-    pub after_other : is_allocation this ≡ false → is_give_back this ≡ false → IsAfter lines (index + 1) entries unknown displaced
-    after_other a g = record {
-      blocks = of_so_far.listed ∙ ap entries_of (sym (left_all this a g (live_of (take index lines))) ∙ sym (blocks_after ∙ left_after_line a));
-      missed = omega (arith, so_far.missed, unknown_after, misses_not g);
-      ended = omega (arith, so_far.ended, displaced_after, displaces_not a);
-    }
+    pub unknown_given : (replay_of (take (index + 1) lines)).unknown ≡ (replay_of (take index lines)).unknown + one_if (not (list_any (λ b. b.start == x.addr) first))
+    unknown_given = omega (arith, unknown_after, ap {B = ℕ} (λ (t : Bool). cond (t && not (list_any (λ b. b.start == x.addr) first)) 1 0) g)
+
+    pub displaced_given : (replay_of (take (index + 1) lines)).displaced ≡ (replay_of (take index lines)).displaced
+    displaced_given = omega (arith, displaced_after, displaces_not (allocates_nothing x g))
+
+  -- any other line
+  module _ (a : is_allocation x ≡ false) (g : is_give_back x ≡ false) where
+    pub blocks_other : live_of (take (index + 1) lines) ≡ first
+    blocks_other = blocks_after ∙ left_after_line a ∙ left_all x a g first
+
+    pub unknown_other : (replay_of (take (index + 1) lines)).unknown ≡ (replay_of (take index lines)).unknown
+    unknown_other = omega (arith, unknown_after, misses_not g)
+
+    pub displaced_other : (replay_of (take (index + 1) lines)).displaced ≡ (replay_of (take index lines)).displaced
+    displaced_other = omega (arith, displaced_after, displaces_not a)
 
 -- ---- before the first line
 
@@ -147,28 +138,11 @@ pub numbered_none : (lines : List Line) (numbers : List ℕ) → numbers ≡ [] 
 unfolding replay_of live_of
 numbered_none lines numbers e = record { blocks = e; missed = refl; ended = refl }
 
--- ---- from the map to the numbers of its lines, and back
-
-pub numbers_after : (lines : List Line) (count : ℕ) (entries : List (ℕ × ℕ)) (numbers : List ℕ) (unknown displaced : ℕ) → IsAfter lines count entries unknown displaced → numbers ≡ map (λ e. e.1) entries → IsNumberedAfter lines count numbers unknown displaced
-numbers_after lines count entries numbers unknown displaced after e = record {
-  blocks = (numbered lines entries (live_of (take count lines)) numbers (first_are_of lines count entries after.blocks) e).listed ∙ ap (map (λ (b : Block). b.line)) (sym (replayed (take count lines)));
-  missed = after.missed;
-  ended = after.ended;
-}
+-- ---- after the last line
 
 module _ (lines : List Line) (count : ℕ) (numbers : List ℕ) (unknown displaced : ℕ) (after : IsNumberedAfter lines count numbers unknown displaced) where
   pub first_numbered : AreNumbered lines numbers (live_of (take count lines))
   first_numbered = record { listed = after.blocks ∙ ap (map (λ (b : Block). b.line)) (replayed (take count lines)); numbered = first_of_lines lines count }
-
-  pub first_sorted : AreSortedOf lines numbers
-  first_sorted = (live_of (take count lines), first_numbered, live_disjoint (take count lines))
-
-  pub placed_after : (entries : List (ℕ × ℕ)) → ArePlacedOf lines numbers entries → IsAfter lines count entries unknown displaced
-  placed_after entries p = record {
-    blocks = p (live_of (take count lines)) first_numbered (live_disjoint (take count lines)) ∙ ap entries_of (sym (replayed (take count lines)));
-    missed = after.missed;
-    ended = after.ended;
-  }
 
   module _ (at_end : count ≡ length lines) where
     all_taken : take count lines ≡ lines

@@ -4,4 +4,5 @@ pub mod Steps
 pub mod Small
 pub mod Laws
 pub mod Numbers
+pub mod Runs
 pub mod Examples

@@ -51,23 +51,9 @@ CountsMet lines entries x count = (blocks : List Block) → AreOf lines entries 
 abbrev pub HaveBlocks : List Line → List ℕ → Type 0
 HaveBlocks lines numbers = (blocks : List Block) × AreNumbered lines numbers blocks
 
--- and these blocks are disjoint, by ascending start
-abbrev pub AreSortedOf : List Line → List ℕ → Type 0
-AreSortedOf lines numbers = (blocks : List Block) × AreNumbered lines numbers blocks × AreDisjoint blocks
-
--- the entries are theirs
-abbrev pub ArePlacedOf : List Line → List ℕ → List (ℕ × ℕ) → Type 0
-ArePlacedOf lines numbers entries = (blocks : List Block) → AreNumbered lines numbers blocks → AreDisjoint blocks → entries ≡ entries_of blocks
-
 -- they have these
 abbrev pub AreBlocksOf : List Line → List ℕ → List Block → Type 0
 AreBlocksOf lines numbers built = (blocks : List Block) → AreNumbered lines numbers blocks → built ≡ blocks
-
--- the map and the counts after the first lines of the log, so many of them
-pub record IsAfter (lines : List Line) (count : ℕ) (entries : List (ℕ × ℕ)) (unknown displaced : ℕ) : Type 0 where
-  pub blocks : entries ≡ entries_of (replay_of (take count lines)).blocks
-  pub missed : unknown ≡ (replay_of (take count lines)).unknown
-  pub ended : displaced ≡ (replay_of (take count lines)).displaced
 
 -- the numbers of the live blocks' lines and the counts after the first lines of the log, so many of them
 pub record IsNumberedAfter (lines : List Line) (count : ℕ) (numbers : List ℕ) (unknown displaced : ℕ) : Type 0 where

@@ -9,6 +9,7 @@
 #![tactic(auto)]
 
 mod block;
+mod course;
 mod laws;
 mod live;
 mod replaying;

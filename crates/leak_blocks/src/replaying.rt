@@ -1,12 +1,12 @@
 //! Going over a log, line by line.
-ghost use Rattle.std.specs.Prelude.{◌≡◌, ◌+◌, ◌<◌, ◌≤◌, ◌^◌, length, IfOk, OnOk};
-ghost use Rattle.std.specs.BTreeMap.{values};
+ghost use Rattle.std.specs.Prelude.{◌≡◌, ◌+◌, ◌<◌, ◌≤◌, ◌^◌, length, IfOk};
 ghost use Rattle.leak_mtrace.specs.Log.{LinesFit};
 ghost use Rattle.leak_blocks.specs.Live.{is_allocation, is_give_back, replay_of};
 ghost use Rattle.leak_blocks.specs.Laws.{IsBlockAt};
-ghost use Rattle.leak_blocks.specs.Numbers.{HasBlocks, HaveBlocks, AreSortedOf, ArePlacedOf, IsMetIn, HasUnmet, CountsMet, AreBlocksOf, IsAfter, IsNumberedAfter};
+ghost use Rattle.leak_blocks.specs.Numbers.{HasBlocks, HaveBlocks, IsMetIn, HasUnmet, CountsMet, AreBlocksOf, IsNumberedAfter};
 
 use crate::block::Block;
+use crate::course::{Course, joined, place};
 use crate::live::Live;
 use bumpalo::Bump;
 use leak_mtrace::{Kind, Line, Log};
@@ -16,7 +16,7 @@ use std::collections::BTreeMap;
 /// The allocations that no line so far ends: for the start of each, the number of its line, counted from 1.
 ///
 /// Its nodes lie in an arena, since a heap may keep them, once freed, while the blocks are made.
-type Numbers<'a> = BTreeMap<u64, usize, &'a Bump>;
+pub(crate) type Numbers<'a> = BTreeMap<u64, usize, &'a Bump>;
 
 /// What a node takes for each allocation, where it is as empty as it may be, and a quarter more.
 const NODE_BYTES: usize = 48;
@@ -32,14 +32,14 @@ pub(crate) fn is_allocation(line: &Line) -> bool
 }
 
 /// Whether the line gives a block back.
-fn is_give_back(line: &Line) -> bool
+pub(crate) fn is_give_back(line: &Line) -> bool
     ensures { result ≡ is_give_back line.now }
 {
     matches!(line.kind, Kind::Free | Kind::MoveOut) && line.addr != 0
 }
 
 /// The block of the line with this number.
-fn block_at(lines: &[Line], number: usize) -> Block
+pub(crate) fn block_at(lines: &[Line], number: usize) -> Block
     requires { (0 < number) × (number ≤ length lines.now) }
     ensures { IsBlockAt lines.now number result }
 {
@@ -69,7 +69,7 @@ fn last_met(numbers: &Numbers<'_>, lines: &[Line], line: &Line) -> Option<u64>
 }
 
 /// Ends the allocations that this one meets, and counts them.
-fn displace(numbers: &mut Numbers<'_>, lines: &[Line], line: &Line) -> u64
+pub(crate) fn displace(numbers: &mut Numbers<'_>, lines: &[Line], line: &Line) -> u64
     requires fits { line.now.addr + line.now.size < 2 ^ 64 }
     requires of_lines { HasBlocks lines.now numbers.old.entries }
     ensures unmet { HasUnmet lines.now numbers.old.entries line.now numbers.new.entries }
@@ -82,35 +82,6 @@ fn displace(numbers: &mut Numbers<'_>, lines: &[Line], line: &Line) -> u64
     (before - numbers.len()) as u64
 }
 
-/// A replay between two lines.
-#[derive(Drop)]
-struct Course<'a> {
-    numbers: Numbers<'a>,
-    unknown: u64,
-    displaced: u64,
-}
-
-impl Course<'_> {
-    /// Goes over the line of this index, counted from 0.
-    fn step(&mut self, lines: &[Line], index: usize) -> Result<(), AllocError>
-        requires in_log { index < length lines.now }
-        requires fit { LinesFit lines.now }
-        requires so_far { IsAfter lines.now index self.old.numbers.entries self.old.unknown self.old.displaced }
-        ensures { OnOk result (IsAfter lines.now (index + 1) self.new.numbers.entries self.new.unknown self.new.displaced) }
-    {
-        let line = &lines[index];
-        if is_allocation(line) {
-            self.displaced += displace(&mut self.numbers, lines, line);
-            self.numbers.insert(line.addr, index + 1)?;
-        } else if is_give_back(line) {
-            if self.numbers.remove(&line.addr).is_none() {
-                self.unknown += 1;
-            }
-        }
-        Ok(())
-    }
-}
-
 /// The replay between two arenas.
 #[derive(Drop)]
 struct Stage {
@@ -120,34 +91,6 @@ struct Stage {
     next: usize,
     unknown: u64,
     displaced: u64,
-}
-
-/// The allocations of the lines with these numbers, which stand by the starts of their blocks.
-fn placed<'a>(
-    arena: &'a Bump,
-    lines: &[Line],
-    numbers: Vec<usize>,
-) -> Result<Numbers<'a>, AllocError>
-    requires { AreSortedOf lines.now numbers.items }
-    ensures { IfOk result (λ placed. ArePlacedOf lines.now numbers.items placed.entries) }
-{
-    let mut placed = BTreeMap::new(arena);
-    for number in &numbers {
-        placed.insert(block_at(lines, *number).start, *number)?;
-    }
-    Ok(placed)
-}
-
-/// The numbers of the lines, by the starts of their blocks.
-fn sorted(alloc: Global, numbers: Numbers<'_>) -> Result<Vec<usize>, AllocError>
-    ensures { IfOk result (λ v. v.items ≡ values numbers.entry) }
-{
-    // A list that is collected may do without the room that it asks for first.
-    let mut values = Vec::with_capacity(alloc, numbers.len())?;
-    for value in numbers.into_values() {
-        values.push(value)?;
-    }
-    Ok(values)
 }
 
 /// Goes over the next line, and then over others until few of the arena's bytes are left.
@@ -162,8 +105,15 @@ fn stretch(alloc: Global, lines: &[Line], bytes: usize, stage: Stage) -> Result<
     ensures after { IfOk result (λ later. IsNumberedAfter lines.now later.next later.numbers.items later.unknown later.displaced) }
 {
     let arena = Bump::try_with_capacity(alloc, bytes)?;
+    let mut numbers = BTreeMap::new(&arena);
+    let mut run = stage.numbers;
+    place(&mut numbers, lines, &run)?;
+    run.clear();
     let mut course = Course {
-        numbers: placed(&arena, lines, stage.numbers)?,
+        numbers,
+        run,
+        low: 0,
+        high: 0,
         unknown: stage.unknown,
         displaced: stage.displaced,
     };
@@ -171,12 +121,13 @@ fn stretch(alloc: Global, lines: &[Line], bytes: usize, stage: Stage) -> Result<
     loop {
         course.step(lines, next)?;
         next += 1;
-        if next == lines.len() || arena.chunk_capacity() < PATH_BYTES {
+        if next == lines.len() || arena.chunk_capacity() < node_bytes(course.run.len()) {
             break;
         }
     }
+    let numbers = course.numbers;
     Ok(Stage {
-        numbers: sorted(alloc, course.numbers)?,
+        numbers: joined(&numbers, lines, course.run)?,
         next,
         unknown: course.unknown,
         displaced: course.displaced,
@@ -195,15 +146,20 @@ fn blocks_of(alloc: Global, lines: &[Line], numbers: &[usize]) -> Result<Vec<Blo
     Ok(blocks)
 }
 
-/// The bytes of an arena for the nodes of as many allocations as the log has.
-fn arena_bytes(lines: &[Line]) -> usize {
+/// The number of lines that allocate a block.
+fn allocations(lines: &[Line]) -> usize {
     let mut allocations = 0usize;
     for line in lines {
         allocations = allocations.saturating_add(usize::from(is_allocation(line)));
     }
     allocations
+}
+
+/// The bytes that are left in an arena for the nodes of so many further allocations.
+fn node_bytes(allocations: usize) -> usize {
+    allocations
         .saturating_mul(NODE_BYTES)
-        .saturating_add(2 * PATH_BYTES)
+        .saturating_add(PATH_BYTES)
 }
 
 /// Goes over all lines.
@@ -211,9 +167,10 @@ fn replay_lines(alloc: Global, lines: &[Line]) -> Result<Live, AllocError>
     requires { LinesFit lines.now }
     ensures { IfOk result (λ live. live ≡ replay_of lines.now) }
 {
-    let bytes = arena_bytes(lines);
+    let allocations = allocations(lines);
+    let bytes = node_bytes(allocations).saturating_add(PATH_BYTES);
     let mut stage = Stage {
-        numbers: Vec::new(alloc),
+        numbers: Vec::with_capacity(alloc, allocations)?,
         next: 0,
         unknown: 0,
         displaced: 0,

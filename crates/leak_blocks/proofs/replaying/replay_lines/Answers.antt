@@ -8,7 +8,7 @@ use Rattle.leak_blocks.proofs.StepLemmas.{numbered_none, all_numbered, all_built
 use Rattle.leak_blocks.proofs.replaying.replay_lines.Goals as goal
 
 pub loop-stage-init : goal.loop-stage-init
-loop-stage-init c = (numbered_none c.args.lines.now c.new.result.items c.new.ensures.items, omega arith)
+loop-stage-init c = (numbered_none c.args.lines.now _ c.in_ok-with_capacity.ensures.items, omega arith)
 
 pub blocks_of-requires : goal.blocks_of-requires
 blocks_of-requires c = (
@@ -16,14 +16,14 @@ blocks_of-requires c = (
   all_numbered c.args.lines.now c.loop-stage.stage.next c.loop-stage.stage.numbers.items c.loop-stage.stage.unknown c.loop-stage.stage.displaced c.loop-stage.invariant.0 (omega arith) c.deref.result.now c.deref.ensures.value,
 )
 
-pub new-requires-2-clause-addressed : goal.new-requires-2-clause-addressed
-new-requires-2-clause-addressed c =
+pub new-requires-clause-addressed : goal.new-requires-clause-addressed
+new-requires-clause-addressed c =
     let built : c.in_ok-blocks.blocks.items ≡ live_of c.args.lines.now =
     all_built c.args.lines.now c.loop-stage.stage.next c.loop-stage.stage.numbers.items c.loop-stage.stage.unknown c.loop-stage.stage.displaced c.loop-stage.invariant.0 (omega arith) c.deref.result.now c.in_ok-blocks.blocks.items c.deref.ensures.value c.in_ok-blocks.ensures in
     subst AreAddressed (sym built) (live_addressed c.args.lines.now c.requires)
 
-pub new-requires-2-clause-disjoint : goal.new-requires-2-clause-disjoint
-new-requires-2-clause-disjoint c =
+pub new-requires-clause-disjoint : goal.new-requires-clause-disjoint
+new-requires-clause-disjoint c =
     let built : c.in_ok-blocks.blocks.items ≡ live_of c.args.lines.now =
     all_built c.args.lines.now c.loop-stage.stage.next c.loop-stage.stage.numbers.items c.loop-stage.stage.unknown c.loop-stage.stage.displaced c.loop-stage.invariant.0 (omega arith) c.deref.result.now c.in_ok-blocks.blocks.items c.deref.ensures.value c.in_ok-blocks.ensures in
     subst AreDisjoint (sym built) (live_disjoint c.args.lines.now)
@@ -32,4 +32,4 @@ pub returns : goal.returns
 returns c =
     let built : c.in_ok-blocks.blocks.items ≡ live_of c.args.lines.now =
     all_built c.args.lines.now c.loop-stage.stage.next c.loop-stage.stage.numbers.items c.loop-stage.stage.unknown c.loop-stage.stage.displaced c.loop-stage.invariant.0 (omega arith) c.deref.result.now c.in_ok-blocks.blocks.items c.deref.ensures.value c.in_ok-blocks.ensures in
-    c.new-2.ensures ∙ replay_is c.args.lines.now c.loop-stage.stage.next c.loop-stage.stage.numbers.items c.loop-stage.stage.unknown c.loop-stage.stage.displaced c.loop-stage.invariant.0 (omega arith) c.in_ok-blocks.blocks.items built
+    c.new.ensures ∙ replay_is c.args.lines.now c.loop-stage.stage.next c.loop-stage.stage.numbers.items c.loop-stage.stage.unknown c.loop-stage.stage.displaced c.loop-stage.invariant.0 (omega arith) c.in_ok-blocks.blocks.items built

@@ -1,0 +1,381 @@
+-- Blocks that lie one above the other, with others below and above them.
+use Rattle.std.proofs.Common.{◌≡◌, ◌≢◌, ℕ, ◌+◌, ◌<◌, ◌≤◌, max, ◌⊎◌, inl, inr, Bool, true, false, not, ◌&&◌, ◌||◌, cond, refl, sym, subst, ap, ◌∙◌, List, [], ◌∷◌, ◌++◌, length, map, filter, take, drop, slice_get, Some, None, append-nil, zero, suc, ◌-◌, append_assoc, arith, nat_lt, ◌==◌}
+use Rattle.std.specs.List.{list_any, AllByRecursion}
+use Rattle.std.specs.Ordering.{nat_cmp, is_le}
+use Rattle.std.proofs.lemmas.Bool.Decides.{nat_tests}
+use Rattle.std.specs.BTreeMap.{insert_entry}
+use Rattle.std.proofs.Math.Seq.{take-length}
+use Rattle.std.proofs.lemmas.List.{take_more, map-append}
+use Rattle.std.proofs.lemmas.List.Elements.{filter-append}
+use Rattle.std.proofs.lemmas.Option.{slice_get_within, get_or_from_slice_get}
+use Rattle.leak_mtrace.specs.declared.line.Line.{Line}
+use Rattle.leak_blocks.specs.declared.block.Block.{Block}
+use Rattle.leak_blocks.specs.Span.{AreDisjoint, span_end}
+use Rattle.leak_blocks.specs.Live.{among}
+use Rattle.leak_blocks.specs.Steps.{meets}
+use Rattle.leak_blocks.specs.Laws.{IsOfLine, IsBlockAt}
+use Rattle.leak_blocks.specs.Numbers.{entry_of, entries_of}
+use Rattle.leak_blocks.specs.Runs.{AreBetween}
+use Rattle.leak_blocks.proofs.OrderLemmas.{among_before, among_behind, is_less, is_not_less, less_of, not_less_of}
+use Rattle.leak_blocks.proofs.NumberLemmas.{all_weaker}
+use Rattle.leak_blocks.proofs.ChangeLemmas.{elsewhere, unmet, inserted, is_same, not_same}
+use Rattle.leak_blocks.proofs.BuildLemmas.{AreBuilt, IsNext, next_built, built_at_last, all_behind}
+
+-- ---- lists that are joined
+
+pub all_front : (P : Block → Type 0) (xs ys : List Block) → AllByRecursion P (xs ++ ys) → AllByRecursion P xs
+all_front P [] ys h = tt
+all_front P (x ∷ xs) ys h = (h.0, all_front P xs ys h.1)
+
+pub all_back : (P : Block → Type 0) (xs ys : List Block) → AllByRecursion P (xs ++ ys) → AllByRecursion P ys
+all_back P [] ys h = h
+all_back P (x ∷ xs) ys h = all_back P xs ys h.1
+
+pub all_both : (P : Block → Type 0) (xs ys : List Block) → AllByRecursion P xs → AllByRecursion P ys → AllByRecursion P (xs ++ ys)
+all_both P [] ys h k = k
+all_both P (x ∷ xs) ys h k = (h.0, all_both P xs ys h.1 k)
+
+pub all_two : (P Q R : Block → Type 0) → ((c : Block) → P c → Q c → R c) → (bs : List Block) → AllByRecursion P bs → AllByRecursion Q bs → AllByRecursion R bs
+all_two P Q R f [] h k = tt
+all_two P Q R f (b ∷ bs) h k = (f b h.0 k.0, all_two P Q R f bs h.1 k.1)
+
+pub disjoint_front : (xs ys : List Block) → AreDisjoint (xs ++ ys) → AreDisjoint xs
+disjoint_front [] ys d = tt
+disjoint_front (x ∷ xs) ys d = (all_front (λ c. span_end x ≤ c.start) xs ys d.0, disjoint_front xs ys d.1)
+
+pub disjoint_back : (xs ys : List Block) → AreDisjoint (xs ++ ys) → AreDisjoint ys
+disjoint_back [] ys d = d
+disjoint_back (x ∷ xs) ys d = disjoint_back xs ys d.1
+
+-- without those between
+pub disjoint_apart : (xs ys zs : List Block) → AreDisjoint ((xs ++ ys) ++ zs) → AreDisjoint (xs ++ zs)
+disjoint_apart [] ys zs d = disjoint_back ys zs d
+disjoint_apart (x ∷ xs) ys zs d =
+    (all_both (λ c. span_end x ≤ c.start) xs zs (all_front (λ c. span_end x ≤ c.start) xs ys (all_front (λ c. span_end x ≤ c.start) (xs ++ ys) zs d.0)) (all_back (λ c. span_end x ≤ c.start) (xs ++ ys) zs d.0),
+    disjoint_apart xs ys zs d.1)
+
+pub ends_before : (b : Block) (cs bs : List Block) → AreDisjoint (bs ++ b ∷ cs) → AllByRecursion (λ c. span_end c ≤ b.start) bs
+ends_before b cs [] d = tt
+ends_before b cs (c ∷ bs) d = (all_behind (λ x. span_end c ≤ x.start) bs b cs d.0, ends_before b cs bs d.1)
+
+-- ---- insertion between
+
+pub among_between : (b : Block) (xs ys : List Block) → AllByRecursion (λ c. span_end c ≤ b.start) xs → AllByRecursion (λ c. b.start < c.start) ys → among b (xs ++ ys) ≡ xs ++ b ∷ ys
+among_between b [] [] h k = refl
+among_between b [] (c ∷ cs) h k = among_before b c cs (is_less _ _ k.0)
+among_between b (c ∷ cs) ys h k = among_behind b c (cs ++ ys) (is_not_less b.start c.start (omega (arith, h.0))) ∙ ap (λ (l : List Block). c ∷ l) (among_between b cs ys h.1 k)
+
+-- ---- the run's blocks, put in the map one after another
+
+-- the first of these blocks, and those above them, are in the map, and the numbers of the others are left
+pub record ArePlaced (blocks above : List Block) (entries : List (ℕ × ℕ)) (numbers : List ℕ) : Type 0 where
+  pub placed : List Block
+  pub built : AreBuilt blocks placed numbers
+  pub listed : entries ≡ entries_of (placed ++ above)
+
+pub placed_at_first : (lines : List Line) (entries : List (ℕ × ℕ)) (run : List ℕ) (below held above : List Block) → AreBetween lines entries run below held above → ArePlaced (below ++ held) above entries (drop 0 run)
+placed_at_first lines entries run below held above b = record { placed = below; built = record { rest = held; whole = refl; left = b.listed }; listed = b.mapped }
+
+pub next_placed : (lines : List Line) (blocks above : List Block) (entries now : List (ℕ × ℕ)) (before numbers : List ℕ) (number : ℕ) (found : Block) → AllByRecursion (IsOfLine lines) blocks → AreDisjoint (blocks ++ above) →
+    ArePlaced blocks above entries before → before ≡ number ∷ numbers → IsBlockAt lines number found → now ≡ insert_entry nat_cmp entries found.start number → ArePlaced blocks above now numbers
+next_placed lines blocks above entries now before numbers number found all d p e at i =
+    let n : IsNext lines blocks p.placed number numbers = next_built lines blocks p.placed before numbers number all p.built e in
+    let order : AreDisjoint (p.placed ++ n.block ∷ (n.later.rest ++ above)) =
+        subst AreDisjoint (ap (λ (l : List Block). l ++ above) (n.later.whole ∙ append_assoc p.placed (n.block ∷ []) n.later.rest) ∙ append_assoc p.placed (n.block ∷ n.later.rest) above) d in
+    let front : AllByRecursion (λ c. span_end c ≤ n.block.start) p.placed = ends_before n.block (n.later.rest ++ above) p.placed order in
+    let back : AllByRecursion (λ c. span_end n.block ≤ c.start) above = all_back (λ c. span_end n.block ≤ c.start) n.later.rest above (disjoint_back p.placed (n.block ∷ (n.later.rest ++ above)) order).0 in
+    let same : found ≡ n.block = at n.block n.of_line n.is_number in
+    record {
+      placed = p.placed ++ n.block ∷ [];
+      built = n.later;
+      listed = i ∙ ap (λ (l : List (ℕ × ℕ)). insert_entry nat_cmp l found.start number) p.listed
+          ∙ ap (λ (s : ℕ). insert_entry nat_cmp (entries_of (p.placed ++ above)) s number) (ap (λ (b : Block). b.start) same)
+          ∙ ap (λ (k : ℕ). insert_entry nat_cmp (entries_of (p.placed ++ above)) n.block.start k) (sym n.is_number)
+          ∙ inserted n.block (p.placed ++ above) (all_both (λ c. c.start ≢ n.block.start) p.placed above
+              (all_weaker (λ c. span_end c ≤ n.block.start) (λ c. c.start ≢ n.block.start) (λ c l k. absurd (omega (arith, l, k))) p.placed front)
+              (all_weaker (λ c. span_end n.block ≤ c.start) (λ c. c.start ≢ n.block.start) (λ c l k. absurd (omega (arith, l, k))) above back))
+          ∙ ap entries_of (among_between n.block p.placed above front (all_weaker (λ c. span_end n.block ≤ c.start) (λ c. n.block.start < c.start) (λ c l. omega (arith, l)) above back)
+              ∙ sym (append_assoc p.placed (n.block ∷ []) above));
+    }
+
+pub placed_at_last : (blocks above : List Block) (entries : List (ℕ × ℕ)) (numbers : List ℕ) → ArePlaced blocks above entries numbers → numbers ≡ [] → entries ≡ entries_of (blocks ++ above)
+placed_at_last blocks above entries numbers p e = p.listed ∙ ap (λ (l : List Block). entries_of (l ++ above)) (built_at_last blocks p.placed numbers p.built e)
+
+-- ---- blocks that begin elsewhere
+
+pub elsewhere_all : (a : ℕ) (bs : List Block) → AllByRecursion (λ b. b.start ≢ a) bs → elsewhere a bs ≡ bs
+elsewhere_all a [] h = refl
+elsewhere_all a (b ∷ bs) h = ap (λ (t : Bool). cond (not t) (b ∷ elsewhere a bs) (elsewhere a bs)) (not_same a b.start (λ e. h.0 (sym e))) ∙ ap (λ (l : List Block). b ∷ l) (elsewhere_all a bs h.1)
+
+-- the block that begins there is taken out
+pub elsewhere_out : (xs : List Block) (b : Block) (ys : List Block) → AreDisjoint (xs ++ b ∷ ys) → elsewhere b.start (xs ++ b ∷ ys) ≡ xs ++ ys
+elsewhere_out xs b ys d =
+    let back : AreDisjoint (b ∷ ys) = disjoint_back xs (b ∷ ys) d in
+    filter-append (λ c. not (b.start == c.start)) xs (b ∷ ys)
+    ∙ ap (λ (l : List Block). l ++ elsewhere b.start (b ∷ ys)) (elsewhere_all b.start xs (all_weaker (λ c. span_end c ≤ b.start) (λ c. c.start ≢ b.start) (λ c l k. absurd (omega (arith, l, k))) xs (ends_before b ys xs d)))
+    ∙ ap (λ (t : Bool). xs ++ cond (not t) (b ∷ elsewhere b.start ys) (elsewhere b.start ys)) (is_same b.start b.start refl)
+    ∙ ap (λ (l : List Block). xs ++ l) (elsewhere_all b.start ys (all_weaker (λ c. span_end b ≤ c.start) (λ c. c.start ≢ b.start) (λ c l k. absurd (omega (arith, l, k))) ys back.0))
+
+any_append : (p : Block → Bool) (xs ys : List Block) → list_any p (xs ++ ys) ≡ (list_any p xs || list_any p ys)
+any_append p [] ys = refl
+any_append p (x ∷ xs) ys = ap (λ (t : Bool). p x || t) (any_append p xs ys) ∙ assoc (p x) (list_any p xs) (list_any p ys)
+  where
+    assoc : (s t u : Bool) → (s || (t || u)) ≡ ((s || t) || u)
+    assoc true t u = refl
+    assoc false t u = refl
+
+none_begins : (a : ℕ) (bs : List Block) → AllByRecursion (λ b. b.start ≢ a) bs → list_any (λ b. b.start == a) bs ≡ false
+none_begins a [] h = refl
+none_begins a (b ∷ bs) h = ap (λ (t : Bool). t || list_any (λ c. c.start == a) bs) (not_same b.start a h.0) ∙ none_begins a bs h.1
+
+-- one of them begins there where one that isn't between does
+pub begins_apart : (a : ℕ) (xs ys zs : List Block) → AllByRecursion (λ b. b.start ≢ a) ys → list_any (λ b. b.start == a) ((xs ++ ys) ++ zs) ≡ list_any (λ b. b.start == a) (xs ++ zs)
+begins_apart a xs ys zs h =
+    any_append (λ b. b.start == a) (xs ++ ys) zs ∙ ap (λ (t : Bool). t || list_any (λ b. b.start == a) zs) (any_append (λ b. b.start == a) xs ys ∙ ap (λ (t : Bool). list_any (λ b. b.start == a) xs || t) (none_begins a ys h) ∙ or_false (list_any (λ b. b.start == a) xs))
+    ∙ sym (any_append (λ b. b.start == a) xs zs)
+  where
+    or_false : (t : Bool) → (t || false) ≡ t
+    or_false true = refl
+    or_false false = refl
+
+pub begins_listed : (xs : List Block) (b : Block) (ys : List Block) → list_any (λ c. c.start == b.start) (xs ++ b ∷ ys) ≡ true
+begins_listed [] b ys = ap (λ (t : Bool). t || list_any (λ c. c.start == b.start) ys) (is_same b.start b.start refl)
+begins_listed (x ∷ xs) b ys = ap (λ (t : Bool). (x.start == b.start) || t) (begins_listed xs b ys) ∙ or_true (x.start == b.start)
+  where
+    or_true : (t : Bool) → (t || true) ≡ true
+    or_true true = refl
+    or_true false = refl
+
+-- ---- the last block of the run
+
+pub record IsLastHeld (held : List Block) (run : List ℕ) (number : ℕ) : Type 0 where
+  pub others : List Block
+  pub block : Block
+  pub whole : held ≡ others ++ block ∷ []
+  pub listed : run ≡ map (λ b. b.line) others
+  pub is_number : block.line ≡ number
+
+pub last_held : (held : List Block) (run : List ℕ) (number : ℕ) → run ++ number ∷ [] ≡ map (λ b. b.line) held → IsLastHeld held run number
+last_held [] [] number e = absurd cc
+last_held [] (r ∷ run) number e = absurd cc
+last_held (b ∷ []) [] number e = record { others = []; block = b; whole = refl; listed = refl; is_number = cc }
+last_held (b ∷ c ∷ held) [] number e = absurd cc
+last_held (b ∷ held) (r ∷ run) number e =
+    let l : IsLastHeld held run number = last_held held run number cc in
+    let k : r ≡ b.line = cc in
+    record { others = b ∷ l.others; block = l.block; whole = ap (λ (bs : List Block). b ∷ bs) l.whole; listed = ap (λ (n : ℕ). n ∷ run) k ∙ ap (λ (ns : List ℕ). b.line ∷ ns) l.listed; is_number = l.is_number }
+
+-- it is the last of the run's numbers
+pub last_got : (xs : List ℕ) (number : ℕ) → slice_get xs (length xs - 1) ≡ Some number → xs ≡ take (length xs - 1) xs ++ number ∷ []
+last_got xs number e =
+    let within : length xs - 1 < length xs = slice_get_within xs (length xs - 1) number e in
+    let more : length xs ≡ (length xs - 1) + 1 = omega (arith, within) in
+    sym (take-length xs) ∙ ap (λ (k : ℕ). take k xs) more ∙ take_more xs (length xs - 1) number within
+    ∙ ap (λ (n : ℕ). take (length xs - 1) xs ++ n ∷ []) (get_or_from_slice_get xs (length xs - 1) number number e)
+
+-- the numbers are those of lines
+pub number_of_line : (lines : List Line) (bs : List Block) (k number : ℕ) → AllByRecursion (IsOfLine lines) bs → slice_get (map (λ b. b.line) bs) k ≡ Some number → (0 < number) × (number ≤ length lines)
+number_of_line lines [] k number h e = absurd cc
+number_of_line lines (b ∷ bs) zero number h e =
+    let same : b.line ≡ number = cc in
+    subst (λ (n : ℕ). (0 < n) × (n ≤ length lines)) same (h.0.numbered, h.0.within)
+number_of_line lines (b ∷ bs) (suc k) number h e = number_of_line lines bs k number h.1 cc
+
+-- ---- the place of a new block among those that it doesn't meet
+
+-- those that end before the address, and those that begin beyond the last address
+pub record IsCut (addr last : ℕ) (blocks : List Block) : Type 0 where
+  pub front : List Block
+  pub back : List Block
+  pub whole : blocks ≡ front ++ back
+  pub ends : AllByRecursion (λ c. span_end c ≤ addr) front
+  pub begins : AllByRecursion (λ c. last < c.start) back
+
+pub cut : (addr last : ℕ) (bs : List Block) → AreDisjoint bs → AllByRecursion (λ c. (last < c.start) ⊎ (span_end c ≤ addr)) bs → IsCut addr last bs
+cut addr last [] d h = record { front = []; back = []; whole = refl; ends = tt; begins = tt }
+cut addr last (b ∷ bs) d h = elim h.0 [
+  | inl l ↦ record { front = []; back = b ∷ bs; whole = refl; ends = tt; begins = (l, all_weaker (λ c. span_end b ≤ c.start) (λ c. last < c.start) (λ c k. omega (arith, l, k)) bs d.0) }
+  | inr l ↦ let r : IsCut addr last bs = cut addr last bs d.1 h.1 in
+      record { front = b ∷ r.front; back = r.back; whole = ap (λ (cs : List Block). b ∷ cs) r.whole; ends = (l, r.ends); begins = r.begins }
+]
+
+apart : (x : Line) (last : ℕ) (b : Block) → last + 1 ≡ x.addr + max x.size 1 → meets x b ≡ false → (last < b.start) ⊎ (span_end b ≤ x.addr)
+apart x last b e m = go (nat_lt x.addr (span_end b)) (nat_lt b.start (x.addr + max x.size 1)) refl refl m
+  where
+    go : (s t : Bool) → nat_lt x.addr (span_end b) ≡ s → nat_lt b.start (x.addr + max x.size 1) ≡ t → (s && t) ≡ false → (last < b.start) ⊎ (span_end b ≤ x.addr)
+    go false t h k n = inr (not_less_of _ _ h)
+    go true false h k n = inl (let l = not_less_of _ _ k in omega (arith, l, e))
+    go true true h k n = absurd cc
+
+pub unmet_apart : (x : Line) (last : ℕ) → last + 1 ≡ x.addr + max x.size 1 → (bs : List Block) → AllByRecursion (λ c. (last < c.start) ⊎ (span_end c ≤ x.addr)) (unmet x bs)
+unmet_apart x last e [] = tt
+unmet_apart x last e (b ∷ bs) = go (meets x b) refl (unmet_apart x last e bs)
+  where
+    go : (t : Bool) → meets x b ≡ t → AllByRecursion (λ c. (last < c.start) ⊎ (span_end c ≤ x.addr)) (unmet x bs) → AllByRecursion (λ c. (last < c.start) ⊎ (span_end c ≤ x.addr)) (cond (not t) (b ∷ unmet x bs) (unmet x bs))
+    go true m rest = rest
+    go false m rest = (apart x last b e m, rest)
+
+-- ---- the first block that begins at an address or above it
+
+-- no earlier than the address
+abbrev pub is_from : ℕ → ℕ × ℕ → Bool
+is_from last e = is_le (nat_cmp last e.0) && not false
+
+from_or_not : (last : ℕ) (b : Block) → ((is_from last (entry_of b) ≡ true) × (last ≤ b.start)) ⊎ ((is_from last (entry_of b) ≡ false) × (b.start < last))
+from_or_not last b = go (nat_lt b.start last) refl
+  where
+    go : (t : Bool) → nat_lt b.start last ≡ t → ((is_from last (entry_of b) ≡ true) × (last ≤ b.start)) ⊎ ((is_from last (entry_of b) ≡ false) × (b.start < last))
+    go true e = inr (grind (arith, nat_tests, e), less_of _ _ e)
+    go false e = inl (grind (arith, nat_tests, e), not_less_of _ _ e)
+
+not_empty : (e : ℕ × ℕ) (es : List (ℕ × ℕ)) → e ∷ es ≡ [] → ⊥
+not_empty e es h = cc
+
+pub none_from : (last limit : ℕ) (bs : List Block) → filter (is_from last) (entries_of bs) ≡ [] → AllByRecursion (λ b. (b.start < last) ⊎ (limit ≤ b.start)) bs
+none_from last limit [] e = tt
+none_from last limit (b ∷ bs) e = elim (from_or_not last b) [
+  | inl h ↦ absurd (not_empty (entry_of b) (filter (is_from last) (entries_of bs)) (subst (λ (t : Bool). cond t (entry_of b ∷ filter (is_from last) (entries_of bs)) (filter (is_from last) (entries_of bs)) ≡ []) h.0 e))
+  | inr h ↦ (inl h.1, none_from last limit bs (subst (λ (t : Bool). cond t (entry_of b ∷ filter (is_from last) (entries_of bs)) (filter (is_from last) (entries_of bs)) ≡ []) h.0 e))
+]
+
+pub first_from : (last : ℕ) (bs : List Block) (e : ℕ × ℕ) (es : List (ℕ × ℕ)) → AreDisjoint bs → filter (is_from last) (entries_of bs) ≡ e ∷ es → AllByRecursion (λ b. (b.start < last) ⊎ (e.0 ≤ b.start)) bs
+first_from last [] e es d h = tt
+first_from last (b ∷ bs) e es d h = elim (from_or_not last b) [
+  | inl k ↦ let same : b.start ≡ e.0 = ap (λ (p : ℕ × ℕ). p.0) (head_same (entry_of b) e (filter (is_from last) (entries_of bs)) es (subst (λ (t : Bool). cond t (entry_of b ∷ filter (is_from last) (entries_of bs)) (filter (is_from last) (entries_of bs)) ≡ e ∷ es) k.0 h)) in
+      (inr (omega (arith, same)), all_weaker (λ c. span_end b ≤ c.start) (λ c. (c.start < last) ⊎ (e.0 ≤ c.start)) (λ c l. inr (omega (arith, l, same))) bs d.0)
+  | inr k ↦ (inl k.1, first_from last bs e es d.1 (subst (λ (t : Bool). cond t (entry_of b ∷ filter (is_from last) (entries_of bs)) (filter (is_from last) (entries_of bs)) ≡ e ∷ es) k.0 h))
+]
+  where
+    head_same : (u v : ℕ × ℕ) (us vs : List (ℕ × ℕ)) → u ∷ us ≡ v ∷ vs → u ≡ v
+    head_same u v us vs h = cc
+
+-- any address is its own limit
+pub own_limit : (last : ℕ) (bs : List Block) → AllByRecursion (λ b. (b.start < last) ⊎ (last ≤ b.start)) bs
+own_limit last [] = tt
+own_limit last (b ∷ bs) = (lt_or_le b.start last, own_limit last bs)
+  where
+    lt_or_le : (m n : ℕ) → (m < n) ⊎ (n ≤ m)
+    lt_or_le m n = go (nat_lt m n) refl
+      where
+        go : (t : Bool) → nat_lt m n ≡ t → (m < n) ⊎ (n ≤ m)
+        go true e = inl (less_of _ _ e)
+        go false e = inr (not_less_of _ _ e)
+
+-- ---- the entries on both sides of the run
+
+-- earlier than the address
+abbrev pub is_until : ℕ → ℕ × ℕ → Bool
+is_until last e = true && not (is_le (nat_cmp last e.0))
+
+until_is : (last : ℕ) (e : ℕ × ℕ) → is_until last e ≡ not (is_from last e)
+until_is last e = go (is_le (nat_cmp last e.0))
+  where
+    go : (t : Bool) → (true && not t) ≡ not (t && not false)
+    go true = refl
+    go false = refl
+
+from_front : (first : ℕ) (xs ys : List Block) → AllByRecursion (λ b. b.start < first) xs → filter (is_from first) (entries_of (xs ++ ys)) ≡ filter (is_from first) (entries_of ys)
+from_front first [] ys h = refl
+from_front first (x ∷ xs) ys h = elim (from_or_not first x) [
+  | inl k ↦ absurd (omega (arith, k.1, h.0))
+  | inr k ↦ ap (λ (t : Bool). cond t (entry_of x ∷ filter (is_from first) (entries_of (xs ++ ys))) (filter (is_from first) (entries_of (xs ++ ys)))) k.0 ∙ from_front first xs ys h.1
+]
+
+from_back : (first : ℕ) (ys : List Block) → AllByRecursion (λ b. first ≤ b.start) ys → filter (is_from first) (entries_of ys) ≡ entries_of ys
+from_back first [] h = refl
+from_back first (y ∷ ys) h = elim (from_or_not first y) [
+  | inl k ↦ ap (λ (t : Bool). cond t (entry_of y ∷ filter (is_from first) (entries_of ys)) (filter (is_from first) (entries_of ys))) k.0 ∙ ap (λ (l : List (ℕ × ℕ)). entry_of y ∷ l) (from_back first ys h.1)
+  | inr k ↦ absurd (omega (arith, k.1, h.0))
+]
+
+until_back : (first : ℕ) (ys : List Block) → AllByRecursion (λ b. first ≤ b.start) ys → filter (is_until first) (entries_of ys) ≡ []
+until_back first [] h = refl
+until_back first (y ∷ ys) h = elim (from_or_not first y) [
+  | inl k ↦ ap (λ (t : Bool). cond t (entry_of y ∷ filter (is_until first) (entries_of ys)) (filter (is_until first) (entries_of ys))) (until_is first (entry_of y) ∙ ap not k.0) ∙ until_back first ys h.1
+  | inr k ↦ absurd (omega (arith, k.1, h.0))
+]
+
+until_front : (first : ℕ) (xs ys : List Block) → AllByRecursion (λ b. b.start < first) xs → AllByRecursion (λ b. first ≤ b.start) ys → filter (is_until first) (entries_of (xs ++ ys)) ≡ entries_of xs
+until_front first [] ys h k = until_back first ys k
+until_front first (x ∷ xs) ys h k = elim (from_or_not first x) [
+  | inl l ↦ absurd (omega (arith, l.1, h.0))
+  | inr l ↦ ap (λ (t : Bool). cond t (entry_of x ∷ filter (is_until first) (entries_of (xs ++ ys))) (filter (is_until first) (entries_of (xs ++ ys)))) (until_is first (entry_of x) ∙ ap not l.0)
+      ∙ ap (λ (l : List (ℕ × ℕ)). entry_of x ∷ l) (until_front first xs ys h.1 k)
+]
+
+numbers_of : (bs : List Block) → map (λ e. e.1) (entries_of bs) ≡ map (λ b. b.line) bs
+numbers_of [] = refl
+numbers_of (b ∷ bs) = ap (λ (l : List ℕ). b.line ∷ l) (numbers_of bs)
+
+drop_front : (xs ys : List ℕ) → drop (length xs) (xs ++ ys) ≡ ys
+drop_front [] ys = refl
+drop_front (x ∷ xs) ys = drop_front xs ys
+
+take_front : (xs ys : List ℕ) → take (length xs) (xs ++ ys) ≡ xs
+take_front [] ys = refl
+take_front (x ∷ xs) ys = ap (λ (l : List ℕ). x ∷ l) (take_front xs ys)
+
+-- those of the map that begin before the address, those that don't, and the run's between them
+pub record IsParted (first : ℕ) (below held above : List Block) : Type 0 where
+  pub front : List Block
+  pub back : List Block
+  pub whole : below ++ above ≡ front ++ back
+  pub before : AllByRecursion (λ b. b.start < first) front
+  pub after : AllByRecursion (λ b. first ≤ b.start) back
+  pub all : (below ++ held) ++ above ≡ front ++ (held ++ back)
+
+-- the address is the start of the run's first block, or 0
+pub parted_at_first : (lines : List Line) (entries : List (ℕ × ℕ)) (run : List ℕ) (below held above : List Block) (number : ℕ) (found : Block) → AreBetween lines entries run below held above → slice_get run 0 ≡ Some number → IsBlockAt lines number found →
+    IsParted found.start below held above
+parted_at_first lines entries run below [] above number found b e at = absurd (not_some (ap (λ (ns : List ℕ). slice_get ns 0) (sym b.listed) ∙ e))
+  where
+    not_some : slice_get [] 0 ≡ Some number → ⊥
+    not_some h = cc
+parted_at_first lines entries run below (h ∷ held) above number found b e at =
+    let numbered : h.line ≡ number = same_number (ap (λ (ns : List ℕ). slice_get ns 0) (sym b.listed) ∙ e) in
+    let same : found.start ≡ h.start = ap (λ (c : Block). c.start) (at h (all_back (IsOfLine lines) below (h ∷ held) b.numbered).0 numbered) in
+    let order : AreDisjoint (below ++ h ∷ (held ++ above)) = subst AreDisjoint (append_assoc below (h ∷ held) above) b.disjoint in
+    record {
+      front = below;
+      back = above;
+      whole = refl;
+      before = all_weaker (λ c. span_end c ≤ h.start) (λ c. c.start < found.start) (λ c l. omega (arith, l, same)) below (ends_before h (held ++ above) below order);
+      after = all_weaker (λ c. span_end h ≤ c.start) (λ c. found.start ≤ c.start) (λ c l. omega (arith, l, same)) above (all_back (λ c. span_end h ≤ c.start) held above (disjoint_back below (h ∷ (held ++ above)) order).0);
+      all = append_assoc below (h ∷ held) above;
+    }
+  where
+    same_number : Some h.line ≡ Some number → h.line ≡ number
+    same_number k = cc
+
+pub parted_at_none : (lines : List Line) (entries : List (ℕ × ℕ)) (run : List ℕ) (below held above : List Block) → AreBetween lines entries run below held above → slice_get run 0 ≡ None → IsParted 0 below held above
+parted_at_none lines entries run below (h ∷ held) above b e = absurd (not_none (ap (λ (ns : List ℕ). slice_get ns 0) (sym b.listed) ∙ e))
+  where
+    not_none : Some h.line ≡ None → ⊥
+    not_none k = cc
+parted_at_none lines entries run below [] above b e = record {
+  front = [];
+  back = below ++ above;
+  whole = refl;
+  before = tt;
+  after = above_zero (below ++ above);
+  all = ap (λ (l : List Block). l ++ above) (append-nil below);
+}
+  where
+    above_zero : (bs : List Block) → AllByRecursion (λ b. 0 ≤ b.start) bs
+    above_zero [] = tt
+    above_zero (c ∷ bs) = (omega arith, above_zero bs)
+
+pub joined_parts : (lines : List Line) (entries : List (ℕ × ℕ)) (run : List ℕ) (below held above : List Block) (first : ℕ) → AreBetween lines entries run below held above → IsParted first below held above →
+    (until from : List (ℕ × ℕ)) (longer turned joined : List ℕ) (n : ℕ) → until ≡ filter (is_until first) entries → from ≡ filter (is_from first) entries → n ≡ length run → longer ≡ run ++ map (λ e. e.1) until →
+    turned ≡ drop n longer ++ take n longer → joined ≡ turned ++ map (λ e. e.1) from → joined ≡ map (λ b. b.line) ((below ++ held) ++ above)
+joined_parts lines entries run below held above first b p until from longer turned joined n u f k l t j =
+    let ends : entries ≡ entries_of (p.front ++ p.back) = b.mapped ∙ ap entries_of p.whole in
+    let fronts : map (λ (e : ℕ × ℕ). e.1) until ≡ map (λ b. b.line) p.front = ap (map (λ (e : ℕ × ℕ). e.1)) (u ∙ ap (filter (is_until first)) ends ∙ until_front first p.front p.back p.before p.after) ∙ numbers_of p.front in
+    let backs : map (λ (e : ℕ × ℕ). e.1) from ≡ map (λ b. b.line) p.back = ap (map (λ (e : ℕ × ℕ). e.1)) (f ∙ ap (filter (is_from first)) ends ∙ from_front first p.front p.back p.before ∙ from_back first p.back p.after) ∙ numbers_of p.back in
+    let long : longer ≡ run ++ map (λ b. b.line) p.front = l ∙ ap (λ (ns : List ℕ). run ++ ns) fronts in
+    let turns : turned ≡ map (λ b. b.line) p.front ++ run = t ∙ ap (λ (i : ℕ). drop i longer ++ take i longer) k ∙ ap (λ (ns : List ℕ). drop (length run) ns ++ take (length run) ns) long
+        ∙ ap (λ (ns : List ℕ). ns ++ take (length run) (run ++ map (λ b. b.line) p.front)) (drop_front run (map (λ b. b.line) p.front)) ∙ ap (λ (ns : List ℕ). map (λ b. b.line) p.front ++ ns) (take_front run (map (λ b. b.line) p.front)) in
+    j ∙ ap (λ (ns : List ℕ). ns ++ map (λ (e : ℕ × ℕ). e.1) from) turns ∙ ap (λ (ns : List ℕ). (map (λ b. b.line) p.front ++ run) ++ ns) backs
+    ∙ append_assoc (map (λ b. b.line) p.front) run (map (λ b. b.line) p.back)
+    ∙ ap (λ (ns : List ℕ). map (λ b. b.line) p.front ++ (ns ++ map (λ b. b.line) p.back)) b.listed
+    ∙ sym (ap (map (λ (b : Block). b.line)) p.all ∙ map-append (λ (b : Block). b.line) p.front (held ++ p.back) ∙ ap (λ (ns : List ℕ). map (λ b. b.line) p.front ++ ns) (map-append (λ (b : Block). b.line) held p.back))

@@ -1,0 +1,170 @@
+//! A replay between two lines.
+ghost use Rattle.std.specs.Prelude.{◌≡◌, ◌+◌, ◌<◌, ◌++◌, map, length, slice_get, Some, IfOk, OnOk, true};
+ghost use Rattle.leak_mtrace.specs.Log.{LinesFit};
+ghost use Rattle.leak_blocks.specs.Live.{is_allocation, is_give_back};
+ghost use Rattle.leak_blocks.specs.Numbers.{HasBlocks};
+ghost use Rattle.leak_blocks.specs.Runs.{MayBePlaced, ArePlacedOf, IsLimitOf, IsRunAfter, AreJoinedOf};
+
+use crate::replaying::{Numbers, block_at, displace, is_allocation, is_give_back};
+use leak_mtrace::Line;
+use std::alloc::AllocError;
+use std::collections::btree_map::Range;
+
+/// A replay between two lines.
+///
+/// Programs mostly allocate at ascending addresses, for a while. So the last blocks that were allocated one above the
+/// other are kept in a list beside the map, the run. In the map they are put only when an allocation or a give-back
+/// asks for it.
+#[derive(Drop)]
+pub(crate) struct Course<'a> {
+    pub(crate) numbers: Numbers<'a>,
+    /// The numbers of the run's lines, by the starts of their blocks.
+    pub(crate) run: Vec<usize>,
+    /// The last address of the run, and of the blocks below it, or one above that.
+    pub(crate) low: u64,
+    /// Where the blocks above the run begin, or an address below that.
+    pub(crate) high: u64,
+    pub(crate) unknown: u64,
+    pub(crate) displaced: u64,
+}
+
+/// Puts the blocks of the run in the map.
+pub(crate) fn place(
+    numbers: &mut Numbers<'_>,
+    lines: &[Line],
+    run: &[usize],
+) -> Result<(), AllocError>
+    requires { MayBePlaced lines.now numbers.old.entries run.now }
+    ensures { OnOk result (ArePlacedOf lines.now numbers.old.entries run.now numbers.new.entries) }
+{
+    for number in run {
+        numbers.insert(block_at(lines, *number).start, *number)?;
+    }
+    Ok(())
+}
+
+/// Where the blocks begin that begin at this address or above it, or the last address.
+fn limit(numbers: &Numbers<'_>, lines: &[Line], last: u64) -> u64
+    requires { HasBlocks lines.now numbers.now.entries }
+    ensures { IsLimitOf lines.now numbers.now.entries last result }
+{
+    match numbers.range(last..).next() {
+        Some((start, _)) => *start,
+        None => u64::MAX,
+    }
+}
+
+/// Adds the numbers of these entries of the map.
+fn append(joined: &mut Vec<usize>, entries: Range<'_, u64, usize>) -> Result<(), AllocError>
+    ensures { OnOk result (joined.new.items ≡ joined.old.items ++ map (λ e. e.1) entries.entry) }
+{
+    for (_, number) in entries {
+        joined.push(*number)?;
+    }
+    Ok(())
+}
+
+/// The numbers of the run's lines and those of the map, by the starts of their blocks.
+///
+/// The run's list has room for all, so that none is made beside a full arena.
+pub(crate) fn joined(
+    numbers: &Numbers<'_>,
+    lines: &[Line],
+    run: Vec<usize>,
+) -> Result<Vec<usize>, AllocError>
+    requires { MayBePlaced lines.now numbers.now.entries run.items }
+    ensures { IfOk result (λ joined. AreJoinedOf lines.now numbers.now.entries run.items joined.items) }
+{
+    let held = run.len();
+    let first = match run.first() {
+        Some(number) => block_at(lines, *number).start,
+        None => 0,
+    };
+    let mut joined = run;
+    append(&mut joined, numbers.range(..first))?;
+    joined.rotate_left(held);
+    append(&mut joined, numbers.range(first..))?;
+    Ok(joined)
+}
+
+impl Course<'_> {
+    /// Goes over the line of this index, counted from 0.
+    pub(crate) fn step(&mut self, lines: &[Line], index: usize) -> Result<(), AllocError>
+        requires in_log { index < length lines.now }
+        requires fit { LinesFit lines.now }
+        requires so_far { IsRunAfter lines.now index self.old.numbers.entries self.old.run.items self.old.low self.old.high self.old.unknown self.old.displaced }
+        ensures { OnOk result (IsRunAfter lines.now (index + 1) self.new.numbers.entries self.new.run.items self.new.low self.new.high self.new.unknown self.new.displaced) }
+    {
+        let line = &lines[index];
+        if is_allocation(line) {
+            self.allocate(lines, line, index)
+        } else if is_give_back(line) {
+            self.give_back(lines, line, index)
+        } else {
+            Ok(())
+        }
+    }
+
+    /// Goes over an allocation.
+    fn allocate(&mut self, lines: &[Line], line: &Line, index: usize) -> Result<(), AllocError>
+        requires at { slice_get lines.now index ≡ Some line.now }
+        requires fit { LinesFit lines.now }
+        requires so_far { IsRunAfter lines.now index self.old.numbers.entries self.old.run.items self.old.low self.old.high self.old.unknown self.old.displaced }
+        requires allocates { is_allocation line.now ≡ true }
+        ensures { OnOk result (IsRunAfter lines.now (index + 1) self.new.numbers.entries self.new.run.items self.new.low self.new.high self.new.unknown self.new.displaced) }
+    {
+        let last = line.addr + (line.size.max(1) - 1);
+        if line.addr <= self.low || self.high <= last {
+            return self.begin(lines, line, index);
+        }
+        self.run.push(index + 1)?;
+        self.low = last;
+        Ok(())
+    }
+
+    /// Goes over an allocation that may lie anywhere, and begins a new run with it.
+    fn begin(&mut self, lines: &[Line], line: &Line, index: usize) -> Result<(), AllocError>
+        requires at { slice_get lines.now index ≡ Some line.now }
+        requires fit { LinesFit lines.now }
+        requires so_far { IsRunAfter lines.now index self.old.numbers.entries self.old.run.items self.old.low self.old.high self.old.unknown self.old.displaced }
+        requires allocates { is_allocation line.now ≡ true }
+        ensures { OnOk result (IsRunAfter lines.now (index + 1) self.new.numbers.entries self.new.run.items self.new.low self.new.high self.new.unknown self.new.displaced) }
+    {
+        let last = line.addr + (line.size.max(1) - 1);
+        place(&mut self.numbers, lines, &self.run)?;
+        self.run.clear();
+        self.displaced += displace(&mut self.numbers, lines, line);
+        // Allocations at descending addresses are spared the search.
+        let high = if self.low < line.addr {
+            limit(&self.numbers, lines, last)
+        } else {
+            last
+        };
+        self.run.push(index + 1)?;
+        self.low = last;
+        self.high = high;
+        Ok(())
+    }
+
+    /// Goes over a give-back.
+    fn give_back(&mut self, lines: &[Line], line: &Line, index: usize) -> Result<(), AllocError>
+        requires at { slice_get lines.now index ≡ Some line.now }
+        requires so_far { IsRunAfter lines.now index self.old.numbers.entries self.old.run.items self.old.low self.old.high self.old.unknown self.old.displaced }
+        requires gives_back { is_give_back line.now ≡ true }
+        ensures { OnOk result (IsRunAfter lines.now (index + 1) self.new.numbers.entries self.new.run.items self.new.low self.new.high self.new.unknown self.new.displaced) }
+    {
+        if let Some(number) = self.run.last() {
+            if block_at(lines, *number).start == line.addr {
+                self.run.pop();
+                self.low = line.addr - 1;
+                return Ok(());
+            }
+        }
+        place(&mut self.numbers, lines, &self.run)?;
+        self.run.clear();
+        if self.numbers.remove(&line.addr).is_none() {
+            self.unknown += 1;
+        }
+        Ok(())
+    }
+}
