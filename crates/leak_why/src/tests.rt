@@ -1,5 +1,5 @@
 use crate::{Chain, Link, RootPlace, RootWord, block_at, why};
-use leak_blocks::{Live, replay};
+use leak_blocks::{Live, SmallSpans, replay};
 use leak_elf::{Image, core_k};
 use leak_index::{Reading, Sorted};
 use leak_mtrace::Log;
@@ -19,7 +19,8 @@ fn answer(alloc: Global, core: &[u8], log: &str, block: usize) -> Result<Option<
     let image = Image::read(alloc, core)?;
     let threads = Threads::read(alloc, &image)?;
     let live = lives(alloc, log)?;
-    let roots = Roots::find(alloc, &image, &threads, &live)?;
+    let small = SmallSpans::none(alloc);
+    let roots = Roots::find(alloc, &image, &threads, &live, &small)?;
     let lookup = Sorted::new(&live, Reading::interior());
     Ok(why(alloc, &image, &lookup, &roots, &live, block)?)
 }

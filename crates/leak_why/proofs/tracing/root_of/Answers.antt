@@ -22,7 +22,7 @@ unreachable-requires-in_default-first_word g c =
     let word_at = g.W.Words.word_at c.args.words.now in
     let index = g.L.Lookup.index c.args.lookup.now in
     none_target word_at index (get_or c.memory.result.now c.in-Range.i (0, 0)).0 (get_or c.memory.result.now c.in-Range.i (0, 0)).1 c.args.block c.in_default-first_word.ensures.none
-    (subst (λ (l : List (ℕ × ℕ)). Has (targets_of index (words_from word_at (record { registers = c.args.roots.now.registers; memory = l }) (Range c.in-Range.i))) c.args.block) (sym c.memory.ensures.value)
+    (subst (λ (l : List (ℕ × ℕ)). Has (targets_of index (words_from word_at (record { registers = c.args.roots.now.registers; memory = l; freed = c.args.roots.now.freed }) (Range c.in-Range.i))) c.args.block) (sym c.memory.ensures.value)
     (subst (λ (o : Origin). Has (targets_of index (words_from word_at c.args.roots.now o)) c.args.block) c.in-Range.is c.requires.leads))
 
 pub returns-in-Some : goal.returns-in-Some
