@@ -3,3 +3,4 @@ pub mod RunLemmas
 pub mod SearchLemmas
 pub mod SizeLemmas
 pub mod TwoLemmas
+pub mod LawLemmas

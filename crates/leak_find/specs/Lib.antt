@@ -4,3 +4,4 @@ pub mod Reads
 pub mod Run
 pub mod Search
 pub mod SearchTwo
+pub mod Laws
