@@ -1,9 +1,8 @@
 -- What words that are left out of the roots would have led to.
-use Rattle.std.proofs.Common.{◌≡◌, ℕ, zero, suc, ◌+◌, ◌≤◌, ◌<◌, Bool, true, false, not, cond, ◌==◌, ◌&&◌, List, [], ◌∷◌, ◌++◌, length, filter, filter_map, flat_map, Option, Some, None, slice_get, inl, inr, refl, sym, ap, subst, ◌∙◌, arith}
+use Rattle.std.proofs.Common.{◌≡◌, ℕ, suc, ◌+◌, ◌≤◌, ◌<◌, Bool, true, false, not, cond, ◌==◌, ◌&&◌, List, [], ◌∷◌, ◌++◌, length, filter, filter_map, flat_map, Option, Some, None, slice_get, inl, inr, refl, sym, ap, ◌∙◌, arith}
 use Rattle.std.specs.Prelude.{if◌then◌else◌}
 use Rattle.std.specs.List.{cons_option}
 use Rattle.std.proofs.lemmas.Grind.{flat_map-append}
-use Rattle.std.proofs.lemmas.List.Elements.{filter_map-append}
 use Rattle.leak_elf.specs.Words.{word_of}
 use Rattle.leak_mtrace.specs.declared.line.Line.{Line}
 use Rattle.leak_notes.specs.Threads.{registers_of}
@@ -17,12 +16,11 @@ use Rattle.leak_roots.specs.Skipped.{spans_of}
 use Rattle.leak_roots.proofs.LeftOut.{none_left_out}
 use Rattle.leak_scan.specs.Targets.{targets_of}
 use Rattle.leak_marks.specs.Lists.{Has, Within, times}
-use Rattle.leak_marks.specs.Reach.{Graph, Reach}
+use Rattle.leak_marks.specs.Reach.{Reach}
 use Rattle.leak_marks.proofs.ListLemmas.{has_back, has_front, of_append, times-append}
 use Rattle.leak_marks.proofs.ReachLemmas.{reach_within}
-use Rattle.leak_pool.specs.Marking.{IsSet, graph_of}
-use Rattle.leak_dirty.specs.Kept.{fresh_of, kept_of, has_marked_line, numbers_from}
-use Rattle.leak_dirty.specs.Retrace.{graph_of_two}
+use Rattle.leak_pool.specs.Marking.{graph_of}
+use Rattle.leak_dirty.specs.Kept.{kept_of, has_marked_line, numbers_from}
 use Rattle.leak_find.specs.Laws.{nothing}
 use Rattle.leak_find.specs.Search.{graph_of_one, index_of}
 use Rattle.leak_find.specs.SearchTwo.{IsMarkedEarlier, graph_of_later, kept_blocks, new_blocks}

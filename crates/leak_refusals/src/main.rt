@@ -22,15 +22,17 @@ use std::rt::Env;
 use std::thread::Threads;
 
 /// The calls, by name.
-static CALLS: [&str; 30] = [
+static CALLS: [&str; 33] = [
     "core_k",
     "Image::read",
     "Threads::read",
     "Threads::read_vectors",
     "Log::read",
     "replay",
+    "small_spans",
     "Paged::new",
     "Roots::find",
+    "Roots::find_unfreed",
     "cut",
     "Claims::new",
     "Marks::new",
@@ -47,6 +49,7 @@ static CALLS: [&str; 30] = [
     "text",
     "find_alone",
     "find_alone_vectors",
+    "find_alone_unfreed",
     "find_one",
     "find_two",
     "read_all",
@@ -104,8 +107,10 @@ fn answer_of<R: AllocGlobal + Threads + Sync>(rt: &R, name: &str) -> Option<Answ
         "Threads::read_vectors" => reading::vectors(alloc),
         "Log::read" => reading::log(alloc),
         "replay" => reading::replayed(alloc),
+        "small_spans" => reading::small(alloc),
         "Paged::new" => searching::paged(alloc),
         "Roots::find" => searching::roots(alloc),
+        "Roots::find_unfreed" => searching::unfreed_roots(alloc),
         "cut" => searching::pieces(alloc),
         "Claims::new" => marking::claims(alloc),
         "Marks::new" => marking::table(alloc),
@@ -122,6 +127,7 @@ fn answer_of<R: AllocGlobal + Threads + Sync>(rt: &R, name: &str) -> Option<Answ
         "text" => reporting::report(alloc),
         "find_alone" => whole::alone(alloc),
         "find_alone_vectors" => whole::vectors(alloc),
+        "find_alone_unfreed" => whole::unfreed(alloc),
         "find_one" => whole::by_workers(rt),
         "find_two" => whole::two_cores(rt),
         "read_all" => whole::input(alloc),

@@ -2,7 +2,7 @@
 
 use crate::answer::Answer;
 use crate::samples::{FOUR_CALLERS, core_of, set, vector_core};
-use leak_blocks::replay;
+use leak_blocks::{replay, small_spans};
 use leak_elf::{ElfError, Image, core_k};
 use leak_mtrace::{Log, LogError};
 use leak_notes::{NoteError, Threads};
@@ -70,6 +70,21 @@ pub(crate) fn replayed(alloc: Global) -> Option<Answer> {
             let last = live.blocks().first().map(|block| (block.start, block.size));
             Some(Answer::of(
                 live.blocks().len() == 1 && last == Some((0x108, 32)) && live.displaced() == 2,
+            ))
+        }
+        Err(_) => Some(Answer::Wanting),
+    }
+}
+
+/// `small_spans` of three allocations, of which two touch.
+pub(crate) fn small(alloc: Global) -> Option<Answer> {
+    let lines = "+ 0x110 0x10\n+ 0x200 0x8\n+ 0x100 0x10\n- 0x100\n";
+    let log = Log::read(alloc, lines.as_bytes()).ok()?;
+    match small_spans(alloc, &log) {
+        Ok(spans) => {
+            let first = spans.ranges().first().map(|span| (span.first, span.last));
+            Some(Answer::of(
+                spans.ranges().len() == 2 && first == Some((0x100, 0x11f)),
             ))
         }
         Err(_) => Some(Answer::Wanting),

@@ -2,9 +2,10 @@
 
 use crate::answer::Answer;
 use crate::samples::{core_of, live_of};
-use leak_blocks::SmallSpans;
+use leak_blocks::{SmallSpans, replay, small_spans};
 use leak_elf::Image;
 use leak_index::{Hits, Lookup, Paged, Reading};
+use leak_mtrace::Log;
 use leak_notes::Threads;
 use leak_roots::{CutError, Piece, Roots};
 use std::alloc::Global;
@@ -34,6 +35,23 @@ pub(crate) fn roots(alloc: Global) -> Option<Answer> {
         Ok(roots) => Some(Answer::of(
             roots.registers().len() == 27
                 && roots.memory() == [(0x10000u64, 0x11000u64)].as_slice(),
+        )),
+        Err(_) => Some(Answer::Wanting),
+    }
+}
+
+/// `Roots::find` of the sample core without a block that was given back.
+pub(crate) fn unfreed_roots(alloc: Global) -> Option<Answer> {
+    let core = core_of(alloc, &[])?;
+    let image = Image::read(alloc, core.as_slice()).ok()?;
+    let threads = Threads::read(alloc, &image).ok()?;
+    let log = Log::read(alloc, b"+ 0x10100 0x20\n- 0x10100\n").ok()?;
+    let live = replay(alloc, &log).ok()?;
+    let small = small_spans(alloc, &log).ok()?;
+    match Roots::find(alloc, &image, &threads, &live, &small) {
+        Ok(roots) => Some(Answer::of(
+            roots.freed() == 4
+                && roots.memory() == [(0x10000u64, 0x10100u64), (0x10120, 0x11000)].as_slice(),
         )),
         Err(_) => Some(Answer::Wanting),
     }

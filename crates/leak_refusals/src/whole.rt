@@ -82,6 +82,30 @@ pub(crate) fn vectors(alloc: Global) -> Option<Answer> {
     Some(answer_of(found, HELD))
 }
 
+/// The report of a block that only a word in freed memory leads to.
+const UNFREED: &str = "blocks 1 bytes 16\n\
+                       undumped 0\n\
+                       unknown 0 displaced 0 torn 0\n\
+                       freed 4\n\
+                       marked 0 bytes 0\n\
+                       leaked 1 bytes 16\n\
+                       heads 1\n\
+                       caller 1 16 1 ?\n\
+                       leak 0x10200 16 2 head ?\n";
+
+/// `find_alone` without freed memory, of a block that only a word there leads to.
+pub(crate) fn unfreed(alloc: Global) -> Option<Answer> {
+    let core = core_of(alloc, &[(0x10108, 0x10200)])?;
+    let found = find_alone(
+        alloc,
+        core.as_slice(),
+        b"+ 0x10100 0x20\n+ 0x10200 0x10\n- 0x10100\n",
+        Reading::interior(),
+        Skip { freed: true },
+    );
+    Some(answer_of(found, UNFREED))
+}
+
 /// `find_one` of the chain of a hundred by three workers.
 pub(crate) fn by_workers<R: AllocGlobal + Threads + Sync>(rt: &R) -> Option<Answer> {
     let sample: Sample = chain(rt.alloc())?;
