@@ -10,6 +10,9 @@ use leak_mtrace::Line;
 use std::alloc::AllocError;
 use std::collections::btree_map::Range;
 
+/// How far above the last allocation another may begin and still be taken as one of many at ascending addresses.
+const NEAR_BYTES: u64 = 1 << 20;
+
 /// A replay between two lines.
 ///
 /// Programs mostly allocate at ascending addresses, for a while. So the last blocks that were allocated one above the
@@ -134,8 +137,9 @@ impl Course<'_> {
         place(&mut self.numbers, lines, &self.run)?;
         self.run.clear();
         self.displaced += displace(&mut self.numbers, lines, line);
-        // Allocations at descending addresses are spared the search.
-        let high = if self.low < line.addr {
+        // An allocation below the last, or far from it, is spared the search: few follow right above it.
+        let near = line.addr.wrapping_sub(self.low) < NEAR_BYTES;
+        let high = if near {
             limit(&self.numbers, lines, last)
         } else {
             last

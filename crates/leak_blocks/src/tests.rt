@@ -192,3 +192,86 @@ fn small_allocations_as_ranges(rt: HostRuntime) -> Result<(), Fail> {
     assert_eq!(rt; SmallSpans::none(rt.alloc()).ranges().len(), 0);
     Ok(())
 }
+
+#[test]
+fn allocations_at_ascending_addresses(rt: HostRuntime) -> Result<(), Fail> {
+    let cases: [Case; 8] = [
+        // blocks in the middle of the run, its last one and others are given back
+        (
+            "+ 0x100 0x10\n+ 0x110 0x10\n+ 0x120 0x10\n- 0x110\n",
+            &[(0x100, 16, 1), (0x120, 16, 3)],
+            (0, 0, 0),
+        ),
+        (
+            "+ 0x100 0x10\n+ 0x110 0x10\n- 0x110\n+ 0x110 0x40\n- 0x100\n",
+            &[(0x110, 64, 4)],
+            (0, 0, 0),
+        ),
+        (
+            "+ 0x100 0x10\n+ 0x110 0x10\n- 0x118\n- 0x90\n- 0x300\n",
+            &[(0x100, 16, 1), (0x110, 16, 2)],
+            (3, 0, 0),
+        ),
+        // a run that grows up to the block above it, and into that
+        (
+            "+ 0x1000 0x10\n+ 0x100 0x10\n+ 0x110 0x10\n+ 0x120 0xee0\n",
+            &[
+                (0x100, 16, 2),
+                (0x110, 16, 3),
+                (0x120, 0xee0, 4),
+                (0x1000, 16, 1),
+            ],
+            (0, 0, 0),
+        ),
+        (
+            "+ 0x1000 0x10\n+ 0x100 0x10\n+ 0x110 0x10\n+ 0x120 0xee1\n",
+            &[(0x100, 16, 2), (0x110, 16, 3), (0x120, 0xee1, 4)],
+            (0, 1, 0),
+        ),
+        // an allocation over two blocks of the run
+        (
+            "+ 0x100 0x10\n+ 0x110 0x10\n+ 0x120 0x10\n+ 0x108 0x10\n- 0x100\n",
+            &[(0x108, 16, 4), (0x120, 16, 3)],
+            (1, 2, 0),
+        ),
+        // moves out of the run, above it, and back
+        (
+            "+ 0x100 0x10\n+ 0x110 0x10\n< 0x100\n> 0x200 0x20\n< 0x200\n> 0x120 0x40\n",
+            &[(0x110, 16, 2), (0x120, 64, 6)],
+            (0, 0, 0),
+        ),
+        // a run between two blocks
+        (
+            "+ 0x100 0x10\n+ 0x900 0x10\n+ 0x500 0x10\n+ 0x510 0x10\n",
+            &[
+                (0x100, 16, 1),
+                (0x500, 16, 3),
+                (0x510, 16, 4),
+                (0x900, 16, 2),
+            ],
+            (0, 0, 0),
+        ),
+    ];
+    replays(&rt, rt.alloc(), &cases)
+}
+
+/// Runs in twenty regions, from the highest down: each is put in the map when the next begins.
+#[test]
+fn runs_one_after_another(rt: HostRuntime) -> Result<(), Fail> {
+    let mut text = String::new(rt.alloc());
+    for turn in 1..=20u64 {
+        let base = (21 - turn) * 0x10000;
+        for place in 1..=30u64 {
+            write!(text, "+ {:#x} 0x40\n", base + place * 0x40)?;
+        }
+        for place in 1..=10u64 {
+            write!(text, "- {:#x}\n", base + place * 0xc0)?;
+        }
+        // over the first two of the region, and a give-back of one of them
+        write!(text, "+ {:#x} 0x40\n- {:#x}\n", base + 0x60, base + 0x40)?;
+    }
+    let (blocks, counts) = outcome(rt.alloc(), text.as_str())?;
+    assert_eq!(rt; blocks.len(), 20 * 19);
+    assert_eq!(rt; counts, (20, 40, 0));
+    Ok(())
+}

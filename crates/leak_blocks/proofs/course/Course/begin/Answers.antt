@@ -10,7 +10,7 @@ use Rattle.leak_blocks.proofs.RunLemmas.{own_limit}
 use Rattle.leak_blocks.proofs.StepLemmas.{displaced_fits}
 use Rattle.leak_blocks.proofs.CourseLemmas.{placed_of, left_of, after_displacing}
 use Rattle.leak_blocks.proofs.course.Course.begin.Goals as goal
-use Rattle.leak_blocks.proofs.course.Course.begin.Goals.{then-self-line, else-self-line}
+use Rattle.leak_blocks.proofs.course.Course.begin.Goals.{then-near, else-near}
 
 pub displace-requires-clause-of_lines : goal.displace-requires-clause-of_lines
 displace-requires-clause-of_lines c = (
@@ -55,12 +55,12 @@ returns c =
       (subst (λ (ns : List ℕ). ArePlacedOf c.args.lines.now c.args.self.now.numbers.entries ns c.place.new.numbers.entries) c.deref.ensures.value c.in_ok-place.ensures) in
     let left : AreOf c.args.lines.now c.displace.new.numbers.entries (unmet c.args.line.now (live_of (take c.args.index c.args.lines.now))) =
     left_of c.args.lines.now c.args.index c.args.line.now c.requires.at c.displace.new.numbers.entries (c.displace.ensures.unmet _ of) in
-    let bound : AllByRecursion (λ b. (b.start < last) ⊎ (c.if-self-line.high ≤ b.start)) (unmet c.args.line.now (live_of (take c.args.index c.args.lines.now))) =
-    elim c.if-self-line.branch [
-      | then-self-line w ↦ subst (λ (h : ℕ). AllByRecursion (λ b. (b.start < last) ⊎ (h ≤ b.start)) (unmet c.args.line.now (live_of (take c.args.index c.args.lines.now)))) (sym w.high-is) (w.limit-high.ensures _ left)
-      | else-self-line w ↦ subst (λ (h : ℕ). AllByRecursion (λ b. (b.start < last) ⊎ (h ≤ b.start)) (unmet c.args.line.now (live_of (take c.args.index c.args.lines.now)))) (sym w.high-is) (own_limit last _)
+    let bound : AllByRecursion (λ b. (b.start < last) ⊎ (c.if-near.high ≤ b.start)) (unmet c.args.line.now (live_of (take c.args.index c.args.lines.now))) =
+    elim c.if-near.branch [
+      | then-near w ↦ subst (λ (h : ℕ). AllByRecursion (λ b. (b.start < last) ⊎ (h ≤ b.start)) (unmet c.args.line.now (live_of (take c.args.index c.args.lines.now)))) (sym w.high-is) (w.limit-high.ensures _ left)
+      | else-near w ↦ subst (λ (h : ℕ). AllByRecursion (λ b. (b.start < last) ⊎ (h ≤ b.start)) (unmet c.args.line.now (live_of (take c.args.index c.args.lines.now)))) (sym w.high-is) (own_limit last _)
     ] in
     after_displacing c.args.lines.now c.args.index c.args.line.now c.requires.at c.requires.allocates last (omega arith)
     c.args.self.now.numbers.entries c.args.self.now.run.items c.args.self.now.low c.args.self.now.high c.args.self.now.unknown c.args.self.now.displaced c.requires.so_far
-    c.displace.new.numbers.entries c.displace.result c.if-self-line.high c.push.new.self.items (c.displace.ensures.unmet _ of) (c.displace.ensures.count _ of)
+    c.displace.new.numbers.entries c.displace.result c.if-near.high c.push.new.self.items (c.displace.ensures.unmet _ of) (c.displace.ensures.count _ of)
     bound (c.in_ok-push.ensures.items ∙ ap (λ (l : List ℕ). l ++ (c.args.index + 1) ∷ []) c.clear.ensures.items)
