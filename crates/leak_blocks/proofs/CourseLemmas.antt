@@ -1,5 +1,5 @@
 -- What a line does to the map and the run.
-use Rattle.std.proofs.Common.{◌≡◌, ◌≢◌, ℕ, ◌+◌, ◌-◌, ◌<◌, ◌≤◌, max, ◌⊎◌, inl, inr, Bool, true, false, not, ◌&&◌, true≢false, cond, refl, sym, subst, ap, ◌∙◌, List, [], ◌∷◌, ◌++◌, length, map, filter, count_by, take, slice_get, Some, Option, append_assoc, append-nil, arith, ◌==◌}
+use Rattle.std.proofs.Common.{◌≡◌, ◌≢◌, ℕ, ◌+◌, ◌<◌, ◌≤◌, max, ◌⊎◌, inl, inr, Bool, true, false, not, ◌&&◌, true≢false, refl, sym, subst, ap, ◌∙◌, List, [], ◌∷◌, ◌++◌, length, map, count_by, take, slice_get, Some, Option, append_assoc, append-nil, arith, ◌==◌}
 use Rattle.std.specs.List.{list_any, AllByRecursion}
 use Rattle.std.specs.Option.{is_some}
 use Rattle.std.specs.Ordering.{nat_cmp}
@@ -14,7 +14,7 @@ use Rattle.leak_blocks.specs.Span.{AreDisjoint, span_end}
 use Rattle.leak_blocks.specs.Live.{live_of, replay_of, block_of, is_allocation, is_give_back, gives_back, among}
 use Rattle.leak_blocks.specs.Steps.{meets}
 use Rattle.leak_blocks.specs.Laws.{IsOfLine, IsBlockAt}
-use Rattle.leak_blocks.specs.Numbers.{entries_of, AreOf, AreNumbered, IsNumberedAfter}
+use Rattle.leak_blocks.specs.Numbers.{entries_of, AreOf, IsNumberedAfter}
 use Rattle.leak_blocks.specs.Runs.{AreBetween, MayBePlaced, ArePlacedOf, AreJoinedOf, IsSplit, IsRunAfter}
 use Rattle.leak_blocks.proofs.DisjointLemmas.{live_disjoint}
 use Rattle.leak_blocks.proofs.LineLemmas.{first_of_lines}
@@ -163,9 +163,9 @@ module _ (lines : List Line) (index : ℕ) (x : Line) (at : slice_get lines inde
           let front : AllByRecursion (λ c. span_end c ≤ x.addr) (s.below ++ s.held) = all_weaker (λ c. span_end c ≤ low + 1) (λ c. span_end c ≤ x.addr) (λ c k. omega (arith, k, l)) (s.below ++ s.held) s.lower in
           let back : AllByRecursion (λ c. last < c.start) s.above = all_weaker (λ c. high ≤ c.start) (λ c. last < c.start) (λ c k. omega (arith, k, h)) s.above s.upper in
           let none : list_any (meets x) first ≡ false = none_met x last is_last first (subst (AllByRecursion (λ c. (last < c.start) ⊎ (span_end c ≤ x.addr))) (sym w)
-              (all_both (λ c. (last < c.start) ⊎ (span_end c ≤ x.addr)) (s.below ++ s.held) s.above
-              (all_weaker (λ c. span_end c ≤ x.addr) (λ c. (last < c.start) ⊎ (span_end c ≤ x.addr)) (λ c k. inr k) (s.below ++ s.held) front)
-              (all_weaker (λ c. last < c.start) (λ c. (last < c.start) ⊎ (span_end c ≤ x.addr)) (λ c k. inl k) s.above back))) in
+          (all_both (λ c. (last < c.start) ⊎ (span_end c ≤ x.addr)) (s.below ++ s.held) s.above
+          (all_weaker (λ c. span_end c ≤ x.addr) (λ c. (last < c.start) ⊎ (span_end c ≤ x.addr)) (λ c k. inr k) (s.below ++ s.held) front)
+          (all_weaker (λ c. last < c.start) (λ c. (last < c.start) ⊎ (span_end c ≤ x.addr)) (λ c k. inl k) s.above back))) in
           let kept : unmet x first ≡ first = all_unmet x first none in
           let no_count : 0 ≡ count_by (meets x) first = omega (arith, counted x first, ap length kept) in
           let same : displaced + 0 ≡ displaced = omega arith in
@@ -205,17 +205,17 @@ module _ (lines : List Line) (index : ℕ) (x : Line) (at : slice_get lines inde
     -- of the run's last block
     pub after_popping : (shorter : List ℕ) (number : ℕ) (found : Block) → run ≡ shorter ++ number ∷ [] → IsBlockAt lines number found → found.start ≡ x.addr → (lower : ℕ) → lower + 1 ≡ x.addr →
         IsRunAfter lines (index + 1) entries shorter lower high unknown displaced
-    after_popping shorter number found e is_block starts lower minus = 
+    after_popping shorter number found e is_block starts lower minus =
         let s : IsSplit lines entries run low high (replay_of (take index lines)).blocks = so_far.blocks in
         let l : IsLastHeld s.held shorter number = last_held s.held shorter number (sym e ∙ s.between.listed) in
         let parts : (s.below ++ s.held) ++ s.above ≡ (s.below ++ l.others) ++ l.block ∷ s.above =
-            ap (λ (h : List Block). (s.below ++ h) ++ s.above) l.whole ∙ ap (λ (h : List Block). h ++ s.above) (sym (append_assoc s.below l.others (l.block ∷ []))) ∙ append_assoc (s.below ++ l.others) (l.block ∷ []) s.above in
+        ap (λ (h : List Block). (s.below ++ h) ++ s.above) l.whole ∙ ap (λ (h : List Block). h ++ s.above) (sym (append_assoc s.below l.others (l.block ∷ []))) ∙ append_assoc (s.below ++ l.others) (l.block ∷ []) s.above in
         let w : first ≡ (s.below ++ l.others) ++ l.block ∷ s.above = whole lines index entries run low high unknown displaced so_far ∙ parts in
         let order : AreDisjoint ((s.below ++ l.others) ++ l.block ∷ s.above) = subst AreDisjoint w (live_disjoint (take index lines)) in
         let of_line : IsOfLine lines l.block = (all_back (IsOfLine lines) (s.below ++ l.others) (l.block ∷ s.above) (subst (AllByRecursion (IsOfLine lines)) w (first_of_lines lines index))).0 in
         let begins : l.block.start ≡ x.addr = ap (λ (b : Block). b.start) (sym (is_block l.block of_line l.is_number)) ∙ starts in
         let listed : list_any (λ b. b.start == x.addr) first ≡ true = ap (list_any (λ b. b.start == x.addr)) w
-            ∙ subst (λ (k : ℕ). list_any (λ b. b.start == k) ((s.below ++ l.others) ++ l.block ∷ s.above) ≡ true) begins (begins_listed (s.below ++ l.others) l.block s.above) in
+        ∙ subst (λ (k : ℕ). list_any (λ b. b.start == k) ((s.below ++ l.others) ++ l.block ∷ s.above) ≡ true) begins (begins_listed (s.below ++ l.others) l.block s.above) in
         record {
           blocks = split_of lines (index + 1) s.below l.others s.above entries shorter lower high
               (blocks_given lines index x at g ∙ ap (elsewhere x.addr) w ∙ subst (λ (k : ℕ). elsewhere k ((s.below ++ l.others) ++ l.block ∷ s.above) ≡ (s.below ++ l.others) ++ s.above) begins (elsewhere_out (s.below ++ l.others) l.block s.above order))
@@ -233,11 +233,11 @@ module _ (lines : List Line) (index : ℕ) (x : Line) (at : slice_get lines inde
         let w : first ≡ (s.below ++ s.held) ++ s.above = whole lines index entries run low high unknown displaced so_far in
         let order : AreDisjoint (s.below ++ s.above) = disjoint_apart s.below s.held s.above s.between.disjoint in
         let out : elsewhere x.addr first ≡ (elsewhere x.addr s.below ++ s.held) ++ elsewhere x.addr s.above =
-            ap (elsewhere x.addr) w ∙ filter-append (λ b. not (x.addr == b.start)) (s.below ++ s.held) s.above
-            ∙ ap (λ (l : List Block). l ++ elsewhere x.addr s.above) (filter-append (λ b. not (x.addr == b.start)) s.below s.held ∙ ap (λ (l : List Block). elsewhere x.addr s.below ++ l) (elsewhere_all x.addr s.held apart)) in
+        ap (elsewhere x.addr) w ∙ filter-append (λ b. not (x.addr == b.start)) (s.below ++ s.held) s.above
+        ∙ ap (λ (l : List Block). l ++ elsewhere x.addr s.above) (filter-append (λ b. not (x.addr == b.start)) s.below s.held ∙ ap (λ (l : List Block). elsewhere x.addr s.below ++ l) (elsewhere_all x.addr s.held apart)) in
         let found : is_some old ≡ list_any (λ b. b.start == x.addr) first =
-            ap is_some o ∙ ap (λ (l : List (ℕ × ℕ)). is_some (lookup (is_at (nat_cmp x.addr)) l)) s.between.mapped ∙ looked_up x.addr (s.below ++ s.above)
-            ∙ sym (begins_apart x.addr s.below s.held s.above apart) ∙ ap (list_any (λ b. b.start == x.addr)) (sym w) in
+        ap is_some o ∙ ap (λ (l : List (ℕ × ℕ)). is_some (lookup (is_at (nat_cmp x.addr)) l)) s.between.mapped ∙ looked_up x.addr (s.below ++ s.above)
+        ∙ sym (begins_apart x.addr s.below s.held s.above apart) ∙ ap (list_any (λ b. b.start == x.addr)) (sym w) in
         record {
           blocks = split_of lines (index + 1) (elsewhere x.addr s.below) s.held (elsewhere x.addr s.above) fewer run low high (blocks_given lines index x at g ∙ out)
               (e ∙ ap (remove_entry (is_at (nat_cmp x.addr))) s.between.mapped ∙ removed x.addr (s.below ++ s.above) order ∙ ap entries_of (filter-append (λ b. not (x.addr == b.start)) s.below s.above))

@@ -50,9 +50,10 @@ disjoint_back (x ∷ xs) ys d = disjoint_back xs ys d.1
 -- without those between
 pub disjoint_apart : (xs ys zs : List Block) → AreDisjoint ((xs ++ ys) ++ zs) → AreDisjoint (xs ++ zs)
 disjoint_apart [] ys zs d = disjoint_back ys zs d
-disjoint_apart (x ∷ xs) ys zs d =
-    (all_both (λ c. span_end x ≤ c.start) xs zs (all_front (λ c. span_end x ≤ c.start) xs ys (all_front (λ c. span_end x ≤ c.start) (xs ++ ys) zs d.0)) (all_back (λ c. span_end x ≤ c.start) (xs ++ ys) zs d.0),
-    disjoint_apart xs ys zs d.1)
+disjoint_apart (x ∷ xs) ys zs d = (
+  all_both (λ c. span_end x ≤ c.start) xs zs (all_front (λ c. span_end x ≤ c.start) xs ys (all_front (λ c. span_end x ≤ c.start) (xs ++ ys) zs d.0)) (all_back (λ c. span_end x ≤ c.start) (xs ++ ys) zs d.0),
+  disjoint_apart xs ys zs d.1,
+)
 
 pub ends_before : (b : Block) (cs bs : List Block) → AreDisjoint (bs ++ b ∷ cs) → AllByRecursion (λ c. span_end c ≤ b.start) bs
 ends_before b cs [] d = tt
@@ -81,7 +82,7 @@ pub next_placed : (lines : List Line) (blocks above : List Block) (entries now :
 next_placed lines blocks above entries now before numbers number found all d p e at i =
     let n : IsNext lines blocks p.placed number numbers = next_built lines blocks p.placed before numbers number all p.built e in
     let order : AreDisjoint (p.placed ++ n.block ∷ (n.later.rest ++ above)) =
-        subst AreDisjoint (ap (λ (l : List Block). l ++ above) (n.later.whole ∙ append_assoc p.placed (n.block ∷ []) n.later.rest) ∙ append_assoc p.placed (n.block ∷ n.later.rest) above) d in
+    subst AreDisjoint (ap (λ (l : List Block). l ++ above) (n.later.whole ∙ append_assoc p.placed (n.block ∷ []) n.later.rest) ∙ append_assoc p.placed (n.block ∷ n.later.rest) above) d in
     let front : AllByRecursion (λ c. span_end c ≤ n.block.start) p.placed = ends_before n.block (n.later.rest ++ above) p.placed order in
     let back : AllByRecursion (λ c. span_end n.block ≤ c.start) above = all_back (λ c. span_end n.block ≤ c.start) n.later.rest above (disjoint_back p.placed (n.block ∷ (n.later.rest ++ above)) order).0 in
     let same : found ≡ n.block = at n.block n.of_line n.is_number in
@@ -92,10 +93,10 @@ next_placed lines blocks above entries now before numbers number found all d p e
           ∙ ap (λ (s : ℕ). insert_entry nat_cmp (entries_of (p.placed ++ above)) s number) (ap (λ (b : Block). b.start) same)
           ∙ ap (λ (k : ℕ). insert_entry nat_cmp (entries_of (p.placed ++ above)) n.block.start k) (sym n.is_number)
           ∙ inserted n.block (p.placed ++ above) (all_both (λ c. c.start ≢ n.block.start) p.placed above
-              (all_weaker (λ c. span_end c ≤ n.block.start) (λ c. c.start ≢ n.block.start) (λ c l k. absurd (omega (arith, l, k))) p.placed front)
-              (all_weaker (λ c. span_end n.block ≤ c.start) (λ c. c.start ≢ n.block.start) (λ c l k. absurd (omega (arith, l, k))) above back))
+          (all_weaker (λ c. span_end c ≤ n.block.start) (λ c. c.start ≢ n.block.start) (λ c l k. absurd (omega (arith, l, k))) p.placed front)
+          (all_weaker (λ c. span_end n.block ≤ c.start) (λ c. c.start ≢ n.block.start) (λ c l k. absurd (omega (arith, l, k))) above back))
           ∙ ap entries_of (among_between n.block p.placed above front (all_weaker (λ c. span_end n.block ≤ c.start) (λ c. n.block.start < c.start) (λ c l. omega (arith, l)) above back)
-              ∙ sym (append_assoc p.placed (n.block ∷ []) above));
+          ∙ sym (append_assoc p.placed (n.block ∷ []) above));
     }
 
 pub placed_at_last : (blocks above : List Block) (entries : List (ℕ × ℕ)) (numbers : List ℕ) → ArePlaced blocks above entries numbers → numbers ≡ [] → entries ≡ entries_of (blocks ++ above)
@@ -374,7 +375,7 @@ joined_parts lines entries run below held above first b p until from longer turn
     let backs : map (λ (e : ℕ × ℕ). e.1) from ≡ map (λ b. b.line) p.back = ap (map (λ (e : ℕ × ℕ). e.1)) (f ∙ ap (filter (is_from first)) ends ∙ from_front first p.front p.back p.before ∙ from_back first p.back p.after) ∙ numbers_of p.back in
     let long : longer ≡ run ++ map (λ b. b.line) p.front = l ∙ ap (λ (ns : List ℕ). run ++ ns) fronts in
     let turns : turned ≡ map (λ b. b.line) p.front ++ run = t ∙ ap (λ (i : ℕ). drop i longer ++ take i longer) k ∙ ap (λ (ns : List ℕ). drop (length run) ns ++ take (length run) ns) long
-        ∙ ap (λ (ns : List ℕ). ns ++ take (length run) (run ++ map (λ b. b.line) p.front)) (drop_front run (map (λ b. b.line) p.front)) ∙ ap (λ (ns : List ℕ). map (λ b. b.line) p.front ++ ns) (take_front run (map (λ b. b.line) p.front)) in
+    ∙ ap (λ (ns : List ℕ). ns ++ take (length run) (run ++ map (λ b. b.line) p.front)) (drop_front run (map (λ b. b.line) p.front)) ∙ ap (λ (ns : List ℕ). map (λ b. b.line) p.front ++ ns) (take_front run (map (λ b. b.line) p.front)) in
     j ∙ ap (λ (ns : List ℕ). ns ++ map (λ (e : ℕ × ℕ). e.1) from) turns ∙ ap (λ (ns : List ℕ). (map (λ b. b.line) p.front ++ run) ++ ns) backs
     ∙ append_assoc (map (λ b. b.line) p.front) run (map (λ b. b.line) p.back)
     ∙ ap (λ (ns : List ℕ). map (λ b. b.line) p.front ++ (ns ++ map (λ b. b.line) p.back)) b.listed

@@ -1,5 +1,5 @@
 -- The next entry's number goes from those that are left to the list.
-use Rattle.std.proofs.Common.{◌≡◌, ◌∙◌, sym, ap, ℕ, List, [], ◌∷◌, ◌++◌, map, append_assoc, append-nil}
+use Rattle.std.proofs.Common.{◌∙◌, sym, ap, ℕ, List, [], ◌∷◌, ◌++◌, map, append_assoc, append-nil}
 use Rattle.leak_blocks.proofs.course.append.Goals as goal
 
 pub loop-number-init : goal.loop-number-init

@@ -1,5 +1,5 @@
 -- The map's numbers follow the run's; those that begin below it are then put before it.
-use Rattle.std.proofs.Common.{◌≡◌, ◌∙◌, sym, ap, subst, ℕ, List, length, slice_get, Some, filter}
+use Rattle.std.proofs.Common.{◌≡◌, ◌∙◌, sym, ap, subst, ℕ, List, length, slice_get, filter}
 use Rattle.leak_blocks.specs.Laws.{IsOfLine}
 use Rattle.leak_blocks.proofs.RunLemmas.{is_until, is_from, all_back, number_of_line, IsParted, parted_at_first, parted_at_none, joined_parts}
 use Rattle.leak_blocks.proofs.course.joined.Goals as goal

@@ -1,5 +1,5 @@
 -- From the first block that begins at the address or above it.
-use Rattle.std.proofs.Common.{◌≡◌, ℕ, filter, sym, ap, ◌∙◌, List}
+use Rattle.std.proofs.Common.{◌≡◌, filter, sym, ap, ◌∙◌}
 use Rattle.leak_blocks.proofs.RunLemmas.{is_from, none_from, first_from}
 use Rattle.leak_blocks.proofs.course.limit.Goals as goal
 

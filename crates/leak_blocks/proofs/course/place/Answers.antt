@@ -1,5 +1,5 @@
 -- The block of each number goes between those below it and those above.
-use Rattle.std.proofs.Common.{◌≡◌, ◌∙◌, sym, ap, subst, arith, List, ◌++◌, ◌∷◌, ℕ, ◌+◌, ◌<◌, ◌≤◌, length, drop, get_or}
+use Rattle.std.proofs.Common.{◌≡◌, ◌∙◌, ap, subst, arith, ◌++◌, ℕ, ◌+◌, ◌<◌, ◌≤◌, length, drop, get_or}
 use Rattle.std.proofs.lemmas.List.{drop_more}
 use Rattle.leak_blocks.proofs.BuildLemmas.{IsNext, next_built, none_left}
 use Rattle.leak_blocks.proofs.RunLemmas.{ArePlaced, placed_at_first, next_placed, placed_at_last}

@@ -1,5 +1,5 @@
 -- From the numbers to a map, line by line, and back.
-use Rattle.std.proofs.Common.{arith, ◌+◌, subst, sym, ◌∙◌, List, ℕ}
+use Rattle.std.proofs.Common.{arith, ◌+◌, subst, sym, List, ℕ}
 use Rattle.leak_blocks.specs.Runs.{MayBePlaced, ArePlacedOf}
 use Rattle.leak_blocks.proofs.CourseLemmas.{numbers_after, first_may_be_placed, run_after, may_be_placed}
 use Rattle.leak_blocks.proofs.replaying.stretch.Goals as goal

@@ -1,8 +1,8 @@
 -- All blocks go into the map, those that are met are taken out, and the new one begins a run.
-use Rattle.std.proofs.Common.{◌≡◌, ◌+◌, ◌-◌, ◌<◌, ◌≤◌, ◌⊎◌, ◌^◌, max, ℕ, List, ◌++◌, ◌∷◌, [], arith, rules, length, take, refl, sym, ap, ◌∙◌, subst, true}
+use Rattle.std.proofs.Common.{◌≡◌, ◌+◌, ◌-◌, ◌<◌, ◌≤◌, ◌⊎◌, ◌^◌, max, ℕ, List, ◌++◌, ◌∷◌, [], arith, rules, length, take, refl, sym, ap, ◌∙◌, subst}
 use Rattle.std.specs.List.{AllByRecursion}
 use Rattle.std.proofs.lemmas.Option.{slice_get_within}
-use Rattle.leak_blocks.specs.Live.{live_of, is_allocation}
+use Rattle.leak_blocks.specs.Live.{live_of}
 use Rattle.leak_blocks.specs.Numbers.{AreOf}
 use Rattle.leak_blocks.specs.Runs.{IsRunAfter, ArePlacedOf}
 use Rattle.leak_blocks.proofs.ChangeLemmas.{unmet}
@@ -25,7 +25,7 @@ overflow_add-self c =
     let last : ℕ = c.args.line.now.addr + (c.max.result - 1) in
     let of : AreOf c.args.lines.now c.place.new.numbers.entries (live_of (take c.args.index c.args.lines.now)) =
     placed_of c.args.lines.now c.args.index c.args.self.now.numbers.entries c.args.self.now.run.items c.args.self.now.low c.args.self.now.high c.args.self.now.unknown c.args.self.now.displaced c.requires.so_far c.place.new.numbers.entries
-      (subst (λ (ns : List ℕ). ArePlacedOf c.args.lines.now c.args.self.now.numbers.entries ns c.place.new.numbers.entries) c.deref.ensures.value c.in_ok-place.ensures) in
+    (subst (λ (ns : List ℕ). ArePlacedOf c.args.lines.now c.args.self.now.numbers.entries ns c.place.new.numbers.entries) c.deref.ensures.value c.in_ok-place.ensures) in
     let after : IsRunAfter c.args.lines.now (c.args.index + 1) c.displace.new.numbers.entries ((c.args.index + 1) ∷ []) last last c.args.self.now.unknown (c.args.self.now.displaced + c.displace.result) =
     after_displacing c.args.lines.now c.args.index c.args.line.now c.requires.at c.requires.allocates last (omega arith)
     c.args.self.now.numbers.entries c.args.self.now.run.items c.args.self.now.low c.args.self.now.high c.args.self.now.unknown c.args.self.now.displaced c.requires.so_far
@@ -38,7 +38,7 @@ pub limit-high-requires : goal.limit-high-requires
 limit-high-requires c =
     let of : AreOf c.args.lines.now c.place.new.numbers.entries (live_of (take c.args.index c.args.lines.now)) =
     placed_of c.args.lines.now c.args.index c.args.self.now.numbers.entries c.args.self.now.run.items c.args.self.now.low c.args.self.now.high c.args.self.now.unknown c.args.self.now.displaced c.requires.so_far c.place.new.numbers.entries
-      (subst (λ (ns : List ℕ). ArePlacedOf c.args.lines.now c.args.self.now.numbers.entries ns c.place.new.numbers.entries) c.deref.ensures.value c.in_ok-place.ensures) in
+    (subst (λ (ns : List ℕ). ArePlacedOf c.args.lines.now c.args.self.now.numbers.entries ns c.place.new.numbers.entries) c.deref.ensures.value c.in_ok-place.ensures) in
     (unmet c.args.line.now (live_of (take c.args.index c.args.lines.now)), left_of c.args.lines.now c.args.index c.args.line.now c.requires.at c.displace.new.numbers.entries (c.displace.ensures.unmet _ of))
 
 pub overflow_add-index : goal.overflow_add-index
@@ -52,7 +52,7 @@ returns c =
     let last : ℕ = c.args.line.now.addr + (c.max.result - 1) in
     let of : AreOf c.args.lines.now c.place.new.numbers.entries (live_of (take c.args.index c.args.lines.now)) =
     placed_of c.args.lines.now c.args.index c.args.self.now.numbers.entries c.args.self.now.run.items c.args.self.now.low c.args.self.now.high c.args.self.now.unknown c.args.self.now.displaced c.requires.so_far c.place.new.numbers.entries
-      (subst (λ (ns : List ℕ). ArePlacedOf c.args.lines.now c.args.self.now.numbers.entries ns c.place.new.numbers.entries) c.deref.ensures.value c.in_ok-place.ensures) in
+    (subst (λ (ns : List ℕ). ArePlacedOf c.args.lines.now c.args.self.now.numbers.entries ns c.place.new.numbers.entries) c.deref.ensures.value c.in_ok-place.ensures) in
     let left : AreOf c.args.lines.now c.displace.new.numbers.entries (unmet c.args.line.now (live_of (take c.args.index c.args.lines.now))) =
     left_of c.args.lines.now c.args.index c.args.line.now c.requires.at c.displace.new.numbers.entries (c.displace.ensures.unmet _ of) in
     let bound : AllByRecursion (λ b. (b.start < last) ⊎ (c.if-near.high ≤ b.start)) (unmet c.args.line.now (live_of (take c.args.index c.args.lines.now))) =

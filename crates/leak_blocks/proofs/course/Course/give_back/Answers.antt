@@ -1,6 +1,5 @@
 -- The run's last block is popped; any other is looked for in the map, with all blocks in it.
-use Rattle.std.proofs.Common.{◌≡◌, ℕ, ◌+◌, ◌-◌, ◌<◌, ◌^◌, Bool, not, List, ◌++◌, ◌∷◌, [], length, take, slice_get, Some, sym, ap, ◌∙◌, subst, arith, rules}
-use Rattle.std.specs.Option.{is_some}
+use Rattle.std.proofs.Common.{◌≡◌, ℕ, ◌+◌, ◌-◌, ◌<◌, ◌^◌, not, List, ◌++◌, ◌∷◌, [], length, take, slice_get, Some, sym, ap, ◌∙◌, subst, arith, rules}
 use Rattle.leak_blocks.specs.Runs.{ArePlacedOf, IsRunAfter}
 use Rattle.leak_blocks.proofs.RunLemmas.{last_got}
 use Rattle.leak_blocks.proofs.StepLemmas.{unknown_fits}
@@ -24,7 +23,7 @@ returns-then-block_at-line c =
 
 pub overflow_add-self : goal.overflow_add-self
 overflow_add-self c =
-    let same : c.match-last.self ≡ c.args.self.now = elim c.match-last.branch [ | in-Some+else-block_at-line w ↦ w.self-is | in_default w ↦ w.self-is ] in
+    let same : c.match-last.self ≡ c.args.self.now = elim c.match-last.branch [ in-Some+else-block_at-line w ↦ w.self-is | in_default w ↦ w.self-is ] in
     let so_far : IsRunAfter c.args.lines.now c.args.index c.match-last.self.numbers.entries c.match-last.self.run.items c.match-last.self.low c.match-last.self.high c.match-last.self.unknown c.match-last.self.displaced =
     subst (λ self. IsRunAfter c.args.lines.now c.args.index self.numbers.entries self.run.items self.low self.high self.unknown self.displaced) (sym same) c.requires.so_far in
     let placed : ArePlacedOf c.args.lines.now c.match-last.self.numbers.entries c.match-last.self.run.items c.place.new.numbers.entries =
@@ -37,7 +36,7 @@ overflow_add-self c =
 
 pub returns-then-is_none : goal.returns-then-is_none
 returns-then-is_none c =
-    let same : c.match-last.self ≡ c.args.self.now = elim c.match-last.branch [ | in-Some+else-block_at-line w ↦ w.self-is | in_default w ↦ w.self-is ] in
+    let same : c.match-last.self ≡ c.args.self.now = elim c.match-last.branch [ in-Some+else-block_at-line w ↦ w.self-is | in_default w ↦ w.self-is ] in
     let so_far : IsRunAfter c.args.lines.now c.args.index c.match-last.self.numbers.entries c.match-last.self.run.items c.match-last.self.low c.match-last.self.high c.match-last.self.unknown c.match-last.self.displaced =
     subst (λ self. IsRunAfter c.args.lines.now c.args.index self.numbers.entries self.run.items self.low self.high self.unknown self.displaced) (sym same) c.requires.so_far in
     let placed : ArePlacedOf c.args.lines.now c.match-last.self.numbers.entries c.match-last.self.run.items c.place.new.numbers.entries =
@@ -47,7 +46,7 @@ returns-then-is_none c =
 
 pub returns-else-is_none : goal.returns-else-is_none
 returns-else-is_none c =
-    let same : c.match-last.self ≡ c.args.self.now = elim c.match-last.branch [ | in-Some+else-block_at-line w ↦ w.self-is | in_default w ↦ w.self-is ] in
+    let same : c.match-last.self ≡ c.args.self.now = elim c.match-last.branch [ in-Some+else-block_at-line w ↦ w.self-is | in_default w ↦ w.self-is ] in
     let so_far : IsRunAfter c.args.lines.now c.args.index c.match-last.self.numbers.entries c.match-last.self.run.items c.match-last.self.low c.match-last.self.high c.match-last.self.unknown c.match-last.self.displaced =
     subst (λ self. IsRunAfter c.args.lines.now c.args.index self.numbers.entries self.run.items self.low self.high self.unknown self.displaced) (sym same) c.requires.so_far in
     let placed : ArePlacedOf c.args.lines.now c.match-last.self.numbers.entries c.match-last.self.run.items c.place.new.numbers.entries =

@@ -1,5 +1,5 @@
 -- A line that is neither an allocation nor a give-back changes nothing.
-use Rattle.std.proofs.Common.{◌≡◌, sym, ◌∙◌}
+use Rattle.std.proofs.Common.{sym, ◌∙◌}
 use Rattle.std.proofs.lemmas.Option.{slice_get-get_or}
 use Rattle.leak_mtrace.specs.declared.line.Kind.TheVariants.{Alloc}
 use Rattle.leak_mtrace.specs.declared.line.Line.{Line}
