@@ -5,3 +5,4 @@ pub mod Ahead
 pub mod Advance
 pub mod Listing
 pub mod Held
+pub mod RootRanges

@@ -8,7 +8,7 @@ use Rattle.leak_scan.specs.Places.{first_words, words_in, words_from}
 use Rattle.leak_scan.proofs.Ranges.{IsAligned, one_word, no_addresses, same_range}
 
 -- a number after dropped bytes
-number_drop : (bytes : List ℕ) (m at : ℕ) → number_at w64 (drop m bytes) at ≡ number_at w64 bytes (m + at)
+pub number_drop : (bytes : List ℕ) (m at : ℕ) → number_at w64 (drop m bytes) at ≡ number_at w64 bytes (m + at)
 unfolding number_at
 number_drop bytes m at =
     let w : at + 8 - at ≡ m + at + 8 - (m + at) = omega arith in

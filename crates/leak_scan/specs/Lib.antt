@@ -1,6 +1,7 @@
 pub mod Targets
 pub mod Windows
 pub mod Places
+pub mod RootWords
 pub mod Heads
 pub mod Dropped
 pub mod Rows

@@ -46,7 +46,7 @@ pub(crate) fn first_of_run<'a, L: Lookup>(lookup: &L, bytes: &'a [u8]) -> (Hits,
 
 /// The word that the first 8 bytes are, and the bytes past them.
 #[tactic(auto, unfolding(leak_elf::specs::Fields::number_at))]
-fn split_word(bytes: &[u8]) -> (u64, &[u8])
+pub(crate) fn split_word(bytes: &[u8]) -> (u64, &[u8])
     requires { 8 ≤ length bytes.now }
     ensures word { result.0 ≡ number_at w64 bytes.now 0 }
     ensures rest { result.1.now ≡ drop 8 bytes.now }

@@ -19,6 +19,7 @@ mod laws;
 mod pages;
 mod place;
 mod reading;
+mod root_words;
 mod targets;
 #[cfg(test)]
 mod tests;

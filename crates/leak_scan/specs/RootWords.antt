@@ -1,0 +1,22 @@
+-- What words lead to as root words of memory without malloc's links to free chunks.
+use Rattle.std.specs.Prelude.{ℕ, List, [], flat_map, Option}
+use Rattle.std.specs.Option.{option_map_or}
+use Rattle.leak_elf.specs.Words.{places}
+use Rattle.leak_index.specs.Hits.{Index, hits_of}
+use Rattle.leak_fit.specs.FreeLinks.{without_free_links}
+
+-- the blocks that the word, which stands at the place, leads to, but for those as far as which it is a link to a free chunk
+abbrev pub held_by : (ℕ → Option ℕ) → Index → ℕ → ℕ → List ℕ
+held_by word_at index place word = without_free_links word_at index.blocks place word (hits_of index word)
+
+-- the same of the word at an address, if there is one
+abbrev pub held_from : (ℕ → Option ℕ) → Index → ℕ → List ℕ
+held_from word_at index a = option_map_or (held_by word_at index a) (word_at a) []
+
+-- for each of the addresses in order, the blocks that its word leads to, but for links to free chunks
+unfoldable pub targets_without_links : (ℕ → Option ℕ) → Index → List ℕ → List ℕ
+targets_without_links word_at index addresses = flat_map (held_from word_at index) addresses
+
+-- the same over the words whose 8 bytes all lie from `from` on and before `to`
+abbrev pub range_without_links : (ℕ → Option ℕ) → Index → ℕ → ℕ → List ℕ
+range_without_links word_at index from to = targets_without_links word_at index (places from to)
