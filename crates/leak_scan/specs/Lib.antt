@@ -2,6 +2,7 @@ pub mod Targets
 pub mod Windows
 pub mod Places
 pub mod RootWords
+pub mod Courses
 pub mod Heads
 pub mod Dropped
 pub mod Rows

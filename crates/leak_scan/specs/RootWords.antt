@@ -1,9 +1,11 @@
 -- What words lead to as root words of memory without malloc's links to free chunks.
-use Rattle.std.specs.Prelude.{ℕ, List, [], flat_map, Option}
+use Rattle.std.specs.Prelude.{◌≡◌, ℕ, Bool, true, List, [], flat_map, Option}
+use Rattle.std.specs.List.{AllByRecursion}
 use Rattle.std.specs.Option.{option_map_or}
-use Rattle.leak_elf.specs.Words.{places}
+use Rattle.leak_elf.specs.Words.{places, words_between}
 use Rattle.leak_index.specs.Hits.{Index, hits_of}
 use Rattle.leak_fit.specs.FreeLinks.{without_free_links}
+use Rattle.leak_scan.specs.Targets.{targets_of}
 
 -- the blocks that the word, which stands at the place, leads to, but for those as far as which it is a link to a free chunk
 abbrev pub held_by : (ℕ → Option ℕ) → Index → ℕ → ℕ → List ℕ
@@ -20,3 +22,8 @@ targets_without_links word_at index addresses = flat_map (held_from word_at inde
 -- the same over the words whose 8 bytes all lie from `from` on and before `to`
 abbrev pub range_without_links : (ℕ → Option ℕ) → Index → ℕ → ℕ → List ℕ
 range_without_links word_at index from to = targets_without_links word_at index (places from to)
+
+-- without links nothing else is led to: a test that all blocks pass to which the words of a range lead, those that are left pass
+abbrev pub RangesLeadLess : Type 0
+RangesLeadLess = (word_at : ℕ → Option ℕ) (index : Index) (from to : ℕ) (test : ℕ → Bool)
+    → AllByRecursion (λ b. test b ≡ true) (targets_of index (words_between word_at from to)) → AllByRecursion (λ b. test b ≡ true) (range_without_links word_at index from to)

@@ -3,6 +3,7 @@ ghost use Rattle.std.specs.Prelude.{ℕ, ◌<◌, List, length};
 ghost use Rattle.std.specs.List.{AllByRecursion};
 ghost use Rattle.leak_index.specs.Hits.{Index};
 ghost use Rattle.leak_scan.specs.Targets.{targets_of};
+ghost use Rattle.leak_scan.specs.RootWords.{RangesLeadLess};
 ghost use Rattle.leak_scan.specs.Rows.{AreWorkedTargets, AreWorkedHeads};
 
 use leak_index::hits_are_blocks;
@@ -15,6 +16,11 @@ pub fn targets_are_blocks()
     // (a law, for the proof: each hit is the number of a block)
     hits_are_blocks();
 }
+
+/// Without links to free chunks, the root words of a range lead to no block to which its words don't lead.
+pub fn ranges_lead_less()
+    ensures { RangesLeadLess }
+{}
 
 /// The words of some blocks, and the blocks that they lead to.
 pub fn worked_targets()

@@ -80,13 +80,7 @@ fn first_held<W: Words, L: Lookup>(
 }
 
 /// The blocks that the word at the place leads to, but for those as far as which it is a link to a free chunk.
-fn held_by<W: Words, L: Lookup>(
-    words: &W,
-    lookup: &L,
-    live: &Live,
-    place: u64,
-    word: u64,
-) -> Hits
+fn held_by<W: Words, L: Lookup>(words: &W, lookup: &L, live: &Live, place: u64, word: u64) -> Hits
     requires { (L.index lookup.now).blocks ≡ live.now.blocks }
     ensures { hits_in result ≡ held_by (W.word_at words.now) (L.index lookup.now) place word }
 {

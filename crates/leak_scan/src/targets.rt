@@ -5,11 +5,14 @@ ghost use Rattle.std.specs.List.{cons_option};
 ghost use Rattle.std.specs.Option.{option_copied};
 ghost use Rattle.leak_elf.specs.Words.{words_between};
 ghost use Rattle.leak_scan.specs.Targets.{targets_of, block_words, block_words_on};
-ghost use Rattle.leak_scan.specs.Places.{listed_word, words_ahead, words_from};
+ghost use Rattle.leak_scan.specs.Places.{listed_word, words_from};
+ghost use Rattle.leak_scan.specs.RootWords.{range_without_links};
+ghost use Rattle.leak_scan.specs.Courses.{IsOver, targets_ahead};
 
+use crate::course::{Course, next_on};
 use crate::pages::Pages;
-use crate::place::{Place, next_hits};
-use leak_blocks::Block;
+use crate::place::Place;
+use leak_blocks::{Block, Live};
 use leak_elf::Words;
 use leak_index::{Hits, Lookup};
 use std::marker::Model;
@@ -20,8 +23,7 @@ use std::marker::Model;
 pub struct Targets<'a, W: Words, L: Lookup> {
     words: &'a W,
     lookup: &'a L,
-    pages: Option<&'a Pages>,
-    place: Place<'a>,
+    course: Course<'a>,
     /// The second block that the last word led to.
     second: Option<usize>,
 }
@@ -29,9 +31,9 @@ pub struct Targets<'a, W: Words, L: Lookup> {
 impl<'a, W: Words, L: Lookup> Model for Targets<'a, W, L> {
     ghost Value = { List ℕ };
 
-    ghost view = { λ t.
-        let f = listed_word (W.word_at t.words.now) (option_copied t.pages) in
-        cons_option t.second (targets_of (L.index t.lookup.now) (words_ahead f t.place)) };
+    ghost view = { λ t. cons_option t.second (targets_ahead (W.word_at t.words.now) (L.index t.lookup.now) t.course) };
+
+    ghost invariant = { λ t. IsOver (L.index t.lookup.now) t.course };
 }
 
 impl<'a, W: Words, L: Lookup> Targets<'a, W, L> {
@@ -43,6 +45,26 @@ impl<'a, W: Words, L: Lookup> Targets<'a, W, L> {
         Targets::over(words, lookup, None, from, count)
     }
 
+    /// Over the same words as root words, without malloc's links to free chunks: as far as a block goes, a word that is
+    /// such a link leads nowhere. The live blocks are those of the lookup.
+    pub fn of_root_range(
+        words: &'a W,
+        lookup: &'a L,
+        live: &'a Live,
+        from: u64,
+        to: u64,
+    ) -> Targets<'a, W, L>
+        requires { (L.index lookup.now).blocks ≡ live.now.blocks }
+        ensures { result ≡ range_without_links (W.word_at words.now) (L.index lookup.now) from to }
+    {
+        Targets {
+            words,
+            lookup,
+            course: Course::Roots(live, from, to),
+            second: None,
+        }
+    }
+
     /// Over the words of the list.
     pub fn of_registers(words: &'a W, registers: &'a [u64], lookup: &'a L) -> Targets<'a, W, L>
         ensures { result ≡ targets_of (L.index lookup.now) registers.now }
@@ -50,13 +72,15 @@ impl<'a, W: Words, L: Lookup> Targets<'a, W, L> {
         Targets {
             words,
             lookup,
-            pages: None,
-            place: Place {
-                list: registers,
-                run: &[],
-                from: 0,
-                count: 0,
-            },
+            course: Course::Plain(
+                None,
+                Place {
+                    list: registers,
+                    run: &[],
+                    from: 0,
+                    count: 0,
+                },
+            ),
             second: None,
         }
     }
@@ -97,13 +121,15 @@ impl<'a, W: Words, L: Lookup> Targets<'a, W, L> {
         Targets {
             words,
             lookup,
-            pages,
-            place: Place {
-                list: &[],
-                run: &[],
-                from,
-                count,
-            },
+            course: Course::Plain(
+                pages,
+                Place {
+                    list: &[],
+                    run: &[],
+                    from,
+                    count,
+                },
+            ),
             second: None,
         }
     }
@@ -120,8 +146,8 @@ impl<'a, W: Words, L: Lookup> Iterator for Targets<'a, W, L> {
         if let Some(block) = self.second.take() {
             return Some(block);
         }
-        let (hits, place) = next_hits(self.words, self.lookup, self.pages, self.place);
-        self.place = place;
+        let (hits, course) = next_on(self.words, self.lookup, self.course);
+        self.course = course;
         match hits {
             Hits::Zero => None,
             Hits::One(block) => Some(block),

@@ -1,0 +1,19 @@
+-- What a scan has left, and what that leads to.
+use Rattle.std.specs.Prelude.{◌≡◌, ℕ, List, Option, ⊤}
+use Rattle.std.specs.Option.{option_copied}
+use Rattle.leak_index.specs.Hits.{Index}
+use Rattle.leak_scan.specs.declared.course.Course.{Course}
+use Rattle.leak_scan.specs.declared.course.Course.TheVariants.{Plain, Roots}
+use Rattle.leak_scan.specs.Targets.{targets_of}
+use Rattle.leak_scan.specs.Places.{listed_word, words_ahead}
+use Rattle.leak_scan.specs.RootWords.{range_without_links}
+
+-- where links are left out, the live blocks are those of the lookup
+abbrev pub IsOver : Index → Course → Type 0
+IsOver index (Plain pages place) = ⊤
+IsOver index (Roots live from to) = index.blocks ≡ live.now.blocks
+
+-- what the words that are left lead to
+abbrev pub targets_ahead : (ℕ → Option ℕ) → Index → Course → List ℕ
+targets_ahead word_at index (Plain pages place) = targets_of index (words_ahead (listed_word word_at (option_copied pages)) place)
+targets_ahead word_at index (Roots live from to) = range_without_links word_at index from to

@@ -1,0 +1,44 @@
+//! What a scan goes over, and how far it has come.
+ghost use Rattle.std.specs.Prelude.{◌≡◌, ◌++◌, []};
+ghost use Rattle.leak_index.specs.Hits.{hits_in};
+ghost use Rattle.leak_scan.specs.Courses.{IsOver, targets_ahead};
+
+use crate::pages::Pages;
+use crate::place::{Place, next_hits};
+use crate::root_words::next_held;
+use leak_blocks::Live;
+use leak_elf::Words;
+use leak_index::{Hits, Lookup};
+
+/// The words that are left.
+#[derive(Clone, Copy)]
+pub(crate) enum Course<'a> {
+    /// Words, on listed pages alone where there is a list.
+    Plain(Option<&'a Pages>, Place<'a>),
+    /// The words from an address on and before another, without links to free chunks past the live blocks.
+    Roots(&'a Live, u64, u64),
+}
+
+/// The blocks that the first word that leads to any leads to, and what is left after that word.
+pub(crate) fn next_on<'a, W: Words, L: Lookup>(
+    words: &'a W,
+    lookup: &L,
+    course: Course<'a>,
+) -> (Hits, Course<'a>)
+    requires { IsOver (L.index lookup.now) course }
+    ensures over { IsOver (L.index lookup.now) result.1 }
+    ensures split { let w = W.word_at words.now in let i = L.index lookup.now in
+        targets_ahead w i course.entry ≡ hits_in result.0 ++ targets_ahead w i result.1 }
+    ensures end { result.0 ≡ Hits.Zero → targets_ahead (W.word_at words.now) (L.index lookup.now) result.1 ≡ [] }
+{
+    match course {
+        Course::Plain(pages, place) => {
+            let (hits, place) = next_hits(words, lookup, pages, place);
+            (hits, Course::Plain(pages, place))
+        }
+        Course::Roots(live, from, to) => {
+            let (hits, from) = next_held(words, lookup, live, from, to);
+            (hits, Course::Roots(live, from, to))
+        }
+    }
+}
