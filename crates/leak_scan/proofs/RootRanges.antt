@@ -7,7 +7,7 @@ use Rattle.std.specs.Option.{option_map_or}
 use Rattle.std.proofs.lemmas.Grind.{flat_map-append}
 use Rattle.std.proofs.lemmas.List.{length-drop}
 use Rattle.leak_elf.specs.Fields.{number_at}
-use Rattle.leak_elf.specs.Words.{IsRun, places}
+use Rattle.leak_elf.specs.Words.{IsRun}
 use Rattle.leak_index.specs.declared.hits.Hits.{Hits}
 use Rattle.leak_index.specs.declared.hits.Hits.TheVariants.{Zero}
 use Rattle.leak_index.specs.Hits.{Index, hits_in, hits_of}

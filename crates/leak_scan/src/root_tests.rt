@@ -4,7 +4,7 @@ use crate::Targets;
 use crate::counted::Counted;
 use crate::tests::{listed, lives};
 use leak_elf::{Image, core_k};
-use leak_index::{Paged, Reading, Sorted};
+use leak_index::{Reading, Sorted};
 use std::alloc::Global;
 use std::test::Fail;
 
@@ -18,20 +18,22 @@ fn targets_with(
     core: &[u8],
     log: &str,
     range: (u64, u64),
-) -> Result<[Vec<usize>; 3], Fail> {
+) -> Result<(Vec<usize>, Vec<usize>, Vec<usize>), Fail> {
+    let (from, to) = range;
     let image = Image::read(alloc, core)?;
     let live = lives(alloc, log)?;
     let sorted = Sorted::new(&live, Reading::interior());
-    let plain = Targets::of_range(&image, &sorted, range.0, range.1);
-    let by_runs = Targets::of_root_range(&image, &sorted, &live, range.0, range.1);
+    let plain = listed(alloc, Targets::of_range(&image, &sorted, from, to))?;
+    let by_runs = listed(
+        alloc,
+        Targets::of_root_range(&image, &sorted, &live, from, to),
+    )?;
     let counted = Counted::new(&image);
-    let paged = Paged::new(alloc, &live, Reading::interior())?;
-    let by_words = Targets::of_root_range(&counted, &paged, &live, range.0, range.1);
-    Ok([
-        listed(alloc, plain)?,
-        listed(alloc, by_runs)?,
-        listed(alloc, by_words)?,
-    ])
+    let by_words = listed(
+        alloc,
+        Targets::of_root_range(&counted, &sorted, &live, from, to),
+    )?;
+    Ok((plain, by_runs, by_words))
 }
 
 #[test]
@@ -43,12 +45,12 @@ fn a_word_of_a_list_leads_nowhere(rt: HostRuntime) -> Result<(), Fail> {
         &[(0x100f8, 0x31), (0x10008, 0x10120), (0x10138, 0xfff8)],
     )?;
     for range in [(0x10000, 0x10100), (0x10008, 0x10010)] {
-        let [plain, by_runs, by_words] = targets_with(alloc, core.as_slice(), BLOCK, range)?;
+        let (plain, by_runs, by_words) = targets_with(alloc, core.as_slice(), BLOCK, range)?;
         assert_eq!(rt; plain.as_slice(), [0].as_slice());
         assert_eq!(rt; by_runs.len(), 0);
         assert_eq!(rt; by_words.len(), 0);
         // it leads to the block that begins there
-        let [plain, by_runs, by_words] = targets_with(alloc, core.as_slice(), NEIGHBORS, range)?;
+        let (plain, by_runs, by_words) = targets_with(alloc, core.as_slice(), NEIGHBORS, range)?;
         assert_eq!(rt; plain.as_slice(), [0, 1].as_slice());
         assert_eq!(rt; by_runs.as_slice(), [1].as_slice());
         assert_eq!(rt; by_words.as_slice(), [1].as_slice());
@@ -79,7 +81,7 @@ fn other_words_lead_as_ever(rt: HostRuntime) -> Result<(), Fail> {
         ((0x10028, 0x10100), 0, 0),
     ];
     for (range, with, without) in cases {
-        let [plain, by_runs, by_words] = targets_with(alloc, core.as_slice(), BLOCK, range)?;
+        let (plain, by_runs, by_words) = targets_with(alloc, core.as_slice(), BLOCK, range)?;
         assert_eq!(rt; plain.len(), with);
         assert_eq!(rt; by_runs.len(), without);
         assert_eq!(rt; by_words.len(), without);

@@ -1,5 +1,5 @@
 -- One more word.
-use Rattle.std.proofs.Common.{◌≡◌, ◌∙◌, ap, sym, subst, ℕ, List, Some, ◌+◌, arith}
+use Rattle.std.proofs.Common.{◌≡◌, ◌∙◌, sym, subst, ℕ, List, Some, ◌+◌, arith}
 use Rattle.leak_elf.specs.Words.{IsRun}
 use Rattle.leak_scan.proofs.RootRanges.{range_hit, range_passed, run_first, run_rest}
 use Rattle.leak_scan.proofs.root_words.first_held.Goals as goal

@@ -1,6 +1,5 @@
 -- What is skipped leads nowhere.
-use Rattle.std.proofs.Common.{◌≡◌, ◌∙◌, sym, ℕ, List, ◌+◌, ◌≤◌, ◌<◌, Some, arith}
-use Rattle.leak_scan.specs.RootWords.{range_without_links}
+use Rattle.std.proofs.Common.{◌∙◌, sym, ◌+◌, arith}
 use Rattle.leak_scan.proofs.RootRanges.{none_held, range_end, range_hit, range_later, range_none, range_passed}
 use Rattle.leak_scan.proofs.root_words.next_held.Goals as goal
 
