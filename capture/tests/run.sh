@@ -52,7 +52,7 @@ look plain.c
 verdict 'each line of plain.c that loses a block' \
     "$(grep -n 'LOSE(\|loses' "$kit/tests/plain.c" | grep -v strdup | cut -d : -f 1 | tr '\n' ' ')" \
     "$(sed -n 's/.*plain\.c:\([0-9]*\)$/\1/p' lines | sort -nu | grep -vx "$(grep -n strdup "$kit/tests/plain.c" | cut -d : -f 1)" | tr '\n' ' ')"
-verdict 'the function' work "$(awk '/plain\.c:/ { print $3 }' lines | sort -u)"
+verdict 'the function' work "$(awk '/plain\.c:/ { print $(NF - 1) }' lines | sort -u)"
 verdict 'a place in each line of the table' 0 "$(grep -c '\^ *$' lines)"
 mkdir -p awk
 for awk in gawk mawk original-awk busybox; do
