@@ -60,9 +60,12 @@ struct core read_core(struct file file)
     if (!holds(file, header->e_phoff, core.segment_count * sizeof(Elf64_Phdr)))
         fail(file.path, "the core is cut off");
     core.segments = (const void *)(file.bytes + header->e_phoff);
-    for (const Elf64_Phdr *p = core.segments; p < core.segments + core.segment_count; p++)
-        if (p->p_type == PT_NOTE && holds(file, p->p_offset, p->p_filesz))
+    for (const Elf64_Phdr *p = core.segments; p < core.segments + core.segment_count; p++) {
+        if ((p->p_type == PT_NOTE || p->p_type == PT_LOAD) && !holds(file, p->p_offset, p->p_filesz))
+            fail(file.path, "the core is cut off");
+        if (p->p_type == PT_NOTE)
             read_notes(&core, file, p->p_offset, p->p_offset + p->p_filesz);
+    }
     if (!core.part_count)
         fail(file.path, "no list of mapped files (NT_FILE)");
     qsort(core.parts, core.part_count, sizeof *core.parts, by_part);

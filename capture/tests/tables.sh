@@ -14,6 +14,9 @@ if [ "$dumps_core" ]; then
         "$([ "$(sed -n 's/.*; \([0-9]*\) are the program.*/\1/p' said)" -lt 20000000 ] && echo small)"
     "$kit/leak_log" "$core" <(head -c 3000 "table.$(cat pid)") > /dev/null 2>&1
     verdict 'a table that is cut off' 2 $?
+    head -c 100000 "$core" > cut.core
+    "$kit/leak_log" cut.core "table.$(cat pid)" 2>&1 > /dev/null | grep -q 'the core is cut off'
+    verdict 'a core that is cut off' 0 $?
     mv "table.$(cat pid)" crash.table && cp crash.table "table.$(cat pid)"
     rm -f core core.*
 else
