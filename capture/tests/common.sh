@@ -100,3 +100,11 @@ look() {
     verdict "$name${options:+ $options}" "$(expected "$kit/tests/$1")" "$(named "$work/$name.report")"
     rm -f "$work/$name.core" "$work/$name.kernel"
 }
+
+# fetch PORT: asks the server of that port a hundred times for a file.
+fetch() {
+    python3 -c 'import sys, time, urllib.request
+for _ in range(100):
+    try: urllib.request.urlopen("http://127.0.0.1:%s/x" % sys.argv[1]).read()
+    except OSError: time.sleep(0.05) # it is not there yet' "$1"
+}

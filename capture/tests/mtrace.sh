@@ -29,7 +29,6 @@ compare() {
     rm -f "$name.core"
 }
 say() { printf '%s\n' "$2" > "$1.in"; }
-fetch() { for _ in $(seq 100); do curl -s -o /dev/null "http://127.0.0.1:$1/x"; done; }
 have() { command -v "$1" > /dev/null; }
 mkdir -p www && head -c 20000 /dev/zero > www/x
 

@@ -15,7 +15,7 @@ if command -v nginx > /dev/null; then
     printf 'pid %s/nginx.pid; error_log %s/e.log; worker_processes 2;\nevents {}\nhttp { access_log off; server { listen 127.0.0.1:28181; root %s/www; } }\n' "$work" "$work" "$work" > n2.conf
     "$kit/leak_trace" nginx -c "$work/n2.conf"
     sleep 1
-    for _ in $(seq 50); do curl -s -o /dev/null http://127.0.0.1:28181/x; done
+    fetch 28181
     master=$(cat nginx.pid)
     started="$started $master"
     for worker in $(pgrep -P "$master"); do daemon "nginx-worker-$worker" "$worker"; done
