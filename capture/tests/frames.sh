@@ -15,6 +15,10 @@ callers_of() {
     process=$!
     started="$started $process"
     sleep 0.5
+    for _ in $(seq 100); do # gdb rests for long too while it reads what its child iconv says
+        [ "${prompt-}" ] && ! grep -qsF "$prompt" output || break
+        sleep 0.1
+    done
     settle $process
     dump $process "$work/$by" && grep '^@' "$by.log" | sed 's/ + 0x[0-9a-f]* / + /' | sort > "$by.callers"
     { kill -9 $process && wait $process; } 2> /dev/null
@@ -32,5 +36,5 @@ deep() {
 [ -x /usr/bin/perl ] && deep perl /usr/bin/perl -e '$|=1; my %h; $h{$_} = [1..5, "x" x $_] for 1..2000; $x = join ",", sort { $a <=> $b } map { s/7/8/gr } keys %h; <STDIN>'
 [ -x /usr/bin/gawk ] && deep gawk /usr/bin/gawk 'BEGIN { for (i = 0; i < 3000; i++) a[i "x"] = i * 2 "y"; n = asorti(a, b); getline x }'
 [ -x /usr/bin/sqlite3 ] && deep sqlite3 /usr/bin/sqlite3 -cmd 'create table t(a,b); with recursive c(x) as (select 1 union all select x+1 from c where x<9999) insert into t select x, hex(x) from c; create index i on t(b);' :memory:
-[ -x /usr/bin/gdb ] && deep gdb /usr/bin/gdb -nx -q
+[ -x /usr/bin/gdb ] && prompt='(gdb)' deep gdb /usr/bin/gdb -nx -q
 deep cxx ./cxx
