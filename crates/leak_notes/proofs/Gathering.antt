@@ -89,7 +89,7 @@ entries_from-whole e some h =
     ∙ ap (λ (b : Bool). e ∷ cond {A = List Entry} b [] (cutting n (following e))) h
     ∙ ap (λ (es : List Entry). e ∷ es) (cutting_enough n (length (following e).bytes) (following e) (omega arith) (omega arith))
 
-entries_from-cut : (e : Entry) → (e.bytes ≡ [] → ⊥) → is_cut e ≡ true → entries_from e ≡ e ∷ []
+pub entries_from-cut : (e : Entry) → (e.bytes ≡ [] → ⊥) → is_cut e ≡ true → entries_from e ≡ e ∷ []
 unfolding entries_from
 entries_from-cut e some h =
     let n = length e.bytes in

@@ -1,3 +1,4 @@
 pub mod Entry
 pub mod Threads
 pub mod Rows
+pub mod Sets

@@ -12,6 +12,7 @@
 mod entry;
 mod error;
 mod rows;
+mod sets;
 mod status;
 #[cfg(test)]
 mod tests;
@@ -23,4 +24,5 @@ mod words;
 
 pub use error::NoteError;
 pub use rows::worked_notes;
+pub use sets::{RegisterSet, register_sets};
 pub use threads::Threads;

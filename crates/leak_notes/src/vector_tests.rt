@@ -1,4 +1,4 @@
-use crate::{NoteError, Threads};
+use crate::{NoteError, RegisterSet, Threads, register_sets};
 use leak_elf::{Image, core_k};
 use std::alloc::Global;
 use std::test::Fail;
@@ -145,5 +145,15 @@ fn an_entry_of_another_name_is_skipped(rt: HostRuntime) -> Result<(), Fail> {
     let image = Image::read(rt.alloc(), core.as_slice())?;
     let threads = Threads::read(rt.alloc(), &image)?;
     assert_eq!(rt; threads.registers(), [0u64; 27].as_slice());
+    Ok(())
+}
+
+#[test]
+fn sets_are_in_the_order_of_the_entries(rt: HostRuntime) -> Result<(), Fail> {
+    let core = with_vectors(rt.alloc())?;
+    let image = Image::read(rt.alloc(), core.as_slice())?;
+    let sets = register_sets(rt.alloc(), &image)?;
+    let both = [RegisterSet::Status, RegisterSet::Vector];
+    assert_eq!(rt; sets.as_slice(), both.as_slice());
     Ok(())
 }

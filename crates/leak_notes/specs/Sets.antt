@@ -1,0 +1,13 @@
+-- Of which kind of entry register words are.
+use Rattle.std.specs.Prelude.{List, filter_map, if◌then◌else◌, Option, Some, None}
+use Rattle.leak_notes.specs.declared.sets.RegisterSet.{RegisterSet}
+use Rattle.leak_notes.specs.declared.sets.RegisterSet.TheVariants.{Status, Vector}
+use Rattle.leak_notes.specs.Entry.{Entry, is_cut, is_status, is_vector}
+
+-- the set of an entry, if it has one
+abbrev pub set_of : Entry → Option RegisterSet
+set_of e = if is_cut e then None else (if is_status e then Some Status else (if is_vector e then Some Vector else None))
+
+-- the sets of entries, in their order
+abbrev pub sets_of : List Entry → List RegisterSet
+sets_of es = filter_map set_of es
