@@ -24,6 +24,7 @@ mod warning;
 
 pub use head::{Head, Two};
 pub use laws::{live_have_callers, rows_are_sums, worked_reports, worked_warnings};
+pub use lines::caller_text;
 pub use output::{WriteFault, write};
 pub use report::text;
 pub use signs::Signs;

@@ -2,3 +2,4 @@ pub mod Asked
 pub mod Leading
 pub mod Chains
 pub mod Entries
+pub mod Text

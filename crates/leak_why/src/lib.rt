@@ -15,6 +15,7 @@ mod chain;
 mod finding;
 mod found;
 mod spreading;
+mod telling;
 #[cfg(test)]
 mod tests;
 mod tracing;
@@ -22,3 +23,4 @@ mod tracing;
 pub use asked::block_at;
 pub use asking::why;
 pub use chain::{Chain, Link, RootPlace, RootWord};
+pub use telling::text;

@@ -1,11 +1,15 @@
-use crate::{Chain, Link, RootPlace, RootWord, block_at, why};
-use leak_blocks::{Live, SmallSpans, replay};
+ghost use Rattle.std.specs.Prelude.{IsTrue};
+ghost use Rattle.leak_report.specs.Totals.{HaveCallersIn};
+
+use crate::{Chain, Link, RootPlace, RootWord, block_at, text, why};
+use leak_blocks::{Block, Live, SmallSpans, replay};
 use leak_elf::{Image, core_k};
 use leak_index::{Reading, Sorted};
 use leak_mtrace::Log;
-use leak_notes::Threads;
+use leak_notes::{RegisterSet, Threads, register_sets};
 use leak_roots::Roots;
 use std::alloc::Global;
+use std::process::Abort;
 use std::test::Fail;
 
 /// The live blocks of a log.
@@ -116,6 +120,91 @@ fn addresses_ask_for_blocks(rt: HostRuntime) -> Result<(), Fail> {
     ];
     for (address, block) in cases {
         assert_eq!(rt; block_at(&live, address), block, "{address}");
+    }
+    Ok(())
+}
+
+/// Whether the callers of the blocks are ranges of the log.
+fn have_callers_in(blocks: &[Block], log: &[u8]) -> bool
+    ensures { IsTrue result → HaveCallersIn log.now blocks.now }
+{
+    blocks.iter().all(|block| block.caller.0 <= block.caller.1 && block.caller.1 <= log.len())
+}
+
+/// The text of a block of a log with the chain.
+fn told(
+    rt: &impl Abort,
+    alloc: Global,
+    log: &str,
+    block: usize,
+    chain: &Option<Chain>,
+    sets: &[RegisterSet],
+) -> Result<Vec<u8>, Fail> {
+    let live = lives(alloc, log)?;
+    assert!(rt; have_callers_in(live.blocks(), log.as_bytes()));
+    Ok(text(alloc, &live, block, chain, sets, log.as_bytes())?)
+}
+
+const TWO: &str = "@ ./a.out:[0x401136] + 0x10100 0x20\n+ 0x10200 0x10\n";
+
+#[test]
+fn a_chain_is_told_from_its_root(rt: HostRuntime) -> Result<(), Fail> {
+    let mut core = core_k(rt.alloc(), &[(0x10118, 0x10200)])?;
+    for (place, byte) in core.iter_mut().skip(348).zip(0x10100u64.to_le_bytes()) {
+        *place = byte;
+    }
+    let image = Image::read(rt.alloc(), core.as_slice())?;
+    let sets = register_sets(rt.alloc(), &image)?;
+    let chain = answer(rt.alloc(), core.as_slice(), TWO, 1)?;
+    let shown = told(&rt, rt.alloc(), TWO, 1, &chain, sets.as_slice())?;
+    assert_eq!(rt;
+        shown.as_slice(),
+        b"asked 0x10200 16 2 ?\n\
+          root rbx of thread 1 holds 0x10100\n\
+          block 0x10100 32 1 ./a.out:[0x401136]\n\
+          word 0x10118 holds 0x10200\n\
+          block 0x10200 16 2 ?\n"
+            .as_slice()
+    );
+    let shown = told(&rt, rt.alloc(), TWO, 1, &None, sets.as_slice())?;
+    assert_eq!(rt;
+        shown.as_slice(),
+        b"asked 0x10200 16 2 ?\nleaked\n".as_slice()
+    );
+    Ok(())
+}
+
+#[test]
+fn places_of_roots_have_names(rt: HostRuntime) -> Result<(), Fail> {
+    let sets = [
+        RegisterSet::Status,
+        RegisterSet::Vector,
+        RegisterSet::Status,
+    ];
+    let cases = [
+        (RootPlace::Address(0x10008), "0x10008"),
+        (RootPlace::Register(0), "r15 of thread 1"),
+        (RootPlace::Register(26), "gs of thread 1"),
+        (RootPlace::Register(27), "xmm0 low of thread 1"),
+        (RootPlace::Register(30), "xmm1 high of thread 1"),
+        (RootPlace::Register(58), "xmm15 high of thread 1"),
+        (RootPlace::Register(78), "rsp of thread 2"),
+        (RootPlace::Register(86), "? of thread 2"),
+    ];
+    for (place, name) in cases {
+        let root = RootWord {
+            place,
+            word: 0x10120,
+        };
+        let chain = Some(Chain {
+            links: Vec::new(rt.alloc()),
+            root,
+        });
+        let shown = told(&rt, rt.alloc(), "+ 0x10100 0x20\n", 0, &chain, &sets)?;
+        let line = format!(in rt.alloc();
+            "asked 0x10100 32 1 ?\nroot {name} holds 0x10120\nblock 0x10100 32 1 ?\n"
+        )?;
+        assert_eq!(rt; shown.as_slice(), line.as_bytes(), "{name}");
     }
     Ok(())
 }
