@@ -3,4 +3,5 @@ pub mod RunLemmas
 pub mod SearchLemmas
 pub mod SizeLemmas
 pub mod TwoLemmas
+pub mod HoldingLemmas
 pub mod LawLemmas

@@ -1,3 +1,4 @@
+pub mod Holding
 pub mod Inputs
 pub mod Reading
 pub mod Reads

@@ -6,7 +6,7 @@
 //! Where an input is not accepted, the answer is the first refusal by the order of [`FindError`].
 //!
 //! [`find_alone`] searches one core on the caller's thread, [`find_one`] by worker threads, under the same promise, and
-//! [`find_two`] searches a later core from what an earlier one says. [`run`] does the same from readers to a writer. What a
+//! [`find_two`] searches a later core from what an earlier one says. [`find_why`] tells why a block is held. [`run`] does the same from readers to a writer. What a
 //! leak, a root and a chain are is said in `specs/Search.antt` and, for two cores, in `specs/SearchTwo.antt`.
 //!
 //! An allocation of 32 bytes, and a core in which no word leads to it:
@@ -29,6 +29,7 @@ mod alone;
 mod error;
 mod fault;
 mod found;
+mod holding;
 mod inputs;
 mod laws;
 mod one_core;
@@ -41,6 +42,7 @@ pub use alone::find_alone;
 pub use error::FindError;
 pub use fault::{ReadFault, RunFault};
 pub use found::Found;
+pub use holding::{Why, WhyError, find_why};
 pub use laws::leaked_stay_leaked;
 pub use leak_index::{Reading, ReadingError};
 pub use leak_pool::{Gate, Open, Plan, PlanError};
