@@ -9,5 +9,5 @@ use leak_program::start;
 use std::process::ExitCode;
 
 fn main(rt: HostRuntime) -> ExitCode {
-    start(&rt)
+    start(&rt, &mut rt.stderr())
 }

@@ -5,3 +5,4 @@ pub mod SizeLemmas
 pub mod TwoLemmas
 pub mod HoldingLemmas
 pub mod LawLemmas
+pub mod SignLemmas

@@ -1,10 +1,12 @@
 -- Readers by their number, and inputs read one after the other.
-use Rattle.std.proofs.Common.{◌≡◌, ◌≢◌, ℕ, zero, suc, ◌+◌, ◌<◌, ◌≤◌, List, [], ◌∷◌, ◌++◌, length, Option, refl, sym, subst, ap, ◌∙◌, arith, map, slice_index_or, slice_set}
+use Rattle.std.proofs.Common.{◌≡◌, ◌≢◌, ℕ, zero, suc, ◌+◌, ◌<◌, ◌≤◌, List, [], ◌∷◌, ◌++◌, length, Option, refl, sym, subst, ap, ◌∙◌, arith, map, slice_index_or, slice_set, take, Result, Ok, Err, IfErr}
 use Rattle.std.specs.Prelude.{if◌then◌else◌, nat_lt, Bool, true, false}
 use mathlib.Core.Logic.{dite}
 use native.Mathlib.Decide.{ℕ_discrete}
-use lib.Dec.{ltb}
-use mir.Val.{bool_byte}
+use Rattle.std.specs.Io.KnownBytes.{Appends}
+use Rattle.std.specs.Result.{OnOk}
+use Rattle.std.proofs.Math.Seq.{take-length}
+use Rattle.leak_report.specs.declared.output.WriteFault.{WriteFault}
 use Rattle.leak_index.specs.Readings.{listed_by}
 use Rattle.leak_find.specs.declared.error.FindError.{FindError}
 use Rattle.leak_find.specs.declared.error.FindError.TheVariants.{NoMemory}
@@ -18,6 +20,7 @@ use Rattle.leak_find.specs.Reading.{IsWholeInput, IsStopped}
 use Rattle.leak_request.specs.Requests.{file_count}
 use Rattle.leak_find.specs.Run.{left_in, input_at, limit_at, AreInputs, Finds, IsFaultOf, HasFound, IsReaderFault, IsFindFault, IsSearchFault}
 use Rattle.leak_find.specs.Search.{FindsOne}
+use Rattle.leak_find.specs.Signs.{AreSigns}
 use Rattle.leak_find.specs.SearchTwo.{FindsTwo}
 
 -- ---- readers by their number
@@ -115,14 +118,16 @@ of_two two n is h = subst (λ (b : Bool). n ≤ file_count b) (sym is) h
 
 pub found_one : (o : Options) (before after : List (Option (List ℕ))) (core log core_read log_read : List ℕ) (found : Found) → o.two ≡ false
     → SoFar o before after (core ∷ log ∷ []) → core_read ≡ core → log_read ≡ log
-    → FindsOne core_read log_read (listed_by o.reading) o.skip o.plan.workers found → HasFound o before after found
-found_one o before after core log core_read log_read found one so_far core_is log_is finds = record {
+    → FindsOne core_read log_read (listed_by o.reading) o.skip o.plan.workers found → AreSigns (core_read ∷ log_read ∷ []) found.signs.items → HasFound o before after found
+found_one o before after core log core_read log_read found one so_far core_is log_is finds signs = record {
   inputs = core ∷ log ∷ [];
   count = rw (one) refl;
   read = so_far.read;
   finds = subst (λ (b : Bool). Finds b o (core ∷ log ∷ []) found) (sym one)
       (subst (λ (l : List ℕ). FindsOne core l (listed_by o.reading) o.skip o.plan.workers found) log_is
       (subst (λ (c : List ℕ). FindsOne c log_read (listed_by o.reading) o.skip o.plan.workers found) core_is finds));
+  signs = subst (λ (l : List ℕ). AreSigns (core ∷ l ∷ []) found.signs.items) log_is
+      (subst (λ (c : List ℕ). AreSigns (c ∷ log_read ∷ []) found.signs.items) core_is signs);
 }
 
 pub fault_one : (o : Options) (before after : List (Option (List ℕ))) (core log core_read log_read : List ℕ) (e : FindError) → o.two ≡ false
@@ -138,8 +143,9 @@ fault_one o before after core log core_read log_read e one so_far core_is log_is
 
 module _ (o : Options) (before after : List (Option (List ℕ))) (core1 log1 core2 log2 core1_read log1_read core2_read log2_read : List ℕ) (two : o.two ≡ true)
     (so_far : SoFar o before after (core1 ∷ log1 ∷ core2 ∷ log2 ∷ [])) (core1_is : core1_read ≡ core1) (log1_is : log1_read ≡ log1) (core2_is : core2_read ≡ core2) (log2_is : log2_read ≡ log2) where
-  pub found_two : (found : Found) → FindsTwo core1_read log1_read core2_read log2_read (listed_by o.reading) o.skip o.plan.workers found → HasFound o before after found
-  found_two found finds = record {
+  pub found_two : (found : Found) → FindsTwo core1_read log1_read core2_read log2_read (listed_by o.reading) o.skip o.plan.workers found
+      → AreSigns (core1_read ∷ log1_read ∷ core2_read ∷ log2_read ∷ []) found.signs.items → HasFound o before after found
+  found_two found finds signs = record {
     inputs = core1 ∷ log1 ∷ core2 ∷ log2 ∷ [];
     count = rw (two) refl;
     read = so_far.read;
@@ -148,6 +154,10 @@ module _ (o : Options) (before after : List (Option (List ℕ))) (core1 log1 cor
         (subst (λ (c : List ℕ). FindsTwo core1 log1 c log2_read (listed_by o.reading) o.skip o.plan.workers found) core2_is
         (subst (λ (l : List ℕ). FindsTwo core1 l core2_read log2_read (listed_by o.reading) o.skip o.plan.workers found) log1_is
         (subst (λ (c : List ℕ). FindsTwo c log1_read core2_read log2_read (listed_by o.reading) o.skip o.plan.workers found) core1_is finds))));
+    signs = subst (λ (l : List ℕ). AreSigns (core1 ∷ log1 ∷ core2 ∷ l ∷ []) found.signs.items) log2_is
+        (subst (λ (c : List ℕ). AreSigns (core1 ∷ log1 ∷ c ∷ log2_read ∷ []) found.signs.items) core2_is
+        (subst (λ (l : List ℕ). AreSigns (core1 ∷ l ∷ core2_read ∷ log2_read ∷ []) found.signs.items) log1_is
+        (subst (λ (c : List ℕ). AreSigns (c ∷ log1_read ∷ core2_read ∷ log2_read ∷ []) found.signs.items) core1_is signs)));
   }
 
   pub fault_two : (e : FindError) → (e ≢ NoMemory → IsFaultOfTwo core1_read log1_read core2_read log2_read e) → IsFindFault o before after e
@@ -162,11 +172,10 @@ module _ (o : Options) (before after : List (Option (List ℕ))) (core1 log1 cor
         (subst (λ (c : List ℕ). IsFaultOfTwo c log1_read core2_read log2_read e) core1_is (fault other)))));
   }
 
--- ---- the status
+-- ---- the warnings
 
-as_byte : (b : Bool) → bool_byte b ≡ (if b then 1 else 0)
-as_byte true = refl
-as_byte false = refl
-
-pub status_is : (leaked : ℕ) (status : ℕ) → status ≡ bool_byte (ltb 0 leaked) → status ≡ (if nat_lt 0 leaked then 1 else 0)
-status_is leaked status is = is ∙ as_byte (ltb 0 leaked)
+-- a writer that was given a text has it, or a first part of it
+pub first_part : (result : Result (Unit {0}) WriteFault) (heard hears : Option (List ℕ)) (text : List ℕ) → OnOk result (Appends heard hears text)
+    → IfErr result (λ f. Appends heard hears (take f.written text)) → (n : ℕ) × Appends heard hears (take n text)
+first_part (Ok _) heard hears text whole cut = (length text, subst (λ (t : List ℕ). Appends heard hears t) (sym (take-length text)) whole)
+first_part (Err f) heard hears text whole cut = (f.written, cut)

@@ -4,5 +4,6 @@ pub mod Reading
 pub mod Reads
 pub mod Run
 pub mod Search
+pub mod Signs
 pub mod SearchTwo
 pub mod Laws

@@ -1,5 +1,5 @@
 -- What a run does to its readers and its writer, where these tell their bytes.
-use Rattle.std.specs.Prelude.{◌≡◌, ◌≢◌, ℕ, ◌+◌, ◌<◌, ◌≤◌, ◌%◌, ◌==◌, Bool, true, false, List, [], length, Option, None, slice_index_or, take, nat_lt, if◌then◌else◌}
+use Rattle.std.specs.Prelude.{◌≡◌, ◌≢◌, ℕ, ◌+◌, ◌<◌, ◌≤◌, ◌%◌, ◌==◌, Bool, true, false, ◌&&◌, List, [], length, map, Option, None, slice_index_or, take, nat_lt, if◌then◌else◌}
 use Rattle.std.specs.Io.KnownBytes.{Appends, Keeps}
 use Rattle.leak_index.specs.Readings.{listed_by}
 use Rattle.leak_report.specs.declared.output.WriteFault.{WriteFault}
@@ -15,6 +15,9 @@ use Rattle.leak_find.specs.Reading.{IsWholeInput, IsStopped}
 use Rattle.leak_request.specs.Requests.{file_count}
 use Rattle.leak_find.specs.Search.{FindsOne}
 use Rattle.leak_find.specs.SearchTwo.{FindsTwo}
+use Rattle.leak_find.specs.Signs.{AreSigns}
+use Rattle.leak_report.specs.declared.signs.Signs.{Signs}
+use Rattle.leak_report.specs.Warnings.{warnings_of}
 
 -- the bytes that the reader with the number, from 0, has left
 abbrev pub left_in : List (Option (List ℕ)) → ℕ → Option (List ℕ)
@@ -49,13 +52,29 @@ pub record HasFound (o : Options) (before after : List (Option (List ℕ))) (fou
   pub count : length inputs ≡ file_count o.two
   pub read : AreInputs o before after inputs
   pub finds : Finds o.two o inputs found
+  pub signs : AreSigns inputs found.signs.items
 
--- What was written is the report of what the readers held, and nothing else.
-pub record Runs (o : Options) (before after : List (Option (List ℕ))) (held holds : Option (List ℕ)) (status : ℕ) : Type 0 where
+-- the signs that count: of another heap than glibc's no misfit does
+abbrev pub signs_that_count : Bool → Signs → Signs
+signs_that_count other_heap s = record s { misfits = if other_heap then 0 else s.misfits }
+
+-- the warnings of what was found
+abbrev pub warnings_by : Options → List Signs → List ℕ
+warnings_by o signs = warnings_of (map (signs_that_count o.other_heap) signs)
+
+-- 3 where a warning counts, else whether something leaked
+abbrev pub status_by : Bool → ℕ → List ℕ → ℕ
+status_by strict leaked warnings = if strict && nat_lt 0 (length warnings) then 3 else (if nat_lt 0 leaked then 1 else 0)
+
+-- What was written is the report of what the readers held, and nothing else; and to the second writer, of the warnings,
+-- all or a first part.
+pub record Runs (o : Options) (before after : List (Option (List ℕ))) (held holds heard hears : Option (List ℕ)) (status : ℕ) : Type 0 where
   pub found : Found
   pub has_found : HasFound o before after found
   pub written : Appends held holds found.report.items
-  pub status_is : status ≡ (if nat_lt 0 found.leaked then 1 else 0)
+  pub taken : ℕ
+  pub warned : Appends heard hears (take taken (warnings_by o found.signs.items))
+  pub status_is : status ≡ status_by o.strict found.leaked (warnings_by o found.signs.items)
 
 -- the reader with the number, from 0, was not read to its end
 abbrev pub IsReaderFault : List (Option (List ℕ)) → List (Option (List ℕ)) → ℕ → ℕ → RunFault → Type 0

@@ -1,14 +1,16 @@
 //! The search of one core on the caller's thread.
 
-ghost use Rattle.std.specs.Prelude.{◌≢◌, IfOk, IfErr};
+ghost use Rattle.std.specs.Prelude.{◌≢◌, [], ◌∷◌, IfOk, IfErr};
 ghost use Rattle.leak_index.specs.Readings.{listed_by};
 ghost use Rattle.leak_find.specs.Inputs.{IsFaultOfOne};
 ghost use Rattle.leak_find.specs.Search.{FindsOne};
+ghost use Rattle.leak_find.specs.Signs.{AreSigns};
 
 use crate::error::FindError;
 use crate::found::Found;
 use crate::inputs::read_input;
-use crate::reporting::{head_of, report_of};
+use crate::reporting::{Aside, head_of, report_of};
+use crate::signing::signs_of_one;
 use leak_index::{Reading, Sorted};
 use leak_pool::mark_alone;
 use leak_roots::{Roots, Skip};
@@ -25,9 +27,11 @@ pub fn find_alone(
     skip: Skip,
 ) -> Result<Found, FindError>
     ensures ok { IfOk result (FindsOne core.now log.now (listed_by reading) skip 1) }
+    ensures signs { IfOk result (λ found. AreSigns (core.now ∷ log.now ∷ []) found.signs.items) }
     ensures refused { IfErr result (λ e. e ≢ FindError.NoMemory → IsFaultOfOne core.now log.now e) }
 {
     let input = read_input(alloc, 1, skip, core, log)?;
+    let signs = signs_of_one(alloc, &input)?;
     let roots = Roots::find(
         alloc,
         &input.image,
@@ -38,5 +42,6 @@ pub fn find_alone(
     let lookup = Sorted::new(&input.live, reading);
     let marked = mark_alone(alloc, &input.image, &lookup, &roots, &input.live)?;
     let head = head_of(&input, &roots, None);
-    report_of(alloc, &input, &head, &lookup, log, marked)
+    let aside = Aside { head, signs };
+    report_of(alloc, &input, &lookup, log, marked, aside)
 }

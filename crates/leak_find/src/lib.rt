@@ -36,6 +36,7 @@ mod one_core;
 mod readers;
 mod reporting;
 mod running;
+mod signing;
 mod two_cores;
 
 pub use alone::find_alone;
@@ -46,7 +47,7 @@ pub use holding::{Why, WhyError, find_why};
 pub use laws::leaked_stay_leaked;
 pub use leak_index::{Reading, ReadingError};
 pub use leak_pool::{Gate, Open, Plan, PlanError};
-pub use leak_report::{WriteFault, write};
+pub use leak_report::{Signs, WriteFault, warnings, write};
 pub use leak_request::{
     CORE_LIMIT, DisplaceFault, LOG_LIMIT, Options, Request, UsageFault, read_displace, request,
 };

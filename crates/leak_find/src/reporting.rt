@@ -9,10 +9,19 @@ use crate::found::Found;
 use crate::inputs::Input;
 use leak_index::Lookup;
 use leak_pool::Marked;
-use leak_report::{Head, Two, text};
+use leak_report::{Head, Signs, Two, text};
 use leak_roots::Roots;
 use leak_scan::heads;
 use std::alloc::Global;
+
+/// What a search tells besides the marks of its last core.
+#[derive(Drop)]
+pub(crate) struct Aside {
+    /// The numbers of the report's first lines.
+    pub head: Head,
+    /// What is odd about each input.
+    pub signs: Vec<Signs>,
+}
 
 /// The numbers of the report's first lines, of an input and its root words.
 pub(crate) fn head_of(input: &Input, roots: &Roots, two: Option<Two>) -> Head
@@ -36,26 +45,28 @@ pub(crate) fn head_of(input: &Input, roots: &Roots, two: Option<Two>) -> Head
 pub(crate) fn report_of<L: Lookup>(
     alloc: Global,
     input: &Input,
-    head: &Head,
     lookup: &L,
     log: &[u8],
     marked: Marked,
+    aside: Aside,
 ) -> Result<Found, FindError>
     requires one_each { length marked.set.items ≡ length input.now.live.blocks }
     requires same_blocks { (L.index lookup.now).blocks ≡ input.now.live.blocks }
     requires in_log { HaveCallersIn log.now input.now.live.blocks }
-    ensures report { IfOk result (λ found. found.report.items ≡ text_with head.now input.now (L.index lookup.now) marked.set.items log.now) }
+    ensures report { IfOk result (λ found. found.report.items ≡ text_with aside.head input.now (L.index lookup.now) marked.set.items log.now) }
     ensures leaked { IfOk result (λ found. found.leaked ≡ length (leaked_in marked.set.items input.now.live.blocks)) }
     ensures claims { IfOk result (λ found. found.claims ≡ marked.claims) }
+    ensures signs { IfOk result (λ found. found.signs.items ≡ aside.signs.items) }
     ensures memory { IfErr result (λ e. e ≡ FindError.NoMemory) }
 {
     let set = marked.set.as_slice();
     let heads = heads(alloc, &input.image, lookup, &input.live, set)?;
-    let report = text(alloc, head, &input.live, set, heads.as_slice(), log)?;
+    let report = text(alloc, &aside.head, &input.live, set, heads.as_slice(), log)?;
     Ok(Found {
         report,
         leaked: count_clear(set),
         claims: marked.claims,
+        signs: aside.signs,
     })
 }
 

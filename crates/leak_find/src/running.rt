@@ -1,19 +1,21 @@
 //! A whole run: the inputs are read, the search is made, the report is written.
 
-ghost use Rattle.std.specs.Prelude.{◌≡◌, ◌≢◌, ◌<◌, ◌≤◌, ◌+◌, ◌^◌, ℕ, length, map, IfOk, IfErr, IsTrue, IsFalse, true, false};
+ghost use Rattle.std.specs.Prelude.{◌≡◌, ◌≢◌, ◌<◌, ◌≤◌, ◌+◌, ◌^◌, ℕ, length, map, IfOk, IfErr, IsTrue, IsFalse, true, false, take, string_bytes};
 ghost use Rattle.leak_find.specs.Reading.{IsWholeInput};
 ghost use Rattle.leak_request.specs.Requests.{file_count};
-ghost use Rattle.leak_find.specs.Run.{left_in, IsReaderFault, HasFound, IsSearchFault, Runs, IsRunFault};
+ghost use Rattle.std.specs.Io.KnownBytes.{Appends, Keeps};
+ghost use Rattle.leak_find.specs.Run.{signs_that_count, status_by, warnings_by, left_in, IsReaderFault, HasFound, IsSearchFault, Runs, IsRunFault};
 
+use crate::error::FindError;
 use crate::fault::RunFault;
 use crate::found::Found;
 use crate::one_core::find_one;
 use crate::readers::read_all;
 use crate::two_cores::find_two;
 use leak_pool::Open;
-use leak_report::write;
+use leak_report::{Signs, warnings, write};
 use leak_request::Options;
-use std::alloc::Global;
+use std::alloc::{AllocError, Global};
 use std::io::{Read, Write};
 use std::thread::Threads;
 
@@ -127,29 +129,73 @@ fn search<T: Threads + Sync, R: Read>(
     }
 }
 
-/// Reads a core and its log, or two of each (core 1, log 1, core 2, log 2), searches them, and writes the report: 0 where
-/// nothing leaked, and 1 otherwise.
+/// The signs that count by the options.
+fn heeded(alloc: Global, other_heap: bool, signs: &[Signs]) -> Result<Vec<Signs>, AllocError>
+    ensures { IfOk result (λ heeded. heeded.items ≡ map (signs_that_count other_heap) signs.now) }
+{
+    // A list that is collected may do without the room that it asks for first.
+    let mut heeded = Vec::with_capacity(alloc, signs.len())?;
+    for input in signs {
+        let misfits = if other_heap { 0 } else { input.misfits };
+        heeded.push(Signs { misfits, ..*input })?;
+    }
+    Ok(heeded)
+}
+
+/// The warnings of a search that found these signs.
+fn warnings_by(alloc: Global, options: &Options, signs: &[Signs]) -> Result<String, AllocError>
+    ensures { IfOk result (λ out. string_bytes out ≡ warnings_by options.now signs.now) }
+{
+    let heeded = heeded(alloc, options.other_heap, signs)?;
+    warnings(alloc, heeded.as_slice())
+}
+
+/// The exit status of a search that succeeded.
+fn status_of(strict: bool, leaked: u64, warnings: &str) -> u8
+    ensures { result ≡ status_by strict leaked warnings.now }
+{
+    if strict && !warnings.is_empty() {
+        3
+    } else if leaked > 0 {
+        1
+    } else {
+        0
+    }
+}
+
+/// Reads a core and its log, or two of each (core 1, log 1, core 2, log 2), searches them, writes the report to the
+/// first writer and then the warnings to the second: 0 where nothing leaked, and 1 otherwise; where the options are
+/// strict and there is a warning, 3.
 ///
-/// All inputs are read in order before the search is made, and the report is made before any of it is written. After a
-/// refusal the readers stand where the reads left them.
-pub fn run<T: Threads + Sync, R: Read, W: Write>(
+/// All inputs are read in order before the search is made, and report and warnings are made before anything is written.
+/// After a refusal the readers stand where the reads left them, and the second writer has nothing. Where the second writer
+/// fails, it has a first part of the warnings, and the status is the same.
+pub fn run<T: Threads + Sync, R: Read, W: Write, V: Write>(
     rt: &T,
     alloc: Global,
     readers: &mut [R],
     options: &Options,
     writer: &mut W,
+    warner: &mut V,
 ) -> Result<u8, RunFault>
     requires { length readers.old ≡ file_count options.now.two }
     ensures ok { IfOk result (Runs options.now
         (map R.remaining readers.old) (map R.remaining readers.new)
-        (W.contents writer.old) (W.contents writer.new)) }
+        (W.contents writer.old) (W.contents writer.new)
+        (V.contents warner.old) (V.contents warner.new)) }
     ensures refused { IfErr result (IsRunFault options.now
         (map R.remaining readers.old) (map R.remaining readers.new)
         (W.contents writer.old) (W.contents writer.new)) }
+    ensures silent { IfErr result (λ _. Keeps (V.contents warner.old) (V.contents warner.new)) }
 {
     let found = search(rt, alloc, readers, options)?;
-    match write(&found.report, writer) {
-        Ok(()) => Ok(u8::from(found.leaked > 0)),
-        Err(fault) => Err(RunFault::Write(fault)),
+    let Ok(warnings) = warnings_by(alloc, options, found.signs.as_slice()) else {
+        return Err(RunFault::Find(FindError::NoMemory));
+    };
+    if let Err(fault) = write(&found.report, writer) {
+        return Err(RunFault::Write(fault));
     }
+    // The report stands, whatever becomes of the warnings.
+    let _taken = write(warnings.as_bytes(), warner);
+    Ok(status_of(options.strict, found.leaked, warnings.as_str()))
 }

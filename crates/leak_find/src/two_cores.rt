@@ -1,6 +1,6 @@
 //! The search of two cores of one process by worker threads.
 
-ghost use Rattle.std.specs.Prelude.{◌≡◌, ◌≢◌, ◌<◌, ◌^◌, ℕ, List, length, IfOk, IfErr};
+ghost use Rattle.std.specs.Prelude.{◌≡◌, ◌≢◌, ◌<◌, ◌^◌, ℕ, List, [], ◌∷◌, length, IfOk, IfErr};
 ghost use Rattle.std.specs.List.Sorted.{IsStrictlyIncreasing};
 ghost use Rattle.leak_marks.specs.Lists.{Has};
 ghost use Rattle.leak_mtrace.specs.declared.line.Line.{Line};
@@ -9,12 +9,14 @@ ghost use Rattle.leak_blocks.specs.Live.{live_of};
 ghost use Rattle.leak_blocks.specs.Span.{AreAddressed, AreDisjoint};
 ghost use Rattle.leak_index.specs.Readings.{listed_by};
 ghost use Rattle.leak_find.specs.Inputs.{IsInput, ArePaired, AreReadTwo, IsFaultOfTwo};
+ghost use Rattle.leak_find.specs.Signs.{AreSigns};
 ghost use Rattle.leak_find.specs.SearchTwo.{IsMarkedEarlier, IsBetween, FindsTwo, size_of};
 
 use crate::error::FindError;
 use crate::found::Found;
 use crate::inputs::{Input, read_input};
-use crate::reporting::{head_of, report_of};
+use crate::reporting::{Aside, head_of, report_of};
+use crate::signing::signs_of_two;
 use leak_blocks::Block;
 use leak_dirty::{Carry, absent_are_fresh, carry, differing, retrace, same_words_lead_within};
 use leak_index::{Paged, Reading};
@@ -176,12 +178,14 @@ pub fn find_two<R: Threads + Sync, G: Gate + Sync>(
     gate: &G,
 ) -> Result<Found, FindError>
     ensures ok { IfOk result (FindsTwo core1.now log1.now core2.now log2.now (listed_by reading) skip plan.workers) }
+    ensures signs { IfOk result (λ found. AreSigns (core1.now ∷ log1.now ∷ core2.now ∷ log2.now ∷ []) found.signs.items) }
     ensures refused { IfErr result (λ e. e ≢ FindError.NoMemory → IsFaultOfTwo core1.now log1.now core2.now log2.now e) }
 {
     // (a law, for the proof: words on pages that are the same need no second scan)
     same_words_lead_within();
     let inputs = read_two(alloc, skip, core1, log1, core2, log2)?;
     let between = compare(rt, alloc, &inputs, reading, plan, gate)?;
+    let signs = signs_of_two(alloc, &inputs.first, &inputs.second)?;
     let Inputs { first, second } = inputs;
     drop(first); // no more is asked of it
     let roots = Roots::find(
@@ -210,5 +214,6 @@ pub fn find_two<R: Threads + Sync, G: Gate + Sync>(
         reread: retraced.reread,
     };
     let head = head_of(&second, &roots, Some(two));
-    report_of(alloc, &second, &head, &lookup, log2, retraced.marked)
+    let aside = Aside { head, signs };
+    report_of(alloc, &second, &lookup, log2, retraced.marked, aside)
 }

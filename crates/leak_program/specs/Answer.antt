@@ -8,10 +8,10 @@ use Rattle.leak_program.specs.declared.failure.Failure.TheVariants.{Word, Usage,
 use Rattle.leak_program.specs.Files.{IsFileFault, SearchesFiles}
 
 -- files were searched by the options of the request that the words make
-pub record Answers (words : List (List ℕ)) (held holds : Option (List ℕ)) (status : ℕ) : Type 0 where
+pub record Answers (words : List (List ℕ)) (held holds heard hears : Option (List ℕ)) (status : ℕ) : Type 0 where
   pub request : Request
   pub asked : IsRequestOf words request
-  pub searches : SearchesFiles request.options held holds status
+  pub searches : SearchesFiles request.options held holds heard hears status
 
 -- the files of the request that the words make are not searched, for this reason
 pub record FailsRequest (words : List (List ℕ)) (held holds : Option (List ℕ)) (failure : Failure) : Type 0 where

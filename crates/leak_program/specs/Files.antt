@@ -8,11 +8,12 @@ use Rattle.leak_find.specs.Run.{IsRunFault, Runs}
 use Rattle.leak_program.specs.declared.failure.Failure.{Failure}
 use Rattle.leak_program.specs.declared.failure.Failure.TheVariants.{Word, Usage, Open, Run, NoMemory}
 
--- some readers were read and searched by the options; the report was written, and nothing else; the status is its own
-pub record SearchesFiles (o : Options) (held holds : Option (List ℕ)) (status : ℕ) : Type 0 where
+-- some readers were read and searched by the options; the report was written, and nothing else, and its warnings to the
+-- second writer, or a first part of them; the status is that of the report and the warnings
+pub record SearchesFiles (o : Options) (held holds heard hears : Option (List ℕ)) (status : ℕ) : Type 0 where
   pub before : List (Option (List ℕ))
   pub after : List (Option (List ℕ))
-  pub runs : Runs o before after held holds status
+  pub runs : Runs o before after held holds heard hears status
 
 -- some readers were read by the options, and their run has no status for this reason
 pub record FailsFiles (o : Options) (held holds : Option (List ℕ)) (fault : RunFault) : Type 0 where

@@ -1,6 +1,7 @@
 //! What the program answers to the words of a command line.
 
 ghost use Rattle.std.specs.Prelude.{◌<◌, ◌≤◌, IfOk, IfErr, length, map, string_bytes};
+ghost use Rattle.std.specs.Io.KnownBytes.{Keeps};
 ghost use Rattle.leak_program.specs.Answer.{Answers, IsFailureOf};
 ghost use Rattle.leak_program.specs.Sample.{SearchesSample};
 
@@ -12,26 +13,31 @@ use std::io::Write;
 use std::rt::Files;
 use std::thread::Threads;
 
-/// Searches what the words ask for, which begin with the program's name, writes the report and gives the status: 0
-/// where nothing leaked, and 1 otherwise.
+/// Searches what the words ask for, which begin with the program's name, writes the report to the first writer and then
+/// the warnings to the second, and gives the status: 0 where nothing leaked, and 1 otherwise; with `--strict`, 3 where
+/// there is a warning.
 ///
 /// Where no word follows the name, a sample is searched. After a refusal nothing is written, unless it is the writer
 /// that failed.
-pub fn answer<R: Files + AllocGlobal + Threads + Sync, W: Write>(
+pub fn answer<R: Files + AllocGlobal + Threads + Sync, W: Write, V: Write>(
     rt: &R,
     words: &[String],
     writer: &mut W,
+    warner: &mut V,
 ) -> Result<u8, Failure>
     ensures sample { length words.now < 2
-        → IfOk result (SearchesSample (W.contents writer.old) (W.contents writer.new)) }
+        → IfOk result (SearchesSample (W.contents writer.old) (W.contents writer.new)
+        (V.contents warner.old) (V.contents warner.new)) }
     ensures ok { 2 ≤ length words.now → IfOk result
-        (Answers (map string_bytes words.now) (W.contents writer.old) (W.contents writer.new)) }
+        (Answers (map string_bytes words.now) (W.contents writer.old) (W.contents writer.new)
+        (V.contents warner.old) (V.contents warner.new)) }
     ensures refused { 2 ≤ length words.now → IfErr result
         (IsFailureOf (map string_bytes words.now) (W.contents writer.old) (W.contents writer.new)) }
+    ensures silent { IfErr result (λ _. Keeps (V.contents warner.old) (V.contents warner.new)) }
 {
     if words.len() < 2 {
-        return search_sample(rt, writer);
+        return search_sample(rt, writer, warner);
     }
     let request = request(rt.alloc(), words)?;
-    search_files(rt, &request, writer)
+    search_files(rt, &request, writer, warner)
 }

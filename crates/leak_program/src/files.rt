@@ -1,6 +1,7 @@
 //! The search of files.
 
 ghost use Rattle.std.specs.Prelude.{◌≡◌, IfOk, IfErr, length, map, string_bytes};
+ghost use Rattle.std.specs.Io.KnownBytes.{Keeps};
 ghost use Rattle.leak_request.specs.Requests.{file_count};
 ghost use Rattle.leak_program.specs.Files.{IsFileFault, IsOpenFault, SearchesFiles};
 
@@ -11,17 +12,21 @@ use std::io::Write;
 use std::rt::Files;
 use std::thread::Threads;
 
-/// Opens all files of the request in order, and then reads and searches them and writes the report.
-pub fn search_files<R: Files + AllocGlobal + Threads + Sync, W: Write>(
+/// Opens all files of the request in order, and then reads and searches them, writes the report to the first writer and
+/// the warnings to the second.
+pub fn search_files<R: Files + AllocGlobal + Threads + Sync, W: Write, V: Write>(
     rt: &R,
     request: &Request,
     writer: &mut W,
+    warner: &mut V,
 ) -> Result<u8, Failure>
     requires { length request.now.paths.items ≡ file_count request.now.options.two }
     ensures ok { IfOk result
-        (SearchesFiles request.now.options (W.contents writer.old) (W.contents writer.new)) }
+        (SearchesFiles request.now.options (W.contents writer.old) (W.contents writer.new)
+        (V.contents warner.old) (V.contents warner.new)) }
     ensures refused { IfErr result
         (IsFileFault request.now (W.contents writer.old) (W.contents writer.new)) }
+    ensures silent { IfErr result (λ _. Keeps (V.contents warner.old) (V.contents warner.new)) }
 {
     let mut files = opened(rt, request.paths.as_slice())?;
     match run(
@@ -30,6 +35,7 @@ pub fn search_files<R: Files + AllocGlobal + Threads + Sync, W: Write>(
         files.as_mut_slice(),
         &request.options,
         writer,
+        warner,
     ) {
         Ok(status) => Ok(status),
         Err(fault) => Err(Failure::Run(fault)),

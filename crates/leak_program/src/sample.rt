@@ -1,6 +1,7 @@
 //! The search of a sample from memory.
 
-ghost use Rattle.std.specs.Prelude.{IfOk};
+ghost use Rattle.std.specs.Prelude.{IfOk, IfErr};
+ghost use Rattle.std.specs.Io.KnownBytes.{Keeps};
 ghost use Rattle.leak_program.specs.Sample.{SearchesSample};
 
 use crate::failure::Failure;
@@ -12,12 +13,15 @@ use std::thread::Threads;
 /// One allocation of 32 bytes.
 const LOG: &str = "@ ./a.out:[0x401136] + 0x10100 0x20\n";
 
-/// Searches a core in which one word leads to one allocated block: nothing leaked.
-pub fn search_sample<R: AllocGlobal + Threads + Sync, W: Write>(
+/// Searches a core in which one word leads to one allocated block: nothing leaked. The core has no heap of glibc's.
+pub fn search_sample<R: AllocGlobal + Threads + Sync, W: Write, V: Write>(
     rt: &R,
     writer: &mut W,
+    warner: &mut V,
 ) -> Result<u8, Failure>
-    ensures { IfOk result (SearchesSample (W.contents writer.old) (W.contents writer.new)) }
+    ensures ok { IfOk result (SearchesSample (W.contents writer.old) (W.contents writer.new)
+        (V.contents warner.old) (V.contents warner.new)) }
+    ensures silent { IfErr result (λ _. Keeps (V.contents warner.old) (V.contents warner.new)) }
 {
     let alloc = rt.alloc();
     let core = core_k(alloc, [(0x10008, 0x10100)].as_slice())?;
@@ -27,10 +31,12 @@ pub fn search_sample<R: AllocGlobal + Threads + Sync, W: Write>(
         reading: Reading::interior(),
         skip: Skip::none(),
         plan: Plan::new(4, 512, 1024).unwrap(),
+        other_heap: true,
+        strict: false,
         core_limit: CORE_LIMIT,
         log_limit: LOG_LIMIT,
     };
-    match run(rt, alloc, &mut readers, &options, writer) {
+    match run(rt, alloc, &mut readers, &options, writer, warner) {
         Ok(status) => Ok(status),
         Err(fault) => Err(Failure::Run(fault)),
     }

@@ -5,6 +5,7 @@ ghost use Rattle.std.specs.Prelude.{◌≡◌, IfOk, IfErr};
 use crate::answering::answer;
 use crate::failure::Failure;
 use leak_find::UsageFault;
+use std::io::Write;
 use std::process::ExitCode;
 use std::rt::{Env, Files};
 use std::thread::Threads;
@@ -14,9 +15,12 @@ use std::{env, io};
 const REFUSED: u8 = 2;
 
 /// Does what the words of the program's command line ask for, and prints the report or, on standard error, why there
-/// is none.
-pub fn start<R: Env + Files + Print + Eprint + AllocGlobal + Threads + Sync>(rt: &R) -> ExitCode {
-    let answer = answer_here(rt);
+/// is none. The warnings go to the writer, which is that of standard error.
+pub fn start<R: Env + Files + Print + Eprint + AllocGlobal + Threads + Sync, W: Write>(
+    rt: &R,
+    warner: &mut W,
+) -> ExitCode {
+    let answer = answer_here(rt, warner);
     let status = status_of(&answer);
     if let Err(failure) = answer {
         tell(rt, failure);
@@ -35,15 +39,16 @@ pub fn status_of(answer: &Result<u8, Failure>) -> u8
     }
 }
 
-/// Answers the words of the program's command line, to standard output.
-fn answer_here<R: Env + Files + Print + AllocGlobal + Threads + Sync>(
+/// Answers the words of the program's command line, to standard output, with the warnings to the writer.
+fn answer_here<R: Env + Files + Print + AllocGlobal + Threads + Sync, W: Write>(
     rt: &R,
+    warner: &mut W,
 ) -> Result<u8, Failure> {
     let words: Vec<String> = match env::args(rt) {
         Ok(words) => words.collect(rt.alloc())?,
         Err(error) => return Err(unread(&error)),
     };
-    answer(rt, words.as_slice(), &mut io::writer(rt))
+    answer(rt, words.as_slice(), &mut io::writer(rt), warner)
 }
 
 /// Why the words of the command line can't be had.

@@ -16,7 +16,8 @@ fn words_of<R: AllocGlobal>(rt: &R, line: &str) -> Result<Vec<String>, AllocErro
 fn no_word_searches_the_sample(rt: HostRuntime) -> Result<(), Fail> {
     let words = words_of(&rt, "")?;
     let mut written: Vec<u8> = Vec::new(rt.alloc());
-    let status = answer(&rt, words.as_slice(), &mut written);
+    let mut warned: Vec<u8> = Vec::new(rt.alloc());
+    let status = answer(&rt, words.as_slice(), &mut written, &mut warned);
     assert!(rt; matches!(status, Ok(0)));
     assert_eq!(rt;
         written.as_slice(),
@@ -28,6 +29,7 @@ fn no_word_searches_the_sample(rt: HostRuntime) -> Result<(), Fail> {
           heads 0\n"
             .as_slice()
     );
+    assert!(rt; warned.is_empty());
     Ok(())
 }
 
@@ -35,13 +37,15 @@ fn no_word_searches_the_sample(rt: HostRuntime) -> Result<(), Fail> {
 fn a_file_that_is_not_there_is_named(rt: HostRuntime) -> Result<(), Fail> {
     let words = words_of(&rt, "one no/such.core no/such.log")?;
     let mut written: Vec<u8> = Vec::new(rt.alloc());
-    let answer = answer(&rt, words.as_slice(), &mut written);
+    let mut warned: Vec<u8> = Vec::new(rt.alloc());
+    let answer = answer(&rt, words.as_slice(), &mut written, &mut warned);
     let Err(Failure::Open(path)) = answer else {
         assert!(rt; false, "the core is not there");
         return Ok(());
     };
     assert_eq!(rt; path.as_str(), "no/such.core");
     assert!(rt; written.is_empty());
+    assert!(rt; warned.is_empty());
     Ok(())
 }
 
@@ -49,9 +53,11 @@ fn a_file_that_is_not_there_is_named(rt: HostRuntime) -> Result<(), Fail> {
 fn one_word_is_no_request(rt: HostRuntime) -> Result<(), Fail> {
     let words = words_of(&rt, "one")?;
     let mut written: Vec<u8> = Vec::new(rt.alloc());
-    let answer = answer(&rt, words.as_slice(), &mut written);
+    let mut warned: Vec<u8> = Vec::new(rt.alloc());
+    let answer = answer(&rt, words.as_slice(), &mut written, &mut warned);
     assert!(rt; matches!(answer, Err(Failure::Usage(UsageFault::Words(_)))));
     assert!(rt; written.is_empty());
+    assert!(rt; warned.is_empty());
     Ok(())
 }
 

@@ -184,6 +184,8 @@ fn run_of<R: AllocGlobal + Threads + Sync>(
         reading: Reading::interior(),
         skip: Skip::none(),
         plan: Plan::new(3, 16, 4).ok()?,
+        other_heap: false,
+        strict: false,
         core_limit: 8192,
         log_limit: 8192,
     };
@@ -191,15 +193,17 @@ fn run_of<R: AllocGlobal + Threads + Sync>(
         return Some(Answer::Other);
     }
     let mut written: Vec<u8> = Vec::with_capacity(rt.alloc(), 1000).ok()?;
+    let mut warned: Vec<u8> = Vec::with_capacity(rt.alloc(), 1000).ok()?;
     match run(
         rt,
         rt.alloc(),
         readers.as_mut_slice(),
         &options,
         &mut written,
+        &mut warned,
     ) {
         Ok(given) => Some(Answer::of(given == status && written.as_slice() == report.as_bytes())),
-        Err(fault) => Some(Answer::of_refusal(is_wanting(&fault) && written.is_empty())),
+        Err(fault) => Some(Answer::of_refusal(is_wanting(&fault) && written.is_empty() && warned.is_empty())),
     }
 }
 

@@ -5,6 +5,7 @@ use Rattle.clap.specs.Words.{App, Rule, Text, new_app, new_rule, with_rule, with
 use Rattle.clap.specs.declared.builder.action.ArgAction.TheVariants.{SetTrue}
 use Rattle.clap.specs.declared.builder.command.Command.{Command}
 use Rattle.clap.specs.declared.builder.command.Command.TheViews.{out-Command}
+use Rattle.clap.specs.declared.builder.action.ArgAction.TheVariants.{SetTrue}
 use Rattle.clap.specs.declared.builder.value_parser.ValueParser.TheVariants as parser
 
 -- the path of a file, which has to be given
@@ -30,7 +31,9 @@ option_rules = number_rule (codes "workers") (codes "4") 1 64
     ∷ number_rule (codes "piece") (codes "512") 1 65536
     ∷ number_rule (codes "stack") (codes "1024") 0 65536
     ∷ text_rule (codes "displace")
-    ∷ flag_rule (codes "skip-freed") ∷ []
+    ∷ flag_rule (codes "other-heap")
+    ∷ flag_rule (codes "skip-freed")
+    ∷ flag_rule (codes "strict") ∷ []
 
 -- the subcommand of a search of one core, or of two
 abbrev pub name_of : Bool → Text

@@ -36,6 +36,10 @@ pub record AreNumbersAt (rows : List Row) (n m k : ℕ) : Type 0 where
   pub piece : IsNumberAt rows (codes "piece") m
   pub stack : IsNumberAt rows (codes "stack") k
 
+-- the flag was given
+abbrev pub IsGiven : List Row → Text → Type 0
+IsGiven rows id = first_of id rows ≡ Some (codes "true")
+
 -- the list of displacements
 abbrev pub list_in : List Row → Option Text
 list_in rows = first_of (codes "displace") rows
@@ -64,6 +68,8 @@ pub record IsRequest (name : Text) (rows : List Row) (r : Request) : Type 0 wher
   pub numbers : AreNumbersAt rows r.options.plan.workers r.options.plan.piece r.options.plan.stack
   pub reading : IsListedBy (list_in rows) (listed_by r.options.reading)
   pub skip : IsTrue r.options.skip.freed ↔ IsGiven rows (codes "skip-freed")
+  pub other_heap : IsTrue r.options.other_heap ↔ IsGiven rows (codes "other-heap")
+  pub strict : IsTrue r.options.strict ↔ IsGiven rows (codes "strict")
   pub core_limit : r.options.core_limit ≡ 68719476736
   pub log_limit : r.options.log_limit ≡ 4294967296
 

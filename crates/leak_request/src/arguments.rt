@@ -70,6 +70,8 @@ fn request_of(alloc: Global, name: &str, found: &ArgMatches) -> Result<Request, 
                 freed: is_given(found, "skip-freed"),
             },
             plan,
+            other_heap: is_given(found, "other-heap"),
+            strict: is_given(found, "strict"),
             core_limit: CORE_LIMIT,
             log_limit: LOG_LIMIT,
         },
@@ -141,6 +143,13 @@ fn number(found: &ArgMatches, id: &str) -> Option<u32>
     ensures none { IfNone result (LacksNumberAt (found_rows found.now) id.now) }
 {
     found.get_one(id)
+}
+
+/// Whether the flag was given.
+fn is_given(found: &ArgMatches, id: &str) -> bool
+    ensures { IsTrue result ↔ IsGiven (found_rows found.now) id.now }
+{
+    matches!(value(found, id), Some("true"))
 }
 
 fn reading(found: &ArgMatches) -> Result<Reading, DisplaceFault>

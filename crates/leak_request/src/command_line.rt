@@ -71,7 +71,9 @@ fn with_options<'a>(alloc: Global, command: Command<'a>) -> Result<Command<'a>, 
         .arg(piece(alloc))?
         .arg(stack(alloc))?
         .arg(displace(alloc))?
-        .arg(skip_freed(alloc))
+        .arg(other_heap(alloc))?
+        .arg(skip_freed(alloc))?
+        .arg(strict(alloc))
 }
 
 fn path<'a>(alloc: Global, id: &'a str, name: &'a str, what: &'a str) -> Arg<'a>
@@ -138,4 +140,24 @@ fn skip_freed<'a>(alloc: Global) -> Arg<'a>
         .long("skip-freed")
         .action(ArgAction::SetTrue)
         .help("Leave out pointers in freed memory of blocks below 131072 bytes")
+}
+
+fn other_heap<'a>(alloc: Global) -> Arg<'a>
+    ensures rule { rule_of result ≡ flag_rule (codes "other-heap") }
+    ensures local { result.global ≡ false }
+{
+    Arg::new(alloc, "other-heap")
+        .long("other-heap")
+        .action(ArgAction::SetTrue)
+        .help("The allocator is not glibc's: don't compare its heap with the log")
+}
+
+fn strict<'a>(alloc: Global) -> Arg<'a>
+    ensures rule { rule_of result ≡ flag_rule (codes "strict") }
+    ensures local { result.global ≡ false }
+{
+    Arg::new(alloc, "strict")
+        .long("strict")
+        .action(ArgAction::SetTrue)
+        .help("Exit with status 3 where there is a warning")
 }

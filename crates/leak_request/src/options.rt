@@ -21,6 +21,10 @@ pub struct Options {
     pub skip: Skip,
     /// How marking is shared among the workers.
     pub plan: Plan,
+    /// Whether the blocks are of another allocator than glibc's, whose heap says nothing of them.
+    pub other_heap: bool,
+    /// Whether a warning has a status of its own.
+    pub strict: bool,
     /// The largest core that is read, in bytes.
     pub core_limit: u64,
     /// The largest log that is read, in bytes.

@@ -21,6 +21,8 @@ fn options(core_limit: u64, log_limit: u64) -> Result<Options, Fail>
         reading: Reading::interior(),
         skip: Skip::none(),
         plan: Plan::new(2, 512, 1024)?,
+        other_heap: true,
+        strict: false,
         core_limit,
         log_limit,
     })
@@ -33,7 +35,15 @@ fn each_example_gives_its_report_and_status(rt: HostRuntime) -> Result<(), Fail>
         let core = core_of(rt.alloc(), example.core)?;
         let mut readers = [core.as_slice(), example.log.as_bytes()];
         let mut out = Vec::new(rt.alloc());
-        let status = run(&rt, rt.alloc(), &mut readers, &options, &mut out)?;
+        let mut warned: Vec<u8> = Vec::new(rt.alloc());
+        let status = run(
+            &rt,
+            rt.alloc(),
+            &mut readers,
+            &options,
+            &mut out,
+            &mut warned,
+        )?;
         let name = example.name;
         assert_eq!(rt; out.as_slice(), example.report.as_bytes(), "{name}");
         assert_eq!(rt; status, u8::from(example.leaked > 0), "{name}");
@@ -49,7 +59,15 @@ fn readers_that_give_a_byte_at_a_time_change_nothing(rt: HostRuntime) -> Result<
         Source::slow(rt.alloc(), ONE_BLOCK.as_bytes(), 1)?,
     ];
     let mut out = Vec::new(rt.alloc());
-    let status = run(&rt, rt.alloc(), &mut readers, &options(8192, 36)?, &mut out)?;
+    let mut warned: Vec<u8> = Vec::new(rt.alloc());
+    let status = run(
+        &rt,
+        rt.alloc(),
+        &mut readers,
+        &options(8192, 36)?,
+        &mut out,
+        &mut warned,
+    )?;
     assert_eq!(rt; out.as_slice(), HELD.as_bytes());
     assert_eq!(rt; status, 0);
     Ok(())
@@ -62,10 +80,18 @@ fn a_reader_over_its_limit_is_refused(rt: HostRuntime) -> Result<(), Fail> {
     for (core_limit, log_limit, reader) in cases {
         let mut readers = [core.as_slice(), ONE_BLOCK.as_bytes()];
         let mut out = Vec::new(rt.alloc());
+        let mut warned: Vec<u8> = Vec::new(rt.alloc());
         let options = options(core_limit, log_limit)?;
-        let result = run(&rt, rt.alloc(), &mut readers, &options, &mut out);
+        let result = run(
+            &rt,
+            rt.alloc(),
+            &mut readers,
+            &options,
+            &mut out,
+            &mut warned,
+        );
         assert_eq!(rt; result, Err(RunFault::Read(reader, ReadFault::TooLong)));
-        assert!(rt; out.is_empty(), "reader {reader}");
+        assert!(rt; out.is_empty() && warned.is_empty(), "reader {reader}");
     }
     Ok(())
 }
@@ -84,10 +110,18 @@ fn a_reader_that_fails_leaves_nothing_written(rt: HostRuntime) -> Result<(), Fai
             Source::of(rt.alloc(), ONE_BLOCK.as_bytes())?.failing_after(1),
         ];
         let mut out = Vec::new(rt.alloc());
+        let mut warned: Vec<u8> = Vec::new(rt.alloc());
         let options = options(core_limit, 36)?;
-        let result = run(&rt, rt.alloc(), &mut readers, &options, &mut out);
+        let result = run(
+            &rt,
+            rt.alloc(),
+            &mut readers,
+            &options,
+            &mut out,
+            &mut warned,
+        );
         assert_eq!(rt; result, Err(wanted));
-        assert!(rt; out.is_empty(), "limit {core_limit}");
+        assert!(rt; out.is_empty() && warned.is_empty(), "limit {core_limit}");
     }
     Ok(())
 }
@@ -101,10 +135,18 @@ fn a_core_that_is_refused_leaves_nothing_written(rt: HostRuntime) -> Result<(), 
         Source::of(rt.alloc(), ONE_BLOCK.as_bytes())?,
     ];
     let mut out = Vec::new(rt.alloc());
-    let result = run(&rt, rt.alloc(), &mut readers, &options(8192, 36)?, &mut out);
+    let mut warned: Vec<u8> = Vec::new(rt.alloc());
+    let result = run(
+        &rt,
+        rt.alloc(),
+        &mut readers,
+        &options(8192, 36)?,
+        &mut out,
+        &mut warned,
+    );
     let refusal = FindError::Core(1, ElfError::Truncated(1));
     assert_eq!(rt; result, Err(RunFault::Find(refusal)));
-    assert!(rt; out.is_empty());
+    assert!(rt; out.is_empty() && warned.is_empty());
     // The log was read before the search was made.
     assert_eq!(rt; readers[1].left(), 0);
     Ok(())
@@ -119,7 +161,15 @@ fn a_writer_that_fails_holds_what_the_fault_tells(rt: HostRuntime) -> Result<(),
         wanted.truncate(room);
         let mut readers = [core.as_slice(), ONE_BLOCK.as_bytes()];
         let mut out = Sink::of(rt.alloc(), room);
-        let result = run(&rt, rt.alloc(), &mut readers, &options, &mut out);
+        let mut warned: Vec<u8> = Vec::new(rt.alloc());
+        let result = run(
+            &rt,
+            rt.alloc(),
+            &mut readers,
+            &options,
+            &mut out,
+            &mut warned,
+        );
         let fault = WriteFault {
             written: room as u64,
         };
@@ -144,13 +194,21 @@ fn a_log_that_fails_at_any_read_leaves_nothing_written(rt: HostRuntime) -> Resul
             Source::slow(rt.alloc(), ONE_BLOCK.as_bytes(), 12)?.failing_after(reads),
         ];
         let mut out = Vec::new(rt.alloc());
-        let result = run(&rt, rt.alloc(), &mut readers, &options, &mut out);
+        let mut warned: Vec<u8> = Vec::new(rt.alloc());
+        let result = run(
+            &rt,
+            rt.alloc(),
+            &mut readers,
+            &options,
+            &mut out,
+            &mut warned,
+        );
         assert_eq!(rt;
             result,
             Err(RunFault::Read(2, ReadFault::Device)),
             "{reads}"
         );
-        assert!(rt; out.is_empty(), "{reads}");
+        assert!(rt; out.is_empty() && warned.is_empty(), "{reads}");
     }
     Ok(())
 }
@@ -164,9 +222,17 @@ fn a_core_that_is_always_interrupted_leaves_the_log_unread(rt: HostRuntime) -> R
         Giver::of(rt.alloc(), ONE_BLOCK.as_bytes(), &[])?,
     ];
     let mut out = Vec::new(rt.alloc());
-    let result = run(&rt, rt.alloc(), &mut readers, &options(8192, 36)?, &mut out);
+    let mut warned: Vec<u8> = Vec::new(rt.alloc());
+    let result = run(
+        &rt,
+        rt.alloc(),
+        &mut readers,
+        &options(8192, 36)?,
+        &mut out,
+        &mut warned,
+    );
     assert_eq!(rt; result, Err(RunFault::Read(1, ReadFault::TooManyTurns)));
-    assert!(rt; out.is_empty());
+    assert!(rt; out.is_empty() && warned.is_empty());
     assert_eq!(rt; readers.each_ref().map(|r| r.left()), [8092, 36]);
     assert_eq!(rt; readers.each_ref().map(|r| r.reads), [1_000_001, 0]);
     Ok(())
@@ -179,7 +245,15 @@ fn a_writer_that_takes_nothing_holds_nothing(rt: HostRuntime) -> Result<(), Fail
     for turn in [Turn::Bytes(0), Turn::Interrupted(u64::MAX), Turn::Fails] {
         let mut readers = [core.as_slice(), ONE_BLOCK.as_bytes()];
         let mut out = Taker::of(rt.alloc(), &[turn])?;
-        let result = run(&rt, rt.alloc(), &mut readers, &options, &mut out);
+        let mut warned: Vec<u8> = Vec::new(rt.alloc());
+        let result = run(
+            &rt,
+            rt.alloc(),
+            &mut readers,
+            &options,
+            &mut out,
+            &mut warned,
+        );
         assert_eq!(rt; result, Err(RunFault::Write(WriteFault { written: 0 })));
         assert!(rt; out.held.is_empty());
     }

@@ -24,6 +24,8 @@ fn options(core_limit: u64, log_limit: u64) -> Result<Options, Fail>
         reading: Reading::interior(),
         skip: Skip::none(),
         plan: Plan::new(2, 512, 1024)?,
+        other_heap: true,
+        strict: false,
         core_limit,
         log_limit,
     })
@@ -59,7 +61,15 @@ fn each_pair_gives_its_report_and_status(rt: HostRuntime) -> Result<(), Fail> {
             pair.log2.as_bytes(),
         )?;
         let mut out = Vec::new(rt.alloc());
-        let status = run(&rt, rt.alloc(), &mut readers, &options, &mut out)?;
+        let mut warned: Vec<u8> = Vec::new(rt.alloc());
+        let status = run(
+            &rt,
+            rt.alloc(),
+            &mut readers,
+            &options,
+            &mut out,
+            &mut warned,
+        )?;
         let name = pair.name;
         assert_eq!(rt; out.as_slice(), pair.report.as_bytes(), "{name}");
         assert_eq!(rt; status, u8::from(pair.leaked > 0), "{name}");
@@ -87,9 +97,17 @@ fn a_reader_over_its_limit_is_refused(rt: HostRuntime) -> Result<(), Fail> {
     for (reader, [core1, log1, core2, log2], left) in cases {
         let mut readers = sources(rt.alloc(), core1, log1, core2, log2)?;
         let mut out = Vec::new(rt.alloc());
-        let result = run(&rt, rt.alloc(), &mut readers, &options, &mut out);
+        let mut warned: Vec<u8> = Vec::new(rt.alloc());
+        let result = run(
+            &rt,
+            rt.alloc(),
+            &mut readers,
+            &options,
+            &mut out,
+            &mut warned,
+        );
         assert_eq!(rt; result, Err(RunFault::Read(reader, ReadFault::TooLong)));
-        assert!(rt; out.is_empty(), "reader {reader}");
+        assert!(rt; out.is_empty() && warned.is_empty(), "reader {reader}");
         // One byte more than the limit was taken, and nothing of the later readers.
         assert_eq!(rt;
             readers.each_ref().map(|r| r.left()),
@@ -118,9 +136,17 @@ fn a_reader_that_fails_leaves_the_later_ones_unread(rt: HostRuntime) -> Result<(
             reader.fail();
         }
         let mut out = Vec::new(rt.alloc());
-        let result = run(&rt, rt.alloc(), &mut readers, &options, &mut out);
+        let mut warned: Vec<u8> = Vec::new(rt.alloc());
+        let result = run(
+            &rt,
+            rt.alloc(),
+            &mut readers,
+            &options,
+            &mut out,
+            &mut warned,
+        );
         assert_eq!(rt; result, Err(RunFault::Read(failing, ReadFault::Device)));
-        assert!(rt; out.is_empty(), "reader {failing}");
+        assert!(rt; out.is_empty() && warned.is_empty(), "reader {failing}");
         assert_eq!(rt;
             readers.each_ref().map(|r| r.left()),
             left,
@@ -141,7 +167,15 @@ fn readers_that_give_a_byte_at_a_time_change_nothing(rt: HostRuntime) -> Result<
         Source::slow(rt.alloc(), ONE_BLOCK.as_bytes(), 1)?,
     ];
     let mut out = Vec::new(rt.alloc());
-    let status = run(&rt, rt.alloc(), &mut readers, &options(8192, 36)?, &mut out)?;
+    let mut warned: Vec<u8> = Vec::new(rt.alloc());
+    let status = run(
+        &rt,
+        rt.alloc(),
+        &mut readers,
+        &options(8192, 36)?,
+        &mut out,
+        &mut warned,
+    )?;
     assert_eq!(rt; out.as_slice(), HELD_UNREAD.as_bytes());
     assert_eq!(rt; status, 0);
     Ok(())
@@ -165,9 +199,17 @@ fn inputs_that_are_refused_leave_nothing_written(rt: HostRuntime) -> Result<(), 
     for ([core1, log1, core2, log2], refusal) in cases {
         let mut readers = sources(rt.alloc(), core1, log1, core2, log2)?;
         let mut out = Vec::new(rt.alloc());
-        let result = run(&rt, rt.alloc(), &mut readers, &options, &mut out);
+        let mut warned: Vec<u8> = Vec::new(rt.alloc());
+        let result = run(
+            &rt,
+            rt.alloc(),
+            &mut readers,
+            &options,
+            &mut out,
+            &mut warned,
+        );
         assert_eq!(rt; result, Err(RunFault::Find(refusal)));
-        assert!(rt; out.is_empty());
+        assert!(rt; out.is_empty() && warned.is_empty());
         // All was read before the search was made.
         assert_eq!(rt; readers.each_ref().map(|r| r.left()), [0; 4]);
     }
@@ -184,7 +226,15 @@ fn a_writer_that_fails_holds_what_the_fault_tells(rt: HostRuntime) -> Result<(),
     for room in [0, 1, report.len() / 2, report.len().saturating_sub(1)] {
         let mut readers = sources(rt.alloc(), core1.as_slice(), log, core2.as_slice(), log)?;
         let mut out = Sink::of(rt.alloc(), room);
-        let result = run(&rt, rt.alloc(), &mut readers, &options, &mut out);
+        let mut warned: Vec<u8> = Vec::new(rt.alloc());
+        let result = run(
+            &rt,
+            rt.alloc(),
+            &mut readers,
+            &options,
+            &mut out,
+            &mut warned,
+        );
         let fault = WriteFault {
             written: room as u64,
         };

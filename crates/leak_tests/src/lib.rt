@@ -83,6 +83,10 @@ mod devices;
 #[cfg(test)]
 mod four_readers;
 
+// Warnings, and the status that they have.
+#[cfg(test)]
+mod signs;
+
 // Reading an input to its end.
 #[cfg(test)]
 mod readers;

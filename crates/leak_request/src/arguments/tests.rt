@@ -36,6 +36,8 @@ fn options(two: bool, reading: Reading, plan: Plan) -> Options {
         reading,
         skip: Skip::none(),
         plan,
+        other_heap: false,
+        strict: false,
         core_limit: 68_719_476_736,
         log_limit: 4_294_967_296,
     }
@@ -82,6 +84,21 @@ fn requests_of_one_core(rt: HostRuntime) -> Result<(), Fail> {
     )?;
     takes(&rt, "one a b --skip-freed", unfreed(usual), "a b")?;
     takes(&rt, "one --skip-freed a b", unfreed(usual), "a b")?;
+    let strict = Options {
+        strict: true,
+        ..usual
+    };
+    let other = Options {
+        other_heap: true,
+        ..usual
+    };
+    let both = Options {
+        strict: true,
+        ..other
+    };
+    takes(&rt, "one a b --strict", strict, "a b")?;
+    takes(&rt, "one --other-heap a b", other, "a b")?;
+    takes(&rt, "one a --strict b --other-heap", both, "a b")?;
     takes(
         &rt,
         "one --workers=64 --piece=65536 --stack=65536 -- -a -b",
@@ -121,6 +138,9 @@ fn refused_words(rt: HostRuntime) -> Result<(), Fail> {
         "one core.1 trace.log --skip-freed --skip-freed",
         "two a b c d --skip-freed a --skip-freed",
         "one core.1 trace.log --skip-freed=true",
+        "one core.1 trace.log --strict --strict",
+        "one core.1 trace.log --strict=true",
+        "one core.1 trace.log --other-heap --strict --other-heap",
         "--workers 2 one core.1 trace.log",
         "two a b",
         "two a b c",

@@ -1,6 +1,9 @@
-use Rattle.std.proofs.Common.{ap, Err}
+use Rattle.std.proofs.Common.{◌≡◌, ap, ◌∙◌, Err, List, [], ◌∷◌}
 use Rattle.std.proofs.lemmas.Result.{err_from_is_err_and}
 use Rattle.leak_roots.specs.Skipped.{spans_of}
+use Rattle.leak_find.specs.declared.found.Found.{Found}
+use Rattle.leak_find.specs.Signs.{AreSigns}
+use Rattle.leak_find.proofs.SignLemmas.{are_of_one}
 use Rattle.leak_find.proofs.SearchLemmas.{at_ok, finds_read, input_callers, marking_refused, ok_by, threads_read}
 use Rattle.leak_find.proofs.alone.find_alone.Goals as goal
 
@@ -17,3 +20,8 @@ returns-clause-ok c = ok_by _ _ (λ found is.
     finds_read _ _ _ _ _ c.in_ok-input.input _ _ _ c.in_ok-marked.marked found c.in_ok-input.ensures.ok c.in_ok-input.ensures.skip c.in_ok-marked.ensures.many.1
     c.new-lookup.ensures (c.in_ok-roots.ensures.of_core (spans_of c.in_ok-input.input.skip c.in_ok-input.ensures.ok.0) c.in_ok-input.ensures.ok.1.small (threads_read _ _ _ c.in_ok-input.ensures.ok)) c.in_ok-marked.ensures.marks c.head_of-head.ensures
     (at_ok _ _ found is c.report_of.ensures.report) (at_ok _ _ found is c.report_of.ensures.leaked) (at_ok _ _ found is c.report_of.ensures.claims))
+
+pub returns-clause-signs : goal.returns-clause-signs
+returns-clause-signs c = ok_by (λ (found : Found). AreSigns (c.args.core.now ∷ c.args.log.now ∷ []) found.signs.items) c.report_of.result (λ found is.
+    are_of_one c.args.core.now c.args.log.now c.in_ok-input.input found.signs.items c.in_ok-input.ensures.ok
+    (at_ok (λ (f : Found). f.signs.items ≡ c.in_ok-signs.signs.items) c.report_of.result found is c.report_of.ensures.signs ∙ c.in_ok-signs.ensures))

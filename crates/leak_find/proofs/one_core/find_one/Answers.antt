@@ -1,6 +1,9 @@
-use Rattle.std.proofs.Common.{ap, Err}
+use Rattle.std.proofs.Common.{◌≡◌, ap, ◌∙◌, Err, List, [], ◌∷◌}
 use Rattle.std.proofs.lemmas.Result.{err_from_is_err_and}
 use Rattle.leak_roots.specs.Skipped.{spans_of}
+use Rattle.leak_find.specs.declared.found.Found.{Found}
+use Rattle.leak_find.specs.Signs.{AreSigns}
+use Rattle.leak_find.proofs.SignLemmas.{are_of_one}
 use Rattle.leak_find.proofs.SearchLemmas.{at_ok, finds_read, input_callers, marking_refused, ok_by, threads_read}
 use Rattle.leak_find.proofs.TwoLemmas.{for_memory}
 use Rattle.leak_find.proofs.one_core.find_one.Goals as goal
@@ -21,3 +24,8 @@ returns-clause-ok g c = ok_by _ _ (λ found is.
 
 pub returns-clause-refused : goal.returns-clause-refused
 returns-clause-refused g c = for_memory _ _ c.report_of.ensures.memory
+
+pub returns-clause-signs : goal.returns-clause-signs
+returns-clause-signs g c = ok_by (λ (found : Found). AreSigns (c.args.core.now ∷ c.args.log.now ∷ []) found.signs.items) c.report_of.result (λ found is.
+    are_of_one c.args.core.now c.args.log.now c.in_ok-input.input found.signs.items c.in_ok-input.ensures.ok
+    (at_ok (λ (f : Found). f.signs.items ≡ c.in_ok-signs.signs.items) c.report_of.result found is c.report_of.ensures.signs ∙ c.in_ok-signs.ensures))

@@ -18,7 +18,7 @@ pub returns-in-Ok-clause-ok : goal.returns-in-Ok-clause-ok
 returns-in-Ok-clause-ok g c =
     found_one c.args.options.now _ _ c.in_ok-core.core.items c.in_ok-log.log.items _ _ c.in-Ok.found c.requires.one
     (one_more _ _ _ _ (c.in_ok-core.core.items ∷ []) _ (one_more _ _ _ _ [] _ (none_yet _ _) c.in_ok-core.ensures.ok c.in_ok-core.ensures.others) c.in_ok-log.ensures.ok c.in_ok-log.ensures.others)
-    c.deref.ensures.value c.deref-2.ensures.value c.in-Ok.ensures.ok
+    c.deref.ensures.value c.deref-2.ensures.value c.in-Ok.ensures.ok c.in-Ok.ensures.signs
 
 pub returns-clause-refused : goal.returns-clause-refused
 returns-clause-refused g c =

@@ -35,7 +35,7 @@ pub returns-in-Ok-clause-ok : goal.returns-in-Ok-clause-ok
 returns-in-Ok-clause-ok g c =
     found_two c.args.options.now _ _ c.in_ok-core1.core1.items c.in_ok-log1.log1.items c.in_ok-core2.core2.items c.in_ok-log2.log2.items _ _ _ _ c.requires.two
     (one_more _ _ _ _ (c.in_ok-core1.core1.items ∷ c.in_ok-log1.log1.items ∷ c.in_ok-core2.core2.items ∷ []) _ (one_more _ _ _ _ (c.in_ok-core1.core1.items ∷ c.in_ok-log1.log1.items ∷ []) _ (one_more _ _ _ _ (c.in_ok-core1.core1.items ∷ []) _ (one_more _ _ _ _ [] _ (none_yet _ _) c.in_ok-core1.ensures.ok c.in_ok-core1.ensures.others) c.in_ok-log1.ensures.ok c.in_ok-log1.ensures.others) c.in_ok-core2.ensures.ok c.in_ok-core2.ensures.others) c.in_ok-log2.ensures.ok c.in_ok-log2.ensures.others)
-    c.deref.ensures.value c.deref-2.ensures.value c.deref-3.ensures.value c.deref-4.ensures.value c.in-Ok.found c.in-Ok.ensures.ok
+    c.deref.ensures.value c.deref-2.ensures.value c.deref-3.ensures.value c.deref-4.ensures.value c.in-Ok.found c.in-Ok.ensures.ok c.in-Ok.ensures.signs
 
 pub returns-clause-refused : goal.returns-clause-refused
 returns-clause-refused g c =

@@ -1,9 +1,12 @@
-use Rattle.std.proofs.Common.{◌∙◌, ap, ℕ, List, Err}
+use Rattle.std.proofs.Common.{◌≡◌, ◌∙◌, ap, ℕ, List, [], ◌∷◌, Err}
 use Rattle.std.proofs.lemmas.Result.{err_from_is_err_and}
 use Rattle.leak_blocks.specs.declared.block.Block.{Block}
 use Rattle.leak_roots.specs.Skipped.{spans_of}
 use Rattle.leak_find.specs.SearchTwo.{size_of}
 use Rattle.leak_find.proofs.SearchLemmas.{at_ok, input_callers, ok_by, threads_read}
+use Rattle.leak_find.specs.declared.found.Found.{Found}
+use Rattle.leak_find.specs.Signs.{AreSigns}
+use Rattle.leak_find.proofs.SignLemmas.{are_of_two}
 use Rattle.leak_find.proofs.TwoLemmas.{carried, finds_two, for_memory, only_memory, paired}
 use Rattle.leak_find.proofs.two_cores.find_two.Goals as goal
 
@@ -40,3 +43,10 @@ returns-clause-ok g c = ok_by _ _ (λ found is.
     (c.in_ok-between.ensures.between _ _ (paired _ _ _ _ _ c.in_ok-inputs.ensures.read)) c.in_ok-inputs.ensures.skip c.in_ok-lookup.ensures (c.in_ok-roots.ensures.of_core (spans_of c.in_ok-inputs.inputs.second.skip c.in_ok-inputs.ensures.read.now) c.in_ok-inputs.ensures.read.second.small (threads_read _ _ _ (c.in_ok-inputs.ensures.read.now, c.in_ok-inputs.ensures.read.second))) c.in_ok-retraced.ensures.traced (c.len.ensures ∙ c.in_ok-between.between.carry.fresh.ok.0)
     (c.sum_sizes.ensures ∙ ap (λ (bs : List Block). size_of bs c.deref.result.now) c.blocks-2.ensures.value ∙ ap (λ (xs : List ℕ). size_of c.in_ok-inputs.inputs.second.live.blocks xs) c.deref.ensures.value)
     c.head_of-head.ensures (at_ok _ _ found is c.report_of.ensures.report) (at_ok _ _ found is c.report_of.ensures.leaked) (at_ok _ _ found is c.report_of.ensures.claims))
+
+pub returns-clause-signs : goal.returns-clause-signs
+returns-clause-signs g c = ok_by
+    (λ (found : Found). AreSigns (c.args.core1.now ∷ c.args.log1.now ∷ c.args.core2.now ∷ c.args.log2.now ∷ []) found.signs.items) c.report_of.result (λ found is.
+    are_of_two c.args.core1.now c.args.log1.now c.args.core2.now c.args.log2.now c.in_ok-inputs.inputs.first c.in_ok-inputs.inputs.second found.signs.items
+    (c.in_ok-inputs.ensures.read.before, c.in_ok-inputs.ensures.read.first) (c.in_ok-inputs.ensures.read.now, c.in_ok-inputs.ensures.read.second)
+    (at_ok (λ (f : Found). f.signs.items ≡ c.in_ok-signs.signs.items) c.report_of.result found is c.report_of.ensures.signs ∙ c.in_ok-signs.ensures))

@@ -10,7 +10,9 @@ returns-clause-local c =
     let second = globals_more c.in_ok-arg-2.ensures c.piece.ensures.local first in
     let third = globals_more c.in_ok-arg-3.ensures c.stack.ensures.local second in
     let fourth = globals_more c.in_ok-arg-4.ensures c.displace.ensures.local third in
-    IfOk-weaker c.arg-5.result _ _ (λ r added. globals_more added c.skip_freed.ensures.local fourth) c.arg-5.ensures
+    let fifth = globals_more c.in_ok-arg-5.ensures c.other_heap.ensures.local fourth in
+    let sixth = globals_more c.in_ok-arg-6.ensures c.skip_freed.ensures.local fifth in
+    IfOk-weaker c.arg-7.result _ _ (λ r added. globals_more added c.strict.ensures.local sixth) c.arg-7.ensures
 
 pub returns-clause-line : goal.returns-clause-line
 returns-clause-line c =
@@ -18,4 +20,6 @@ returns-clause-line c =
     let second = line_more c.in_ok-arg-2.ensures c.piece.ensures.local c.piece.ensures.rule first in
     let third = line_more c.in_ok-arg-3.ensures c.stack.ensures.local c.stack.ensures.rule second in
     let fourth = line_more c.in_ok-arg-4.ensures c.displace.ensures.local c.displace.ensures.rule third in
-    IfOk-weaker c.arg-5.result _ _ (λ r added. line_more added c.skip_freed.ensures.local c.skip_freed.ensures.rule fourth) c.arg-5.ensures
+    let fifth = line_more c.in_ok-arg-5.ensures c.other_heap.ensures.local c.other_heap.ensures.rule fourth in
+    let sixth = line_more c.in_ok-arg-6.ensures c.skip_freed.ensures.local c.skip_freed.ensures.rule fifth in
+    IfOk-weaker c.arg-7.result _ _ (λ r added. line_more added c.strict.ensures.local c.strict.ensures.rule sixth) c.arg-7.ensures
