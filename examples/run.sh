@@ -1,6 +1,7 @@
 #!/bin/sh
-# Builds leaky.c, in_vector.c and in_flight.c, runs them under mtrace and then with capture, takes cores of them, searches the
-# cores, and compares each report with what the program's construction says: which sizes leaked, and that nothing else did.
+# Builds leaky.c, in_vector.c, in_flight.c and mixed.c, runs them under mtrace and then with capture, takes cores of them, searches the
+# cores, and compares each report with what the program's construction says: which sizes leaked, and that nothing else did. Then
+# it searches cores with logs that are theirs and with logs that aren't, and compares the warnings.
 #
 #     examples/run.sh LEAK_FIND
 #
@@ -14,6 +15,7 @@ trap 'test -z "$process" || kill -9 "$process" 2> /dev/null; rm -rf "$work"' EXI
 gcc -g -O0 -Wno-unused-result -o "$work/leaky" "$here/leaky.c"
 gcc -g -O0 -Wno-unused-result -o "$work/in_flight" "$here/in_flight.c"
 gcc -g -O0 -Wno-unused-result -o "$work/in_vector" "$here/in_vector.c"
+gcc -g -O0 -pthread -o "$work/mixed" "$here/mixed.c"
 cd "$work"
 
 # check NAME LINES SIZES HEADS SUBCOMMAND FILE..: searches, shows the report, and compares its first lines, those that speak of
@@ -22,9 +24,13 @@ check() {
     name=$1 lines=$2 wanted=$3 wanted_heads=$4
     shift 4
     status=0
-    "$leak_find" "$@" > report || status=$?
+    "$leak_find" "$@" > report 2> warned || status=$?
     echo "== $name"
     cat report
+    if [ -s warned ]; then
+        cat warned >&2
+        exit 1
+    fi
     found=$(awk '$1 == "leak" { print $3 }' report | sort -n | tr '\n' ' ' | sed 's/ $//')
     heads=$(awk '$1 == "leak" && $5 == "head" { print $3 }' report | sort -n | tr '\n' ' ' | sed 's/ $//')
     begins=$(awk '$1 == "blocks" || $1 == "new"' report | tr '\n' ',' | sed 's/,$//')
@@ -172,4 +178,36 @@ check "the first and the second core" "blocks 7 bytes 651,new 2 bytes 202" "45" 
 check "the second and the third core" "blocks 7 bytes 651,new 0 bytes 0" "45 77 109" "45 77 109" \
     two in_flight.traced.2.core in_flight.traced.2.log in_flight.traced.3.core in_flight.traced.3.log
 "$capture/leak_lines" report
+
+# warns NAME MISFITS FILE FILE: searches a core and a log strictly, and compares whether there is a warning of misfits (1 or 0).
+# Without one there is no other warning either.
+warns() {
+    status=0
+    "$leak_find" one --strict "$3" "$4" > report 2> warned || status=$?
+    echo "== $1"
+    cat warned
+    misfits=$(grep -c "have no chunk of their size in use" warned || true)
+    if [ "$misfits" != "$2" ] || { [ "$2" = 1 ] && [ "$status" != 3 ]; } || { [ "$2" = 0 ] && [ -s warned ]; }; then
+        echo "NOT as built: status $status" >&2
+        exit 1
+    fi
+}
+
+# mixed.c: all calls of malloc. In four threads, by capture: each live block has its chunk.
+THREADS=4
+export THREADS
+start_traced mixed
+capture mixed 1
+stop
+warns "calls of all kinds in four threads" 0 mixed.traced.1.core mixed.traced.1.log
+
+# In one thread by mtrace, whose log has the give-backs: without its last lines blocks seem live that were given back.
+THREADS=1
+start mixed
+dump mixed 1
+stop
+warns "the right log" 0 mixed.core.1 mixed.copy.1
+head -n -50 mixed.copy.1 > mixed.cut
+warns "a log without its last lines" 1 mixed.core.1 mixed.cut
+warns "the log of another process" 1 mixed.core.1 in_flight.copy.1
 echo "as built"
