@@ -203,7 +203,9 @@ fn run_of<R: AllocGlobal + Threads + Sync>(
         &mut warned,
     ) {
         Ok(given) => Some(Answer::of(given == status && written.as_slice() == report.as_bytes())),
-        Err(fault) => Some(Answer::of_refusal(is_wanting(&fault) && written.is_empty() && warned.is_empty())),
+        Err(fault) => Some(Answer::of_refusal(
+            is_wanting(&fault) && written.is_empty() && warned.is_empty(),
+        )),
     }
 }
 
