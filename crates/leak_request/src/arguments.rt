@@ -162,13 +162,6 @@ fn reading(found: &ArgMatches) -> Result<Reading, DisplaceFault>
     }
 }
 
-/// Whether the flag was given.
-fn is_given(found: &ArgMatches, id: &str) -> bool
-    ensures { IsTrue result ↔ IsGiven (found_rows found.now) id.now }
-{
-    matches!(value(found, id), Some("true"))
-}
-
 /// The refusal where clap accepts the words, and a subcommand, a path or a number is missing.
 fn bad_arguments(alloc: Global) -> UsageFault
     ensures { IsBadBy (Unit {0}) result }
