@@ -49,10 +49,6 @@ abbrev pub IsListedBy : Option Text → Option (List ℕ) → Type 0
 IsListedBy None listed = listed ≡ None
 IsListedBy (Some text) listed = IsListed text listed
 
--- the flag was given
-abbrev pub IsGiven : List Row → Text → Type 0
-IsGiven rows id = first_of id rows ≡ Some (codes "true")
-
 -- how many files a search reads
 abbrev pub file_count : Bool → ℕ
 file_count two = if two then 4 else 2
