@@ -83,9 +83,7 @@ pub(crate) fn small(alloc: Global) -> Option<Answer> {
     match small_spans(alloc, &log) {
         Ok(spans) => {
             let first = spans.ranges().first().map(|span| (span.first, span.last));
-            Some(Answer::of(
-                spans.ranges().len() == 2 && first == Some((0x100, 0x11f)),
-            ))
+            Some(Answer::of(spans.ranges().len() == 2 && first == Some((0x100, 0x11f))))
         }
         Err(_) => Some(Answer::Wanting),
     }

@@ -105,13 +105,7 @@ fn words_of_freed_memory_hold_nothing(rt: HostRuntime) -> Result<(), Fail> {
         let core = core_of(rt.alloc(), case.core)?;
         let log = case.log.as_bytes();
         let name = case.name;
-        let found = find_alone(
-            rt.alloc(),
-            core.as_slice(),
-            log,
-            Reading::interior(),
-            FREED,
-        )?;
+        let found = find_alone(rt.alloc(), core.as_slice(), log, Reading::interior(), FREED)?;
         assert_eq!(rt; found.report.as_slice(), case.report.as_bytes(), "{name}");
         assert_eq!(rt; found.leaked, case.leaked, "{name}");
     }
@@ -134,7 +128,10 @@ fn all_blocks_are_marked_with_freed_memory(rt: HostRuntime) -> Result<(), Fail> 
         let report = found.report.as_slice();
         assert_eq!(rt; found.leaked, 0, "{name}");
         assert!(rt; report.ends_with(b"leaked 0 bytes 0\nheads 0\n"), "{name}");
-        assert!(rt; !report.windows(6).any(|part| part == b"freed ".as_slice()), "{name}");
+        assert!(rt;
+            !report.windows(6).any(|part| part == b"freed ".as_slice()),
+            "{name}"
+        );
     }
     Ok(())
 }
