@@ -15,17 +15,17 @@ const NEAR_BYTES: u64 = 1 << 20;
 
 /// A replay between two lines.
 ///
-/// Programs mostly allocate at ascending addresses, for a while. So the last blocks that were allocated one above the
-/// other are kept in a list beside the map, the run. In the map they are put only when an allocation or a give-back
-/// asks for it.
+/// Programs often allocate at ascending addresses for a while. So the blocks that were allocated last, one above the
+/// other, are kept in a list beside the map, the run. They are put in the map only when another allocation or a
+/// give-back needs it.
 #[derive(Drop)]
 pub(crate) struct Course<'a> {
     pub(crate) numbers: Numbers<'a>,
     /// The numbers of the run's lines, by the starts of their blocks.
     pub(crate) run: Vec<usize>,
-    /// The last address of the run, and of the blocks below it, or one above that.
+    /// No block of the run, nor one below it, has an address above this one.
     pub(crate) low: u64,
-    /// Where the blocks above the run begin, or an address below that.
+    /// No block above the run begins below this address.
     pub(crate) high: u64,
     pub(crate) unknown: u64,
     pub(crate) displaced: u64,
@@ -46,7 +46,7 @@ pub(crate) fn place(
     Ok(())
 }
 
-/// Where the blocks begin that begin at this address or above it, or the last address.
+/// The start of the first block at this address or above it. Without one, the last address of all.
 fn limit(numbers: &Numbers<'_>, lines: &[Line], last: u64) -> u64
     requires { HasBlocks lines.now numbers.now.entries }
     ensures { IsLimitOf lines.now numbers.now.entries last result }
@@ -125,7 +125,7 @@ impl Course<'_> {
         Ok(())
     }
 
-    /// Goes over an allocation that may lie anywhere, and begins a new run with it.
+    /// Goes over an allocation, wherever it lies, and begins a new run with it.
     fn begin(&mut self, lines: &[Line], line: &Line, index: usize) -> Result<(), AllocError>
         requires at { slice_get lines.now index ≡ Some line.now }
         requires fit { LinesFit lines.now }

@@ -155,7 +155,7 @@ fn allocations(lines: &[Line]) -> usize {
     allocations
 }
 
-/// The bytes that are left in an arena for the nodes of so many further allocations.
+/// The bytes of an arena that the nodes of so many further allocations may take.
 fn node_bytes(allocations: usize) -> usize {
     allocations
         .saturating_mul(NODE_BYTES)
