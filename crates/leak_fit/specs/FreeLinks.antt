@@ -30,11 +30,13 @@ is_before address bytes place = option_map_or (λ a. a + bytes == place) address
 -- The list of the chunk with the header leads back to the place. In a chunk, as in a list's own head, the word that leads to
 -- the next chunk stands 16 bytes after the header, and the word that leads to the chunk before 24 bytes after it.
 abbrev pub leads_back : (ℕ → Option ℕ) → ℕ → ℕ → Bool
-leads_back word_at header place = is_before (word_at (header + 24)) 16 place || is_before (word_at (header + 16)) 24 place
+leads_back word_at header place =
+    is_before (word_at (header + 24)) 16 place || is_before (word_at (header + 16)) 24 place
 
 -- the size word is that of a heap's top with the header: the chunk before a top is in use, and a top ends where a page does
 abbrev pub is_size_of_top : ℕ → ℕ → Bool
-is_size_of_top header word = is_previous_in_use word && not (is_mapped word) && ((header + chunk_size word) % 4096 == 0)
+is_size_of_top header word =
+    is_previous_in_use word && not (is_mapped word) && ((header + chunk_size word) % 4096 == 0)
 
 -- the chunk with the header is the top of a heap, as its size word says
 abbrev pub is_top : (ℕ → Option ℕ) → ℕ → Bool
@@ -42,18 +44,22 @@ is_top word_at header = option_map_or (is_size_of_top header) (word_at (header +
 
 -- the word at the place is malloc's link to the chunk with that header, which no live block has
 abbrev pub links_to_free : (ℕ → Option ℕ) → List Block → ℕ → ℕ → Bool
-links_to_free word_at blocks place word = not (has_start blocks (word + 16)) && (leads_back word_at word place || is_top word_at word)
+links_to_free word_at blocks place word =
+    not (has_start blocks (word + 16)) && (leads_back word_at word place || is_top word_at word)
 
 -- The word at the place is a link to a free chunk as far as the block goes: it leads to the block because the header of
 -- the chunk after the block's is there. A word that is a link as far as one block goes may lead to another.
 unfoldable pub is_free_link : (ℕ → Option ℕ) → List Block → ℕ → ℕ → Block → Bool
 is_free_link word_at blocks place word b =
-    (b.start % 16 == 0) && (word == next_header b) && has_least_chunk word_at b && links_to_free word_at blocks place word
+    (b.start % 16 == 0) && (word == next_header b) && has_least_chunk word_at b
+    && links_to_free word_at blocks place word
 
 -- the same of the block with the number, if there is one
 abbrev pub is_free_link_past : (ℕ → Option ℕ) → List Block → ℕ → ℕ → ℕ → Bool
-is_free_link_past word_at blocks place word n = option_map_or (is_free_link word_at blocks place word) (slice_get blocks n) false
+is_free_link_past word_at blocks place word n =
+    option_map_or (is_free_link word_at blocks place word) (slice_get blocks n) false
 
 -- of the blocks with these numbers, those that are left when the word's links are dropped
 abbrev pub without_free_links : (ℕ → Option ℕ) → List Block → ℕ → ℕ → List ℕ → List ℕ
-without_free_links word_at blocks place word numbers = filter (λ n. not (is_free_link_past word_at blocks place word n)) numbers
+without_free_links word_at blocks place word numbers =
+    filter (λ n. not (is_free_link_past word_at blocks place word n)) numbers

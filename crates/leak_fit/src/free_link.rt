@@ -36,8 +36,8 @@ pub fn is_free_link<W: Words>(words: &W, live: &Live, place: u64, word: u64, blo
     }
 }
 
-/// Of the blocks that the word leads to, which stands in memory at the place, those as far as which it is no link to a free
-/// chunk.
+/// Of the blocks that a word leads to, those as far as which it is no link to a free chunk. The word stands in memory at
+/// the place.
 pub fn without_free_links<W: Words>(
     words: &W,
     live: &Live,
@@ -45,7 +45,8 @@ pub fn without_free_links<W: Words>(
     word: u64,
     hits: Hits,
 ) -> Hits
-    ensures { hits_in result ≡ without_free_links (W.word_at words.now) live.now.blocks place word (hits_in hits) }
+    ensures { let blocks = live.now.blocks in
+        hits_in result ≡ without_free_links (W.word_at words.now) blocks place word (hits_in hits) }
 {
     match hits {
         Hits::Zero => Hits::Zero,

@@ -26,4 +26,5 @@ range_without_links word_at index from to = targets_without_links word_at index 
 -- without links nothing else is led to: a test that all blocks pass to which the words of a range lead, those that are left pass
 abbrev pub RangesLeadLess : Type 0
 RangesLeadLess = (word_at : ℕ → Option ℕ) (index : Index) (from to : ℕ) (test : ℕ → Bool)
-    → AllByRecursion (λ b. test b ≡ true) (targets_of index (words_between word_at from to)) → AllByRecursion (λ b. test b ≡ true) (range_without_links word_at index from to)
+    → AllByRecursion (λ b. test b ≡ true) (targets_of index (words_between word_at from to))
+    → AllByRecursion (λ b. test b ≡ true) (range_without_links word_at index from to)

@@ -22,7 +22,8 @@ pub(crate) fn next_held<W: Words, L: Lookup>(
     requires { (L.index lookup.now).blocks ≡ live.now.blocks }
     ensures split { let w = W.word_at words.now in let i = L.index lookup.now in
         range_without_links w i from to ≡ hits_in result.0 ++ range_without_links w i result.1 to }
-    ensures end { result.0 ≡ Hits.Zero → range_without_links (W.word_at words.now) (L.index lookup.now) result.1 to ≡ [] }
+    ensures end { let w = W.word_at words.now in let i = L.index lookup.now in
+        result.0 ≡ Hits.Zero → range_without_links w i result.1 to ≡ [] }
 {
     let mut at = from;
     loop {
