@@ -18,7 +18,10 @@ fn links_of_a_chain(rt: HostRuntime) -> Result<(), Fail> {
             assert_eq!(rt; marked_count(&marked), 100, "{room} by {plan:?}");
             assert_eq!(rt; marked.claims.len(), workers as usize, "{room} by {plan:?}");
             let claims = marked.claims.as_slice();
-            assert!(rt; hold_each_once(rt.alloc(), claims, 100)?, "{room} by {plan:?}");
+            assert!(rt;
+                hold_each_once(rt.alloc(), claims, 100)?,
+                "{room} by {plan:?}"
+            );
             assert_eq!(rt; marked.rounds, rounds, "{room} by {plan:?}");
         }
     }
@@ -35,7 +38,10 @@ fn links_of_a_star(rt: HostRuntime) -> Result<(), Fail> {
             let marked = by_links(&rt, rt.alloc(), &sample, plan, room)?;
             assert_eq!(rt; marked_count(&marked), 101, "{room} by {plan:?}");
             let claims = marked.claims.as_slice();
-            assert!(rt; hold_each_once(rt.alloc(), claims, 101)?, "{room} by {plan:?}");
+            assert!(rt;
+                hold_each_once(rt.alloc(), claims, 101)?,
+                "{room} by {plan:?}"
+            );
             assert_eq!(rt; marked.rounds, rounds, "{room} by {plan:?}");
         }
     }

@@ -56,9 +56,7 @@ pub fn by_links<R: std::thread::Threads + Sync>(
     let live = replay(alloc, &log)?;
     let roots = Roots::find(alloc, &image, &threads, &live)?;
     let lookup = Sorted::new(&live, Reading::interior());
-    Ok(mark_by_links(
-        rt, alloc, &image, &lookup, &roots, &live, plan, &Open, room,
-    )?)
+    Ok(mark_by_links(rt, alloc, &image, &lookup, &roots, &live, plan, &Open, room)?)
 }
 
 /// How many blocks are marked.
