@@ -22,7 +22,7 @@ use std::rt::Env;
 use std::thread::Threads;
 
 /// The calls, by name.
-static CALLS: [&str; 33] = [
+static CALLS: [&str; 34] = [
     "core_k",
     "Image::read",
     "Threads::read",
@@ -41,6 +41,7 @@ static CALLS: [&str; 33] = [
     "mark_alone",
     "mark",
     "mark_from",
+    "mark_by_links",
     "differing",
     "carry",
     "retrace",
@@ -119,6 +120,7 @@ fn answer_of<R: AllocGlobal + Threads + Sync>(rt: &R, name: &str) -> Option<Answ
         "mark_alone" => marking::alone(alloc),
         "mark" => marking::by_workers(rt),
         "mark_from" => marking::from_a_start(rt),
+        "mark_by_links" => marking::by_links(rt),
         "differing" => marking::pages(rt),
         "carry" => marking::carried(alloc),
         "retrace" => marking::retraced(rt),

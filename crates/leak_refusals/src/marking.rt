@@ -8,7 +8,9 @@ use leak_elf::Image;
 use leak_index::{Reading, Sorted};
 use leak_marks::{Claims, Marks};
 use leak_notes::Threads;
-use leak_pool::{Marked, Open, Part, Plan, PoolError, Start, mark, mark_alone, mark_from};
+use leak_pool::{
+    Marked, Open, Part, Plan, PoolError, Start, mark, mark_alone, mark_by_links, mark_from,
+};
 use leak_roots::Roots;
 use leak_scan::{Pages, heads};
 use std::alloc::Global;
@@ -148,6 +150,27 @@ pub(crate) fn by_workers<R: AllocGlobal + std::thread::Threads + Sync>(rt: &R) -
     let alloc = rt.alloc();
     let first = by_workers_on(rt, &chain(alloc)?, 100)?;
     Some(first.worse(by_workers_on(rt, &star(alloc)?, 101)?))
+}
+
+/// `mark_by_links` of a star, with room for its links.
+pub(crate) fn by_links<R: AllocGlobal + std::thread::Threads + Sync>(rt: &R) -> Option<Answer> {
+    let alloc = rt.alloc();
+    let sample = star(alloc)?;
+    let scene = scene_of(alloc, sample.core.as_slice(), sample.log.as_str())?;
+    let lookup = Sorted::new(&scene.live, Reading::interior());
+    let plan = Plan::new(3, 16, 4).ok()?;
+    let marked = mark_by_links(
+        rt,
+        alloc,
+        &scene.image,
+        &lookup,
+        &scene.roots,
+        &scene.live,
+        plan,
+        &Open,
+        1000,
+    );
+    Some(answer_of(marked, 101))
 }
 
 /// `mark_from` an empty start, which marks what `mark` does.
