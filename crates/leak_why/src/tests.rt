@@ -208,3 +208,33 @@ fn places_of_roots_have_names(rt: HostRuntime) -> Result<(), Fail> {
     }
     Ok(())
 }
+
+/// Sets the word at an address of the sample's segment.
+fn set_word(core: &mut Vec<u8>, address: u64, word: u64) {
+    let at = address.saturating_sub(0xf000) as usize;
+    for (place, byte) in core.iter_mut().skip(at).zip(word.to_le_bytes()) {
+        *place = byte;
+    }
+}
+
+#[test]
+fn a_chain_of_a_hundred_blocks(rt: HostRuntime) -> Result<(), Fail> {
+    let mut core = core_k(rt.alloc(), &[(0x10008, 0x10200)])?;
+    let mut log = String::new(rt.alloc());
+    for i in 0..100u64 {
+        let start = 0x10200 + 0x20 * i;
+        writeln!(log, "+ 0x{start:x} 0x10")?;
+        if i < 99 {
+            set_word(&mut core, start, start + 0x20);
+        }
+    }
+    let chain = answer(rt.alloc(), core.as_slice(), log.as_str(), 99)?;
+    let shown = told(&rt, rt.alloc(), log.as_str(), 99, &chain, &[])?;
+    // after the line of the block asked for: the root, a hundred blocks, and a word of each but the last
+    let lines = shown.iter().filter(|byte| **byte == b'\n').count();
+    assert_eq!(rt; lines, 201);
+    let begins =
+        b"asked 0x10e60 16 100 ?\nroot 0x10008 holds 0x10200\nblock 0x10200 16 1 ?\nword 0x10200 holds 0x10220\n";
+    assert!(rt; shown.starts_with(begins.as_slice()));
+    Ok(())
+}
