@@ -1,5 +1,5 @@
-use Rattle.std.proofs.Common.{◌∷◌, [], arith}
-use Rattle.leak_pool.proofs.AloneLemmas.{next_is_target, next_left, taken_both}
+use Rattle.std.proofs.Common.{◌∷◌, [], arith, refl}
+use Rattle.leak_pool.proofs.AloneLemmas.{next_is_target, next_left, taken_both, taken_none}
 use Rattle.leak_pool.proofs.alone.take_all.Goals as goal
 
 pub overflow_cast-block : goal.overflow_cast-block
@@ -9,6 +9,9 @@ overflow_cast-block g c =
 pub take-requires-clause-block : goal.take-requires-clause-block
 take-requires-clause-block g c =
     let i = c.requires.inside c.in-Some.block (next_is_target c.loop-block.yielded c.loop-block.block-iterator c.next.new.self _ c.args.targets c.in-Some.block c.in-Some.ensures.steps c.loop-block.invariant.targets c.into_iter-block-iterator.ensures.into_iter_gives) in omega (arith, i, c.loop-block.auto.set)
+
+pub loop-block-init : goal.loop-block-init
+loop-block-init g c = record { targets = refl; marks = c.requires.marks; taken = taken_none c.args.list.now.items }
 
 pub loop-block-preserved : goal.loop-block-preserved
 loop-block-preserved g c = record {
