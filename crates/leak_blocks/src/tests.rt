@@ -150,8 +150,7 @@ type Ranges<'a> = (&'a str, &'a [(u64, u64)]);
 
 #[test]
 fn small_allocations_as_ranges(rt: HostRuntime) -> Result<(), Fail> {
-    let cases: [Ranges; 12] = [
-        ("", &[]),
+    let cases: [Ranges; 8] = [
         ("+ 0x100 0x20\n- 0x100\n", &[(0x100, 0x11f)]),
         // live blocks and displaced ones are taken as well
         ("+ 0x100 0x20\n+ 0x110 0x8\n", &[(0x100, 0x11f)]),
@@ -163,15 +162,12 @@ fn small_allocations_as_ranges(rt: HostRuntime) -> Result<(), Fail> {
         ),
         // an allocation of no bytes has its first address
         ("+ 0x100 0\n+ 0x102 0\n", &[(0x100, 0x100), (0x102, 0x102)]),
-        ("+ 0x1000 0x20000\n", &[]),
         ("+ 0x1000 0x1ffff\n", &[(0x1000, 0x20ffe)]),
         // a move allocates, and a failed one does not
         (
             "+ 0x100 0x8\n< 0x100\n> 0x200 0x8\n",
             &[(0x100, 0x107), (0x200, 0x207)],
         ),
-        ("! 0x100 0x20\n- 0x300\n", &[]),
-        ("+ (nil) 0x20\n", &[]),
         (
             "+ 0xffffffffffffffff 0\n+ 0xfffffffffffffff0 0xe\n",
             &[
@@ -189,13 +185,28 @@ fn small_allocations_as_ranges(rt: HostRuntime) -> Result<(), Fail> {
         }
         assert_eq!(rt; pairs.as_slice(), ranges, "{text}");
     }
+    Ok(())
+}
+
+#[test]
+fn logs_without_a_small_allocation(rt: HostRuntime) -> Result<(), Fail> {
+    let logs = [
+        "",
+        "+ 0x1000 0x20000\n",
+        "! 0x100 0x20\n- 0x300\n",
+        "+ (nil) 0x20\n",
+    ];
+    for text in logs {
+        let log = Log::read(rt.alloc(), text.as_bytes())?;
+        assert_eq!(rt; small_spans(rt.alloc(), &log)?.ranges().len(), 0, "{text}");
+    }
     assert_eq!(rt; SmallSpans::none(rt.alloc()).ranges().len(), 0);
     Ok(())
 }
 
 #[test]
 fn allocations_at_ascending_addresses(rt: HostRuntime) -> Result<(), Fail> {
-    let cases: [Case; 8] = [
+    let cases: [Case; 5] = [
         // blocks in the middle of the run, its last one and others are given back
         (
             "+ 0x100 0x10\n+ 0x110 0x10\n+ 0x120 0x10\n- 0x110\n",
@@ -228,6 +239,13 @@ fn allocations_at_ascending_addresses(rt: HostRuntime) -> Result<(), Fail> {
             &[(0x100, 16, 2), (0x110, 16, 3), (0x120, 0xee1, 4)],
             (0, 1, 0),
         ),
+    ];
+    replays(&rt, rt.alloc(), &cases)
+}
+
+#[test]
+fn allocations_over_and_beside_a_run(rt: HostRuntime) -> Result<(), Fail> {
+    let cases: [Case; 3] = [
         // an allocation over two blocks of the run
         (
             "+ 0x100 0x10\n+ 0x110 0x10\n+ 0x120 0x10\n+ 0x108 0x10\n- 0x100\n",

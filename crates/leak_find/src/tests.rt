@@ -1,5 +1,6 @@
-use crate::{FindError, ReadFault, Reading, Skip, WhyError, find_alone, find_why, read_all};
+use crate::{FindError, ReadFault, Reading, Skip, Why, WhyError, find_alone, find_why, read_all};
 use leak_elf::{ElfError, core_k};
+use std::alloc::Global;
 use std::test::*;
 
 #[test]
@@ -20,20 +21,18 @@ fn the_example_of_the_front_page(rt: HostRuntime) -> Result<(), Fail> {
     Ok(())
 }
 
+/// Why the block of the address is held, of a log of two blocks.
+fn told(alloc: Global, core: &[u8], reading: Reading, address: u64) -> Result<Why, Fail> {
+    let log = b"@ ./a.out:[0x401136] + 0x10100 0x20\n+ 0x10200 0x10\n";
+    Ok(find_why(alloc, core, log, reading, Skip::none(), address)?)
+}
+
 #[test]
 fn why_a_block_is_held(rt: HostRuntime) -> Result<(), Fail> {
     let alloc = rt.alloc();
     let core = core_k(alloc, &[(0x10008, 0x10110)])?;
-    let log = b"@ ./a.out:[0x401136] + 0x10100 0x20\n+ 0x10200 0x10\n";
     // an address inside the block
-    let held = find_why(
-        alloc,
-        &core,
-        log,
-        Reading::interior(),
-        Skip::none(),
-        0x10108,
-    )?;
+    let held = told(alloc, &core, Reading::interior(), 0x10108)?;
     assert!(rt; held.held);
     assert_eq!(rt;
         held.text.as_slice(),
@@ -42,28 +41,14 @@ fn why_a_block_is_held(rt: HostRuntime) -> Result<(), Fail> {
           block 0x10100 32 1 ./a.out:[0x401136]\n"
             .as_slice()
     );
-    let leaked = find_why(
-        alloc,
-        &core,
-        log,
-        Reading::interior(),
-        Skip::none(),
-        0x10200,
-    )?;
+    let leaked = told(alloc, &core, Reading::interior(), 0x10200)?;
     assert!(rt; !leaked.held);
     assert_eq!(rt;
         leaked.text.as_slice(),
         b"asked 0x10200 16 2 ?\nleaked\n".as_slice()
     );
     // by starts alone
-    let leaked = find_why(
-        alloc,
-        &core,
-        log,
-        Reading::displaced(&[])?,
-        Skip::none(),
-        0x10100,
-    )?;
+    let leaked = told(alloc, &core, Reading::displaced(&[])?, 0x10100)?;
     assert!(rt; !leaked.held);
     Ok(())
 }

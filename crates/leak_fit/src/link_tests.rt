@@ -32,6 +32,9 @@ fn hits_with(
     Ok((hits, without_free_links(&image, &live, place, word, hits)))
 }
 
+/// The size word of a top whose end is past the last address.
+const PAST: u64 = 0xffff_ffff_ffff_fee1;
+
 /// The words of a list of free chunks, or of a top: what they are, and whether the block is left.
 #[test]
 fn links_to_the_chunk_after_a_block(rt: HostRuntime) -> Result<(), Fail> {
@@ -50,12 +53,7 @@ fn links_to_the_chunk_after_a_block(rt: HostRuntime) -> Result<(), Fail> {
         (0x31, (0x10008, 0x10120), (0x10128, 0xee3), Hits::One(0)),
         (0x31, (0x10008, 0x10120), (0x10128, 0xed1), Hits::One(0)),
         // a top whose end is past the last address ends where a page does
-        (
-            0x31,
-            (0x10008, 0x10120),
-            (0x10128, 0xffff_ffff_ffff_fee1),
-            Hits::Zero,
-        ),
+        (0x31, (0x10008, 0x10120), (0x10128, PAST), Hits::Zero),
         // a pointer into the block's last bytes
         (0x31, (0x10008, 0x10120), (0x10128, 0), Hits::One(0)),
         (0x31, (0x10008, 0x10118), (0x10138, 0xfff8), Hits::One(0)),
@@ -108,6 +106,18 @@ fn links_past_other_blocks(rt: HostRuntime) -> Result<(), Fail> {
             [(0x100f8, 0x31), link, back],
             (Hits::One(1), Hits::Zero),
         ),
+    ];
+    for (log, words, wanted) in cases {
+        let found = hits_with(rt.alloc(), log, &words, 0x10008)?;
+        assert_eq!(rt; found, wanted, "{log}");
+    }
+    Ok(())
+}
+
+/// The same for blocks of other sizes and at other places.
+#[test]
+fn links_past_blocks_of_other_sizes(rt: HostRuntime) -> Result<(), Fail> {
+    let cases = [
         // the header begins inside the block's last bytes
         (
             "+ 0x10100 0x18\n",

@@ -177,7 +177,7 @@ type Case<'a> = (&'a str, u64, &'a [(u64, u64)]);
 
 #[test]
 fn freed_places_are_no_roots(rt: HostRuntime) -> Result<(), Fail> {
-    let cases: [Case; 9] = [
+    let cases: [Case; 5] = [
         ("", 0, &[(0x10000, 0x11000)]),
         (
             "+ 0x10100 0x20\n- 0x10100\n",
@@ -202,6 +202,18 @@ fn freed_places_are_no_roots(rt: HostRuntime) -> Result<(), Fail> {
             2,
             &[(0x10000, 0x10100), (0x10120, 0x11000)],
         ),
+    ];
+    for (log, freed, memory) in cases {
+        let roots = unfreed_roots_of(rt.alloc(), log)?;
+        assert_eq!(rt; roots.freed(), freed, "{log}");
+        assert_eq!(rt; roots.memory(), memory, "{log}");
+    }
+    Ok(())
+}
+
+#[test]
+fn freed_places_of_large_and_small_spans(rt: HostRuntime) -> Result<(), Fail> {
+    let cases: [Case; 4] = [
         // spans may pass the ends of the segment
         (
             "+ 0xff00 0x108\n- 0xff00\n+ 0x10ff4 0x100\n- 0x10ff4\n",

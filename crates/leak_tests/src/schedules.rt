@@ -116,16 +116,8 @@ fn either_of_two_workers_may_begin_in_two_cores(rt: HostRuntime) -> Result<(), F
             plan,
             &gate,
         )?;
-        assert_eq!(rt;
-            gate.passed.load(Ordering::SeqCst),
-            1,
-            "worker {held} is held"
-        );
-        assert_eq!(rt;
-            gate.late.load(Ordering::SeqCst),
-            0,
-            "worker {held} is held"
-        );
+        assert_eq!(rt; gate.passed.load(Ordering::SeqCst), 1, "{held}");
+        assert_eq!(rt; gate.late.load(Ordering::SeqCst), 0, "{held}");
         assert_eq!(rt;
             found.report.as_slice(),
             wanted.as_bytes(),

@@ -82,6 +82,17 @@ fn requests_of_one_core(rt: HostRuntime) -> Result<(), Fail> {
         options(false, interior, Plan::new(4, 1, 0)?),
         "a b",
     )?;
+    takes(
+        &rt,
+        "one --workers=64 --piece=65536 --stack=65536 -- -a -b",
+        options(false, interior, Plan::new(64, 65536, 65536)?),
+        "-a -b",
+    )
+}
+
+#[test]
+fn requests_with_flags(rt: HostRuntime) -> Result<(), Fail> {
+    let usual = options(false, Reading::interior(), Plan::new(4, 512, 1024)?);
     takes(&rt, "one a b --skip-freed", unfreed(usual), "a b")?;
     takes(&rt, "one --skip-freed a b", unfreed(usual), "a b")?;
     let strict = Options {
@@ -98,13 +109,7 @@ fn requests_of_one_core(rt: HostRuntime) -> Result<(), Fail> {
     };
     takes(&rt, "one a b --strict", strict, "a b")?;
     takes(&rt, "one --other-heap a b", other, "a b")?;
-    takes(&rt, "one a --strict b --other-heap", both, "a b")?;
-    takes(
-        &rt,
-        "one --workers=64 --piece=65536 --stack=65536 -- -a -b",
-        options(false, interior, Plan::new(64, 65536, 65536)?),
-        "-a -b",
-    )
+    takes(&rt, "one a --strict b --other-heap", both, "a b")
 }
 
 #[test]
