@@ -44,7 +44,8 @@ fn report(
 }
 
 /// The report of a log without a live block.
-const NO_BLOCK: &str = "blocks 0 bytes 0\nundumped 0\nunknown 0 displaced 0 torn 0\nmarked 0 bytes 0\nleaked 0 bytes 0\nheads 0\n";
+const NO_BLOCK: &str =
+    "blocks 0 bytes 0\nundumped 0\nunknown 0 displaced 0 torn 0\nmarked 0 bytes 0\nleaked 0 bytes 0\nheads 0\n";
 
 #[test]
 fn whole_reports(rt: HostRuntime) -> Result<(), Fail> {
