@@ -54,7 +54,8 @@ pub fn by_links<R: std::thread::Threads + Sync>(
     let threads = Threads::read(alloc, &image)?;
     let log = Log::read(alloc, sample.log.as_bytes())?;
     let live = replay(alloc, &log)?;
-    let roots = Roots::find(alloc, &image, &threads, &live)?;
+    let small = SmallSpans::none(alloc);
+    let roots = Roots::find(alloc, &image, &threads, &live, &small)?;
     let lookup = Sorted::new(&live, Reading::interior());
     Ok(mark_by_links(rt, alloc, &image, &lookup, &roots, &live, plan, &Open, room)?)
 }

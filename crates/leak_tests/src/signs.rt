@@ -5,7 +5,7 @@ ghost use Rattle.std.specs.Prelude.{◌≡◌, IfOk};
 use crate::examples::{LOST, ONE_BLOCK};
 use crate::fakes::{Sink, Taker, Turn};
 use crate::samples::{Part, core_of};
-use leak_find::{Options, RunFault, run};
+use leak_find::{Options, RunFault, Skip, run};
 use leak_index::Reading;
 use leak_pool::Plan;
 use std::test::Fail;
@@ -17,6 +17,7 @@ fn options(two: bool, other_heap: bool, strict: bool) -> Result<Options, Fail>
     Ok(Options {
         two,
         reading: Reading::interior(),
+        skip: Skip::none(),
         plan: Plan::new(2, 512, 1024)?,
         other_heap,
         strict,
