@@ -1,8 +1,2 @@
 pub mod Consumed
 pub mod RunLemmas
-pub mod SearchLemmas
-pub mod SizeLemmas
-pub mod TwoLemmas
-pub mod HoldingLemmas
-pub mod LawLemmas
-pub mod SignLemmas

@@ -8,20 +8,20 @@ use Rattle.std.specs.Result.{OnOk}
 use Rattle.std.proofs.Math.Seq.{take-length}
 use Rattle.leak_report.specs.declared.output.WriteFault.{WriteFault}
 use Rattle.leak_index.specs.Readings.{listed_by}
-use Rattle.leak_find.specs.declared.error.FindError.{FindError}
-use Rattle.leak_find.specs.declared.error.FindError.TheVariants.{NoMemory}
+use Rattle.leak_search.specs.declared.error.FindError.{FindError}
+use Rattle.leak_search.specs.declared.error.FindError.TheVariants.{NoMemory}
 use Rattle.leak_find.specs.declared.fault.ReadFault.{ReadFault}
 use Rattle.leak_find.specs.declared.fault.RunFault.{RunFault}
 use Rattle.leak_find.specs.declared.fault.RunFault.TheVariants.{Read, Find, Write}
-use Rattle.leak_find.specs.declared.found.Found.{Found}
+use Rattle.leak_search.specs.declared.found.Found.{Found}
 use Rattle.leak_request.specs.declared.options.Options.{Options}
-use Rattle.leak_find.specs.Inputs.{IsFaultOfOne, IsFaultOfTwo}
+use Rattle.leak_search.specs.Inputs.{IsFaultOfOne, IsFaultOfTwo}
 use Rattle.leak_find.specs.Reading.{IsWholeInput, IsStopped}
 use Rattle.leak_request.specs.Requests.{file_count}
 use Rattle.leak_find.specs.Run.{left_in, input_at, limit_at, AreInputs, Finds, IsFaultOf, HasFound, IsReaderFault, IsFindFault, IsSearchFault}
-use Rattle.leak_find.specs.Search.{FindsOne}
-use Rattle.leak_find.specs.Signs.{AreSigns}
-use Rattle.leak_find.specs.SearchTwo.{FindsTwo}
+use Rattle.leak_search.specs.Search.{FindsOne}
+use Rattle.leak_search.specs.Signs.{AreSigns}
+use Rattle.leak_search.specs.SearchTwo.{FindsTwo}
 
 -- ---- readers by their number
 

@@ -3,19 +3,19 @@ use Rattle.std.specs.Prelude.{◌≡◌, ◌≢◌, ℕ, ◌+◌, ◌<◌, ◌�
 use Rattle.std.specs.Io.KnownBytes.{Appends, Keeps}
 use Rattle.leak_index.specs.Readings.{listed_by}
 use Rattle.leak_report.specs.declared.output.WriteFault.{WriteFault}
-use Rattle.leak_find.specs.declared.error.FindError.{FindError}
-use Rattle.leak_find.specs.declared.error.FindError.TheVariants.{NoMemory}
-use Rattle.leak_find.specs.declared.found.Found.{Found}
+use Rattle.leak_search.specs.declared.error.FindError.{FindError}
+use Rattle.leak_search.specs.declared.error.FindError.TheVariants.{NoMemory}
+use Rattle.leak_search.specs.declared.found.Found.{Found}
 use Rattle.leak_find.specs.declared.fault.ReadFault.{ReadFault}
 use Rattle.leak_find.specs.declared.fault.RunFault.{RunFault}
 use Rattle.leak_find.specs.declared.fault.RunFault.TheVariants.{Read, Find, Write}
 use Rattle.leak_request.specs.declared.options.Options.{Options}
-use Rattle.leak_find.specs.Inputs.{IsFaultOfOne, IsFaultOfTwo}
+use Rattle.leak_search.specs.Inputs.{IsFaultOfOne, IsFaultOfTwo}
 use Rattle.leak_find.specs.Reading.{IsWholeInput, IsStopped}
 use Rattle.leak_request.specs.Requests.{file_count}
-use Rattle.leak_find.specs.Search.{FindsOne}
-use Rattle.leak_find.specs.SearchTwo.{FindsTwo}
-use Rattle.leak_find.specs.Signs.{AreSigns}
+use Rattle.leak_search.specs.Search.{FindsOne}
+use Rattle.leak_search.specs.SearchTwo.{FindsTwo}
+use Rattle.leak_search.specs.Signs.{AreSigns}
 use Rattle.leak_report.specs.declared.signs.Signs.{Signs}
 use Rattle.leak_report.specs.Warnings.{warnings_of}
 

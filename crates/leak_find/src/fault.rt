@@ -3,8 +3,8 @@
 ghost use Rattle.std.specs.Prelude.{◌≡◌};
 ghost use Rattle.leak_find.specs.declared.fault.ReadFault.TheVariants.{NoMemory};
 
-use crate::error::FindError;
 use leak_report::WriteFault;
+use leak_search::FindError;
 use std::alloc::AllocError;
 use thiserror::Error;
 

@@ -6,8 +6,9 @@
 //! Where an input is not accepted, the answer is the first refusal by the order of [`FindError`].
 //!
 //! [`find_alone`] searches one core on the caller's thread, [`find_one`] by worker threads, under the same promise, and
-//! [`find_two`] searches a later core from what an earlier one says. [`find_why`] tells why a block is held. [`run`] does the same from readers to a writer. What a
-//! leak, a root and a chain are is said in `specs/Search.antt` and, for two cores, in `specs/SearchTwo.antt`.
+//! [`find_two`] searches a later core from what an earlier one says. [`find_why`] tells why a block is held. These stand
+//! in `leak_search`, where it is also said what a leak, a root and a chain are. [`run`] does the same from readers to
+//! writers: how inputs are read, and what a run comes to, is said in `specs/Reads.antt` and `specs/Run.antt`.
 //!
 //! An allocation of 32 bytes, and a core in which no word leads to it:
 //!
@@ -25,26 +26,11 @@
 //! the program, or how long a search takes.
 #![tactic(auto)]
 
-mod alone;
-mod error;
 mod fault;
-mod found;
-mod holding;
-mod inputs;
-mod laws;
-mod one_core;
 mod readers;
-mod reporting;
 mod running;
-mod signing;
-mod two_cores;
 
-pub use alone::find_alone;
-pub use error::FindError;
 pub use fault::{ReadFault, RunFault};
-pub use found::Found;
-pub use holding::{Why, WhyError, find_why};
-pub use laws::leaked_stay_leaked;
 pub use leak_index::{Reading, ReadingError};
 pub use leak_pool::{Gate, Open, Plan, PlanError};
 pub use leak_report::{Signs, WriteFault, warnings, write};
@@ -52,10 +38,11 @@ pub use leak_request::{
     CORE_LIMIT, DisplaceFault, LOG_LIMIT, Options, Request, UsageFault, read_displace, request,
 };
 pub use leak_roots::Skip;
-pub use one_core::find_one;
+pub use leak_search::{
+    FindError, Found, Why, WhyError, find_alone, find_one, find_two, find_why, leaked_stay_leaked,
+};
 pub use readers::read_all;
 pub use running::run;
-pub use two_cores::find_two;
 
 #[cfg(test)]
 mod tests;

@@ -6,15 +6,12 @@ ghost use Rattle.leak_request.specs.Requests.{file_count};
 ghost use Rattle.std.specs.Io.KnownBytes.{Appends, Keeps};
 ghost use Rattle.leak_find.specs.Run.{signs_that_count, status_by, warnings_by, left_in, IsReaderFault, HasFound, IsSearchFault, Runs, IsRunFault};
 
-use crate::error::FindError;
 use crate::fault::RunFault;
-use crate::found::Found;
-use crate::one_core::find_one;
 use crate::readers::read_all;
-use crate::two_cores::find_two;
 use leak_pool::Open;
 use leak_report::{Signs, warnings, write};
 use leak_request::Options;
+use leak_search::{FindError, Found, find_one, find_two};
 use std::alloc::{AllocError, Global};
 use std::io::{Read, Write};
 use std::thread::Threads;

@@ -101,7 +101,10 @@ pub(crate) fn unfreed(alloc: Global) -> Option<Answer> {
         core.as_slice(),
         b"+ 0x10100 0x20\n+ 0x10200 0x10\n- 0x10100\n",
         Reading::interior(),
-        Skip { freed: true },
+        Skip {
+            freed: true,
+            links: false,
+        },
     );
     Some(answer_of(found, UNFREED))
 }

@@ -68,6 +68,7 @@ fn request_of(alloc: Global, name: &str, found: &ArgMatches) -> Result<Request, 
             reading,
             skip: Skip {
                 freed: is_given(found, "skip-freed"),
+                links: false,
             },
             plan,
             other_heap: is_given(found, "other-heap"),

@@ -14,14 +14,19 @@ pub struct Skip {
     /// The words of freed memory: those whose 8 bytes each lie in the span of a small allocation of the log, and in no
     /// live block.
     pub freed: bool,
+    /// The links that malloc keeps to free chunks, and its pointers to the top of a heap.
+    pub links: bool,
 }
 
 impl Skip {
     /// Nothing is left out.
     pub fn none() -> Skip
-        ensures { result ≡ record { freed = false } }
+        ensures { result ≡ record { freed = false; links = false } }
     {
-        Skip { freed: false }
+        Skip {
+            freed: false,
+            links: false,
+        }
     }
 
     /// The spans of a log whose freed places are left out.

@@ -23,7 +23,11 @@ fn unfreed_roots_of(alloc: Global, log: &str) -> Result<Roots, Fail> {
     let threads = Threads::read(alloc, &image)?;
     let log = Log::read(alloc, log.as_bytes())?;
     let live = replay(alloc, &log)?;
-    let small = Skip { freed: true }.spans(alloc, &log)?;
+    let skip = Skip {
+        freed: true,
+        links: false,
+    };
+    let small = skip.spans(alloc, &log)?;
     Ok(Roots::find(alloc, &image, &threads, &live, &small)?)
 }
 

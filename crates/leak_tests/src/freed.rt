@@ -97,7 +97,10 @@ static CASES: [Unfreed; 10] = [
 ];
 
 /// What a search without freed memory leaves out.
-const FREED: Skip = Skip { freed: true };
+const FREED: Skip = Skip {
+    freed: true,
+    links: false,
+};
 
 #[test]
 fn words_of_freed_memory_hold_nothing(rt: HostRuntime) -> Result<(), Fail> {

@@ -46,7 +46,10 @@ fn options(two: bool, reading: Reading, plan: Plan) -> Options {
 /// The options with freed memory left out.
 fn unfreed(options: Options) -> Options {
     Options {
-        skip: Skip { freed: true },
+        skip: Skip {
+            freed: true,
+            links: false,
+        },
         ..options
     }
 }

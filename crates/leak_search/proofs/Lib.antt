@@ -1,0 +1,6 @@
+pub mod SearchLemmas
+pub mod SizeLemmas
+pub mod TwoLemmas
+pub mod HoldingLemmas
+pub mod LawLemmas
+pub mod SignLemmas

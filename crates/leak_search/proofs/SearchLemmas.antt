@@ -1,0 +1,174 @@
+-- From what was read and marked to what a search comes to.
+use Rattle.std.proofs.Common.{◌≡◌, ℕ, ◌-◌, ◌≤◌, ◌<◌, ◌^◌, List, [], ◌∷◌, length, Bool, true, false, not, Option, Some, None, Result, Ok, Err, IfOk, refl, ap, subst, sym, ◌∙◌, zero-add, arith, inr}
+use Rattle.std.specs.Prelude.{cond, if◌then◌else◌}
+use Rattle.leak_elf.specs.Segments.{undumped_of}
+use Rattle.leak_mtrace.specs.Log.{torn_of}
+use Rattle.leak_report.specs.declared.head.Two.{Two}
+use Rattle.std.proofs.lemmas.List.Sums.{sum_by-cons}
+use Rattle.std.specs.Result.{IsErrOf}
+use Rattle.std.specs.List.{count_by}
+use Rattle.leak_elf.specs.Words.{word_of}
+use Rattle.leak_mtrace.specs.declared.line.Line.{Line}
+use Rattle.leak_blocks.specs.declared.block.Block.{Block}
+use Rattle.leak_blocks.specs.declared.small.Span.{Span}
+use Rattle.leak_blocks.specs.Small.{small_spans_of}
+use Rattle.leak_blocks.specs.Live.{Replay, live_of, replay_of}
+use Rattle.leak_blocks.proofs.LineLemmas.{live_of_lines}
+use Rattle.leak_index.specs.Hits.{Index}
+use Rattle.leak_notes.specs.Threads.{threads_of}
+use Rattle.leak_scan.specs.Heads.{heads_of}
+use Rattle.leak_roots.specs.Places.{Places, words_at}
+use Rattle.leak_roots.specs.Roots.{AreRootsOf, freed_places, root_words}
+use Rattle.leak_roots.specs.Skipped.{spans_of, freed_of}
+use Rattle.leak_roots.specs.declared.skip.Skip.{Skip}
+use Rattle.leak_marks.specs.Reach.{Graph, Reach}
+use Rattle.leak_marks.specs.Partition.{Partitions}
+use Rattle.leak_pool.specs.declared.marked.Marked.{Marked}
+use Rattle.leak_pool.specs.Marking.{IsSet, Marks, graph_of, lists_of}
+use Rattle.leak_report.specs.declared.head.Head.{Head}
+use Rattle.leak_report.specs.Totals.{HaveCallersIn, leaked_in}
+use Rattle.leak_report.proofs.Callers.{have_callers}
+use Rattle.leak_report.specs.Report.{text_of}
+use Rattle.leak_search.specs.declared.error.FindError.{FindError}
+use Rattle.leak_search.specs.declared.error.FindError.TheVariants.{TooMany, NoMemory}
+use Rattle.leak_pool.specs.declared.error.PoolError.{PoolError}
+use Rattle.leak_pool.specs.declared.error.PoolError.TheVariants.{TooMany as TooManyForPool, NoMemory as NoMemoryForPool}
+use Rattle.leak_search.specs.declared.found.Found.{Found}
+use Rattle.leak_search.specs.declared.inputs.Input.{Input}
+use Rattle.leak_search.specs.Inputs.{IsReadOf, IsRead, IsFaultOfOne, at_marking}
+use Rattle.leak_search.specs.Search.{FindsOne, graph_of_one, head_with, index_of, text_with}
+
+-- the blocks of a replay are the live ones
+pub blocks_are : (lines : List Line) → (replay_of lines).blocks ≡ live_of lines
+unfolding replay_of
+blocks_are lines = refl
+
+pub input_blocks : (core log : List ℕ) (lines : List Line) (input : Input) → IsReadOf core log lines input → input.live.blocks ≡ live_of lines
+input_blocks core log lines input read = ap (λ (r : Replay). r.blocks) read.live ∙ blocks_are lines
+
+pub input_callers : (core log : List ℕ) (input : Input) → IsRead core log input → HaveCallersIn log input.live.blocks
+input_callers core log input read =
+    subst (λ (bs : List Block). HaveCallersIn log bs) (sym (input_blocks core log read.0 input read.1))
+    (have_callers live_of_lines log read.0 read.1.callers)
+
+-- too many blocks is a fault of an input that was read
+pub too_many : (core log : List ℕ) (input : Input) → IsRead core log input → 2 ^ 32 - 1 < length input.live.blocks → IsFaultOfOne core log TooMany
+too_many core log input read many =
+    let e = input_blocks core log read.0 input read.1 in
+    inr (refl, read.1.accepted, (read.0, read.1.is_log, subst (λ (bs : List Block). 2 ^ 32 ≤ length bs) e (omega (arith, many))))
+
+-- the blocks outside a set, counted in the set
+pub leaked_count : (set : List Bool) (blocks : List Block) → length set ≡ length blocks → length (leaked_in set blocks) ≡ count_by not set
+leaked_count [] blocks same = refl
+leaked_count (s ∷ set) [] same = absurd (omega arith)
+leaked_count (true ∷ set) (b ∷ blocks) same =
+    let rest = leaked_count set blocks (omega (arith, same)) in
+    let one = sum_by-cons (λ (x : Bool). cond (not x) 1 0) true set in
+    rw (one, rest) (sym (zero-add (count_by not set)))
+leaked_count (false ∷ set) (b ∷ blocks) same =
+    let rest = leaked_count set blocks (omega (arith, same)) in
+    let one = sum_by-cons (λ (x : Bool). cond (not x) 1 0) false set in
+    rw (one, ← rest) (omega arith)
+
+-- the words at the places found are the root words
+pub found_words : (core : List ℕ) (blocks : List Block) (spans : List Span) (places : Places) → AreRootsOf core blocks spans places → words_at (word_of core) places ≡ root_words core blocks spans
+unfolding words_at root_words
+found_words core blocks spans places roots = rw (roots.registers, roots.memory) refl
+
+-- the threads that were read are those of the core that was read
+pub threads_read : (core log : List ℕ) (input : Input) → IsRead core log input → input.threads ≡ threads_of input.image
+threads_read core log input read = read.1.threads ∙ ap threads_of (sym read.1.image)
+
+-- the graph that was marked is that of the core and the lines
+pub marked_graph : (core : List ℕ) (reading : Option (List ℕ)) (skip : Skip) (lines : List Line) (blocks : List Block) (index : Index) (places : Places)
+    → blocks ≡ live_of lines → index ≡ record { blocks = blocks; reading = reading } → AreRootsOf core blocks (spans_of skip lines) places
+    → graph_of (word_of core) index (words_at (word_of core) places) [] ≡ graph_of_one core reading skip lines
+marked_graph core reading skip lines blocks index places are is roots =
+    rw (found_words core blocks (spans_of skip lines) places roots, is, are) refl
+
+counted : (asked : Bool) (core : List ℕ) (blocks : List Block) (small : List Span) (places : Places) → places.freed ≡ length (freed_places core blocks (if asked then small else []))
+    → (if asked then Some places.freed else None) ≡ (if asked then Some (length (freed_places core blocks small)) else None)
+counted true core blocks small places is = ap (λ (n : ℕ). Some n) is
+counted false core blocks small places is = refl
+
+-- the number of freed places is told where they are left out
+pub freed_is : (skip : Skip) (core : List ℕ) (blocks : List Block) (lines : List Line) (places : Places) → AreRootsOf core blocks (spans_of skip lines) places
+    → (if skip.freed then Some places.freed else None) ≡ freed_of skip core blocks lines
+freed_is skip core blocks lines places roots = counted skip.freed core blocks (small_spans_of lines) places roots.freed
+
+-- the numbers of the first lines
+pub head_is : (core log : List ℕ) (lines : List Line) (input : Input) (places : Places) (two : Option Two) → IsReadOf core log lines input → AreRootsOf core input.live.blocks (spans_of input.skip lines) places
+    → head_with input places two ≡ record { undumped = undumped_of core; unknown = (replay_of lines).unknown; displaced = (replay_of lines).displaced; torn = torn_of log; freed = freed_of input.skip core (live_of lines) lines; two = two }
+head_is core log lines input places two read roots =
+    let f = subst (λ (bs : List Block). (if input.skip.freed then Some places.freed else None) ≡ freed_of input.skip core bs lines) (input_blocks core log lines input read) (freed_is input.skip core input.live.blocks lines places roots) in
+    rw (f, read.image, read.live, read.torn) refl
+
+pub index_is : (reading : Option (List ℕ)) (lines : List Line) (blocks : List Block) (index : Index) → blocks ≡ live_of lines → index ≡ record { blocks = blocks; reading = reading } → index ≡ index_of reading lines
+index_is reading lines blocks index are is = rw (is, are) refl
+
+-- a search that read, found roots and marked
+pub finds_one : (core log : List ℕ) (reading : Option (List ℕ)) (workers : ℕ) (input : Input) (index : Index) (places : Places) (head : Head) (marked : Marked) (found : Found)
+    → (read : IsRead core log input) → length input.live.blocks < 2 ^ 32 → index ≡ record { blocks = input.live.blocks; reading = reading }
+    → AreRootsOf core input.live.blocks (spans_of input.skip read.0) places → Marks (word_of core) index places workers marked → head ≡ head_with input places None
+    → found.report.items ≡ text_of head input.live.blocks marked.set.items (heads_of (word_of core) index marked.set.items) log
+    → found.leaked ≡ length (leaked_in marked.set.items input.live.blocks) → found.claims ≡ marked.claims
+    → FindsOne core log reading input.skip workers found
+finds_one core log reading workers input index places head marked found read few is roots marks head_at report leaked claims =
+    let e = input_blocks core log read.0 input read.1 in
+    let g = marked_graph core reading input.skip read.0 input.live.blocks index places e is roots in
+    record {
+      accepted = read.1.accepted;
+      lines = read.0;
+      is_log = read.1.is_log;
+      few = subst (λ (bs : List Block). length bs < 2 ^ 32) e few;
+      set = marked.set.items;
+      marked =
+          subst (λ (bs : List Block). IsSet marked.set.items (length bs) (Reach (graph_of_one core reading input.skip read.0))) (ap (λ (i : Index). i.blocks) is ∙ e)
+          (subst (λ (h : Graph). IsSet marked.set.items (length index.blocks) (Reach h)) g marks.set);
+      report =
+          subst (λ (h : Head). found.report.items ≡ text_of h (live_of read.0) marked.set.items (heads_of (word_of core) (index_of reading read.0) marked.set.items) log) (head_at ∙ head_is core log read.0 input places None read.1 roots)
+          (subst (λ (i : Index). found.report.items ≡ text_of head (live_of read.0) marked.set.items (heads_of (word_of core) i marked.set.items) log) (index_is reading read.0 input.live.blocks index e is)
+          (subst (λ (bs : List Block). found.report.items ≡ text_of head bs marked.set.items (heads_of (word_of core) index marked.set.items) log) e report));
+      leaked = subst (λ (bs : List Block). found.leaked ≡ length (leaked_in marked.set.items bs)) e leaked;
+      lists = rw (claims) marks.lists;
+      claims = rw (claims) (subst (λ (h : Graph). Partitions (lists_of marked) (Reach h)) g marks.claims);
+    }
+
+-- what holds of each value that a result may have
+pub ok_by : {A E : Type 0} (T : A → Type 0) (r : Result A E) → ((x : A) → r ≡ Ok x → T x) → IfOk r T
+ok_by T (Ok x) each = each x refl
+ok_by T (Err e) each = tt
+
+pub at_ok : {A E : Type 0} (P : A → Type 0) (r : Result A E) (x : A) → r ≡ Ok x → IfOk r P → P x
+at_ok P r x is holds = subst (λ v. IfOk v P) is holds
+
+-- where marking is refused, so is the search
+pub marking_refused : (core log : List ℕ) (input : Input) (e : PoolError) (f : FindError) → IsRead core log input → f ≡ at_marking e
+    → (e ≡ TooManyForPool → 2 ^ 32 - 1 < length input.live.blocks) → (f ≡ NoMemory → ⊥) → IsFaultOfOne core log f
+marking_refused core log input TooManyForPool f read is many other =
+    subst (λ (g : FindError). IsFaultOfOne core log g) (sym is) (too_many core log input read (many refl))
+marking_refused core log input NoMemoryForPool f read is many other = absurd (other is)
+
+no_error : (marked : Marked) → IsErrOf {T = Marked} {E = PoolError} (Ok marked) TooManyForPool → ⊥
+no_error marked e = cc
+
+-- marking that is not refused has blocks that can be numbered
+few_blocks : (n : ℕ) → (2 ^ 32 - 1 < n → ⊥) → n < 2 ^ 32
+few_blocks n not_many = omega (arith, not_many)
+
+-- the same of an input as it was read
+pub finds_read : (core log : List ℕ) (reading : Option (List ℕ)) (skip : Skip) (workers : ℕ) (input : Input) (index : Index) (places : Places) (head : Head) (marked : Marked) (found : Found)
+    → (read : IsRead core log input) → input.skip ≡ skip → (2 ^ 32 - 1 < length input.live.blocks → IsErrOf {T = Marked} {E = PoolError} (Ok marked) TooManyForPool)
+    → index ≡ record { blocks = input.live.blocks; reading = reading }
+    → AreRootsOf input.image input.live.blocks (spans_of input.skip read.0) places → Marks (word_of input.image) index places workers marked → head ≡ head_with input places None
+    → found.report.items ≡ text_with head input index marked.set.items log
+    → found.leaked ≡ length (leaked_in marked.set.items input.live.blocks) → found.claims ≡ marked.claims
+    → FindsOne core log reading skip workers found
+finds_read core log reading skip workers input index places head marked found read skips many is roots marks head_at report leaked claims =
+    subst (λ (s : Skip). FindsOne core log reading s workers found) skips
+    (finds_one core log reading workers input index places head marked found read (few_blocks (length input.live.blocks) (λ h. no_error marked (many h))) is
+    (subst (λ (file : List ℕ). AreRootsOf file input.live.blocks (spans_of input.skip read.0) places) read.1.image roots)
+    (subst (λ (file : List ℕ). Marks (word_of file) index places workers marked) read.1.image marks)
+    head_at
+    (subst (λ (file : List ℕ). found.report.items ≡ text_of head input.live.blocks marked.set.items (heads_of (word_of file) index marked.set.items) log) read.1.image report)
+    leaked claims)

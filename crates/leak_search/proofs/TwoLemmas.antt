@@ -1,0 +1,265 @@
+-- From two inputs that were read, marked and compared to what a search of two cores comes to.
+use Rattle.std.proofs.Common.{◌≡◌, ◌≢◌, ℕ, ◌≤◌, ◌<◌, ◌-◌, ◌^◌, ◌++◌, ◌⊎◌, List, length, Bool, true, false, Result, Ok, Err, IfErr, IsTrue, IsFalse, Option, Some, slice_get, refl, ap, subst, sym, ◌∙◌, arith, inl, inr}
+use Rattle.leak_elf.specs.Words.{word_of}
+use Rattle.leak_mtrace.specs.declared.line.Line.{Line}
+use Rattle.leak_mtrace.specs.Log.{is_continued_by}
+use Rattle.leak_mtrace.proofs.SameLogLemmas.{logs_continue}
+use Rattle.leak_blocks.specs.declared.block.Block.{Block}
+use Rattle.leak_blocks.specs.Live.{live_of}
+use Rattle.leak_index.specs.Hits.{Index}
+use Rattle.leak_scan.specs.Heads.{heads_of}
+use Rattle.leak_roots.specs.Places.{Places, words_at}
+use Rattle.leak_roots.specs.Roots.{AreRootsOf, root_words}
+use Rattle.leak_roots.specs.Skipped.{spans_of}
+use Rattle.leak_roots.specs.declared.skip.Skip.{Skip}
+use Rattle.leak_marks.specs.Lists.{Has}
+use Rattle.leak_marks.specs.Reach.{Graph, Reach}
+use Rattle.leak_marks.specs.Partition.{Partitions}
+use Rattle.leak_marks.proofs.ListLemmas.{has_back}
+use Rattle.leak_marks.proofs.ReachLemmas.{reach_within}
+use Rattle.leak_pool.specs.declared.marked.Marked.{Marked}
+use Rattle.leak_pool.specs.declared.error.PoolError.{PoolError}
+use Rattle.leak_pool.specs.declared.error.PoolError.TheVariants.{TooMany as TooManyForPool, NoMemory as NoMemoryForPool}
+use Rattle.leak_pool.specs.Marking.{IsSet, Marks, graph_of, lists_of}
+use Rattle.leak_dirty.specs.declared.kept.Carry.{Carry}
+use Rattle.leak_dirty.specs.declared.retracing.Retraced.{Retraced}
+use Rattle.leak_dirty.specs.Differing.{AreDiffering, differs, reread_of}
+use Rattle.leak_dirty.specs.Kept.{AbsentAreFresh, IsCarry, absent_of, kept_of}
+use Rattle.leak_dirty.specs.Retrace.{IsRetrace, OthersLeadWithin, SameWordsLeadWithin, graph_of_two}
+use Rattle.leak_report.specs.declared.head.Head.{Head}
+use Rattle.leak_report.specs.Totals.{leaked_in}
+use Rattle.leak_report.specs.Report.{text_of}
+use Rattle.leak_search.specs.declared.error.FindError.{FindError}
+use Rattle.leak_search.specs.declared.error.FindError.TheVariants.{NotPrefix, TooMany, NoMemory}
+use Rattle.leak_search.specs.declared.found.Found.{Found}
+use Rattle.leak_search.specs.declared.inputs.Input.{Input}
+use Rattle.leak_search.specs.declared.two_cores.Between.{Between}
+use Rattle.leak_search.specs.declared.two_cores.Inputs.{Inputs}
+use Rattle.leak_search.specs.Inputs.{IsReadOf, IsRead, IsInput, IsInputFault, IsFaultless, IsFaultOfTwo, IsTooMany, Continues, ArePaired, AreReadTwo, at_marking}
+use Rattle.leak_search.specs.Search.{graph_of_one, head_with, index_of, text_with}
+use Rattle.leak_search.specs.SearchTwo.{IsMarkedEarlier, IsBetween, FindsLater, FindsTwo, graph_of_later, head_of_two, kept_blocks, new_blocks, numbers_of_two, size_of}
+use Rattle.leak_search.proofs.SearchLemmas.{found_words, head_is, index_is, input_blocks, marked_graph}
+
+-- ---- refusals
+
+abbrev pub faultless : (core log : List ℕ) (lines : List Line) (input : Input) → IsReadOf core log lines input → IsFaultless core log
+faultless core log lines input read = record { core_is = read.accepted; lines = lines; log_is = read.is_log }
+
+abbrev pub as_input : (core log : List ℕ) (lines : List Line) (input : Input) → IsReadOf core log lines input → IsInput lines input
+as_input core log lines input read = record { log = log; read = subst (λ (file : List ℕ). IsReadOf file log lines input) (sym read.image) read }
+
+-- the inputs, as they were read
+abbrev pub paired : (core1 log1 core2 log2 : List ℕ) (inputs : Inputs) (read : AreReadTwo core1 log1 core2 log2 inputs) → ArePaired read.before read.now inputs
+paired core1 log1 core2 log2 inputs read = record {
+  first = as_input core1 log1 read.before inputs.first read.first;
+  second = as_input core2 log2 read.now inputs.second read.second;
+  continued = read.lines;
+}
+
+pub has_too_many : (core log : List ℕ) (input : Input) → IsRead core log input → 2 ^ 32 - 1 < length input.live.blocks → IsTooMany log
+has_too_many core log input read many =
+    (read.0, read.1.is_log, subst (λ (bs : List Block). 2 ^ 32 ≤ length bs) (input_blocks core log read.0 input read.1) (omega (arith, many)))
+
+pub fault_of_first : (core1 log1 core2 log2 : List ℕ) (e : FindError) → IsInputFault 1 core1 log1 e → IsFaultOfTwo core1 log1 core2 log2 e
+fault_of_first core1 log1 core2 log2 e fault = inl fault
+
+pub fault_of_second : (core1 log1 core2 log2 : List ℕ) (first : Input) (e : FindError) → IsRead core1 log1 first → IsInputFault 2 core2 log2 e → IsFaultOfTwo core1 log1 core2 log2 e
+fault_of_second core1 log1 core2 log2 first e read fault = inr (inl (faultless core1 log1 read.0 first read.1, fault))
+
+pub no_prefix : (core1 log1 core2 log2 : List ℕ) (first second : Input) → IsRead core1 log1 first → IsRead core2 log2 second → IsFalse (is_continued_by log1 log2) → IsFaultOfTwo core1 log1 core2 log2 NotPrefix
+no_prefix core1 log1 core2 log2 first second read1 read2 other = inr (inr (faultless core1 log1 read1.0 first read1.1, faultless core2 log2 read2.0 second read2.1, other))
+
+pub too_many_of_two : (core1 log1 core2 log2 : List ℕ) (first second : Input) → IsRead core1 log1 first → IsRead core2 log2 second → IsTrue (is_continued_by log1 log2)
+    → (2 ^ 32 - 1 < length first.live.blocks) ⊎ (2 ^ 32 - 1 < length second.live.blocks) → IsFaultOfTwo core1 log1 core2 log2 TooMany
+too_many_of_two core1 log1 core2 log2 first second read1 read2 continued (inl many) =
+    inr (inr (faultless core1 log1 read1.0 first read1.1, faultless core2 log2 read2.0 second read2.1, (continued, inl (has_too_many core1 log1 first read1 many))))
+too_many_of_two core1 log1 core2 log2 first second read1 read2 continued (inr many) =
+    inr (inr (faultless core1 log1 read1.0 first read1.1, faultless core2 log2 read2.0 second read2.1, (continued, inr (has_too_many core2 log2 second read2 many))))
+
+-- marking of blocks that can be numbered is refused for want of memory alone
+pub only_memory : (n : ℕ) (e : PoolError) (f : FindError) → f ≡ at_marking e → (e ≡ TooManyForPool → 2 ^ 32 - 1 < n) → n < 2 ^ 32 → f ≡ NoMemory
+only_memory n TooManyForPool f is many few = absurd (let m = many refl in omega (arith, m, few))
+only_memory n NoMemoryForPool f is many few = is
+
+pub are_read : (core1 log1 core2 log2 : List ℕ) (inputs : Inputs) → IsRead core1 log1 inputs.first → IsRead core2 log2 inputs.second → IsTrue (is_continued_by log1 log2)
+    → length inputs.first.live.blocks < 2 ^ 32 → length inputs.second.live.blocks < 2 ^ 32 → AreReadTwo core1 log1 core2 log2 inputs
+are_read core1 log1 core2 log2 inputs read1 read2 continued few1 few2 = record {
+  before = read1.0;
+  now = read2.0;
+  first = read1.1;
+  second = read2.1;
+  few_before = few1;
+  few_now = few2;
+  continued = continued;
+  lines = logs_continue log1 log2 read1.0 read2.0 continued read1.1.is_log read2.1.is_log;
+}
+
+-- a test that says so
+pub is_true : (answer test : Bool) → answer ≡ test → answer ≡ true → IsTrue test
+is_true answer test same says = sym same ∙ says
+
+-- ---- the earlier core
+
+pub marked_earlier : (reading : Option (List ℕ)) (workers : ℕ) (lines : List Line) (input : Input) (index : Index) (places : Places) (marked : Marked)
+    → IsInput lines input → index ≡ record { blocks = input.live.blocks; reading = reading }
+    → AreRootsOf input.image input.live.blocks (spans_of input.skip lines) places → Marks (word_of input.image) index places workers marked
+    → IsMarkedEarlier input.image reading input.skip lines marked.set.items
+marked_earlier reading workers lines input index places marked is_input is roots marks =
+    let e = input_blocks input.image is_input.log lines input is_input.read in
+    let g = marked_graph input.image reading input.skip lines input.live.blocks index places e is roots in
+    subst (λ (bs : List Block). IsSet marked.set.items (length bs) (Reach (graph_of_one input.image reading input.skip lines))) (ap (λ (i : Index). i.blocks) is ∙ e)
+    (subst (λ (h : Graph). IsSet marked.set.items (length index.blocks) (Reach h)) g marks.set)
+
+-- ---- between the cores
+
+pub is_between : (reading : Option (List ℕ)) (skip : Skip) (before now : List Line) (first second : Input) (set : List Bool) (c : Carry) (b : Between)
+    → IsInput before first → IsInput now second → Continues before now → AbsentAreFresh
+    → IsMarkedEarlier first.image reading skip before set
+    → c.kept.items ≡ kept_of first.live.blocks set second.live.blocks → c.fresh.items ≡ absent_of first.live.blocks second.live.blocks
+    → IsCarry (length second.live.blocks) c → b.carry ≡ c → AreDiffering (word_of first.image) (word_of second.image) b.pages
+    → IsBetween first.image second.image reading skip before now b
+is_between reading skip before now first second set c b is_first is_second continues absent marked kept fresh lists same pages =
+    let e1 = input_blocks first.image is_first.log before first is_first.read in
+    let e2 = input_blocks second.image is_second.log now second is_second.read in
+    record {
+      earlier = set;
+      marked = marked;
+      kept = rw (same, kept, e1, e2) refl;
+      fresh = rw (same, fresh, e1, e2) (subst (λ (lines : List Line). absent_of (live_of before) (live_of lines) ≡ new_blocks before lines) (sym continues.1) (absent before continues.0));
+      lists = rw (same) (subst (λ (bs : List Block). IsCarry (length bs) c) e2 lists);
+      pages = pages;
+    }
+
+-- words of kept blocks that aren't on the pages lead to kept and new blocks alone
+pub others_lead_within : (core1 core2 : List ℕ) (reading : Option (List ℕ)) (skip : Skip) (before now : List Line) (b : Between)
+    → IsBetween core1 core2 reading skip before now b → Continues before now → SameWordsLeadWithin
+    → OthersLeadWithin (word_of core2) (index_of reading now) b.pages b.carry.kept.items b.carry.fresh.items
+others_lead_within core1 core2 reading skip before now b between continues same = rw (between.kept, between.fresh, continues.1) within
+  where
+    not_differing : (page : ℕ) → ¬ Has b.pages page → IsFalse (differs (word_of core1) (word_of core2) page)
+    not_differing page out = go (differs (word_of core1) (word_of core2) page) refl
+      where
+        go : (t : Bool) → differs (word_of core1) (word_of core2) page ≡ t → IsFalse (differs (word_of core1) (word_of core2) page)
+        go true e = absurd (out ((between.pages.each page).1 e))
+        go false e = e
+
+    within : OthersLeadWithin (word_of core2) (index_of reading (before ++ continues.0)) b.pages (kept_blocks before between.earlier (before ++ continues.0)) (new_blocks before (before ++ continues.0))
+    within i block at kept a w from to is out j hit =
+        same (word_of core1) (word_of core2) reading (root_words core1 (live_of before) (spans_of skip before)) before continues.0 between.earlier (record { marked = between.marked })
+        i block at kept a w from to is (not_differing _ out) j hit
+
+-- ---- the later core
+
+-- what chains of the later core reach from its roots alone is marked
+pub reached_later : (core : List ℕ) (reading : Option (List ℕ)) (skip : Skip) (lines : List Line) (kept fresh : List ℕ) (set : List Bool)
+    → IsSet set (length (live_of lines)) (Reach (graph_of_later core reading skip kept fresh lines))
+    → (i : ℕ) → i < length (live_of lines) → Reach (graph_of_one core reading skip lines) i → slice_get set i ≡ Some true
+unfolding graph_of
+reached_later core reading skip lines kept fresh set is_set i inside reached =
+    (is_set.each i inside).1 (reach_within (graph_of_one core reading skip lines) (graph_of_later core reading skip kept fresh lines)
+    (λ x h. has_back (kept ++ fresh) (graph_of_one core reading skip lines).first x h) (λ x. (λ h. h, λ h. h)) refl i reached)
+
+-- ---- what calls ask
+
+pub tests_of : (reading : Option (List ℕ)) (lines : List Line) (input : Input) (set : List Bool) → IsInput lines input → IsMarkedEarlier input.image reading input.skip lines set → length set ≡ length input.live.blocks
+tests_of reading lines input set is_input marked = marked.len ∙ ap length (sym (input_blocks input.image is_input.log lines input is_input.read))
+
+pub carried : (core1 core2 core log : List ℕ) (reading : Option (List ℕ)) (skip : Skip) (before now : List Line) (second : Input) (b : Between)
+    → IsReadOf core log now second → IsBetween core1 core2 reading skip before now b → IsCarry (length second.live.blocks) b.carry
+carried core1 core2 core log reading skip before now second b read between =
+    subst (λ (bs : List Block). IsCarry (length bs) b.carry) (sym (input_blocks core log now second read)) between.lists
+
+pub for_memory : {A : Type 0} (T : FindError → Type 0) (r : Result A FindError) → IfErr r (λ e. e ≡ NoMemory) → IfErr r (λ e. e ≢ NoMemory → T e)
+for_memory T (Ok x) h = tt
+for_memory T (Err e) h = λ other. absurd (other h)
+
+-- ---- the whole
+
+-- the graph that was marked again is that of the later core and its lines
+later_graph : (core : List ℕ) (reading : Option (List ℕ)) (skip : Skip) (lines : List Line) (blocks : List Block) (index : Index) (places : Places) (kept fresh : List ℕ)
+    → blocks ≡ live_of lines → index ≡ record { blocks = blocks; reading = reading } → AreRootsOf core blocks (spans_of skip lines) places
+    → graph_of_two (word_of core) index (words_at (word_of core) places) kept fresh ≡ graph_of_later core reading skip kept fresh lines
+later_graph core reading skip lines blocks index places kept fresh are is roots =
+    rw (found_words core blocks (spans_of skip lines) places roots, is, are) refl
+
+-- a search of the later core that read, compared, found roots and marked again
+finds_later : (core log : List ℕ) (reading : Option (List ℕ)) (workers : ℕ) (lines : List Line) (input : Input) (index : Index) (places : Places) (head : Head) (pages : List ℕ) (c : Carry) (r : Retraced) (count bytes : ℕ) (found : Found)
+    → IsReadOf core log lines input → index ≡ record { blocks = input.live.blocks; reading = reading } → AreRootsOf core input.live.blocks (spans_of input.skip lines) places
+    → OthersLeadWithin (word_of core) (index_of reading lines) pages c.kept.items c.fresh.items
+    → IsRetrace (word_of core) index places pages c workers r → count ≡ length c.fresh.items → bytes ≡ size_of input.live.blocks c.fresh.items
+    → head ≡ head_with input places (Some (record { fresh = count; fresh_bytes = bytes; reread = r.reread }))
+    → found.report.items ≡ text_of head input.live.blocks r.marked.set.items (heads_of (word_of core) index r.marked.set.items) log
+    → found.leaked ≡ length (leaked_in r.marked.set.items input.live.blocks) → found.claims ≡ r.marked.claims
+    → FindsLater core log reading input.skip lines pages c.kept.items c.fresh.items workers found
+finds_later core log reading workers lines input index places head pages c r count bytes found read is roots others retrace counted sized head_at report leaked claims =
+    let e = input_blocks core log lines input read in
+    let same_index = index_is reading lines input.live.blocks index e is in
+    let within = subst (λ (i : Index). OthersLeadWithin (word_of core) i pages c.kept.items c.fresh.items) (sym same_index) others in
+    let g = later_graph core reading input.skip lines input.live.blocks index places c.kept.items c.fresh.items e is roots in
+    let set = subst (λ (bs : List Block). IsSet r.marked.set.items (length bs) (Reach (graph_of_later core reading input.skip c.kept.items c.fresh.items lines))) (ap (λ (i : Index). i.blocks) same_index)
+    (subst (λ (h : Graph). IsSet r.marked.set.items (length index.blocks) (Reach h)) g (retrace.set within)) in
+    record {
+      set = r.marked.set.items;
+      marked = set;
+      reached = reached_later core reading input.skip lines c.kept.items c.fresh.items r.marked.set.items set;
+      report = report ∙ text_is core log reading lines input index places head pages c r count bytes read roots same_index retrace.reread counted sized head_at;
+      leaked = subst (λ (bs : List Block). found.leaked ≡ length (leaked_in r.marked.set.items bs)) e leaked;
+      lists = rw (claims) retrace.from.2.lists;
+      claims = rw (claims) (subst (λ (h : Graph). Partitions (lists_of r.marked) (λ i. Reach h i × ¬ Has c.kept.items i × ¬ Has c.fresh.items i)) g (retrace.claims within));
+    }
+  where
+    text_is : (core log : List ℕ) (reading : Option (List ℕ)) (lines : List Line) (input : Input) (index : Index) (places : Places) (head : Head) (pages : List ℕ) (c : Carry) (r : Retraced) (count bytes : ℕ)
+        → IsReadOf core log lines input → AreRootsOf core input.live.blocks (spans_of input.skip lines) places → index ≡ index_of reading lines → r.reread ≡ reread_of (word_of core) pages index.blocks c.kept.items
+        → count ≡ length c.fresh.items → bytes ≡ size_of input.live.blocks c.fresh.items
+        → head ≡ head_with input places (Some (record { fresh = count; fresh_bytes = bytes; reread = r.reread }))
+        → text_of head input.live.blocks r.marked.set.items (heads_of (word_of core) index r.marked.set.items) log
+        ≡ text_of (head_of_two core log input.skip lines (numbers_of_two core pages (live_of lines) c.kept.items c.fresh.items)) (live_of lines) r.marked.set.items (heads_of (word_of core) (index_of reading lines) r.marked.set.items) log
+    text_is core log reading lines input index places head pages c r count bytes read roots is reread counted sized head_at =
+        rw (head_at, counted, sized, reread, is, input_blocks core log lines input read)
+        (ap (λ (h : Head). text_of h (live_of lines) r.marked.set.items (heads_of (word_of core) (index_of reading lines) r.marked.set.items) log)
+        (head_is core log lines input places (Some (numbers_of_two core pages (live_of lines) c.kept.items c.fresh.items)) read roots))
+
+-- the same where the inputs are known by what was read
+finds_inputs : (log1 log2 : List ℕ) (reading : Option (List ℕ)) (skip : Skip) (workers : ℕ) (before now : List Line) (first second : Input) (index : Index) (places : Places) (head : Head) (b : Between) (r : Retraced) (count bytes : ℕ) (found : Found)
+    → IsReadOf first.image log1 before first → IsReadOf second.image log2 now second → length first.live.blocks < 2 ^ 32 → length second.live.blocks < 2 ^ 32
+    → IsTrue (is_continued_by log1 log2) → Continues before now → SameWordsLeadWithin
+    → IsBetween first.image second.image reading skip before now b → second.skip ≡ skip
+    → index ≡ record { blocks = second.live.blocks; reading = reading } → AreRootsOf second.image second.live.blocks (spans_of second.skip now) places
+    → IsRetrace (word_of second.image) index places b.pages b.carry workers r → count ≡ length b.carry.fresh.items → bytes ≡ size_of second.live.blocks b.carry.fresh.items
+    → head ≡ head_with second places (Some (record { fresh = count; fresh_bytes = bytes; reread = r.reread }))
+    → found.report.items ≡ text_with head second index r.marked.set.items log2
+    → found.leaked ≡ length (leaked_in r.marked.set.items second.live.blocks) → found.claims ≡ r.marked.claims
+    → FindsTwo first.image log1 second.image log2 reading skip workers found
+finds_inputs log1 log2 reading skip workers before now first second index places head b r count bytes found read1 read2 few1 few2 continued continues same between skips is roots retrace counted sized head_at report leaked claims =
+    let others = others_lead_within first.image second.image reading skip before now b between continues same in
+    let later = subst (λ (s : Skip). FindsLater second.image log2 reading s now b.pages b.carry.kept.items b.carry.fresh.items workers found) skips
+    (finds_later second.image log2 reading workers now second index places head b.pages b.carry r count bytes found read2 is roots others retrace counted sized head_at report leaked claims) in
+    record {
+      first = faultless first.image log1 before first read1;
+      second = faultless second.image log2 now second read2;
+      continued = continued;
+      few_before = subst (λ (bs : List Block). length bs < 2 ^ 32) (input_blocks first.image log1 before first read1) few1;
+      few_now = subst (λ (bs : List Block). length bs < 2 ^ 32) (input_blocks second.image log2 now second read2) few2;
+      earlier = between.earlier;
+      marked = between.marked;
+      pages = b.pages;
+      differing = between.pages;
+      finds = subst (λ (kept : List ℕ). FindsLater second.image log2 reading skip now b.pages kept (new_blocks before now) workers found) between.kept
+          (subst (λ (fresh : List ℕ). FindsLater second.image log2 reading skip now b.pages b.carry.kept.items fresh workers found) between.fresh later);
+    }
+
+pub finds_two : (core1 log1 core2 log2 : List ℕ) (reading : Option (List ℕ)) (skip : Skip) (workers : ℕ) (inputs : Inputs) (index : Index) (places : Places) (head : Head) (b : Between) (r : Retraced) (count bytes : ℕ) (found : Found)
+    → (read : AreReadTwo core1 log1 core2 log2 inputs) → SameWordsLeadWithin
+    → IsBetween inputs.first.image inputs.second.image reading inputs.first.skip read.before read.now b → (inputs.first.skip ≡ skip) × (inputs.second.skip ≡ skip)
+    → index ≡ record { blocks = inputs.second.live.blocks; reading = reading } → AreRootsOf inputs.second.image inputs.second.live.blocks (spans_of inputs.second.skip read.now) places
+    → IsRetrace (word_of inputs.second.image) index places b.pages b.carry workers r → count ≡ length b.carry.fresh.items → bytes ≡ size_of inputs.second.live.blocks b.carry.fresh.items
+    → head ≡ head_with inputs.second places (Some (record { fresh = count; fresh_bytes = bytes; reread = r.reread }))
+    → found.report.items ≡ text_with head inputs.second index r.marked.set.items log2
+    → found.leaked ≡ length (leaked_in r.marked.set.items inputs.second.live.blocks) → found.claims ≡ r.marked.claims
+    → FindsTwo core1 log1 core2 log2 reading skip workers found
+finds_two core1 log1 core2 log2 reading skip workers inputs index places head b r count bytes found read same between skips is roots retrace counted sized head_at report leaked claims =
+    let pair = paired core1 log1 core2 log2 inputs read in
+    let found_it = finds_inputs log1 log2 reading skip workers read.before read.now inputs.first inputs.second index places head b r count bytes found pair.first.read pair.second.read read.few_before read.few_now read.continued read.lines same
+    (subst (λ (s : Skip). IsBetween inputs.first.image inputs.second.image reading s read.before read.now b) skips.0 between) skips.1 is roots retrace counted sized head_at report leaked claims in
+    subst (λ (file : List ℕ). FindsTwo core1 log1 file log2 reading skip workers found) read.second.image
+    (subst (λ (file : List ℕ). FindsTwo file log1 inputs.second.image log2 reading skip workers found) read.first.image found_it)

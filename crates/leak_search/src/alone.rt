@@ -1,0 +1,47 @@
+//! The search of one core on the caller's thread.
+
+ghost use Rattle.std.specs.Prelude.{◌≢◌, [], ◌∷◌, IfOk, IfErr};
+ghost use Rattle.leak_index.specs.Readings.{listed_by};
+ghost use Rattle.leak_search.specs.Inputs.{IsFaultOfOne};
+ghost use Rattle.leak_search.specs.Search.{FindsOne};
+ghost use Rattle.leak_search.specs.Signs.{AreSigns};
+
+use crate::error::FindError;
+use crate::found::Found;
+use crate::inputs::read_input;
+use crate::reporting::{Aside, head_of, report_of};
+use crate::signing::signs_of_one;
+use leak_index::{Reading, Sorted};
+use leak_pool::mark_alone;
+use leak_roots::{Roots, Skip};
+use std::alloc::Global;
+
+/// Searches a core and its log on the caller's thread, with one list of claims.
+///
+/// It gives what [`find_one`](crate::find_one) gives with one worker, and refuses what that refuses, in the same order.
+pub fn find_alone(
+    alloc: Global,
+    core: &[u8],
+    log: &[u8],
+    reading: Reading,
+    skip: Skip,
+) -> Result<Found, FindError>
+    ensures ok { IfOk result (FindsOne core.now log.now (listed_by reading) skip 1) }
+    ensures signs { IfOk result (λ found. AreSigns (core.now ∷ log.now ∷ []) found.signs.items) }
+    ensures refused { IfErr result (λ e. e ≢ FindError.NoMemory → IsFaultOfOne core.now log.now e) }
+{
+    let input = read_input(alloc, 1, skip, core, log)?;
+    let signs = signs_of_one(alloc, &input)?;
+    let roots = Roots::find(
+        alloc,
+        &input.image,
+        &input.threads,
+        &input.live,
+        &input.small,
+    )?;
+    let lookup = Sorted::new(&input.live, reading);
+    let marked = mark_alone(alloc, &input.image, &lookup, &roots, &input.live)?;
+    let head = head_of(&input, &roots, None);
+    let aside = Aside { head, signs };
+    report_of(alloc, &input, &lookup, log, marked, aside)
+}

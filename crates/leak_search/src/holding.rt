@@ -1,0 +1,85 @@
+//! Why a block is held, from the bytes of a core and of a log.
+
+ghost use Rattle.std.specs.Prelude.{◌≡◌, ◌≢◌, IfOk, IfErr};
+ghost use Rattle.leak_index.specs.Readings.{listed_by};
+ghost use Rattle.leak_search.specs.declared.error.FindError.TheVariants.{NoMemory};
+ghost use Rattle.leak_search.specs.declared.holding.WhyError.TheVariants.{Find};
+ghost use Rattle.leak_search.specs.Holding.{IsWhyFault, TellsWhy};
+
+use crate::error::FindError;
+use crate::inputs::read_input;
+use leak_index::{Reading, Sorted};
+use leak_notes::register_sets;
+use leak_roots::{Roots, Skip};
+use leak_why::{block_at, text, why};
+use std::alloc::{AllocError, Global};
+use thiserror::Error;
+
+/// Why a block is held, or that it is not.
+#[derive(Drop)]
+pub struct Why {
+    /// The lines that tell it, each with its line feed.
+    pub text: Vec<u8>,
+    /// Whether a chain of words leads to the block.
+    pub held: bool,
+}
+
+/// Why it is not told what holds a block, in the order in which the reasons are tried.
+#[derive(Clone, Copy, Debug, PartialEq, Eq, Error)]
+pub enum WhyError {
+    /// The core or the log is refused, as by a search.
+    #[error("{0}")]
+    Find(FindError),
+    /// No live block has a byte at the address, or begins there.
+    #[error("no live block holds 0x{0:x}")]
+    NoBlock(u64),
+}
+
+impl From<FindError> for WhyError {
+    ghost from_gives = { λ error e. e ≡ Find error };
+
+    fn from(error: FindError) -> WhyError {
+        WhyError::Find(error)
+    }
+}
+
+impl From<AllocError> for WhyError {
+    ghost from_gives = { λ _ e. e ≡ Find NoMemory };
+
+    fn from(_error: AllocError) -> WhyError {
+        WhyError::Find(FindError::NoMemory)
+    }
+}
+
+/// Tells the shortest chain of words that holds the live block of the address, or that it leaked, on the caller's thread.
+pub fn find_why(
+    alloc: Global,
+    core: &[u8],
+    log: &[u8],
+    reading: Reading,
+    skip: Skip,
+    address: u64,
+) -> Result<Why, WhyError>
+    ensures ok { IfOk result (TellsWhy core.now log.now (listed_by reading) skip address) }
+    ensures refused { IfErr result (λ e. e ≢ Find NoMemory → IsWhyFault core.now log.now address e) }
+{
+    let input = read_input(alloc, 1, skip, core, log)?;
+    let Some(block) = block_at(&input.live, address) else {
+        return Err(WhyError::NoBlock(address));
+    };
+    let roots = Roots::find(
+        alloc,
+        &input.image,
+        &input.threads,
+        &input.live,
+        &input.small,
+    )?;
+    let lookup = Sorted::new(&input.live, reading);
+    let chain = why(alloc, &input.image, &lookup, &roots, &input.live, block)?;
+    let sets = register_sets(alloc, &input.image)?;
+    let text = text(alloc, &input.live, block, &chain, sets.as_slice(), log)?;
+    Ok(Why {
+        text,
+        held: chain.is_some(),
+    })
+}

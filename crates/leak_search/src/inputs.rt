@@ -1,0 +1,65 @@
+//! An input: a core, and the log of its allocations.
+
+ghost use Rattle.std.specs.Prelude.{◌≡◌, ◌≢◌, IfOk, IfErr};
+ghost use Rattle.leak_search.specs.Inputs.{IsInputFault, IsRead};
+
+use crate::error::{FindError, at_core, at_log, at_notes};
+use leak_blocks::{Live, SmallSpans, replay};
+use leak_elf::Image;
+use leak_mtrace::Log;
+use leak_notes::Threads;
+use leak_roots::Skip;
+use std::alloc::Global;
+
+/// A core and its log, read: nothing is marked yet. The log's lines are dropped, and their live blocks are kept.
+#[derive(Drop)]
+pub(crate) struct Input<'a> {
+    pub image: Image<'a>,
+    pub threads: Threads,
+    pub live: Live,
+    /// What a search leaves out of the root words.
+    pub skip: Skip,
+    /// The spans of the log whose freed places are left out.
+    pub small: SmallSpans,
+    /// How many of the log's lines are torn.
+    pub torn: u64,
+    /// How many bytes of the log its complete lines take.
+    pub whole_len: usize,
+}
+
+/// Reads the input with the number, or gives its first fault: the core's, then its notes', then the log's.
+pub(crate) fn read_input<'a>(
+    alloc: Global,
+    number: u8,
+    skip: Skip,
+    core: &'a [u8],
+    log: &[u8],
+) -> Result<Input<'a>, FindError>
+    ensures ok { IfOk result (IsRead core.now log.now) }
+    ensures skip { IfOk result (λ input. input.skip ≡ skip) }
+    ensures refused { IfErr result (λ e. e ≢ FindError.NoMemory → IsInputFault number core.now log.now e) }
+{
+    let image = match Image::read(alloc, core) {
+        Ok(image) => image,
+        Err(error) => return Err(at_core(number, error)),
+    };
+    let threads = match Threads::read(alloc, &image) {
+        Ok(threads) => threads,
+        Err(error) => return Err(at_notes(number, error)),
+    };
+    let log = match Log::read(alloc, log) {
+        Ok(log) => log,
+        Err(error) => return Err(at_log(number, error)),
+    };
+    let live = replay(alloc, &log)?;
+    let small = skip.spans(alloc, &log)?;
+    Ok(Input {
+        image,
+        threads,
+        live,
+        skip,
+        small,
+        torn: log.torn(),
+        whole_len: log.whole_len(),
+    })
+}

@@ -1,0 +1,10 @@
+//! Laws of searches. Each is a function that does nothing: its contract is the law.
+
+ghost use Rattle.leak_search.specs.Laws.{MarkedWithout, MarkedInTwoWithout};
+
+/// What is marked where words are left out is marked without that. So each block that leaks where nothing is left out
+/// leaks with it too, in one core and in two.
+pub fn leaked_stay_leaked()
+    ensures one { MarkedWithout }
+    ensures two { MarkedInTwoWithout }
+{}

@@ -1,0 +1,50 @@
+//! Searches of one core, and of two cores of one process, for leaked blocks.
+//!
+//! For every accepted input, every number of workers and every cutting of the work, the report is that of one thread: the
+//! live blocks to which no chain of words leads from the roots or, with two cores, from the kept and new blocks. Each
+//! other marked block is claimed by exactly one worker, and no block that can be reached in the second core is reported.
+//! Where an input is not accepted, the answer is the first refusal by the order of [`FindError`].
+//!
+//! [`find_alone`] searches one core on the caller's thread, [`find_one`] by worker threads, under the same promise, and
+//! [`find_two`] searches a later core from what an earlier one says. [`find_why`] tells why a block is held. What a leak,
+//! a root and a chain are is said in `specs/Search.antt` and, for two cores, in `specs/SearchTwo.antt`.
+//!
+//! An allocation of 32 bytes, and a core in which no word leads to it:
+//!
+//! ```text
+//! use leak_elf::core_k;
+//! use leak_index::Reading;
+//! use leak_roots::Skip;
+//! use leak_search::find_alone;
+//!
+//! let core = core_k(alloc, &[])?;
+//! let log = b"@ ./a.out:[0x401136] + 0x10100 0x20\n";
+//! let found = find_alone(alloc, &core, log, Reading::interior(), Skip::none())?;
+//! assert_eq!(rt; found.leaked, 1);
+//! ```
+//!
+//! The contracts don't say that a log is complete, that two cores are of one process, that a reported block is a fault of
+//! the program, or how long a search takes.
+#![tactic(auto)]
+
+mod alone;
+mod error;
+mod found;
+mod holding;
+mod inputs;
+mod laws;
+mod one_core;
+mod reporting;
+mod signing;
+mod two_cores;
+
+pub use alone::find_alone;
+pub use error::FindError;
+pub use found::Found;
+pub use holding::{Why, WhyError, find_why};
+pub use laws::leaked_stay_leaked;
+pub use one_core::find_one;
+pub use two_cores::find_two;
+
+#[cfg(test)]
+mod tests;

@@ -1,0 +1,72 @@
+//! The search of one core by worker threads.
+
+ghost use Rattle.std.specs.Prelude.{◌≢◌, [], ◌∷◌, IfOk, IfErr};
+ghost use Rattle.leak_index.specs.Readings.{listed_by};
+ghost use Rattle.leak_search.specs.Inputs.{IsFaultOfOne};
+ghost use Rattle.leak_search.specs.Search.{FindsOne};
+ghost use Rattle.leak_search.specs.Signs.{AreSigns};
+
+use crate::error::FindError;
+use crate::found::Found;
+use crate::inputs::read_input;
+use crate::reporting::{Aside, head_of, report_of};
+use crate::signing::signs_of_one;
+use leak_index::{Paged, Reading};
+use leak_pool::{Gate, Plan, mark_by_links};
+use leak_roots::{Roots, Skip};
+use std::alloc::Global;
+
+/// What blocks lead to is listed where that takes an eighth of the core at most, at four bytes a target. Own rule: lists of
+/// a core that is all addresses would take half of it.
+const LINK_SHARE: usize = 32;
+
+/// Searches a core and its log by the workers of the plan.
+///
+/// `core` holds the bytes of an ELF64 core of x86-64 Linux, and `log` those that mtrace(3) wrote for the same process.
+/// Which words lead to a block, `reading` says. The report, the leaked blocks and which blocks are claimed don't depend on
+/// the plan, on the gate, or on how the workers meet; by which worker a block is claimed does. There is one list of claims
+/// for each worker, also where it is empty.
+///
+/// # Errors
+///
+/// The first by the order of [`FindError`], with input number 1: `Core`, `Notes`, `Log`, `TooMany`. `NoMemory` can come at
+/// any time. Threads that can't be had are no error: the caller does their share.
+pub fn find_one<R: std::thread::Threads + Sync, G: Gate + Sync>(
+    rt: &R,
+    alloc: Global,
+    core: &[u8],
+    log: &[u8],
+    reading: Reading,
+    skip: Skip,
+    plan: Plan,
+    gate: &G,
+) -> Result<Found, FindError>
+    ensures ok { IfOk result (FindsOne core.now log.now (listed_by reading) skip plan.workers) }
+    ensures signs { IfOk result (λ found. AreSigns (core.now ∷ log.now ∷ []) found.signs.items) }
+    ensures refused { IfErr result (λ e. e ≢ FindError.NoMemory → IsFaultOfOne core.now log.now e) }
+{
+    let input = read_input(alloc, 1, skip, core, log)?;
+    let signs = signs_of_one(alloc, &input)?;
+    let roots = Roots::find(
+        alloc,
+        &input.image,
+        &input.threads,
+        &input.live,
+        &input.small,
+    )?;
+    let lookup = Paged::new(alloc, &input.live, reading)?;
+    let marked = mark_by_links(
+        rt,
+        alloc,
+        &input.image,
+        &lookup,
+        &roots,
+        &input.live,
+        plan,
+        gate,
+        core.len() / LINK_SHARE,
+    )?;
+    let head = head_of(&input, &roots, None);
+    let aside = Aside { head, signs };
+    report_of(alloc, &input, &lookup, log, marked, aside)
+}

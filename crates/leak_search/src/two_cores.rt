@@ -1,0 +1,219 @@
+//! The search of two cores of one process by worker threads.
+
+ghost use Rattle.std.specs.Prelude.{◌≡◌, ◌≢◌, ◌<◌, ◌^◌, ℕ, List, [], ◌∷◌, length, IfOk, IfErr};
+ghost use Rattle.std.specs.List.Sorted.{IsStrictlyIncreasing};
+ghost use Rattle.leak_marks.specs.Lists.{Has};
+ghost use Rattle.leak_mtrace.specs.declared.line.Line.{Line};
+ghost use Rattle.leak_mtrace.specs.Log.{is_continued_by, whole_len_of};
+ghost use Rattle.leak_blocks.specs.Live.{live_of};
+ghost use Rattle.leak_blocks.specs.Span.{AreAddressed, AreDisjoint};
+ghost use Rattle.leak_index.specs.Readings.{listed_by};
+ghost use Rattle.leak_search.specs.Inputs.{IsInput, ArePaired, AreReadTwo, IsFaultOfTwo};
+ghost use Rattle.leak_search.specs.Signs.{AreSigns};
+ghost use Rattle.leak_search.specs.SearchTwo.{IsMarkedEarlier, IsBetween, FindsTwo, size_of};
+
+use crate::error::FindError;
+use crate::found::Found;
+use crate::inputs::{Input, read_input};
+use crate::reporting::{Aside, head_of, report_of};
+use crate::signing::signs_of_two;
+use leak_blocks::Block;
+use leak_dirty::{Carry, absent_are_fresh, carry, differing, retrace, same_words_lead_within};
+use leak_index::{Paged, Reading};
+use leak_pool::{Gate, Marked, Plan, mark};
+use leak_report::Two;
+use leak_roots::{Roots, Skip};
+use leak_scan::Pages;
+use std::alloc::Global;
+use std::thread::Threads;
+
+/// Two inputs of one process.
+#[derive(Drop)]
+struct Inputs<'a, 'b> {
+    first: Input<'a>,
+    second: Input<'b>,
+}
+
+/// Whether the log's complete lines, which take so many of its bytes, begin the later log.
+fn is_continued(log: &[u8], whole_len: usize, later: &[u8]) -> bool
+    requires { whole_len ≡ whole_len_of log.now }
+    ensures { result ≡ is_continued_by log.now later.now }
+{
+    later.starts_with(&log[..whole_len])
+}
+
+/// Reads two inputs, or gives their first fault: those of the first, then those of the second, then that the first
+/// log's complete lines don't begin the second log, then that there are too many blocks.
+fn read_two<'a, 'b>(
+    alloc: Global,
+    skip: Skip,
+    core1: &'a [u8],
+    log1: &[u8],
+    core2: &'b [u8],
+    log2: &[u8],
+) -> Result<Inputs<'a, 'b>, FindError>
+    ensures read { IfOk result (AreReadTwo core1.now log1.now core2.now log2.now) }
+    ensures skip { IfOk result (λ inputs. (inputs.first.skip ≡ skip) × (inputs.second.skip ≡ skip)) }
+    ensures refused { IfErr result (λ e. e ≢ FindError.NoMemory → IsFaultOfTwo core1.now log1.now core2.now log2.now e) }
+{
+    let first = read_input(alloc, 1, skip, core1, log1)?;
+    let second = read_input(alloc, 2, skip, core2, log2)?;
+    if !is_continued(log1, first.whole_len, log2) {
+        return Err(FindError::NotPrefix);
+    }
+    if first.live.blocks().len() > u32::MAX as usize {
+        return Err(FindError::TooMany);
+    }
+    if second.live.blocks().len() > u32::MAX as usize {
+        return Err(FindError::TooMany);
+    }
+    Ok(Inputs { first, second })
+}
+
+/// What marking in the later core begins with.
+#[derive(Drop)]
+pub(crate) struct Between {
+    pub carry: Carry,
+    pub pages: Pages,
+}
+
+/// Marks the blocks of the first log that chains of its core reach.
+fn mark_earlier<R: Threads + Sync, G: Gate + Sync>(
+    rt: &R,
+    alloc: Global,
+    input: &Input,
+    reading: Reading,
+    plan: Plan,
+    gate: &G,
+) -> Result<Marked, FindError>
+    requires read { (lines : List Line) × IsInput lines input.now }
+    requires few { length input.now.live.blocks < 2 ^ 32 }
+    ensures marked { IfOk result (λ marked. (lines : List Line) → IsInput lines input.now → IsMarkedEarlier input.now.image (listed_by reading) input.now.skip lines marked.set.items) }
+    ensures memory { IfErr result (λ e. e ≡ FindError.NoMemory) }
+{
+    let roots = Roots::find(
+        alloc,
+        &input.image,
+        &input.threads,
+        &input.live,
+        &input.small,
+    )?;
+    let lookup = Paged::new(alloc, &input.live, reading)?;
+    let marked = mark(
+        rt,
+        alloc,
+        &input.image,
+        &lookup,
+        &roots,
+        &input.live,
+        plan,
+        gate,
+    )?;
+    Ok(marked)
+}
+
+/// Marks in the first core, and finds which blocks of the second log are kept or new, and which pages differ.
+fn compare<R: Threads + Sync, G: Gate + Sync>(
+    rt: &R,
+    alloc: Global,
+    inputs: &Inputs,
+    reading: Reading,
+    plan: Plan,
+    gate: &G,
+) -> Result<Between, FindError>
+    requires paired { (before : List Line) × (now : List Line) × ArePaired before now inputs.now }
+    requires few { (length inputs.now.first.live.blocks < 2 ^ 32) × (length inputs.now.second.live.blocks < 2 ^ 32) }
+    ensures between { IfOk result (λ between. (before now : List Line) → ArePaired before now inputs.now → IsBetween inputs.now.first.image inputs.now.second.image (listed_by reading) inputs.now.first.skip before now between) }
+    ensures memory { IfErr result (λ e. e ≡ FindError.NoMemory) }
+{
+    // (a law, for the proof: blocks that the first log lacks are new)
+    absent_are_fresh();
+    let marked = mark_earlier(rt, alloc, &inputs.first, reading, plan, gate)?;
+    let carry = carry(
+        alloc,
+        &inputs.first.live,
+        marked.set.as_slice(),
+        &inputs.second.live,
+    )?;
+    let pages = differing(rt, alloc, &inputs.first.image, &inputs.second.image)?;
+    Ok(Between { carry, pages })
+}
+
+/// The sum of the sizes of the numbered blocks, in bytes.
+fn sum_sizes(blocks: &[Block], numbers: &[u32]) -> u64
+    requires addressed { AreAddressed blocks.now }
+    requires disjoint { AreDisjoint blocks.now }
+    requires ascending { IsStrictlyIncreasing numbers.now }
+    requires inside { (b : ℕ) → Has numbers.now b → b < length blocks.now }
+    ensures { result ≡ size_of blocks.now numbers.now }
+{
+    let mut bytes = 0;
+    for number in numbers {
+        bytes += blocks[*number as usize].size;
+    }
+    bytes
+}
+
+/// Searches two cores of one process and their logs by the workers of the plan, with a list of claims for each.
+///
+/// The first log has to begin the second, up to its own last line feed. Marked in the second core are the blocks that
+/// were marked in the first core and are still live, those allocated since, and what chains lead to from these and from
+/// the roots (after Boehm, Demers and Shenker, PLDI 1991; that new blocks count is own rule). The report is that of the
+/// second core and its log, and the claims are of the marking there.
+///
+/// # Errors
+///
+/// The first refusal of input 1 (`Core`, `Notes`, `Log`), then of input 2, then `NotPrefix`, then `TooMany`. `NoMemory` can
+/// come at any time.
+pub fn find_two<R: Threads + Sync, G: Gate + Sync>(
+    rt: &R,
+    alloc: Global,
+    core1: &[u8],
+    log1: &[u8],
+    core2: &[u8],
+    log2: &[u8],
+    reading: Reading,
+    skip: Skip,
+    plan: Plan,
+    gate: &G,
+) -> Result<Found, FindError>
+    ensures ok { IfOk result (FindsTwo core1.now log1.now core2.now log2.now (listed_by reading) skip plan.workers) }
+    ensures signs { IfOk result (λ found. AreSigns (core1.now ∷ log1.now ∷ core2.now ∷ log2.now ∷ []) found.signs.items) }
+    ensures refused { IfErr result (λ e. e ≢ FindError.NoMemory → IsFaultOfTwo core1.now log1.now core2.now log2.now e) }
+{
+    // (a law, for the proof: words on pages that are the same need no second scan)
+    same_words_lead_within();
+    let inputs = read_two(alloc, skip, core1, log1, core2, log2)?;
+    let between = compare(rt, alloc, &inputs, reading, plan, gate)?;
+    let signs = signs_of_two(alloc, &inputs.first, &inputs.second)?;
+    let Inputs { first, second } = inputs;
+    drop(first); // no more is asked of it
+    let roots = Roots::find(
+        alloc,
+        &second.image,
+        &second.threads,
+        &second.live,
+        &second.small,
+    )?;
+    let lookup = Paged::new(alloc, &second.live, reading)?;
+    let retraced = retrace(
+        rt,
+        alloc,
+        &second.image,
+        &lookup,
+        &roots,
+        &second.live,
+        &between.carry,
+        &between.pages,
+        plan,
+        gate,
+    )?;
+    let two = Two {
+        fresh: between.carry.fresh.len() as u64,
+        fresh_bytes: sum_sizes(second.live.blocks(), &between.carry.fresh),
+        reread: retraced.reread,
+    };
+    let head = head_of(&second, &roots, Some(two));
+    let aside = Aside { head, signs };
+    report_of(alloc, &second, &lookup, log2, retraced.marked, aside)
+}
