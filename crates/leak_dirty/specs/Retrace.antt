@@ -4,12 +4,12 @@ use Rattle.leak_mtrace.specs.declared.line.Line.{Line}
 use Rattle.leak_blocks.specs.declared.block.Block.{Block}
 use Rattle.leak_blocks.specs.Live.{live_of}
 use Rattle.leak_index.specs.Hits.{Index, hits_of}
-use Rattle.leak_scan.specs.Targets.{page_of, targets_of}
+use Rattle.leak_scan.specs.Targets.{page_of}
 use Rattle.leak_marks.specs.Lists.{Has}
 use Rattle.leak_marks.specs.Reach.{Graph, Reach}
-use Rattle.leak_roots.specs.Places.{Places, words_at}
+use Rattle.leak_roots.specs.Places.{Places}
 use Rattle.leak_marks.specs.Partition.{Partitions}
-use Rattle.leak_pool.specs.Marking.{graph_of, IsSet, lists_of, MarksFrom}
+use Rattle.leak_pool.specs.Marking.{graph_of, led_by_roots, IsSet, lists_of, MarksFrom}
 use Rattle.leak_pool.specs.declared.start.Start.{Start}
 use Rattle.leak_pool.specs.declared.start.Part.TheVariants.{Whole, Differing}
 use Rattle.leak_dirty.specs.declared.kept.Carry.{Carry}
@@ -17,12 +17,12 @@ use Rattle.leak_dirty.specs.declared.retracing.Retraced.{Retraced}
 use Rattle.leak_dirty.specs.Differing.{differs, reread_of}
 use Rattle.leak_dirty.specs.Kept.{kept_of, fresh_of}
 
--- the graph of two cores: a chain begins at a kept block, at a fresh one, or at one that a root word of the later
--- core leads to, and goes on by words of that core
+-- the graph of two cores: a chain begins at a kept block, at a fresh one, or at one that is led to first, as by a root word
+-- of the later core, and goes on by words of that core
 abbrev pub graph_of_two : (ℕ → Option ℕ) → Index → List ℕ → List ℕ → List ℕ → Graph
-graph_of_two word_now index words kept fresh = record {
-  first = kept ++ fresh ++ targets_of index words;
-  targets = (graph_of word_now index words []).targets;
+graph_of_two word_now index first kept fresh = record {
+  first = kept ++ fresh ++ first;
+  targets = (graph_of word_now index first []).targets;
   given = [];
 }
 
@@ -34,13 +34,13 @@ OthersLeadWithin word_now index pages kept fresh =
     (j : ℕ) → Has (hits_of index w) j → Has kept j ⊎ Has fresh j
 
 -- two logs, the first a beginning of the second, and what is marked in the earlier core
-pub record IsMarkedBefore (word_before : ℕ → Option ℕ) (reading : Option (List ℕ)) (words_before : List ℕ) (before after : List Line) (set : List Bool) : Type 0 where
-  pub marked : IsSet set (length (live_of before)) (Reach (graph_of word_before (record { blocks = live_of before; reading = reading }) words_before []))
+pub record IsMarkedBefore (word_before : ℕ → Option ℕ) (reading : Option (List ℕ)) (first_before : List ℕ) (before after : List Line) (set : List Bool) : Type 0 where
+  pub marked : IsSet set (length (live_of before)) (Reach (graph_of word_before (record { blocks = live_of before; reading = reading }) first_before []))
 
 -- a word, in the later core, of a kept block on a page that doesn't differ leads to kept and fresh blocks alone
 abbrev pub SameWordsLeadWithin : Type 0
-SameWordsLeadWithin = (word_before word_now : ℕ → Option ℕ) (reading : Option (List ℕ)) (words_before : List ℕ)
-    (before after : List Line) (set : List Bool) → IsMarkedBefore word_before reading words_before before after set →
+SameWordsLeadWithin = (word_before word_now : ℕ → Option ℕ) (reading : Option (List ℕ)) (first_before : List ℕ)
+    (before after : List Line) (set : List Bool) → IsMarkedBefore word_before reading first_before before after set →
     (i : ℕ) (b : Block) → slice_get (live_of (before ++ after)) i ≡ Some b → Has (kept_of (live_of before) set (live_of (before ++ after))) i →
     (a w : ℕ) → b.start ≤ a → a + 8 ≤ b.start + b.size → word_now a ≡ Some w → IsFalse (differs word_before word_now (page_of a)) →
     (j : ℕ) → Has (hits_of (record { blocks = live_of (before ++ after); reading = reading }) w) j →
@@ -56,7 +56,7 @@ pub record IsStartWith (c : Carry) (s : Start) : Type 0 where
 pub record IsRetrace (word_now : ℕ → Option ℕ) (index : Index) (places : Places) (pages : List ℕ) (c : Carry) (workers : ℕ) (r : Retraced) : Type 0 where
   pub from : (s : Start) × IsStartWith c s × MarksFrom word_now index places pages s workers r.marked
   pub set : OthersLeadWithin word_now index pages c.kept.items c.fresh.items →
-      IsSet r.marked.set.items (length index.blocks) (Reach (graph_of_two word_now index (words_at word_now places) c.kept.items c.fresh.items))
+      IsSet r.marked.set.items (length index.blocks) (Reach (graph_of_two word_now index (led_by_roots word_now index places) c.kept.items c.fresh.items))
   pub claims : OthersLeadWithin word_now index pages c.kept.items c.fresh.items →
-      Partitions (lists_of r.marked) (λ i. Reach (graph_of_two word_now index (words_at word_now places) c.kept.items c.fresh.items) i × ¬ Has c.kept.items i × ¬ Has c.fresh.items i)
+      Partitions (lists_of r.marked) (λ i. Reach (graph_of_two word_now index (led_by_roots word_now index places) c.kept.items c.fresh.items) i × ¬ Has c.kept.items i × ¬ Has c.fresh.items i)
   pub reread : r.reread ≡ reread_of word_now pages index.blocks c.kept.items

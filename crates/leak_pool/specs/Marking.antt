@@ -1,12 +1,13 @@
 -- What marking comes to, for every plan and every schedule (bdwgc: an object is kept where a chain of words
 -- leads to it from a root; Boehm, Demers, Shenker, PLDI 1991, for marking from an earlier state).
-use Rattle.std.specs.Prelude.{◌≡◌, ℕ, ◌+◌, ◌<◌, ◌≤◌, ◌⊎◌, ◌↔◌, Bool, true, List, [], ◌++◌, length, map, flat_map, Option, Some, slice_get}
+use Rattle.std.specs.Prelude.{◌≡◌, ℕ, ◌+◌, ◌<◌, ◌≤◌, ◌⊎◌, ◌↔◌, Bool, true, false, List, [], ◌++◌, length, map, flat_map, filter_map, Option, Some, slice_get}
 use Rattle.std.specs.Option.{option_map_or}
 use Rattle.std.specs.List.{AllByRecursion}
 use Rattle.leak_blocks.specs.declared.block.Block.{Block}
 use Rattle.leak_index.specs.Hits.{Index}
 use Rattle.leak_scan.specs.Targets.{block_words, block_words_on, block_targets, targets_of}
-use Rattle.leak_roots.specs.Places.{Places, words_at}
+use Rattle.leak_scan.specs.RootWords.{targets_without_links}
+use Rattle.leak_roots.specs.Places.{Places, memory_places}
 use Rattle.leak_marks.specs.Lists.{Has}
 use Rattle.leak_marks.specs.Reach.{Graph, Reach}
 use Rattle.leak_marks.specs.Partition.{Partitions}
@@ -15,10 +16,25 @@ use Rattle.leak_pool.specs.declared.start.Part.TheVariants.{Whole, Differing}
 use Rattle.leak_pool.specs.declared.start.Start.{Start}
 use Rattle.leak_pool.specs.declared.marked.Marked.{Marked}
 
--- the graph of a log's blocks: what the given words lead to, and what each block's words lead to
+-- what the words at addresses in memory lead to as root words, and the same without malloc's links to free chunks
+abbrev pub led_in_memory : Bool → (ℕ → Option ℕ) → Index → List ℕ → List ℕ
+led_in_memory false word_at index addresses = targets_of index (filter_map word_at addresses)
+led_in_memory true word_at index addresses = targets_without_links word_at index addresses
+
+-- what root words lead to: those of registers, and those in memory with such links or without
+abbrev pub led_from : Bool → (ℕ → Option ℕ) → Index → List ℕ → List ℕ → List ℕ
+led_from skips_links word_at index registers addresses =
+    targets_of index registers ++ led_in_memory skips_links word_at index addresses
+
+-- what the root words at the places lead to
+abbrev pub led_by_roots : (ℕ → Option ℕ) → Index → Places → List ℕ
+led_by_roots word_at index places =
+    led_from places.skips_links word_at index places.registers (memory_places places.memory)
+
+-- the graph of a log's blocks: the blocks that are led to first, and what each block's words lead to
 unfoldable pub graph_of : (ℕ → Option ℕ) → Index → List ℕ → List ℕ → Graph
-graph_of word_at index words given = record {
-  first = targets_of index words;
+graph_of word_at index first given = record {
+  first = first;
   targets = map (block_targets word_at index) index.blocks;
   given = given;
 }
@@ -42,16 +58,17 @@ lists_of m = map (λ v. v.items) m.claims.items
 
 -- the marked set is what the roots reach, the claims partition it, and there is a round more than blocks at most
 pub record Marks (word_at : ℕ → Option ℕ) (index : Index) (places : Places) (workers : ℕ) (m : Marked) : Type 0 where
-  pub set : IsSet m.set.items (length index.blocks) (Reach (graph_of word_at index (words_at word_at places) []))
+  pub set : IsSet m.set.items (length index.blocks) (Reach (graph_of word_at index (led_by_roots word_at index places) []))
   pub lists : length (lists_of m) ≡ workers
-  pub claims : Partitions (lists_of m) (Reach (graph_of word_at index (words_at word_at places) []))
+  pub claims : Partitions (lists_of m) (Reach (graph_of word_at index (led_by_roots word_at index places) []))
   pub rounds : m.rounds ≤ length index.blocks + 1
   pub none : length index.blocks ≡ 0 → m.rounds ≡ 0
 
 -- the graph of marking from a start
 abbrev pub graph_from : (ℕ → Option ℕ) → Index → Places → List ℕ → Start → Graph
 graph_from word_at index places pages s =
-    graph_of word_at index (words_at word_at places ++ flat_map (part_words word_at pages index.blocks) s.rescan.items) s.marked.items
+    let again = targets_of index (flat_map (part_words word_at pages index.blocks) s.rescan.items) in
+    graph_of word_at index (led_by_roots word_at index places ++ again) s.marked.items
 
 -- the same from a start: the marked blocks, and what is reached outside them, which the claims partition
 pub record MarksFrom (word_at : ℕ → Option ℕ) (index : Index) (places : Places) (pages : List ℕ) (s : Start) (workers : ℕ) (m : Marked) : Type 0 where

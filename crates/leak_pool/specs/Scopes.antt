@@ -1,17 +1,20 @@
 -- What marking scans: pieces of the root words, after them parts of blocks that are scanned again, and blocks.
-use Rattle.std.specs.Prelude.{ℕ, ◌<◌, List, ◌++◌, map, Option}
+use Rattle.std.specs.Prelude.{ℕ, ◌<◌, List, ◌++◌, map, Option, slice_range}
 use Rattle.std.specs.List.{AllByRecursion}
 use Rattle.leak_index.specs.Hits.{Index}
 use Rattle.leak_roots.specs.declared.piece.Piece.{Piece}
-use Rattle.leak_roots.specs.Places.{Places}
-use Rattle.leak_roots.specs.Pieces.{IsPiece, words_of}
+use Rattle.leak_roots.specs.declared.piece.Piece.TheVariants.{Registers, Memory}
+use Rattle.leak_roots.specs.Places.{Places, addresses_in}
+use Rattle.leak_roots.specs.Pieces.{IsPiece}
 use Rattle.leak_scan.specs.Targets.{block_targets, targets_of}
 use Rattle.leak_pool.specs.declared.start.Part.{Part}
-use Rattle.leak_pool.specs.Marking.{part_words}
+use Rattle.leak_pool.specs.Marking.{led_in_memory, part_words}
 
 -- what a piece leads to, and what a part of a block leads to
 abbrev pub piece_targets : (ℕ → Option ℕ) → Index → Places → Piece → List ℕ
-piece_targets word_at index places piece = targets_of index (words_of word_at places piece)
+piece_targets word_at index places (Registers from to) = targets_of index (slice_range places.registers from to)
+piece_targets word_at index places (Memory from to) =
+    led_in_memory places.skips_links word_at index (addresses_in (from, to))
 
 abbrev pub part_targets : (ℕ → Option ℕ) → Index → List ℕ → ℕ × Part → List ℕ
 part_targets word_at index pages part = targets_of index (part_words word_at pages index.blocks part)

@@ -1,10 +1,8 @@
 //! Marking on the caller's thread.
 ghost use Rattle.std.specs.Prelude.{◌≡◌, ◌↔◌, ℕ, ◌+◌, ◌<◌, ◌≤◌, ◌-◌, ◌^◌, List, [], ◌∷◌, IfOk, IsErrOf, length};
 ghost use Rattle.leak_marks.specs.Lists.{Has};
-ghost use Rattle.leak_roots.specs.Places.{words_at};
-ghost use Rattle.leak_scan.specs.Targets.{targets_of};
 ghost use Rattle.leak_pool.specs.Alone.{AreMarks, AreTaken, IsFollowed};
-ghost use Rattle.leak_pool.specs.Marking.{Marks, graph_of};
+ghost use Rattle.leak_pool.specs.Marking.{Marks, graph_of, led_by_roots};
 
 use crate::error::PoolError;
 use crate::marked::Marked;
@@ -34,7 +32,7 @@ pub fn mark_alone<W: Words, L: Lookup>(
     let mut set = vec![in alloc; false; blocks.len()]?;
     let mut list = Vec::new(alloc);
     let marks = set.as_mut_slice();
-    take_roots(words, lookup, roots, marks, &mut list)?;
+    take_roots(words, lookup, roots, live, marks, &mut list)?;
     let rounds = take_blocks(words, lookup, blocks, marks, &mut list)?;
     let rounds = if blocks.is_empty() { 0 } else { rounds };
     let claims = vec![in alloc; list]?;
@@ -50,19 +48,25 @@ fn take_roots<W: Words, L: Lookup>(
     words: &W,
     lookup: &L,
     roots: &Roots,
+    live: &Live,
     set: &mut [bool],
     list: &mut Vec<u32>,
 ) -> Result<(), AllocError>
+    requires same_blocks { (L.index lookup.now).blocks ≡ live.now.blocks }
     requires blocks { length set.old ≡ length (L.index lookup.now).blocks }
     requires few { length set.old < 2 ^ 32 }
     requires marks { AreMarks set.old list.old.items }
     ensures marks { AreMarks set.new list.new.items }
-    ensures done { IfOk result (λ _. AreTaken (targets_of (L.index lookup.now) (words_at (W.word_at words.now) roots.now)) list.old.items list.new.items) }
+    ensures done { IfOk result (λ _. AreTaken (led_by_roots (W.word_at words.now) (L.index lookup.now) roots.now) list.old.items list.new.items) }
 {
     let targets = Targets::of_registers(words, roots.registers(), lookup);
     take_all(targets, set, list)?;
     for range in roots.memory() {
-        let targets = Targets::of_range(words, lookup, range.0, range.1);
+        let targets = if roots.skips_links() {
+            Targets::of_root_range(words, lookup, live, range.0, range.1)
+        } else {
+            Targets::of_range(words, lookup, range.0, range.1)
+        };
         take_all(targets, set, list)?;
     }
     Ok(())
@@ -83,7 +87,9 @@ fn take_blocks<W: Words, L: Lookup>(
     requires marks { AreMarks set.old list.old.items }
     ensures marks { AreMarks set.new list.new.items }
     ensures rounds { IfOk result (λ rounds. rounds ≤ length blocks.now + 1) }
-    ensures done { IfOk result (λ _. (roots : List ℕ) → IsFollowed (graph_of (W.word_at words.now) (L.index lookup.now) roots []) list.old.items 0 → IsFollowed (graph_of (W.word_at words.now) (L.index lookup.now) roots []) list.new.items (length list.new.items)) }
+    ensures done { IfOk result (λ _. (first : List ℕ)
+        → IsFollowed (graph_of (W.word_at words.now) (L.index lookup.now) first []) list.old.items 0
+        → IsFollowed (graph_of (W.word_at words.now) (L.index lookup.now) first []) list.new.items (length list.new.items)) }
 {
     let mut rounds = 1;
     let mut end = 0;

@@ -49,6 +49,7 @@ pub fn mark_by_links<R: Threads + Sync, W: Words + Sync, L: Lookup + Sync, G: Ga
     let scope = Scope {
         words,
         lookup,
+        live,
         blocks,
         roots,
         pieces: pieces.as_slice(),

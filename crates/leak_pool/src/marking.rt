@@ -69,6 +69,7 @@ pub fn mark_from<R: Threads + Sync, W: Words + Sync, L: Lookup + Sync, G: Gate +
     let scope = Scope {
         words,
         lookup,
+        live,
         blocks,
         roots,
         pieces: pieces.as_slice(),

@@ -8,7 +8,7 @@ ghost use Rattle.leak_pool.specs.ScopeLaw.{pieces_prop, parts_prop};
 use crate::claiming::claim_all;
 use crate::source::{Item, Source};
 use crate::start::Part;
-use leak_blocks::Block;
+use leak_blocks::{Block, Live};
 use leak_elf::Words;
 use leak_index::Lookup;
 use leak_marks::{MarkSeat, Marks};
@@ -21,11 +21,13 @@ use std::alloc::AllocError;
 pub(crate) struct Scope<'a, W: Words, L: Lookup> {
     pub(crate) words: &'a W,
     pub(crate) lookup: &'a L,
+    pub(crate) live: &'a Live,
     pub(crate) blocks: &'a [Block],
     pub(crate) roots: &'a Roots,
     pub(crate) pieces: &'a [Piece],
     pub(crate) rescan: &'a [(u32, Part)],
     pub(crate) pages: &'a Pages,
+    ghost of_live: { (L.index lookup.now).blocks ≡ live.now.blocks },
     ghost same: { (L.index lookup.now).blocks ≡ blocks.now },
     ghost few: { length blocks.now < 2 ^ 32 },
     ghost in_roots: { ArePieces roots.now pieces.now } by { pieces_prop roots.now pieces.now },
@@ -56,6 +58,9 @@ impl<'a, W: Words, L: Lookup> Scope<'a, W, L> {
             Piece::Registers(from, to) => {
                 let registers = &self.roots.registers()[from..to];
                 Targets::of_registers(self.words, registers, self.lookup)
+            }
+            Piece::Memory(from, to) if self.roots.skips_links() => {
+                Targets::of_root_range(self.words, self.lookup, self.live, from, to)
             }
             Piece::Memory(from, to) => Targets::of_range(self.words, self.lookup, from, to),
         }

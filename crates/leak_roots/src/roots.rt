@@ -1,6 +1,6 @@
 //! The root words of a core.
 
-ghost use Rattle.std.specs.Prelude.{◌≡◌, ◌↔◌, IfOk, Err, List, length};
+ghost use Rattle.std.specs.Prelude.{◌≡◌, ◌↔◌, IfOk, Err, List, length, false};
 ghost use Rattle.leak_notes.specs.Threads.{threads_of};
 ghost use Rattle.leak_blocks.specs.declared.small.Span.{Span};
 ghost use Rattle.leak_blocks.specs.Small.{CoverSame};
@@ -24,12 +24,18 @@ pub struct Roots {
     registers: Vec<u64>,
     memory: Vec<(u64, u64)>,
     freed: u64,
+    skips_links: bool,
 }
 
 impl Model for Roots {
     ghost Value = { Places };
 
-    ghost view = { λ roots. record { registers = roots.registers.items; memory = roots.memory.items; freed = roots.freed } };
+    ghost view = { λ roots. record {
+      registers = roots.registers.items;
+      memory = roots.memory.items;
+      freed = roots.freed;
+      skips_links = roots.skips_links;
+    } };
 
     ghost invariant = { λ roots. AreRanges roots.memory.items };
 }
@@ -41,7 +47,7 @@ impl Roots {
     /// They are the register words of the threads, as they are given, and the words of 8 bytes at the multiples of 8 in
     /// writable segments that share no byte with a live block and whose bytes the core holds: registers, stacks and
     /// static data, as Boehm's collector takes them. Only where the threads are the core's are these the core's root
-    /// words. It fails where memory is refused, and then alone.
+    /// words. No link to a free chunk is left out. It fails where memory is refused, and then alone.
     pub fn find(
         alloc: Global,
         image: &Image,
@@ -52,6 +58,7 @@ impl Roots {
         ensures registers { IfOk result (λ roots. roots.registers ≡ threads.now.registers) }
         ensures memory { IfOk result (λ roots. memory_places roots.memory ≡ root_places image.now live.now.blocks small.now) }
         ensures freed { IfOk result (λ roots. roots.freed ≡ length (freed_places image.now live.now.blocks small.now)) }
+        ensures links { IfOk result (λ roots. roots.skips_links ≡ false) }
         ensures of_core { (spans : List Span) → CoverSame small.now spans → threads.now ≡ threads_of image.now → IfOk result (AreRootsOf image.now live.now.blocks spans) }
     {
         let registers = threads.registers().to_vec(alloc)?;
@@ -61,6 +68,7 @@ impl Roots {
             registers,
             memory,
             freed,
+            skips_links: false,
         })
     }
 
@@ -85,6 +93,23 @@ impl Roots {
         ensures { result ≡ self.now.freed }
     {
         self.freed
+    }
+
+    /// The same root words, and whether malloc's links to free chunks are left out of what those in memory lead to.
+    pub fn skip_links(self, skip: bool) -> Roots
+        ensures { result ≡ record self { skips_links = skip } }
+    {
+        Roots {
+            skips_links: skip,
+            ..self
+        }
+    }
+
+    /// Whether malloc's links to free chunks are left out of what the root words in memory lead to.
+    pub fn skips_links(&self) -> bool
+        ensures { result ≡ self.now.skips_links }
+    {
+        self.skips_links
     }
 
     /// Cuts the root words into pieces of at most so many words.
