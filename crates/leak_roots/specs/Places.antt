@@ -1,5 +1,5 @@
 -- Root words by their places: the register words, and addresses in memory as ranges of multiples of 8.
-use Rattle.std.specs.Prelude.{◌≡◌, ℕ, ◌<◌, ◌≤◌, ◌%◌, ◌+◌, ◌-◌, ◌/◌, ◌*◌, List, [], ◌∷◌, ◌++◌, map, filter, flat_map, filter_map, ◌==◌, Option, ⊤}
+use Rattle.std.specs.Prelude.{◌≡◌, ℕ, ◌<◌, ◌≤◌, ◌%◌, ◌+◌, ◌-◌, ◌/◌, ◌*◌, Bool, List, [], ◌∷◌, ◌++◌, map, filter, flat_map, filter_map, ◌==◌, Option, ⊤}
 use Rattle.std.specs.List.{range_with_len, AllByRecursion}
 use Rattle.leak_elf.specs.Words.{places}
 
