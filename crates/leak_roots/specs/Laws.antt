@@ -10,13 +10,19 @@ use Rattle.leak_roots.specs.Roots.{AreRootsOf, root_words}
 
 -- the words of the pieces, one piece after another, are those at all places
 abbrev pub PiecesHoldAllWords : Type 0
-PiecesHoldAllWords = (word_at : ℕ → Option ℕ) (p : Places) (words : ℕ) (pieces : List Piece) → AreCut p words pieces → flat_map (words_of word_at p) pieces ≡ words_at word_at p
+PiecesHoldAllWords =
+    (word_at : ℕ → Option ℕ) (p : Places) (words : ℕ) (pieces : List Piece)
+    → AreCut p words pieces → flat_map (words_of word_at p) pieces ≡ words_at word_at p
 
 -- and so is what is made of each word
 abbrev pub PiecesGiveAll : Type 0
-PiecesGiveAll = (f : ℕ → List ℕ) (word_at : ℕ → Option ℕ) (p : Places) (words : ℕ) (pieces : List Piece) → AreCut p words pieces → flat_map (λ piece. flat_map f (words_of word_at p piece)) pieces ≡ flat_map f (words_at word_at p)
+PiecesGiveAll =
+    (f : ℕ → List ℕ) (word_at : ℕ → Option ℕ) (p : Places) (words : ℕ) (pieces : List Piece)
+    → AreCut p words pieces
+    → flat_map (λ piece. flat_map f (words_of word_at p piece)) pieces ≡ flat_map f (words_at word_at p)
 
 -- the words at the places of a core's root words are its root words
 abbrev pub PlacesHoldRootWords : Type 0
 PlacesHoldRootWords =
-    (file : List ℕ) (blocks : List Block) (spans : List Span) (p : Places) → AreRootsOf file blocks spans p → words_at (word_of file) p ≡ root_words file blocks spans
+    (file : List ℕ) (blocks : List Block) (spans : List Span) (p : Places)
+    → AreRootsOf file blocks spans p → words_at (word_of file) p ≡ root_words file blocks spans

@@ -12,7 +12,8 @@ pub data Place : Type 0 where
 
 -- all places of root words, in order
 abbrev pub all_places : Places → List Place
-all_places p = map InRegisters (range_with_len 0 (length p.registers)) ++ map InMemory (memory_places p.memory)
+all_places p =
+    map InRegisters (range_with_len 0 (length p.registers)) ++ map InMemory (memory_places p.memory)
 
 -- the places in a piece, in order
 abbrev pub places_of : Piece → List Place

@@ -18,8 +18,11 @@ is_apart a b = not (nat_lt (max a b.start) (min (a + 8) (b.start + b.size)))
 
 -- blocks by ascending address, each ending in the address space and before the next begins
 pub record AreOrdered (blocks : List Block) : Type 0 where
-  pub apart : (j k : ℕ) (d : Block) → j < k → k < length blocks → (slice_index_or blocks j d).start + (slice_index_or blocks j d).size ≤ (slice_index_or blocks k d).start
-  pub fit : (k : ℕ) (d : Block) → k < length blocks → (slice_index_or blocks k d).start + (slice_index_or blocks k d).size < 2 ^ 64
+  pub apart : (j k : ℕ) (d : Block) → j < k → k < length blocks
+      → (slice_index_or blocks j d).start + (slice_index_or blocks j d).size
+      ≤ (slice_index_or blocks k d).start
+  pub fit : (k : ℕ) (d : Block) → k < length blocks
+      → (slice_index_or blocks k d).start + (slice_index_or blocks k d).size < 2 ^ 64
 
 -- an address of a root word, as far as the blocks say
 abbrev pub is_free : List Block → ℕ → Bool
@@ -27,11 +30,14 @@ is_free blocks a = (a % 8 == 0) && list_all (is_apart a) blocks
 
 -- the addresses of a segment that hold a word and share no byte with a live block
 abbrev pub outside_places_in : List ℕ → List Block → Segment → List ℕ
-outside_places_in file blocks s = filter (λ a. is_some (word_of file a) && list_all (is_apart a) blocks) (places s.vaddr (s.vaddr + s.filesz))
+outside_places_in file blocks s =
+    filter (λ a. is_some (word_of file a) && list_all (is_apart a) blocks)
+    (places s.vaddr (s.vaddr + s.filesz))
 
 -- the addresses of writable segments that do, in ascending order
 unfoldable pub outside_places : List ℕ → List Block → List ℕ
-outside_places file blocks = flat_map (outside_places_in file blocks) (filter (λ s. s.writable) (segments_of file))
+outside_places file blocks =
+    flat_map (outside_places_in file blocks) (filter (λ s. s.writable) (segments_of file))
 
 -- each of the 8 bytes from the address on lies in a span, not all of them in the same one
 abbrev pub is_freed : List Span → ℕ → Bool
@@ -47,10 +53,12 @@ root_places file blocks spans = filter (λ a. not (is_freed spans a)) (outside_p
 
 -- the root words of a core: registers first, then memory by address
 unfoldable pub root_words : List ℕ → List Block → List Span → List ℕ
-root_words file blocks spans = registers_of file ++ filter_map (word_of file) (root_places file blocks spans)
+root_words file blocks spans =
+    registers_of file ++ filter_map (word_of file) (root_places file blocks spans)
 
 -- these are the places of the core's root words, each once, and the number of freed places
-pub record AreRootsOf (file : List ℕ) (blocks : List Block) (spans : List Span) (p : Places) : Type 0 where
+pub record AreRootsOf (file : List ℕ) (blocks : List Block) (spans : List Span) (p : Places)
+    : Type 0 where
   pub registers : p.registers ≡ registers_of file
   pub memory : memory_places p.memory ≡ root_places file blocks spans
   pub ranges : AreRanges p.memory

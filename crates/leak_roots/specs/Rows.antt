@@ -20,4 +20,5 @@ pub record AreAnswers : Type 0 where
   pub within_a_span : is_freed (span 0x10100 0x1010b ∷ []) 0x10100 ≡ true
   pub half_within_a_span : is_freed (span 0x10100 0x1010b ∷ []) 0x10108 ≡ false
   pub within_two_spans : is_freed (span 0x10104 0x10107 ∷ span 0x10100 0x10103 ∷ []) 0x10100 ≡ true
-  pub one_byte_between_spans : is_freed (span 0x10105 0x10107 ∷ span 0x10100 0x10103 ∷ []) 0x10100 ≡ false
+  pub one_byte_between_spans :
+      is_freed (span 0x10105 0x10107 ∷ span 0x10100 0x10103 ∷ []) 0x10100 ≡ false

@@ -23,7 +23,8 @@ fn count_before(spans: &[Span], addr: u64) -> usize
     requires { AreApart spans.now }
     ensures bound { result ≤ length spans.now }
     ensures within { (k : ℕ) (d : Span) → k < result → (slice_index_or spans.now k d).last < addr }
-    ensures beyond { (k : ℕ) (d : Span) → result ≤ k → k < length spans.now → addr ≤ (slice_index_or spans.now k d).last }
+    ensures beyond { (k : ℕ) (d : Span) → result ≤ k → k < length spans.now
+        → addr ≤ (slice_index_or spans.now k d).last }
 {
     spans.partition_point(|span| span.last < addr)
 }
@@ -35,7 +36,8 @@ fn run_from(spans: &[Span], from: u64, to: u64) -> Run
     ensures some { from < result.end }
     ensures within { result.end ≤ to }
     ensures multiple { result.end % 8 ≡ 0 }
-    ensures alike { (a : ℕ) → from ≤ a → a < result.end → a % 8 ≡ 0 → is_freed spans.now a ≡ result.freed }
+    ensures alike { (a : ℕ) → from ≤ a → a < result.end → a % 8 ≡ 0
+        → is_freed spans.now a ≡ result.freed }
 {
     let last = from + 7;
     let next = count_before(spans, last);
@@ -68,10 +70,13 @@ fn push_kept(
     requires range { IsRange range }
     requires ranges { AreRanges kept.old.items }
     requires ends { EndBy range.0 kept.old.items }
-    ensures places { OnOk result (memory_places kept.new.items ≡ memory_places kept.old.items ++ filter (λ a. not (is_freed spans.now a)) (addresses_in range)) }
+    ensures places { OnOk result (memory_places kept.new.items
+        ≡ memory_places kept.old.items
+        ++ filter (λ a. not (is_freed spans.now a)) (addresses_in range)) }
     ensures ranges { OnOk result (AreRanges kept.new.items) }
     ensures ends { OnOk result (EndBy range.1 kept.new.items) }
-    ensures freed { IfOk result (λ freed. freed ≡ length (filter (is_freed spans.now) (addresses_in range))) }
+    ensures freed { IfOk result (λ freed.
+        freed ≡ length (filter (is_freed spans.now) (addresses_in range))) }
     ensures few { IfOk result (λ freed. range.0 + 8 * freed ≤ range.1) }
     ensures fits { IfOk result (λ freed. range.0 + 8 * freed < 2 ^ 64) }
 {
@@ -97,9 +102,12 @@ fn keep_others(
 ) -> Result<(Vec<(u64, u64)>, u64), AllocError>
     requires apart { AreApart spans.now }
     requires ranges { AreRanges memory.now }
-    ensures places { IfOk result (λ found. memory_places found.0.items ≡ filter (λ a. not (is_freed spans.now a)) (memory_places memory.now)) }
+    ensures places { IfOk result (λ found.
+        memory_places found.0.items
+        ≡ filter (λ a. not (is_freed spans.now a)) (memory_places memory.now)) }
     ensures ranges { IfOk result (λ found. AreRanges found.0.items) }
-    ensures freed { IfOk result (λ found. found.1 ≡ length (filter (is_freed spans.now) (memory_places memory.now))) }
+    ensures freed { IfOk result (λ found.
+        found.1 ≡ length (filter (is_freed spans.now) (memory_places memory.now))) }
 {
     let mut kept = Vec::new(alloc);
     let mut freed = 0;
@@ -117,9 +125,12 @@ pub(crate) fn leave_out_freed(
 ) -> Result<(Vec<(u64, u64)>, u64), AllocError>
     requires apart { AreApart spans.now }
     requires ranges { AreRanges memory.items }
-    ensures places { IfOk result (λ found. memory_places found.0.items ≡ filter (λ a. not (is_freed spans.now a)) (memory_places memory.items)) }
+    ensures places { IfOk result (λ found.
+        memory_places found.0.items
+        ≡ filter (λ a. not (is_freed spans.now a)) (memory_places memory.items)) }
     ensures ranges { IfOk result (λ found. AreRanges found.0.items) }
-    ensures freed { IfOk result (λ found. found.1 ≡ length (filter (is_freed spans.now) (memory_places memory.items))) }
+    ensures freed { IfOk result (λ found.
+        found.1 ≡ length (filter (is_freed spans.now) (memory_places memory.items))) }
 {
     if spans.is_empty() {
         return Ok((memory, 0));

@@ -24,8 +24,12 @@ pub(crate) fn push_registers(
     words: usize,
 ) -> Result<(), AllocError>
     requires { 0 < words }
-    ensures places { OnOk result (flat_map places_of pieces.new.items ≡ flat_map places_of pieces.old.items ++ map InRegisters (range_with_len 0 (length registers.now))) }
-    ensures each { (p : Places) → length p.registers ≡ length registers.now → OnOk result (AllByRecursion (IsCutPiece p words) pieces.old.items → AllByRecursion (IsCutPiece p words) pieces.new.items) }
+    ensures places { OnOk result (flat_map places_of pieces.new.items
+        ≡ flat_map places_of pieces.old.items
+        ++ map InRegisters (range_with_len 0 (length registers.now))) }
+    ensures each { (p : Places) → length p.registers ≡ length registers.now
+        → OnOk result (AllByRecursion (IsCutPiece p words) pieces.old.items
+        → AllByRecursion (IsCutPiece p words) pieces.new.items) }
 {
     let mut from = 0;
     while from < registers.len() {
@@ -44,8 +48,11 @@ pub(crate) fn push_memory(
 ) -> Result<(), AllocError>
     requires some { 0 < words }
     requires range { IsRange range }
-    ensures places { OnOk result (flat_map places_of pieces.new.items ≡ flat_map places_of pieces.old.items ++ map InMemory (addresses_in range)) }
-    ensures each { (p : Places) → OnOk result (AllByRecursion (IsCutPiece p words) pieces.old.items → AllByRecursion (IsCutPiece p words) pieces.new.items) }
+    ensures places { OnOk result (flat_map places_of pieces.new.items
+        ≡ flat_map places_of pieces.old.items ++ map InMemory (addresses_in range)) }
+    ensures each { (p : Places)
+        → OnOk result (AllByRecursion (IsCutPiece p words) pieces.old.items
+        → AllByRecursion (IsCutPiece p words) pieces.new.items) }
 {
     let (mut from, end) = range;
     while from < end {

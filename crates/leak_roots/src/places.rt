@@ -15,9 +15,11 @@ use std::alloc::{AllocError, Global};
 fn push_range(memory: &mut Vec<(u64, u64)>, from: u64, to: u64) -> Result<(), AllocError>
     requires ranges { AreRanges memory.old.items }
     requires ends { EndBy from memory.old.items }
-    ensures places { OnOk result (memory_places memory.new.items ≡ memory_places memory.old.items ++ aligned_places from to) }
+    ensures places { OnOk result (memory_places memory.new.items
+        ≡ memory_places memory.old.items ++ aligned_places from to) }
     ensures ranges { OnOk result (AreRanges memory.new.items) }
-    ensures ends { OnOk result ((addr : ℕ) → to ≤ addr → EndBy addr memory.old.items → EndBy addr memory.new.items) }
+    ensures ends { OnOk result ((addr : ℕ) → to ≤ addr → EndBy addr memory.old.items
+        → EndBy addr memory.new.items) }
 {
     let first = from.div_ceil(8);
     let last = to / 8;
@@ -31,8 +33,10 @@ fn push_range(memory: &mut Vec<(u64, u64)>, from: u64, to: u64) -> Result<(), Al
 fn count_up_to(blocks: &[Block], addr: u64) -> usize
     requires { AreOrdered blocks.now }
     ensures bound { result ≤ length blocks.now }
-    ensures within { (k : ℕ) (d : Block) → k < result → (slice_index_or blocks.now k d).start ≤ addr }
-    ensures beyond { (k : ℕ) (d : Block) → result ≤ k → k < length blocks.now → addr < (slice_index_or blocks.now k d).start }
+    ensures within { (k : ℕ) (d : Block) → k < result
+        → (slice_index_or blocks.now k d).start ≤ addr }
+    ensures beyond { (k : ℕ) (d : Block) → result ≤ k → k < length blocks.now
+        → addr < (slice_index_or blocks.now k d).start }
 {
     blocks.partition_point(|block| block.start <= addr)
 }
@@ -48,7 +52,8 @@ fn push_gaps(
     requires blocks { AreOrdered blocks.now }
     requires ranges { AreRanges memory.old.items }
     requires ends { EndBy from memory.old.items }
-    ensures places { OnOk result (memory_places memory.new.items ≡ memory_places memory.old.items ++ filter (is_free blocks.now) (places from to)) }
+    ensures places { OnOk result (memory_places memory.new.items
+        ≡ memory_places memory.old.items ++ filter (is_free blocks.now) (places from to)) }
     ensures ranges { OnOk result (AreRanges memory.new.items) }
     ensures ends { OnOk result (EndBy to memory.new.items) }
 {
@@ -72,7 +77,8 @@ pub(crate) fn find_ranges(
     blocks: &[Block],
 ) -> Result<Vec<(u64, u64)>, AllocError>
     requires { AreOrdered blocks.now }
-    ensures places { IfOk result (λ memory. memory_places memory.items ≡ outside_places image.now blocks.now) }
+    ensures places { IfOk result (λ memory.
+        memory_places memory.items ≡ outside_places image.now blocks.now) }
     ensures ranges { IfOk result (λ memory. AreRanges memory.items) }
 {
     let mut memory = Vec::new(alloc);

@@ -56,10 +56,14 @@ impl Roots {
         small: &SmallSpans,
     ) -> Result<Roots, AllocError>
         ensures registers { IfOk result (λ roots. roots.registers ≡ threads.now.registers) }
-        ensures memory { IfOk result (λ roots. memory_places roots.memory ≡ root_places image.now live.now.blocks small.now) }
-        ensures freed { IfOk result (λ roots. roots.freed ≡ length (freed_places image.now live.now.blocks small.now)) }
+        ensures memory { IfOk result (λ roots.
+            memory_places roots.memory ≡ root_places image.now live.now.blocks small.now) }
+        ensures freed { IfOk result (λ roots.
+            roots.freed ≡ length (freed_places image.now live.now.blocks small.now)) }
         ensures links { IfOk result (λ roots. roots.skips_links ≡ false) }
-        ensures of_core { (spans : List Span) → CoverSame small.now spans → threads.now ≡ threads_of image.now → IfOk result (AreRootsOf image.now live.now.blocks spans) }
+        ensures of_core { (spans : List Span) → CoverSame small.now spans
+            → threads.now ≡ threads_of image.now
+            → IfOk result (AreRootsOf image.now live.now.blocks spans) }
     {
         let registers = threads.registers().to_vec(alloc)?;
         let outside = find_ranges(alloc, image, live.blocks())?;

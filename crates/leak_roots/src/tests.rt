@@ -98,6 +98,18 @@ fn the_registers_are_those_of_the_threads_that_are_given(rt: HostRuntime) -> Res
 }
 
 #[test]
+fn the_roots_say_whether_links_are_left_out(rt: HostRuntime) -> Result<(), Fail> {
+    let all = roots_of(rt.alloc(), b"+ 0x10100 0x20\n")?;
+    assert_eq!(rt; all.skips_links(), false);
+    let without = all.skip_links(true);
+    assert_eq!(rt; without.skips_links(), true);
+    assert_eq!(rt; count(&without), 535);
+    assert_eq!(rt; without.freed(), 0);
+    assert_eq!(rt; without.skip_links(false).skips_links(), false);
+    Ok(())
+}
+
+#[test]
 fn the_words_of_a_block_are_no_roots(rt: HostRuntime) -> Result<(), Fail> {
     let without = roots_of(rt.alloc(), b"+ 0x10100 0x20\n")?;
     assert_eq!(rt; count(&without), 535);
