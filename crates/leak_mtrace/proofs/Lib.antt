@@ -13,3 +13,4 @@ pub mod CutLemmas
 pub mod CallerLemmas
 pub mod SameLogLemmas
 pub mod FitLemmas
+pub mod ReadingLemmas

@@ -11,15 +11,7 @@ use Rattle.memchr.specs.Find.{IsFirstByte, is_byte}
 use Rattle.leak_mtrace.specs.declared.line.Line.{Line}
 use Rattle.leak_mtrace.specs.declared.error.LogError.{LogError}
 use Rattle.leak_mtrace.specs.Log.{pieces, whole_lines, torn_piece, torn_of, whole_len_of, with_places, IsGoodLine, IsLog, IsFaulty, IsFirstFault}
-
--- the lines before start are these
-pub record ReadTo (bytes : List ℕ) (start : ℕ) (lines : List Line) : Type 0 where
-  pub done : List (ℕ × List ℕ)
-  pub whole : with_places 0 (whole_lines bytes) ≡ done ++ with_places start (whole_lines (drop start bytes))
-  pub good : AllZip IsGoodLine done lines
-  pub within : start ≤ length bytes
-  pub edge : 0 < start → get_or bytes (start - 1) 0 ≡ 10
-  pub few : length lines ≤ start
+use Rattle.leak_mtrace.specs.Reading.{ReadTo}
 
 -- ---- pieces
 

@@ -3,5 +3,6 @@ pub mod Number
 pub mod Line
 pub mod Place
 pub mod Log
+pub mod Reading
 pub mod Examples
 pub mod Laws

@@ -1,7 +1,7 @@
 //! Reads an allocation log as glibc's mtrace writes it.
 //!
 //! [`parse_line`] reads one [`Line`]; [`Log::read`] reads all lines of a log, or gives the number of the first that it
-//! refuses. The forms of a line are those that glibc's `malloc/mtrace-impl.c` prints, and no others: a line that was
+//! refuses; a [`Reader`] gives them one after another, and keeps none. The forms of a line are those that glibc's `malloc/mtrace-impl.c` prints, and no others: a line that was
 //! skipped could turn a block that was given back into a leak. Of the place of a call only its end is looked for, since
 //! the names of files and functions may hold any byte but a line feed; where it ends is our own rule.
 //!
@@ -17,6 +17,7 @@ mod log;
 mod number;
 mod parsing;
 mod place;
+mod reader;
 #[cfg(test)]
 mod tests;
 
@@ -29,3 +30,4 @@ pub use laws::{
 pub use line::{Kind, Line};
 pub use log::Log;
 pub use parsing::parse_line;
+pub use reader::Reader;

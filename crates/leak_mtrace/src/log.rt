@@ -1,52 +1,13 @@
 //! Reads a whole log, line by line.
-ghost use Rattle.std.specs.Prelude.{◌≡◌, ◌≢◌, ◌+◌, ◌<◌, ◌≤◌, ◌^◌, length, IfOk, IfErr};
-ghost use Rattle.std.specs.Bool.{MatchBool};
-ghost use Rattle.leak_mtrace.specs.Log.{IsGoodLine, IsFaulty, IsPastEnd, LinesFit, placed, Whole, IsReadAs, IsFirstFault, CallersAreIn};
+ghost use Rattle.std.specs.Prelude.{◌≡◌, ◌≢◌, IfOk, IfErr};
+ghost use Rattle.leak_mtrace.specs.Log.{LinesFit, Whole, IsReadAs, IsFirstFault, CallersAreIn};
 
 use crate::error::LogError;
-use crate::line::{Kind, Line};
-use crate::parsing::parse_line;
-use memchr::{memchr, memchr_iter};
+use crate::line::Line;
+use crate::reader::Reader;
+use memchr::memchr_iter;
 use std::alloc::Global;
 use std::marker::Model;
-
-/// Whether the line's block ends past the address space. A call that failed made no block.
-fn is_past_end(line: Line) -> bool
-    ensures { MatchBool result (IsPastEnd line) (IsPastEnd line → ⊥) }
-{
-    matches!(line.kind, Kind::Alloc | Kind::MoveIn) && line.addr.checked_add(line.size).is_none()
-}
-
-/// The line with its caller as a range of the log, in which the line begins at this place.
-fn place_at(line: Line, at: usize) -> Line
-    requires order { line.caller.0 ≤ line.caller.1 }
-    requires room { at + line.caller.1 < 2 ^ 64 }
-    ensures { result ≡ placed at line }
-{
-    if line.caller.1 == 0 {
-        line
-    } else {
-        Line {
-            caller: (at + line.caller.0, at + line.caller.1),
-            ..line
-        }
-    }
-}
-
-/// Reads the log's line of this number, which begins at this place.
-fn read_line(text: &[u8], at: usize, number: usize) -> Result<Line, LogError>
-    requires { at + length text.now < 2 ^ 64 }
-    ensures ok { IfOk result (IsGoodLine (at, text.now)) }
-    ensures refused { IfErr result (λ e. IsFaulty e number (at, text.now)) }
-{
-    let Some(line) = parse_line(text) else {
-        return Err(LogError::BadLine(number));
-    };
-    if is_past_end(line) {
-        return Err(LogError::Extent(number));
-    }
-    Ok(place_at(line, at))
-}
 
 /// The lines of a log.
 #[derive(Debug, Drop)]
@@ -73,17 +34,14 @@ impl Log {
     {
         // counted first, so that room is taken once and for no more than the lines
         let mut lines = Vec::with_capacity(alloc, memchr_iter(b'\n', bytes).count())?;
-        let mut start = 0;
-        while let Some(len) = memchr(b'\n', &bytes[start..]) {
-            let line = read_line(&bytes[start..start + len], start, lines.len() + 1)?;
+        let mut reader = Reader::new(bytes);
+        while let Some(line) = reader.next_line()? {
             lines.push(line)?;
-            start += len + 1;
         }
-        let torn = u64::from(start < bytes.len());
         Ok(Log {
             lines,
-            torn,
-            whole_len: start,
+            torn: reader.torn(),
+            whole_len: reader.whole_len(),
         })
     }
 
