@@ -8,22 +8,19 @@ use Rattle.leak_marks.specs.Lists.{times, Has}
 use Rattle.leak_marks.specs.Reach.{Graph, Reach, IsChain, targets_of}
 use Rattle.leak_marks.specs.Partition.{Partitions}
 use Rattle.leak_marks.proofs.ListLemmas.{here, at_head, has_front, has_back, of_append, has_last, of_push, distinct_push}
-use Rattle.std.specs.List.{filter_map}
 use Rattle.std.specs.Prelude.{Option, Some}
 use Rattle.std.proofs.lemmas.List.{take_more, take_all, take-append-le}
-use Rattle.std.proofs.lemmas.List.Elements.{filter_map-append}
 use Rattle.std.proofs.lemmas.Option.{slice_get-get_or, get_or_from_slice_get}
 use Rattle.std.proofs.lemmas.Grind.{flat_map-append}
-use Rattle.leak_elf.specs.Words.{words_between}
 use Rattle.leak_blocks.specs.declared.block.Block.{Block}
 use Rattle.leak_index.specs.Hits.{Index}
-use Rattle.leak_roots.specs.Places.{Places, AreRanges, IsRange, addresses_in, memory_places, words_at}
+use Rattle.leak_roots.specs.Places.{Places, AreRanges, IsRange, addresses_in, memory_places}
 use Rattle.leak_scan.specs.Targets.{block_words, targets_of as targets_in}
 use Rattle.leak_pool.specs.Alone.{AreMarks, AreTaken, IsFollowed}
-use Rattle.leak_pool.specs.Marking.{Marks, IsSet, graph_of, lists_of}
+use Rattle.leak_pool.specs.Marking.{Marks, IsSet, graph_of, led_in_memory, led_from, led_by_roots, lists_of}
 use Rattle.leak_pool.specs.declared.marked.Marked.{Marked}
 use Rattle.leak_pool.proofs.CountLemmas.{has_at, at_has, few_distinct}
-use Rattle.leak_pool.proofs.WordLemmas.{Aligned, words_of_range, targets-append}
+use Rattle.leak_pool.proofs.WordLemmas.{memory-nil, memory-append}
 use Rattle.leak_pool.proofs.GraphLemmas.{graph-first, graph-given, graph-block}
 
 nothing : {A : Type 0} (b : ℕ) → Has [] b → A
@@ -140,68 +137,60 @@ list_partitions g marks list lists n is all m f = record {
 
 -- ---- roots
 
-range_at : (ranges : List (ℕ × ℕ)) (k : ℕ) (d : ℕ × ℕ) → k < length ranges → AreRanges ranges → IsRange (get_or ranges k d)
+pub range_at : (ranges : List (ℕ × ℕ)) (k : ℕ) (d : ℕ × ℕ) → k < length ranges → AreRanges ranges → IsRange (get_or ranges k d)
 range_at [] k d h a = absurd (omega arith)
 range_at (r ∷ rs) zero d h a = a.0
 range_at (r ∷ rs) (suc k) d h a = range_at rs k d (omega arith) a.2
 
 -- a range more is scanned
-pub range_taken : (word_at : ℕ → Option ℕ) (index : Index) (registers : List ℕ) (ranges : List (ℕ × ℕ)) (k : ℕ) (d : ℕ × ℕ) (a b c : List ℕ) → Aligned word_at → k < length ranges → AreRanges ranges
-    → AreTaken (targets_in index (registers ++ filter_map word_at (memory_places (take k ranges)))) a b → AreTaken (targets_in index (words_between word_at (get_or ranges k d).0 (get_or ranges k d).1)) b c
-    → AreTaken (targets_in index (registers ++ filter_map word_at (memory_places (take (k + 1) ranges)))) a c
-range_taken word_at index registers ranges k d a b c aligned h are p q =
-    subst (λ (l : List ℕ). AreTaken l a c) same (taken_both (targets_in index before) (targets_in index here_words) a b c p q)
+pub range_taken : (word_at : ℕ → Option ℕ) (index : Index) (skips_links : Bool) (registers : List ℕ) (ranges : List (ℕ × ℕ)) (k : ℕ) (d : ℕ × ℕ) (a b c : List ℕ) → k < length ranges
+    → AreTaken (led_from skips_links word_at index registers (memory_places (take k ranges))) a b → AreTaken (led_in_memory skips_links word_at index (addresses_in (get_or ranges k d))) b c
+    → AreTaken (led_from skips_links word_at index registers (memory_places (take (k + 1) ranges))) a c
+range_taken word_at index skips_links registers ranges k d a b c h p q =
+    subst (λ (l : List ℕ). AreTaken l a c) same (taken_both (led_from skips_links word_at index registers (memory_places (take k ranges))) (led_in_memory skips_links word_at index (addresses_in r)) a b c p q)
   where
     r : ℕ × ℕ
     r = get_or ranges k d
 
-    before : List ℕ
-    before = registers ++ filter_map word_at (memory_places (take k ranges))
+    all : memory_places (take (k + 1) ranges) ≡ memory_places (take k ranges) ++ addresses_in (get_or ranges k d)
+    all = ap (λ l. memory_places l) (take_more ranges k d h) ∙ flat_map-append addresses_in (take k ranges) (get_or ranges k d ∷ []) ∙ ap (λ (l : List ℕ). memory_places (take k ranges) ++ l) (append-nil (addresses_in (get_or ranges k d)))
 
-    here_words : List ℕ
-    here_words = words_between word_at r.0 r.1
-
-    all : memory_places (take (k + 1) ranges) ≡ memory_places (take k ranges) ++ addresses_in r
-    all = ap (λ l. memory_places l) (take_more ranges k d h) ∙ flat_map-append addresses_in (take k ranges) (r ∷ []) ∙ ap (λ (l : List ℕ). memory_places (take k ranges) ++ l) (append-nil (addresses_in r))
-
-    words : before ++ here_words ≡ registers ++ filter_map word_at (memory_places (take (k + 1) ranges))
-    words = append_assoc registers (filter_map word_at (memory_places (take k ranges))) here_words
-        ∙ ap (λ (l : List ℕ). registers ++ (filter_map word_at (memory_places (take k ranges)) ++ l)) (words_of_range word_at aligned r.0 r.1 (range_at ranges k d h are))
-        ∙ ap (λ (l : List ℕ). registers ++ l) (sym (filter_map-append word_at (memory_places (take k ranges)) (addresses_in r)) ∙ ap (λ (l : List ℕ). filter_map word_at l) (sym all))
-
-    same : targets_in index before ++ targets_in index here_words ≡ targets_in index (registers ++ filter_map word_at (memory_places (take (k + 1) ranges)))
-    same = sym (targets-append index before here_words) ∙ ap (λ (l : List ℕ). targets_in index l) words
+    same : led_from skips_links word_at index registers (memory_places (take k ranges)) ++ led_in_memory skips_links word_at index (addresses_in (get_or ranges k d))
+        ≡ led_from skips_links word_at index registers (memory_places (take (k + 1) ranges))
+    same = append_assoc (targets_in index registers) (led_in_memory skips_links word_at index (memory_places (take k ranges))) (led_in_memory skips_links word_at index (addresses_in (get_or ranges k d)))
+        ∙ ap (λ (l : List ℕ). targets_in index registers ++ l) (sym (memory-append skips_links word_at index (memory_places (take k ranges)) (addresses_in (get_or ranges k d)))
+        ∙ ap (λ (l : List ℕ). led_in_memory skips_links word_at index l) (sym all))
 
 -- no range yet
-pub registers_taken : (word_at : ℕ → Option ℕ) (index : Index) (registers : List ℕ) (a b : List ℕ) → AreTaken (targets_in index registers) a b → AreTaken (targets_in index (registers ++ filter_map word_at (memory_places []))) a b
-registers_taken word_at index registers a b p = subst (λ (l : List ℕ). AreTaken (targets_in index l) a b) (sym (append-nil registers)) p
+pub registers_taken : (word_at : ℕ → Option ℕ) (index : Index) (skips_links : Bool) (registers : List ℕ) (a b : List ℕ) → AreTaken (targets_in index registers) a b → AreTaken (led_from skips_links word_at index registers (memory_places [])) a b
+registers_taken word_at index skips_links registers a b p =
+    subst (λ (l : List ℕ). AreTaken l a b) (sym (ap (λ (l : List ℕ). targets_in index registers ++ l) (memory-nil skips_links word_at index) ∙ append-nil (targets_in index registers))) p
 
 -- all ranges
-pub roots_taken : (word_at : ℕ → Option ℕ) (index : Index) (p : Places) (n : ℕ) (a b : List ℕ) → length p.memory ≤ n → AreTaken (targets_in index (p.registers ++ filter_map word_at (memory_places (take n p.memory)))) a b → AreTaken (targets_in index (words_at word_at p)) a b
-unfolding words_at
-roots_taken word_at index p n a b h t = subst (λ (l : List (ℕ × ℕ)). AreTaken (targets_in index (p.registers ++ filter_map word_at (memory_places l))) a b) (take_all n p.memory h) t
+pub roots_taken : (word_at : ℕ → Option ℕ) (index : Index) (p : Places) (n : ℕ) (a b : List ℕ) → length p.memory ≤ n → AreTaken (led_from p.skips_links word_at index p.registers (memory_places (take n p.memory))) a b → AreTaken (led_by_roots word_at index p) a b
+roots_taken word_at index p n a b h t = subst (λ (l : List (ℕ × ℕ)). AreTaken (led_from p.skips_links word_at index p.registers (memory_places l)) a b) (take_all n p.memory h) t
 
 -- ---- marking of a log's blocks
 
-free : (word_at : ℕ → Option ℕ) (index : Index) (roots : List ℕ) (b : ℕ) → ¬ Has (graph_of word_at index roots []).given b
-free word_at index roots b h = nothing b (subst (λ (l : List ℕ). Has l b) (graph-given word_at index roots []) h)
+free : (word_at : ℕ → Option ℕ) (index : Index) (first : List ℕ) (b : ℕ) → ¬ Has (graph_of word_at index first []).given b
+free word_at index first b h = nothing b (subst (λ (l : List ℕ). Has l b) (graph-given word_at index first []) h)
 
 pub marks_few : (marks : List Bool) (list : List ℕ) → AreMarks marks list → length list ≤ length marks
 marks_few marks list m = few_distinct (length marks) list m.once m.inside
 
-pub block_followed : (word_at : ℕ → Option ℕ) (index : Index) (roots : List ℕ) (blocks : List Block) (d : Block) (list after : List ℕ) (k b : ℕ) → index.blocks ≡ blocks → k < length list → b ≡ get_or list k 0 → b < length blocks
-    → AreTaken (targets_in index (block_words word_at (get_or blocks b d))) list after → IsFollowed (graph_of word_at index roots []) list k → IsFollowed (graph_of word_at index roots []) after (k + 1)
-block_followed word_at index roots blocks d list after k b are inside is low taken f =
-    followed_more (graph_of word_at index roots []) list after k (free word_at index roots) inside f
-    (subst (λ (x : ℕ). AreTaken (targets_of (graph_of word_at index roots []) x) list after) is
-    (subst (λ (l : List ℕ). AreTaken l list after) (sym (graph-block word_at index roots [] b d (let e = ap (λ (l : List Block). length l) are in omega arith)))
+pub block_followed : (word_at : ℕ → Option ℕ) (index : Index) (first : List ℕ) (blocks : List Block) (d : Block) (list after : List ℕ) (k b : ℕ) → index.blocks ≡ blocks → k < length list → b ≡ get_or list k 0 → b < length blocks
+    → AreTaken (targets_in index (block_words word_at (get_or blocks b d))) list after → IsFollowed (graph_of word_at index first []) list k → IsFollowed (graph_of word_at index first []) after (k + 1)
+block_followed word_at index first blocks d list after k b are inside is low taken f =
+    followed_more (graph_of word_at index first []) list after k (free word_at index first) inside f
+    (subst (λ (x : ℕ). AreTaken (targets_of (graph_of word_at index first []) x) list after) is
+    (subst (λ (l : List ℕ). AreTaken l list after) (sym (graph-block word_at index first [] b d (let e = ap (λ (l : List Block). length l) are in omega arith)))
     (subst (λ (l : List Block). AreTaken (targets_in index (block_words word_at (get_or l b d))) list after) (sym are) taken)))
 
-pub roots_followed : (word_at : ℕ → Option ℕ) (index : Index) (roots : List ℕ) (none list : List ℕ) → none ≡ [] → AreTaken (targets_in index roots) none list → IsFollowed (graph_of word_at index roots []) list 0
-roots_followed word_at index roots none list empty t = followed_none (graph_of word_at index roots []) list (free word_at index roots)
-    (subst (λ (l : List ℕ). AreTaken l [] list) (sym (graph-first word_at index roots [])) (subst (λ (l : List ℕ). AreTaken (targets_in index roots) l list) empty t))
+pub roots_followed : (word_at : ℕ → Option ℕ) (index : Index) (first : List ℕ) (none list : List ℕ) → none ≡ [] → AreTaken first none list → IsFollowed (graph_of word_at index first []) list 0
+roots_followed word_at index first none list empty t = followed_none (graph_of word_at index first []) list (free word_at index first)
+    (subst (λ (l : List ℕ). AreTaken l [] list) (sym (graph-first word_at index first [])) (subst (λ (l : List ℕ). AreTaken first l list) empty t))
 
-pub alone_marks : (word_at : ℕ → Option ℕ) (index : Index) (places : Places) (marks : List Bool) (list : List ℕ) (m : Marked) → AreMarks marks list → IsFollowed (graph_of word_at index (words_at word_at places) []) list (length list)
+pub alone_marks : (word_at : ℕ → Option ℕ) (index : Index) (places : Places) (marks : List Bool) (list : List ℕ) (m : Marked) → AreMarks marks list → IsFollowed (graph_of word_at index (led_by_roots word_at index places) []) list (length list)
     → length marks ≡ length index.blocks → m.set.items ≡ marks → lists_of m ≡ list ∷ [] → m.rounds ≤ length index.blocks + 1 → (length index.blocks ≡ 0 → m.rounds ≡ 0) → Marks word_at index places 1 m
 alone_marks word_at index places marks list m are f long set_is lists_are few none = record {
   set = subst (λ (l : List Bool). IsSet l (length index.blocks) (Reach G)) (sym set_is) (record {
@@ -218,7 +207,7 @@ alone_marks word_at index places marks list m are f long set_is lists_are few no
 }
   where
     G : Graph
-    G = graph_of word_at index (words_at word_at places) []
+    G = graph_of word_at index (led_by_roots word_at index places) []
 
 -- what a slice of all elements wrote back
 pub written_back : (n : ℕ) (new old : List Bool) → length new ≡ n → take n (new ++ drop (length new) old) ≡ new

@@ -6,8 +6,8 @@ use Rattle.std.proofs.lemmas.List.{append-nil}
 use Rattle.std.proofs.lemmas.List.Folds.{concat-append}
 use Rattle.leak_index.specs.Hits.{Index}
 use Rattle.leak_roots.specs.declared.piece.Piece.{Piece}
-use Rattle.leak_roots.specs.Places.{Places, words_at}
-use Rattle.leak_roots.specs.Pieces.{AreCut, words_of}
+use Rattle.leak_roots.specs.Places.{Places}
+use Rattle.leak_roots.specs.Pieces.{AreCut}
 use Rattle.leak_scan.specs.Targets.{targets_of}
 use Rattle.leak_marks.specs.Lists.{Has}
 use Rattle.leak_marks.specs.Reach.{Graph, Reach}
@@ -16,11 +16,11 @@ use Rattle.leak_marks.proofs.ListLemmas.{here, there}
 use Rattle.leak_pool.specs.declared.start.Part.{Part}
 use Rattle.leak_pool.specs.declared.start.Start.{Start}
 use Rattle.leak_pool.specs.declared.marked.Marked.{Marked}
-use Rattle.leak_pool.specs.Marking.{Marks, MarksFrom, IsSet, graph_of, graph_from, lists_of, part_words}
+use Rattle.leak_pool.specs.Marking.{Marks, MarksFrom, IsSet, graph_of, graph_from, led_by_roots, lists_of, part_words}
 use Rattle.leak_pool.specs.Rounds.{IsMarked, graph_over}
 use Rattle.leak_pool.specs.Scopes.{root_targets, all_targets, piece_targets, part_targets, AreParts}
 use Rattle.leak_pool.proofs.ScopeLemmas.{long_all}
-use Rattle.leak_pool.proofs.WordLemmas.{targets-append, targets-flat_map, words_of_pieces}
+use Rattle.leak_pool.proofs.WordLemmas.{targets-nil, targets-flat_map, led_by_pieces}
 
 pub at_has_any : (xs : List ℕ) (k d : ℕ) → k < length xs → Has xs (get_or xs k d)
 at_has_any [] k d h = absurd (omega arith)
@@ -32,12 +32,15 @@ parts_inside blocks marked [] inside all = tt
 parts_inside blocks marked (x ∷ xs) inside all = (inside x.0 all.0, parts_inside blocks marked xs inside all.1)
 
 first_is : (word_at : ℕ → Option ℕ) (index : Index) (places : Places) (pieces : List Piece) (pages : List ℕ) (rescan : List (ℕ × Part)) (n : ℕ) → AreCut places n pieces
-    → concat (root_targets word_at index places pieces pages rescan) ≡ targets_of index (words_at word_at places ++ flat_map (part_words word_at pages index.blocks) rescan)
+    → concat (root_targets word_at index places pieces pages rescan) ≡ led_by_roots word_at index places ++ targets_of index (flat_map (part_words word_at pages index.blocks) rescan)
 first_is word_at index places pieces pages rescan n cut =
     concat-append (map (piece_targets word_at index places) pieces) (map (part_targets word_at index pages) rescan)
-    ∙ ap (λ (l : List ℕ). l ++ concat (map (part_targets word_at index pages) rescan)) (sym (targets-flat_map index (words_of word_at places) pieces) ∙ ap (λ (l : List ℕ). targets_of index l) (words_of_pieces word_at places n pieces cut))
-    ∙ ap (λ (l : List ℕ). targets_of index (words_at word_at places) ++ l) (sym (targets-flat_map index (part_words word_at pages index.blocks) rescan))
-    ∙ sym (targets-append index (words_at word_at places) (flat_map (part_words word_at pages index.blocks) rescan))
+    ∙ ap (λ (l : List ℕ). l ++ concat (map (part_targets word_at index pages) rescan)) (led_by_pieces word_at index places n pieces cut)
+    ∙ ap (λ (l : List ℕ). led_by_roots word_at index places ++ l) (sym (targets-flat_map index (part_words word_at pages index.blocks) rescan))
+
+-- no words after them
+led_alone : (index : Index) (led : List ℕ) → led ++ targets_of index [] ≡ led
+led_alone index led = ap (λ (l : List ℕ). led ++ l) (targets-nil index) ∙ append-nil led
 
 graph_is : (word_at : ℕ → Option ℕ) (index : Index) (places : Places) (pieces : List Piece) (pages : List ℕ) (s : Start) (n : ℕ) → AreCut places n pieces
     → graph_over (root_targets word_at index places pieces pages s.rescan.items) (all_targets word_at index) s.marked.items ≡ graph_from word_at index places pages s
@@ -84,10 +87,10 @@ marks_from_none word_at index places pages s workers m unmarked unread from = re
   none = from.none;
 }
   where
-    same : graph_from word_at index places pages s ≡ graph_of word_at index (words_at word_at places) []
-    same = ap (λ (l : List (ℕ × Part)). graph_of word_at index (words_at word_at places ++ flat_map (part_words word_at pages index.blocks) l) s.marked.items) unread
-        ∙ ap (λ (l : List ℕ). graph_of word_at index l s.marked.items) (append-nil (words_at word_at places))
-        ∙ ap (λ (l : List ℕ). graph_of word_at index (words_at word_at places) l) unmarked
+    same : graph_from word_at index places pages s ≡ graph_of word_at index (led_by_roots word_at index places) []
+    same = ap (λ (l : List (ℕ × Part)). graph_of word_at index (led_by_roots word_at index places ++ targets_of index (flat_map (part_words word_at pages index.blocks) l)) s.marked.items) unread
+        ∙ ap (λ (l : List ℕ). graph_of word_at index l s.marked.items) (led_alone index (led_by_roots word_at index places))
+        ∙ ap (λ (l : List ℕ). graph_of word_at index (led_by_roots word_at index places) l) unmarked
 
 -- from no start, over pieces of the roots alone
 pub marks_of_pieces : (word_at : ℕ → Option ℕ) (index : Index) (places : Places) (pieces : List Piece) (pages : List ℕ) (workers n : ℕ) (m : Marked) → AreCut places n pieces
@@ -114,8 +117,8 @@ marks_of_pieces word_at index places pieces pages workers n m cut marked = recor
     with_first : List ℕ → Graph
     with_first l = record { first = l; targets = all_targets word_at index; given = [] }
 
-    same : graph_over (root_targets word_at index places pieces pages []) (all_targets word_at index) [] ≡ graph_of word_at index (words_at word_at places) []
-    same = ap (λ (l : List ℕ). with_first l) (first_is word_at index places pieces pages [] n cut ∙ ap (λ (l : List ℕ). targets_of index l) (append-nil (words_at word_at places)))
+    same : graph_over (root_targets word_at index places pieces pages []) (all_targets word_at index) [] ≡ graph_of word_at index (led_by_roots word_at index places) []
+    same = ap (λ (l : List ℕ). with_first l) (first_is word_at index places pieces pages [] n cut ∙ led_alone index (led_by_roots word_at index places))
 
 pub if_ok : {X E : Type 0} (P Q : X → Type 0) (r : Result X E) → ((x : X) → P x → Q x) → IfOk r P → IfOk r Q
 if_ok P Q (Ok x) f h = f x h

@@ -7,18 +7,18 @@ use Rattle.leak_scan.specs.Targets.{block_words, block_targets, targets_of}
 use Rattle.leak_marks.specs.Reach.{targets_of as targets_in}
 use Rattle.leak_pool.specs.Marking.{graph_of}
 
-pub graph-first : (word_at : ℕ → Option ℕ) (index : Index) (words given : List ℕ) → (graph_of word_at index words given).first ≡ targets_of index words
+pub graph-first : (word_at : ℕ → Option ℕ) (index : Index) (first given : List ℕ) → (graph_of word_at index first given).first ≡ first
 unfolding graph_of
-graph-first word_at index words given = refl
+graph-first word_at index first given = refl
 
-pub graph-given : (word_at : ℕ → Option ℕ) (index : Index) (words given : List ℕ) → (graph_of word_at index words given).given ≡ given
+pub graph-given : (word_at : ℕ → Option ℕ) (index : Index) (first given : List ℕ) → (graph_of word_at index first given).given ≡ given
 unfolding graph_of
-graph-given word_at index words given = refl
+graph-given word_at index first given = refl
 
-pub graph-targets : (word_at : ℕ → Option ℕ) (index : Index) (words given : List ℕ) → (graph_of word_at index words given).targets ≡ map (block_targets word_at index) index.blocks
+pub graph-targets : (word_at : ℕ → Option ℕ) (index : Index) (first given : List ℕ) → (graph_of word_at index first given).targets ≡ map (block_targets word_at index) index.blocks
 unfolding graph_of
-graph-targets word_at index words given = refl
+graph-targets word_at index first given = refl
 
-pub graph-block : (word_at : ℕ → Option ℕ) (index : Index) (words given : List ℕ) (b : ℕ) (d : Block) → b < length index.blocks → targets_in (graph_of word_at index words given) b ≡ targets_of index (block_words word_at (get_or index.blocks b d))
+pub graph-block : (word_at : ℕ → Option ℕ) (index : Index) (first given : List ℕ) (b : ℕ) (d : Block) → b < length index.blocks → targets_in (graph_of word_at index first given) b ≡ targets_of index (block_words word_at (get_or index.blocks b d))
 unfolding graph_of block_targets
-graph-block word_at index words given b d h = get_or-map (block_targets word_at index) index.blocks b d [] h
+graph-block word_at index first given b d h = get_or-map (block_targets word_at index) index.blocks b d [] h

@@ -1,16 +1,20 @@
--- The words of ranges and pieces, and what they lead to.
-use Rattle.std.proofs.Common.{◌≡◌, ℕ, zero, suc, ◌+◌, ◌-◌, ◌*◌, ◌/◌, ◌%◌, ◌<◌, ◌≤◌, List, [], ◌∷◌, ◌++◌, length, map, get_or, take, drop, Option, Some, None, IsSome, refl, sym, ap, ◌∙◌, subst, arith, add-one, drop-cons}
+-- What ranges and pieces of the root words lead to.
+use Rattle.std.proofs.Common.{◌≡◌, Bool, true, false, ℕ, zero, suc, ◌+◌, ◌-◌, ◌*◌, ◌/◌, ◌%◌, ◌<◌, ◌≤◌, List, [], ◌∷◌, ◌++◌, length, map, get_or, take, drop, Option, Some, None, IsSome, refl, sym, ap, ◌∙◌, subst, arith, add-one, drop-cons}
 use Rattle.std.specs.List.{concat, cons_option, range_with_len, flat_map, filter_map, AllByRecursion}
 use Rattle.std.proofs.lemmas.List.Elements.{filter_map-append}
 use Rattle.std.proofs.lemmas.List.{take_all}
 use Rattle.std.proofs.lemmas.Grind.{flat_map-append}
 use Rattle.leak_elf.specs.Words.{words_between}
-use Rattle.leak_roots.specs.Places.{Places, addresses_in, memory_places, words_at, IsRange}
-use Rattle.leak_roots.specs.Pieces.{Place, InRegisters, InMemory, places_of, IsPiece, AreCut, words_of}
+use Rattle.leak_roots.specs.Places.{Places, addresses_in, memory_places, IsRange}
+use Rattle.leak_roots.specs.Pieces.{Place, InRegisters, InMemory, places_of, IsPiece, AreCut, all_places}
 use Rattle.leak_roots.specs.declared.piece.Piece.{Piece}
 use Rattle.leak_roots.specs.declared.piece.Piece.TheVariants.{Registers, Memory}
 use Rattle.leak_index.specs.Hits.{Index, hits_of}
 use Rattle.leak_scan.specs.Targets.{targets_of}
+use Rattle.leak_scan.specs.RootWords.{targets_without_links, range_without_links}
+use Rattle.leak_scan.proofs.RootRanges.{range_eighths, without_append}
+use Rattle.leak_pool.specs.Marking.{led_in_memory, led_by_roots}
+use Rattle.leak_pool.specs.Scopes.{piece_targets}
 
 -- ---- flat_map
 
@@ -21,6 +25,10 @@ flat_map-flat_map g f (x ∷ xs) = flat_map-append g (f x) (flat_map f xs) ∙ a
 pub flat_map_same : {A B : Type 0} (f g : A → List B) (P : A → Type 0) (xs : List A) → ((x : A) → P x → f x ≡ g x) → AllByRecursion P xs → flat_map f xs ≡ flat_map g xs
 flat_map_same f g P [] e all = refl
 flat_map_same f g P (x ∷ xs) e all = ap (λ l. l ++ flat_map f xs) (e x all.0) ∙ ap (λ l. g x ++ l) (flat_map_same f g P xs e all.1)
+
+pub concat-map : {A : Type 0} (f : A → List ℕ) (xs : List A) → concat (map f xs) ≡ flat_map f xs
+concat-map f [] = refl
+concat-map f (x ∷ xs) = ap (λ (l : List ℕ). f x ++ l) (concat-map f xs)
 
 -- ---- what words lead to
 
@@ -87,42 +95,70 @@ words_of_range word_at aligned from to r =
     ∙ eighths word_at aligned k from r.from_multiple
     ∙ ap (λ n. filter_map word_at (map (λ i. from + 8 * i) (range_with_len 0 n))) (let e : k + 1 ≡ (to - from) / 8 = omega arith in e)
 
+-- ---- root words in memory
+
+pub memory-nil : (skips_links : Bool) (word_at : ℕ → Option ℕ) (index : Index) → led_in_memory skips_links word_at index [] ≡ []
+unfolding targets_without_links
+memory-nil false word_at index = targets-nil index
+memory-nil true word_at index = refl
+
+pub memory-append : (skips_links : Bool) (word_at : ℕ → Option ℕ) (index : Index) (xs ys : List ℕ)
+    → led_in_memory skips_links word_at index (xs ++ ys) ≡ led_in_memory skips_links word_at index xs ++ led_in_memory skips_links word_at index ys
+memory-append false word_at index xs ys = ap (λ (l : List ℕ). targets_of index l) (filter_map-append word_at xs ys) ∙ targets-append index (filter_map word_at xs) (filter_map word_at ys)
+memory-append true word_at index xs ys = without_append word_at index xs ys
+
+-- what a range leads to where links are left out, and where they are not
+pub led_without : (skips_links : Bool) (word_at : ℕ → Option ℕ) (index : Index) → Aligned word_at → (from to : ℕ) → IsRange (from, to) → skips_links ≡ true
+    → range_without_links word_at index from to ≡ led_in_memory skips_links word_at index (addresses_in (from, to))
+led_without skips_links word_at index aligned from to r is =
+    range_eighths word_at index aligned from to r.some r.from_multiple r.to_multiple
+    ∙ ap (λ (s : Bool). led_in_memory s word_at index (addresses_in (from, to))) (sym is)
+
+pub led_with : (skips_links : Bool) (word_at : ℕ → Option ℕ) (index : Index) → Aligned word_at → (from to : ℕ) → IsRange (from, to) → skips_links ≡ false
+    → targets_of index (words_between word_at from to) ≡ led_in_memory skips_links word_at index (addresses_in (from, to))
+led_with skips_links word_at index aligned from to r is =
+    ap (λ (l : List ℕ). targets_of index l) (words_of_range word_at aligned from to r)
+    ∙ ap (λ (s : Bool). led_in_memory s word_at index (addresses_in (from, to))) (sym is)
+
 -- ---- pieces of the root words
 
--- the word at a place
-value : (ℕ → Option ℕ) → Places → Place → List ℕ
-value word_at p (InRegisters i) = take 1 (drop i p.registers)
-value word_at p (InMemory a) = cons_option (word_at a) []
+-- what the word at a place leads to
+led_at : (ℕ → Option ℕ) → Index → Places → Place → List ℕ
+led_at word_at index p (InRegisters i) = targets_of index (take 1 (drop i p.registers))
+led_at word_at index p (InMemory a) = led_in_memory p.skips_links word_at index (a ∷ [])
 
-values_in_registers : (word_at : ℕ → Option ℕ) (p : Places) (n from : ℕ) → from + n ≤ length p.registers → flat_map (value word_at p) (map InRegisters (range_with_len from n)) ≡ take n (drop from p.registers)
-unfolding value
-values_in_registers word_at p zero from h = refl
-values_in_registers word_at p (suc n) from h =
-    let here : drop from p.registers ≡ get_or p.registers from 0 ∷ drop (suc from) p.registers = drop-cons p.registers from 0 (omega arith) in
-    ap (λ (l : List ℕ). take 1 l ++ flat_map (value word_at p) (map InRegisters (range_with_len (from + 1) n))) here
-    ∙ ap (λ (l : List ℕ). get_or p.registers from 0 ∷ l) (values_in_registers word_at p n (from + 1) (omega arith) ∙ ap (λ k. take n (drop k p.registers)) (add-one from))
-    ∙ ap (λ (l : List ℕ). take (suc n) l) (sym here)
+led_by_registers : (word_at : ℕ → Option ℕ) (index : Index) (p : Places) (n from : ℕ) → from + n ≤ length p.registers
+    → flat_map (led_at word_at index p) (map InRegisters (range_with_len from n)) ≡ targets_of index (take n (drop from p.registers))
+unfolding led_at
+led_by_registers word_at index p zero from h = sym (targets-nil index)
+led_by_registers word_at index p (suc n) from h =
+    let x : ℕ = get_or p.registers from 0 in
+    let here : drop from p.registers ≡ x ∷ drop (suc from) p.registers = drop-cons p.registers from 0 (omega arith) in
+    ap (λ (l : List ℕ). targets_of index (take 1 l) ++ flat_map (led_at word_at index p) (map InRegisters (range_with_len (from + 1) n))) here
+    ∙ ap (λ (l : List ℕ). targets_of index (x ∷ []) ++ l)
+    (led_by_registers word_at index p n (from + 1) (omega arith) ∙ ap (λ k. targets_of index (take n (drop k p.registers))) (add-one from))
+    ∙ sym (targets-append index (x ∷ []) (take n (drop (suc from) p.registers)))
+    ∙ ap (λ (l : List ℕ). targets_of index (take (suc n) l)) (sym here)
 
-values_in_memory : (word_at : ℕ → Option ℕ) (p : Places) (xs : List ℕ) → flat_map (value word_at p) (map InMemory xs) ≡ filter_map word_at xs
-unfolding value
-values_in_memory word_at p [] = refl
-values_in_memory word_at p (x ∷ xs) = ap (λ (l : List ℕ). cons_option (word_at x) [] ++ l) (values_in_memory word_at p xs) ∙ joined (word_at x)
-  where
-    joined : (o : Option ℕ) → cons_option o [] ++ filter_map word_at xs ≡ cons_option o (filter_map word_at xs)
-    joined None = refl
-    joined (Some v) = refl
+led_by_memory : (word_at : ℕ → Option ℕ) (index : Index) (p : Places) (xs : List ℕ) → flat_map (led_at word_at index p) (map InMemory xs) ≡ led_in_memory p.skips_links word_at index xs
+unfolding led_at
+led_by_memory word_at index p [] = sym (memory-nil p.skips_links word_at index)
+led_by_memory word_at index p (x ∷ xs) =
+    ap (λ (l : List ℕ). led_in_memory p.skips_links word_at index (x ∷ []) ++ l) (led_by_memory word_at index p xs)
+    ∙ sym (memory-append p.skips_links word_at index (x ∷ []) xs)
 
-values_of : (word_at : ℕ → Option ℕ) (p : Places) (x : Piece) → IsPiece p x → flat_map (value word_at p) (places_of x) ≡ words_of word_at p x
-values_of word_at p (Registers from to) h = values_in_registers word_at p (to - from) from (let a = h.0 in let b = h.1 in omega arith)
-values_of word_at p (Memory from to) h = values_in_memory word_at p (addresses_in (from, to))
+led_by_piece : (word_at : ℕ → Option ℕ) (index : Index) (p : Places) (x : Piece) → IsPiece p x → flat_map (led_at word_at index p) (places_of x) ≡ piece_targets word_at index p x
+led_by_piece word_at index p (Registers from to) h = led_by_registers word_at index p (to - from) from (let a = h.0 in let b = h.1 in omega arith)
+led_by_piece word_at index p (Memory from to) h = led_by_memory word_at index p (addresses_in (from, to))
 
--- the words of the pieces, one piece after the other, are the root words
-pub words_of_pieces : (word_at : ℕ → Option ℕ) (p : Places) (n : ℕ) (pieces : List Piece) → AreCut p n pieces → flat_map (words_of word_at p) pieces ≡ words_at word_at p
-unfolding words_at
-words_of_pieces word_at p n pieces cut =
-    sym (flat_map_same (λ x. flat_map (value word_at p) (places_of x)) (words_of word_at p) (IsPiece p) pieces (values_of word_at p) cut.each)
-    ∙ sym (flat_map-flat_map (value word_at p) places_of pieces)
-    ∙ ap (λ l. flat_map (value word_at p) l) cut.whole
-    ∙ flat_map-append (value word_at p) (map InRegisters (range_with_len 0 (length p.registers))) (map InMemory (memory_places p.memory))
-    ∙ ap (λ (l : List ℕ). l ++ flat_map (value word_at p) (map InMemory (memory_places p.memory))) (values_in_registers word_at p (length p.registers) 0 (omega arith) ∙ take_all (length p.registers) p.registers (omega arith))
-    ∙ ap (λ (l : List ℕ). p.registers ++ l) (values_in_memory word_at p (memory_places p.memory))
+-- what the pieces lead to, one piece after the other, is what the root words lead to
+pub led_by_pieces : (word_at : ℕ → Option ℕ) (index : Index) (p : Places) (n : ℕ) (pieces : List Piece) → AreCut p n pieces → concat (map (piece_targets word_at index p) pieces) ≡ led_by_roots word_at index p
+led_by_pieces word_at index p n pieces cut =
+    concat-map (piece_targets word_at index p) pieces
+    ∙ sym (flat_map_same (λ x. flat_map (led_at word_at index p) (places_of x)) (piece_targets word_at index p) (IsPiece p) pieces (led_by_piece word_at index p) cut.each)
+    ∙ sym (flat_map-flat_map (led_at word_at index p) places_of pieces)
+    ∙ ap (λ l. flat_map (led_at word_at index p) l) cut.whole
+    ∙ flat_map-append (led_at word_at index p) (map InRegisters (range_with_len 0 (length p.registers))) (map InMemory (memory_places p.memory))
+    ∙ ap (λ (l : List ℕ). l ++ flat_map (led_at word_at index p) (map InMemory (memory_places p.memory)))
+    (led_by_registers word_at index p (length p.registers) 0 (omega arith) ∙ ap (λ (l : List ℕ). targets_of index l) (take_all (length p.registers) p.registers (omega arith)))
+    ∙ ap (λ (l : List ℕ). targets_of index p.registers ++ l) (led_by_memory word_at index p (memory_places p.memory))

@@ -1,20 +1,23 @@
 -- What is scanned leads to blocks, and what is scanned is told by facts alone.
-use Rattle.std.proofs.Common.{ℕ, zero, suc, ◌<◌, List, [], ◌∷◌, ◌++◌, length, map, get_or, Option, subst, ⊎_elim, arith}
+use Rattle.std.proofs.Common.{ℕ, zero, suc, ◌<◌, Bool, true, false, List, [], ◌∷◌, ◌++◌, length, map, get_or, Option, subst, ⊎_elim, arith}
 use Rattle.std.proofs.Math.Bridge.{le_prop}
 use Rattle.std.proofs.Math.Nat.{ℕ_set}
-use Rattle.std.specs.List.{flat_map, AllByRecursion}
+use Rattle.std.specs.List.{flat_map, filter_map, AllByRecursion}
 use Rattle.std.proofs.lemmas.List.{length-map}
 use Rattle.leak_blocks.specs.declared.block.Block.{Block}
 use Rattle.leak_index.specs.Hits.{Index, hits_of, hits_from}
 use Rattle.leak_index.proofs.Few.{hits_below}
 use Rattle.leak_roots.specs.declared.piece.Piece.{Piece}
 use Rattle.leak_roots.specs.declared.piece.Piece.TheVariants.{Registers, Memory}
-use Rattle.leak_roots.specs.Places.{Places}
+use Rattle.leak_roots.specs.Places.{Places, addresses_in}
 use Rattle.leak_roots.specs.Pieces.{IsPiece}
 use Rattle.leak_scan.specs.Targets.{targets_of, block_words, block_targets}
+use Rattle.leak_scan.specs.RootWords.{targets_without_links}
+use Rattle.leak_scan.proofs.RootRanges.{all_without}
 use Rattle.leak_marks.specs.Lists.{Has}
 use Rattle.leak_marks.proofs.ListLemmas.{at_head, of_append}
 use Rattle.leak_pool.specs.Items.{targets_of_item}
+use Rattle.leak_pool.specs.Marking.{led_in_memory}
 use Rattle.leak_pool.specs.Scopes.{root_targets, all_targets, piece_targets, part_targets, ArePieces, AreParts}
 use Rattle.leak_pool.specs.declared.start.Part.{Part}
 use Rattle.leak_pool.specs.declared.source.Item.{Item}
@@ -26,19 +29,34 @@ below_all : (n : ℕ) (xs : List ℕ) → AllByRecursion (λ i. i < n) xs → (b
 below_all n [] all b h = absurd (let z : 0 < 0 = h in omega arith)
 below_all n (x ∷ xs) all b h = ⊎_elim (λ e. subst (λ (y : ℕ). y < n) e all.0) (λ r. below_all n xs all.1 b r) (at_head x xs b h)
 
-hit_below : (index : Index) (word b : ℕ) → Has (hits_of index word) b → b < length index.blocks
+hits_are_below : (index : Index) (word : ℕ) → AllByRecursion (λ i. i < length index.blocks) (hits_of index word)
 unfolding hits_of
-hit_below index word b h = below_all (length index.blocks) (hits_from 0 index.reading index.blocks word) (hits_below 0 (length index.blocks) index.reading index.blocks word (omega arith)) b h
+hits_are_below index word = hits_below 0 (length index.blocks) index.reading index.blocks word (omega arith)
+
+hit_below : (index : Index) (word b : ℕ) → Has (hits_of index word) b → b < length index.blocks
+hit_below index word b h = below_all (length index.blocks) (hits_of index word) (hits_are_below index word) b h
 
 pub target_below : (index : Index) (words : List ℕ) (b : ℕ) → Has (targets_of index words) b → b < length index.blocks
 unfolding targets_of
 target_below index [] b h = absurd (let z : 0 < 0 = h in omega arith)
 target_below index (w ∷ ws) b h = ⊎_elim (λ f. hit_below index w b f) (λ r. target_below index ws b r) (of_append (hits_of index w) (flat_map (hits_of index) ws) b h)
 
--- ---- items
+-- ---- root words
 
 abbrev Inside : Index → List ℕ → Type 0
 Inside index xs = (b : ℕ) → Has xs b → b < length index.blocks
+
+-- without links too
+pub memory_inside : (skips_links : Bool) (word_at : ℕ → Option ℕ) (index : Index) (xs : List ℕ) → (b : ℕ) → Has (led_in_memory skips_links word_at index xs) b → b < length index.blocks
+memory_inside false word_at index xs b h = target_below index (filter_map word_at xs) b h
+memory_inside true word_at index xs b h = below_all (length index.blocks) (targets_without_links word_at index xs)
+    (all_without (λ i. i < length index.blocks) word_at index xs (hits_are_below index)) b h
+
+piece_inside : (word_at : ℕ → Option ℕ) (index : Index) (places : Places) (piece : Piece) → Inside index (piece_targets word_at index places piece)
+piece_inside word_at index places (Registers from to) b h = target_below index _ b h
+piece_inside word_at index places (Memory from to) b h = memory_inside places.skips_links word_at index (addresses_in (from, to)) b h
+
+-- ---- items
 
 -- a fact of all lists holds of the one at a place
 at : {A : Type 0} (P : List ℕ → Type 0) (f : A → List ℕ) (xs : List A) (rest : List (List ℕ)) (k : ℕ) → ((x : A) → P (f x)) → ((j : ℕ) → P (get_or rest j [])) → P (get_or (map f xs ++ rest) k [])
@@ -63,7 +81,7 @@ pub scope_inside : (word_at : ℕ → Option ℕ) (index : Index) (places : Plac
     → Has (targets_of_item (root_targets word_at index places pieces pages rescan) (all_targets word_at index) item) b → b < length (all_targets word_at index)
 scope_inside word_at index places pieces pages rescan (Root k) b h =
     let l = length-map index.blocks (block_targets word_at index) in
-    let i : b < length index.blocks = at (Inside index) (piece_targets word_at index places) pieces (map (part_targets word_at index pages) rescan) k (λ x b h. target_below index _ b h)
+    let i : b < length index.blocks = at (Inside index) (piece_targets word_at index places) pieces (map (part_targets word_at index pages) rescan) k (piece_inside word_at index places)
     (λ j. alone (Inside index) (part_targets word_at index pages) rescan j (no_targets index) (λ x b h. target_below index _ b h)) b h in omega arith
 scope_inside word_at index places pieces pages rescan (OfBlock k) b h =
     let l = length-map index.blocks (block_targets word_at index) in

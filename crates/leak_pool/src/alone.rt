@@ -6,6 +6,7 @@ ghost use Rattle.leak_pool.specs.Marking.{Marks, graph_of, led_by_roots};
 
 use crate::error::PoolError;
 use crate::marked::Marked;
+use crate::scope::of_memory;
 use leak_blocks::{Block, Live};
 use leak_elf::Words;
 use leak_index::Lookup;
@@ -62,12 +63,7 @@ fn take_roots<W: Words, L: Lookup>(
     let targets = Targets::of_registers(words, roots.registers(), lookup);
     take_all(targets, set, list)?;
     for range in roots.memory() {
-        let targets = if roots.skips_links() {
-            Targets::of_root_range(words, lookup, live, range.0, range.1)
-        } else {
-            Targets::of_range(words, lookup, range.0, range.1)
-        };
-        take_all(targets, set, list)?;
+        take_all(of_memory(words, lookup, live, roots, *range), set, list)?;
     }
     Ok(())
 }

@@ -1,6 +1,8 @@
 //! What marking scans of a core.
 ghost use Rattle.std.specs.Prelude.{◌≡◌, ◌<◌, ◌^◌, length};
+ghost use Rattle.leak_roots.specs.Places.{IsRange, addresses_in};
 ghost use Rattle.leak_roots.specs.Pieces.{IsPiece};
+ghost use Rattle.leak_pool.specs.Marking.{led_in_memory};
 ghost use Rattle.leak_pool.specs.Items.{IsItem, targets_of_item};
 ghost use Rattle.leak_pool.specs.Scopes.{root_targets, all_targets, piece_targets, part_targets, ArePieces, AreParts};
 ghost use Rattle.leak_pool.specs.ScopeLaw.{pieces_prop, parts_prop};
@@ -59,10 +61,9 @@ impl<'a, W: Words, L: Lookup> Scope<'a, W, L> {
                 let registers = &self.roots.registers()[from..to];
                 Targets::of_registers(self.words, registers, self.lookup)
             }
-            Piece::Memory(from, to) if self.roots.skips_links() => {
-                Targets::of_root_range(self.words, self.lookup, self.live, from, to)
+            Piece::Memory(from, to) => {
+                of_memory(self.words, self.lookup, self.live, self.roots, (from, to))
             }
-            Piece::Memory(from, to) => Targets::of_range(self.words, self.lookup, from, to),
         }
     }
 
@@ -78,6 +79,28 @@ impl<'a, W: Words, L: Lookup> Scope<'a, W, L> {
                 Targets::of_block_pages(self.words, self.lookup, block, self.pages)
             }
         }
+    }
+}
+
+/// The blocks that the root words of a range of memory lead to, with malloc's links to free chunks or without, as the
+/// roots say.
+pub(crate) fn of_memory<'a, W: Words, L: Lookup>(
+    words: &'a W,
+    lookup: &'a L,
+    live: &'a Live,
+    roots: &Roots,
+    range: (u64, u64),
+) -> Targets<'a, W, L>
+    requires same_blocks { (L.index lookup.now).blocks ≡ live.now.blocks }
+    requires range { IsRange range }
+    ensures { let w = W.word_at words.now in let i = L.index lookup.now in
+        result ≡ led_in_memory roots.now.skips_links w i (addresses_in range) }
+{
+    let (from, to) = range;
+    if roots.skips_links() {
+        Targets::of_root_range(words, lookup, live, from, to)
+    } else {
+        Targets::of_range(words, lookup, from, to)
     }
 }
 

@@ -9,6 +9,7 @@ use Rattle.leak_pool.proofs.linking.mark_by_links.Goals as goal
 pub invariant_of-scope : goal.invariant_of-scope
 invariant_of-scope g c =
     let f = c.if-blocks.false in record {
+      of_live = c.requires;
       same = c.requires ∙ sym c.blocks-blocks.ensures.value;
       few = omega arith;
       in_roots = subst (λ (l : List Piece). ArePieces c.args.roots.now l) (sym c.as_slice.ensures.value) c.in_ok-pieces.ensures.each;

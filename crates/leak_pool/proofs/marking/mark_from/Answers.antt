@@ -14,6 +14,7 @@ pub invariant_of-scope : goal.invariant_of-scope
 invariant_of-scope g c =
     let e = ap (λ (l : List Block). length l) c.blocks-blocks.ensures.value in
     let f = c.if-blocks.false in record {
+      of_live = c.requires.blocks;
       same = c.requires.blocks ∙ sym c.blocks-blocks.ensures.value;
       few = omega arith;
       in_roots = subst (λ (l : List Piece). ArePieces c.args.roots.now l) (sym c.as_slice.ensures.value) c.in_ok-pieces.ensures.each;
