@@ -8,8 +8,7 @@ use Rattle.leak_elf.specs.Words.{places, words_between}
 use Rattle.leak_blocks.specs.declared.block.Block.{Block}
 use Rattle.leak_index.specs.Hits.{Index, hits_of}
 use Rattle.leak_scan.specs.Targets.{block_words, block_words_on, block_targets, targets_of, page_of, is_on}
-use Rattle.leak_scan.proofs.Ahead.{targets_append}
-use Rattle.leak_roots.specs.Places.{Places, words_at}
+use Rattle.leak_roots.specs.Places.{Places}
 use Rattle.leak_marks.specs.Lists.{Has}
 use Rattle.leak_marks.specs.Reach.{Reach}
 use Rattle.leak_marks.specs.Retraces.{whole_graph, retrace_graph, AreEnough, RetraceIsWhole}
@@ -21,7 +20,7 @@ use Rattle.leak_marks.proofs.PartitionLemmas.{partition_same}
 use Rattle.leak_pool.specs.declared.start.Part.{Part}
 use Rattle.leak_pool.specs.declared.start.Part.TheVariants.{Whole, Differing}
 use Rattle.leak_pool.specs.declared.start.Start.{Start}
-use Rattle.leak_pool.specs.Marking.{graph_of, graph_from, part_words, words_of_part, IsSet, IsStartOf}
+use Rattle.leak_pool.specs.Marking.{graph_of, graph_from, led_by_roots, part_words, words_of_part, IsSet, IsStartOf}
 use Rattle.leak_dirty.specs.declared.kept.Carry.{Carry}
 use Rattle.leak_dirty.specs.Kept.{IsCarry}
 use Rattle.leak_dirty.specs.Retrace.{graph_of_two, OthersLeadWithin, IsStartWith}
@@ -187,7 +186,7 @@ module _ (word_at : ℕ → Option ℕ) (index : Index) (pages : List ℕ) (c : 
 module _ (word_at : ℕ → Option ℕ) (index : Index) (places : Places) (pages : List ℕ) (c : Carry) (s : Start) (permuted : IsPermutation (c.kept.items ++ c.fresh.items) s.marked.items)
     (rescan : s.rescan.items ≡ parts_of c) (whole : RetraceIsWhole) (carried : IsCarry (length index.blocks) c) (others : OthersLeadWithin word_at index pages c.kept.items c.fresh.items) where
   abbrev roots : List ℕ
-  roots = targets_of index (words_at word_at places)
+  roots = led_by_roots word_at index places
 
   abbrev leading : List (List ℕ)
   leading = map (block_targets word_at index) index.blocks
@@ -201,14 +200,13 @@ module _ (word_at : ℕ → Option ℕ) (index : Index) (places : Places) (pages
   same_retrace = reach_same (graph_from word_at index places pages s) (retrace_graph roots leading s.marked.items parts)
       (λ x. (λ h. subst (λ (l : List ℕ). Has l x) first h, λ h. subst (λ (l : List ℕ). Has l x) (sym first) h)) (λ x. (λ h. h, λ h. h)) refl
     where
-      first : targets_of index (words_at word_at places ++ flat_map (part_words word_at pages index.blocks) s.rescan.items) ≡ roots ++ parts
-      first = targets_append index (words_at word_at places) (flat_map (part_words word_at pages index.blocks) s.rescan.items)
-          ∙ ap (λ (ps : List (ℕ × Part)). roots ++ targets_of index (flat_map (part_words word_at pages index.blocks) ps)) rescan
+      first : led_by_roots word_at index places ++ targets_of index (flat_map (part_words word_at pages index.blocks) s.rescan.items) ≡ roots ++ parts
+      first = ap (λ (ps : List (ℕ × Part)). roots ++ targets_of index (flat_map (part_words word_at pages index.blocks) ps)) rescan
 
   -- the graph of two cores
-  same_whole : (b : ℕ) → Reach (whole_graph roots leading s.marked.items) b ↔ Reach (graph_of_two word_at index (words_at word_at places) c.kept.items c.fresh.items) b
+  same_whole : (b : ℕ) → Reach (whole_graph roots leading s.marked.items) b ↔ Reach (graph_of_two word_at index (led_by_roots word_at index places) c.kept.items c.fresh.items) b
   unfolding graph_of
-  same_whole = reach_same (whole_graph roots leading s.marked.items) (graph_of_two word_at index (words_at word_at places) c.kept.items c.fresh.items)
+  same_whole = reach_same (whole_graph roots leading s.marked.items) (graph_of_two word_at index (led_by_roots word_at index places) c.kept.items c.fresh.items)
       (λ x. (to x, of x)) (λ x. (λ h. h, λ h. h)) refl
     where
       to : (x : ℕ) → Has (s.marked.items ++ roots) x → Has (c.kept.items ++ c.fresh.items ++ roots) x
@@ -224,7 +222,7 @@ module _ (word_at : ℕ → Option ℕ) (index : Index) (places : Places) (pages
           (of_append (c.kept.items ++ c.fresh.items) roots x h)
 
   abbrev Two : ℕ → Type 0
-  Two b = Reach (graph_of_two word_at index (words_at word_at places) c.kept.items c.fresh.items) b
+  Two b = Reach (graph_of_two word_at index (led_by_roots word_at index places) c.kept.items c.fresh.items) b
 
   pub to_two : (b : ℕ) → Has s.marked.items b ⊎ Reach (graph_from word_at index places pages s) b → Two b
   to_two b h = (same_whole b).0 ((whole roots leading s.marked.items parts (are_enough word_at index pages c s.marked.items permuted carried others) b).1 (⊎_elim (λ m. inl m) (λ r. inr ((same_retrace b).0 r)) h))

@@ -100,10 +100,10 @@ word_of_block before b a w low high e =
     has_filter_map before (places b.start (b.start + b.size)) a w (has_range (b.start + b.size - 7 - b.start) b.start a low (omega arith)) e
 
 -- what a word of a reached block leads to is reached
-pub next_reached : (word_at : ℕ → Option ℕ) (index : Index) (words : List ℕ) (n m w : ℕ) (b : Block) → slice_get index.blocks n ≡ Some b →
-    Has (block_words word_at b) w → Has (hits_of index w) m → Reach (graph_of word_at index words []) n → Reach (graph_of word_at index words []) m
+pub next_reached : (word_at : ℕ → Option ℕ) (index : Index) (first : List ℕ) (n m w : ℕ) (b : Block) → slice_get index.blocks n ≡ Some b →
+    Has (block_words word_at b) w → Has (hits_of index w) m → Reach (graph_of word_at index first []) n → Reach (graph_of word_at index first []) m
 unfolding graph_of block_targets targets_of
-next_reached word_at index words n m w b at_n word led r =
+next_reached word_at index first n m w b at_n word led r =
     (n ∷ r.0, (none_has m, subst (λ (l : List ℕ). Has l m) (sym (map_at (block_targets word_at index) index.blocks n b [] at_n)) (has_flat (hits_of index) (block_words word_at b) w m word led), r.1))
 
 -- the block that a word leads to

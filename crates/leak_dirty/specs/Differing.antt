@@ -15,7 +15,8 @@ is_changed (Some v) (Some w) = not (v == w)
 
 -- a page of 4096 addresses differs where some word of the later core in it is not that of the earlier core
 unfoldable pub differs : (ℕ → Option ℕ) → (ℕ → Option ℕ) → ℕ → Bool
-differs word_before word_now page = list_any (λ a. is_changed (word_before a) (word_now a)) (range_with_len (4096 * page) 4096)
+differs word_before word_now page =
+    list_any (λ a. is_changed (word_before a) (word_now a)) (range_with_len (4096 * page) 4096)
 
 -- the numbers of the pages that differ, ascending, and no others
 pub record AreDiffering (word_before word_now : ℕ → Option ℕ) (pages : List ℕ) : Type 0 where
@@ -25,4 +26,5 @@ pub record AreDiffering (word_before word_now : ℕ → Option ℕ) (pages : Lis
 -- the number of words that the kept blocks have on the pages, changed or not
 unfoldable pub reread_of : (ℕ → Option ℕ) → List ℕ → List Block → List ℕ → ℕ
 reread_of word_now pages blocks kept =
-    sum_by (λ i. option_map_or (λ b. length (block_words_on word_now pages b)) (slice_get blocks i) 0) kept
+    sum_by (λ i.
+    option_map_or (λ b. length (block_words_on word_now pages b)) (slice_get blocks i) 0) kept

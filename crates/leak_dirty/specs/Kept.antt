@@ -12,7 +12,8 @@ use Rattle.leak_dirty.specs.declared.kept.Carry.{Carry}
 -- the numbers of the blocks that pass the test, where the first has the number n
 abbrev pub numbers_from : ℕ → (Block → Bool) → List Block → List ℕ
 numbers_from n test [] = []
-numbers_from n test (b ∷ blocks) = if test b then n ∷ numbers_from (n + 1) test blocks else numbers_from (n + 1) test blocks
+numbers_from n test (b ∷ blocks) =
+    if test b then n ∷ numbers_from (n + 1) test blocks else numbers_from (n + 1) test blocks
 
 -- the line is that of a block of the list
 abbrev pub has_line : List Block → ℕ → Bool
@@ -22,7 +23,8 @@ has_line blocks line = list_any (λ b. b.line == line) blocks
 abbrev pub has_marked_line : List Bool → List Block → ℕ → Bool
 has_marked_line [] blocks line = false
 has_marked_line (s ∷ set) [] line = false
-has_marked_line (s ∷ set) (b ∷ blocks) line = if s && (b.line == line) then true else has_marked_line set blocks line
+has_marked_line (s ∷ set) (b ∷ blocks) line =
+    if s && (b.line == line) then true else has_marked_line set blocks line
 
 -- the later blocks whose line is that of a marked earlier block
 unfoldable pub kept_of : List Block → List Bool → List Block → List ℕ
@@ -39,7 +41,8 @@ absent_of before now = numbers_from 0 (λ b. not (has_line before b.line)) now
 -- where the earlier log begins the later one, these are the fresh ones
 abbrev pub AbsentAreFresh : Type 0
 AbsentAreFresh = (before after : List Line) →
-    absent_of (live_of before) (live_of (before ++ after)) ≡ fresh_of (length before) (live_of (before ++ after))
+    absent_of (live_of before) (live_of (before ++ after))
+    ≡ fresh_of (length before) (live_of (before ++ after))
 
 -- two ascending lists of numbers of blocks, of so many blocks, that have no number in common
 pub record IsCarry (blocks : ℕ) (c : Carry) : Type 0 where

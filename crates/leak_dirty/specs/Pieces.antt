@@ -6,4 +6,5 @@ use Rattle.std.specs.Prelude.{◌≡◌, ℕ, ◌*◌, ◌<◌, ◌≤◌, ◌^�
 abbrev pub IsCover : (ℕ → Option ℕ) → ℕ → List (ℕ × ℕ) → Type 0
 IsCover word_at page [] = (a : ℕ) → 4096 * page ≤ a → word_at a ≡ None
 IsCover word_at page (p ∷ ps) =
-    (page ≤ p.0) × (p.0 < p.1) × (p.1 ≤ 2 ^ 52) × ((a : ℕ) → 4096 * page ≤ a → a < 4096 * p.0 → word_at a ≡ None) × IsCover word_at p.1 ps
+    (page ≤ p.0) × (p.0 < p.1) × (p.1 ≤ 2 ^ 52)
+    × ((a : ℕ) → 4096 * page ≤ a → a < 4096 * p.0 → word_at a ≡ None) × IsCover word_at p.1 ps

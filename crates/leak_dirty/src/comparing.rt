@@ -66,7 +66,9 @@ fn push_differing(
     requires some { page < to }
     requires end { to ≤ 2 ^ 52 }
     ensures { IfOk result (λ next. (page < next) × (next ≤ to)
-        × (pages.new.items ≡ pages.old.items ++ filter (differs (word_of first.now) (word_of second.now)) (range_with_len page (next - page)))) }
+        × (pages.new.items ≡ pages.old.items
+        ++ filter (differs (word_of first.now) (word_of second.now))
+        (range_with_len page (next - page)))) }
 {
     let before = first.run(4096 * page);
     let now = second.run(4096 * page);

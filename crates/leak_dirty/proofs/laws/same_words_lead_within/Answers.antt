@@ -40,7 +40,7 @@ same_block : (lines : List Line) (b c : Block) (k n : ℕ) → slice_get (live_o
 same_block lines b c k n e f s = one_a_line lines b c (is_in_at b _ k e) (is_in_at c _ n f) s
 
 pub returns : goal.returns
-returns c word_before word_now reading words_before before after set given i b at_i kept_i a w low high word_is same j led =
+returns c word_before word_now reading first_before before after set given i b at_i kept_i a w low high word_is same j led =
     let all : List Block = live_of (before ++ after) in
     let old : Index = record { blocks = live_of before; reading = reading } in
     -- the kept block is that of a marked block of the earlier log
@@ -54,7 +54,7 @@ returns c word_before word_now reading words_before before after set given i b a
     let at_b : slice_get (live_of before) m.place ≡ Some b = m.at ∙ ap Some one in
     -- which has the word in the earlier core
     let word : Has (block_words word_before b) w = word_of_block word_before b a w low high (unchanged word_before word_now a w word_is same) in
-    let reached : Reach (graph_of word_before old words_before []) m.place = (given.marked.each m.place (subst (λ (n : ℕ). m.place < n) given.marked.len (inside set m.place true m.marked))).0 m.marked in
+    let reached : Reach (graph_of word_before old first_before []) m.place = (given.marked.each m.place (subst (λ (n : ℕ). m.place < n) given.marked.len (inside set m.place true m.marked))).0 m.marked in
     -- what it leads to
     let l : Numbered 0 (leads reading w) all j = led_block (record { blocks = all; reading = reading }) w j led in
     let j_is : j ≡ l.0 = omega (arith, l.1) in
@@ -62,7 +62,7 @@ returns c word_before word_now reading words_before before after set given i b a
       | true ↦ λ e. inr (to_fresh (length before) all l.0 j l.2.block l.2.at e j_is)
       | false ↦ λ e.
           let p : (n : ℕ) × (slice_get (live_of before) n ≡ Some l.2.block) = was_live before after l.2.block l.0 l.2.at (nltb→le _ _ (fails _ e)) in
-          let r : Reach (graph_of word_before old words_before []) p.0 = next_reached word_before old words_before m.place p.0 w b at_b word (leads_at old w p.0 l.2.block p.1 l.2.passes) reached in
+          let r : Reach (graph_of word_before old first_before []) p.0 = next_reached word_before old first_before m.place p.0 w b at_b word (leads_at old w p.0 l.2.block p.1 l.2.passes) reached in
           let s : slice_get set p.0 ≡ Some true = (given.marked.each p.0 (inside (live_of before) p.0 l.2.block p.1)).1 r in
           inl (to_kept (live_of before) set all l.0 j l.2.block l.2.at (to_marked set (live_of before) p.0 l.2.block s p.1) j_is)
     ] in
