@@ -1,5 +1,6 @@
 //! Tests, by subject.
 
+mod free_links;
 mod gates;
 mod meetings;
 mod numbers;
