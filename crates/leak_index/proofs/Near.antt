@@ -1,14 +1,15 @@
 -- Only the last two blocks that begin at a word or before it can be led to.
-use Rattle.std.proofs.Common.{◌≡◌, ℕ, zero, suc, ◌+◌, ◌-◌, ◌<◌, ◌≤◌, Bool, true, false, ◌&&◌, refl, ap, sym, ◌∙◌, subst, List, [], ◌∷◌, length, slice_index_or, arith, nat_le, nat_lt, ltb→lt, nltb→le, if◌then◌else◌, Option, ◌⊎◌, inl, inr}
-use Rattle.std.proofs.lemmas.Bool.{lt-leb}
+use Rattle.std.proofs.Common.{◌≡◌, ℕ, zero, suc, ◌+◌, ◌-◌, ◌<◌, ◌≤◌, Bool, true, false, ◌&&◌, ◌||◌, ◌==◌, refl, ap, sym, ◌∙◌, subst, List, [], ◌∷◌, length, slice_index_or, arith, nat_le, nat_lt, ltb→lt, nltb→le, if◌then◌else◌, Option, None, Some, ◌⊎◌, inl, inr}
+use Rattle.std.proofs.lemmas.Bool.{le-leb, lt-leb}
 use Rattle.std.specs.Bool.{passes, fails}
-use Rattle.std.specs.List.{AllByRecursion}
+use Rattle.std.specs.List.{AllByRecursion, list_any}
 use Rattle.std.specs.List.Sorted.{IsNonDecreasingBy}
 use Rattle.leak_blocks.specs.declared.block.Block.{Block}
 use Rattle.leak_blocks.specs.Span.{AreDisjoint, span_end}
 use Rattle.leak_index.specs.Bounds.{AreWithin, IsCountUpTo}
 use Rattle.leak_index.specs.Hits.{hits_from}
 use Rattle.leak_index.specs.Leads.{leads, allows}
+use Rattle.leak_index.specs.Places.{IsOnlyStart}
 
 -- by which of two numbers is greater
 pub either : (a b : ℕ) (P : Type 0) → (a < b → P) → (b ≤ a → P) → P
@@ -138,6 +139,46 @@ found_two r bs w count d t u apart up h et eu =
     let next : count - 1 - 1 + 1 ≡ count - 1 = omega arith in
     let all = near_from 0 r bs w (count - 1 - 1) (count - 1) (count - 1 - 1) count d apart up (omega arith) (omega arith) (omega arith) in
     sym (all ∙ rw (next, ← et, ← eu) refl)
+
+-- ---- the start of a block
+
+-- each reading lets a word lead to the block that begins at it
+allows_start : (r : Option (List ℕ)) (distance : ℕ) → distance ≡ 0 → allows r distance ≡ true
+allows_start None distance is = refl
+allows_start (Some listed) distance is = ap (λ n. (n == 0) || list_any (λ d. d == distance) listed) is
+
+leads_start : (r : Option (List ℕ)) (w : ℕ) (b : Block) → b.start ≡ w → leads r w b ≡ true
+leads_start r w b is =
+    ap (λ t. t && nat_le w (b.start + b.size) && allows r (w - b.start)) (le-leb b.start w (omega (arith, is)))
+    ∙ ap (λ t. t && allows r (w - b.start)) (le-leb w (b.start + b.size) (omega (arith, is)))
+    ∙ allows_start r (w - b.start) (omega (arith, is))
+
+-- the blocks after it begin after the word
+start_past : (w : ℕ) (b : Block) (bs : List Block) → b.start ≡ w → AllByRecursion (λ c. span_end b ≤ c.start) bs → AllByRecursion (λ c. w < c.start) bs
+start_past w b [] is all = tt
+start_past w b (c ∷ bs) is all = (omega (arith, is, all.0), start_past w b bs is all.1)
+
+only_from : (n : ℕ) (r : Option (List ℕ)) (bs : List Block) (w number : ℕ) → AreDisjoint bs → IsOnlyStart bs w number → hits_from n r bs w ≡ (n + number) ∷ []
+only_from n r [] w number apart only = absurd (omega (arith, only.inside))
+only_from n r (b ∷ bs) w zero apart only =
+    ap (λ t. if t then n ∷ hits_from (n + 1) r bs w else hits_from (n + 1) r bs w) (leads_start r w b (only.here b))
+    ∙ ap (λ xs. n ∷ xs) (none_below (n + 1) r bs w (start_past w b bs (only.here b) apart.0))
+    ∙ ap (λ k. k ∷ []) (omega arith)
+only_from n r (b ∷ bs) w (suc number) apart only =
+    let others : IsOnlyStart bs w number = record {
+      inside = omega (arith, only.inside);
+      here = λ d. only.here d;
+      before = λ k d h. only.before (suc k) d (omega (arith, h));
+    } in
+    skipped n r b bs w (behind_end r w b (only.before 0 b (omega arith)))
+    ∙ only_from (n + 1) r bs w number apart.1 others
+    ∙ ap (λ k. k ∷ []) (omega arith)
+
+-- a word at the start of a block leads to it alone, where each block before it ends before the word
+pub found_only : (r : Option (List ℕ)) (bs : List Block) (w number : ℕ) → AreDisjoint bs → IsOnlyStart bs w number → number ∷ [] ≡ hits_from 0 r bs w
+found_only r bs w number apart only =
+    let none : 0 + number ≡ number = omega arith in
+    sym (only_from 0 r bs w number apart only ∙ ap (λ k. k ∷ []) none)
 
 -- ---- bounds
 

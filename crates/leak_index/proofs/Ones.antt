@@ -1,5 +1,5 @@
 -- How many bits of a number are set, and among its lowest ones.
-use Rattle.std.proofs.Common.{◌≡◌, ◌∙◌, ℕ, zero, suc, ◌+◌, ◌-◌, ◌*◌, ◌/◌, ◌%◌, ◌^◌, ◌<◌, ◌≤◌, refl, ap, sym, subst, count_ones, arith}
+use Rattle.std.proofs.Common.{◌≡◌, ◌∙◌, ℕ, suc, ◌+◌, ◌*◌, ◌/◌, ◌%◌, ◌^◌, ◌<◌, ◌≤◌, ap, sym, subst, count_ones, arith}
 use Rattle.std.proofs.lemmas.Nat.{ones_cat, ones-le, zero_from_ones, shl-shr, shr_split, mod-pow-add, pow_pos, pow-add, mod_below}
 use Rattle.std.proofs.Math.Nat.{mul-mod_left, mod-eq_of_lt, pow-le-pow_right, two-pow-succ, add-mul-mod_self_right}
 use Rattle.leak_index.proofs.Near.{either}
@@ -45,3 +45,11 @@ set_below bits g m low h =
     let one : count_ones 1 ≡ 1 = ones_of_one in
     let two : count_ones (1 * 2 ^ g + bits) ≡ count_ones 1 + count_ones bits = ones_cat g 1 bits low in
     ap count_ones (mod-eq_of_lt small) ∙ ap count_ones turned ∙ omega arith
+
+-- a bit that is set is one more than those below it
+pub ones_set : (bits g : ℕ) → bits / 2 ^ g % 2 ≡ 1 → count_ones (bits % 2 ^ (g + 1)) ≡ count_ones (bits % 2 ^ g) + 1
+ones_set bits g h =
+    let turned : g + 1 ≡ 1 + g = omega arith in
+    let one : count_ones (bits / 2 ^ g % 2 ^ 1) ≡ 1 = ap count_ones h ∙ ones_of_one in
+    let two : count_ones (bits / 2 ^ g % 2 ^ 1 * 2 ^ g + bits % 2 ^ g) ≡ count_ones (bits / 2 ^ g % 2 ^ 1) + count_ones (bits % 2 ^ g) = ones_cat g (bits / 2 ^ g % 2 ^ 1) (bits % 2 ^ g) (mod_below bits (2 ^ g) (pow_pos g)) in
+    ap (λ (n : ℕ). count_ones (bits % 2 ^ n)) turned ∙ ap count_ones (mod-pow-add bits 1 g) ∙ omega (arith, one, two)

@@ -1,10 +1,12 @@
 -- Rows lead to how many blocks begin at an address or before it.
-use Rattle.std.proofs.Common.{◌≡◌, ◌∙◌, ℕ, ◌+◌, ◌-◌, ◌*◌, ◌/◌, ◌%◌, ◌^◌, ◌<◌, ◌≤◌, ap, sym, subst, List, length, slice_index_or, count_ones, arith}
+use Rattle.std.proofs.Common.{◌≡◌, ℕ, true, ◌+◌, ◌-◌, ◌*◌, ◌/◌, ◌%◌, ◌^◌, ◌<◌, ◌≤◌, sym, subst, List, length, slice_index_or, count_ones, arith}
 use Rattle.leak_blocks.specs.declared.block.Block.{Block}
 use Rattle.leak_index.specs.declared.ranks.Row.{Row}
 use Rattle.leak_index.specs.Bounds.{IsCountUpTo}
-use Rattle.leak_index.specs.Ranks.{AreAligned, AreRanked, IsCountBelow, IsRow, end_of, none, number_at, row_of, start_of}
+use Rattle.leak_index.specs.Places.{IsOnlyStart}
+use Rattle.leak_index.specs.Ranks.{AreAligned, IsApart, AreRanked, IsCountBelow, IsRow, end_of, none, number_at, row_of, start_of}
 use Rattle.leak_index.proofs.Listing.{any_default}
+use Rattle.leak_index.proofs.Ones.{ones_set}
 use Rattle.leak_index.proofs.RowCounts.{up_to}
 
 -- the first run begins above the address
@@ -15,11 +17,47 @@ ranked_none bs numbers places rows w ranked above = record {
   beyond = λ k d h l. subst (λ (b : Block). w < b.start) (any_default bs k none d l) (omega (arith, above (ranked.some k l), ranked.front k l));
 }
 
--- the address is in a row of the run
-pub ranked_inside : (bs : List Block) (numbers places : List ℕ) (rows : List Row) (w e i : ℕ) (d : Row) → AreRanked bs (length bs) numbers places rows → AreAligned bs → e < length numbers → slice_index_or places e 0 ≤ i → i < end_of places (length rows) e →
-    number_at numbers places e i ≡ w / 1024 → IsCountUpTo bs w ((slice_index_or rows i d).first + count_ones ((slice_index_or rows i d).bits % 2 ^ (w / 16 % 64 + 1)))
-ranked_inside bs numbers places rows w e i d ranked aligned h low high is =
-    up_to bs w (1024 * number_at numbers places e i + 16 * (w / 16 % 64 + 1)) _ aligned (omega (arith, is)) ((ranked.each e i d h low high).counts (w / 16 % 64 + 1) (omega arith))
+-- the row of the address counts the blocks up to it
+pub row_count : (bs : List Block) (w ones : ℕ) (row : Row) → AreAligned bs → IsRow bs (length bs) (w / 1024) row → ones ≡ count_ones (row.bits % 2 ^ (w / 16 % 64 + 1)) → IsCountUpTo bs w (row.first + ones)
+row_count bs w ones row aligned is e =
+    subst (λ (m : ℕ). IsCountUpTo bs w (row.first + m)) (sym e)
+    (up_to bs w (1024 * (w / 1024) + 16 * (w / 16 % 64 + 1)) _ aligned (omega arith) (is.counts (w / 16 % 64 + 1) (omega arith)))
+
+-- and where the bit of its granule is set, the last of them begins there
+pub row_start : (bs : List Block) (w ones : ℕ) (row : Row) → AreAligned bs → IsRow bs (length bs) (w / 1024) row → row.apart ≡ true → w % 16 ≡ 0 → row.bits / 2 ^ (w / 16 % 64) % 2 ≡ 1 → ones ≡ count_ones (row.bits % 2 ^ (w / 16 % 64 + 1)) →
+    (1 ≤ row.first + ones) × IsOnlyStart bs w (row.first + ones - 1)
+row_start bs w ones row aligned is t exact set e = (
+  omega (arith, next, e),
+  subst (IsOnlyStart bs w) at (record {
+    inside = inside;
+    here = λ d. subst (λ (b : Block). b.start ≡ w) (any_default bs number none d inside) here;
+    before = λ k d h. subst (λ (b : Block). b.start + b.size < w) (any_default bs k none d (omega (arith, h, inside))) (omega (arith, apart.each k h, here));
+  }),
+)
+  where
+    number : ℕ
+    number = row.first + count_ones (row.bits % 2 ^ (w / 16 % 64))
+
+    next : count_ones (row.bits % 2 ^ (w / 16 % 64 + 1)) ≡ count_ones (row.bits % 2 ^ (w / 16 % 64)) + 1
+    next = ones_set row.bits (w / 16 % 64) set
+
+    at : number ≡ row.first + ones - 1
+    at = omega (arith, next, e)
+
+    below : IsCountBelow bs (length bs) (1024 * (w / 1024) + 16 * (w / 16 % 64)) number
+    below = is.counts (w / 16 % 64) (omega arith)
+
+    up : IsCountBelow bs (length bs) (1024 * (w / 1024) + 16 * (w / 16 % 64 + 1)) (row.first + count_ones (row.bits % 2 ^ (w / 16 % 64 + 1)))
+    up = is.counts (w / 16 % 64 + 1) (omega arith)
+
+    inside : number < length bs
+    inside = omega (arith, up.bound, next)
+
+    here : start_of bs number ≡ w
+    here = omega (arith, below.above number (omega arith) inside, up.below number (omega (arith, next)), aligned.each number inside, exact)
+
+    apart : IsApart bs number
+    apart = is.apart t number inside (omega (arith, here))
 
 -- the address is after the run, and before the next
 pub ranked_behind : (bs : List Block) (numbers places : List ℕ) (rows : List Row) (w e : ℕ) (d : Row) → AreRanked bs (length bs) numbers places rows → e < length numbers →
@@ -45,7 +83,7 @@ ranked_behind bs numbers places rows w e d ranked h behind before = record {
     end : number_at numbers places e (end_of places (length rows) e - 1) + 1 ≡ number_at numbers places e (end_of places (length rows) e)
     end = omega (arith, filled)
 
--- the row that was read counts as it says
+-- the last row of the run, as it was read, counts all up to its end
 pub counted_row : (bs : List Block) (w : ℕ) (row found : Row) (many n : ℕ) → found ≡ row → n ≡ count_ones (found.bits % 2 ^ many) → IsCountUpTo bs w (row.first + count_ones (row.bits % 2 ^ many)) → IsCountUpTo bs w (found.first + n)
 counted_row bs w row found many n same is up =
     subst (λ (m : ℕ). IsCountUpTo bs w (found.first + m)) (sym is) (subst (λ (r : Row). IsCountUpTo bs w (r.first + count_ones (r.bits % 2 ^ many))) (sym same) up)
@@ -55,3 +93,10 @@ pub ranked_after : (bs : List Block) (numbers places : List ℕ) (rows : List Ro
     IsCountUpTo bs w ((slice_index_or rows (end - 1) d).first + count_ones ((slice_index_or rows (end - 1) d).bits % 2 ^ 64))
 ranked_after bs numbers places rows w e end d ranked h is behind before =
     subst (λ (j : ℕ). IsCountUpTo bs w ((slice_index_or rows (j - 1) d).first + count_ones ((slice_index_or rows (j - 1) d).bits % 2 ^ 64))) (sym is) (ranked_behind bs numbers places rows w e d ranked h behind before)
+
+-- the row that was read is that of the address
+pub row_read : (bs : List Block) (numbers places : List ℕ) (rows : List Row) (w e i : ℕ) (found : Row) → AreRanked bs (length bs) numbers places rows → e < length numbers → slice_index_or places e 0 ≤ i → i < end_of places (length rows) e →
+    number_at numbers places e i ≡ w / 1024 → found ≡ slice_index_or rows i found → IsRow bs (length bs) (w / 1024) found
+row_read bs numbers places rows w e i found ranked h low high is same =
+    subst (λ (r : Row). IsRow bs (length bs) (w / 1024) r) (sym same)
+    (subst (λ (m : ℕ). IsRow bs (length bs) m (slice_index_or rows i found)) is (ranked.each e i found h low high))

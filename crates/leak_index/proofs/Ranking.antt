@@ -1,20 +1,18 @@
 -- Rows are made block by block.
-use Rattle.std.proofs.Common.{◌≡◌, ◌∙◌, ℕ, zero, suc, ◌+◌, ◌-◌, ◌*◌, ◌/◌, ◌%◌, ◌^◌, ◌<◌, ◌≤◌, refl, ap, sym, subst, List, [], ◌∷◌, ◌++◌, length, length-append, slice_index_or, slice_set, get_or-set_other, arith}
-use Rattle.std.proofs.Math.Nat.{pow-le-pow_right, two-pow-succ}
+use Rattle.std.proofs.Common.{◌≡◌, ◌∙◌, ℕ, true, zero, suc, ◌+◌, ◌-◌, ◌<◌, ◌≤◌, refl, ap, sym, subst, List, [], ◌∷◌, ◌++◌, length, length-append, slice_index_or, slice_set, get_or-set_other, arith}
 use Rattle.std.proofs.Math.Seq.{get_or-append_seam}
 use Rattle.std.proofs.lemmas.List.{get_or_append_left, get_or_past}
 use Rattle.std.proofs.Math.ListN.{length-set}
 use Rattle.std.proofs.lemmas.Grind.{get_or_default_zero, get_or-set_at}
 use Rattle.leak_blocks.specs.declared.block.Block.{Block}
-use Rattle.leak_blocks.specs.Span.{AreDisjoint}
 use Rattle.leak_index.specs.declared.ranks.Row.{Row}
-use Rattle.leak_index.specs.Ranks.{AreAligned, AreRanked, AreRankedTo, AreRuns, IsRow, end_of, number_at, row_of, start_of}
+use Rattle.leak_index.specs.Ranks.{AreRankedTo, AreRuns, IsRow, end_of, number_at, row_of}
 use Rattle.leak_index.proofs.Listing.{at_end, at_front, one_more}
 use Rattle.leak_index.proofs.Near.{either}
-use Rattle.leak_index.proofs.RowCounts.{fresh, is_free, row_before, row_more}
+use Rattle.leak_index.proofs.RowCounts.{fresh, row_before}
 
 abbrev pub empty : ℕ → Row
-empty n = record { bits = 0; first = n }
+empty n = record { bits = 0; first = n; apart = true }
 
 -- by whether a run is the last
 pub ends : (numbers places : List ℕ) (total e : ℕ) → length places ≡ length numbers → e < length numbers → (P : Type 0) →
@@ -142,11 +140,10 @@ opened bs n next number numbers places rows more len same new far made = record 
         (get_or_past (places ++ length rows ∷ []) (e + 1) (length more) (omega (arith, one_more places (length rows), runs.paired, f))))
 
 -- one more block, which starts in the last row
-pub added : (bs : List Block) (n next g : ℕ) (numbers places : List ℕ) (rows more : List Row) (row : Row) → AreDisjoint bs → n < length bs → start_of bs n ≡ 1024 * (next - 1) + 16 * g → g < 64 → row_of bs n + 1 ≡ next →
-    ((d : Row) → slice_index_or rows (length rows - 1) d ≡ row) → row.bits < 2 ^ 64 →
-    length more ≡ length rows → ((i : ℕ) (d : Row) → i + 1 < length rows → slice_index_or more i d ≡ slice_index_or rows i d) → ((d : Row) → slice_index_or more (length rows - 1) d ≡ record { bits = row.bits + 2 ^ g; first = row.first }) →
+pub added : (bs : List Block) (n next : ℕ) (numbers places : List ℕ) (rows more : List Row) (now : Row) → row_of bs n + 1 ≡ next → IsRow bs (n + 1) (row_of bs n) now →
+    length more ≡ length rows → ((i : ℕ) (d : Row) → i + 1 < length rows → slice_index_or more i d ≡ slice_index_or rows i d) → ((d : Row) → slice_index_or more (length rows - 1) d ≡ now) →
     AreRankedTo bs n next numbers places rows → AreRankedTo bs (n + 1) next numbers places more
-added bs n next g numbers places rows more row apart inside is small at_next last_row fits len same new made = record {
+added bs n next numbers places rows more now at_next row len same new made = record {
   ranked = record {
     runs = subst (λ (t : ℕ). AreRuns numbers places t) (sym len) runs;
     each = λ e i d h low high. each_row e i d h low (subst (λ (t : ℕ). i < end_of places t e) len high);
@@ -192,11 +189,10 @@ added bs n next g numbers places rows more row apart inside is small at_next las
         (λ f. by_end e h (IsRow bs (n + 1) (number_at numbers places e i) (slice_index_or more i d))
         (λ l is_end. absurd (omega (arith, f, high, next_place e l, runs.filled (e + 1) l, runs.inside (e + 1) l)))
         (λ l is_end. let at : length rows - 1 ≡ i = omega (arith, f, high, is_end (length rows)) in
-        let number : next - 1 ≡ number_at numbers places e i = omega (arith, made.last e l, at, f, low, high, is_end (length rows)) in
-        let old : IsRow bs n (next - 1) row = subst (λ (m : ℕ). IsRow bs n m row) (sym number) (subst (λ (r : Row). IsRow bs n (number_at numbers places e i) r) (subst (λ (j : ℕ). slice_index_or rows j d ≡ row) at (last_row d)) (made.ranked.each e i d h low high)) in
-        let now : slice_index_or more i d ≡ record { bits = row.bits + 2 ^ g; first = row.first } = subst (λ (j : ℕ). slice_index_or more j d ≡ record { bits = row.bits + 2 ^ g; first = row.first }) at (new d) in
+        let number : row_of bs n ≡ number_at numbers places e i = omega (arith, made.last e l, at, f, low, high, is_end (length rows), at_next) in
+        let here : slice_index_or more i d ≡ now = subst (λ (j : ℕ). slice_index_or more j d ≡ now) at (new d) in
         subst (λ (m : ℕ). IsRow bs (n + 1) m (slice_index_or more i d)) number
-        (subst (λ (r : Row). IsRow bs (n + 1) (next - 1) r) (sym now) (row_more bs n (next - 1) g row apart inside is small fits old))))
+        (subst (λ (r : Row). IsRow bs (n + 1) (row_of bs n) r) (sym here) row)))
 
 -- ---- the last row
 
@@ -215,13 +211,6 @@ last_row bs n next numbers places rows d some made = (omega (arith, filled), sub
 
     number : number_at numbers places (length numbers - 1) (length rows - 1) ≡ next - 1
     number = omega (arith, made.last (length numbers - 1) (omega (arith, inside)), filled)
-
-pub bit_fits : (bits g : ℕ) → bits < 2 ^ g → g < 64 → bits + 2 ^ g < 2 ^ 64
-bit_fits bits g low h =
-    let least : suc g ≤ 64 = omega arith in
-    let double : 2 ^ suc g ≡ 2 ^ g + 2 ^ g = two-pow-succ g in
-    let room : 2 ^ suc g ≤ 2 ^ 64 = pow-le-pow_right {n = 2} (omega arith) least in
-    omega arith
 
 -- ---- rows that are pushed or set
 
@@ -246,32 +235,22 @@ read_last bs n next numbers places rows len row at_next count is made =
     let same : row ≡ slice_index_or rows (length rows - 1) row = subst (λ (m : ℕ). row ≡ slice_index_or rows m row) at is in
     subst (λ (r : Row). IsRow bs n (next - 1) r) (sym same) (last_row bs n next numbers places rows row (omega (arith, at_next)) made).1
 
-granule : (bs : List Block) (n next : ℕ) → AreAligned bs → n < length bs → next ≡ row_of bs n + 1 → start_of bs n ≡ 1024 * (next - 1) + 16 * (start_of bs n / 16 % 64)
-granule bs n next aligned h at_next = omega (arith, aligned.each n h, at_next)
+pub last_read : (bs : List Block) (n next : ℕ) (numbers places : List ℕ) (rows : List Row) (len : ℕ) (row : Row) → next ≡ row_of bs n + 1 → len ≡ length rows → row ≡ slice_index_or rows (len - 1) row → AreRankedTo bs n next numbers places rows → IsRow bs n (row_of bs n) row
+last_read bs n next numbers places rows len row at_next count is made =
+    let number : next - 1 ≡ row_of bs n = omega (arith, at_next) in
+    subst (λ (m : ℕ). IsRow bs n m row) number (read_last bs n next numbers places rows len row at_next count is made)
 
--- the block's bit isn't set yet
-pub bit_room : (bs : List Block) (n next : ℕ) (numbers places : List ℕ) (rows : List Row) (len bit : ℕ) (row : Row) → AreDisjoint bs → AreAligned bs → n < length bs → next ≡ row_of bs n + 1 → len ≡ length rows → row ≡ slice_index_or rows (len - 1) row → row.bits < 2 ^ 64 →
-    bit ≡ 2 ^ (start_of bs n / 16 % 64) → AreRankedTo bs n next numbers places rows → row.bits + bit < 2 ^ 64
-bit_room bs n next numbers places rows len bit row apart aligned h at_next count is fits bit_is made =
-    let small : start_of bs n / 16 % 64 < 64 = omega arith in
-    let free = is_free bs n (next - 1) (start_of bs n / 16 % 64) row apart h (granule bs n next aligned h at_next) small fits (read_last bs n next numbers places rows len row at_next count is made) in
-    subst (λ (b : ℕ). row.bits + b < 2 ^ 64) (sym bit_is) (bit_fits row.bits (start_of bs n / 16 % 64) free.0 small)
-
-abbrev pub changed : Row → ℕ → Row
-changed row bit = record { bits = row.bits + bit; first = row.first }
-
--- the block's bit is set
-pub bit_set : (bs : List Block) (n next : ℕ) (numbers places : List ℕ) (rows : List Row) (len bit : ℕ) (row : Row) → AreDisjoint bs → AreAligned bs → n < length bs → next ≡ row_of bs n + 1 → len ≡ length rows → row ≡ slice_index_or rows (len - 1) row → row.bits < 2 ^ 64 →
-    bit ≡ 2 ^ (start_of bs n / 16 % 64) → AreRankedTo bs n next numbers places rows → AreRankedTo bs (n + 1) next numbers places (slice_set rows (len - 1) (record { bits = row.bits + bit; first = row.first }))
-bit_set bs n next numbers places rows len bit row apart aligned h at_next count is fits bit_is made =
-    added bs n next (start_of bs n / 16 % 64) numbers places rows (slice_set rows (len - 1) (changed row bit)) row apart h (granule bs n next aligned h at_next) (omega arith) (sym at_next)
-    (λ d. row_default rows (length rows - 1) d row (omega (arith, some)) ∙ sym (subst (λ (m : ℕ). row ≡ slice_index_or rows m row) at is)) fits
-    (length-set rows (len - 1) (changed row bit))
-    (λ i d l. get_or-set_other rows (len - 1) i (changed row bit) d (omega (arith, at, l)))
-    (λ d. get_or-set_at rows (len - 1) (length rows - 1) (changed row bit) d (sym at) (omega (arith, at, some)) ∙ ap (changed row) bit_is) made
+-- the last row has the block too
+pub bit_set : (bs : List Block) (n next : ℕ) (numbers places : List ℕ) (rows : List Row) (len : ℕ) (now : Row) → next ≡ row_of bs n + 1 → len ≡ length rows → IsRow bs (n + 1) (row_of bs n) now →
+    AreRankedTo bs n next numbers places rows → AreRankedTo bs (n + 1) next numbers places (slice_set rows (len - 1) now)
+bit_set bs n next numbers places rows len now at_next count row made =
+    added bs n next numbers places rows (slice_set rows (len - 1) now) now (sym at_next) row
+    (length-set rows (len - 1) now)
+    (λ i d l. get_or-set_other rows (len - 1) i now d (omega (arith, at, l)))
+    (λ d. get_or-set_at rows (len - 1) (length rows - 1) now d (sym at) (omega (arith, at, some))) made
   where
     at : len - 1 ≡ length rows - 1
     at = ap (λ (m : ℕ). m - 1) count
 
     some : 0 < length rows
-    some = (last_row bs n next numbers places rows row (omega (arith, at_next)) made).0
+    some = (last_row bs n next numbers places rows now (omega (arith, at_next)) made).0

@@ -1,6 +1,6 @@
 -- Rows of addresses, for blocks that start at multiples of 16. The row with the number n is the 1024 addresses from
 -- 1024 * n on: 64 granules of 16.
-use Rattle.std.specs.Prelude.{◌≡◌, ℕ, ◌+◌, ◌-◌, ◌*◌, ◌/◌, ◌%◌, ◌^◌, ◌<◌, ◌≤◌, List, length, slice_index_or, count_ones}
+use Rattle.std.specs.Prelude.{◌≡◌, ℕ, true, ◌+◌, ◌-◌, ◌*◌, ◌/◌, ◌%◌, ◌^◌, ◌<◌, ◌≤◌, List, length, slice_index_or, count_ones}
 use Rattle.std.specs.List.Sorted.{IsStrictlyIncreasing}
 use Rattle.leak_blocks.specs.declared.block.Block.{Block}
 use Rattle.leak_index.specs.declared.ranks.Ranks.{Ranks}
@@ -17,6 +17,14 @@ start_of blocks k = (slice_index_or blocks k none).start
 abbrev pub row_of : List Block → ℕ → ℕ
 row_of blocks k = start_of blocks k / 1024
 
+-- where it ends
+abbrev pub stop_of : List Block → ℕ → ℕ
+stop_of blocks k = (slice_index_or blocks k none).start + (slice_index_or blocks k none).size
+
+-- each block before the one with the number ends before that begins
+pub record IsApart (blocks : List Block) (number : ℕ) : Type 0 where
+  pub each : (k : ℕ) → k < number → stop_of blocks k < start_of blocks number
+
 -- each block starts at a multiple of 16
 pub record AreAligned (blocks : List Block) : Type 0 where
   pub each : (k : ℕ) → k < length blocks → start_of blocks k % 16 ≡ 0
@@ -27,9 +35,11 @@ pub record IsCountBelow (blocks : List Block) (n address count : ℕ) : Type 0 w
   pub below : (k : ℕ) → k < count → start_of blocks k < address
   pub above : (k : ℕ) → count ≤ k → k < n → address ≤ start_of blocks k
 
--- how many of the first n blocks begin below each granule of the row with the number, and below its end
+-- how many of the first n blocks begin below each granule of the row with the number, and below its end, and whether all
+-- that begin in it stand apart from those before them
 pub record IsRow (blocks : List Block) (n number : ℕ) (row : Row) : Type 0 where
   pub counts : (g : ℕ) → g ≤ 64 → IsCountBelow blocks n (1024 * number + 16 * g) (row.first + count_ones (row.bits % 2 ^ g))
+  pub apart : row.apart ≡ true → (k : ℕ) → k < n → row_of blocks k ≡ number → IsApart blocks k
 
 -- where the run ends in the list of rows, of which there are so many
 abbrev pub end_of : List ℕ → ℕ → ℕ → ℕ

@@ -4,9 +4,11 @@ ghost use Rattle.leak_blocks.specs.Span.{AreDisjoint};
 ghost use Rattle.leak_index.specs.Bounds.{AreWithin, IsCountUpTo};
 ghost use Rattle.leak_index.specs.Hits.{Index, hits_in, hits_of};
 ghost use Rattle.leak_index.specs.Leads.{leads};
+ghost use Rattle.leak_index.specs.Places.{IsPlace};
 ghost use Rattle.leak_index.specs.Readings.{listed_by};
 
 use crate::hits::Hits;
+use crate::place::Place;
 use crate::reading::Reading;
 use leak_blocks::{Block, Live};
 use std::marker::Model;
@@ -65,6 +67,20 @@ impl<'a> Candidates<'a> {
         ensures { IsTrue result → hits_of self.now word ≡ [] }
     {
         word < self.low || self.high < word
+    }
+
+    /// The blocks that the word leads to, given where it is among them. To the start of a block each reading allows it to
+    /// lead, so that no block is read there.
+    #[inline(always)]
+    pub(crate) fn hits_at(&self, word: u64, place: Place) -> Hits
+        requires { IsPlace self.now.blocks word place }
+        ensures { hits_in result ≡ hits_of self.now word }
+    {
+        let _ = &self.blocks;
+        match place {
+            Place::Start(block) => Hits::One(block),
+            Place::After(count) => self.hits_near(word, count),
+        }
     }
 
     /// The blocks that the word leads to, given how many blocks begin at the word or before it. Only the last two of

@@ -1,16 +1,17 @@
-//! How many blocks begin at an address or before it.
+//! Where an address is among blocks.
 ghost use Rattle.std.specs.Prelude.{IfOk};
 ghost use Rattle.leak_blocks.specs.Span.{AreDisjoint};
-ghost use Rattle.leak_index.specs.Bounds.{IsCountUpTo};
 ghost use Rattle.leak_index.specs.Finder.{Finds};
+ghost use Rattle.leak_index.specs.Places.{IsPlace};
 
 use crate::directory::Directory;
+use crate::place::Place;
 use crate::ranks::{Ranks, are_aligned};
 use leak_blocks::Block;
 use std::alloc::{AllocError, Global};
 
-/// Finds how many blocks begin at an address or before it: by rows where each block starts at a multiple of 16, as those
-/// of glibc do, and otherwise by pages.
+/// Finds where an address is among blocks: by rows where each block starts at a multiple of 16, as those of glibc do, and
+/// otherwise by pages. Of 4294967296 blocks or more it goes by pages too, since a row counts up to that.
 #[derive(Drop)]
 pub(crate) enum Finder {
     Rows(Ranks),
@@ -23,7 +24,7 @@ impl Finder {
         requires { AreDisjoint blocks.now }
         ensures { IfOk result (λ finder. Finds blocks.now finder) }
     {
-        if are_aligned(blocks) {
+        if blocks.len() <= u32::MAX as usize && are_aligned(blocks) {
             let ranks = Ranks::new(alloc, blocks)?;
             return Ok(Finder::Rows(ranks));
         }
@@ -31,16 +32,16 @@ impl Finder {
         Ok(Finder::Pages(directory))
     }
 
-    /// How many of the blocks begin at the address or before it.
+    /// Where the address is among the blocks.
     #[inline(always)]
-    pub(crate) fn count_up_to(&self, blocks: &[Block], address: u64) -> usize
+    pub(crate) fn place(&self, blocks: &[Block], address: u64) -> Place
         requires disjoint { AreDisjoint blocks.now }
         requires finds { Finds blocks.now self.now }
-        ensures { IsCountUpTo blocks.now address result }
+        ensures { IsPlace blocks.now address result }
     {
         match self {
-            Finder::Rows(ranks) => ranks.count_up_to(blocks, address),
-            Finder::Pages(directory) => directory.count_up_to(blocks, address),
+            Finder::Rows(ranks) => ranks.place(blocks, address),
+            Finder::Pages(directory) => Place::After(directory.count_up_to(blocks, address)),
         }
     }
 }

@@ -19,6 +19,7 @@ mod finder;
 mod hits;
 mod laws;
 mod paged;
+mod place;
 #[cfg(test)]
 mod rank_tests;
 mod ranks;

@@ -50,7 +50,7 @@ impl<'a> Lookup for Paged<'a> {
         if self.candidates.is_out(word) {
             return Hits::Zero;
         }
-        let count = self.finder.count_up_to(self.candidates.blocks(), word);
-        self.candidates.hits_near(word, count)
+        let place = self.finder.place(self.candidates.blocks(), word);
+        self.candidates.hits_at(word, place)
     }
 }

@@ -98,6 +98,45 @@ fn one_start_in_many_is_no_multiple_of_16(rt: HostRuntime) -> Result<(), Fail> {
     Ok(())
 }
 
+/// Words at starts and near them, and what they lead to by the interior reading, by starts alone and by displacements
+/// of 16.
+const STARTS: [(u64, Hits, Hits, Hits); 11] = [
+    (0x10000, Hits::One(0), Hits::One(0), Hits::One(0)),
+    (0x10010, Hits::Two(0, 1), Hits::One(1), Hits::Two(0, 1)),
+    (0x10018, Hits::One(1), Hits::Zero, Hits::Zero),
+    (0x10400, Hits::One(2), Hits::One(2), Hits::One(2)),
+    (0x11400, Hits::Two(2, 3), Hits::One(3), Hits::One(3)),
+    (0x11410, Hits::One(4), Hits::One(4), Hits::One(4)),
+    (0x11800, Hits::Two(4, 5), Hits::One(5), Hits::One(5)),
+    (0x11810, Hits::One(5), Hits::Zero, Hits::One(5)),
+    (0x20000, Hits::One(6), Hits::One(6), Hits::One(6)),
+    (0x20008, Hits::One(6), Hits::Zero, Hits::Zero),
+    (0x20010, Hits::Zero, Hits::Zero, Hits::Zero),
+];
+
+/// Each end of a block is a start where the blocks are neighbors, in one row, at the start of a row and after rows
+/// without a start. The other starts are no block's end.
+#[test]
+fn starts_where_a_block_ends_and_where_none_does(rt: HostRuntime) -> Result<(), Fail> {
+    let alloc = rt.alloc();
+    let live = lives(
+        alloc,
+        "+ 0x10000 0x10\n+ 0x10010 0x8\n+ 0x10400 0x1000\n+ 0x11400 0\n+ 0x11410 0x3f0\n+ 0x11800 0x10\n+ 0x20000 0x8\n",
+    )?;
+    let (Ok(starts), Ok(sixteen)) = (Reading::displaced(&[]), Reading::displaced(&[16])) else {
+        return Ok(assert!(rt; false, "the lists are readings"));
+    };
+    let by_interior = Paged::new(alloc, &live, Reading::interior())?;
+    let by_starts = Paged::new(alloc, &live, starts)?;
+    let by_sixteen = Paged::new(alloc, &live, sixteen)?;
+    for (word, interior, starts, sixteen) in STARTS {
+        assert_eq!(rt; by_interior.hits(word), interior, "{word}, interior");
+        assert_eq!(rt; by_starts.hits(word), starts, "{word}, starts");
+        assert_eq!(rt; by_sixteen.hits(word), sixteen, "{word}, displaced");
+    }
+    Ok(())
+}
+
 #[test]
 fn the_first_and_the_last_addresses(rt: HostRuntime) -> Result<(), Fail> {
     let alloc = rt.alloc();

@@ -1,10 +1,11 @@
 //! Rows of addresses, with a bit for each place in which a block starts.
-ghost use Rattle.std.specs.Prelude.{◌≡◌, ◌+◌, ◌%◌, ◌^◌, ◌<◌, ◌≤◌, length, count_ones, IfOk, IsTrue};
+ghost use Rattle.std.specs.Prelude.{◌≡◌, ◌+◌, ◌/◌, ◌%◌, ◌^◌, ◌<◌, ◌≤◌, length, count_ones, IfOk, IsTrue};
 ghost use Rattle.leak_blocks.specs.Span.{AreDisjoint};
-ghost use Rattle.leak_index.specs.Bounds.{IsCountUpTo};
-ghost use Rattle.leak_index.specs.Ranks.{AreAligned, IsMadeTo, IsRanked, end_of, row_of, start_of};
+ghost use Rattle.leak_index.specs.Places.{IsPlace};
+ghost use Rattle.leak_index.specs.Ranks.{AreAligned, IsApart, IsMadeTo, IsRanked, IsRow, end_of, row_of};
 
 use crate::directory::count_pages;
+use crate::place::Place;
 use leak_blocks::Block;
 use std::alloc::{AllocError, Global};
 
@@ -21,7 +22,43 @@ pub(crate) struct Row {
     /// A bit for each granule in which a block starts.
     bits: u64,
     /// How many blocks start before the row.
-    first: usize,
+    first: u32,
+    /// Whether none of the blocks that start in the row begins where the block before it ends.
+    apart: bool,
+}
+
+impl Row {
+    /// The row with one more block, which has the number and starts in the row.
+    fn with(self, blocks: &[Block], number: usize) -> Row
+        requires disjoint { AreDisjoint blocks.now }
+        requires aligned { AreAligned blocks.now }
+        requires inside { number < length blocks.now }
+        requires row { IsRow blocks.now number (row_of blocks.now number) self }
+        ensures { IsRow blocks.now (number + 1) (row_of blocks.now number) result }
+    {
+        let granule = blocks[number].start / GRANULE % 64;
+        let apart = is_apart(blocks, number);
+        Row {
+            bits: self.bits + (1 << granule),
+            first: self.first,
+            apart: self.apart && apart,
+        }
+    }
+
+    /// Where an address of the row is among the blocks.
+    #[inline(always)]
+    fn place(&self, blocks: &[Block], address: u64) -> Place
+        requires row { IsRow blocks.now (length blocks.now) (address / 1024) self.now }
+        requires aligned { AreAligned blocks.now }
+        ensures { IsPlace blocks.now address result }
+    {
+        let granule = address / GRANULE % 64;
+        let count = self.first as usize + ones_below(self.bits, granule + 1);
+        if self.apart && address % GRANULE == 0 && (self.bits >> granule) % 2 == 1 {
+            return Place::Start(count - 1);
+        }
+        Place::After(count)
+    }
 }
 
 /// Rows of addresses in runs. The rows of a run follow one another.
@@ -43,6 +80,7 @@ impl Ranks {
     pub(crate) fn new(alloc: Global, blocks: &[Block]) -> Result<Ranks, AllocError>
         requires disjoint { AreDisjoint blocks.now }
         requires aligned { AreAligned blocks.now }
+        requires few { length blocks.now < 2 ^ 32 }
         ensures { IfOk result (λ ranks. IsRanked blocks.now ranks) }
     {
         let mut ranks = Ranks {
@@ -62,6 +100,7 @@ impl Ranks {
         requires disjoint { AreDisjoint blocks.now }
         requires aligned { AreAligned blocks.now }
         requires inside { number < length blocks.now }
+        requires few { length blocks.now < 2 ^ 32 }
         requires made { IsMadeTo blocks.now number self.old }
         requires rest { self.old.next ≤ row_of blocks.now number + 1 }
         ensures { IfOk result (λ unit.
@@ -69,15 +108,15 @@ impl Ranks {
             × (self.new.next ≡ row_of blocks.now number + 1)) }
     {
         self.reach(blocks, number)?;
-        let start = blocks[number].start;
         let last = self.rows.len() - 1;
-        self.rows[last].bits += 1 << (start / GRANULE % 64);
+        self.rows[last] = self.rows[last].with(blocks, number);
         Ok(())
     }
 
     /// Makes the row in which the block with the number starts, unless it is there. It is in the last run if that isn't far.
     fn reach(&mut self, blocks: &[Block], number: usize) -> Result<(), AllocError>
         requires inside { number < length blocks.now }
+        requires few { length blocks.now < 2 ^ 32 }
         requires made { IsMadeTo blocks.now number self.old }
         requires rest { self.old.next ≤ row_of blocks.now number + 1 }
         ensures { IfOk result (λ unit.
@@ -88,17 +127,18 @@ impl Ranks {
             return Ok(());
         }
         let is_near = row - self.next <= GAP && self.rows.len() <= number;
+        let first = number as u32;
         if self.numbers.is_empty() || !is_near {
-            return self.open(blocks, row, number);
+            return self.open(blocks, row, first);
         }
         while self.next <= row {
-            self.pad(blocks, number)?;
+            self.pad(blocks, first)?;
         }
         Ok(())
     }
 
     /// Makes one more row of the last run. So many blocks start before it.
-    fn pad(&mut self, blocks: &[Block], first: usize) -> Result<(), AllocError>
+    fn pad(&mut self, blocks: &[Block], first: u32) -> Result<(), AllocError>
         requires made { IsMadeTo blocks.now first self.old }
         requires some { 0 < length self.old.numbers.items }
         requires fits { self.old.next + 1 < 2 ^ 64 }
@@ -106,13 +146,17 @@ impl Ranks {
         ensures some { IfOk result (λ unit. 0 < length self.new.numbers.items) }
         ensures next { IfOk result (λ unit. self.new.next ≡ self.old.next + 1) }
     {
-        self.rows.push(Row { bits: 0, first })?;
+        self.rows.push(Row {
+            bits: 0,
+            first,
+            apart: true,
+        })?;
         self.next += 1;
         Ok(())
     }
 
     /// Begins a run with the row with the number. So many blocks start before it.
-    fn open(&mut self, blocks: &[Block], row: u64, first: usize) -> Result<(), AllocError>
+    fn open(&mut self, blocks: &[Block], row: u64, first: u32) -> Result<(), AllocError>
         requires made { IsMadeTo blocks.now first self.old }
         requires rest { self.old.next ≤ row }
         requires fits { row + 1 < 2 ^ 64 }
@@ -121,33 +165,36 @@ impl Ranks {
     {
         self.numbers.push(row)?;
         self.places.push(self.rows.len())?;
-        self.rows.push(Row { bits: 0, first })?;
+        self.rows.push(Row {
+            bits: 0,
+            first,
+            apart: true,
+        })?;
         self.next = row + 1;
         Ok(())
     }
 
-    /// How many of the blocks begin at the address or before it.
+    /// Where the address is among the blocks.
     #[inline(always)]
-    pub(crate) fn count_up_to(&self, blocks: &[Block], address: u64) -> usize
+    pub(crate) fn place(&self, blocks: &[Block], address: u64) -> Place
         requires ranked { IsRanked blocks.now self.now }
         requires aligned { AreAligned blocks.now }
-        ensures { IsCountUpTo blocks.now address result }
+        ensures { IsPlace blocks.now address result }
     {
         let row = address / ROW;
         let runs = count_pages(self.numbers.as_slice(), row);
         if runs == 0 {
-            return 0;
+            return Place::After(0);
         }
         let run = runs - 1;
         let place = self.places[run];
         let end = self.end(run);
         let distance = row - self.numbers[run];
         if distance < (end - place) as u64 {
-            let row = self.rows[place + distance as usize];
-            return row.first + ones_below(row.bits, address / GRANULE % 64 + 1);
+            return self.rows[place + distance as usize].place(blocks, address);
         }
         let row = self.rows[end - 1];
-        row.first + ones_below(row.bits, 64)
+        Place::After(row.first as usize + ones_below(row.bits, 64))
     }
 
     /// Where the run ends in the list of rows.
@@ -162,6 +209,19 @@ impl Ranks {
         }
         self.places[run + 1]
     }
+}
+
+/// Whether each block before the one with the number ends before that begins.
+fn is_apart(blocks: &[Block], number: usize) -> bool
+    requires disjoint { AreDisjoint blocks.now }
+    requires inside { number < length blocks.now }
+    ensures { IsTrue result → IsApart blocks.now number }
+{
+    if number == 0 {
+        return true;
+    }
+    let before = blocks[number - 1];
+    blocks[number].start - before.start > before.size
 }
 
 /// How many of the lowest bits are set, of which there are so many.

@@ -1,8 +1,6 @@
 -- The bit of the block's granule is set in the last row.
-use Rattle.std.proofs.Common.{◌≡◌, ◌∙◌, ℕ, ◌+◌, ◌-◌, ◌*◌, ◌/◌, ◌%◌, ◌^◌, ◌<◌, length, arith}
-use Rattle.std.proofs.lemmas.Nat.{one_shl}
-use Rattle.leak_index.specs.Ranks.{start_of}
-use Rattle.leak_index.proofs.Ranking.{bit_room, bit_set, empty, last_row}
+use Rattle.std.proofs.Common.{◌≡◌, ◌∙◌, length, arith}
+use Rattle.leak_index.proofs.Ranking.{bit_set, empty, last_read, last_row}
 use Rattle.leak_index.proofs.ranks.Ranks.add.Goals as goal
 
 pub overflow_sub-last : goal.overflow_sub-last
@@ -19,16 +17,16 @@ index_mut-requires c =
     let made = c.in_ok-reach.ensures in
     omega (arith, count, c.len-last.ensures, (last_row c.args.blocks.now c.args.number c.reach.new.self.next c.reach.new.self.numbers.items c.reach.new.self.places.items rows (empty 0) (omega (arith, made.1)) made.0).0)
 
-pub overflow_add-index_mut : goal.overflow_add-index_mut
-overflow_add-index_mut c =
+pub with-requires-clause-row : goal.with-requires-clause-row
+with-requires-clause-row c =
     let rows = c.reach.new.self.rows.items in
     let count : c.len-last.result ≡ length rows = c.len-last.ensures ∙ c.reach.new.self.rows.ok.0 in
     let made = c.in_ok-reach.ensures in
-    omega (arith, bit_room c.args.blocks.now c.args.number c.reach.new.self.next c.reach.new.self.numbers.items c.reach.new.self.places.items rows c.len-last.result (1 * 2 ^ (start_of c.args.blocks.now c.args.number / 16 % 64) % 2 ^ 64) c.index_mut.result.now c.requires.disjoint c.requires.aligned c.requires.inside made.1 count c.index_mut.ensures.value (omega arith) (one_shl (start_of c.args.blocks.now c.args.number / 16 % 64) 64 (omega arith)) made.0)
+    last_read c.args.blocks.now c.args.number c.reach.new.self.next c.reach.new.self.numbers.items c.reach.new.self.places.items rows c.len-last.result c.index.result.now made.1 count c.index.ensures made.0
 
 pub returns : goal.returns
 returns c =
     let rows = c.reach.new.self.rows.items in
     let count : c.len-last.result ≡ length rows = c.len-last.ensures ∙ c.reach.new.self.rows.ok.0 in
     let made = c.in_ok-reach.ensures in
-    (bit_set c.args.blocks.now c.args.number c.reach.new.self.next c.reach.new.self.numbers.items c.reach.new.self.places.items rows c.len-last.result (1 * 2 ^ (start_of c.args.blocks.now c.args.number / 16 % 64) % 2 ^ 64) c.index_mut.result.now c.requires.disjoint c.requires.aligned c.requires.inside made.1 count c.index_mut.ensures.value (omega arith) (one_shl (start_of c.args.blocks.now c.args.number / 16 % 64) 64 (omega arith)) made.0, made.1)
+    (bit_set c.args.blocks.now c.args.number c.reach.new.self.next c.reach.new.self.numbers.items c.reach.new.self.places.items rows c.len-last.result c.with.result made.1 count c.with.ensures made.0, made.1)

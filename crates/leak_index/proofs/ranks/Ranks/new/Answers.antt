@@ -1,5 +1,5 @@
 -- One block more is taken in, and in the end all are.
-use Rattle.std.proofs.Common.{◌≡◌, ℕ, ◌+◌, ◌≤◌, length, subst, arith}
+use Rattle.std.proofs.Common.{◌≡◌, ℕ, length, subst, arith}
 use Rattle.leak_index.specs.Ranks.{AreRanked, none}
 use Rattle.leak_index.proofs.Near.{ascending}
 use Rattle.leak_index.proofs.ranks.Ranks.new.Goals as goal

@@ -1,5 +1,5 @@
 -- A run begins, with a row in which no block starts.
-use Rattle.std.proofs.Common.{◌≡◌, refl, ◌+◌, ◌∙◌, ap, length, List, arith}
+use Rattle.std.proofs.Common.{◌≡◌, refl, ◌∙◌, length}
 use Rattle.leak_index.proofs.Ranking.{empty, opened, pushed_last, pushed_length, pushed_other}
 use Rattle.leak_index.proofs.ranks.Ranks.open.Goals as goal
 

@@ -1,5 +1,4 @@
 -- One more row, in which no block starts.
-use Rattle.std.proofs.Common.{refl, arith}
 use Rattle.leak_index.proofs.Ranking.{empty, padded, pushed_last, pushed_length, pushed_other}
 use Rattle.leak_index.proofs.ranks.Ranks.pad.Goals as goal
 
