@@ -32,6 +32,7 @@ pub fn search_sample<R: AllocGlobal + Threads + Sync, W: Write, V: Write>(
         skip: Skip::none(),
         plan: Plan::new(4, 512, 1024).unwrap(),
         other_heap: true,
+        check: false,
         strict: false,
         core_limit: CORE_LIMIT,
         log_limit: LOG_LIMIT,

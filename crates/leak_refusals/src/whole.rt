@@ -188,6 +188,7 @@ fn run_of<R: AllocGlobal + Threads + Sync>(
         skip: Skip::none(),
         plan: Plan::new(3, 16, 4).ok()?,
         other_heap: false,
+        check: false,
         strict: false,
         core_limit: 8192,
         log_limit: 8192,

@@ -55,4 +55,5 @@ pub refused_after : (words : List Text) (name : Text) (rows : List Row) (f : Usa
     → subcommand_of command_line words ≡ Some (name, rows) → IsRefusedAt name rows f → IsUsageFaultOf words f
 refused_after words name rows (fault.Words text) taken met refused = λ _. rw met refused
 refused_after words name rows (fault.Displace f) taken met refused = (taken, rw met refused)
+refused_after words name rows fault.Check taken met refused = (taken, rw met refused)
 refused_after words name rows fault.NoMemory taken met refused = tt

@@ -40,6 +40,7 @@ path_lacks rows two ids i d same low none = λ all.
 pub bad_by : {Reason : Type 0} (f : UsageFault) → Reason → IsBadBy (Unit {0}) f → IsBadBy Reason f
 bad_by (fault.Words text) reason bad = (bad.0, reason)
 bad_by (fault.Displace f) reason bad = bad
+bad_by fault.Check reason bad = bad
 bad_by fault.NoMemory reason bad = tt
 
 -- there are as many paths as a search reads files

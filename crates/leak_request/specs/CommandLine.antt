@@ -5,7 +5,6 @@ use Rattle.clap.specs.Words.{App, Rule, Text, new_app, new_rule, with_rule, with
 use Rattle.clap.specs.declared.builder.action.ArgAction.TheVariants.{SetTrue}
 use Rattle.clap.specs.declared.builder.command.Command.{Command}
 use Rattle.clap.specs.declared.builder.command.Command.TheViews.{out-Command}
-use Rattle.clap.specs.declared.builder.action.ArgAction.TheVariants.{SetTrue}
 use Rattle.clap.specs.declared.builder.value_parser.ValueParser.TheVariants as parser
 
 -- the path of a file, which has to be given
@@ -25,15 +24,19 @@ text_rule id = record (new_rule id) { long = Some id; value_names = 1 }
 abbrev pub flag_rule : Text → Rule
 flag_rule id = record (new_rule id) { long = Some id; action = Some SetTrue }
 
--- the options of a search
-abbrev pub option_rules : List Rule
-option_rules = number_rule (codes "workers") (codes "4") 1 64
+-- the options that share out the work
+abbrev pub plan_rules : List Rule
+plan_rules = number_rule (codes "workers") (codes "4") 1 64
     ∷ number_rule (codes "piece") (codes "512") 1 65536
-    ∷ number_rule (codes "stack") (codes "1024") 0 65536
-    ∷ text_rule (codes "displace")
-    ∷ flag_rule (codes "other-heap")
-    ∷ flag_rule (codes "skip-freed")
-    ∷ flag_rule (codes "strict") ∷ []
+    ∷ number_rule (codes "stack") (codes "1024") 0 65536 ∷ []
+
+-- the options that say which words keep a block
+abbrev pub reading_rules : List Rule
+reading_rules = text_rule (codes "displace") ∷ flag_rule (codes "skip-freed") ∷ flag_rule (codes "skip-links") ∷ []
+
+-- the options about the signs that a core and its log don't belong together
+abbrev pub sign_rules : List Rule
+sign_rules = flag_rule (codes "check") ∷ flag_rule (codes "other-heap") ∷ flag_rule (codes "strict") ∷ []
 
 -- the subcommand of a search of one core, or of two
 abbrev pub name_of : Bool → Text
@@ -49,9 +52,13 @@ path_ids true = codes "core1" ∷ codes "log1" ∷ codes "core2" ∷ codes "log2
 abbrev pub with_rules : App → List Rule → App
 with_rules a rules = fold with_rule a rules
 
+-- the command with the options of a search
+abbrev pub with_options : App → App
+with_options a = with_rules (with_rules (with_rules a plan_rules) reading_rules) sign_rules
+
 -- `leak_find one CORE LOG`, or `leak_find two CORE1 LOG1 CORE2 LOG2`
 abbrev pub search_line : Bool → App
-search_line two = with_rules (with_rules (new_app (name_of two)) (map path_rule (path_ids two))) option_rules
+search_line two = with_options (with_rules (new_app (name_of two)) (map path_rule (path_ids two)))
 
 -- the subcommand has to be named
 abbrev pub naming_subcommand : App → App

@@ -1,5 +1,5 @@
 -- What a command line asks for, by the subcommand that clap met and the rows that it found there. Own rule.
-use Rattle.std.specs.Prelude.{◌≡◌, ◌↔◌, ◌≤◌, ◌<◌, ◌^◌, ◌⊎◌, ℕ, Bool, List, [], Option, Some, None, map, codes, String, string_bytes, IfSome, IsSome, IsTrue, IsSomeAnd, if◌then◌else◌}
+use Rattle.std.specs.Prelude.{◌≡◌, ◌↔◌, ◌≤◌, ◌<◌, ◌^◌, ◌⊎◌, ℕ, Bool, List, [], Option, Some, None, map, codes, String, string_bytes, IfSome, IsSome, IsTrue, IsSomeAnd, IsFalse, if◌then◌else◌}
 use Rattle.std.specs.List.{All}
 use Rattle.std.specs.Str.Parse.{IsNumeral, digits_value, without_leading_plus}
 use Rattle.clap.specs.Words.{Row, Text, first_of, found_of, one_of, rows_of, subcommand_of}
@@ -63,7 +63,10 @@ pub record IsRequest (name : Text) (rows : List Row) (r : Request) : Type 0 wher
   pub paths : AreAt rows (path_ids r.options.two) r.paths.items
   pub numbers : AreNumbersAt rows r.options.plan.workers r.options.plan.piece r.options.plan.stack
   pub reading : IsListedBy (list_in rows) (listed_by r.options.reading)
-  pub skip : IsTrue r.options.skip.freed ↔ IsGiven rows (codes "skip-freed")
+  pub freed : IsTrue r.options.skip.freed ↔ IsGiven rows (codes "skip-freed")
+  pub links : IsTrue r.options.skip.links ↔ IsGiven rows (codes "skip-links")
+  pub check : IsTrue r.options.check ↔ IsGiven rows (codes "check")
+  pub checked : IsTrue r.options.check → IsFalse r.options.other_heap
   pub other_heap : IsTrue r.options.other_heap ↔ IsGiven rows (codes "other-heap")
   pub strict : IsTrue r.options.strict ↔ IsGiven rows (codes "strict")
   pub core_limit : r.options.core_limit ≡ 68719476736
@@ -87,16 +90,27 @@ Lacks name rows =
 abbrev pub IsBadBy : Type 0 → UsageFault → Type 0
 IsBadBy reason (fault.Words text) = (string_bytes text ≡ codes "bad arguments") × reason
 IsBadBy reason (fault.Displace f) = ⊥
+IsBadBy reason fault.Check = ⊥
 IsBadBy reason fault.NoMemory = Unit {0}
 
 -- the list of displacements is refused for this
 abbrev pub IsListFaultAt : List Row → DisplaceFault → Type 0
 IsListFaultAt rows f = IsSomeAnd (list_in rows) (λ text. displace_fault_of text ≡ Some f)
 
--- Why what clap found is no request: something isn't there, which is answered first, or all else is there and the
--- list is refused.
+-- the list of displacements, if there is one, is not refused
+abbrev pub IsListTaken : List Row → Type 0
+IsListTaken rows = (listed : Option (List ℕ)) × IsListedBy (list_in rows) listed
+
+-- blocks are to be compared with a heap that isn't glibc's
+pub record ChecksOtherHeap (rows : List Row) : Type 0 where
+  pub check : IsGiven rows (codes "check")
+  pub other_heap : IsGiven rows (codes "other-heap")
+
+-- Why what clap found is no request: something isn't there, which is answered first; or all else is there and the
+-- list is refused; or the list is taken too, and another heap is to be checked.
 abbrev pub IsRefusedAt : Text → List Row → UsageFault → Type 0
 IsRefusedAt name rows (fault.Displace f) = (Lacks name rows → ⊥) × IsListFaultAt rows f
+IsRefusedAt name rows fault.Check = (Lacks name rows → ⊥) × IsListTaken rows × ChecksOtherHeap rows
 IsRefusedAt name rows f = IsBadBy (Lacks name rows) f
 
 -- clap takes the words, and the request is that of the subcommand that they name
@@ -110,4 +124,6 @@ IsUsageFaultOf words (fault.Words text) = fault_of command_line words ≡ []
     → IfSome (subcommand_of command_line words) (λ met. IsRefusedAt met.0 met.1 (fault.Words text))
 IsUsageFaultOf words (fault.Displace f) = (fault_of command_line words ≡ [])
     × IsSomeAnd (subcommand_of command_line words) (λ met. IsRefusedAt met.0 met.1 (fault.Displace f))
+IsUsageFaultOf words fault.Check = (fault_of command_line words ≡ [])
+    × IsSomeAnd (subcommand_of command_line words) (λ met. IsRefusedAt met.0 met.1 fault.Check)
 IsUsageFaultOf words fault.NoMemory = Unit {0}

@@ -29,7 +29,7 @@ static TWO: [&str; 4] = ["core1", "log1", "core2", "log2"];
 /// Reads the words of a command line, which begin with the program's name.
 ///
 /// The text of a refusal, or of the help that was asked for, is clap's. A list of displacements is refused only where
-/// nothing else is missing. Own rule: help is no request.
+/// nothing else is missing, and `--check` with `--other-heap` only where the list is not. Own rule: help is no request.
 pub fn request(alloc: Global, words: &[String]) -> Result<Request, UsageFault>
     requires { 0 < length words.now }
     ensures ok { IfOk result (IsRequestOf (map string_bytes words.now)) }
@@ -61,6 +61,11 @@ fn request_of(alloc: Global, name: &str, found: &ArgMatches) -> Result<Request, 
         Ok(reading) => reading,
         Err(fault) => return Err(UsageFault::Displace(fault)),
     };
+    let other_heap = is_given(found, "other-heap");
+    let check = is_given(found, "check");
+    if check && other_heap {
+        return Err(UsageFault::Check);
+    }
     Ok(Request {
         paths,
         options: Options {
@@ -68,10 +73,11 @@ fn request_of(alloc: Global, name: &str, found: &ArgMatches) -> Result<Request, 
             reading,
             skip: Skip {
                 freed: is_given(found, "skip-freed"),
-                links: false,
+                links: is_given(found, "skip-links"),
             },
             plan,
-            other_heap: is_given(found, "other-heap"),
+            other_heap,
+            check,
             strict: is_given(found, "strict"),
             core_limit: CORE_LIMIT,
             log_limit: LOG_LIMIT,

@@ -2,8 +2,9 @@
 
 ghost use Rattle.std.specs.Prelude.{◌≡◌, IfOk, false, true, codes};
 ghost use Rattle.clap.specs.Words.{app_of, rule_of};
-ghost use Rattle.leak_request.specs.CommandLine.{command_line, flag_rule, has_globals, number_rule, option_rules, path_rule};
-ghost use Rattle.leak_request.specs.CommandLine.{search_line, text_rule, with_rules};
+ghost use Rattle.leak_request.specs.CommandLine.{command_line, flag_rule, has_globals, number_rule, path_rule};
+ghost use Rattle.leak_request.specs.CommandLine.{plan_rules, reading_rules, search_line, sign_rules, text_rule};
+ghost use Rattle.leak_request.specs.CommandLine.{with_options, with_rules};
 
 use clap::{Arg, ArgAction, Command};
 use std::alloc::{AllocError, Global};
@@ -25,6 +26,21 @@ const SECOND_CORE: &str = "A later core of the same process";
 
 /// What help says of the second log.
 const SECOND_LOG: &str = "Its log when that core was taken; it begins with LOG1";
+
+/// What help says of `--skip-freed`.
+const SKIP_FREED: &str = "Leave out pointers in freed memory of blocks below 131072 bytes";
+
+/// What help says of `--skip-links`.
+const SKIP_LINKS: &str = "Leave out the links of glibc's malloc to free chunks of its heap";
+
+/// What help says of `--check`.
+const CHECK: &str = "List the live blocks that have no chunk of their size in use in glibc's heap";
+
+/// What help says of `--other-heap`.
+const OTHER_HEAP: &str = "The allocator is not glibc's: don't compare its heap with the log";
+
+/// What help says of `--strict`.
+const STRICT: &str = "Exit with status 3 where there is a warning";
 
 /// `leak_find`, with a subcommand for the search of one core and one for that of two.
 pub(crate) fn command<'a>(alloc: Global) -> Result<Command<'a>, AllocError>
@@ -63,17 +79,45 @@ fn two<'a>(alloc: Global) -> Result<Command<'a>, AllocError>
 }
 
 fn with_options<'a>(alloc: Global, command: Command<'a>) -> Result<Command<'a>, AllocError>
-    ensures line { IfOk result (λ c. app_of c ≡ with_rules (app_of command.entry) option_rules) }
+    ensures line { IfOk result (λ c. app_of c ≡ with_options (app_of command.entry)) }
+    ensures local { IfOk result (λ c. has_globals c ≡ has_globals command.entry) }
+{
+    let command = with_plan(alloc, command)?;
+    let command = with_reading(alloc, command)?;
+    with_signs(alloc, command)
+}
+
+/// The command with the options that share out the work.
+fn with_plan<'a>(alloc: Global, command: Command<'a>) -> Result<Command<'a>, AllocError>
+    ensures line { IfOk result (λ c. app_of c ≡ with_rules (app_of command.entry) plan_rules) }
     ensures local { IfOk result (λ c. has_globals c ≡ has_globals command.entry) }
 {
     command
         .arg(workers(alloc))?
         .arg(piece(alloc))?
-        .arg(stack(alloc))?
+        .arg(stack(alloc))
+}
+
+/// The command with the options that say which words keep a block.
+fn with_reading<'a>(alloc: Global, command: Command<'a>) -> Result<Command<'a>, AllocError>
+    ensures line { IfOk result (λ c. app_of c ≡ with_rules (app_of command.entry) reading_rules) }
+    ensures local { IfOk result (λ c. has_globals c ≡ has_globals command.entry) }
+{
+    command
         .arg(displace(alloc))?
-        .arg(other_heap(alloc))?
-        .arg(skip_freed(alloc))?
-        .arg(strict(alloc))
+        .arg(flag(alloc, "skip-freed", SKIP_FREED))?
+        .arg(flag(alloc, "skip-links", SKIP_LINKS))
+}
+
+/// The command with the options about the signs that a core and its log do not belong together.
+fn with_signs<'a>(alloc: Global, command: Command<'a>) -> Result<Command<'a>, AllocError>
+    ensures line { IfOk result (λ c. app_of c ≡ with_rules (app_of command.entry) sign_rules) }
+    ensures local { IfOk result (λ c. has_globals c ≡ has_globals command.entry) }
+{
+    command
+        .arg(flag(alloc, "check", CHECK))?
+        .arg(flag(alloc, "other-heap", OTHER_HEAP))?
+        .arg(flag(alloc, "strict", STRICT))
 }
 
 fn path<'a>(alloc: Global, id: &'a str, name: &'a str, what: &'a str) -> Arg<'a>
@@ -132,32 +176,12 @@ fn displace<'a>(alloc: Global) -> Arg<'a>
         .help("Byte offsets at which a pointer keeps a block, besides 0, as 8,16 [default: any]")
 }
 
-fn skip_freed<'a>(alloc: Global) -> Arg<'a>
-    ensures rule { rule_of result ≡ flag_rule (codes "skip-freed") }
+fn flag<'a>(alloc: Global, name: &'a str, what: &'a str) -> Arg<'a>
+    ensures rule { rule_of result ≡ flag_rule name.entry.now }
     ensures local { result.global ≡ false }
 {
-    Arg::new(alloc, "skip-freed")
-        .long("skip-freed")
+    Arg::new(alloc, name)
+        .long(name)
         .action(ArgAction::SetTrue)
-        .help("Leave out pointers in freed memory of blocks below 131072 bytes")
-}
-
-fn other_heap<'a>(alloc: Global) -> Arg<'a>
-    ensures rule { rule_of result ≡ flag_rule (codes "other-heap") }
-    ensures local { result.global ≡ false }
-{
-    Arg::new(alloc, "other-heap")
-        .long("other-heap")
-        .action(ArgAction::SetTrue)
-        .help("The allocator is not glibc's: don't compare its heap with the log")
-}
-
-fn strict<'a>(alloc: Global) -> Arg<'a>
-    ensures rule { rule_of result ≡ flag_rule (codes "strict") }
-    ensures local { result.global ≡ false }
-{
-    Arg::new(alloc, "strict")
-        .long("strict")
-        .action(ArgAction::SetTrue)
-        .help("Exit with status 3 where there is a warning")
+        .help(what)
 }

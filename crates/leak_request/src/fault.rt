@@ -27,6 +27,9 @@ pub enum UsageFault {
     /// The list of displacements is refused, and nothing else is missing.
     #[error("{0}")]
     Displace(DisplaceFault),
+    /// Blocks are to be compared with glibc's heap, and the allocator is said to be another.
+    #[error("--check: not with --other-heap")]
+    Check,
     /// An allocation failed.
     #[error("out of memory")]
     NoMemory,

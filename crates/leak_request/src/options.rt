@@ -23,6 +23,8 @@ pub struct Options {
     pub plan: Plan,
     /// Whether the blocks are of another allocator than glibc's, whose heap says nothing of them.
     pub other_heap: bool,
+    /// Whether the report names the live blocks that don't fit the core.
+    pub check: bool,
     /// Whether a warning has a status of its own.
     pub strict: bool,
     /// The largest core that is read, in bytes.

@@ -25,6 +25,7 @@ fn options(core_limit: u64, log_limit: u64) -> Result<Options, Fail>
         skip: Skip::none(),
         plan: Plan::new(2, 512, 1024)?,
         other_heap: true,
+        check: false,
         strict: false,
         core_limit,
         log_limit,

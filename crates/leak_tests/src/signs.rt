@@ -20,6 +20,7 @@ fn options(two: bool, other_heap: bool, strict: bool) -> Result<Options, Fail>
         skip: Skip::none(),
         plan: Plan::new(2, 512, 1024)?,
         other_heap,
+        check: false,
         strict,
         core_limit: 8192,
         log_limit: 1000,

@@ -37,19 +37,17 @@ fn options(two: bool, reading: Reading, plan: Plan) -> Options {
         skip: Skip::none(),
         plan,
         other_heap: false,
+        check: false,
         strict: false,
         core_limit: 68_719_476_736,
         log_limit: 4_294_967_296,
     }
 }
 
-/// The options with freed memory left out.
-fn unfreed(options: Options) -> Options {
+/// The options with freed memory or links to free chunks left out.
+fn skipping(options: Options, freed: bool, links: bool) -> Options {
     Options {
-        skip: Skip {
-            freed: true,
-            links: false,
-        },
+        skip: Skip { freed, links },
         ..options
     }
 }
@@ -96,8 +94,18 @@ fn requests_of_one_core(rt: HostRuntime) -> Result<(), Fail> {
 #[test]
 fn requests_with_flags(rt: HostRuntime) -> Result<(), Fail> {
     let usual = options(false, Reading::interior(), Plan::new(4, 512, 1024)?);
-    takes(&rt, "one a b --skip-freed", unfreed(usual), "a b")?;
-    takes(&rt, "one --skip-freed a b", unfreed(usual), "a b")?;
+    let freed = skipping(usual, true, false);
+    let links = skipping(usual, false, true);
+    let neither = skipping(usual, true, true);
+    takes(&rt, "one a b --skip-freed", freed, "a b")?;
+    takes(&rt, "one --skip-freed a b", freed, "a b")?;
+    takes(&rt, "one a b --skip-links", links, "a b")?;
+    takes(&rt, "one --skip-links a --skip-freed b", neither, "a b")?;
+    let check = Options {
+        check: true,
+        ..usual
+    };
+    takes(&rt, "one a b --check", check, "a b")?;
     let strict = Options {
         strict: true,
         ..usual
@@ -129,6 +137,18 @@ fn requests_of_two_cores(rt: HostRuntime) -> Result<(), Fail> {
         "two --workers 2 a b --displace 8,16 c d",
         options(true, listed, Plan::new(2, 512, 1024)?),
         "a b c d",
+    )?;
+    let usual = options(true, Reading::interior(), Plan::new(4, 512, 1024)?);
+    let all = Options {
+        check: true,
+        strict: true,
+        ..skipping(usual, true, true)
+    };
+    takes(
+        &rt,
+        "two --skip-links --check a b --skip-freed c d --strict",
+        all,
+        "a b c d",
     )
 }
 
@@ -146,6 +166,11 @@ fn refused_words(rt: HostRuntime) -> Result<(), Fail> {
         "one core.1 trace.log --skip-freed --skip-freed",
         "two a b c d --skip-freed a --skip-freed",
         "one core.1 trace.log --skip-freed=true",
+        "one core.1 trace.log --skip-links --skip-links",
+        "one core.1 trace.log --skip-links=true",
+        "one core.1 trace.log --check --check",
+        "two a b c d --check=true",
+        "one core.1 trace.log --check --check --other-heap",
         "one core.1 trace.log --strict --strict",
         "one core.1 trace.log --strict=true",
         "one core.1 trace.log --other-heap --strict --other-heap",
@@ -212,6 +237,20 @@ fn refused_lists(rt: HostRuntime) -> Result<(), Fail> {
 }
 
 #[test]
+fn another_heap_is_not_checked(rt: HostRuntime) -> Result<(), Fail> {
+    for line in [
+        "one a b --check --other-heap",
+        "two a b c d --other-heap --check --strict",
+    ] {
+        let answer = asked(&rt, line)?;
+        assert!(rt; matches!(answer, Err(UsageFault::Check)), "{line}");
+    }
+    let listed = asked(&rt, "one a b --check --other-heap --displace x")?;
+    assert!(rt; matches!(listed, Err(UsageFault::Displace(DisplaceFault::Number(0)))));
+    Ok(())
+}
+
+#[test]
 fn texts_of_faults(rt: HostRuntime) -> Result<(), Fail> {
     let alloc = rt.alloc();
     let words = UsageFault::Words("what clap says\n".to_string(alloc)?);
@@ -220,6 +259,10 @@ fn texts_of_faults(rt: HostRuntime) -> Result<(), Fail> {
     assert_eq!(rt;
         list.to_string(alloc)?.as_str(),
         "--displace: item 1 is not a number"
+    );
+    assert_eq!(rt;
+        UsageFault::Check.to_string(alloc)?.as_str(),
+        "--check: not with --other-heap"
     );
     assert_eq!(rt;
         UsageFault::NoMemory.to_string(alloc)?.as_str(),

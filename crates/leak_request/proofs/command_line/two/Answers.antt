@@ -1,7 +1,7 @@
 use Rattle.std.proofs.Common.{◌∙◌, ap, codes, rules}
 use Rattle.std.proofs.lemmas.Result.{IfOk-weaker}
 use Rattle.clap.specs.Words.{new_app}
-use Rattle.leak_request.specs.CommandLine.{option_rules, with_rules}
+use Rattle.leak_request.specs.CommandLine.{with_options}
 use Rattle.leak_request.proofs.Lines.{globals_more, line_more}
 use Rattle.leak_request.proofs.command_line.two.Goals as goal
 
@@ -11,7 +11,7 @@ returns-clause-line c =
     let second = line_more c.in_ok-arg-2.ensures c.path-2.ensures.local c.path-2.ensures.rule first in
     let third = line_more c.in_ok-arg-3.ensures c.path-3.ensures.local c.path-3.ensures.rule second in
     let fourth = line_more c.in_ok-command.ensures c.path-4.ensures.local c.path-4.ensures.rule third in
-    IfOk-weaker c.with_options.result _ _ (λ r is. is ∙ ap (λ a. with_rules a option_rules) fourth) c.with_options.ensures.line
+    IfOk-weaker c.with_options.result _ _ (λ r is. is ∙ ap with_options fourth) c.with_options.ensures.line
 
 pub returns-clause-local : goal.returns-clause-local
 returns-clause-local c =
