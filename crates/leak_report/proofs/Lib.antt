@@ -8,3 +8,4 @@ pub mod Orders
 pub mod Texts
 pub mod Sums
 pub mod Callers
+pub mod MisfitLemmas

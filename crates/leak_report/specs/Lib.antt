@@ -2,6 +2,7 @@ pub mod Totals
 pub mod Groups
 pub mod Laws
 pub mod Lines
+pub mod Misfits
 pub mod Report
 pub mod Writing
 pub mod Warnings

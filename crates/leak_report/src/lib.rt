@@ -14,6 +14,7 @@ mod grouping;
 mod head;
 mod laws;
 mod lines;
+mod misfits;
 mod output;
 mod report;
 mod signs;

@@ -2,6 +2,7 @@
 ghost use Rattle.std.specs.Prelude.{◌≡◌, ◌++◌, OnOk, codes, string_bytes};
 ghost use Rattle.leak_report.specs.Totals.{IsIn, text_at};
 ghost use Rattle.leak_report.specs.Lines.{newline, sizes_line, undumped_line, log_line, freed_lines, reread_line, two_lines, heads_line, kind_of, caller_front, leak_front, caller_line, leak_line};
+ghost use Rattle.leak_report.specs.Misfits.{number_line, misfit_line};
 
 use crate::head::{Head, Two};
 use crate::totals::CallerRow;
@@ -77,6 +78,13 @@ pub fn push_heads(out: &mut String, heads: u64) -> Result<(), AllocError>
     writeln!(out, "heads {heads}")
 }
 
+/// Appends the line of a number of misfits.
+pub fn push_misfit_number(out: &mut String, misfits: u64) -> Result<(), AllocError>
+    ensures { OnOk result (string_bytes out.new ≡ string_bytes out.old ++ number_line misfits) }
+{
+    writeln!(out, "misfits {misfits}")
+}
+
 /// Appends a line that ends in a text.
 fn push_line(out: &mut Vec<u8>, front: &str, text: &[u8]) -> Result<(), AllocError>
     ensures { OnOk result (out.new.items ≡ out.old.items ++ (front.now ++ text.now ++ newline)) }
@@ -135,5 +143,26 @@ pub fn push_leak(
     let kind = kind(head);
     buffer.clear();
     write!(buffer, "leak 0x{start:x} {size} {line} {kind} ")?;
+    push_line(out, buffer.as_str(), caller_text(log, caller))
+}
+
+/// Appends a misfit's line. Its front is made in the buffer.
+pub fn push_misfit(
+    out: &mut Vec<u8>,
+    buffer: &mut String,
+    block: &Block,
+    log: &[u8],
+) -> Result<(), AllocError>
+    requires { IsIn log.now block.now.caller }
+    ensures { OnOk result (out.new.items ≡ out.old.items ++ misfit_line log.now block.now) }
+{
+    let Block {
+        start,
+        size,
+        line,
+        caller,
+    } = *block;
+    buffer.clear();
+    write!(buffer, "misfit 0x{start:x} {size} {line} ")?;
     push_line(out, buffer.as_str(), caller_text(log, caller))
 }

@@ -1,5 +1,5 @@
 //! The whole report.
-ghost use Rattle.std.specs.Prelude.{◌≡◌, ◌++◌, ◌-◌, ◌≤◌, length, flat_map, codes, string_bytes, IfOk, OnOk};
+ghost use Rattle.std.specs.Prelude.{◌≡◌, ◌++◌, ◌-◌, ◌≤◌, length, flat_map, codes, string_bytes, IfOk, IfSome, OnOk, option_copied};
 ghost use Rattle.std.specs.List.{AllByRecursion};
 ghost use Rattle.leak_report.specs.Totals.{bytes_of, leaks_in, IsIn, HaveCallersIn};
 ghost use Rattle.leak_report.specs.Lines.{sizes_line, undumped_line, log_line, freed_lines, two_lines, heads_line, caller_line, leak_line};
@@ -9,6 +9,7 @@ use crate::head::Head;
 use crate::lines::{
     push_caller, push_freed, push_head, push_heads, push_leak, push_sizes, push_two,
 };
+use crate::misfits::{push_misfits, push_number};
 use crate::totals::{CallerRow, Totals};
 use leak_blocks::{Block, Live};
 use std::alloc::{AllocError, Global};
@@ -16,7 +17,8 @@ use std::alloc::{AllocError, Global};
 /// Makes the report of the live blocks: its lines in ASCII, each with its line feed, as docs/FORMAT.md has them.
 ///
 /// `set` and `heads` have one entry for each block. A block is marked where `set` says so; of the others the heads are those
-/// with that entry in `heads`, whose entries of marked blocks say nothing. `log` is the log that the callers are ranges of,
+/// with that entry in `heads`, whose entries of marked blocks say nothing. `fits`, where it is given, has one entry for each
+/// block too, whether it fits its core; the report then tells the misfits. `log` is the log that the callers are ranges of,
 /// in bytes. It fails where memory is refused, and then alone.
 pub fn text(
     alloc: Global,
@@ -24,17 +26,23 @@ pub fn text(
     live: &Live,
     set: &[bool],
     heads: &[bool],
+    fits: Option<&[bool]>,
     log: &[u8],
 ) -> Result<Vec<u8>, AllocError>
     requires one_each { length set.now ≡ length live.now.blocks }
     requires an_entry_each { length heads.now ≡ length live.now.blocks }
+    requires a_fit_each { IfSome fits (λ f. length f.now ≡ length live.now.blocks) }
     requires in_log { HaveCallersIn log.now live.now.blocks }
-    ensures { IfOk result (λ out. out.items ≡ text_of head.now live.now.blocks set.now heads.now log.now) }
+    ensures { IfOk result (λ out. out.items ≡
+        text_of head.now live.now.blocks set.now heads.now (option_copied fits.entry) log.now) }
 {
     let totals = Totals::of(alloc, live, set, heads, log)?;
-    let mut out = sums(alloc, head, live, &totals)?.into_bytes();
+    let mut first = sums(alloc, head, live, &totals)?;
+    push_number(&mut first, live.blocks(), fits)?;
+    let mut out = first.into_bytes();
     push_callers(alloc, &mut out, totals.rows.as_slice(), log)?;
     push_leaks(alloc, &mut out, live.blocks(), set, heads, log)?;
+    push_misfits(alloc, &mut out, live.blocks(), fits, log)?;
     Ok(out)
 }
 

@@ -40,7 +40,8 @@ fn report(
     assert!(rt; live.blocks().len() == marked.len());
     assert!(rt; live.blocks().len() == heads.len());
     assert!(rt; have_callers_in(live.blocks(), log.as_bytes()));
-    Ok(text(alloc, head, &live, marked, heads, log.as_bytes())?)
+    let log = log.as_bytes();
+    Ok(text(alloc, head, &live, marked, heads, None, log)?)
 }
 
 /// The report of a log without a live block.
@@ -105,6 +106,47 @@ fn first_lines_of_two_cores(rt: HostRuntime) -> Result<(), Fail> {
     let wanted =
         "blocks 2 bytes 48\nundumped 4096\nunknown 2 displaced 1 torn 1\nfreed 7\nnew 1 bytes 32\nreread 18446744073709551615\nmarked 2 bytes 48\nleaked 0 bytes 0\nheads 0\n";
     assert_eq!(rt; found.as_slice(), wanted.as_bytes());
+    Ok(())
+}
+
+#[test]
+fn misfits_are_listed_where_asked(rt: HostRuntime) -> Result<(), Fail> {
+    let log = "@ a:[0x1] + 0x10100 0x20\n+ 0x10200 0x10\n@ b:[0x2] + 0x10300 0\n".as_bytes();
+    let live = replay(rt.alloc(), &Log::read(rt.alloc(), log)?)?;
+    let (set, heads) = ([true, false, true], [false, true, false]);
+    let first =
+        "blocks 3 bytes 48\nundumped 0\nunknown 0 displaced 0 torn 0\nmarked 2 bytes 32\nleaked 1 bytes 16\nheads 1\n";
+    let leaks = "caller 1 16 1 ?\nleak 0x10200 16 2 head ?\n";
+    let cases = [
+        ([true, true, true].as_slice(), "misfits 0\n", ""),
+        (
+            [false, true, false].as_slice(),
+            "misfits 2\n",
+            "misfit 0x10100 32 1 a:[0x1]\nmisfit 0x10300 0 3 b:[0x2]\n",
+        ),
+        (
+            [true, false, true].as_slice(),
+            "misfits 1\n",
+            "misfit 0x10200 16 2 ?\n",
+        ),
+    ];
+    for (fits, number, misfits) in cases {
+        assert!(rt; live.blocks().len() == set.len());
+        assert!(rt; live.blocks().len() == heads.len());
+        assert!(rt; live.blocks().len() == fits.len());
+        assert!(rt; have_callers_in(live.blocks(), log));
+        let found = text(
+            rt.alloc(),
+            &NOTHING_ODD,
+            &live,
+            &set,
+            &heads,
+            Some(fits),
+            log,
+        )?;
+        let wanted = format!(in rt.alloc(); "{first}{number}{leaks}{misfits}")?;
+        assert_eq!(rt; found.as_slice(), wanted.as_str().as_bytes());
+    }
     Ok(())
 }
 
