@@ -20,4 +20,5 @@ pub record AreTaken (targets before after : List ℕ) : Type 0 where
 pub record IsFollowed (graph : Graph) (list : List ℕ) (scanned : ℕ) : Type 0 where
   pub reached : (b : ℕ) → Has list b → Reach graph b
   pub first : Within graph.first list
-  pub followed : (k b : ℕ) → k < scanned → k < length list → Has (targets_of graph (slice_index_or list k 0)) b → Has list b
+  pub followed : (k b : ℕ) → k < scanned → k < length list
+      → Has (targets_of graph (slice_index_or list k 0)) b → Has list b

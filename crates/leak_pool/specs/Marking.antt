@@ -50,29 +50,37 @@ words_of_part word_at pages Whole b = block_words word_at b
 words_of_part word_at pages Differing b = block_words_on word_at pages b
 
 abbrev pub part_words : (ℕ → Option ℕ) → List ℕ → List Block → ℕ × Part → List ℕ
-part_words word_at pages blocks part = option_map_or (words_of_part word_at pages part.1) (slice_get blocks part.0) []
+part_words word_at pages blocks part =
+    option_map_or (words_of_part word_at pages part.1) (slice_get blocks part.0) []
 
 -- the lists of claims, worker by worker
 abbrev pub lists_of : Marked → List (List ℕ)
 lists_of m = map (λ v. v.items) m.claims.items
 
+-- the graph of marking from the roots alone
+abbrev pub graph_of_roots : (ℕ → Option ℕ) → Index → Places → Graph
+graph_of_roots word_at index places = graph_of word_at index (led_by_roots word_at index places) []
+
 -- the marked set is what the roots reach, the claims partition it, and there is a round more than blocks at most
-pub record Marks (word_at : ℕ → Option ℕ) (index : Index) (places : Places) (workers : ℕ) (m : Marked) : Type 0 where
-  pub set : IsSet m.set.items (length index.blocks) (Reach (graph_of word_at index (led_by_roots word_at index places) []))
+pub record Marks (word_at : ℕ → Option ℕ) (index : Index) (places : Places) (workers : ℕ)
+    (m : Marked) : Type 0 where
+  pub set : IsSet m.set.items (length index.blocks) (Reach (graph_of_roots word_at index places))
   pub lists : length (lists_of m) ≡ workers
-  pub claims : Partitions (lists_of m) (Reach (graph_of word_at index (led_by_roots word_at index places) []))
+  pub claims : Partitions (lists_of m) (Reach (graph_of_roots word_at index places))
   pub rounds : m.rounds ≤ length index.blocks + 1
   pub none : length index.blocks ≡ 0 → m.rounds ≡ 0
 
 -- the graph of marking from a start
 abbrev pub graph_from : (ℕ → Option ℕ) → Index → Places → List ℕ → Start → Graph
 graph_from word_at index places pages s =
-    let again = targets_of index (flat_map (part_words word_at pages index.blocks) s.rescan.items) in
-    graph_of word_at index (led_by_roots word_at index places ++ again) s.marked.items
+    let again = flat_map (part_words word_at pages index.blocks) s.rescan.items in
+    graph_of word_at index (led_by_roots word_at index places ++ targets_of index again) s.marked.items
 
 -- the same from a start: the marked blocks, and what is reached outside them, which the claims partition
-pub record MarksFrom (word_at : ℕ → Option ℕ) (index : Index) (places : Places) (pages : List ℕ) (s : Start) (workers : ℕ) (m : Marked) : Type 0 where
-  pub set : IsSet m.set.items (length index.blocks) (λ i. Has s.marked.items i ⊎ Reach (graph_from word_at index places pages s) i)
+pub record MarksFrom (word_at : ℕ → Option ℕ) (index : Index) (places : Places) (pages : List ℕ)
+    (s : Start) (workers : ℕ) (m : Marked) : Type 0 where
+  pub set : IsSet m.set.items (length index.blocks) (λ i.
+      Has s.marked.items i ⊎ Reach (graph_from word_at index places pages s) i)
   pub lists : length (lists_of m) ≡ workers
   pub claims : Partitions (lists_of m) (Reach (graph_from word_at index places pages s))
   pub rounds : m.rounds ≤ length index.blocks + 1

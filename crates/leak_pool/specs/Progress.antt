@@ -32,13 +32,16 @@ pub record IsBetween (scene : Scene) (p : Progress) : Type 0 where
   pub ready : IsReady scene p
   pub small : length scene.targets < 2 ^ 32
   pub few : length p.waiting.items ≤ length p.seat.claims
-  pub going : Going scene.roots scene.targets scene.given scene.workers (claims_of p) p.waiting.items p.seat
+  pub going :
+      Going scene.roots scene.targets scene.given scene.workers (claims_of p) p.waiting.items p.seat
 
 -- What these items lead to was scanned: what the seat claimed is on the lists of the workers, and what was left waits.
 abbrev pub HasScanned : (ℕ → Type 0) → Scene → Progress → Progress → Type 0
 HasScanned item scene before after =
     (gained : List (List ℕ)) × (left : List ℕ)
-    × IsStep (targets_of_block scene.targets) item scene.workers (claims_of before) before.waiting.items before.seat (claims_of after) after.waiting.items after.seat gained left
+    × IsStep (targets_of_block scene.targets) item scene.workers
+    (claims_of before) before.waiting.items before.seat
+    (claims_of after) after.waiting.items after.seat gained left
 
 -- one of the items leads to the block
 abbrev pub InItems : Scene → List Item → ℕ → Type 0

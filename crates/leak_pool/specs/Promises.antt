@@ -12,14 +12,16 @@ use Rattle.leak_marks.specs.Lists.{Has, Within}
 use Rattle.leak_marks.specs.Seats.{Held, IsSound}
 
 -- The seat had seen `before` and the list had these claims; then `after` and `longer`. What an item leads to is seen, but for `rest`.
-pub record IsScanned (item : ℕ → Type 0) (rest : List ℕ) (before list after longer : List ℕ) : Type 0 where
+pub record IsScanned (item : ℕ → Type 0) (rest : List ℕ) (before list after longer : List ℕ)
+    : Type 0 where
   pub keeps : Within before after
   pub covers : (b : ℕ) → item b → Has after b ⊎ Has rest b
   pub gains : (b : ℕ) → Has longer b → Has list b ⊎ (item b × (Has before b → ⊥))
   pub grown : (more : List ℕ) × (longer ≡ list ++ more)
 
 -- the same on the way: the seat is of the same table and has its share, and its claims go on as the list does
-pub record IsScanning (item : ℕ → Type 0) (rest : List ℕ) (before : Held) (list : List ℕ) (after : Held) (longer : List ℕ) : Type 0 where
+pub record IsScanning (item : ℕ → Type 0) (rest : List ℕ) (before : Held) (list : List ℕ)
+    (after : Held) (longer : List ℕ) : Type 0 where
   pub table : after.table ≡ before.table
   pub share : after.share ≡ before.share
   pub sound : IsSound after
@@ -35,7 +37,8 @@ pub record IsHolding (limit : ℕ) (seat : Held) (hand : Hand) : Type 0 where
 
 -- An item was scanned: what it leads to is seen. The blocks claimed for it stand on the list, and on the stack while it
 -- had fewer than `limit` entries; the others are left.
-pub record IsPutAway (targets : List ℕ) (limit : ℕ) (before after : Held) (hand later : Hand) : Type 0 where
+pub record IsPutAway (targets : List ℕ) (limit : ℕ) (before after : Held) (hand later : Hand)
+    : Type 0 where
   pub more : List ℕ
   pub claims_are : after.claims ≡ before.claims ++ more
   pub list_is : later.list.items ≡ hand.list.items ++ more
@@ -45,7 +48,8 @@ pub record IsPutAway (targets : List ℕ) (limit : ℕ) (before after : Held) (h
 
 -- A worker on the way, from no claim: its claims are those of its list. Of these, those left and those on the stack are
 -- not scanned yet.
-pub record IsWorking (blocks : ℕ → List ℕ) (item : ℕ → Type 0) (before after : Held) (list stack left : List ℕ) : Type 0 where
+pub record IsWorking (blocks : ℕ → List ℕ) (item : ℕ → Type 0) (before after : Held)
+    (list stack left : List ℕ) : Type 0 where
   pub table : after.table ≡ before.table
   pub share : after.share ≡ before.share
   pub sound : IsSound after
@@ -64,17 +68,22 @@ AreOwn blocks targets items workers k (g ∷ gained) =
 
 -- The workers from low up to high have scanned their shares of a round's items: one list for each of them, and together
 -- the claims that the seat gained. Of these, the left ones are not scanned.
-pub record IsHalf (blocks targets : ℕ → List ℕ) (items workers low high : ℕ) (before after : Held) (gained : List (List ℕ)) (left : List ℕ) : Type 0 where
+pub record IsHalf (blocks targets : ℕ → List ℕ) (items workers low high : ℕ) (before after : Held)
+    (gained : List (List ℕ)) (left : List ℕ) : Type 0 where
   pub count : low + length gained ≡ high
   pub listed : after.claims ≡ before.claims ++ concat gained
   pub of_gained : Within left (concat gained)
   pub few : length left ≤ length (concat gained)
   pub own : AreOwn blocks targets items workers low gained
-  pub kept : IsKept blocks (InRange targets (share low items workers) (share high items workers)) before.seen after.seen gained left
+  pub kept :
+      IsKept blocks (InRange targets (share low items workers) (share high items workers))
+      before.seen after.seen gained left
 
 -- what two gained, the first's first
 abbrev pub AreBoth : Gains → Gains → Gains → Type 0
-AreBoth a b all = (all.claims.items ≡ a.claims.items ++ b.claims.items) × (all.left.items ≡ a.left.items ++ b.left.items)
+AreBoth a b all =
+    (all.claims.items ≡ a.claims.items ++ b.claims.items)
+    × (all.left.items ≡ a.left.items ++ b.left.items)
 
 -- what each holds
 abbrev pub as_lists : List (Vec ℕ Global) → List (List ℕ)
@@ -89,8 +98,11 @@ pub record CanScan (work : Work) (low high : ℕ) (seat : Held) : Type 0 where
   pub share : 3 * (high - low) ≤ seat.share + 4
 
 -- They have scanned, unless memory ran out: the seat is of the same table and has its share, and there are the lists.
-pub record HaveScanned (work : Work) (low high : ℕ) (before after : Held) (gained : Result Gains AllocError) : Type 0 where
+pub record HaveScanned (work : Work) (low high : ℕ) (before after : Held)
+    (gained : Result Gains AllocError) : Type 0 where
   pub table : after.table ≡ before.table
   pub share : after.share ≡ before.share
   pub sound : IsSound after
-  pub done : IfOk gained (λ g. IsHalf (blocks_of work) (items_of work) (length work.items) work.scene.workers low high before after (as_lists g.claims.items) g.left.items)
+  pub done : IfOk gained (λ g.
+      IsHalf (blocks_of work) (items_of work) (length work.items) work.scene.workers low high
+      before after (as_lists g.claims.items) g.left.items)

@@ -15,7 +15,8 @@ pub record Scene : Type 0 where
   pub stack : ℕ
 
 -- the marks are of these blocks, blocks alone are marked before, and there are 1 to 64 workers
-pub record IsSearch (blocks : ℕ) (targets : List (List ℕ)) (given : List ℕ) (workers : ℕ) : Type 0 where
+pub record IsSearch (blocks : ℕ) (targets : List (List ℕ)) (given : List ℕ) (workers : ℕ)
+    : Type 0 where
   pub each : blocks ≡ length targets
   pub small : length targets < 2 ^ 32
   pub inside : All (λ b. b < length targets) given
@@ -54,4 +55,5 @@ InShares work low high = InRange (items_of work) (share_of work low) (share_of w
 
 -- the workers from low up to middle have an item, and so have those from there up to high
 abbrev pub HaveBoth : Work → ℕ → ℕ → ℕ → Type 0
-HaveBoth work low middle high = (share_of work low < share_of work middle) × (share_of work middle < share_of work high)
+HaveBoth work low middle high =
+    (share_of work low < share_of work middle) × (share_of work middle < share_of work high)

@@ -12,16 +12,20 @@ use Rattle.leak_pool.specs.Marking.{led_in_memory, part_words}
 
 -- what a piece leads to, and what a part of a block leads to
 abbrev pub piece_targets : (ℕ → Option ℕ) → Index → Places → Piece → List ℕ
-piece_targets word_at index places (Registers from to) = targets_of index (slice_range places.registers from to)
+piece_targets word_at index places (Registers from to) =
+    targets_of index (slice_range places.registers from to)
 piece_targets word_at index places (Memory from to) =
     led_in_memory places.skips_links word_at index (addresses_in (from, to))
 
 abbrev pub part_targets : (ℕ → Option ℕ) → Index → List ℕ → ℕ × Part → List ℕ
-part_targets word_at index pages part = targets_of index (part_words word_at pages index.blocks part)
+part_targets word_at index pages part =
+    targets_of index (part_words word_at pages index.blocks part)
 
 -- the pieces first, then the parts
-abbrev pub root_targets : (ℕ → Option ℕ) → Index → Places → List Piece → List ℕ → List (ℕ × Part) → List (List ℕ)
-root_targets word_at index places pieces pages rescan = map (piece_targets word_at index places) pieces ++ map (part_targets word_at index pages) rescan
+abbrev pub root_targets : (ℕ → Option ℕ) → Index → Places → List Piece → List ℕ → List (ℕ × Part)
+    → List (List ℕ)
+root_targets word_at index places pieces pages rescan =
+    map (piece_targets word_at index places) pieces ++ map (part_targets word_at index pages) rescan
 
 -- the blocks
 abbrev pub all_targets : (ℕ → Option ℕ) → Index → List (List ℕ)

@@ -58,7 +58,9 @@ fn take_roots<W: Words, L: Lookup>(
     requires few { length set.old < 2 ^ 32 }
     requires marks { AreMarks set.old list.old.items }
     ensures marks { AreMarks set.new list.new.items }
-    ensures done { IfOk result (λ _. AreTaken (led_by_roots (W.word_at words.now) (L.index lookup.now) roots.now) list.old.items list.new.items) }
+    ensures done { IfOk result (λ _.
+        AreTaken (led_by_roots (W.word_at words.now) (L.index lookup.now) roots.now)
+        list.old.items list.new.items) }
 {
     let targets = Targets::of_registers(words, roots.registers(), lookup);
     take_all(targets, set, list)?;
@@ -85,7 +87,8 @@ fn take_blocks<W: Words, L: Lookup>(
     ensures rounds { IfOk result (λ rounds. rounds ≤ length blocks.now + 1) }
     ensures done { IfOk result (λ _. (first : List ℕ)
         → IsFollowed (graph_of (W.word_at words.now) (L.index lookup.now) first []) list.old.items 0
-        → IsFollowed (graph_of (W.word_at words.now) (L.index lookup.now) first []) list.new.items (length list.new.items)) }
+        → IsFollowed (graph_of (W.word_at words.now) (L.index lookup.now) first [])
+        list.new.items (length list.new.items)) }
 {
     let mut rounds = 1;
     let mut end = 0;

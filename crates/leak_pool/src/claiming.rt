@@ -23,8 +23,11 @@ pub(crate) fn claim_all<W: Words, L: Lookup>(
     requires sound { IsSound seat.old }
     ensures same { (seat.new.table ≡ seat.old.table) × (seat.new.share ≡ seat.old.share) }
     ensures sound { IsSound seat.new }
-    ensures listed { (base : List ℕ) → seat.old.claims ≡ base ++ list.old.items → seat.new.claims ≡ base ++ list.new.items }
-    ensures done { IfOk result (λ _. IsScanned (Has targets.entry) [] seat.old.seen list.old.items seat.new.seen list.new.items) }
+    ensures listed { (base : List ℕ) → seat.old.claims ≡ base ++ list.old.items
+        → seat.new.claims ≡ base ++ list.new.items }
+    ensures done { IfOk result (λ _.
+        IsScanned (Has targets.entry) []
+        seat.old.seen list.old.items seat.new.seen list.new.items) }
 {
     for block in targets {
         list.reserve(1)?;
@@ -45,8 +48,10 @@ pub(crate) fn claim_listed(
     requires sound { IsSound seat.old }
     ensures same { (seat.new.table ≡ seat.old.table) × (seat.new.share ≡ seat.old.share) }
     ensures sound { IsSound seat.new }
-    ensures listed { (base : List ℕ) → seat.old.claims ≡ base ++ list.old.items → seat.new.claims ≡ base ++ list.new.items }
-    ensures done { IfOk result (λ _. IsScanned (Has targets.now) [] seat.old.seen list.old.items seat.new.seen list.new.items) }
+    ensures listed { (base : List ℕ) → seat.old.claims ≡ base ++ list.old.items
+        → seat.new.claims ≡ base ++ list.new.items }
+    ensures done { IfOk result (λ _.
+        IsScanned (Has targets.now) [] seat.old.seen list.old.items seat.new.seen list.new.items) }
 {
     for block in targets {
         list.reserve(1)?;
@@ -63,8 +68,10 @@ fn claim(marks: &Marks, seat: &mut MarkSeat, list: &mut Vec<u32>, block: u32)
     ensures same { (seat.new.table ≡ seat.old.table) × (seat.new.share ≡ seat.old.share) }
     ensures sound { IsSound seat.new }
     ensures seen { seat.new.seen ≡ seat.old.seen ++ block ∷ [] }
-    ensures listed { (base : List ℕ) → seat.old.claims ≡ base ++ list.old.items → seat.new.claims ≡ base ++ list.new.items }
-    ensures gained { (b : ℕ) → Has list.new.items b → Has list.old.items b ⊎ ((b ≡ block) × (Has seat.old.seen block → ⊥)) }
+    ensures listed { (base : List ℕ) → seat.old.claims ≡ base ++ list.old.items
+        → seat.new.claims ≡ base ++ list.new.items }
+    ensures gained { (b : ℕ) → Has list.new.items b
+        → Has list.old.items b ⊎ ((b ≡ block) × (Has seat.old.seen block → ⊥)) }
     ensures grown { (more : List ℕ) × (list.new.items ≡ list.old.items ++ more) }
 {
     if marks.seen(seat, block) || !marks.claim(seat, block) {

@@ -25,8 +25,10 @@ pub(crate) fn put_away(
     requires few { length stack.old.items ≤ limit }
     requires room { limit ≤ vec_capacity stack.old }
     ensures room { vec_capacity stack.new ≡ vec_capacity stack.old }
-    ensures stack { stack.new.items ≡ stack.old.items ++ take (limit - length stack.old.items) blocks.now }
-    ensures left { IfOk result (λ _. left.new.items ≡ left.old.items ++ drop (limit - length stack.old.items) blocks.now) }
+    ensures stack { stack.new.items
+        ≡ stack.old.items ++ take (limit - length stack.old.items) blocks.now }
+    ensures left { IfOk result (λ _.
+        left.new.items ≡ left.old.items ++ drop (limit - length stack.old.items) blocks.now) }
 {
     let room = (limit - stack.len()).min(blocks.len());
     let (fitting, others) = blocks.split_at(room);

@@ -33,7 +33,8 @@ pub(crate) fn later<R: Threads + Sync, S: Source + Sync, G: Gate + Sync>(
     requires between { IsBetween search.now progress }
     requires waiting { 0 < length progress.waiting.items }
     ensures between { IfOk result (IsBetween search.now) }
-    ensures size { IfOk result (λ p. length progress.seat.claims + length p.waiting.items ≤ length p.seat.claims) }
+    ensures size { IfOk result (λ p.
+        length progress.seat.claims + length p.waiting.items ≤ length p.seat.claims) }
 {
     targets_are_blocks(search.source);
     let waiting = replace(&mut progress.waiting, Vec::new(alloc));

@@ -31,7 +31,8 @@ pub fn mark<R: Threads + Sync, W: Words + Sync, L: Lookup + Sync, G: Gate + Sync
 ) -> Result<Marked, PoolError>
     requires { (L.index lookup.now).blocks ≡ live.now.blocks }
     ensures many { IsErrOf result PoolError.TooMany ↔ (2 ^ 32 - 1 < length live.now.blocks) }
-    ensures marks { IfOk result (Marks (W.word_at words.now) (L.index lookup.now) roots.now plan.workers) }
+    ensures marks { let w = W.word_at words.now in let i = L.index lookup.now in
+        IfOk result (Marks w i roots.now plan.workers) }
 {
     let start = Start {
         marked: Vec::new(alloc),
@@ -59,7 +60,8 @@ pub fn mark_from<R: Threads + Sync, W: Words + Sync, L: Lookup + Sync, G: Gate +
     requires blocks { (L.index lookup.now).blocks ≡ live.now.blocks }
     requires start { IsStartOf (length live.now.blocks) start.now }
     ensures many { IsErrOf result PoolError.TooMany ↔ (2 ^ 32 - 1 < length live.now.blocks) }
-    ensures marks { IfOk result (MarksFrom (W.word_at words.now) (L.index lookup.now) roots.now pages.now start.now plan.workers) }
+    ensures marks { let w = W.word_at words.now in let i = L.index lookup.now in
+        IfOk result (MarksFrom w i roots.now pages.now start.now plan.workers) }
 {
     let blocks = live.blocks();
     if blocks.len() > u32::MAX as usize {

@@ -84,8 +84,10 @@ fn mark_words<R: Threads + Sync, S: Source + Sync, G: Gate + Sync>(
     given: &[u32],
 ) -> Result<(Vec<u64>, Vec<Vec<u32>>, u64), AllocError>
     requires { All (λ b. b < length (S.targets source.now)) given.now }
-    ensures { let targets = S.targets source.now in let graph = graph_over (S.roots source.now) targets given.now in
-        IfOk result (λ r. AreWords graph (length targets) plan.workers r.0.items (as_lists r.1.items) r.2) }
+    ensures { let targets = S.targets source.now in
+        let graph = graph_over (S.roots source.now) targets given.now in
+        IfOk result (λ r.
+        AreWords graph (length targets) plan.workers r.0.items (as_lists r.1.items) r.2) }
 {
     // (a law, for the proof: a whole run marks what chains reach, and its claims are one for each block)
     whole_runs();
@@ -143,8 +145,10 @@ pub(crate) fn mark_over<R: Threads + Sync, S: Source + Sync, G: Gate + Sync>(
     given: &[u32],
 ) -> Result<Marked, AllocError>
     requires { All (λ b. b < length (S.targets source.now)) given.now }
-    ensures { let targets = S.targets source.now in let graph = graph_over (S.roots source.now) targets given.now in
-        IfOk result (λ m. IsMarked graph (length targets) plan.workers m.set.items (as_lists m.claims.items) m.rounds) }
+    ensures { let targets = S.targets source.now in
+        let graph = graph_over (S.roots source.now) targets given.now in
+        IfOk result (λ m.
+        IsMarked graph (length targets) plan.workers m.set.items (as_lists m.claims.items) m.rounds) }
 {
     targets_are_blocks(source);
     if source.blocks() == 0 {

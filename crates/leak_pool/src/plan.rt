@@ -23,7 +23,8 @@ impl Model for Plan {
 
     ghost inverse = { λ n. record { workers = n.workers; piece = n.piece; stack = n.stack } };
 
-    ghost invariant = { λ p. IsBetween 1 64 p.workers × IsBetween 1 65536 p.piece × (p.stack ≤ 65536) };
+    ghost invariant = { λ p.
+        IsBetween 1 64 p.workers × IsBetween 1 65536 p.piece × (p.stack ≤ 65536) };
 }
 
 /// Why numbers make no plan, in the order in which they are looked at.
@@ -44,9 +45,12 @@ impl Plan {
     /// Makes a plan of so many workers, words in a piece and entries in a stack.
     pub fn new(workers: u32, piece: u32, stack: u32) -> Result<Plan, PlanError>
         ensures workers { IsErrOf result PlanError.Workers ↔ ¬ IsBetween 1 64 workers }
-        ensures piece { IsErrOf result PlanError.Piece ↔ (IsBetween 1 64 workers × ¬ IsBetween 1 65536 piece) }
-        ensures stack { IsErrOf result PlanError.Stack ↔ (IsBetween 1 64 workers × IsBetween 1 65536 piece × (65536 < stack)) }
-        ensures made { IfOk result (λ p. (p.workers ≡ workers) × (p.piece ≡ piece) × (p.stack ≡ stack)) }
+        ensures piece { IsErrOf result PlanError.Piece
+            ↔ (IsBetween 1 64 workers × ¬ IsBetween 1 65536 piece) }
+        ensures stack { IsErrOf result PlanError.Stack
+            ↔ (IsBetween 1 64 workers × IsBetween 1 65536 piece × (65536 < stack)) }
+        ensures made { IfOk result (λ p.
+            (p.workers ≡ workers) × (p.piece ≡ piece) × (p.stack ≡ stack)) }
     {
         if workers < 1 || 64 < workers {
             return Err(PlanError::Workers);

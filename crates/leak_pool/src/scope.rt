@@ -39,8 +39,13 @@ pub(crate) struct Scope<'a, W: Words, L: Lookup> {
 impl<'a, W: Words, L: Lookup> Scope<'a, W, L> {
     // The blocks that an item leads to.
     fn targets(&self, item: Item) -> Targets<'a, W, L>
-        requires { let w = W.word_at self.now.words.now in let i = L.index self.now.lookup.now in IsItem (root_targets w i self.now.roots.now self.now.pieces.now self.now.pages.now self.now.rescan.now) (all_targets w i) item }
-        ensures { let w = W.word_at self.now.words.now in let i = L.index self.now.lookup.now in result ≡ targets_of_item (root_targets w i self.now.roots.now self.now.pieces.now self.now.pages.now self.now.rescan.now) (all_targets w i) item }
+        requires { let s = self.now in let w = W.word_at s.words.now in let i = L.index s.lookup.now in
+            IsItem (root_targets w i s.roots.now s.pieces.now s.pages.now s.rescan.now)
+            (all_targets w i) item }
+        ensures { let s = self.now in let w = W.word_at s.words.now in let i = L.index s.lookup.now in
+            result ≡ targets_of_item
+            (root_targets w i s.roots.now s.pieces.now s.pages.now s.rescan.now)
+            (all_targets w i) item }
     {
         match item {
             Item::Block(block) => {
@@ -54,7 +59,8 @@ impl<'a, W: Words, L: Lookup> Scope<'a, W, L> {
     // The blocks that a piece of the roots leads to.
     fn of_piece(&self, piece: Piece) -> Targets<'a, W, L>
         requires { IsPiece self.now.roots.now piece }
-        ensures { result ≡ piece_targets (W.word_at self.now.words.now) (L.index self.now.lookup.now) self.now.roots.now piece }
+        ensures { let s = self.now in let w = W.word_at s.words.now in let i = L.index s.lookup.now in
+            result ≡ piece_targets w i s.roots.now piece }
     {
         match piece {
             Piece::Registers(from, to) => {
@@ -70,7 +76,8 @@ impl<'a, W: Words, L: Lookup> Scope<'a, W, L> {
     // The blocks that a part of a block leads to.
     fn of_part(&self, part: (u32, Part)) -> Targets<'a, W, L>
         requires { part.0 < length self.now.blocks.now }
-        ensures { result ≡ part_targets (W.word_at self.now.words.now) (L.index self.now.lookup.now) self.now.pages.now part }
+        ensures { let s = self.now in let w = W.word_at s.words.now in let i = L.index s.lookup.now in
+            result ≡ part_targets w i s.pages.now part }
     {
         let block = &self.blocks[part.0 as usize];
         match part.1 {
@@ -107,11 +114,13 @@ pub(crate) fn of_memory<'a, W: Words, L: Lookup>(
 impl<'a, W: Words, L: Lookup> Source for Scope<'a, W, L> {
     ghost use Rattle.leak_pool.specs.ScopeLaw.{scope_inside};
 
-    ghost roots = { λ s. root_targets (W.word_at s.words.now) (L.index s.lookup.now) s.roots.now s.pieces.now s.pages.now s.rescan.now };
+    ghost roots = { λ s. root_targets (W.word_at s.words.now) (L.index s.lookup.now)
+        s.roots.now s.pieces.now s.pages.now s.rescan.now };
 
     ghost targets = { λ s. all_targets (W.word_at s.words.now) (L.index s.lookup.now) };
 
-    ghost inside = { λ s. scope_inside (W.word_at s.words.now) (L.index s.lookup.now) s.roots.now s.pieces.now s.pages.now s.rescan.now };
+    ghost inside = { λ s. scope_inside (W.word_at s.words.now) (L.index s.lookup.now)
+        s.roots.now s.pieces.now s.pages.now s.rescan.now };
 
     fn blocks(&self) -> u32 {
         self.blocks.len() as u32

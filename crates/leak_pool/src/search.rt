@@ -31,7 +31,8 @@ impl<'a, S: Source, G: Gate> Model for Search<'a, S, G> {
       stack = s.stack;
     } };
 
-    ghost invariant = { λ s. IsSearch s.marks.now.blocks (S.targets s.source.now) s.given.now s.workers };
+    ghost invariant = { λ s.
+        IsSearch s.marks.now.blocks (S.targets s.source.now) s.given.now s.workers };
 }
 
 /// The items of a round, and how many items each worker has scanned before it.

@@ -47,16 +47,22 @@ pub(crate) trait Source {
         requires sound { IsSound seat.old }
         ensures same { (seat.new.table ≡ seat.old.table) × (seat.new.share ≡ seat.old.share) }
         ensures sound { IsSound seat.new }
-        ensures listed { (base : List ℕ) → seat.old.claims ≡ base ++ list.old.items → seat.new.claims ≡ base ++ list.new.items }
-        ensures done { IfOk result (λ _. IsScanned (Has (targets_of_item (roots self.now) (targets self.now) item)) [] seat.old.seen list.old.items seat.new.seen list.new.items) };
+        ensures listed { (base : List ℕ) → seat.old.claims ≡ base ++ list.old.items
+            → seat.new.claims ≡ base ++ list.new.items }
+        ensures done { IfOk result (λ _.
+            IsScanned (Has (targets_of_item (roots self.now) (targets self.now) item)) []
+            seat.old.seen list.old.items seat.new.seen list.new.items) };
 
     // a target is a block
-    ghost inside: { (s : Self) (item : Item) (b : ℕ) → Has (targets_of_item (roots s) (targets s) item) b → b < length (targets s) };
+    ghost inside: { (s : Self) (item : Item) (b : ℕ)
+        → Has (targets_of_item (roots s) (targets s) item) b → b < length (targets s) };
 }
 
 /// What an item leads to are blocks: the law of the source, for its callers.
 pub(crate) fn targets_are_blocks<S: Source>(source: &S)
-    ensures { (item : Item) (b : ℕ) → Has (targets_of_item (S.roots source.now) (S.targets source.now) item) b → b < length (S.targets source.now) }
+    ensures { (item : Item) (b : ℕ)
+        → Has (targets_of_item (S.roots source.now) (S.targets source.now) item) b
+        → b < length (S.targets source.now) }
 {
     let _ = source;
 }

@@ -39,7 +39,8 @@ fn scan_one<S: Source, G: Gate>(
     requires item { IsItem round.now.scene.roots round.now.scene.targets item }
     ensures same { (seat.new.table ≡ seat.old.table) × (seat.new.share ≡ seat.old.share) }
     ensures sound { IsSound seat.new }
-    ensures done { let scene = round.now.scene in let targets = targets_of_item scene.roots scene.targets item in
+    ensures done { let scene = round.now.scene in
+        let targets = targets_of_item scene.roots scene.targets item in
         IfOk result (λ _. IsPutAway targets scene.stack seat.old seat.new hand.old hand.new) }
     ensures room { IfOk result (λ _. vec_capacity hand.new.stack ≡ vec_capacity hand.old.stack) }
 {
@@ -61,12 +62,15 @@ fn work<S: Source, G: Gate>(
 ) -> Result<(), AllocError>
     requires seat { IsSeatOf round.now.scene seat.old }
     requires worker { worker < round.now.scene.workers }
-    requires none { (hand.old.list.items ≡ []) × (hand.old.stack.items ≡ []) × (hand.old.left.items ≡ []) }
+    requires none { (hand.old.list.items ≡ []) × (hand.old.stack.items ≡ [])
+        × (hand.old.left.items ≡ []) }
     requires room { round.now.scene.stack ≤ vec_capacity hand.old.stack }
     ensures same { (seat.new.table ≡ seat.old.table) × (seat.new.share ≡ seat.old.share) }
     ensures sound { IsSound seat.new }
     ensures done { let share = InShares round.now worker (worker + 1) in
-        IfOk result (λ _. IsWorking (blocks_of round.now) share seat.old seat.new hand.new.list.items [] hand.new.left.items) }
+        IfOk result (λ _.
+        IsWorking (blocks_of round.now) share seat.old seat.new
+        hand.new.list.items [] hand.new.left.items) }
 {
     let search = round.search;
     targets_are_blocks(search.source);
