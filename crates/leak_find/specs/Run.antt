@@ -37,9 +37,9 @@ pub record AreInputs (o : Options) (before after : List (Option (List ℕ))) (in
 
 -- what a search of one core and its log, or of two, comes to
 abbrev pub Finds : Bool → Options → List (List ℕ) → Found → Type 0
-Finds false o inputs found = FindsOne (input_at inputs 0) (input_at inputs 1) (listed_by o.reading) o.skip o.plan.workers found
+Finds false o inputs found = FindsOne (input_at inputs 0) (input_at inputs 1) (listed_by o.reading) o.skip o.check o.plan.workers found
 Finds true o inputs found =
-    FindsTwo (input_at inputs 0) (input_at inputs 1) (input_at inputs 2) (input_at inputs 3) (listed_by o.reading) o.skip o.plan.workers found
+    FindsTwo (input_at inputs 0) (input_at inputs 1) (input_at inputs 2) (input_at inputs 3) (listed_by o.reading) o.skip o.check o.plan.workers found
 
 -- the first fault of one core and its log, or of two
 abbrev pub IsFaultOf : Bool → List (List ℕ) → FindError → Type 0

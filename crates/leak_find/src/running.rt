@@ -63,6 +63,7 @@ fn search_one<T: Threads + Sync, R: Read>(
         &log,
         options.reading,
         options.skip,
+        options.check,
         options.plan,
         &Open,
     ) {
@@ -98,6 +99,7 @@ fn search_two<T: Threads + Sync, R: Read>(
         &log2,
         options.reading,
         options.skip,
+        options.check,
         options.plan,
         &Open,
     ) {

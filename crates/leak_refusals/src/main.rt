@@ -22,7 +22,7 @@ use std::rt::Env;
 use std::thread::Threads;
 
 /// The calls, by name.
-static CALLS: [&str; 34] = [
+static CALLS: [&str; 35] = [
     "core_k",
     "Image::read",
     "Threads::read",
@@ -51,6 +51,7 @@ static CALLS: [&str; 34] = [
     "find_alone",
     "find_alone_vectors",
     "find_alone_unfreed",
+    "find_alone_checked",
     "find_one",
     "find_two",
     "read_all",
@@ -130,6 +131,7 @@ fn answer_of<R: AllocGlobal + Threads + Sync>(rt: &R, name: &str) -> Option<Answ
         "find_alone" => whole::alone(alloc),
         "find_alone_vectors" => whole::vectors(alloc),
         "find_alone_unfreed" => whole::unfreed(alloc),
+        "find_alone_checked" => whole::checked(alloc),
         "find_one" => whole::by_workers(rt),
         "find_two" => whole::two_cores(rt),
         "read_all" => whole::input(alloc),

@@ -65,6 +65,7 @@ pub(crate) fn alone(alloc: Global) -> Option<Answer> {
         ONE_BLOCK.as_bytes(),
         Reading::interior(),
         Skip::none(),
+        false,
     );
     Some(answer_of(found, LOST))
 }
@@ -78,6 +79,7 @@ pub(crate) fn vectors(alloc: Global) -> Option<Answer> {
         ONE_BLOCK.as_bytes(),
         Reading::interior(),
         Skip::none(),
+        false,
     );
     Some(answer_of(found, HELD))
 }
@@ -105,8 +107,35 @@ pub(crate) fn unfreed(alloc: Global) -> Option<Answer> {
             freed: true,
             links: false,
         },
+        false,
     );
     Some(answer_of(found, UNFREED))
+}
+
+/// The report of one lost block that has no chunk in the core, which tells so.
+const MISFIT: &str = "blocks 1 bytes 32\n\
+                      undumped 0\n\
+                      unknown 0 displaced 0 torn 0\n\
+                      marked 0 bytes 0\n\
+                      leaked 1 bytes 32\n\
+                      heads 1\n\
+                      misfits 1\n\
+                      caller 1 32 1 ./a.out:[0x401136]\n\
+                      leak 0x10100 32 1 head ./a.out:[0x401136]\n\
+                      misfit 0x10100 32 1 ./a.out:[0x401136]\n";
+
+/// `find_alone` that tells misfits, of one lost block.
+pub(crate) fn checked(alloc: Global) -> Option<Answer> {
+    let core = core_of(alloc, &[])?;
+    let found = find_alone(
+        alloc,
+        core.as_slice(),
+        ONE_BLOCK.as_bytes(),
+        Reading::interior(),
+        Skip::none(),
+        true,
+    );
+    Some(answer_of(found, MISFIT))
 }
 
 /// `find_one` of the chain of a hundred by three workers.
@@ -119,6 +148,7 @@ pub(crate) fn by_workers<R: AllocGlobal + Threads + Sync>(rt: &R) -> Option<Answ
         sample.log.as_bytes(),
         Reading::interior(),
         Skip::none(),
+        false,
         Plan::new(3, 16, 4).ok()?,
         &Open,
     );
@@ -145,6 +175,7 @@ pub(crate) fn two_cores<R: AllocGlobal + Threads + Sync>(rt: &R) -> Option<Answe
         MOVED.as_bytes(),
         Reading::interior(),
         Skip::none(),
+        false,
         Plan::new(3, 16, 4).ok()?,
         &Open,
     );

@@ -1,4 +1,5 @@
-//! The program over a core and a log that do not belong together, where warnings have a status: 3, though nothing leaked.
+//! The program over a core and a log that do not belong together: the misfit is listed, and the warning has a status, 3,
+//! though nothing leaked.
 #![tactic(auto)]
 
 use leak_program::start;

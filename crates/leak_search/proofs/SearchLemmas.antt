@@ -1,9 +1,10 @@
 -- From what was read and marked to what a search comes to.
-use Rattle.std.proofs.Common.{◌≡◌, ℕ, ◌-◌, ◌≤◌, ◌<◌, ◌^◌, List, [], ◌∷◌, length, Bool, true, false, not, Option, Some, None, Result, Ok, Err, IfOk, refl, ap, subst, sym, ◌∙◌, zero-add, arith, inr}
+use Rattle.std.proofs.Common.{◌≡◌, ℕ, ◌-◌, ◌≤◌, ◌<◌, ◌^◌, List, [], ◌∷◌, length, Bool, true, false, not, Option, Some, None, Result, Ok, Err, IfOk, refl, ap, subst, sym, ◌∙◌, zero-add, arith, inr, Vec, Global, IfSome, option_map}
 use Rattle.std.specs.Prelude.{cond, if◌then◌else◌}
 use Rattle.leak_elf.specs.Segments.{undumped_of}
 use Rattle.leak_mtrace.specs.Log.{torn_of}
 use Rattle.leak_report.specs.declared.head.Two.{Two}
+use Rattle.std.proofs.lemmas.List.{length-map}
 use Rattle.std.proofs.lemmas.List.Sums.{sum_by-cons}
 use Rattle.std.specs.Result.{IsErrOf}
 use Rattle.std.specs.List.{count_by}
@@ -16,6 +17,7 @@ use Rattle.leak_blocks.specs.Live.{Replay, live_of, replay_of}
 use Rattle.leak_blocks.proofs.LineLemmas.{live_of_lines}
 use Rattle.leak_index.specs.Hits.{Index}
 use Rattle.leak_notes.specs.Threads.{threads_of}
+use Rattle.leak_fit.specs.Fit.{fits_core, fits_of}
 use Rattle.leak_scan.specs.Heads.{heads_of}
 use Rattle.leak_roots.specs.Places.{Places, words_at}
 use Rattle.leak_roots.specs.Roots.{AreRootsOf, freed_places, root_words}
@@ -37,6 +39,7 @@ use Rattle.leak_search.specs.declared.found.Found.{Found}
 use Rattle.leak_search.specs.declared.inputs.Input.{Input}
 use Rattle.leak_search.specs.Inputs.{IsReadOf, IsRead, IsFaultOfOne, at_marking}
 use Rattle.leak_search.specs.Search.{FindsOne, graph_of_one, head_with, index_of, text_with}
+use Rattle.leak_search.specs.Signs.{fits_told, fits_with}
 
 -- the blocks of a replay are the live ones
 pub blocks_are : (lines : List Line) → (replay_of lines).blocks ≡ live_of lines
@@ -106,14 +109,28 @@ head_is core log lines input places two read roots =
 pub index_is : (reading : Option (List ℕ)) (lines : List Line) (blocks : List Block) (index : Index) → blocks ≡ live_of lines → index ≡ record { blocks = blocks; reading = reading } → index ≡ index_of reading lines
 index_is reading lines blocks index are is = rw (is, are) refl
 
+-- which blocks of the input fit, as the report tells it
+pub fits_are : (check : Bool) (core log : List ℕ) (lines : List Line) (input : Input) → IsReadOf core log lines input → fits_with check input ≡ fits_told check core lines
+fits_are check core log lines input read = rw (read.image, input_blocks core log lines input read) refl
+
+-- there is an entry for each block
+pub fits_each : (fits : Option (Vec Bool Global)) (check : Bool) (input : Input) → option_map (λ (v : Vec Bool Global). v.items) fits ≡ fits_with check input
+    → IfSome fits (λ v. length v.items ≡ length input.live.blocks)
+fits_each None check input is = tt
+fits_each (Some v) false input is = cc
+fits_each (Some v) true input is =
+    let same : v.items ≡ fits_of (word_of input.image) input.live.blocks = cc in
+    ap length same ∙ length-map (fits_core (word_of input.image)) input.live.blocks
+
 -- a search that read, found roots and marked
-pub finds_one : (core log : List ℕ) (reading : Option (List ℕ)) (workers : ℕ) (input : Input) (index : Index) (places : Places) (head : Head) (marked : Marked) (found : Found)
+pub finds_one : (core log : List ℕ) (reading : Option (List ℕ)) (check : Bool) (workers : ℕ) (input : Input) (index : Index) (places : Places) (head : Head) (fits : Option (List Bool)) (marked : Marked) (found : Found)
     → (read : IsRead core log input) → length input.live.blocks < 2 ^ 32 → index ≡ record { blocks = input.live.blocks; reading = reading }
     → AreRootsOf core input.live.blocks (spans_of input.skip read.0) places → Marks (word_of core) index places workers marked → head ≡ head_with input places None
-    → found.report.items ≡ text_of head input.live.blocks marked.set.items (heads_of (word_of core) index marked.set.items) log
+    → fits ≡ fits_with check input
+    → found.report.items ≡ text_of head input.live.blocks marked.set.items (heads_of (word_of core) index marked.set.items) fits log
     → found.leaked ≡ length (leaked_in marked.set.items input.live.blocks) → found.claims ≡ marked.claims
-    → FindsOne core log reading input.skip workers found
-finds_one core log reading workers input index places head marked found read few is roots marks head_at report leaked claims =
+    → FindsOne core log reading input.skip check workers found
+finds_one core log reading check workers input index places head fits marked found read few is roots marks head_at fits_is report leaked claims =
     let e = input_blocks core log read.0 input read.1 in
     let g = marked_graph core reading input.skip read.0 input.live.blocks index places e is roots in
     record {
@@ -126,9 +143,10 @@ finds_one core log reading workers input index places head marked found read few
           subst (λ (bs : List Block). IsSet marked.set.items (length bs) (Reach (graph_of_one core reading input.skip read.0))) (ap (λ (i : Index). i.blocks) is ∙ e)
           (subst (λ (h : Graph). IsSet marked.set.items (length index.blocks) (Reach h)) g marks.set);
       report =
-          subst (λ (h : Head). found.report.items ≡ text_of h (live_of read.0) marked.set.items (heads_of (word_of core) (index_of reading read.0) marked.set.items) log) (head_at ∙ head_is core log read.0 input places None read.1 roots)
-          (subst (λ (i : Index). found.report.items ≡ text_of head (live_of read.0) marked.set.items (heads_of (word_of core) i marked.set.items) log) (index_is reading read.0 input.live.blocks index e is)
-          (subst (λ (bs : List Block). found.report.items ≡ text_of head bs marked.set.items (heads_of (word_of core) index marked.set.items) log) e report));
+          subst (λ (h : Head). found.report.items ≡ text_of h (live_of read.0) marked.set.items (heads_of (word_of core) (index_of reading read.0) marked.set.items) (fits_told check core read.0) log) (head_at ∙ head_is core log read.0 input places None read.1 roots)
+          (subst (λ (f : Option (List Bool)). found.report.items ≡ text_of head (live_of read.0) marked.set.items (heads_of (word_of core) (index_of reading read.0) marked.set.items) f log) (fits_is ∙ fits_are check core log read.0 input read.1)
+          (subst (λ (i : Index). found.report.items ≡ text_of head (live_of read.0) marked.set.items (heads_of (word_of core) i marked.set.items) fits log) (index_is reading read.0 input.live.blocks index e is)
+          (subst (λ (bs : List Block). found.report.items ≡ text_of head bs marked.set.items (heads_of (word_of core) index marked.set.items) fits log) e report)));
       leaked = subst (λ (bs : List Block). found.leaked ≡ length (leaked_in marked.set.items bs)) e leaked;
       lists = rw (claims) marks.lists;
       claims = rw (claims) (subst (λ (h : Graph). Partitions (lists_of marked) (Reach h)) g marks.claims);
@@ -157,18 +175,19 @@ few_blocks : (n : ℕ) → (2 ^ 32 - 1 < n → ⊥) → n < 2 ^ 32
 few_blocks n not_many = omega (arith, not_many)
 
 -- the same of an input as it was read
-pub finds_read : (core log : List ℕ) (reading : Option (List ℕ)) (skip : Skip) (workers : ℕ) (input : Input) (index : Index) (places : Places) (head : Head) (marked : Marked) (found : Found)
+pub finds_read : (core log : List ℕ) (reading : Option (List ℕ)) (skip : Skip) (check : Bool) (workers : ℕ) (input : Input) (index : Index) (places : Places) (head : Head) (fits : Option (List Bool)) (marked : Marked) (found : Found)
     → (read : IsRead core log input) → input.skip ≡ skip → (2 ^ 32 - 1 < length input.live.blocks → IsErrOf {T = Marked} {E = PoolError} (Ok marked) TooManyForPool)
     → index ≡ record { blocks = input.live.blocks; reading = reading }
     → AreRootsOf input.image input.live.blocks (spans_of input.skip read.0) places → Marks (word_of input.image) index places workers marked → head ≡ head_with input places None
-    → found.report.items ≡ text_with head input index marked.set.items log
+    → fits ≡ fits_with check input
+    → found.report.items ≡ text_with head input index marked.set.items fits log
     → found.leaked ≡ length (leaked_in marked.set.items input.live.blocks) → found.claims ≡ marked.claims
-    → FindsOne core log reading skip workers found
-finds_read core log reading skip workers input index places head marked found read skips many is roots marks head_at report leaked claims =
-    subst (λ (s : Skip). FindsOne core log reading s workers found) skips
-    (finds_one core log reading workers input index places head marked found read (few_blocks (length input.live.blocks) (λ h. no_error marked (many h))) is
+    → FindsOne core log reading skip check workers found
+finds_read core log reading skip check workers input index places head fits marked found read skips many is roots marks head_at fits_is report leaked claims =
+    subst (λ (s : Skip). FindsOne core log reading s check workers found) skips
+    (finds_one core log reading check workers input index places head fits marked found read (few_blocks (length input.live.blocks) (λ h. no_error marked (many h))) is
     (subst (λ (file : List ℕ). AreRootsOf file input.live.blocks (spans_of input.skip read.0) places) read.1.image roots)
     (subst (λ (file : List ℕ). Marks (word_of file) index places workers marked) read.1.image marks)
-    head_at
-    (subst (λ (file : List ℕ). found.report.items ≡ text_of head input.live.blocks marked.set.items (heads_of (word_of file) index marked.set.items) log) read.1.image report)
+    head_at fits_is
+    (subst (λ (file : List ℕ). found.report.items ≡ text_of head input.live.blocks marked.set.items (heads_of (word_of file) index marked.set.items) fits log) read.1.image report)
     leaked claims)

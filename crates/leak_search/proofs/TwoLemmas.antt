@@ -38,7 +38,8 @@ use Rattle.leak_search.specs.declared.two_cores.Inputs.{Inputs}
 use Rattle.leak_search.specs.Inputs.{IsReadOf, IsRead, IsInput, IsInputFault, IsFaultless, IsFaultOfTwo, IsTooMany, Continues, ArePaired, AreReadTwo, at_marking}
 use Rattle.leak_search.specs.Search.{graph_of_one, head_with, index_of, text_with}
 use Rattle.leak_search.specs.SearchTwo.{IsMarkedEarlier, IsBetween, FindsLater, FindsTwo, graph_of_later, head_of_two, kept_blocks, new_blocks, numbers_of_two, size_of}
-use Rattle.leak_search.proofs.SearchLemmas.{found_words, head_is, index_is, input_blocks, marked_graph}
+use Rattle.leak_search.specs.Signs.{fits_told, fits_with}
+use Rattle.leak_search.proofs.SearchLemmas.{fits_are, found_words, head_is, index_is, input_blocks, marked_graph}
 
 -- ---- refusals
 
@@ -183,15 +184,16 @@ later_graph core reading skip lines blocks index places kept fresh are is roots 
     rw (found_words core blocks (spans_of skip lines) places roots, is, are) refl
 
 -- a search of the later core that read, compared, found roots and marked again
-finds_later : (core log : List ℕ) (reading : Option (List ℕ)) (workers : ℕ) (lines : List Line) (input : Input) (index : Index) (places : Places) (head : Head) (pages : List ℕ) (c : Carry) (r : Retraced) (count bytes : ℕ) (found : Found)
+finds_later : (core log : List ℕ) (reading : Option (List ℕ)) (check : Bool) (workers : ℕ) (lines : List Line) (input : Input) (index : Index) (places : Places) (head : Head) (fits : Option (List Bool)) (pages : List ℕ) (c : Carry) (r : Retraced) (count bytes : ℕ) (found : Found)
     → IsReadOf core log lines input → index ≡ record { blocks = input.live.blocks; reading = reading } → AreRootsOf core input.live.blocks (spans_of input.skip lines) places
     → OthersLeadWithin (word_of core) (index_of reading lines) pages c.kept.items c.fresh.items
     → IsRetrace (word_of core) index places pages c workers r → count ≡ length c.fresh.items → bytes ≡ size_of input.live.blocks c.fresh.items
     → head ≡ head_with input places (Some (record { fresh = count; fresh_bytes = bytes; reread = r.reread }))
-    → found.report.items ≡ text_of head input.live.blocks r.marked.set.items (heads_of (word_of core) index r.marked.set.items) log
+    → fits ≡ fits_with check input
+    → found.report.items ≡ text_of head input.live.blocks r.marked.set.items (heads_of (word_of core) index r.marked.set.items) fits log
     → found.leaked ≡ length (leaked_in r.marked.set.items input.live.blocks) → found.claims ≡ r.marked.claims
-    → FindsLater core log reading input.skip lines pages c.kept.items c.fresh.items workers found
-finds_later core log reading workers lines input index places head pages c r count bytes found read is roots others retrace counted sized head_at report leaked claims =
+    → FindsLater core log reading input.skip check lines pages c.kept.items c.fresh.items workers found
+finds_later core log reading check workers lines input index places head fits pages c r count bytes found read is roots others retrace counted sized head_at fits_is report leaked claims =
     let e = input_blocks core log lines input read in
     let same_index = index_is reading lines input.live.blocks index e is in
     let within = subst (λ (i : Index). OthersLeadWithin (word_of core) i pages c.kept.items c.fresh.items) (sym same_index) others in
@@ -202,38 +204,41 @@ finds_later core log reading workers lines input index places head pages c r cou
       set = r.marked.set.items;
       marked = set;
       reached = reached_later core reading input.skip lines c.kept.items c.fresh.items r.marked.set.items set;
-      report = report ∙ text_is core log reading lines input index places head pages c r count bytes read roots same_index retrace.reread counted sized head_at;
+      report = report ∙ text_is core log reading lines input index places head fits pages c r count bytes read roots same_index retrace.reread counted sized head_at
+          ∙ ap (λ (f : Option (List Bool)). text_of (head_of_two core log input.skip lines (numbers_of_two core pages (live_of lines) c.kept.items c.fresh.items)) (live_of lines) r.marked.set.items (heads_of (word_of core) (index_of reading lines) r.marked.set.items) f log)
+          (fits_is ∙ fits_are check core log lines input read);
       leaked = subst (λ (bs : List Block). found.leaked ≡ length (leaked_in r.marked.set.items bs)) e leaked;
       lists = rw (claims) retrace.from.2.lists;
       claims = rw (claims) (subst (λ (h : Graph). Partitions (lists_of r.marked) (λ i. Reach h i × ¬ Has c.kept.items i × ¬ Has c.fresh.items i)) g (retrace.claims within));
     }
   where
-    text_is : (core log : List ℕ) (reading : Option (List ℕ)) (lines : List Line) (input : Input) (index : Index) (places : Places) (head : Head) (pages : List ℕ) (c : Carry) (r : Retraced) (count bytes : ℕ)
+    text_is : (core log : List ℕ) (reading : Option (List ℕ)) (lines : List Line) (input : Input) (index : Index) (places : Places) (head : Head) (fits : Option (List Bool)) (pages : List ℕ) (c : Carry) (r : Retraced) (count bytes : ℕ)
         → IsReadOf core log lines input → AreRootsOf core input.live.blocks (spans_of input.skip lines) places → index ≡ index_of reading lines → r.reread ≡ reread_of (word_of core) pages index.blocks c.kept.items
         → count ≡ length c.fresh.items → bytes ≡ size_of input.live.blocks c.fresh.items
         → head ≡ head_with input places (Some (record { fresh = count; fresh_bytes = bytes; reread = r.reread }))
-        → text_of head input.live.blocks r.marked.set.items (heads_of (word_of core) index r.marked.set.items) log
-        ≡ text_of (head_of_two core log input.skip lines (numbers_of_two core pages (live_of lines) c.kept.items c.fresh.items)) (live_of lines) r.marked.set.items (heads_of (word_of core) (index_of reading lines) r.marked.set.items) log
-    text_is core log reading lines input index places head pages c r count bytes read roots is reread counted sized head_at =
+        → text_of head input.live.blocks r.marked.set.items (heads_of (word_of core) index r.marked.set.items) fits log
+        ≡ text_of (head_of_two core log input.skip lines (numbers_of_two core pages (live_of lines) c.kept.items c.fresh.items)) (live_of lines) r.marked.set.items (heads_of (word_of core) (index_of reading lines) r.marked.set.items) fits log
+    text_is core log reading lines input index places head fits pages c r count bytes read roots is reread counted sized head_at =
         rw (head_at, counted, sized, reread, is, input_blocks core log lines input read)
-        (ap (λ (h : Head). text_of h (live_of lines) r.marked.set.items (heads_of (word_of core) (index_of reading lines) r.marked.set.items) log)
+        (ap (λ (h : Head). text_of h (live_of lines) r.marked.set.items (heads_of (word_of core) (index_of reading lines) r.marked.set.items) fits log)
         (head_is core log lines input places (Some (numbers_of_two core pages (live_of lines) c.kept.items c.fresh.items)) read roots))
 
 -- the same where the inputs are known by what was read
-finds_inputs : (log1 log2 : List ℕ) (reading : Option (List ℕ)) (skip : Skip) (workers : ℕ) (before now : List Line) (first second : Input) (index : Index) (places : Places) (head : Head) (b : Between) (r : Retraced) (count bytes : ℕ) (found : Found)
+finds_inputs : (log1 log2 : List ℕ) (reading : Option (List ℕ)) (skip : Skip) (check : Bool) (workers : ℕ) (before now : List Line) (first second : Input) (index : Index) (places : Places) (head : Head) (fits : Option (List Bool)) (b : Between) (r : Retraced) (count bytes : ℕ) (found : Found)
     → IsReadOf first.image log1 before first → IsReadOf second.image log2 now second → length first.live.blocks < 2 ^ 32 → length second.live.blocks < 2 ^ 32
     → IsTrue (is_continued_by log1 log2) → Continues before now → SameWordsLeadWithin
     → IsBetween first.image second.image reading skip before now b → second.skip ≡ skip
     → index ≡ record { blocks = second.live.blocks; reading = reading } → AreRootsOf second.image second.live.blocks (spans_of second.skip now) places
     → IsRetrace (word_of second.image) index places b.pages b.carry workers r → count ≡ length b.carry.fresh.items → bytes ≡ size_of second.live.blocks b.carry.fresh.items
     → head ≡ head_with second places (Some (record { fresh = count; fresh_bytes = bytes; reread = r.reread }))
-    → found.report.items ≡ text_with head second index r.marked.set.items log2
+    → fits ≡ fits_with check second
+    → found.report.items ≡ text_with head second index r.marked.set.items fits log2
     → found.leaked ≡ length (leaked_in r.marked.set.items second.live.blocks) → found.claims ≡ r.marked.claims
-    → FindsTwo first.image log1 second.image log2 reading skip workers found
-finds_inputs log1 log2 reading skip workers before now first second index places head b r count bytes found read1 read2 few1 few2 continued continues same between skips is roots retrace counted sized head_at report leaked claims =
+    → FindsTwo first.image log1 second.image log2 reading skip check workers found
+finds_inputs log1 log2 reading skip check workers before now first second index places head fits b r count bytes found read1 read2 few1 few2 continued continues same between skips is roots retrace counted sized head_at fits_is report leaked claims =
     let others = others_lead_within first.image second.image reading skip before now b between continues same in
-    let later = subst (λ (s : Skip). FindsLater second.image log2 reading s now b.pages b.carry.kept.items b.carry.fresh.items workers found) skips
-    (finds_later second.image log2 reading workers now second index places head b.pages b.carry r count bytes found read2 is roots others retrace counted sized head_at report leaked claims) in
+    let later = subst (λ (s : Skip). FindsLater second.image log2 reading s check now b.pages b.carry.kept.items b.carry.fresh.items workers found) skips
+    (finds_later second.image log2 reading check workers now second index places head fits b.pages b.carry r count bytes found read2 is roots others retrace counted sized head_at fits_is report leaked claims) in
     record {
       first = faultless first.image log1 before first read1;
       second = faultless second.image log2 now second read2;
@@ -244,22 +249,23 @@ finds_inputs log1 log2 reading skip workers before now first second index places
       marked = between.marked;
       pages = b.pages;
       differing = between.pages;
-      finds = subst (λ (kept : List ℕ). FindsLater second.image log2 reading skip now b.pages kept (new_blocks before now) workers found) between.kept
-          (subst (λ (fresh : List ℕ). FindsLater second.image log2 reading skip now b.pages b.carry.kept.items fresh workers found) between.fresh later);
+      finds = subst (λ (kept : List ℕ). FindsLater second.image log2 reading skip check now b.pages kept (new_blocks before now) workers found) between.kept
+          (subst (λ (fresh : List ℕ). FindsLater second.image log2 reading skip check now b.pages b.carry.kept.items fresh workers found) between.fresh later);
     }
 
-pub finds_two : (core1 log1 core2 log2 : List ℕ) (reading : Option (List ℕ)) (skip : Skip) (workers : ℕ) (inputs : Inputs) (index : Index) (places : Places) (head : Head) (b : Between) (r : Retraced) (count bytes : ℕ) (found : Found)
+pub finds_two : (core1 log1 core2 log2 : List ℕ) (reading : Option (List ℕ)) (skip : Skip) (check : Bool) (workers : ℕ) (inputs : Inputs) (index : Index) (places : Places) (head : Head) (fits : Option (List Bool)) (b : Between) (r : Retraced) (count bytes : ℕ) (found : Found)
     → (read : AreReadTwo core1 log1 core2 log2 inputs) → SameWordsLeadWithin
     → IsBetween inputs.first.image inputs.second.image reading inputs.first.skip read.before read.now b → (inputs.first.skip ≡ skip) × (inputs.second.skip ≡ skip)
     → index ≡ record { blocks = inputs.second.live.blocks; reading = reading } → AreRootsOf inputs.second.image inputs.second.live.blocks (spans_of inputs.second.skip read.now) places
     → IsRetrace (word_of inputs.second.image) index places b.pages b.carry workers r → count ≡ length b.carry.fresh.items → bytes ≡ size_of inputs.second.live.blocks b.carry.fresh.items
     → head ≡ head_with inputs.second places (Some (record { fresh = count; fresh_bytes = bytes; reread = r.reread }))
-    → found.report.items ≡ text_with head inputs.second index r.marked.set.items log2
+    → fits ≡ fits_with check inputs.second
+    → found.report.items ≡ text_with head inputs.second index r.marked.set.items fits log2
     → found.leaked ≡ length (leaked_in r.marked.set.items inputs.second.live.blocks) → found.claims ≡ r.marked.claims
-    → FindsTwo core1 log1 core2 log2 reading skip workers found
-finds_two core1 log1 core2 log2 reading skip workers inputs index places head b r count bytes found read same between skips is roots retrace counted sized head_at report leaked claims =
+    → FindsTwo core1 log1 core2 log2 reading skip check workers found
+finds_two core1 log1 core2 log2 reading skip check workers inputs index places head fits b r count bytes found read same between skips is roots retrace counted sized head_at fits_is report leaked claims =
     let pair = paired core1 log1 core2 log2 inputs read in
-    let found_it = finds_inputs log1 log2 reading skip workers read.before read.now inputs.first inputs.second index places head b r count bytes found pair.first.read pair.second.read read.few_before read.few_now read.continued read.lines same
-    (subst (λ (s : Skip). IsBetween inputs.first.image inputs.second.image reading s read.before read.now b) skips.0 between) skips.1 is roots retrace counted sized head_at report leaked claims in
-    subst (λ (file : List ℕ). FindsTwo core1 log1 file log2 reading skip workers found) read.second.image
-    (subst (λ (file : List ℕ). FindsTwo file log1 inputs.second.image log2 reading skip workers found) read.first.image found_it)
+    let found_it = finds_inputs log1 log2 reading skip check workers read.before read.now inputs.first inputs.second index places head fits b r count bytes found pair.first.read pair.second.read read.few_before read.few_now read.continued read.lines same
+    (subst (λ (s : Skip). IsBetween inputs.first.image inputs.second.image reading s read.before read.now b) skips.0 between) skips.1 is roots retrace counted sized head_at fits_is report leaked claims in
+    subst (λ (file : List ℕ). FindsTwo core1 log1 file log2 reading skip check workers found) read.second.image
+    (subst (λ (file : List ℕ). FindsTwo file log1 inputs.second.image log2 reading skip check workers found) read.first.image found_it)

@@ -21,6 +21,7 @@ use Rattle.leak_report.specs.Report.{text_of}
 use Rattle.leak_search.specs.declared.inputs.Input.{Input}
 use Rattle.leak_search.specs.declared.found.Found.{Found}
 use Rattle.leak_search.specs.Inputs.{IsCore}
+use Rattle.leak_search.specs.Signs.{fits_told}
 
 -- the live blocks of the lines, and the reading
 abbrev pub index_of : Option (List ℕ) → List Line → Index
@@ -53,25 +54,28 @@ head_with input places two = record {
   two = two;
 }
 
--- the report of an input that was read, with the blocks that are marked; the heads are those of its core
-abbrev pub text_with : Head → Input → Index → List Bool → List ℕ → List ℕ
-text_with head input index set log = text_of head input.live.blocks set (heads_of (word_of input.image) index set) log
+-- the report of an input that was read, with the blocks that are marked and, where misfits are told, those that fit; the
+-- heads are those of its core
+abbrev pub text_with : Head → Input → Index → List Bool → Option (List Bool) → List ℕ → List ℕ
+text_with head input index set fits log =
+    text_of head input.live.blocks set (heads_of (word_of input.image) index set) fits log
 
 -- the lists of claims, worker by worker
 abbrev pub claims_of : Found → List (List ℕ)
 claims_of found = map (λ v. v.items) found.claims.items
 
 -- Core and log are free of faults, and the blocks are few enough to be numbered. The marked blocks are those that a
--- chain of words reaches from the roots; the report names the others, and tells which of them are heads; each marked
--- block is claimed by one worker.
-pub record FindsOne (core log : List ℕ) (reading : Option (List ℕ)) (skip : Skip) (workers : ℕ) (found : Found) : Type 0 where
+-- chain of words reaches from the roots; the report names the others, and tells which of them are heads, and misfits where
+-- that is asked for; each marked block is claimed by one worker.
+pub record FindsOne (core log : List ℕ) (reading : Option (List ℕ)) (skip : Skip) (check : Bool) (workers : ℕ) (found : Found) : Type 0 where
   pub accepted : IsCore core
   pub lines : List Line
   pub is_log : IsLog log lines
   pub few : length (live_of lines) < 2 ^ 32
   pub set : List Bool
   pub marked : IsSet set (length (live_of lines)) (Reach (graph_of_one core reading skip lines))
-  pub report : found.report.items ≡ text_of (head_of_one core log skip lines) (live_of lines) set (heads_of (word_of core) (index_of reading lines) set) log
+  pub report : found.report.items ≡ text_of (head_of_one core log skip lines) (live_of lines) set
+      (heads_of (word_of core) (index_of reading lines) set) (fits_told check core lines) log
   pub leaked : found.leaked ≡ length (leaked_in set (live_of lines))
   pub lists : length (claims_of found) ≡ workers
   pub claims : Partitions (claims_of found) (Reach (graph_of_one core reading skip lines))

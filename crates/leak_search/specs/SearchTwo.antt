@@ -27,6 +27,7 @@ use Rattle.leak_report.specs.Report.{text_of}
 use Rattle.leak_search.specs.declared.found.Found.{Found}
 use Rattle.leak_search.specs.declared.two_cores.Between.{Between}
 use Rattle.leak_search.specs.Inputs.{IsFaultless}
+use Rattle.leak_search.specs.Signs.{fits_told}
 use Rattle.leak_search.specs.Search.{index_of, graph_of_one, claims_of}
 
 -- the blocks that chains of the earlier core reach, as tests for the live blocks of its log
@@ -79,13 +80,15 @@ pub record IsBetween (core1 core2 : List ℕ) (reading : Option (List ℕ)) (ski
   pub pages : AreDiffering (word_of core1) (word_of core2) b.pages
 
 -- What is found in the later core where the numbered blocks are kept and new. The marked blocks are those that chains
--- reach; the report names the others, and tells which of them are heads by words of the later core; each marked block that is neither kept nor new is claimed by one worker; and a
--- block that chains of the later core reach from its roots alone is marked.
-pub record FindsLater (core log : List ℕ) (reading : Option (List ℕ)) (skip : Skip) (lines : List Line) (pages kept fresh : List ℕ) (workers : ℕ) (found : Found) : Type 0 where
+-- reach; the report names the others, and tells which of them are heads by words of the later core, and its misfits where
+-- that is asked for; each marked block that is neither kept nor new is claimed by one worker; and a block that chains of the
+-- later core reach from its roots alone is marked.
+pub record FindsLater (core log : List ℕ) (reading : Option (List ℕ)) (skip : Skip) (check : Bool) (lines : List Line) (pages kept fresh : List ℕ) (workers : ℕ) (found : Found) : Type 0 where
   pub set : List Bool
   pub marked : IsSet set (length (live_of lines)) (Reach (graph_of_later core reading skip kept fresh lines))
   pub reached : (i : ℕ) → i < length (live_of lines) → Reach (graph_of_one core reading skip lines) i → slice_get set i ≡ Some true
-  pub report : found.report.items ≡ text_of (head_of_two core log skip lines (numbers_of_two core pages (live_of lines) kept fresh)) (live_of lines) set (heads_of (word_of core) (index_of reading lines) set) log
+  pub report : found.report.items ≡ text_of (head_of_two core log skip lines (numbers_of_two core pages (live_of lines) kept fresh))
+      (live_of lines) set (heads_of (word_of core) (index_of reading lines) set) (fits_told check core lines) log
   pub leaked : found.leaked ≡ length (leaked_in set (live_of lines))
   pub lists : length (claims_of found) ≡ workers
   pub claims : Partitions (claims_of found) (λ i. Reach (graph_of_later core reading skip kept fresh lines) i × ¬ Has kept i × ¬ Has fresh i)
@@ -93,7 +96,7 @@ pub record FindsLater (core log : List ℕ) (reading : Option (List ℕ)) (skip 
 -- Cores and logs are free of faults, the complete lines of the first log begin the second, and the blocks of each are few
 -- enough to be numbered. The search of the later core begins with what chains of the earlier core reach and with what
 -- was allocated since. The pages that differ are told by a number of the report alone.
-pub record FindsTwo (core1 log1 core2 log2 : List ℕ) (reading : Option (List ℕ)) (skip : Skip) (workers : ℕ) (found : Found) : Type 0 where
+pub record FindsTwo (core1 log1 core2 log2 : List ℕ) (reading : Option (List ℕ)) (skip : Skip) (check : Bool) (workers : ℕ) (found : Found) : Type 0 where
   pub first : IsFaultless core1 log1
   pub second : IsFaultless core2 log2
   pub continued : IsTrue (is_continued_by log1 log2)
@@ -103,4 +106,4 @@ pub record FindsTwo (core1 log1 core2 log2 : List ℕ) (reading : Option (List �
   pub marked : IsMarkedEarlier core1 reading skip first.lines earlier
   pub pages : List ℕ
   pub differing : AreDiffering (word_of core1) (word_of core2) pages
-  pub finds : FindsLater core2 log2 reading skip second.lines pages (kept_blocks first.lines earlier second.lines) (new_blocks first.lines second.lines) workers found
+  pub finds : FindsLater core2 log2 reading skip check second.lines pages (kept_blocks first.lines earlier second.lines) (new_blocks first.lines second.lines) workers found

@@ -1,5 +1,5 @@
 -- The signs that a core and its log don't belong together, by the inputs of a search.
-use Rattle.std.specs.Prelude.{◌≡◌, ℕ, not, List, [], ◌∷◌, length, count_by}
+use Rattle.std.specs.Prelude.{◌≡◌, ℕ, Bool, not, List, [], ◌∷◌, length, count_by, Option, Some, None, if◌then◌else◌}
 use Rattle.leak_elf.specs.Words.{word_of}
 use Rattle.leak_mtrace.specs.declared.line.Line.{Line}
 use Rattle.leak_mtrace.specs.Log.{IsLog, torn_of}
@@ -27,6 +27,14 @@ signs_with input = record {
   displaced = input.live.displaced;
   misfits = count_by not (fits_of (word_of input.image) input.live.blocks);
 }
+
+-- for each live block of the lines, whether it fits the core, where a report is to tell the misfits
+abbrev pub fits_told : Bool → List ℕ → List Line → Option (List Bool)
+fits_told check core lines = if check then Some (fits_of (word_of core) (live_of lines)) else None
+
+-- the same for an input that was read
+abbrev pub fits_with : Bool → Input → Option (List Bool)
+fits_with check input = if check then Some (fits_of (word_of input.image) input.live.blocks) else None
 
 -- of cores and logs that take turns, the signs of each core and its log, in order
 abbrev pub AreSigns : List (List ℕ) → List Signs → Type 0

@@ -10,7 +10,7 @@ use crate::error::FindError;
 use crate::found::Found;
 use crate::inputs::read_input;
 use crate::reporting::{Aside, head_of, report_of};
-use crate::signing::signs_of_one;
+use crate::signing::oddities_of_one;
 use leak_index::{Reading, Sorted};
 use leak_pool::mark_alone;
 use leak_roots::{Roots, Skip};
@@ -25,13 +25,14 @@ pub fn find_alone(
     log: &[u8],
     reading: Reading,
     skip: Skip,
+    check: bool,
 ) -> Result<Found, FindError>
-    ensures ok { IfOk result (FindsOne core.now log.now (listed_by reading) skip 1) }
+    ensures ok { IfOk result (FindsOne core.now log.now (listed_by reading) skip check 1) }
     ensures signs { IfOk result (λ found. AreSigns (core.now ∷ log.now ∷ []) found.signs.items) }
     ensures refused { IfErr result (λ e. e ≢ FindError.NoMemory → IsFaultOfOne core.now log.now e) }
 {
     let input = read_input(alloc, 1, skip, core, log)?;
-    let signs = signs_of_one(alloc, &input)?;
+    let oddities = oddities_of_one(alloc, &input, check)?;
     let roots = Roots::find(
         alloc,
         &input.image,
@@ -42,6 +43,6 @@ pub fn find_alone(
     let lookup = Sorted::new(&input.live, reading);
     let marked = mark_alone(alloc, &input.image, &lookup, &roots, &input.live)?;
     let head = head_of(&input, &roots, None);
-    let aside = Aside { head, signs };
+    let aside = Aside { head, oddities };
     report_of(alloc, &input, &lookup, log, marked, aside)
 }

@@ -10,7 +10,7 @@ use crate::error::FindError;
 use crate::found::Found;
 use crate::inputs::read_input;
 use crate::reporting::{Aside, head_of, report_of};
-use crate::signing::signs_of_one;
+use crate::signing::oddities_of_one;
 use leak_index::{Paged, Reading};
 use leak_pool::{Gate, Plan, mark_by_links};
 use leak_roots::{Roots, Skip};
@@ -38,15 +38,16 @@ pub fn find_one<R: std::thread::Threads + Sync, G: Gate + Sync>(
     log: &[u8],
     reading: Reading,
     skip: Skip,
+    check: bool,
     plan: Plan,
     gate: &G,
 ) -> Result<Found, FindError>
-    ensures ok { IfOk result (FindsOne core.now log.now (listed_by reading) skip plan.workers) }
+    ensures ok { IfOk result (FindsOne core.now log.now (listed_by reading) skip check plan.workers) }
     ensures signs { IfOk result (λ found. AreSigns (core.now ∷ log.now ∷ []) found.signs.items) }
     ensures refused { IfErr result (λ e. e ≢ FindError.NoMemory → IsFaultOfOne core.now log.now e) }
 {
     let input = read_input(alloc, 1, skip, core, log)?;
-    let signs = signs_of_one(alloc, &input)?;
+    let oddities = oddities_of_one(alloc, &input, check)?;
     let roots = Roots::find(
         alloc,
         &input.image,
@@ -67,6 +68,6 @@ pub fn find_one<R: std::thread::Threads + Sync, G: Gate + Sync>(
         core.len() / LINK_SHARE,
     )?;
     let head = head_of(&input, &roots, None);
-    let aside = Aside { head, signs };
+    let aside = Aside { head, oddities };
     report_of(alloc, &input, &lookup, log, marked, aside)
 }

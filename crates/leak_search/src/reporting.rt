@@ -1,15 +1,16 @@
 //! From a marked set to the report.
 
-ghost use Rattle.std.specs.Prelude.{◌≡◌, IfOk, IfErr, length, not, count_by};
+ghost use Rattle.std.specs.Prelude.{◌≡◌, IfOk, IfErr, IfSome, length, not, count_by, option_map};
 ghost use Rattle.leak_report.specs.Totals.{HaveCallersIn, leaked_in};
 ghost use Rattle.leak_search.specs.Search.{head_with, text_with};
 
 use crate::error::FindError;
 use crate::found::Found;
 use crate::inputs::Input;
+use crate::signing::Oddities;
 use leak_index::Lookup;
 use leak_pool::Marked;
-use leak_report::{Head, Signs, Two, text};
+use leak_report::{Head, Two, text};
 use leak_roots::Roots;
 use leak_scan::heads;
 use std::alloc::Global;
@@ -19,8 +20,8 @@ use std::alloc::Global;
 pub(crate) struct Aside {
     /// The numbers of the report's first lines.
     pub head: Head,
-    /// What is odd about each input.
-    pub signs: Vec<Signs>,
+    /// What is odd about the inputs.
+    pub oddities: Oddities,
 }
 
 /// The numbers of the report's first lines, of an input and its root words.
@@ -41,7 +42,8 @@ pub(crate) fn head_of(input: &Input, roots: &Roots, two: Option<Two>) -> Head
     }
 }
 
-/// The report of an input whose blocks are marked. Which of the others are heads, the words of its core tell.
+/// The report of an input whose blocks are marked. Which of the others are heads, the words of its core tell. Where it is
+/// known which blocks fit, it tells the misfits.
 pub(crate) fn report_of<L: Lookup>(
     alloc: Global,
     input: &Input,
@@ -52,21 +54,33 @@ pub(crate) fn report_of<L: Lookup>(
 ) -> Result<Found, FindError>
     requires one_each { length marked.set.items ≡ length input.now.live.blocks }
     requires same_blocks { (L.index lookup.now).blocks ≡ input.now.live.blocks }
+    requires a_fit_each { IfSome aside.oddities.fits (λ v. length v.items ≡ length input.now.live.blocks) }
     requires in_log { HaveCallersIn log.now input.now.live.blocks }
-    ensures report { IfOk result (λ found. found.report.items ≡ text_with aside.head input.now (L.index lookup.now) marked.set.items log.now) }
+    ensures report { IfOk result (λ found. found.report.items ≡
+        text_with aside.head input.now (L.index lookup.now) marked.set.items
+        (option_map (λ v. v.items) aside.oddities.fits) log.now) }
     ensures leaked { IfOk result (λ found. found.leaked ≡ length (leaked_in marked.set.items input.now.live.blocks)) }
     ensures claims { IfOk result (λ found. found.claims ≡ marked.claims) }
-    ensures signs { IfOk result (λ found. found.signs.items ≡ aside.signs.items) }
+    ensures signs { IfOk result (λ found. found.signs.items ≡ aside.oddities.signs.items) }
     ensures memory { IfErr result (λ e. e ≡ FindError.NoMemory) }
 {
     let set = marked.set.as_slice();
     let heads = heads(alloc, &input.image, lookup, &input.live, set)?;
-    let report = text(alloc, &aside.head, &input.live, set, heads.as_slice(), log)?;
+    let fits = aside.oddities.fits.as_deref();
+    let report = text(
+        alloc,
+        &aside.head,
+        &input.live,
+        set,
+        heads.as_slice(),
+        fits,
+        log,
+    )?;
     Ok(Found {
         report,
         leaked: count_clear(set),
         claims: marked.claims,
-        signs: aside.signs,
+        signs: aside.oddities.signs,
     })
 }
 

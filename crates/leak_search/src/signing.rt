@@ -1,46 +1,70 @@
-//! What is odd about inputs.
+//! What is odd about inputs, and which of their blocks fit.
 
-ghost use Rattle.std.specs.Prelude.{◌≡◌, [], ◌∷◌, IfOk};
-ghost use Rattle.leak_search.specs.Signs.{signs_with};
+ghost use Rattle.std.specs.Prelude.{◌≡◌, ◌++◌, [], ◌∷◌, IfOk, option_map};
+ghost use Rattle.leak_elf.specs.Words.{word_of};
+ghost use Rattle.leak_fit.specs.Fit.{fits_of};
+ghost use Rattle.leak_search.specs.Signs.{signs_with, fits_with};
 
 use crate::inputs::Input;
 use leak_fit::{count_misfits, fits};
 use leak_report::Signs;
 use std::alloc::{AllocError, Global};
 
-/// The signs that the input's core and log don't belong together.
-fn signs_of(alloc: Global, input: &Input) -> Result<Signs, AllocError>
-    ensures { IfOk result (λ signs. signs ≡ signs_with input.now) }
+/// What is odd about the inputs of a search.
+#[derive(Drop)]
+pub(crate) struct Oddities {
+    /// The signs of each input, in order.
+    pub signs: Vec<Signs>,
+    /// For each live block of the last input, whether it fits its core, where the report is to tell that.
+    pub fits: Option<Vec<bool>>,
+}
+
+/// Adds the signs that the input's core and log don't belong together. It gives which of its live blocks fit.
+fn add_signs(alloc: Global, signs: &mut Vec<Signs>, input: &Input) -> Result<Vec<bool>, AllocError>
+    ensures signs { IfOk result (λ _. signs.new.items ≡ signs.old.items ++ signs_with input.now ∷ []) }
+    ensures fits { IfOk result (λ fits. fits.items ≡
+        fits_of (word_of input.now.image) input.now.live.blocks) }
 {
     let fits = fits(alloc, &input.image, &input.live)?;
-    Ok(Signs {
+    signs.push(Signs {
         live: input.live.blocks().len() as u64,
         torn: input.torn,
         unknown: input.live.unknown(),
         displaced: input.live.displaced(),
         misfits: count_misfits(fits.as_slice()),
-    })
+    })?;
+    Ok(fits)
 }
 
-/// The signs of one input.
-pub(crate) fn signs_of_one(alloc: Global, input: &Input) -> Result<Vec<Signs>, AllocError>
-    ensures { IfOk result (λ signs. signs.items ≡ signs_with input.now ∷ []) }
+/// What is odd about one input. Which of its blocks fit is kept where that is asked for.
+pub(crate) fn oddities_of_one(
+    alloc: Global,
+    input: &Input,
+    check: bool,
+) -> Result<Oddities, AllocError>
+    ensures signs { IfOk result (λ odd. odd.signs.items ≡ signs_with input.now ∷ []) }
+    ensures fits { IfOk result (λ odd. option_map (λ v. v.items) odd.fits ≡ fits_with check input.now) }
 {
     let mut signs = Vec::with_capacity(alloc, 1)?;
-    signs.push(signs_of(alloc, input)?)?;
-    Ok(signs)
+    let fits = add_signs(alloc, &mut signs, input)?;
+    let fits = if check { Some(fits) } else { None };
+    Ok(Oddities { signs, fits })
 }
 
-/// The signs of two inputs, in order.
-pub(crate) fn signs_of_two(
+/// What is odd about two inputs. Which blocks of the second fit is kept where that is asked for.
+pub(crate) fn oddities_of_two(
     alloc: Global,
     first: &Input,
     second: &Input,
-) -> Result<Vec<Signs>, AllocError>
-    ensures { IfOk result (λ signs. signs.items ≡ signs_with first.now ∷ signs_with second.now ∷ []) }
+    check: bool,
+) -> Result<Oddities, AllocError>
+    ensures signs { IfOk result (λ odd. odd.signs.items ≡ signs_with first.now ∷ signs_with second.now ∷ []) }
+    ensures fits { IfOk result (λ odd. option_map (λ v. v.items) odd.fits ≡ fits_with check second.now) }
 {
     let mut signs = Vec::with_capacity(alloc, 2)?;
-    signs.push(signs_of(alloc, first)?)?;
-    signs.push(signs_of(alloc, second)?)?;
-    Ok(signs)
+    let earlier = add_signs(alloc, &mut signs, first)?;
+    drop(earlier); // only its signs are told
+    let fits = add_signs(alloc, &mut signs, second)?;
+    let fits = if check { Some(fits) } else { None };
+    Ok(Oddities { signs, fits })
 }

@@ -16,7 +16,7 @@ use crate::error::FindError;
 use crate::found::Found;
 use crate::inputs::{Input, read_input};
 use crate::reporting::{Aside, head_of, report_of};
-use crate::signing::signs_of_two;
+use crate::signing::oddities_of_two;
 use leak_blocks::Block;
 use leak_dirty::{Carry, absent_are_fresh, carry, differing, retrace, same_words_lead_within};
 use leak_index::{Paged, Reading};
@@ -174,10 +174,11 @@ pub fn find_two<R: Threads + Sync, G: Gate + Sync>(
     log2: &[u8],
     reading: Reading,
     skip: Skip,
+    check: bool,
     plan: Plan,
     gate: &G,
 ) -> Result<Found, FindError>
-    ensures ok { IfOk result (FindsTwo core1.now log1.now core2.now log2.now (listed_by reading) skip plan.workers) }
+    ensures ok { IfOk result (FindsTwo core1.now log1.now core2.now log2.now (listed_by reading) skip check plan.workers) }
     ensures signs { IfOk result (λ found. AreSigns (core1.now ∷ log1.now ∷ core2.now ∷ log2.now ∷ []) found.signs.items) }
     ensures refused { IfErr result (λ e. e ≢ FindError.NoMemory → IsFaultOfTwo core1.now log1.now core2.now log2.now e) }
 {
@@ -185,7 +186,7 @@ pub fn find_two<R: Threads + Sync, G: Gate + Sync>(
     same_words_lead_within();
     let inputs = read_two(alloc, skip, core1, log1, core2, log2)?;
     let between = compare(rt, alloc, &inputs, reading, plan, gate)?;
-    let signs = signs_of_two(alloc, &inputs.first, &inputs.second)?;
+    let oddities = oddities_of_two(alloc, &inputs.first, &inputs.second, check)?;
     let Inputs { first, second } = inputs;
     drop(first); // no more is asked of it
     let roots = Roots::find(
@@ -214,6 +215,6 @@ pub fn find_two<R: Threads + Sync, G: Gate + Sync>(
         reread: retraced.reread,
     };
     let head = head_of(&second, &roots, Some(two));
-    let aside = Aside { head, signs };
+    let aside = Aside { head, oddities };
     report_of(alloc, &second, &lookup, log2, retraced.marked, aside)
 }

@@ -40,7 +40,7 @@ fn is_reported<R: Threads + Sync>(
     report: &str,
 ) -> Result<bool, Fail> {
     let log = ONE_BLOCK.as_bytes();
-    let alone = find_alone(alloc, core, log, Reading::interior(), Skip::none())?;
+    let alone = find_alone(alloc, core, log, Reading::interior(), Skip::none(), false)?;
     let mut same = alone.report.as_slice() == report.as_bytes();
     for plan in plans {
         let found = find_one(
@@ -50,6 +50,7 @@ fn is_reported<R: Threads + Sync>(
             log,
             Reading::interior(),
             Skip::none(),
+            false,
             *plan,
             &Open,
         )?;
@@ -115,6 +116,7 @@ fn a_missing_section_header_is_told(rt: HostRuntime) -> Result<(), Fail> {
         log,
         Reading::interior(),
         Skip::none(),
+        false,
     );
     let missing = FindError::Core(1, ElfError::Extended);
     assert_eq!(rt; found.err(), Some(missing));

@@ -108,7 +108,14 @@ fn words_of_freed_memory_hold_nothing(rt: HostRuntime) -> Result<(), Fail> {
         let core = core_of(rt.alloc(), case.core)?;
         let log = case.log.as_bytes();
         let name = case.name;
-        let found = find_alone(rt.alloc(), core.as_slice(), log, Reading::interior(), FREED)?;
+        let found = find_alone(
+            rt.alloc(),
+            core.as_slice(),
+            log,
+            Reading::interior(),
+            FREED,
+            false,
+        )?;
         assert_eq!(rt; found.report.as_slice(), case.report.as_bytes(), "{name}");
         assert_eq!(rt; found.leaked, case.leaked, "{name}");
     }
@@ -127,6 +134,7 @@ fn all_blocks_are_marked_with_freed_memory(rt: HostRuntime) -> Result<(), Fail> 
             log,
             Reading::interior(),
             Skip::none(),
+            false,
         )?;
         let report = found.report.as_slice();
         assert_eq!(rt; found.leaked, 0, "{name}");
@@ -154,6 +162,7 @@ fn workers_leave_out_freed_memory(rt: HostRuntime) -> Result<(), Fail> {
                 log,
                 Reading::interior(),
                 FREED,
+                false,
                 *plan,
                 &Open,
             )?;
@@ -214,6 +223,7 @@ fn two_cores_without_freed_memory(rt: HostRuntime) -> Result<(), Fail> {
                 pair.log2.as_bytes(),
                 Reading::interior(),
                 FREED,
+                false,
                 *plan,
                 &Open,
             )?;

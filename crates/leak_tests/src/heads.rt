@@ -53,7 +53,14 @@ fn reports_of_one_core_tell_heads(rt: HostRuntime) -> Result<(), Fail> {
         let core = core_of(rt.alloc(), parts)?;
         let core = core.as_slice();
         let log = log.as_bytes();
-        let alone = find_alone(rt.alloc(), core, log, Reading::interior(), Skip::none())?;
+        let alone = find_alone(
+            rt.alloc(),
+            core,
+            log,
+            Reading::interior(),
+            Skip::none(),
+            false,
+        )?;
         assert_eq!(rt; alone.report.as_slice(), report.as_bytes());
         assert!(rt; alone.leaked > 0);
         for plan in plans.as_slice() {
@@ -65,6 +72,7 @@ fn reports_of_one_core_tell_heads(rt: HostRuntime) -> Result<(), Fail> {
                 log,
                 reading,
                 Skip::none(),
+                false,
                 *plan,
                 &Open,
             )?;
@@ -80,7 +88,14 @@ fn heads_are_those_of_the_reading(rt: HostRuntime) -> Result<(), Fail> {
     let core = core_of(rt.alloc(), &PAST_THE_END)?;
     let reading = Reading::displaced(&[8])?;
     let log = TWO_BLOCKS.as_bytes();
-    let found = find_alone(rt.alloc(), core.as_slice(), log, reading, Skip::none())?;
+    let found = find_alone(
+        rt.alloc(),
+        core.as_slice(),
+        log,
+        reading,
+        Skip::none(),
+        false,
+    )?;
     let wanted = "blocks 2 bytes 48\n\
                   undumped 0\n\
                   unknown 0 displaced 0 torn 0\n\
@@ -124,6 +139,7 @@ fn heads_of_two_cores_are_those_of_the_later(rt: HostRuntime) -> Result<(), Fail
                 log,
                 Reading::interior(),
                 Skip::none(),
+                false,
                 *plan,
                 &Open,
             )?;

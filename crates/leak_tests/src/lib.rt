@@ -87,6 +87,10 @@ mod four_readers;
 #[cfg(test)]
 mod signs;
 
+// Reports that tell misfits.
+#[cfg(test)]
+mod misfits;
+
 // Reading an input to its end.
 #[cfg(test)]
 mod readers;

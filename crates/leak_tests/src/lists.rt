@@ -48,6 +48,7 @@ fn a_search_of_one_core_has_the_lists_of_marking(rt: HostRuntime) -> Result<(), 
         BLOCKS.as_bytes(),
         Reading::interior(),
         Skip::none(),
+        false,
         plan,
         &Open,
     )?;
@@ -69,6 +70,7 @@ fn a_search_of_two_cores_has_the_lists_of_the_second_marking(rt: HostRuntime) ->
         BLOCKS.as_bytes(),
         Reading::interior(),
         Skip::none(),
+        false,
         Plan::new(2, 1, 0)?,
         &Open,
     )?;

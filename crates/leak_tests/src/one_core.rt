@@ -19,6 +19,7 @@ fn each_example_gives_its_report(rt: HostRuntime) -> Result<(), Fail> {
             log,
             Reading::interior(),
             Skip::none(),
+            false,
         )?;
         let name = example.name;
         assert_eq!(rt;
@@ -49,6 +50,7 @@ fn displacements_alone_keep_a_block(rt: HostRuntime) -> Result<(), Fail> {
             ONE_BLOCK.as_bytes(),
             reading,
             Skip::none(),
+            false,
         )?;
         assert_eq!(rt; found.report.as_slice(), report.as_bytes(), "at {word}");
     }
@@ -65,6 +67,7 @@ fn a_chain_is_followed_to_its_end(rt: HostRuntime) -> Result<(), Fail> {
         log,
         Reading::interior(),
         Skip::none(),
+        false,
     )?;
     assert_eq!(rt; found.report.as_slice(), CHAIN.as_bytes());
     assert_eq!(rt; found.leaked, 0);
@@ -83,6 +86,7 @@ fn a_star_is_followed_to_all_ends(rt: HostRuntime) -> Result<(), Fail> {
         log,
         Reading::interior(),
         Skip::none(),
+        false,
     )?;
     assert_eq!(rt; found.report.as_slice(), STAR.as_bytes());
     assert_eq!(rt; found.leaked, 0);

@@ -21,6 +21,7 @@ fn refusal(alloc: Global, core: &[u8], log: &str) -> Option<FindError> {
         log.as_bytes(),
         Reading::interior(),
         Skip::none(),
+        false,
     )
     .err()
 }
@@ -93,6 +94,7 @@ fn a_log_that_is_cut_short_is_torn(rt: HostRuntime) -> Result<(), Fail> {
             log.as_slice(),
             Reading::interior(),
             Skip::none(),
+            false,
         )?;
         let wanted = if len == 0 { NOTHING } else { torn };
         assert_eq!(rt;

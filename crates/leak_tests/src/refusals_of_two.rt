@@ -47,6 +47,7 @@ fn refusal<R: Threads + Sync>(
         log2,
         reading,
         Skip::none(),
+        false,
         plan,
         &Open,
     );

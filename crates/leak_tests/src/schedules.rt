@@ -68,6 +68,7 @@ fn either_of_two_workers_may_begin(rt: HostRuntime) -> Result<(), Fail> {
             log,
             Reading::interior(),
             Skip::none(),
+            false,
             plan,
             &gate,
         )?;
@@ -113,6 +114,7 @@ fn either_of_two_workers_may_begin_in_two_cores(rt: HostRuntime) -> Result<(), F
             log,
             reading,
             Skip::none(),
+            false,
             plan,
             &gate,
         )?;

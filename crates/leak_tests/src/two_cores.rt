@@ -33,6 +33,7 @@ fn search<R: Threads + Sync>(
         log2,
         reading,
         Skip::none(),
+        false,
         plan,
         &Open,
     )

@@ -45,6 +45,7 @@ fn search(alloc: Global, core: &[u8]) -> Result<Found, FindError> {
         ONE_BLOCK.as_bytes(),
         Reading::interior(),
         Skip::none(),
+        false,
     )
 }
 
@@ -107,6 +108,7 @@ fn a_pointer_in_a_vector_register_alone_holds_a_block(rt: HostRuntime) -> Result
                 ONE_BLOCK.as_bytes(),
                 Reading::interior(),
                 Skip::none(),
+                false,
                 *plan,
                 &Open,
             )?;
@@ -140,6 +142,7 @@ fn a_vector_register_of_either_core_holds_a_block(rt: HostRuntime) -> Result<(),
                 log,
                 reading,
                 Skip::none(),
+                false,
                 *plan,
                 &Open,
             )?;
@@ -170,6 +173,7 @@ fn vector_entries_are_refused_as_notes_are(rt: HostRuntime) -> Result<(), Fail> 
             log,
             reading,
             Skip::none(),
+            false,
             plan,
             &Open,
         )
@@ -184,6 +188,7 @@ fn vector_entries_are_refused_as_notes_are(rt: HostRuntime) -> Result<(), Fail> 
             log,
             Reading::interior(),
             Skip::none(),
+            false,
             plan,
             &Open,
         )

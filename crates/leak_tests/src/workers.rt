@@ -32,6 +32,7 @@ fn each_example_gives_its_report(rt: HostRuntime) -> Result<(), Fail> {
                 log,
                 Reading::interior(),
                 Skip::none(),
+                false,
                 *plan,
                 &Open,
             )?;
@@ -73,6 +74,7 @@ fn displacements_alone_keep_a_block(rt: HostRuntime) -> Result<(), Fail> {
                 log,
                 reading,
                 Skip::none(),
+                false,
                 *plan,
                 &Open,
             )?;
@@ -104,6 +106,7 @@ fn chains_and_stars_are_followed_to_their_ends(rt: HostRuntime) -> Result<(), Fa
                 log,
                 Reading::interior(),
                 Skip::none(),
+                false,
                 *plan,
                 &Open,
             )?;
@@ -134,6 +137,7 @@ fn refuse_alike<R: Threads + Sync + Abort>(
             log.as_bytes(),
             Reading::interior(),
             Skip::none(),
+            false,
             plan,
             &Open,
         );

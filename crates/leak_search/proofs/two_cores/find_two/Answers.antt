@@ -3,7 +3,7 @@ use Rattle.std.proofs.lemmas.Result.{err_from_is_err_and}
 use Rattle.leak_blocks.specs.declared.block.Block.{Block}
 use Rattle.leak_roots.specs.Skipped.{spans_of}
 use Rattle.leak_search.specs.SearchTwo.{size_of}
-use Rattle.leak_search.proofs.SearchLemmas.{at_ok, input_callers, ok_by, threads_read}
+use Rattle.leak_search.proofs.SearchLemmas.{at_ok, fits_each, input_callers, ok_by, threads_read}
 use Rattle.leak_search.specs.declared.found.Found.{Found}
 use Rattle.leak_search.specs.Signs.{AreSigns}
 use Rattle.leak_search.proofs.SignLemmas.{are_of_two}
@@ -34,19 +34,22 @@ sum_sizes-requires-clause-inside g c =
 pub report_of-requires-clause-in_log : goal.report_of-requires-clause-in_log
 report_of-requires-clause-in_log g c = input_callers _ _ _ (c.in_ok-inputs.ensures.read.now, c.in_ok-inputs.ensures.read.second)
 
+pub report_of-requires-clause-a_fit_each : goal.report_of-requires-clause-a_fit_each
+report_of-requires-clause-a_fit_each g c = fits_each _ _ _ c.in_ok-oddities.ensures.fits
+
 pub returns-clause-refused : goal.returns-clause-refused
 returns-clause-refused g c = for_memory _ _ c.report_of.ensures.memory
 
 pub returns-clause-ok : goal.returns-clause-ok
 returns-clause-ok g c = ok_by _ _ (λ found is.
-    finds_two _ _ _ _ _ _ _ c.in_ok-inputs.inputs _ _ _ c.in_ok-between.between c.in_ok-retraced.retraced _ _ found c.in_ok-inputs.ensures.read c.same_words_lead_within.ensures
+    finds_two _ _ _ _ _ _ _ _ c.in_ok-inputs.inputs _ _ _ _ c.in_ok-between.between c.in_ok-retraced.retraced _ _ found c.in_ok-inputs.ensures.read c.same_words_lead_within.ensures
     (c.in_ok-between.ensures.between _ _ (paired _ _ _ _ _ c.in_ok-inputs.ensures.read)) c.in_ok-inputs.ensures.skip c.in_ok-lookup.ensures (c.in_ok-roots.ensures.of_core (spans_of c.in_ok-inputs.inputs.second.skip c.in_ok-inputs.ensures.read.now) c.in_ok-inputs.ensures.read.second.small (threads_read _ _ _ (c.in_ok-inputs.ensures.read.now, c.in_ok-inputs.ensures.read.second))) c.in_ok-retraced.ensures.traced (c.len.ensures ∙ c.in_ok-between.between.carry.fresh.ok.0)
     (c.sum_sizes.ensures ∙ ap (λ (bs : List Block). size_of bs c.deref.result.now) c.blocks-2.ensures.value ∙ ap (λ (xs : List ℕ). size_of c.in_ok-inputs.inputs.second.live.blocks xs) c.deref.ensures.value)
-    c.head_of-head.ensures (at_ok _ _ found is c.report_of.ensures.report) (at_ok _ _ found is c.report_of.ensures.leaked) (at_ok _ _ found is c.report_of.ensures.claims))
+    c.head_of-head.ensures c.in_ok-oddities.ensures.fits (at_ok _ _ found is c.report_of.ensures.report) (at_ok _ _ found is c.report_of.ensures.leaked) (at_ok _ _ found is c.report_of.ensures.claims))
 
 pub returns-clause-signs : goal.returns-clause-signs
 returns-clause-signs g c = ok_by
     (λ (found : Found). AreSigns (c.args.core1.now ∷ c.args.log1.now ∷ c.args.core2.now ∷ c.args.log2.now ∷ []) found.signs.items) c.report_of.result (λ found is.
     are_of_two c.args.core1.now c.args.log1.now c.args.core2.now c.args.log2.now c.in_ok-inputs.inputs.first c.in_ok-inputs.inputs.second found.signs.items
     (c.in_ok-inputs.ensures.read.before, c.in_ok-inputs.ensures.read.first) (c.in_ok-inputs.ensures.read.now, c.in_ok-inputs.ensures.read.second)
-    (at_ok (λ (f : Found). f.signs.items ≡ c.in_ok-signs.signs.items) c.report_of.result found is c.report_of.ensures.signs ∙ c.in_ok-signs.ensures))
+    (at_ok (λ (f : Found). f.signs.items ≡ c.in_ok-oddities.oddities.signs.items) c.report_of.result found is c.report_of.ensures.signs ∙ c.in_ok-oddities.ensures.signs))

@@ -1,0 +1,218 @@
+//! Reports that tell misfits: live blocks of which the core has no chunk in use.
+
+use crate::plans::few_plans;
+use crate::samples::{Part, core_of};
+use leak_find::{Skip, find_alone, find_one, find_two};
+use leak_index::Reading;
+use leak_pool::Open;
+use std::alloc::Global;
+use std::test::Fail;
+
+/// A core and a log of one lost block, and whether the core has a chunk in use for it.
+struct Case {
+    name: &'static str,
+    core: &'static [Part],
+    log: &'static str,
+    start: u64,
+    size: u64,
+    fits: bool,
+}
+
+/// A block of 32 bytes at 0x10100.
+const fn of_32(name: &'static str, core: &'static [Part], fits: bool) -> Case {
+    Case {
+        name,
+        core,
+        log: "+ 0x10100 0x20\n",
+        start: 0x10100,
+        size: 32,
+        fits,
+    }
+}
+
+/// The least chunk of a block of 32 bytes at 0x10100, and the next one.
+const CHUNK: [Part; 2] = [Part::Word(0x100f8, 0x31), Part::Word(0x10128, 0x21)];
+
+static CASES: [Case; 16] = [
+    of_32("a chunk in use", &CHUNK, true),
+    of_32(
+        "16 bytes more",
+        &[Part::Word(0x100f8, 0x41), Part::Word(0x10138, 1)],
+        true,
+    ),
+    of_32(
+        "32 bytes more",
+        &[Part::Word(0x100f8, 0x51), Part::Word(0x10148, 1)],
+        true,
+    ),
+    of_32(
+        "48 bytes more",
+        &[Part::Word(0x100f8, 0x61), Part::Word(0x10158, 1)],
+        false,
+    ),
+    of_32(
+        "a free chunk",
+        &[Part::Word(0x100f8, 0x31), Part::Word(0x10128, 0x20)],
+        false,
+    ),
+    of_32(
+        "another arena",
+        &[Part::Word(0x100f8, 0x35), Part::Word(0x10128, 1)],
+        true,
+    ),
+    of_32("a mapping", &[Part::Word(0x100f8, 0x1002)], true),
+    of_32("the least mapping", &[Part::Word(0x100f8, 0x32)], true),
+    of_32("a small mapping", &[Part::Word(0x100f8, 0x22)], false),
+    of_32("a large mapping", &[Part::Word(0x100f8, 0x1042)], false),
+    of_32("the largest mapping", &[Part::Word(0x100f8, 0x1032)], true),
+    of_32("no chunk", &[], false),
+    Case {
+        name: "no word before the block",
+        core: &[Part::Word(0x10018, 1)],
+        log: "+ 0x10000 0x8\n",
+        start: 0x10000,
+        size: 8,
+        fits: false,
+    },
+    Case {
+        name: "not a multiple of 16",
+        core: &[Part::Word(0x10100, 0x21), Part::Word(0x10120, 1)],
+        log: "+ 0x10108 0x8\n",
+        start: 0x10108,
+        size: 8,
+        fits: false,
+    },
+    Case {
+        name: "no next word",
+        core: &[Part::Word(0x10fe8, 0x21)],
+        log: "+ 0x10ff0 0x8\n",
+        start: 0x10ff0,
+        size: 8,
+        fits: false,
+    },
+    Case {
+        name: "an empty block",
+        core: &[Part::Word(0x100f8, 0x21), Part::Word(0x10118, 1)],
+        log: "+ 0x10100 0\n",
+        start: 0x10100,
+        size: 0,
+        fits: true,
+    },
+];
+
+/// The report of the case, in which misfits are told or not.
+fn report_of(alloc: Global, case: &Case, check: bool) -> Result<String, Fail> {
+    let Case {
+        start,
+        size,
+        fits,
+        ..
+    } = *case;
+    let mut report = String::new(alloc);
+    write!(
+        report,
+        "blocks 1 bytes {size}\nundumped 0\nunknown 0 displaced 0 torn 0\n"
+    )?;
+    write!(report, "marked 0 bytes 0\nleaked 1 bytes {size}\nheads 1\n")?;
+    if check {
+        let misfits = if fits { 0 } else { 1 };
+        writeln!(report, "misfits {misfits}")?;
+    }
+    write!(
+        report,
+        "caller 1 {size} 1 ?\nleak 0x{start:x} {size} 1 head ?\n"
+    )?;
+    if check && !fits {
+        writeln!(report, "misfit 0x{start:x} {size} 1 ?")?;
+    }
+    Ok(report)
+}
+
+#[test]
+fn a_block_without_a_chunk_is_a_misfit(rt: HostRuntime) -> Result<(), Fail> {
+    for case in &CASES {
+        let core = core_of(rt.alloc(), case.core)?;
+        for check in [false, true] {
+            let found = find_alone(
+                rt.alloc(),
+                core.as_slice(),
+                case.log.as_bytes(),
+                Reading::interior(),
+                Skip::none(),
+                check,
+            )?;
+            let wanted = report_of(rt.alloc(), case, check)?;
+            let name = case.name;
+            assert_eq!(rt;
+                found.report.as_slice(),
+                wanted.as_str().as_bytes(),
+                "{name}"
+            );
+        }
+    }
+    Ok(())
+}
+
+/// A block that has no chunk and is held, and of two lost ones one that has a free chunk.
+const THREE_BLOCKS: &str =
+    "@ a:[0x1] + 0x10300 0x18\n@ b:[0x2] + 0x10100 0x20\n@ c:[0x3] + 0x10200 0x10\n";
+
+const TWO_MISFITS: &str =
+    "blocks 3 bytes 72\nundumped 0\nunknown 0 displaced 0 torn 0\nmarked 1 bytes 16\nleaked 2 bytes 56\nheads 2\nmisfits 2\ncaller 1 32 1 b:[0x2]\ncaller 1 24 1 a:[0x1]\nleak 0x10100 32 2 head b:[0x2]\nleak 0x10300 24 1 head a:[0x1]\nmisfit 0x10200 16 3 c:[0x3]\nmisfit 0x10300 24 1 a:[0x1]\n";
+
+#[test]
+fn workers_tell_misfits(rt: HostRuntime) -> Result<(), Fail> {
+    let core = core_of(
+        rt.alloc(),
+        &[
+            Part::Word(0x100f8, 0x31),
+            Part::Word(0x10128, 0x21),
+            Part::Word(0x102f8, 0x21),
+            Part::Word(0x10318, 0x20),
+            Part::Rbx(0x10200),
+        ],
+    )?;
+    for plan in few_plans(rt.alloc())?.as_slice() {
+        let found = find_one(
+            &rt,
+            rt.alloc(),
+            core.as_slice(),
+            THREE_BLOCKS.as_bytes(),
+            Reading::interior(),
+            Skip::none(),
+            true,
+            *plan,
+            &Open,
+        )?;
+        assert_eq!(rt; found.report.as_slice(), TWO_MISFITS.as_bytes(), "{plan:?}");
+    }
+    Ok(())
+}
+
+/// The first core has no chunk for the block of its log, and the second one no chunk for the new block.
+const MISFIT_OF_THE_SECOND: &str =
+    "blocks 2 bytes 48\nundumped 0\nunknown 0 displaced 0 torn 0\nnew 1 bytes 16\nreread 0\nmarked 1 bytes 16\nleaked 1 bytes 32\nheads 1\nmisfits 1\ncaller 1 32 1 ?\nleak 0x10100 32 1 head ?\nmisfit 0x10200 16 2 ?\n";
+
+#[test]
+fn two_cores_tell_misfits_of_the_second(rt: HostRuntime) -> Result<(), Fail> {
+    let core1 = core_of(rt.alloc(), &[])?;
+    let core2 = core_of(rt.alloc(), &CHUNK)?;
+    for plan in few_plans(rt.alloc())?.as_slice() {
+        let found = find_two(
+            &rt,
+            rt.alloc(),
+            core1.as_slice(),
+            b"+ 0x10100 0x20\n",
+            core2.as_slice(),
+            b"+ 0x10100 0x20\n+ 0x10200 0x10\n",
+            Reading::interior(),
+            Skip::none(),
+            true,
+            *plan,
+            &Open,
+        )?;
+        let wanted = MISFIT_OF_THE_SECOND.as_bytes();
+        assert_eq!(rt; found.report.as_slice(), wanted, "{plan:?}");
+    }
+    Ok(())
+}
