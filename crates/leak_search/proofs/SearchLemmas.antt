@@ -120,7 +120,7 @@ fits_each None check input is = tt
 fits_each (Some v) false input is = cc
 fits_each (Some v) true input is =
     let same : v.items ≡ fits_of (word_of input.image) input.live.blocks = cc in
-    ap length same ∙ length-map (fits_core (word_of input.image)) input.live.blocks
+    ap length same ∙ length-map input.live.blocks (fits_core (word_of input.image))
 
 -- a search that read, found roots and marked
 pub finds_one : (core log : List ℕ) (reading : Option (List ℕ)) (check : Bool) (workers : ℕ) (input : Input) (index : Index) (places : Places) (head : Head) (fits : Option (List Bool)) (marked : Marked) (found : Found)

@@ -18,7 +18,8 @@ use std::alloc::Global;
 
 /// Searches a core and its log on the caller's thread, with one list of claims.
 ///
-/// It gives what [`find_one`](crate::find_one) gives with one worker, and refuses what that refuses, in the same order.
+/// `check` says whether the report lists the misfits. It gives what [`find_one`](crate::find_one) gives with one worker, and
+/// refuses what that refuses, in the same order.
 pub fn find_alone(
     alloc: Global,
     core: &[u8],

@@ -21,7 +21,8 @@ pub(crate) struct Oddities {
 
 /// Adds the signs that the input's core and log don't belong together. It gives which of its live blocks fit.
 fn add_signs(alloc: Global, signs: &mut Vec<Signs>, input: &Input) -> Result<Vec<bool>, AllocError>
-    ensures signs { IfOk result (λ _. signs.new.items ≡ signs.old.items ++ signs_with input.now ∷ []) }
+    ensures signs { IfOk result (λ _.
+        signs.new.items ≡ signs.old.items ++ signs_with input.now ∷ []) }
     ensures fits { IfOk result (λ fits. fits.items ≡
         fits_of (word_of input.now.image) input.now.live.blocks) }
 {
@@ -43,7 +44,8 @@ pub(crate) fn oddities_of_one(
     check: bool,
 ) -> Result<Oddities, AllocError>
     ensures signs { IfOk result (λ odd. odd.signs.items ≡ signs_with input.now ∷ []) }
-    ensures fits { IfOk result (λ odd. option_map (λ v. v.items) odd.fits ≡ fits_with check input.now) }
+    ensures fits { IfOk result (λ odd.
+        option_map (λ v. v.items) odd.fits ≡ fits_with check input.now) }
 {
     let mut signs = Vec::with_capacity(alloc, 1)?;
     let fits = add_signs(alloc, &mut signs, input)?;
@@ -58,8 +60,10 @@ pub(crate) fn oddities_of_two(
     second: &Input,
     check: bool,
 ) -> Result<Oddities, AllocError>
-    ensures signs { IfOk result (λ odd. odd.signs.items ≡ signs_with first.now ∷ signs_with second.now ∷ []) }
-    ensures fits { IfOk result (λ odd. option_map (λ v. v.items) odd.fits ≡ fits_with check second.now) }
+    ensures signs { IfOk result (λ odd.
+        odd.signs.items ≡ signs_with first.now ∷ signs_with second.now ∷ []) }
+    ensures fits { IfOk result (λ odd.
+        option_map (λ v. v.items) odd.fits ≡ fits_with check second.now) }
 {
     let mut signs = Vec::with_capacity(alloc, 2)?;
     let earlier = add_signs(alloc, &mut signs, first)?;

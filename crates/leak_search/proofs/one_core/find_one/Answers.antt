@@ -17,7 +17,7 @@ pub report_of-requires-clause-in_log : goal.report_of-requires-clause-in_log
 report_of-requires-clause-in_log g c = input_callers _ _ _ c.in_ok-input.ensures.ok
 
 pub report_of-requires-clause-a_fit_each : goal.report_of-requires-clause-a_fit_each
-report_of-requires-clause-a_fit_each g c = fits_each _ _ _ c.in_ok-oddities.ensures.fits
+report_of-requires-clause-a_fit_each g c = fits_each c.in_ok-oddities.oddities.fits c.args.check c.in_ok-input.input c.in_ok-oddities.ensures.fits
 
 pub returns-clause-ok : goal.returns-clause-ok
 returns-clause-ok g c = ok_by _ _ (λ found is.

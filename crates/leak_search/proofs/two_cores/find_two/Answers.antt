@@ -35,7 +35,7 @@ pub report_of-requires-clause-in_log : goal.report_of-requires-clause-in_log
 report_of-requires-clause-in_log g c = input_callers _ _ _ (c.in_ok-inputs.ensures.read.now, c.in_ok-inputs.ensures.read.second)
 
 pub report_of-requires-clause-a_fit_each : goal.report_of-requires-clause-a_fit_each
-report_of-requires-clause-a_fit_each g c = fits_each _ _ _ c.in_ok-oddities.ensures.fits
+report_of-requires-clause-a_fit_each g c = fits_each c.in_ok-oddities.oddities.fits c.args.check c.in_ok-inputs.inputs.second c.in_ok-oddities.ensures.fits
 
 pub returns-clause-refused : goal.returns-clause-refused
 returns-clause-refused g c = for_memory _ _ c.report_of.ensures.memory
