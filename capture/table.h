@@ -3,17 +3,28 @@
  * One page with the head, then the entries. An entry is 3 + depth words:
  *     ~start, ~asked size, ~stamp, ~caller, ~caller's caller ...
  * Each word is complemented, so that none of them looks like an address of the process. The first word is
- * 0 where the entry holds no block. It is written last and cleared first. */
+ * 0 where the entry holds no block. It is written last and cleared first. Where it is even and not 0, realloc
+ * has the block just now, and may have moved it.
+ *
+ * At `leaves_at` the leaves begin. A leaf is of 64 KiB of the process's memory:
+ *     ~(address / 64 KiB), then a bit for each 16 bytes: were they ever in a block of less than 128 KiB?
+ * A leaf whose first word is 0 is not used. */
 #ifndef LEAK_TABLE_H
 #define LEAK_TABLE_H
 
 #include <stdint.h>
 
-#define TABLE_MAGIC "leaktab2"
+#define TABLE_MAGIC "leaktab3"
 
 enum { HEAD_BYTES = 4096, MAX_DEPTH = 32, PROGRAM_BYTES = 256 };
 
 enum { ENTRY_START, ENTRY_SIZE, ENTRY_STAMP, ENTRY_CALLERS };
+
+enum { ENTRY_HELD = 1 };     /* the lowest bit of a first word, but while realloc has the block */
+
+/* From 128 KiB on glibc maps a block by itself, and its memory may serve anything later. */
+enum { SMALL_BELOW = 128 << 10, REGION_BITS = 16, PIECE_BITS = 4,
+       LEAF_BITS = 1 << (REGION_BITS - PIECE_BITS), LEAF_WORDS = 1 + LEAF_BITS / 64 };
 
 struct table_head {
     char magic[8];
@@ -24,6 +35,9 @@ struct table_head {
     uint64_t missed;         /* blocks that found no place */
     uint64_t finder;         /* where the library's private memory is mapped, which no core has either */
     uint64_t finder_bytes;
+    uint64_t room;           /* bytes of the mapping */
+    uint64_t leaves_at;      /* where in the file the leaves begin */
+    uint64_t leaves;         /* leaves that were ever used */
     char program[PROGRAM_BYTES];
 };
 

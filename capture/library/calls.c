@@ -11,8 +11,6 @@
 
 #include "trace.h"
 
-enum { WIPED = 128 << 10 };
-
 #define CALLS(DO) DO(calloc) DO(realloc) DO(free) DO(memalign) DO(aligned_alloc) DO(posix_memalign) \
     DO(valloc) DO(pvalloc) DO(malloc)
 #define REAL(call) static __typeof__(call) *real_##call;
@@ -62,7 +60,7 @@ static void take_out_and_wipe(void *block)
 {
     uint64_t copy[ENTRY_CALLERS + MAX_DEPTH];
 
-    if (take_out((uintptr_t)block, copy) && copy[ENTRY_SIZE] < WIPED)
+    if (take_out((uintptr_t)block, copy) && copy[ENTRY_SIZE] < SMALL_BELOW)
         explicit_bzero(block, copy[ENTRY_SIZE]);
 }
 
@@ -84,12 +82,14 @@ static void *resize(void *block, size_t size, struct caller caller)
 
     if (!READY())
         return NULL;
-    int was = take_out((uintptr_t)block, copy);
+    int64_t was = set_aside((uintptr_t)block, copy);
     void *moved = real_realloc(block, size);
-    if (!moved && size && was)
+    if (!moved && size && was >= 0)
         insert(copy[ENTRY_START], copy[ENTRY_SIZE], copy[ENTRY_STAMP], copy + ENTRY_CALLERS,
                table.words - ENTRY_CALLERS);
-    return record(moved, size, caller);
+    record(moved, size, caller);
+    let_go(was);
+    return moved;
 }
 
 PUBLIC void *realloc(void *block, size_t size)

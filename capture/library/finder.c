@@ -8,7 +8,7 @@
 
 #include "trace.h"
 
-enum { REGION_BITS = 16, GRAIN_BITS = 6, PAGE_BITS = REGION_BITS - GRAIN_BITS, PROBES = 64, NEAR = 4 };
+enum { GRAIN_BITS = 6, PAGE_BITS = REGION_BITS - GRAIN_BITS, PROBES = 64, NEAR = 4 };
 
 /* A cell is 0 (never used), or REMOVED (look on behind it), or the number of an entry with the top bit. */
 #define REMOVED 1u
@@ -96,28 +96,56 @@ void insert(uintptr_t start, size_t size, uint64_t stamp, const uintptr_t *calle
         for (size_t k = 0; k < table.words - ENTRY_CALLERS; k++)
             put(word + ENTRY_CALLERS + k, ~(k < depth ? (uint64_t)callers[k] : 0));
         atomic_store_explicit(word, ~(uint64_t)start, memory_order_release);
-        if (publish(start, number))
+        if (publish(start, number)) {
+            keep_pieces(start, size);
             return;
+        }
         put(word, 0);
         give_entry(number);
     }
     atomic_fetch_add((_Atomic uint64_t *)&table.head->missed, 1);
 }
 
-/* Takes a block out of the table, before it is freed. Says whether it was there, and then copies its entry,
- * no longer complemented, where `copy` is not null. */
-int take_out(uintptr_t start, uint64_t *copy)
+/* Writes the first word of a block's entry, after which it is listed no longer, and makes it unfindable. Gives
+ * the entry's number, or -1 where the block was not there, and copies the entry, no longer complemented, where
+ * `copy` is not null. */
+static inline int64_t unlist(uintptr_t start, uint64_t *copy, uint64_t first)
 {
     _Atomic uint32_t *cell;
 
     if (UNLIKELY(!tracing()) || !start || !(cell = find(start)))
-        return 0;
+        return -1;
     uint32_t number = atomic_load_explicit(cell, memory_order_relaxed) & ~IN_USE;
     _Atomic uint64_t *word = entry(number);
     for (size_t k = 0; copy && k < table.words; k++)
         copy[k] = ~get(word + k);
-    atomic_store_explicit(word, 0, memory_order_release);
+    atomic_store_explicit(word, first, memory_order_release);
     atomic_store_explicit(cell, REMOVED, memory_order_release);
+    return number;
+}
+
+/* Takes a block out of the table, before it is freed. Says whether it was there. */
+int take_out(uintptr_t start, uint64_t *copy)
+{
+    int64_t number = unlist(start, copy, 0);
+
+    if (number >= 0)
+        give_entry(number);
+    return number >= 0;
+}
+
+/* The same before realloc, which may copy what the block holds to another place before that is listed. Until
+ * then the entry says so. Gives its number, or -1. */
+int64_t set_aside(uintptr_t start, uint64_t *copy)
+{
+    return unlist(start, copy, ~(uint64_t)start & ~(uint64_t)ENTRY_HELD);
+}
+
+/* Gives the entry of a block that was set aside back, when the block is listed where it is now. */
+void let_go(int64_t number)
+{
+    if (number < 0)
+        return;
+    atomic_store_explicit(entry(number), 0, memory_order_release);
     give_entry(number);
-    return 1;
 }

@@ -24,7 +24,7 @@ static void copy_entries(const struct table *old, uint64_t ready)
         uint64_t start = atomic_load(word);
         for (size_t k = 0; k < old->words; k++)
             copy[k] = ~atomic_load(word + k);
-        if (start && copy[ENTRY_STAMP] < fork_stamp && atomic_load(word) == start
+        if (start & ENTRY_HELD && copy[ENTRY_STAMP] < fork_stamp && atomic_load(word) == start
             && ~atomic_load(word + ENTRY_STAMP) == copy[ENTRY_STAMP])
             insert(~start, copy[ENTRY_SIZE], copy[ENTRY_STAMP], copy + ENTRY_CALLERS, old->words - ENTRY_CALLERS);
     }
@@ -33,14 +33,14 @@ static void copy_entries(const struct table *old, uint64_t ready)
 /* In the child, whose heap is as it was at the fork and whose finder is zero. */
 void after_fork(void)
 {
-    struct table old = { .head = table.head, .room = table.room, .words = table.words };
-    uint64_t ready = table.ready;
+    struct table old = { .head = table.head, .words = table.words };
+    uint64_t ready = table.entries.ready, room = table.leaves.end;
     int error = errno;
 
     if (!fork_stamp || !forks_are_traced || !open_table(old.words - ENTRY_CALLERS))
         return;
     copy_entries(&old, ready);
-    munmap(old.head, old.room);
+    munmap(old.head, room);
     finder->on = 1;
     errno = error;
 }

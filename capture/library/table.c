@@ -20,25 +20,26 @@ const char *table_name, *program_name;
 
 static __thread uint32_t thread_number;
 
-/* Makes the first `need` bytes of the table writable, and their pages present, so that a full disk shows
+/* Makes the area writable up to `need` bytes of the file, and its pages present, so that a full disk shows
  * here and not as SIGBUS later. Two threads may do so at once. Keeps errno where it succeeds. */
-static int grow(uint64_t need)
+static int grow(struct area *area, uint64_t need)
 {
     int error = errno;
-    uint64_t have = atomic_load(&table.ready), step = have / 8 > STEP ? have / 8 : STEP;
+    uint64_t have = atomic_load(&area->ready), eighth = (have - area->start) / 8;
+    uint64_t step = eighth > STEP ? eighth : STEP;
     uint64_t want = (need + step + STEP - 1) & ~(uint64_t)(STEP - 1);
     char *from = (char *)table.head + have;
 
-    if (want > table.room)
-        want = table.room;
-    if (need > want || atomic_load(&table.full))
+    if (want > area->end)
+        want = area->end;
+    if (need > want || atomic_load(&area->full))
         return 0;
     if (mprotect(from, want - have, PROT_READ | PROT_WRITE)
         || (madvise(from, want - have, POPULATE_WRITE) && errno != EINVAL)) {
-        atomic_store(&table.full, 1);
+        atomic_store(&area->full, 1);
         return 0;
     }
-    while (have < want && !atomic_compare_exchange_weak(&table.ready, &have, want))
+    while (have < want && !atomic_compare_exchange_weak(&area->ready, &have, want))
         continue;
     errno = error;
     return 1;
@@ -57,48 +58,60 @@ static int make_file(void)
     return open(table_path, O_RDWR | O_CREAT | O_EXCL | O_NOFOLLOW | O_CLOEXEC, 0600);
 }
 
-/* Maps the file, of `bytes` or, where so much is not granted, of a half, a quarter, down to `least`. */
-static void *map_file(int file, uint64_t bytes, uint64_t least)
+/* Maps the file, of `bytes` or, where so much is not granted, of a half, a quarter, down to `least`. Gives
+ * how many bytes they are in `room`. */
+static void *map_file(int file, uint64_t bytes, uint64_t least, uint64_t *room)
 {
     struct rlimit limit;
 
     if (!getrlimit(RLIMIT_FSIZE, &limit) && limit.rlim_cur < bytes)
         bytes = limit.rlim_cur & ~(uint64_t)(STEP - 1);
-    for (table.room = bytes & ~4095ull; table.room >= least; table.room = table.room / 2 & ~4095ull) {
-        if (ftruncate(file, table.room))
+    for (*room = bytes & ~4095ull; *room >= least; *room = *room / 2 & ~4095ull) {
+        if (ftruncate(file, *room))
             continue;
-        void *map = mmap(NULL, table.room, PROT_NONE, MAP_SHARED | MAP_NORESERVE, file, 0);
+        void *map = mmap(NULL, *room, PROT_NONE, MAP_SHARED | MAP_NORESERVE, file, 0);
         if (map != MAP_FAILED)
             return map;
     }
     return MAP_FAILED;
 }
 
+/* Divides the file: the last eighth is for the leaves. */
+static void divide(uint64_t room)
+{
+    uint64_t leaves_at = room - (room / 8 & ~(uint64_t)(STEP - 1));
+
+    table.entries = (struct area){ .end = leaves_at };
+    table.leaves = (struct area){ .start = leaves_at, .end = room, .ready = leaves_at };
+}
+
 /* Makes and maps the table of this process. The finder is there already, and zero. */
 int open_table(size_t depth)
 {
-    uint64_t cells = (finder_bytes() - sizeof *finder) / sizeof finder->cells[0];
+    uint64_t room, cells = (finder_bytes() - sizeof *finder) / sizeof finder->cells[0];
     int file = make_file();
 
     if (file < 0)
         return complain(table_path), 0;
-    void *map = map_file(file, HEAD_BYTES + cells * (ENTRY_CALLERS + depth) * sizeof(uint64_t), HEAD_BYTES + STEP);
+    void *map = map_file(file, HEAD_BYTES + cells * (ENTRY_CALLERS + depth) * sizeof(uint64_t), HEAD_BYTES + STEP,
+                         &room);
     close(file);
     table.head = map;
-    table.ready = 0;
-    table.full = 0;
-    if (map == MAP_FAILED || !grow(HEAD_BYTES + STEP)) {
+    divide(room);
+    if (map == MAP_FAILED || !grow(&table.entries, HEAD_BYTES + STEP)) {
         complain(table_path);
         unlink(table_path);
         return 0;
     }
-    madvise(map, table.room, MADV_DONTDUMP);
+    madvise(map, room, MADV_DONTDUMP);
     table.words = ENTRY_CALLERS + depth;
     table.head->pid = getpid();
     table.head->depth = depth;
     table.head->base = (uintptr_t)map;
     table.head->finder = (uintptr_t)finder;
     table.head->finder_bytes = finder_bytes();
+    table.head->room = room;
+    table.head->leaves_at = table.entries.end;
     snprintf(table.head->program, PROGRAM_BYTES, "%s", program_name);
     memcpy(table.head->magic, TABLE_MAGIC, sizeof table.head->magic);
     return 1;
@@ -158,7 +171,7 @@ static int64_t new_entry(void)
 
     do {
         uint64_t need = HEAD_BYTES + (first + BATCH) * table.words * sizeof(uint64_t);
-        if (need > atomic_load(&table.ready) && !grow(need))
+        if (need > atomic_load(&table.entries.ready) && !grow(&table.entries, need))
             return -1;
     } while (!atomic_compare_exchange_weak(used, &first, first + BATCH));
     for (int k = 1; k < BATCH; k++)
@@ -179,4 +192,18 @@ int64_t take_entry(void)
             stack = finder->unused;
     } while (stack != own);
     return new_entry();
+}
+
+/* The number of a new leaf, or -1 where there is no room for one. */
+int64_t new_leaf(void)
+{
+    _Atomic uint64_t *leaves = (_Atomic uint64_t *)&table.head->leaves;
+    uint64_t number = atomic_load(leaves);
+
+    do {
+        uint64_t need = table.head->leaves_at + (number + 1) * LEAF_WORDS * sizeof(uint64_t);
+        if (need > atomic_load(&table.leaves.ready) && !grow(&table.leaves, need))
+            return -1;
+    } while (!atomic_compare_exchange_weak(leaves, &number, number + 1));
+    return number;
 }

@@ -25,11 +25,17 @@ struct caller {
 
 /* ---- table.c: the file, and its entries ---- */
 
+/* A part of the file that grows: from `start` to `end`, of which what lies before `ready` may be written. */
+struct area {
+    uint64_t start, end;
+    _Atomic uint64_t ready;
+    _Atomic uint32_t full;
+};
+
 struct table {
     struct table_head *head;    /* the whole file, mapped */
-    uint64_t room;              /* its bytes, of which .. */
-    _Atomic uint64_t ready;     /* .. so many may be written */
-    _Atomic uint32_t full;
+    struct area entries;        /* with the head in front */
+    struct area leaves;
     size_t words;               /* of an entry */
 };
 
@@ -42,10 +48,16 @@ int open_table(size_t depth);
 void remove_table(void);
 int64_t take_entry(void);
 void give_entry(uint32_t number);
+int64_t new_leaf(void);
 
 static inline _Atomic uint64_t *entry(uint32_t number)
 {
     return (_Atomic uint64_t *)((char *)table.head + HEAD_BYTES) + (size_t)number * table.words;
+}
+
+static inline _Atomic uint64_t *leaf(uint32_t number)
+{
+    return (_Atomic uint64_t *)((char *)table.head + table.leaves.start) + (size_t)number * LEAF_WORDS;
 }
 
 static inline uint64_t get(_Atomic uint64_t *word)
@@ -72,7 +84,7 @@ struct rule_cell {
     _Atomic uint64_t key, rule;
 };
 
-enum { STACKS = 16, RULES = 4096, LEAST_CELL_BITS = 15, MOST_CELL_BITS = 30 };
+enum { STACKS = 16, RULES = 4096, LEAST_CELL_BITS = 15, MOST_CELL_BITS = 30, LEAF_CELL_BITS = 20 };
 
 /* Private memory, which the kernel zeroes in a child of fork (MADV_WIPEONFORK). So a child is not traced
  * until `after_fork` has given it a table of its own, and a child of a bare clone never is. */
@@ -82,6 +94,7 @@ struct finder {
     char line[56];
     struct unused unused[STACKS];
     struct rule_cell rules[RULES];
+    _Atomic uint64_t leaf_cells[1 << LEAF_CELL_BITS] __attribute__((aligned(4096)));
     _Atomic uint32_t cells[] __attribute__((aligned(4096)));
 };
 
@@ -91,11 +104,17 @@ int open_finder(size_t blocks);
 uint64_t finder_bytes(void);
 void insert(uintptr_t start, size_t size, uint64_t stamp, const uintptr_t *callers, size_t depth);
 int take_out(uintptr_t start, uint64_t *copy);
+int64_t set_aside(uintptr_t start, uint64_t *copy);
+void let_go(int64_t number);
 
 static inline int tracing(void)
 {
     return finder && atomic_load_explicit(&finder->on, memory_order_relaxed);
 }
+
+/* ---- pieces.c: which memory was ever in a small block ---- */
+
+void keep_pieces(uintptr_t start, size_t size);
 
 /* ---- callers.c: who asked for a block ---- */
 

@@ -42,7 +42,9 @@ static const struct table_head *head_of(struct file file, const struct core *cor
     if (file.size < HEAD_BYTES || memcmp(head->magic, TABLE_MAGIC, sizeof head->magic))
         fail(file.path, "not a table of leak_trace");
     if (head->depth < 1 || head->depth > MAX_DEPTH
-        || head->used > (file.size - HEAD_BYTES) / 8 / (ENTRY_CALLERS + head->depth))
+        || head->used > (file.size - HEAD_BYTES) / 8 / (ENTRY_CALLERS + head->depth)
+        || head->leaves_at > file.size || head->leaves_at % 8
+        || head->leaves > (file.size - head->leaves_at) / 8 / LEAF_WORDS)
         fail(file.path, "the table is cut off");
     for (size_t i = 0; i < core->part_count; i++)
         if (core->parts[i].start == head->base && !core->parts[i].offset)
@@ -55,9 +57,11 @@ struct blocks read_table(struct file file, const struct core *core)
     const struct table_head *head = head_of(file, core);
     struct blocks blocks = { .depth = head->depth, .base = head->base };
     const uint64_t *word = (const uint64_t *)(file.bytes + HEAD_BYTES);
+    size_t moving = 0;
 
     for (uint64_t i = 0; i < head->used; i++, word += ENTRY_CALLERS + head->depth) {
-        if (!word[ENTRY_START])
+        moving += word[ENTRY_START] && !(word[ENTRY_START] & ENTRY_HELD);
+        if (!(word[ENTRY_START] & ENTRY_HELD))
             continue;
         blocks.list = grown(blocks.list, blocks.count, sizeof *blocks.list);
         blocks.list[blocks.count++] = (struct block){ ~word[ENTRY_START], ~word[ENTRY_SIZE], ~word[ENTRY_STAMP],
@@ -70,6 +74,10 @@ struct blocks read_table(struct file file, const struct core *core)
     if (head->missed)
         fprintf(stderr, "leak_log: %llu blocks found no place in the table: leaks among them are not named\n",
                 (unsigned long long)head->missed);
+    if (moving)
+        fprintf(stderr, "leak_log: %zu blocks are just being moved by realloc: nobody knows where to, so that the log "
+                "has no freed memory, and --skip-freed changes little\n", moving);
+    blocks.knows_freed = !moving && !head->missed;
     if (dropped)
         fprintf(stderr, "leak_log: %zu blocks were freed behind leak_trace's back: others of those may be named "
                 "wrongly\n", dropped);
@@ -84,7 +92,7 @@ static int begins(const char *at, const char *stop, const char *with)
 /* What an earlier log of leak_log leaves live: of each start the last line, where it allocates. */
 struct blocks read_log(struct file file)
 {
-    static const char head[] = "= leak_log moment 0x", base[] = " table 0x", came[] = "] + 0x", went[] = "- 0x";
+    static const char head[] = "= leak_log moment 0x", base[] = " table 0x", came[] = "] + 0x", went[] = "- 0x", freed[] = "+ 0x";
     const char *at = (const char *)file.bytes, *end = at + file.size, *stop;
     struct blocks blocks = { 0 };
     int is_ours = 0;
@@ -102,7 +110,7 @@ struct blocks read_log(struct file file)
             blocks.list = grown(blocks.list, blocks.count, sizeof *blocks.list);
             blocks.list[blocks.count] = (struct block){ strtoull(start, NULL, 16), where != NULL, blocks.count, NULL };
             blocks.count++;
-        } else
+        } else if (where || !begins(at, stop, freed))
             fail(file.path, "not a log of leak_log");
     }
     if (!is_ours)

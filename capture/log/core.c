@@ -82,7 +82,7 @@ void tell_undumped(const struct core *core, const struct table_head *head)
         if (p->p_type != PT_LOAD || !(p->p_flags & PF_W))
             continue;
         all += p->p_memsz - p->p_filesz;
-        if (!p->p_filesz && (p->p_vaddr == head->base || p->p_vaddr - head->finder < head->finder_bytes))
+        if (!p->p_filesz && (p->p_vaddr - head->base < head->room || p->p_vaddr - head->finder < head->finder_bytes))
             own += p->p_memsz;
     }
     if (own)

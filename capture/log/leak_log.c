@@ -1,6 +1,6 @@
 /* leak_log CORE TABLE [--after LOG]: writes the blocks of a table that leak_trace.so kept as a log in the
- * format of glibc's mtrace, for leak_find. With --after it writes LOG first, which it made of an earlier
- * table of the same process, and then what came and went since. */
+ * format of glibc's mtrace, for leak_find, and before them what memory was freed. With --after it writes LOG
+ * first, which it made of an earlier table of the same process, and then what came and went since. */
 #include <errno.h>
 #include <fcntl.h>
 #include <stdio.h>
@@ -47,12 +47,13 @@ struct file open_file(const char *path)
     return file;
 }
 
-/* Writes the ends of the old blocks that are gone, and leaves the new ones in `blocks`. A block of the earlier
- * log is live still where the table has its start with a stamp of that time. Both ascend by start. */
-static void write_ends(const struct blocks *old, struct blocks *blocks)
+/* Writes the ends of the old blocks that are gone, and gives the new ones. A block of the earlier log is live
+ * still where the later table has its start with a stamp of that time. Both ascend by start. */
+static struct blocks write_ends(const struct blocks *old, const struct blocks *blocks)
 {
-    size_t left = 0;
+    struct blocks fresh = *blocks;
 
+    fresh.list = NULL, fresh.count = 0;
     for (size_t i = 0, k = 0; i < old->count || k < blocks->count;) {
         const struct block *was = old->list + i, *is = blocks->list + k;
         int gone = k == blocks->count || (i < old->count && was->start < is->start);
@@ -60,12 +61,14 @@ static void write_ends(const struct blocks *old, struct blocks *blocks)
         int anew = !gone && !came && is->stamp > old->moment;
         if (gone || anew)
             printf("- 0x%llx\n", (unsigned long long)was->start);
-        if (came || anew)
-            blocks->list[left++] = *is;
+        if (came || anew) {
+            fresh.list = grown(fresh.list, fresh.count, sizeof *fresh.list);
+            fresh.list[fresh.count++] = *is;
+        }
         i += !came;
         k += !gone;
     }
-    blocks->count = left;
+    return fresh;
 }
 
 int main(int count, char **arguments)
@@ -77,21 +80,26 @@ int main(int count, char **arguments)
         return 2;
     }
     struct core core = read_core(open_file(arguments[1]));
-    struct blocks blocks = read_table(open_file(arguments[2]), &core);
+    struct file table = open_file(arguments[2]);
+    struct blocks blocks = read_table(table, &core), fresh = blocks;
     if (is_later) {
         struct file log = open_file(arguments[4]);
         struct blocks old = read_log(log);
         if (old.base != blocks.base)
             fail(log.path, "the earlier log is of another process");
         fwrite(log.bytes, 1, log.size, stdout);
-        write_ends(&old, &blocks);
-        if (blocks.moment < old.moment)
-            blocks.moment = old.moment;
+        fresh = write_ends(&old, &blocks);
+        if (fresh.moment < old.moment)
+            fresh.moment = old.moment;
     }
-    printf("= leak_log moment 0x%llx table 0x%llx\n", (unsigned long long)blocks.moment, (unsigned long long)blocks.base);
-    qsort(blocks.list, blocks.count, sizeof *blocks.list, by_stamp);
-    for (size_t i = 0; i < blocks.count; i++)
-        print_block(&core, blocks.list + i, blocks.depth);
+    printf("= leak_log moment 0x%llx table 0x%llx\n", (unsigned long long)fresh.moment,
+           (unsigned long long)fresh.base);
+    if (blocks.knows_freed)
+        write_freed(table, &blocks);
+    if (fresh.count)
+        qsort(fresh.list, fresh.count, sizeof *fresh.list, by_stamp);
+    for (size_t i = 0; i < fresh.count; i++)
+        print_block(&core, fresh.list + i, fresh.depth);
     if (fflush(stdout) || ferror(stdout))
         fail("standard output", strerror(errno));
     return 0;

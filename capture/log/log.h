@@ -40,6 +40,7 @@ struct blocks {
     uint64_t depth;             /* callers of a block */
     uint64_t moment;            /* the newest stamp */
     uint64_t base;              /* where the process has its table */
+    int knows_freed;            /* is what is in none of them free? */
 };
 
 /* leak_log.c */
@@ -52,6 +53,8 @@ struct core read_core(struct file file);
 void tell_undumped(const struct core *core, const struct table_head *head);
 
 /* place.c */
+void put_text(const char *text);
+void put_hex(const char *before, uint64_t value);
 void print_block(const struct core *core, const struct block *block, uint64_t depth);
 
 /* blocks.c */
@@ -59,5 +62,8 @@ int by_start(const void *a, const void *b);
 int by_stamp(const void *a, const void *b);
 struct blocks read_table(struct file file, const struct core *core);
 struct blocks read_log(struct file file);
+
+/* freed.c */
+void write_freed(struct file file, const struct blocks *live);
 
 #endif

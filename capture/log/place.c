@@ -51,13 +51,13 @@ static struct part *part_of(const struct core *core, uint64_t address)
     return core->parts + low;
 }
 
-static void put_text(const char *text)
+void put_text(const char *text)
 {
     fputs_unlocked(text, stdout);
 }
 
 /* In hexadecimal: printf would take half of the time of a whole log. */
-static void put_hex(const char *before, uint64_t value)
+void put_hex(const char *before, uint64_t value)
 {
     char digits[16];
     int at = sizeof digits;

@@ -10,12 +10,17 @@ wrong=0
 for _ in $(seq "$moments"); do
     dump $busy "$work/threads" && python3 "$kit/tests/slots.py" ./threads threads.core threads.log > slots || { cat slots; wrong=$((wrong + 1)); }
     search threads
+    "$finder" one --skip-freed threads.core threads.log > freed.report 2>&1
+    strangers freed.report >> strangers
+    awk '$1 == "freed" { print $2 > 0 }' freed.report >> freed
+    python3 "$kit/tests/spans.py" threads.log > spans || { cat spans; wrong=$((wrong + 1)); }
     strangers threads.report >> strangers
     grep -c '^leak ' threads.report >> counts
     sleep 0.$((RANDOM % 90 + 10))
 done
 verdict "entries, at $moments moments" 0 $wrong
 verdict 'wrongly named' '' "$(cat strangers)"
+echo "     freed memory was known at $(grep -c 1 freed) of $moments moments"
 echo "     of 600 lost blocks were named: $(sort -n counts | tr '\n' ' ')"
 
 echo "== pairs of dumps"
@@ -25,6 +30,9 @@ for i in 1 2 3; do
         "$finder" two two$((i - 1)).{core,log} two$i.{core,log} > two.report 2>&1
         verdict "pair $i is taken" 1 $?
         verdict 'wrongly named' '' "$(strangers two.report)"
+        "$finder" two --skip-freed two$((i - 1)).{core,log} two$i.{core,log} > freed.report 2>&1
+        verdict 'wrongly named without freed memory' '' "$(strangers freed.report)"
+        verdict 'spans' 'over no live block' "$(python3 "$kit/tests/spans.py" two$i.log | sed 's/.*, //')"
         echo "     $(grep -E '^(blocks|new|leaked|unknown)' two.report | tr '\n' ' ')"
     fi
     sleep 0.4

@@ -75,6 +75,7 @@ echo "== threads that free each other's blocks"
 build exchange.c
 verdict exchange 'wrong 0 others few missed 0' "$("$kit/leak_trace" ./exchange "$work/table" 2> /dev/null)"
 
+. "$kit/tests/freed.sh"
 . "$kit/tests/frames.sh"
 . "$kit/tests/tables.sh"
 [ "$attaches" ] && . "$kit/tests/moments.sh"

@@ -2,8 +2,9 @@
  *
  * The stepped process takes its blocks from the allocator below, which keeps the truth: `taken`, set as the last thing
  * that its malloc does with a place and cleared as the first thing that its free does; and `held`, the blocks that the
- * program has.  After each instruction (1) what the table has is taken, with its size, and (2) what is held is in the
- * table once.  The program's memory at that moment is what a core would show. */
+ * program has.  After each instruction (1) what the table has is taken, with its size, (2) what is held is in the
+ * table once, and (3) a block that realloc has is in the table, or is said to be moving: else its words would count as
+ * freed memory.  The program's memory at that moment is what a core would show. */
 #define _GNU_SOURCE
 #include <fcntl.h>
 #include <stdint.h>
@@ -16,7 +17,7 @@
 #include <unistd.h>
 #include "../table.h"
 enum { PLACES = 256, PLACE = 256, HELD = 8, ROUNDS = 400 };
-struct truth { char places[PLACES][PLACE]; uint64_t taken[PLACES], base; struct { uint64_t start, size; } held[HELD]; };
+struct truth { char places[PLACES][PLACE]; uint64_t taken[PLACES], base; struct { uint64_t start, size; } held[HELD]; int moving; };
 #ifdef ALLOCATOR
 static struct truth *truth;
 static void make(void)
@@ -64,7 +65,11 @@ static int stepped(void)
         t->held[k].start = 0;
         __asm__ volatile("" ::: "memory");
         if (x & 0x40000000 && p) {
+            t->moving = 1;
+            __asm__ volatile("" ::: "memory");
             void *q = realloc(p, n);
+            __asm__ volatile("" ::: "memory");
+            t->moving = 0;
             if (!q) q = p, n = old;
             p = q;
         } else {
@@ -97,9 +102,11 @@ int main(int argc, char **argv)
     for (;; steps++) {
         ptrace(PTRACE_SINGLESTEP, p, 0, 0);
         if (waitpid(p, &status, 0) != p || !WIFSTOPPED(status)) break;
+        int held = t->moving, there = 0;
         for (uint64_t i = 0; i < h->used; i++) {
             volatile uint64_t *e = (uint64_t *)((char *)h + HEAD_BYTES) + i * words;
-            if (!e[0]) continue;
+            there += e[0] != 0;
+            if (!(e[0] & ENTRY_HELD)) continue;
             seen++;
             uint64_t place = (~e[0] - t->base) / PLACE;
             if (~e[0] < t->base || place >= PLACES || (t->base + place * PLACE) != ~e[0] || t->taken[place] != ~e[1] + 1)
@@ -111,9 +118,12 @@ int main(int argc, char **argv)
                 volatile uint64_t *e = (uint64_t *)((char *)h + HEAD_BYTES) + i * words;
                 times += e[0] == ~t->held[k].start && e[1] == ~t->held[k].size;
             }
+            held += t->held[k].start != 0;
             if (t->held[k].start && times != 1)
                 return printf("step %ld: a held block is %d times in the table\n", steps, times), 1;
         }
+        if (there < held)
+            return printf("step %ld: a block that realloc has is not there\n", steps), 1;
     }
     printf("%ld instructions, %ld entries looked at, none wrong\n", steps, seen);
     return !(WIFEXITED(status) && !WEXITSTATUS(status));

@@ -1,0 +1,86 @@
+/* Freed memory: what was ever in a block of less than 128 KiB, and is in none now. */
+#include <stdio.h>
+#include <stdlib.h>
+
+#include "log.h"
+
+/* Written as blocks that come and go, each less than 128 KiB. */
+enum { MOST = SMALL_BELOW - 16 };
+
+struct walk {
+    const struct blocks *live;
+    size_t next;                /* the first live block that lies behind the words that were looked at */
+    uint64_t covered;           /* the end of those before */
+    uint64_t from, to;          /* free words in a row */
+};
+
+/* A single word is left out: it is mostly the size that glibc keeps between two blocks, and there is one behind
+ * every second block. */
+static void write_row(const struct walk *walk)
+{
+    uint64_t size;
+
+    for (uint64_t at = walk->from; walk->to - walk->from > 8 && at < walk->to; at += size) {
+        size = walk->to - at < MOST ? walk->to - at : MOST;
+        put_hex("+ 0x", at);
+        put_hex(" 0x", size);
+        put_hex("\n- 0x", at);
+        put_text("\n");
+    }
+}
+
+/* A word that was in a block once: it is free where no block has a byte of it now. One of size 0 counts as one byte. */
+static void look_at(struct walk *walk, uint64_t word)
+{
+    const struct block *block = walk->live->list + walk->next;
+
+    for (; walk->next < walk->live->count && block->start < word + 8; block++, walk->next++) {
+        uint64_t end = block->start + (block->size ? block->size : 1);
+        if (walk->covered < end)
+            walk->covered = end;
+    }
+    if (walk->covered > word)
+        return;
+    if (walk->to != word) {
+        write_row(walk);
+        walk->from = word;
+    }
+    walk->to = word + 8;
+}
+
+static int by_region(const void *a, const void *b)
+{
+    uint64_t x = **(uint64_t *const *)a, y = **(uint64_t *const *)b;
+
+    return (x < y) - (x > y);   /* they are complemented */
+}
+
+/* Writes what is free, given all live blocks by ascending start. */
+void write_freed(struct file file, const struct blocks *live)
+{
+    const struct table_head *head = (const void *)file.bytes;
+    const uint64_t *first = (const uint64_t *)(file.bytes + head->leaves_at), **leaves = NULL;
+    struct walk walk = { .live = live };
+    size_t count = 0;
+
+    for (uint64_t i = 0; i < head->leaves; i++)
+        if (first[i * LEAF_WORDS]) {
+            leaves = grown(leaves, count, sizeof *leaves);
+            leaves[count++] = first + i * LEAF_WORDS;
+        }
+    if (count)
+        qsort(leaves, count, sizeof *leaves, by_region);
+    for (size_t i = 0; i < count; i++)
+        for (uint64_t piece = 0; piece < LEAF_BITS; piece++) {
+            uint64_t bits = leaves[i][1 + piece / 64] >> piece % 64;
+            if (!bits) {
+                piece |= 63;
+                continue;
+            }
+            piece += __builtin_ctzll(bits);
+            look_at(&walk, (~leaves[i][0] << REGION_BITS) + (piece << PIECE_BITS));
+            look_at(&walk, (~leaves[i][0] << REGION_BITS) + (piece << PIECE_BITS) + 8);
+        }
+    write_row(&walk);
+    free(leaves);
+}
