@@ -84,11 +84,12 @@ static int publish(uintptr_t start, uint32_t number)
     return 0;
 }
 
-/* Writes a block into the table: first what its entry says, then its start, then its cell. */
+/* Writes a block into the table: first what its entry says, then its start, then its cell. Its pieces come before
+ * all: what is in no entry yet holds nothing, but in realloc, which says so. */
 void insert(uintptr_t start, size_t size, uint64_t stamp, const uintptr_t *callers, size_t depth)
 {
+    keep_pieces(start, size);
     int64_t number = take_entry();
-
     if (number >= 0) {
         _Atomic uint64_t *word = entry(number);
         put(word + ENTRY_SIZE, ~(uint64_t)size);
@@ -96,10 +97,8 @@ void insert(uintptr_t start, size_t size, uint64_t stamp, const uintptr_t *calle
         for (size_t k = 0; k < table.words - ENTRY_CALLERS; k++)
             put(word + ENTRY_CALLERS + k, ~(k < depth ? (uint64_t)callers[k] : 0));
         atomic_store_explicit(word, ~(uint64_t)start, memory_order_release);
-        if (publish(start, number)) {
-            keep_pieces(start, size);
+        if (publish(start, number))
             return;
-        }
         put(word, 0);
         give_entry(number);
     }

@@ -4,9 +4,9 @@
  * A block that has a part of a piece counts for all of it: the rest is the allocator's. */
 #include "trace.h"
 
-/* A cell is 0 (never used), or the number of a region, and below it that of its leaf plus 1. 512 regions in a
- * row, 32 MiB of the heap, share a page of cells. */
-enum { NUMBER_BITS = 32, CELL_PROBES = 16, ROW_BITS = 9 };
+/* A cell is 0 (never used), or the number of a region, and below it at which word of the leaves its bits begin.
+ * 512 regions in a row, 32 MiB of the heap, share a page of cells. */
+enum { BEGIN_BITS = 32, CELL_PROBES = 16, ROW_BITS = 9 };
 
 static inline _Atomic uint64_t *leaf_cell(uint64_t region, unsigned n)
 {
@@ -17,7 +17,7 @@ static inline _Atomic uint64_t *leaf_cell(uint64_t region, unsigned n)
 
 static inline _Atomic uint64_t *bits_of(uint64_t cell)
 {
-    return leaf((uint32_t)cell - 1) + 1;
+    return table.first_leaf + (uint32_t)cell;
 }
 
 /* Gives the region a leaf, by a cell that is 0, and what stands in the cell then: another thread may have been
@@ -25,26 +25,26 @@ static inline _Atomic uint64_t *bits_of(uint64_t cell)
 static uint64_t add_leaf(_Atomic uint64_t *cell, uint64_t region)
 {
     int64_t number = new_leaf();
-    uint64_t value = 0, wanted = region << NUMBER_BITS | (uint64_t)(number + 1);
+    uint64_t value = 0, begin = number * LEAF_WORDS + 1, wanted = region << BEGIN_BITS | begin;
 
     if (number < 0)
         return 0;
-    put(leaf(number), ~region);
+    put(table.first_leaf + begin - 1, ~region);
     if (atomic_compare_exchange_strong(cell, &value, wanted))
         return wanted;
-    put(leaf(number), 0);
+    put(table.first_leaf + begin - 1, 0);
     return value;
 }
 
 /* The bits of a region, or null where there is no room for them. */
 static _Atomic uint64_t *find_bits(uint64_t region)
 {
-    for (unsigned n = 0; n < CELL_PROBES && region >> NUMBER_BITS == 0; n++) {
+    for (unsigned n = 0; n < CELL_PROBES && region >> BEGIN_BITS == 0; n++) {
         _Atomic uint64_t *cell = leaf_cell(region, n);
         uint64_t value = get(cell);
         if (!value && !(value = add_leaf(cell, region)))
             return NULL;
-        if (value >> NUMBER_BITS == region)
+        if (value >> BEGIN_BITS == region)
             return bits_of(value);
     }
     return NULL;
@@ -70,7 +70,7 @@ void keep_pieces(uintptr_t start, size_t size)
     uint64_t piece = start >> PIECE_BITS, last = (start + size - 1) >> PIECE_BITS, region = start >> REGION_BITS;
     uint64_t cell = get(leaf_cell(region, 0)), more = last - piece, at = piece % LEAF_BITS;
 
-    if (cell >> NUMBER_BITS == region && more < 64 && at + more < LEAF_BITS) {
+    if (cell >> BEGIN_BITS == region && more < 64 && at + more < LEAF_BITS) {
         _Atomic uint64_t *word = bits_of(cell) + at / 64;
         uint64_t all = ~0ull >> (63 - more), low = all << at % 64, high = all >> 1 >> (63 - at % 64);
         if (!((low & ~get(word)) | (high & ~get(word + !!high))))

@@ -111,7 +111,8 @@ int open_table(size_t depth)
     table.head->finder = (uintptr_t)finder;
     table.head->finder_bytes = finder_bytes();
     table.head->room = room;
-    table.head->leaves_at = table.entries.end;
+    table.head->leaves_at = table.leaves.start;
+    table.first_leaf = (_Atomic uint64_t *)((char *)map + table.leaves.start);
     snprintf(table.head->program, PROGRAM_BYTES, "%s", program_name);
     memcpy(table.head->magic, TABLE_MAGIC, sizeof table.head->magic);
     return 1;

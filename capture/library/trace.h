@@ -36,6 +36,7 @@ struct table {
     struct table_head *head;    /* the whole file, mapped */
     struct area entries;        /* with the head in front */
     struct area leaves;
+    _Atomic uint64_t *first_leaf;
     size_t words;               /* of an entry */
 };
 
@@ -53,11 +54,6 @@ int64_t new_leaf(void);
 static inline _Atomic uint64_t *entry(uint32_t number)
 {
     return (_Atomic uint64_t *)((char *)table.head + HEAD_BYTES) + (size_t)number * table.words;
-}
-
-static inline _Atomic uint64_t *leaf(uint32_t number)
-{
-    return (_Atomic uint64_t *)((char *)table.head + table.leaves.start) + (size_t)number * LEAF_WORDS;
 }
 
 static inline uint64_t get(_Atomic uint64_t *word)

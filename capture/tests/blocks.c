@@ -28,7 +28,7 @@ int main(int argc, char **argv)
     long table_kb = 0, finder_kb = 0;
     while (fgets(line, sizeof line, f)) {
         if (strchr(line, '-') && strchr(line, ' ') && line[0] != ' ' && strstr(line, "-") < line + 13) { table = strstr(line, "rw-s") != NULL; finder = 0; }
-        if (sscanf(line, "Size: %ld", &v) == 1 && v >= 262144 && v < 262400) finder = 1;
+        if (sscanf(line, "Size: %ld", &v) == 1 && v >= 270336 && v < 270500) finder = 1;
         if (sscanf(line, "Rss: %ld", &v) == 1) { rss += v; if (table) table_kb += v; if (finder) finder_kb += v; }
     }
     printf("resident: all %ld KiB, table %ld KiB (%.1f bytes a block), finder %ld KiB (%.1f bytes a block)\n", rss, table_kb, table_kb * 1024.0 / n, finder_kb, finder_kb * 1024.0 / n);
