@@ -6,6 +6,7 @@
 #include "lose.h"
 static void *volatile held[100];
 static int count;
+enum { MANY = 17 };
 /* What is held behind a block keeps it from the top of the heap. */
 static void *volatile *before_a_held_block(void *block) { held[count++] = malloc(100); return block; }
 __attribute__((noinline)) static void **begin(void)
@@ -57,22 +58,23 @@ __attribute__((noinline)) static void last_word(void)
     p[2] = malloc(157);
     free((void *)p);
 }
-/* From 128 KiB on freed memory is left alone, also where it is not mapped by itself. */
+/* From 128 KiB on freed memory is left alone, also where it is not mapped by itself. It comes last, for memory that was
+ * never in a small block. */
 __attribute__((noinline)) static void large(void)
 {
     void *volatile *p = before_a_held_block(malloc(150000));
     p[9000] = malloc(189);
     free((void *)p);
 }
-/* Free memory of more than 128 KiB, that was given out in small blocks. */
+/* Free memory of more than 128 KiB, that was given out in small blocks, of which each ends where the next begins. */
 __attribute__((noinline)) static void many(void)
 {
-    void *volatile *p[40];
-    for (int i = 0; i < 40; i++)
-        p[i] = malloc(8000);
-    p[20][500] = malloc(125);
+    void *volatile *p[MANY];
+    for (int i = 0; i < MANY; i++)
+        p[i] = malloc(8008);
+    p[10][500] = malloc(125);
     held[count++] = malloc(100);
-    for (int i = 0; i < 40; i++)
+    for (int i = 0; i < MANY; i++)
         free((void *)p[i]);
 }
 int main(int argc, char **argv)
@@ -87,10 +89,10 @@ int main(int argc, char **argv)
     shrunk(), scrub();
     moved(), scrub();
     if (pthread_create(&t, NULL, thread, NULL)) return 1;
-    large(), scrub();
     many(), scrub();
     in_use_again(), scrub();
     aligned(), scrub();
     last_word(), scrub();
+    large(), scrub();
     rest();
 }
