@@ -118,11 +118,12 @@ if [ -n "$dead" ]; then
 fi
 
 # hidden.c: three blocks are lost, and no search without an option names one. --skip-freed names the one whose pointer is left in
-# freed memory.
+# freed memory, and --skip-links those in whose last bytes malloc keeps the header of free memory.
 # hidden_by CORE LOG
 hidden_by() {
     check "hidden: without an option" "blocks 5 bytes 439" "" "" one "$1" "$2"
     check "hidden: --skip-freed" "blocks 5 bytes 439" "45" "45" one --skip-freed "$1" "$2"
+    check "hidden: --skip-freed --skip-links" "blocks 5 bytes 439" "45 56 72" "45 56 72" one --skip-freed --skip-links "$1" "$2"
 }
 start hidden
 dump hidden 1
