@@ -45,4 +45,5 @@ pub use linking::mark_by_links;
 pub use marked::Marked;
 pub use marking::{mark, mark_from};
 pub use plan::{Plan, PlanError};
+pub use scope::of_memory;
 pub use start::{Part, Start};

@@ -91,7 +91,7 @@ impl<'a, W: Words, L: Lookup> Scope<'a, W, L> {
 
 /// The blocks that the root words of a range of memory lead to, with malloc's links to free chunks or without, as the
 /// roots say.
-pub(crate) fn of_memory<'a, W: Words, L: Lookup>(
+pub fn of_memory<'a, W: Words, L: Lookup>(
     words: &'a W,
     lookup: &'a L,
     live: &'a Live,

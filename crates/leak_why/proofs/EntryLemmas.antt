@@ -9,9 +9,10 @@ use Rattle.leak_marks.specs.Lists.{Has, IsDistinct}
 use Rattle.leak_marks.proofs.ListLemmas.{times-append, times_one, distinct_back, none_has, here, at_head, has_front, has_back, of_append}
 use Rattle.leak_marks.proofs.ElementLemmas.{has_map, of_map, has_at}
 use Rattle.leak_index.specs.Hits.{Index}
-use Rattle.leak_roots.specs.Places.{Places, words_at}
+use Rattle.leak_roots.specs.Places.{Places}
 use Rattle.leak_blocks.specs.declared.block.Block.{Block}
 use Rattle.leak_scan.specs.Targets.{targets_of, block_words, block_targets}
+use Rattle.leak_pool.specs.Marking.{led_by_roots}
 use Rattle.leak_pool.specs.Alone.{AreTaken}
 use Rattle.leak_pool.proofs.GraphLemmas.{graph-first}
 use Rattle.leak_why.proofs.WordLemmas.{block_target}
@@ -24,7 +25,7 @@ use Rattle.leak_why.specs.declared.found.Origin.{Origin}
 use Rattle.leak_why.specs.declared.found.Origin.TheVariants.{Registers}
 use Rattle.leak_why.specs.declared.found.Source.{Source}
 use Rattle.leak_why.specs.declared.found.Source.TheVariants.{Root, Earlier}
-use Rattle.leak_why.specs.Entries.{AreFound, IsAt, IsNear, IsScanned, IsSpread, Spreads, IsOrigin, IsLedBy, AreLedByRoots, AreLedByBlocks, AreRooted, AreFollowed, AreWhole, AreLinks, blocks_of, words_from}
+use Rattle.leak_why.specs.Entries.{AreFound, IsAt, IsNear, IsScanned, IsSpread, Spreads, IsOrigin, IsLedBy, AreLedByRoots, AreLedByBlocks, AreRooted, AreFollowed, AreWhole, AreLinks, blocks_of, led_of_origin}
 
 -- what stands for an entry past the end of a list
 abbrev pub nothing : Entry
@@ -349,7 +350,7 @@ of_roots_none word_at index p es none = record {
     impossible : (i : ℕ) (e : Entry) → slice_get es i ≡ Some e → ⊥
     impossible i e h = let l = slice_get_within [] i e (subst (λ (xs : List Entry). slice_get xs i ≡ Some e) none h) in omega arith
 
-pub of_roots_more : (word_at : ℕ → Option ℕ) (index : Index) (p : Places) (o : Origin) (targets : List ℕ) (es after : List Entry) → IsOrigin p o → targets ≡ targets_of index (words_from word_at p o)
+pub of_roots_more : (word_at : ℕ → Option ℕ) (index : Index) (p : Places) (o : Origin) (targets : List ℕ) (es after : List Entry) → IsOrigin p o → targets ≡ led_of_origin word_at index p o
     → AreFound (Root o) targets es after → AreOfRoots word_at index p es → AreOfRoots word_at index p after
 of_roots_more word_at index p o targets es after is same f r = subst (λ (l : List Entry). AreOfRoots word_at index p l) (sym f.grown) (record {
   roots = λ i e h. ⊎_elim (λ old. r.roots i e old)
@@ -358,7 +359,7 @@ of_roots_more word_at index p o targets es after is same f r = subst (λ (l : Li
   led = λ i e n h s. ⊎_elim (λ old. r.led i e n old s)
       (λ new. let q : (k : ℕ) × (i ≡ length es + k) × (slice_get f.more k ≡ Some e) = new in
       let e_is : o ≡ n = root_same o n (sym (here_is q.0 e q.2).0 ∙ s) in
-      subst (λ (x : Origin). IsOrigin p x × Has (targets_of index (words_from word_at p x)) e.block) e_is (is, subst (λ (l : List ℕ). Has l e.block) same (here_is q.0 e q.2).1))
+      subst (λ (x : Origin). IsOrigin p x × Has (led_of_origin word_at index p x) e.block) e_is (is, subst (λ (l : List ℕ). Has l e.block) same (here_is q.0 e q.2).1))
       (get_back es f.more i e h);
 })
   where
@@ -374,7 +375,7 @@ pub followed_first : (word_at : ℕ → Option ℕ) (index : Index) (p : Places)
 followed_first word_at index p es r = record {
   by_roots = r.led;
   by_blocks = λ i j e h s. let o : (o : Origin) × (e.source ≡ Root o) = r.roots i e h in absurd (not_both e.source o.0 j o.1 s);
-  spread = spreads_first (search_graph word_at index p) es r.roots (λ b h. r.covers b (subst (λ (l : List ℕ). Has l b) (graph-first word_at index (words_at word_at p) []) h));
+  spread = spreads_first (search_graph word_at index p) es r.roots (λ b h. r.covers b (subst (λ (l : List ℕ). Has l b) (graph-first word_at index (led_by_roots word_at index p) []) h));
 }
 
 pub followed_more : (word_at : ℕ → Option ℕ) (index : Index) (p : Places) (es after : List Entry) (n : ℕ) (e : Entry) → slice_get es n ≡ Some e → e.block < length index.blocks

@@ -3,29 +3,35 @@
 use Rattle.std.specs.Prelude.{◌≡◌, ℕ, ◌+◌, ◌≤◌, List, [], ◌∷◌, length, Option, Some, None, slice_get}
 use Rattle.leak_blocks.specs.declared.block.Block.{Block}
 use Rattle.leak_index.specs.Hits.{Index, hits_of}
-use Rattle.leak_roots.specs.Places.{Places, memory_places, words_at}
+use Rattle.leak_roots.specs.Places.{Places, memory_places}
 use Rattle.leak_marks.specs.Lists.{Has}
 use Rattle.leak_marks.specs.Reach.{Graph}
-use Rattle.leak_pool.specs.Marking.{graph_of}
+use Rattle.leak_pool.specs.Marking.{graph_of, led_by_roots}
 use Rattle.leak_why.specs.declared.chain.RootPlace.{RootPlace}
 use Rattle.leak_why.specs.declared.chain.RootPlace.TheVariants.{Register, Address}
 use Rattle.leak_why.specs.declared.chain.RootWord.{RootWord}
 use Rattle.leak_why.specs.declared.chain.Link.{Link}
 use Rattle.leak_why.specs.declared.chain.Chain.{Chain}
+use Rattle.leak_why.specs.Leading.{led_by}
 
 -- the graph of the search: what the root words and what each block's words lead to
 abbrev pub search_graph : (ℕ → Option ℕ) → Index → Places → Graph
-search_graph word_at index p = graph_of word_at index (words_at word_at p) []
+search_graph word_at index p = graph_of word_at index (led_by_roots word_at index p) []
 
 -- the root word stands at the place
 abbrev pub StandsAt : (ℕ → Option ℕ) → Places → ℕ → RootPlace → Type 0
 StandsAt word_at p word (Register i) = slice_get p.registers i ≡ Some word
 StandsAt word_at p word (Address a) = Has (memory_places p.memory) a × (word_at a ≡ Some word)
 
+-- the blocks that the root word at the place leads to: in memory without links to free chunks, where they are left out
+abbrev pub led_at : (ℕ → Option ℕ) → Index → Places → ℕ → RootPlace → List ℕ
+led_at word_at index p word (Register i) = hits_of index word
+led_at word_at index p word (Address a) = led_by p.skips_links word_at index a word
+
 -- a root word, which leads to the block with the number
 pub record IsRoot (word_at : ℕ → Option ℕ) (index : Index) (p : Places) (root : RootWord) (block : ℕ) : Type 0 where
   pub stands : StandsAt word_at p root.word root.place
-  pub leads : Has (hits_of index root.word) block
+  pub leads : Has (led_at word_at index p root.word root.place) block
 
 -- the 8 bytes from the address on all lie in the block
 pub record LiesIn (address : ℕ) (b : Block) : Type 0 where

@@ -1,11 +1,11 @@
 -- Blocks in the order in which they were found, each with what led to it first.
 use Rattle.std.specs.Prelude.{◌≡◌, ℕ, zero, suc, ◌<◌, ◌≤◌, List, [], ◌∷◌, ◌++◌, length, map, Option, Some, slice_get, slice_index_or, ⊤}
 use Rattle.std.specs.List.{AllByRecursion}
-use Rattle.leak_elf.specs.Words.{words_between}
 use Rattle.leak_blocks.specs.declared.block.Block.{Block}
 use Rattle.leak_index.specs.Hits.{Index}
-use Rattle.leak_roots.specs.Places.{Places, words_at}
+use Rattle.leak_roots.specs.Places.{Places, addresses_in}
 use Rattle.leak_scan.specs.Targets.{targets_of, block_targets}
+use Rattle.leak_pool.specs.Marking.{led_by_roots, led_in_memory}
 use Rattle.leak_marks.specs.Lists.{Has, Within, IsDistinct}
 use Rattle.leak_marks.specs.Reach.{Graph, targets_of as targets_in}
 use Rattle.leak_why.specs.declared.chain.Link.{Link}
@@ -26,10 +26,11 @@ pub record AreFound (source : Source) (targets : List ℕ) (before after : List 
   pub gains : AllByRecursion (λ e. (e.source ≡ source) × Has targets e.block) more
   pub covers : Within targets (blocks_of after)
 
--- the words of the origin
-abbrev pub words_from : (ℕ → Option ℕ) → Places → Origin → List ℕ
-words_from word_at p Registers = p.registers
-words_from word_at p (Range i) = words_between word_at (slice_index_or p.memory i (0, 0)).0 (slice_index_or p.memory i (0, 0)).1
+-- what the root words of the origin lead to
+abbrev pub led_of_origin : (ℕ → Option ℕ) → Index → Places → Origin → List ℕ
+led_of_origin word_at index p Registers = targets_of index p.registers
+led_of_origin word_at index p (Range i) =
+    led_in_memory p.skips_links word_at index (addresses_in (slice_index_or p.memory i (0, 0)))
 
 -- there are such words
 abbrev pub IsOrigin : Places → Origin → Type 0
@@ -39,7 +40,7 @@ IsOrigin p (Range i) = i < length p.memory
 -- where a root word led to an entry, a word of its origin did
 abbrev pub AreLedByRoots : (ℕ → Option ℕ) → Index → Places → List Entry → Type 0
 AreLedByRoots word_at index p es = (i : ℕ) (e : Entry) (o : Origin) → slice_get es i ≡ Some e → e.source ≡ Root o
-    → IsOrigin p o × Has (targets_of index (words_from word_at p o)) e.block
+    → IsOrigin p o × Has (led_of_origin word_at index p o) e.block
 
 -- where an earlier entry did, a word of its block did
 abbrev pub IsLedBy : (ℕ → Option ℕ) → Index → List Entry → ℕ → Entry → Type 0
@@ -91,7 +92,7 @@ Spreads graph es n = (k : ℕ) × (turn : ℕ) × IsSpread graph es n k turn
 pub record AreRooted (word_at : ℕ → Option ℕ) (index : Index) (p : Places) (es : List Entry) : Type 0 where
   pub roots : (i : ℕ) (e : Entry) → slice_get es i ≡ Some e → (o : Origin) × (e.source ≡ Root o)
   pub led : AreLedByRoots word_at index p es
-  pub covers : Within (targets_of index (words_at word_at p)) (blocks_of es)
+  pub covers : Within (led_by_roots word_at index p) (blocks_of es)
 
 -- the first n entries are scanned, breadth first, and each entry is truly led to
 pub record AreFollowed (word_at : ℕ → Option ℕ) (index : Index) (p : Places) (es : List Entry) (n : ℕ) : Type 0 where

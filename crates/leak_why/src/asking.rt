@@ -14,7 +14,8 @@ use leak_roots::Roots;
 use std::alloc::{AllocError, Global};
 
 /// A shortest chain of words from the roots to the block with the number. None where no chain leads to it: the block is
-/// leaked.
+/// leaked. Where the roots leave out malloc's links to free chunks, a root word in memory that is such a link begins no
+/// chain at the block past which it is one.
 ///
 /// It goes once over the root words and the words of all blocks that chains reach, and then again over the words of the
 /// chain's blocks, and of one range of the roots, up to those of the chain.
@@ -27,16 +28,18 @@ pub fn why<W: Words, L: Lookup>(
     block: usize,
 ) -> Result<Option<Chain>, AllocError>
     requires { (L.index lookup.now).blocks ≡ live.now.blocks }
-    ensures why { IfOk result (IsWhy (W.word_at words.now) (L.index lookup.now) roots.now block) }
-    ensures reach { IfOk result (λ chain. IsSome chain ↔ Reach (search_graph (W.word_at words.now) (L.index lookup.now) roots.now) block) }
+    ensures why { IfOk result
+        (IsWhy (W.word_at words.now) (L.index lookup.now) roots.now block) }
+    ensures reach { let g = search_graph (W.word_at words.now) (L.index lookup.now) roots.now in
+        IfOk result (λ chain. IsSome chain ↔ Reach g block) }
 {
     let blocks = live.blocks();
-    let entries = spread(alloc, words, lookup, roots, blocks)?;
+    let entries = spread(alloc, words, lookup, roots, live)?;
     let Some(last) = number_of(entries.as_slice(), block) else {
         return Ok(None);
     };
     let mut links = Vec::new(alloc);
     let (origin, first) = trace(words, lookup, blocks, &entries, last, &mut links)?;
-    let root = root_of(words, lookup, roots, origin, first);
+    let root = root_of(words, lookup, live, roots, origin, first);
     Ok(Some(Chain { links, root }))
 }

@@ -6,9 +6,10 @@ ghost use Rattle.leak_pool.specs.Alone.{AreMarks};
 ghost use Rattle.leak_why.specs.Entries.{AreFound, AreRooted, AreFollowed, AreWhole, blocks_of};
 
 use crate::found::{Entry, Origin, Source};
-use leak_blocks::Block;
+use leak_blocks::{Block, Live};
 use leak_elf::Words;
 use leak_index::Lookup;
+use leak_pool::of_memory;
 use leak_roots::Roots;
 use leak_scan::Targets;
 use std::alloc::{AllocError, Global};
@@ -19,15 +20,17 @@ pub(crate) fn spread<W: Words, L: Lookup>(
     words: &W,
     lookup: &L,
     roots: &Roots,
-    blocks: &[Block],
+    live: &Live,
 ) -> Result<Vec<Entry>, AllocError>
-    requires { (L.index lookup.now).blocks ≡ blocks.now }
-    ensures { IfOk result (λ entries. AreWhole (W.word_at words.now) (L.index lookup.now) roots.now entries.items) }
+    requires { (L.index lookup.now).blocks ≡ live.now.blocks }
+    ensures { IfOk result (λ entries.
+        AreWhole (W.word_at words.now) (L.index lookup.now) roots.now entries.items) }
 {
+    let blocks = live.blocks();
     let mut seen = vec![in alloc; false; blocks.len()]?;
     let mut entries = Vec::new(alloc);
     let marks = seen.as_mut_slice();
-    find_first(words, lookup, roots, marks, &mut entries)?;
+    find_first(words, lookup, live, roots, marks, &mut entries)?;
     find_others(words, lookup, blocks, marks, &mut entries)?;
     Ok(entries)
 }
@@ -36,20 +39,23 @@ pub(crate) fn spread<W: Words, L: Lookup>(
 fn find_first<W: Words, L: Lookup>(
     words: &W,
     lookup: &L,
+    live: &Live,
     roots: &Roots,
     seen: &mut [bool],
     entries: &mut Vec<Entry>,
 ) -> Result<(), AllocError>
+    requires same_blocks { (L.index lookup.now).blocks ≡ live.now.blocks }
     requires blocks { length seen.old ≡ length (L.index lookup.now).blocks }
     requires none { entries.old.items ≡ [] }
     requires marks { AreMarks seen.old (blocks_of entries.old.items) }
     ensures marks { AreMarks seen.new (blocks_of entries.new.items) }
-    ensures done { IfOk result (λ _. AreRooted (W.word_at words.now) (L.index lookup.now) roots.now entries.new.items) }
+    ensures done { IfOk result (λ _.
+        AreRooted (W.word_at words.now) (L.index lookup.now) roots.now entries.new.items) }
 {
     let targets = Targets::of_registers(words, roots.registers(), lookup);
     find_all(targets, Source::Root(Origin::Registers), seen, entries)?;
     for (i, range) in roots.memory().iter().enumerate() {
-        let targets = Targets::of_range(words, lookup, range.0, range.1);
+        let targets = of_memory(words, lookup, live, roots, *range);
         find_all(targets, Source::Root(Origin::Range(i)), seen, entries)?;
     }
     Ok(())
@@ -67,7 +73,9 @@ fn find_others<W: Words, L: Lookup>(
     requires long { length seen.old ≡ length blocks.now }
     requires marks { AreMarks seen.old (blocks_of entries.old.items) }
     ensures marks { AreMarks seen.new (blocks_of entries.new.items) }
-    ensures done { IfOk result (λ _. (p : Places) → AreRooted (W.word_at words.now) (L.index lookup.now) p entries.old.items → AreFollowed (W.word_at words.now) (L.index lookup.now) p entries.new.items (length entries.new.items)) }
+    ensures done { let w = W.word_at words.now in let i = L.index lookup.now in
+        IfOk result (λ _. (p : Places) → AreRooted w i p entries.old.items
+        → AreFollowed w i p entries.new.items (length entries.new.items)) }
 {
     let mut scanned = 0;
     'follow: while scanned < entries.len() {
@@ -89,7 +97,8 @@ fn find_all<W: Words, L: Lookup>(
     requires inside { (b : ℕ) → Has targets b → b < length seen.old }
     requires marks { AreMarks seen.old (blocks_of entries.old.items) }
     ensures marks { AreMarks seen.new (blocks_of entries.new.items) }
-    ensures done { IfOk result (λ _. AreFound source targets.entry entries.old.items entries.new.items) }
+    ensures done { IfOk result (λ _.
+        AreFound source targets.entry entries.old.items entries.new.items) }
 {
     for block in targets {
         find(seen, entries, Entry { block, source })?;
@@ -102,7 +111,8 @@ fn find(seen: &mut [bool], entries: &mut Vec<Entry>, entry: Entry) -> Result<(),
     requires block { entry.block < length seen.old }
     requires marks { AreMarks seen.old (blocks_of entries.old.items) }
     ensures marks { AreMarks seen.new (blocks_of entries.new.items) }
-    ensures done { IfOk result (λ _. AreFound entry.source (entry.block ∷ []) entries.old.items entries.new.items) }
+    ensures done { IfOk result (λ _.
+        AreFound entry.source (entry.block ∷ []) entries.old.items entries.new.items) }
 {
     if seen[entry.block] {
         return Ok(());

@@ -20,11 +20,22 @@ fn lives(alloc: Global, text: &str) -> Result<Live, Fail> {
 
 /// Why the block with the number is held.
 fn answer(alloc: Global, core: &[u8], log: &str, block: usize) -> Result<Option<Chain>, Fail> {
+    answer_without(alloc, core, log, block, false)
+}
+
+/// The same, with links to free chunks left out of the roots or not.
+fn answer_without(
+    alloc: Global,
+    core: &[u8],
+    log: &str,
+    block: usize,
+    links: bool,
+) -> Result<Option<Chain>, Fail> {
     let image = Image::read(alloc, core)?;
     let threads = Threads::read(alloc, &image)?;
     let live = lives(alloc, log)?;
     let small = SmallSpans::none(alloc);
-    let roots = Roots::find(alloc, &image, &threads, &live, &small)?;
+    let roots = Roots::find(alloc, &image, &threads, &live, &small)?.skip_links(links);
     let lookup = Sorted::new(&live, Reading::interior());
     Ok(why(alloc, &image, &lookup, &roots, &live, block)?)
 }
@@ -55,6 +66,27 @@ fn a_root_word_holds_a_block_by_its_end(rt: HostRuntime) -> Result<(), Fail> {
     assert!(rt; answer(rt.alloc(), core.as_slice(), BLOCKS, 1)?.is_none());
     // no block has the number
     assert!(rt; answer(rt.alloc(), core.as_slice(), BLOCKS, 4)?.is_none());
+    Ok(())
+}
+
+#[test]
+fn a_link_to_a_free_chunk_holds_no_block(rt: HostRuntime) -> Result<(), Fail> {
+    // the head of a list leads to the header past the block, and the chunk there leads back
+    let words = [(0x100f8, 0x31), (0x10008, 0x10120), (0x10138, 0xfff8)];
+    let core = core_k(rt.alloc(), &words)?;
+    let found = answer(rt.alloc(), core.as_slice(), BLOCKS, 0)?;
+    assert!(rt; is_chain(&found, RootPlace::Address(0x10008), 0x10120, &[]));
+    assert!(rt; answer_without(rt.alloc(), core.as_slice(), BLOCKS, 0, true)?.is_none());
+    // a later word that is no link
+    let words = [
+        (0x100f8, 0x31),
+        (0x10008, 0x10120),
+        (0x10138, 0xfff8),
+        (0x10ff8, 0x10120),
+    ];
+    let core = core_k(rt.alloc(), &words)?;
+    let found = answer_without(rt.alloc(), core.as_slice(), BLOCKS, 0, true)?;
+    assert!(rt; is_chain(&found, RootPlace::Address(0x10ff8), 0x10120, &[]));
     Ok(())
 }
 

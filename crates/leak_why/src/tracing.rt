@@ -3,14 +3,14 @@ ghost use Rattle.std.specs.Prelude.{◌≡◌, ◌<◌, [], length, OnOk, IfOk, 
 ghost use Rattle.leak_blocks.specs.declared.block.Block.{Block};
 ghost use Rattle.leak_blocks.specs.Span.{AreAddressed};
 ghost use Rattle.leak_marks.specs.Lists.{Has};
-ghost use Rattle.leak_scan.specs.Targets.{block_targets, targets_of};
+ghost use Rattle.leak_scan.specs.Targets.{block_targets};
 ghost use Rattle.leak_why.specs.Chains.{IsRoot, IsLink};
-ghost use Rattle.leak_why.specs.Entries.{AreLedByBlocks, AreTraced, IsOrigin, words_from};
+ghost use Rattle.leak_why.specs.Entries.{AreLedByBlocks, AreTraced, IsOrigin, led_of_origin};
 
 use crate::chain::{Chain, Link, RootPlace, RootWord};
-use crate::finding::{first_register, first_word};
+use crate::finding::{first_register, first_root_word, first_word};
 use crate::found::{Entry, Origin, Source};
-use leak_blocks::Block;
+use leak_blocks::{Block, Live};
 use leak_elf::Words;
 use leak_index::Lookup;
 use leak_roots::Roots;
@@ -27,7 +27,8 @@ fn link_to<W: Words, L: Lookup>(
     requires holder { holder < length blocks.now }
     requires addressed { AreAddressed blocks.now }
     requires blocks { (L.index lookup.now).blocks ≡ blocks.now }
-    requires leads { (d : Block) → Has (block_targets (W.word_at words.now) (L.index lookup.now) (slice_index_or blocks.now holder d)) block }
+    requires leads { let w = W.word_at words.now in let i = L.index lookup.now in
+        (d : Block) → Has (block_targets w i (slice_index_or blocks.now holder d)) block }
     ensures holder { result.holder ≡ holder }
     ensures link { IsLink (W.word_at words.now) (L.index lookup.now) result block }
 {
@@ -58,7 +59,8 @@ pub(crate) fn trace<W: Words, L: Lookup>(
     requires led { AreLedByBlocks (W.word_at words.now) (L.index lookup.now) entries.now }
     requires last { last < length entries.now }
     requires none { links.old.items ≡ [] }
-    ensures { IfOk result (λ r. AreTraced (W.word_at words.now) (L.index lookup.now) entries.now last links.new.items r.0 r.1) }
+    ensures { let w = W.word_at words.now in let i = L.index lookup.now in
+        IfOk result (λ r. AreTraced w i entries.now last links.new.items r.0 r.1) }
 {
     let mut at = last;
     'back: loop {
@@ -78,12 +80,15 @@ pub(crate) fn trace<W: Words, L: Lookup>(
 pub(crate) fn root_of<W: Words, L: Lookup>(
     words: &W,
     lookup: &L,
+    live: &Live,
     roots: &Roots,
     origin: Origin,
     block: usize,
 ) -> RootWord
+    requires same_blocks { (L.index lookup.now).blocks ≡ live.now.blocks }
     requires origin { IsOrigin roots.now origin }
-    requires leads { Has (targets_of (L.index lookup.now) (words_from (W.word_at words.now) roots.now origin)) block }
+    requires leads { let w = W.word_at words.now in let i = L.index lookup.now in
+        Has (led_of_origin w i roots.now origin) block }
     ensures { IsRoot (W.word_at words.now) (L.index lookup.now) roots.now result block }
 {
     match origin {
@@ -98,8 +103,9 @@ pub(crate) fn root_of<W: Words, L: Lookup>(
             }
         }
         Origin::Range(i) => {
-            let (from, to) = roots.memory()[i];
-            let Some((address, word)) = first_word(words, lookup, from, to, block) else {
+            let range = roots.memory()[i];
+            let Some((address, word)) = first_root_word(words, lookup, live, roots, range, block)
+            else {
                 unreachable!()
             };
             RootWord {

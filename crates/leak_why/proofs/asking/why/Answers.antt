@@ -1,11 +1,10 @@
 use Rattle.std.proofs.Common.{◌≡◌, ◌∙◌, ℕ, List, Some, length, map, slice_get, sym, ap, subst, refl, true≢false, arith}
 use Rattle.std.proofs.lemmas.List.{length-map}
 use Rattle.std.proofs.lemmas.Option.{slice_get_within}
-use Rattle.leak_scan.specs.Targets.{targets_of}
 use Rattle.leak_marks.specs.Lists.{Has}
 use Rattle.leak_why.specs.declared.chain.Link.{Link}
 use Rattle.leak_why.specs.declared.found.Entry.{Entry}
-use Rattle.leak_why.specs.Entries.{AreLinks, AreLedByBlocks, IsAt, words_from}
+use Rattle.leak_why.specs.Entries.{AreLinks, AreLedByBlocks, IsAt, led_of_origin}
 use Rattle.leak_why.proofs.WordLemmas.{chain_blocks}
 use Rattle.leak_why.proofs.EntryLemmas.{none_chain, no_shorter, chain_of_links}
 use Rattle.leak_why.proofs.asking.why.Goals as goal
@@ -42,7 +41,7 @@ root_of-root-requires-clause-origin g c =
 pub root_of-root-requires-clause-leads : goal.root_of-root-requires-clause-leads
 root_of-root-requires-clause-leads g c =
     let t = c.in_ok-origin.ensures in
-    subst (λ (b : ℕ). Has (targets_of (g.L.Lookup.index c.args.lookup.now) (words_from (g.W.Words.word_at c.args.words.now) c.args.roots.now c.in_ok-origin.origin)) b) t.is_first
+    subst (λ (b : ℕ). Has (led_of_origin (g.W.Words.word_at c.args.words.now) (g.L.Lookup.index c.args.lookup.now) c.args.roots.now c.in_ok-origin.origin) b) t.is_first
     (c.in_ok-entries.ensures.followed.by_roots t.number t.entry c.in_ok-origin.origin (ap (λ (l : List Entry). slice_get l t.number) (sym c.deref.ensures.value) ∙ t.is_entry) t.source).1
 
 pub returns-clause-why : goal.returns-clause-why

@@ -1,8 +1,7 @@
-use Rattle.std.proofs.Common.{◌++◌, take}
-use Rattle.std.specs.List.{filter_map}
+use Rattle.std.proofs.Common.{take}
 use Rattle.leak_roots.specs.Places.{memory_places}
-use Rattle.leak_scan.specs.Targets.{targets_of}
 use Rattle.leak_pool.specs.Alone.{AreMarks, AreTaken}
+use Rattle.leak_pool.specs.Marking.{led_from}
 use Rattle.leak_why.specs.Entries.{blocks_of}
 use Rattle.leak_why.proofs.EntryLemmas.{AreOfRoots}
 use Rattle.leak_why.proofs.spreading.find_first.Given as goal
@@ -11,5 +10,5 @@ abbrev pub invariant-loop-i : goal.invariant-loop-i
 invariant-loop-i g l = record {
   marks : AreMarks l.seen (blocks_of l.entries.items);
   roots : AreOfRoots (g.W.Words.word_at l.words) (g.L.Lookup.index l.lookup) l.roots l.entries.items;
-  taken : AreTaken (targets_of (g.L.Lookup.index l.lookup) (l.roots.registers ++ filter_map (g.W.Words.word_at l.words) (memory_places (take l.i l.roots.memory)))) (blocks_of l.fn.entries.items) (blocks_of l.entries.items);
+  taken : AreTaken (led_from l.roots.skips_links (g.W.Words.word_at l.words) (g.L.Lookup.index l.lookup) l.roots.registers (memory_places (take l.i l.roots.memory))) (blocks_of l.fn.entries.items) (blocks_of l.entries.items);
 }
