@@ -1,12 +1,12 @@
 -- Where the paths and the numbers were read, nothing that a subcommand takes is lacking.
-use Rattle.std.proofs.Common.{◌≡◌, ◌≤◌, ◌<◌, ℕ, Bool, true, false, List, [], ◌∷◌, Some, ap, subst, sym, refl, ◌∙◌, arith, inl, inr, codes, map, slice_index_or}
+use Rattle.std.proofs.Common.{◌≡◌, ◌≤◌, ◌<◌, ℕ, Bool, true, false, List, [], ◌∷◌, None, Some, ap, subst, sym, refl, ◌∙◌, arith, inl, inr, codes, map, slice_index_or}
 use Rattle.std.proofs.lemmas.List.Elements.{All-cons, All-nil}
 use Rattle.std.specs.List.{All}
 use Rattle.std.specs.Prelude.{IsSome, String, string_bytes, unwrap_or}
 use Rattle.clap.specs.Words.{Row, Text, first_of}
 use Rattle.leak_pool.specs.Plan.{IsBetween, Numbers}
-use Rattle.leak_request.specs.CommandLine.{name_of, path_ids}
-use Rattle.leak_request.specs.Requests.{AreAt, AreNumbersAt, Lacks}
+use Rattle.leak_request.specs.CommandLine.{address_id, name_of, path_ids}
+use Rattle.leak_request.specs.Requests.{AreAt, AreNumbersAt, Lacks, WhyLacks}
 
 -- texts that are the values of the ids show that each id has a value
 pub all_there : {A : Type 0} (rows : List Row) (ids : List Text) (texts : List (String A)) → AreAt rows ids texts → All (λ id. IsSome (first_of id rows)) ids
@@ -37,3 +37,9 @@ none_lacks name rows two paths n named there workers piece stack at (inr (inl la
     let same : lacks.0 ≡ two = name_is_one two lacks.0 (sym named ∙ lacks.1) in
     lacks.2 (subst (λ b. All (λ id. IsSome (first_of id rows)) (path_ids b)) (sym same) (all_there rows (path_ids two) paths there))
 none_lacks name rows two paths n named there workers piece stack at (inr (inr lacks)) = lacks n workers piece stack at
+
+-- nor is anything lacking to ask for a block, where its address was read too
+pub none_lacks_why : {A : Type 0} (rows : List Row) (paths : List (String A)) (word : List ℕ) → AreAt rows (path_ids false) paths
+    → Some word ≡ first_of address_id rows → WhyLacks rows → ⊥
+none_lacks_why rows paths word there some (inl lacks) = lacks (all_there rows (path_ids false) paths there)
+none_lacks_why rows paths word there some (inr none) = let no : Some word ≡ None = some ∙ none in cc

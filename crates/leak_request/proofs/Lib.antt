@@ -1,4 +1,5 @@
 pub mod Complete
+pub mod Digits
 pub mod Items
 pub mod Lines
 pub mod Listing

@@ -1,15 +1,16 @@
 -- What the values are that clap found.
-use Rattle.std.proofs.Common.{◌≡◌, ◌<◌, ◌^◌, get_or, map, subst, [], ◌∙◌, refl, sym, ap, length, Bool, true, false, List, ℕ, Option, Some, None}
+use Rattle.std.proofs.Common.{inl, inr, ◌≡◌, ◌<◌, ◌^◌, get_or, map, subst, [], ◌∙◌, refl, sym, ap, length, Bool, true, false, List, ℕ, Option, Some, None}
 use Rattle.std.proofs.lemmas.List.{get_or-map, length-map}
 use Rattle.std.proofs.lemmas.List.Elements.{All-get_or}
 use Rattle.std.specs.List.{All}
 use Rattle.std.specs.Borrow.{Bor}
 use Rattle.std.specs.Prelude.{Err, IfNone, IfSome, IsSome, IsSomeAnd, Result, Ok, String}
-use Rattle.clap.specs.Words.{ReadsOne, Row, first_of}
+use Rattle.clap.specs.Words.{ReadsOne, Row, Text, first_of}
 use Rattle.leak_request.specs.declared.fault.UsageFault.{UsageFault}
 use Rattle.leak_request.specs.declared.fault.UsageFault.TheVariants as fault
 use Rattle.leak_request.specs.CommandLine.{path_ids}
-use Rattle.leak_request.specs.Requests.{AreAt, IsBadBy, LacksPath, Writes, file_count}
+use Rattle.leak_request.specs.Requests.{AreAt, IsBadBy, IsRequest, LacksPath, Writes, file_count}
+use Rattle.leak_request.specs.declared.options.Request.{Request}
 
 -- a number that was read is the one that the text writes
 pub number_read : {E : Type 0} (gives : List ℕ → Result ℕ E → Type 0) (r : Option ℕ) (text row : Option (List ℕ)) → text ≡ row
@@ -41,9 +42,24 @@ pub bad_by : {Reason : Type 0} (f : UsageFault) → Reason → IsBadBy (Unit {0}
 bad_by (fault.Words text) reason bad = (bad.0, reason)
 bad_by (fault.Displace f) reason bad = bad
 bad_by fault.Check reason bad = bad
+bad_by fault.Address reason bad = bad
 bad_by fault.NoMemory reason bad = tt
 
 -- there are as many paths as a search reads files
 pub paths_of : {A : Type 0} (rows : List Row) (two : Bool) (paths : List (String A)) → AreAt rows (path_ids two) paths → length paths ≡ file_count two
 paths_of rows true paths at = sym (length-map paths _) ∙ ap length at
 paths_of rows false paths at = sym (length-map paths _) ∙ ap length at
+
+-- and so there are of any request
+pub files_of : (name : Text) (rows : List Row) (r : Request) → IsRequest name rows r → length r.paths.items ≡ file_count r.options.two
+files_of name rows r (inl why) = rw (why.1.two) (paths_of rows false r.paths.items why.1.paths)
+files_of name rows r (inr search_of) = paths_of rows r.options.two r.paths.items search_of.paths
+
+-- what holds a block is asked of one core
+pub why_of_one : (name : Text) (rows : List Row) (r : Request) → IsRequest name rows r → IfSome r.address (λ _. r.options.two ≡ false)
+why_of_one name rows r (inl why) = some r.address
+  where
+    some : (o : Option ℕ) → IfSome o (λ _. r.options.two ≡ false)
+    some None = tt
+    some (Some a) = why.1.two
+why_of_one name rows r (inr search_of) = rw (search_of.address) tt

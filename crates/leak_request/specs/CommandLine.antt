@@ -1,5 +1,5 @@
 -- The command line, as clap reads it: a subcommand, with its paths and options. Own rule.
-use Rattle.std.specs.Prelude.{ℕ, Bool, true, false, List, [], ◌∷◌, codes, map, pos, Some}
+use Rattle.std.specs.Prelude.{ℕ, Bool, true, false, List, [], ◌∷◌, ◌++◌, codes, map, pos, Some}
 use Rattle.std.specs.List.{fold}
 use Rattle.clap.specs.Words.{App, Rule, Text, new_app, new_rule, with_rule, with_subcommand}
 use Rattle.clap.specs.declared.builder.action.ArgAction.TheVariants.{SetTrue}
@@ -7,9 +7,9 @@ use Rattle.clap.specs.declared.builder.command.Command.{Command}
 use Rattle.clap.specs.declared.builder.command.Command.TheViews.{out-Command}
 use Rattle.clap.specs.declared.builder.value_parser.ValueParser.TheVariants as parser
 
--- the path of a file, which has to be given
-abbrev pub path_rule : Text → Rule
-path_rule id = record (new_rule id) { required = true; value_names = 1 }
+-- a word that has to be given: the path of a file, or an address
+abbrev pub operand_rule : Text → Rule
+operand_rule id = record (new_rule id) { required = true; value_names = 1 }
 
 -- a number from the one bound to the other, and the text of the number that counts where none is given
 abbrev pub number_rule : Text → Text → ℕ → ℕ → Rule
@@ -58,7 +58,19 @@ with_options a = with_rules (with_rules (with_rules a plan_rules) reading_rules)
 
 -- `leak_find one CORE LOG`, or `leak_find two CORE1 LOG1 CORE2 LOG2`
 abbrev pub search_line : Bool → App
-search_line two = with_options (with_rules (new_app (name_of two)) (map path_rule (path_ids two)))
+search_line two = with_options (with_rules (new_app (name_of two)) (map operand_rule (path_ids two)))
+
+-- the subcommand that asks for a block
+abbrev pub why_name : Text
+why_name = codes "why"
+
+-- the address of the block
+abbrev pub address_id : Text
+address_id = codes "address"
+
+-- `leak_find why CORE LOG ADDRESS`
+abbrev pub why_line : App
+why_line = with_rules (with_rules (new_app why_name) (map operand_rule (path_ids false ++ address_id ∷ []))) reading_rules
 
 -- the subcommand has to be named
 abbrev pub naming_subcommand : App → App
@@ -66,8 +78,8 @@ naming_subcommand a = record a { top = record a.top { subcommand_required = true
 
 -- the whole command line
 abbrev pub command_line : App
-command_line =
-    with_subcommand (with_subcommand (naming_subcommand (new_app (codes "leak_find"))) (search_line false).top) (search_line true).top
+command_line = with_subcommand (with_subcommand (with_subcommand (naming_subcommand (new_app (codes "leak_find")))
+    (search_line false).top) (search_line true).top) why_line.top
 
 -- an argument of the command or of a subcommand counts in each subcommand
 abbrev pub has_globals : Command → Bool

@@ -1,5 +1,5 @@
 -- What a command line asks for, by the subcommand that clap met and the rows that it found there. Own rule.
-use Rattle.std.specs.Prelude.{◌≡◌, ◌↔◌, ◌≤◌, ◌<◌, ◌^◌, ◌⊎◌, ℕ, Bool, List, [], Option, Some, None, map, codes, String, string_bytes, IfSome, IsSome, IsTrue, IsSomeAnd, IsFalse, if◌then◌else◌}
+use Rattle.std.specs.Prelude.{◌≡◌, ◌↔◌, ◌≤◌, ◌<◌, ◌^◌, ◌⊎◌, ℕ, Bool, false, List, [], Option, Some, None, map, codes, String, string_bytes, IfSome, IsSome, IsTrue, IsSomeAnd, IsFalse, if◌then◌else◌}
 use Rattle.std.specs.List.{All}
 use Rattle.std.specs.Str.Parse.{IsNumeral, digits_value, without_leading_plus}
 use Rattle.clap.specs.Words.{Row, Text, first_of, found_of, one_of, rows_of, subcommand_of}
@@ -7,7 +7,8 @@ use Rattle.clap.specs.declared.parser.matches.ArgMatches.{ArgMatches}
 use Rattle.clap.specs.Faults.{fault_of}
 use Rattle.leak_index.specs.Readings.{listed_by}
 use Rattle.leak_pool.specs.Plan.{IsBetween, Numbers}
-use Rattle.leak_request.specs.CommandLine.{command_line, name_of, path_ids}
+use Rattle.leak_request.specs.Address.{IsAddress}
+use Rattle.leak_request.specs.CommandLine.{address_id, command_line, name_of, path_ids, why_name}
 use Rattle.leak_request.specs.Displacements.{IsListed, displace_fault_of}
 use Rattle.leak_request.specs.declared.fault.DisplaceFault.{DisplaceFault}
 use Rattle.leak_request.specs.declared.fault.UsageFault.{UsageFault}
@@ -57,8 +58,8 @@ file_count two = if two then 4 else 2
 abbrev pub AreAt : {A : Type 0} → List Row → List Text → List (String A) → Type 0
 AreAt rows ids texts = map (λ text. Some (string_bytes text)) texts ≡ map (λ id. first_of id rows) ids
 
--- the request of the subcommand, with the values that clap found for it
-pub record IsRequest (name : Text) (rows : List Row) (r : Request) : Type 0 where
+-- the request of the subcommand of a search, with the values that clap found for it
+pub record IsSearchRequest (name : Text) (rows : List Row) (r : Request) : Type 0 where
   pub two : name ≡ name_of r.options.two
   pub paths : AreAt rows (path_ids r.options.two) r.paths.items
   pub numbers : AreNumbersAt rows r.options.plan.workers r.options.plan.piece r.options.plan.stack
@@ -71,6 +72,30 @@ pub record IsRequest (name : Text) (rows : List Row) (r : Request) : Type 0 wher
   pub strict : IsTrue r.options.strict ↔ IsGiven rows (codes "strict")
   pub core_limit : r.options.core_limit ≡ 68719476736
   pub log_limit : r.options.log_limit ≡ 4294967296
+  pub address : r.address ≡ None
+
+-- the address that the text of the request writes
+abbrev pub IsAddressAt : List Row → Option ℕ → Type 0
+IsAddressAt rows None = ⊥
+IsAddressAt rows (Some a) = IsSomeAnd (first_of address_id rows) (λ text. IsAddress text a)
+
+-- the request for what holds a block: nothing is asked for that only a search takes
+pub record IsWhyRequest (rows : List Row) (r : Request) : Type 0 where
+  pub two : r.options.two ≡ false
+  pub paths : AreAt rows (path_ids false) r.paths.items
+  pub address : IsAddressAt rows r.address
+  pub reading : IsListedBy (list_in rows) (listed_by r.options.reading)
+  pub freed : IsTrue r.options.skip.freed ↔ IsGiven rows (codes "skip-freed")
+  pub links : IsTrue r.options.skip.links ↔ IsGiven rows (codes "skip-links")
+  pub check : r.options.check ≡ false
+  pub other_heap : r.options.other_heap ≡ false
+  pub strict : r.options.strict ≡ false
+  pub core_limit : r.options.core_limit ≡ 68719476736
+  pub log_limit : r.options.log_limit ≡ 4294967296
+
+-- the request of the subcommand, with the values that clap found for it
+abbrev pub IsRequest : Text → List Row → Request → Type 0
+IsRequest name rows r = ((name ≡ why_name) × IsWhyRequest rows r) ⊎ IsSearchRequest name rows r
 
 -- a path that a request of so many cores takes isn't there
 abbrev pub LacksPath : List Row → Bool → Type 0
@@ -91,6 +116,7 @@ abbrev pub IsBadBy : Type 0 → UsageFault → Type 0
 IsBadBy reason (fault.Words text) = (string_bytes text ≡ codes "bad arguments") × reason
 IsBadBy reason (fault.Displace f) = ⊥
 IsBadBy reason fault.Check = ⊥
+IsBadBy reason fault.Address = ⊥
 IsBadBy reason fault.NoMemory = Unit {0}
 
 -- the list of displacements is refused for this
@@ -106,12 +132,33 @@ pub record ChecksOtherHeap (rows : List Row) : Type 0 where
   pub check : IsGiven rows (codes "check")
   pub other_heap : IsGiven rows (codes "other-heap")
 
--- Why what clap found is no request: something isn't there, which is answered first; or all else is there and the
+-- Why what clap found is no search: something isn't there, which is answered first; or all else is there and the
 -- list is refused; or the list is taken too, and another heap is to be checked.
+abbrev pub IsSearchRefusal : Text → List Row → UsageFault → Type 0
+IsSearchRefusal name rows (fault.Displace f) = (Lacks name rows → ⊥) × IsListFaultAt rows f
+IsSearchRefusal name rows fault.Check = (Lacks name rows → ⊥) × IsListTaken rows × ChecksOtherHeap rows
+IsSearchRefusal name rows fault.Address = ⊥
+IsSearchRefusal name rows f = IsBadBy (Lacks name rows) f
+
+-- a path or the address isn't there
+abbrev pub WhyLacks : List Row → Type 0
+WhyLacks rows = LacksPath rows false ⊎ (first_of address_id rows ≡ None)
+
+-- the text is no address
+abbrev pub IsBadAddress : List ℕ → Type 0
+IsBadAddress text = (a : ℕ) → IsAddress text a → ⊥
+
+-- Why what clap found asks for no block: something isn't there, which is answered first; or all is there and the list is
+-- refused; or the list is taken too, and the address isn't one.
+abbrev pub IsWhyRefusal : List Row → UsageFault → Type 0
+IsWhyRefusal rows (fault.Displace f) = (WhyLacks rows → ⊥) × IsListFaultAt rows f
+IsWhyRefusal rows fault.Check = ⊥
+IsWhyRefusal rows fault.Address = (WhyLacks rows → ⊥) × IsListTaken rows × IsSomeAnd (first_of address_id rows) IsBadAddress
+IsWhyRefusal rows f = IsBadBy (WhyLacks rows) f
+
+-- why what clap found for the subcommand is no request
 abbrev pub IsRefusedAt : Text → List Row → UsageFault → Type 0
-IsRefusedAt name rows (fault.Displace f) = (Lacks name rows → ⊥) × IsListFaultAt rows f
-IsRefusedAt name rows fault.Check = (Lacks name rows → ⊥) × IsListTaken rows × ChecksOtherHeap rows
-IsRefusedAt name rows f = IsBadBy (Lacks name rows) f
+IsRefusedAt name rows f = ((name ≡ why_name) × IsWhyRefusal rows f) ⊎ ((name ≡ why_name → ⊥) × IsSearchRefusal name rows f)
 
 -- clap takes the words, and the request is that of the subcommand that they name
 pub record IsRequestOf (words : List Text) (r : Request) : Type 0 where
@@ -126,4 +173,6 @@ IsUsageFaultOf words (fault.Displace f) = (fault_of command_line words ≡ [])
     × IsSomeAnd (subcommand_of command_line words) (λ met. IsRefusedAt met.0 met.1 (fault.Displace f))
 IsUsageFaultOf words fault.Check = (fault_of command_line words ≡ [])
     × IsSomeAnd (subcommand_of command_line words) (λ met. IsRefusedAt met.0 met.1 fault.Check)
+IsUsageFaultOf words fault.Address = (fault_of command_line words ≡ [])
+    × IsSomeAnd (subcommand_of command_line words) (λ met. IsRefusedAt met.0 met.1 fault.Address)
 IsUsageFaultOf words fault.NoMemory = Unit {0}

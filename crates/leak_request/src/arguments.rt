@@ -1,14 +1,17 @@
 //! From a command line to what it asks for.
 
 ghost use Rattle.std.specs.Prelude.{◌≡◌, ◌≢◌, ◌<◌, ◌↔◌, IfOk, IsTrue, IfErr, IfNone, IfSome, OnOk, Bool};
-ghost use Rattle.std.specs.Prelude.{length, map, option_map, string_bytes};
+ghost use Rattle.std.specs.Prelude.{codes, false, length, map, option_map, string_bytes};
 ghost use Rattle.clap.specs.Words.{first_of, kind_of};
 ghost use Rattle.leak_index.specs.Readings.{listed_by};
 ghost use Rattle.leak_request.specs.CommandLine.{name_of, path_ids};
 ghost use Rattle.leak_request.specs.Requests.{AreAt, AreNumbersAt, IsBadBy, IsGiven, IsListFaultAt, IsListedBy};
-ghost use Rattle.leak_request.specs.Requests.{IsNumberAt, IsRefusedAt, LacksNumber, LacksNumberAt, LacksPath};
-ghost use Rattle.leak_request.specs.Requests.{IsRequest, IsRequestOf, IsUsageFaultOf, file_count, found_rows, list_in};
+ghost use Rattle.leak_request.specs.Requests.{IsNumberAt, IsRefusedAt, IsSearchRefusal, IsWhyRefusal};
+ghost use Rattle.leak_request.specs.Requests.{LacksNumber, LacksNumberAt, LacksPath};
+ghost use Rattle.leak_request.specs.Requests.{IsRequest, IsRequestOf, IsSearchRequest, IsUsageFaultOf, IsWhyRequest};
+ghost use Rattle.leak_request.specs.Requests.{file_count, found_rows, list_in};
 
+use crate::address::address;
 use crate::command_line::command;
 use crate::displacements::read_displace;
 use crate::fault::{DisplaceFault, UsageFault};
@@ -29,11 +32,13 @@ static TWO: [&str; 4] = ["core1", "log1", "core2", "log2"];
 /// Reads the words of a command line, which begin with the program's name.
 ///
 /// The text of a refusal, or of the help that was asked for, is clap's. A list of displacements is refused only where
-/// nothing else is missing, and `--check` with `--other-heap` only where the list is not. Own rule: help is no request.
+/// nothing else is missing, and `--check` with `--other-heap`, or an address, only where the list is not. Own rule: help
+/// is no request.
 pub fn request(alloc: Global, words: &[String]) -> Result<Request, UsageFault>
     requires { 0 < length words.now }
     ensures ok { IfOk result (IsRequestOf (map string_bytes words.now)) }
     ensures files { IfOk result (λ r. length r.paths.items ≡ file_count r.options.two) }
+    ensures why { IfOk result (λ r. IfSome r.address (λ _. r.options.two ≡ false)) }
     ensures refused { IfErr result (IsUsageFaultOf (map string_bytes words.now)) }
 {
     let command = command(alloc)?;
@@ -51,6 +56,17 @@ pub fn request(alloc: Global, words: &[String]) -> Result<Request, UsageFault>
 fn request_of(alloc: Global, name: &str, found: &ArgMatches) -> Result<Request, UsageFault>
     ensures ok { IfOk result (IsRequest name.now (found_rows found.now)) }
     ensures refused { IfErr result (IsRefusedAt name.now (found_rows found.now)) }
+{
+    match name {
+        "why" => why_request(alloc, found),
+        _ => search_request(alloc, name, found),
+    }
+}
+
+/// The request of a search, where clap found this for the subcommand with the name.
+fn search_request(alloc: Global, name: &str, found: &ArgMatches) -> Result<Request, UsageFault>
+    ensures ok { IfOk result (IsSearchRequest name.now (found_rows found.now)) }
+    ensures refused { IfErr result (IsSearchRefusal name.now (found_rows found.now)) }
 {
     let Some(two) = is_two(name) else {
         return Err(bad_arguments(alloc));
@@ -71,10 +87,7 @@ fn request_of(alloc: Global, name: &str, found: &ArgMatches) -> Result<Request, 
         options: Options {
             two,
             reading,
-            skip: Skip {
-                freed: is_given(found, "skip-freed"),
-                links: is_given(found, "skip-links"),
-            },
+            skip: skip(found),
             plan,
             other_heap,
             check,
@@ -82,7 +95,52 @@ fn request_of(alloc: Global, name: &str, found: &ArgMatches) -> Result<Request, 
             core_limit: CORE_LIMIT,
             log_limit: LOG_LIMIT,
         },
+        address: None,
     })
+}
+
+/// The request for what holds a block, where clap found this for it.
+fn why_request(alloc: Global, found: &ArgMatches) -> Result<Request, UsageFault>
+    ensures ok { IfOk result (IsWhyRequest (found_rows found.now)) }
+    ensures refused { IfErr result (IsWhyRefusal (found_rows found.now)) }
+{
+    let paths = paths(alloc, found, false)?;
+    let Some(word) = value(found, "address") else {
+        return Err(bad_arguments(alloc));
+    };
+    let reading = match reading(found) {
+        Ok(reading) => reading,
+        Err(fault) => return Err(UsageFault::Displace(fault)),
+    };
+    let Some(address) = address(word.as_bytes()) else {
+        return Err(UsageFault::Address);
+    };
+    Ok(Request {
+        paths,
+        options: Options {
+            two: false,
+            reading,
+            skip: skip(found),
+            plan: Plan::new(1, 1, 0).unwrap(),
+            other_heap: false,
+            check: false,
+            strict: false,
+            core_limit: CORE_LIMIT,
+            log_limit: LOG_LIMIT,
+        },
+        address: Some(address),
+    })
+}
+
+/// What is left out of the root words.
+fn skip(found: &ArgMatches) -> Skip
+    ensures freed { IsTrue result.freed ↔ IsGiven (found_rows found.now) (codes "skip-freed") }
+    ensures links { IsTrue result.links ↔ IsGiven (found_rows found.now) (codes "skip-links") }
+{
+    Skip {
+        freed: is_given(found, "skip-freed"),
+        links: is_given(found, "skip-links"),
+    }
 }
 
 /// Whether the subcommand with the name searches two cores.

@@ -2,9 +2,9 @@
 
 ghost use Rattle.std.specs.Prelude.{◌≡◌, IfOk, false, true, codes};
 ghost use Rattle.clap.specs.Words.{app_of, rule_of};
-ghost use Rattle.leak_request.specs.CommandLine.{command_line, flag_rule, has_globals, number_rule, path_rule};
+ghost use Rattle.leak_request.specs.CommandLine.{command_line, flag_rule, has_globals, number_rule, operand_rule};
 ghost use Rattle.leak_request.specs.CommandLine.{plan_rules, reading_rules, search_line, sign_rules, text_rule};
-ghost use Rattle.leak_request.specs.CommandLine.{with_options, with_rules};
+ghost use Rattle.leak_request.specs.CommandLine.{why_line, with_options, with_rules};
 
 use clap::{Arg, ArgAction, Command};
 use std::alloc::{AllocError, Global};
@@ -27,6 +27,9 @@ const SECOND_CORE: &str = "A later core of the same process";
 /// What help says of the second log.
 const SECOND_LOG: &str = "Its log when that core was taken; it begins with LOG1";
 
+/// What help says of an address.
+const ADDRESS: &str = "An address in the block, or its start: 0x and 1 to 16 hexadecimal digits";
+
 /// What help says of `--skip-freed`.
 const SKIP_FREED: &str = "Leave out pointers in freed memory of blocks below 131072 bytes";
 
@@ -42,14 +45,17 @@ const OTHER_HEAP: &str = "The allocator is not glibc's: don't compare its heap w
 /// What help says of `--strict`.
 const STRICT: &str = "Exit with status 3 where there is a warning";
 
-/// `leak_find`, with a subcommand for the search of one core and one for that of two.
+/// `leak_find`, with a subcommand for the search of one core, one for that of two, and one that asks for a block.
 pub(crate) fn command<'a>(alloc: Global) -> Result<Command<'a>, AllocError>
     ensures { IfOk result (λ c. app_of c ≡ command_line) }
 {
     let command = Command::new(alloc, "leak_find")
         .about("Reports the allocated blocks of a dead process that no chain of pointers reaches")
         .subcommand_required(true);
-    command.subcommand(one(alloc)?)?.subcommand(two(alloc)?)
+    command
+        .subcommand(one(alloc)?)?
+        .subcommand(two(alloc)?)?
+        .subcommand(why(alloc)?)
 }
 
 fn one<'a>(alloc: Global) -> Result<Command<'a>, AllocError>
@@ -58,8 +64,8 @@ fn one<'a>(alloc: Global) -> Result<Command<'a>, AllocError>
 {
     let command = Command::new(alloc, "one")
         .about("Searches a core and its log")
-        .arg(path(alloc, "core", "CORE", CORE))?
-        .arg(path(alloc, "log", "LOG", LOG))?;
+        .arg(operand(alloc, "core", "CORE", CORE))?
+        .arg(operand(alloc, "log", "LOG", LOG))?;
     with_options(alloc, command)
 }
 
@@ -71,10 +77,10 @@ fn two<'a>(alloc: Global) -> Result<Command<'a>, AllocError>
         .about(
             "Searches a later core and its log, given an earlier core and log of the same process",
         )
-        .arg(path(alloc, "core1", "CORE1", FIRST_CORE))?
-        .arg(path(alloc, "log1", "LOG1", FIRST_LOG))?
-        .arg(path(alloc, "core2", "CORE2", SECOND_CORE))?
-        .arg(path(alloc, "log2", "LOG2", SECOND_LOG))?;
+        .arg(operand(alloc, "core1", "CORE1", FIRST_CORE))?
+        .arg(operand(alloc, "log1", "LOG1", FIRST_LOG))?
+        .arg(operand(alloc, "core2", "CORE2", SECOND_CORE))?
+        .arg(operand(alloc, "log2", "LOG2", SECOND_LOG))?;
     with_options(alloc, command)
 }
 
@@ -85,6 +91,18 @@ fn with_options<'a>(alloc: Global, command: Command<'a>) -> Result<Command<'a>, 
     let command = with_plan(alloc, command)?;
     let command = with_reading(alloc, command)?;
     with_signs(alloc, command)
+}
+
+fn why<'a>(alloc: Global) -> Result<Command<'a>, AllocError>
+    ensures line { IfOk result (λ c. app_of c ≡ why_line) }
+    ensures local { IfOk result (λ c. has_globals c ≡ false) }
+{
+    let command = Command::new(alloc, "why")
+        .about("Tells what holds the live block of an address")
+        .arg(operand(alloc, "core", "CORE", CORE))?
+        .arg(operand(alloc, "log", "LOG", LOG))?
+        .arg(operand(alloc, "address", "ADDRESS", ADDRESS))?;
+    with_reading(alloc, command)
 }
 
 /// The command with the options that share out the work.
@@ -120,8 +138,8 @@ fn with_signs<'a>(alloc: Global, command: Command<'a>) -> Result<Command<'a>, Al
         .arg(flag(alloc, "strict", STRICT))
 }
 
-fn path<'a>(alloc: Global, id: &'a str, name: &'a str, what: &'a str) -> Arg<'a>
-    ensures rule { rule_of result ≡ path_rule id.entry.now }
+fn operand<'a>(alloc: Global, id: &'a str, name: &'a str, what: &'a str) -> Arg<'a>
+    ensures rule { rule_of result ≡ operand_rule id.entry.now }
     ensures local { result.global ≡ false }
 {
     Arg::new(alloc, id)

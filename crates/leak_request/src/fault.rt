@@ -30,6 +30,9 @@ pub enum UsageFault {
     /// Blocks are to be compared with glibc's heap, and the allocator is said to be another.
     #[error("--check: not with --other-heap")]
     Check,
+    /// The address of a block is not `0x` and 1 to 16 hexadecimal digits, and nothing else is missing.
+    #[error("bad address")]
+    Address,
     /// An allocation failed.
     #[error("out of memory")]
     NoMemory,

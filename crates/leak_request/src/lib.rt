@@ -1,7 +1,7 @@
 //! What the program is asked for: from the words of a command line to a request.
 //!
 //! [`request`] reads the words, which begin with the program's name, by a command line of clap: `leak_find one CORE
-//! LOG` or `leak_find two CORE1 LOG1 CORE2 LOG2`, with options after the subcommand. It gives a [`Request`], the paths
+//! LOG`, `leak_find two CORE1 LOG1 CORE2 LOG2` or `leak_find why CORE LOG ADDRESS`, with options after the subcommand. It gives a [`Request`], the paths
 //! of the files and the [`Options`] of the search, or says as a [`UsageFault`] why there is none. [`read_displace`]
 //! reads the list of `--displace`, and answers its first fault as a [`DisplaceFault`].
 //!
@@ -10,6 +10,7 @@
 //! a file.
 #![tactic(auto)]
 
+mod address;
 mod arguments;
 mod command_line;
 mod displacements;

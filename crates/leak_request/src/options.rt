@@ -38,6 +38,8 @@ pub struct Options {
 pub struct Request {
     /// The paths of the files in order: a core and its log; with two cores, the second core and its log follow.
     pub paths: Vec<String>,
-    /// How they are searched.
+    /// How they are searched, or how a block is asked for: then `two` is false, and the plan is not used.
     pub options: Options,
+    /// The address of the live block that is asked for. Without one, the files are searched for leaks.
+    pub address: Option<u64>,
 }

@@ -19,9 +19,9 @@ fn asked<R: Abort + AllocGlobal>(
     Ok(request(rt.alloc(), words.as_slice()))
 }
 
-/// A request in words: its options and then its paths.
+/// A request in words: its options, its address and then its paths.
 fn shown<R: AllocGlobal>(rt: &R, request: &Request) -> Result<String, AllocError> {
-    let mut text = format!(in rt.alloc(); "{:?}", request.options)?;
+    let mut text = format!(in rt.alloc(); "{:?} {:?}", request.options, request.address)?;
     for path in &request.paths {
         text.push(' ')?;
         text.push_str(path.as_str())?;
@@ -60,7 +60,21 @@ fn takes<R: Abort + AllocGlobal>(
     paths: &str,
 ) -> Result<(), Fail> {
     let request = asked(rt, line)??;
-    let want = format!(in rt.alloc(); "{options:?} {paths}")?;
+    let want = format!(in rt.alloc(); "{options:?} None {paths}")?;
+    assert_eq!(rt; shown(rt, &request)?.as_str(), want.as_str(), "{line}");
+    Ok(())
+}
+
+/// Checks that the words ask for the block of this address, with these options and paths.
+fn asks<R: Abort + AllocGlobal>(
+    rt: &R,
+    line: &str,
+    options: Options,
+    address: u64,
+    paths: &str,
+) -> Result<(), Fail> {
+    let request = asked(rt, line)??;
+    let want = format!(in rt.alloc(); "{options:?} {:?} {paths}", Some(address))?;
     assert_eq!(rt; shown(rt, &request)?.as_str(), want.as_str(), "{line}");
     Ok(())
 }
@@ -153,6 +167,51 @@ fn requests_of_two_cores(rt: HostRuntime) -> Result<(), Fail> {
 }
 
 #[test]
+fn requests_for_a_block(rt: HostRuntime) -> Result<(), Fail> {
+    let listed = Reading::displaced([8, 16].as_slice())?;
+    let usual = options(false, Reading::interior(), Plan::new(1, 1, 0)?);
+    let narrow = options(false, listed, Plan::new(1, 1, 0)?);
+    asks(
+        &rt,
+        "why core.1 trace.log 0x10100",
+        usual,
+        0x10100,
+        "core.1 trace.log",
+    )?;
+    asks(&rt, "why a b 0xAbCdEf", usual, 0xABCDEF, "a b")?;
+    asks(&rt, "why a b 0xffffffffffffffff", usual, u64::MAX, "a b")?;
+    asks(&rt, "why a b 0x0000000000000001", usual, 1, "a b")?;
+    asks(
+        &rt,
+        "why --skip-links a b --skip-freed 0x0",
+        skipping(usual, true, true),
+        0,
+        "a b",
+    )?;
+    asks(&rt, "why a b 0x10 --displace 8,16", narrow, 16, "a b")
+}
+
+#[test]
+fn bad_addresses(rt: HostRuntime) -> Result<(), Fail> {
+    let words = [
+        "10100",
+        "0x",
+        "0X10100",
+        "0x00000000000010100",
+        "0xg",
+        "0x+1",
+        "x",
+        "-- -0x1",
+    ];
+    for word in words {
+        let line = format!(in rt.alloc(); "why a b {word}")?;
+        let answer = asked(&rt, line.as_str())?;
+        assert!(rt; matches!(answer, Err(UsageFault::Address)), "{line}");
+    }
+    Ok(())
+}
+
+#[test]
 fn refused_words(rt: HostRuntime) -> Result<(), Fail> {
     let lines = [
         "one core.1",
@@ -180,6 +239,13 @@ fn refused_words(rt: HostRuntime) -> Result<(), Fail> {
         "two a b c d e",
         "two a b c d --workers 65",
         "three a b",
+        "why a b",
+        "why a b 0x1 c",
+        "why a b 0x1 --workers 2",
+        "why a b 0x1 --strict",
+        "why a b 0x1 --check",
+        "why a b 0x1 --skip-freed --skip-freed",
+        "why --help",
         "help",
         "--help",
         "one --help",
@@ -202,6 +268,10 @@ fn help_names_the_files(rt: HostRuntime) -> Result<(), Fail> {
         (
             "two --help",
             "leak_find two [OPTIONS] <CORE1> <LOG1> <CORE2> <LOG2>\n",
+        ),
+        (
+            "why --help",
+            "leak_find why [OPTIONS] <CORE> <LOG> <ADDRESS>\n",
         ),
     ];
     for (line, usage) in cases {
@@ -245,6 +315,8 @@ fn another_heap_is_not_checked(rt: HostRuntime) -> Result<(), Fail> {
         let answer = asked(&rt, line)?;
         assert!(rt; matches!(answer, Err(UsageFault::Check)), "{line}");
     }
+    let first = asked(&rt, "why a b c --displace x")?;
+    assert!(rt; matches!(first, Err(UsageFault::Displace(DisplaceFault::Number(0)))));
     let listed = asked(&rt, "one a b --check --other-heap --displace x")?;
     assert!(rt; matches!(listed, Err(UsageFault::Displace(DisplaceFault::Number(0)))));
     Ok(())
@@ -263,6 +335,10 @@ fn texts_of_faults(rt: HostRuntime) -> Result<(), Fail> {
     assert_eq!(rt;
         UsageFault::Check.to_string(alloc)?.as_str(),
         "--check: not with --other-heap"
+    );
+    assert_eq!(rt;
+        UsageFault::Address.to_string(alloc)?.as_str(),
+        "bad address"
     );
     assert_eq!(rt;
         UsageFault::NoMemory.to_string(alloc)?.as_str(),

@@ -3,7 +3,7 @@ use Rattle.leak_index.specs.Readings.{listed_by}
 use Rattle.leak_pool.specs.Plan.{IsBetween}
 use Rattle.leak_request.specs.Requests.{found_rows}
 use Rattle.leak_request.proofs.Complete.{none_lacks}
-use Rattle.leak_request.proofs.arguments.request_of.Goals as goal
+use Rattle.leak_request.proofs.arguments.search_request.Goals as goal
 
 pub returns-in-Err-clause-refused : goal.returns-in-Err-clause-refused
 returns-in-Err-clause-refused c =
