@@ -20,7 +20,7 @@ use Rattle.leak_pool.specs.declared.source.Item.{Item}
 use Rattle.leak_pool.specs.declared.source.Item.TheVariants.{Root, Block}
 use Rattle.leak_marks.proofs.ListLemmas.{has_front, has_back, of_append}
 use Rattle.leak_pool.proofs.ScanLemmas.{none_has}
-use Rattle.leak_pool.specs.Rounds.{graph_over, IsStep, IsGoing, AreWords, IsMarked, Going, AreRoots}
+use Rattle.leak_pool.specs.Rounds.{graph_over, IsStep, IsGoing, AreWords, IsMarked, Going}
 use Rattle.leak_pool.specs.Marking.{IsSet}
 use Rattle.leak_pool.proofs.GoingLemmas.{going_on}
 
@@ -132,19 +132,6 @@ marked_none roots targets start w claims set none empty unset inside = record {
     below : (b : ℕ) (before : List ℕ) → IsChain (graph_over roots targets start) (b ∷ before) → b < length targets
     below b [] chain = let p = part_of roots targets b chain.1 in inside (Root p.0) b p.2
     below b (s ∷ before) chain = inside (Block s) b chain.1
-
--- one part of the roots more
-pub roots_more : (n : ℕ) (items more : List Item) → AreRoots n items → more ≡ items ++ Root n ∷ [] → AreRoots (n + 1) more
-roots_more n items more r is = record {
-  len = ap (λ (l : List Item). length l) is ∙ (let e = length-append items (Root n ∷ []) in let l = r.len in omega arith);
-  each = λ k d h. ap (λ (l : List Item). get_or l k d) is
-      ∙ dite (ℕ_discrete k n)
-      (λ e. subst (λ (x : ℕ). get_or (items ++ Root n ∷ []) x d ≡ Root x) (sym e) (get_or_at items (Root n) [] d n r.len))
-      (λ ne. get_or_append_left items (Root n ∷ []) d k (let l = r.len in omega arith) ∙ r.each k d (omega arith));
-}
-
-pub roots_none : (items : List Item) → items ≡ [] → AreRoots 0 items
-roots_none items is = record { len = ap (λ (l : List Item). length l) is; each = λ k d h. absurd (omega arith) }
 
 -- one block of the start more
 pub start_more : (xs now : List ℕ) (b : ℕ) (won : Bool) (s s' : Held) → now ≡ xs ++ b ∷ [] → Within s.claims xs → Within xs s.seen

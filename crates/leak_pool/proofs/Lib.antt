@@ -12,3 +12,4 @@ pub mod AbsorbLemmas
 pub mod StepLemmas
 pub mod GoingLemmas
 pub mod EndLemmas
+pub mod ItemLemmas

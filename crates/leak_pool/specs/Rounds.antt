@@ -7,8 +7,6 @@ use Rattle.leak_marks.specs.Reach.{Graph, Reach}
 use Rattle.leak_marks.specs.Partition.{Partitions}
 use Rattle.leak_pool.specs.Items.{share}
 use Rattle.leak_pool.specs.Marking.{IsSet}
-use Rattle.leak_pool.specs.declared.source.Item.{Item}
-use Rattle.leak_pool.specs.declared.source.Item.TheVariants.{Block, Root}
 use Rattle.leak_marks.specs.Rounds.{IsKept, appended_from, IsUnderWay}
 
 -- what the parts of the roots lead to begins chains
@@ -61,15 +59,6 @@ pub record IsMarked (graph : Graph) (blocks workers : ℕ) (tests : List Bool) (
 pub record AreCounted (items workers until : ℕ) (before after : List ℕ) : Type 0 where
   pub grown : (k : ℕ) → k < until → slice_index_or after k 0 ≡ (slice_index_or before k 0 + (share (k + 1) items workers - share k items workers)) % 2 ^ 64
   pub rest : (k : ℕ) → until ≤ k → slice_index_or after k 0 ≡ slice_index_or before k 0
-
--- the first n parts of the roots as items
-pub record AreRoots (n : ℕ) (items : List Item) : Type 0 where
-  pub len : length items ≡ n
-  pub each : (k : ℕ) (d : Item) → k < n → slice_index_or items k d ≡ Root k
-
--- the blocks as items
-abbrev pub as_items : List ℕ → List Item
-as_items blocks = map Block blocks
 
 -- marking is going on, from some claims of the start
 abbrev pub Going : List (List ℕ) → List (List ℕ) → List ℕ → ℕ → List (List ℕ) → List ℕ → Held → Type 0

@@ -1,9 +1,9 @@
 //! The rounds after the first.
-ghost use Rattle.std.specs.Prelude.{◌≡◌, ◌<◌, ◌≤◌, ◌+◌, ℕ, [], length, IfOk};
-ghost use Rattle.leak_pool.specs.Rounds.{as_items};
+ghost use Rattle.std.specs.Prelude.{◌≡◌, ◌<◌, ◌≤◌, ◌+◌, [], length, IfOk};
 ghost use Rattle.leak_pool.specs.Progress.{IsBetween};
 
 use crate::gate::Gate;
+use crate::items::Items;
 use crate::progress::Progress;
 use crate::rounds::{by_caller, by_workers};
 use crate::search::Search;
@@ -11,17 +11,6 @@ use crate::source::{Item, Source, targets_are_blocks};
 use std::alloc::{AllocError, Global};
 use std::mem::replace;
 use std::thread::Threads;
-
-// The blocks as items.
-fn block_items(alloc: Global, blocks: &[u32]) -> Result<Vec<Item>, AllocError>
-    ensures { IfOk result (λ v. v.items ≡ as_items blocks.now) }
-{
-    let mut items = Vec::with_capacity(alloc, blocks.len())?;
-    for block in blocks {
-        items.push(Item::Block(*block))?;
-    }
-    Ok(items)
-}
 
 /// A later round: the caller scans the first of the blocks that wait, and the workers scan the others.
 pub(crate) fn later<R: Threads + Sync, S: Source + Sync, G: Gate + Sync>(
@@ -39,8 +28,8 @@ pub(crate) fn later<R: Threads + Sync, S: Source + Sync, G: Gate + Sync>(
     targets_are_blocks(search.source);
     let waiting = replace(&mut progress.waiting, Vec::new(alloc));
     by_caller(alloc, search, Item::Block(waiting[0]), &mut progress)?;
-    let items = block_items(alloc, &waiting[1..])?;
-    by_workers(rt, alloc, search, items.as_slice(), progress)
+    let items = Items::Blocks(&waiting[1..]);
+    by_workers(rt, alloc, search, items, progress)
 }
 
 /// Runs the rounds after the first, until no block waits. Gives what is marked then, and the number of rounds, the first

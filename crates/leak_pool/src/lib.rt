@@ -20,6 +20,7 @@ mod error;
 mod gate;
 mod halves;
 mod hand;
+mod items;
 mod later;
 mod linking;
 mod links;

@@ -3,18 +3,19 @@ ghost use Rattle.std.specs.Prelude.{◌≡◌, ◌<◌, ◌≤◌, ◌+◌, [], 
 ghost use Rattle.leak_marks.specs.Lists.{Within, mark_of, word_count};
 ghost use Rattle.leak_marks.specs.Seats.{IsSound};
 ghost use Rattle.leak_pool.specs.Promises.{as_lists};
-ghost use Rattle.leak_pool.specs.Rounds.{AreWords, IsMarked, graph_over, AreRoots};
+ghost use Rattle.leak_pool.specs.Rounds.{AreWords, IsMarked, graph_over};
 ghost use Rattle.leak_pool.specs.Progress.{IsFresh, IsBetween};
 ghost use Rattle.leak_pool.specs.Marking.{IsSet};
 
 use crate::gate::Gate;
+use crate::items::Items;
 use crate::later::until_none;
 use crate::marked::Marked;
 use crate::plan::Plan;
 use crate::progress::Progress;
 use crate::rounds::by_workers;
 use crate::search::Search;
-use crate::source::{Item, Source, targets_are_blocks};
+use crate::source::{Source, targets_are_blocks};
 use leak_marks::laws::whole_runs;
 use leak_marks::{MarkSeat, Marks};
 use std::alloc::{AllocError, Global};
@@ -47,17 +48,6 @@ fn no_claims(alloc: Global, workers: u32) -> Result<Vec<Vec<u32>>, AllocError>
     Ok(claims)
 }
 
-// The parts of the roots as items.
-fn items_of_roots(alloc: Global, roots: usize) -> Result<Vec<Item>, AllocError>
-    ensures { IfOk result (λ v. AreRoots roots v.items) }
-{
-    let mut items = Vec::with_capacity(alloc, roots)?;
-    for k in 0..roots {
-        items.push(Item::Root(k))?;
-    }
-    Ok(items)
-}
-
 /// The first round: the first seat claims the start's blocks, and the workers scan the roots.
 fn first_round<R: Threads + Sync, S: Source + Sync, G: Gate + Sync>(
     rt: &R,
@@ -70,8 +60,8 @@ fn first_round<R: Threads + Sync, S: Source + Sync, G: Gate + Sync>(
 {
     targets_are_blocks(search.source);
     claim_start(search.marks, &mut progress.seat, search.given);
-    let items = items_of_roots(alloc, search.source.roots())?;
-    by_workers(rt, alloc, search, items.as_slice(), progress)
+    let items = Items::Roots(search.source.roots());
+    by_workers(rt, alloc, search, items, progress)
 }
 
 // The words of the marks when no block waits, the claims, and the number of rounds.

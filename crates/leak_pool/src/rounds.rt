@@ -2,13 +2,14 @@
 ghost use Rattle.std.specs.Prelude.{◌≡◌, ◌≤◌, ◌++◌, length, All, IfOk};
 ghost use Rattle.leak_marks.specs.Lists.{Has};
 ghost use Rattle.leak_marks.specs.Rounds.{appended_from};
-ghost use Rattle.leak_pool.specs.Items.{IsItem, targets_of_item};
+ghost use Rattle.leak_pool.specs.Items.{IsItem, items_in, targets_of_item};
 ghost use Rattle.leak_pool.specs.Promises.{as_lists};
 ghost use Rattle.leak_pool.specs.Progress.{IsReady, HasScanned, InItems};
 ghost use Rattle.leak_pool.specs.Rounds.{AreCounted};
 
 use crate::gate::Gate;
 use crate::halves::half;
+use crate::items::Items;
 use crate::progress::Progress;
 use crate::search::{Round, Search};
 use crate::source::{Item, Source};
@@ -57,15 +58,15 @@ pub(crate) fn by_workers<R: Threads + Sync, S: Source + Sync, G: Gate + Sync>(
     rt: &R,
     alloc: Global,
     search: &Search<'_, S, G>,
-    items: &[Item],
+    items: Items<'_>,
     progress: Progress,
 ) -> Result<Progress, AllocError>
     requires ready { IsReady search.now progress }
-    requires items { All (IsItem search.now.roots search.now.targets) items.now }
+    requires items { All (IsItem search.now.roots search.now.targets) (items_in items) }
     ensures ready { IfOk result (IsReady search.now) }
-    ensures done { IfOk result (HasScanned (InItems search.now items.now) search.now progress) }
+    ensures done { IfOk result (HasScanned (InItems search.now (items_in items.entry)) search.now progress) }
 {
-    if items.is_empty() {
+    if items.len() == 0 {
         return Ok(progress);
     }
     let Progress {

@@ -1,8 +1,10 @@
 //! What the rounds of a search share, and what the workers of a round share.
+ghost use Rattle.leak_pool.specs.Items.{items_in};
 ghost use Rattle.leak_pool.specs.Scene.{Scene, IsSearch, Work, IsRound};
 
 use crate::gate::Gate;
-use crate::source::{Item, Source};
+use crate::items::Items;
+use crate::source::Source;
 use leak_marks::Marks;
 use std::marker::Model;
 
@@ -39,14 +41,14 @@ impl<'a, S: Source, G: Gate> Model for Search<'a, S, G> {
 #[derive(Drop)]
 pub(crate) struct Round<'a, 'b, S: Source, G: Gate> {
     pub(crate) search: &'a Search<'b, S, G>,
-    pub(crate) items: &'a [Item],
+    pub(crate) items: Items<'a>,
     pub(crate) steps: &'a [u64],
 }
 
 impl<'a, 'b, S: Source, G: Gate> Model for Round<'a, 'b, S, G> {
     ghost Value = { Work };
 
-    ghost view = { λ r. record { scene = r.search.now; items = r.items.now } };
+    ghost view = { λ r. record { scene = r.search.now; items = items_in r.items } };
 
-    ghost invariant = { λ r. IsRound r.search.now r.items.now r.steps.now };
+    ghost invariant = { λ r. IsRound r.search.now (items_in r.items) r.steps.now };
 }

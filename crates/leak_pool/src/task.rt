@@ -1,5 +1,6 @@
 //! What workers share.
 ghost use Rattle.std.specs.Prelude.{◌≡◌, ◌<◌, ◌≤◌, ◌+◌, ◌↔◌, IsTrue};
+ghost use Rattle.leak_pool.specs.Items.{AreMany};
 ghost use Rattle.leak_pool.specs.Scene.{Work, IsSeatOf, HaveBoth};
 ghost use Rattle.leak_pool.specs.Promises.{HaveScanned};
 
@@ -26,11 +27,12 @@ pub(crate) trait Task {
     fn marks(&self) -> &Marks
         ensures { result.now.table ≡ (work self.now).scene.table };
 
-    /// Whether both the workers from `low` up to `middle` and those from there up to `high` have an item. If not, a
-    /// thread would have nothing to do. Many rounds have one item: those that follow a list.
+    /// Whether both the workers from `low` up to `middle` and those from there up to `high` have an item, and there are so
+    /// many items that a thread is worth its start. If not, one thread scans the shares of both in turn. Many rounds have
+    /// few items: those that follow lists.
     fn is_shared(&self, low: u32, middle: u32, high: u32) -> bool
         requires { (low ≤ middle) × (middle ≤ high) × (high ≤ (work self.now).scene.workers) }
-        ensures { IsTrue result ↔ HaveBoth (work self.now) low middle high };
+        ensures { IsTrue result ↔ (AreMany (work self.now).items × HaveBoth (work self.now) low middle high) };
 
     /// One worker scans its share.
     fn scan_share(&self, alloc: Global, seat: &mut MarkSeat, worker: u32) -> Gained

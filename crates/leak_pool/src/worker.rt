@@ -75,8 +75,9 @@ fn work<S: Source, G: Gate>(
     let search = round.search;
     targets_are_blocks(search.source);
     let items = round.items;
-    let mut next = share_start(worker, items.len(), search.workers);
-    let end = share_start(worker + 1, items.len(), search.workers);
+    let count = items.len();
+    let mut next = share_start(worker, count, search.workers);
+    let end = share_start(worker + 1, count, search.workers);
     let mut step = round.steps[worker as usize];
     'scan: loop {
         if let Some(block) = hand.stack.pop() {
@@ -84,7 +85,7 @@ fn work<S: Source, G: Gate>(
         } else if next < end {
             search.gate.pass(worker, step);
             step = step.wrapping_add(1);
-            scan_one(round, seat, hand, items[next])?;
+            scan_one(round, seat, hand, items.at(next))?;
             next += 1;
         } else {
             return Ok(());
@@ -105,7 +106,9 @@ impl<'a, 'b, S: Source, G: Gate> Task for Round<'a, 'b, S, G> {
         let workers = search.workers;
         let items = self.items.len();
         let start = share_start(middle, items, workers);
-        share_start(low, items, workers) < start && start < share_start(high, items, workers)
+        self.items.are_many()
+            && share_start(low, items, workers) < start
+            && start < share_start(high, items, workers)
     }
 
     fn scan_share(&self, alloc: Global, seat: &mut MarkSeat, worker: u32) -> Gained {

@@ -5,7 +5,7 @@ use Rattle.leak_pool.specs.Items.{IsItem, targets_of_block}
 use Rattle.leak_pool.specs.declared.source.Item.{Item}
 use Rattle.leak_pool.specs.declared.source.Item.TheVariants.{Block}
 use Rattle.leak_pool.specs.declared.progress.Progress.{Progress}
-use Rattle.leak_pool.specs.Rounds.{IsStep, IsGoing, graph_over, as_items}
+use Rattle.leak_pool.specs.Rounds.{IsStep, IsGoing, graph_over}
 use Rattle.leak_pool.specs.Scene.{Scene}
 use Rattle.leak_pool.specs.Progress.{IsReady, IsBetween, HasScanned, InItems, claims_of}
 use Rattle.leak_pool.proofs.CountLemmas.{at_has}
@@ -31,7 +31,8 @@ by_workers-requires-clause-items g c κs within =
     let scene = c.args.search.now in let all = c.replace-waiting.result in
     let some : 0 < length all.items = subst (λ (v : Vec ℕ Global). 0 < length v.items) (sym c.replace-waiting.ensures.value) c.requires.waiting in
     let ws : List ℕ = take (length all.items - 1) (drop 1 all.items) in
-    let is : c.as_slice.result.now ≡ map Block ws = c.as_slice.ensures.value ∙ c.in_ok-items.ensures ∙ ap (λ (l : List ℕ). as_items (take (length l - 1) (drop 1 l))) c.deref.ensures.value in
+    let items : List Item = map Block (take (length c.deref.result.now - 1) (drop 1 c.deref.result.now)) in
+    let is : items ≡ map Block ws = ap (λ (l : List ℕ). map Block (take (length l - 1) (drop 1 l))) c.deref.ensures.value in
     subst (λ (l : List Item). (k : ℕ) (d : Item) → k < length l → IsItem scene.roots scene.targets (get_or l k d)) (sym is)
     (all_blocks scene.roots scene.targets ws
     (λ b h. waits scene c.args.progress all c.requires.between c.replace-waiting.ensures.value b (subst (λ (l : List ℕ). Has l b) (sym (front_rest all.items some)) (there (get_or all.items 0 0) ws b h))))
@@ -39,8 +40,9 @@ by_workers-requires-clause-items g c κs within =
 pub returns-clause-size : goal.returns-clause-size
 returns-clause-size g c =
     let scene = c.args.search.now in let from = c.args.progress in let mid = c.by_caller.new.progress in
+    let items : List Item = map Block (take (length c.deref.result.now - 1) (drop 1 c.deref.result.now)) in
     let first = c.in_ok-by_caller.ensures.done in
-    if_ok (HasScanned (InItems scene c.as_slice.result.now) scene mid) _ c.by_workers.result
+    if_ok (HasScanned (InItems scene items) scene mid) _ c.by_workers.result
     (λ (p : Progress) second. two_steps (targets_of_block scene.targets) _ _ scene.workers (claims_of from) (claims_of mid) (claims_of p) c.replace-waiting.new.dest.items mid.waiting.items p.waiting.items from.seat mid.seat p.seat first.0 second.0 first.1 second.1
     (ap (λ (v : Vec ℕ Global). v.items) c.replace-waiting.ensures.after ∙ c.new.ensures.items) first.2 second.2)
     c.by_workers.ensures.done
@@ -54,14 +56,15 @@ returns-clause-between g c =
     let base : List ℕ = c.requires.between.going.0 in
     let none = ap (λ (v : Vec ℕ Global). v.items) c.replace-waiting.ensures.after ∙ c.new.ensures.items in
     let first = c.in_ok-by_caller.ensures.done in
-    let is : c.as_slice.result.now ≡ map Block ws = c.as_slice.ensures.value ∙ c.in_ok-items.ensures ∙ ap (λ (l : List ℕ). as_items (take (length l - 1) (drop 1 l))) c.deref.ensures.value in
+    let items : List Item = map Block (take (length c.deref.result.now - 1) (drop 1 c.deref.result.now)) in
+    let is : items ≡ map Block ws = ap (λ (l : List ℕ). map Block (take (length l - 1) (drop 1 l))) c.deref.ensures.value in
     let going : IsGoing (graph_over scene.roots scene.targets scene.given) (length scene.targets) scene.workers base (claims_of from) (x ∷ ws) from.seat =
     subst (λ (l : List ℕ). IsGoing (graph_over scene.roots scene.targets scene.given) (length scene.targets) scene.workers base (claims_of from) l from.seat) (sym (ap (λ (v : Vec ℕ Global). v.items) c.replace-waiting.ensures.value) ∙ front_rest all.items some) c.requires.between.going.1 in
     let blocks = targets_of_block scene.targets in
     let one : IsStep blocks (Has (get_or scene.targets x [])) scene.workers (claims_of from) c.replace-waiting.new.dest.items from.seat (claims_of mid) mid.waiting.items mid.seat first.0 first.1 =
     subst (λ (b : ℕ). IsStep blocks (Has (get_or scene.targets b [])) scene.workers (claims_of from) c.replace-waiting.new.dest.items from.seat (claims_of mid) mid.waiting.items mid.seat first.0 first.1) (get_or_read all.items _ _ some c.index.ensures 0) first.2 in
     let inside = subst (λ (s : Scene). (k b : ℕ) → Has (get_or s.targets k []) b → b < length s.targets) c.search.view_is (λ k b h. c.targets_are_blocks.ensures (Block k) b h) in
-    ok_both (IsReady scene) (HasScanned (InItems scene c.as_slice.result.now) scene mid) (IsBetween scene) c.by_workers.result
+    ok_both (IsReady scene) (HasScanned (InItems scene items) scene mid) (IsBetween scene) c.by_workers.result
     (λ (p : Progress) ready two. record {
       ready = ready;
       small = c.requires.between.small;
@@ -69,7 +72,7 @@ returns-clause-between g c =
       going = (
         base,
         later_round scene.roots scene.targets scene.given (length scene.targets) scene.workers base x ws (claims_of from) (claims_of mid) (claims_of p) c.replace-waiting.new.dest.items mid.waiting.items p.waiting.items
-            from.seat mid.seat p.seat first.0 two.0 first.1 two.1 c.as_slice.result.now
+            from.seat mid.seat p.seat first.0 two.0 first.1 two.1 items
             inside is (blocks_long ws) none going one two.2,
         λ b h. two.2.kept.keeps b (one.kept.keeps b (c.requires.between.going.2 b h)),
       );

@@ -1,32 +1,33 @@
-use Rattle.std.proofs.Common.{◌≡◌, ◌<◌, ◌∙◌, ap, sym, subst, ◌^◌, All, ℕ, List, length, arith}
+use Rattle.std.proofs.Common.{◌≡◌, ◌<◌, ◌∙◌, ap, sym, subst, ◌^◌, All, ℕ, List, length, map, arith}
+use Rattle.std.specs.List.{range_with_len}
 use Rattle.leak_marks.specs.Lists.{Has, Within}
 use Rattle.leak_marks.specs.Seats.{Held}
 use Rattle.leak_pool.specs.Items.{IsItem, targets_of_block, targets_of_item}
 use Rattle.leak_pool.specs.declared.source.Item.{Item}
 use Rattle.leak_pool.specs.declared.source.Item.TheVariants.{Root}
-use Rattle.leak_pool.specs.Rounds.{AreRoots, graph_over}
+use Rattle.leak_pool.specs.Rounds.{graph_over}
 use Rattle.leak_pool.specs.Scene.{Scene}
 use Rattle.leak_pool.specs.declared.progress.Progress.{Progress}
 use Rattle.leak_pool.specs.Progress.{IsReady, IsBetween, HasScanned, InItems, claims_of}
 use Rattle.leak_pool.proofs.CountLemmas.{has_at}
 use Rattle.leak_pool.proofs.StepLemmas.{ok_both, one_step}
 use Rattle.leak_pool.proofs.EndLemmas.{going_first, first_going}
+use Rattle.leak_pool.proofs.ItemLemmas.{roots_long, root_at}
 use Rattle.leak_pool.proofs.over.first_round.Goals as goal
 
 pub by_workers-requires-clause-items : goal.by_workers-requires-clause-items
 by_workers-requires-clause-items g c κs within k d h =
     let scene = c.args.search.now in
-    let r : AreRoots c.roots.result c.as_slice.result.now = subst (λ (l : List Item). AreRoots c.roots.result l) (sym c.as_slice.ensures.value) c.in_ok-items.ensures in
     let n : c.roots.result ≡ length scene.roots = c.roots.ensures ∙ ap (λ (s : Scene). length s.roots) c.search.view_is in
-    let l = r.len in
-    subst (λ (i : Item). IsItem scene.roots scene.targets i) (sym (r.each k d (omega arith))) (omega arith)
+    let l = roots_long c.roots.result in
+    subst (λ (i : Item). IsItem scene.roots scene.targets i) (sym (root_at c.roots.result k d (omega arith))) (omega arith)
 
 pub returns : goal.returns
 returns g c =
     let scene = c.args.search.now in let from = c.args.progress in
-    let r : AreRoots c.roots.result c.as_slice.result.now = subst (λ (l : List Item). AreRoots c.roots.result l) (sym c.as_slice.ensures.value) c.in_ok-items.ensures in
     let n : c.roots.result ≡ length scene.roots = c.roots.ensures ∙ ap (λ (s : Scene). length s.roots) c.search.view_is in
-    let l : length c.as_slice.result.now ≡ c.roots.result = r.len in
+    let items : List Item = map Root (range_with_len 0 c.roots.result) in
+    let l : length items ≡ c.roots.result = roots_long c.roots.result in
     let given_is : c.search.inside.given.now ≡ scene.given = ap (λ (s : Scene). s.given) c.search.view_is in
     let seat : Held = c.claim_start.new.seat in
     let mid : Progress = record { seat = seat; claims = from.claims; waiting = from.waiting; steps = from.steps } in
@@ -34,12 +35,12 @@ returns g c =
     let law = subst (λ (s : Scene). (i : Item) (b : ℕ) → Has (targets_of_item s.roots s.targets i) b → b < length s.targets) c.search.view_is (λ i b h. c.targets_are_blocks.ensures i b h) in
     let begun = going_first (graph_over scene.roots scene.targets scene.given) (length scene.targets) scene.workers seat (claims_of from) c.requires.unclaimed c.claim_start.ensures.sound
     (c.claim_start.ensures.same.1 ∙ c.requires.ready.whole) (subst (λ (l : List ℕ). Within l seat.seen) given_is c.claim_start.ensures.seen) (subst (λ (l : List ℕ). Within seat.claims l) given_is c.claim_start.ensures.claims) blocks in
-    ok_both (IsReady scene) (HasScanned (InItems scene c.as_slice.result.now) scene mid) (IsBetween scene) c.by_workers.result
+    ok_both (IsReady scene) (HasScanned (InItems scene items) scene mid) (IsBetween scene) c.by_workers.result
     (λ (p : Progress) ready step. record {
       ready = ready;
       small = subst (λ (s : Scene). length s.targets < 2 ^ 32) c.search.view_is c.search.invariant.small;
       few = one_step (targets_of_block scene.targets) _ scene.workers (claims_of mid) (claims_of p) mid.waiting.items p.waiting.items seat p.seat step.0 step.1 c.requires.idle step.2;
-      going = first_going scene.roots scene.targets scene.given scene.workers seat (claims_of from) (claims_of p) from.waiting.items p.waiting.items p.seat step.0 step.1 c.as_slice.result.now
-          begun c.requires.idle (l ∙ n) (λ k h. r.each k (Root 0) (omega arith)) law step.2;
+      going = first_going scene.roots scene.targets scene.given scene.workers seat (claims_of from) (claims_of p) from.waiting.items p.waiting.items p.seat step.0 step.1 items
+          begun c.requires.idle (l ∙ n) (λ k h. root_at c.roots.result k (Root 0) (omega arith)) law step.2;
     })
     c.by_workers.ensures.ready c.by_workers.ensures.done

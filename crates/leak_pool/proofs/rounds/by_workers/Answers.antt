@@ -1,7 +1,7 @@
 use Rattle.std.proofs.Common.{◌≡◌, ◌<◌, ◌∙◌, ap, subst, ◌++◌, ℕ, List, [], Vec, Global, length, map, arith, rules}
 use Rattle.std.specs.Prelude.{IfOk}
 use Rattle.leak_marks.specs.Rounds.{appended_from}
-use Rattle.leak_pool.specs.Items.{targets_at, targets_of_block}
+use Rattle.leak_pool.specs.Items.{items_in, targets_at, targets_of_block}
 use Rattle.leak_pool.specs.Promises.{IsHalf}
 use Rattle.leak_pool.specs.Scene.{Scene}
 use Rattle.leak_pool.specs.declared.task.Gains.{Gains}
@@ -15,8 +15,8 @@ pub returns-clause-done : goal.returns-clause-done
 returns-clause-done g c =
     let scene = c.args.search.now in let p = c.args.progress in
     let blocks = targets_of_block scene.targets in
-    let targets = targets_at scene.roots scene.targets c.args.items.now in
-    let n : ℕ = length c.args.items.now in
+    let targets = targets_at scene.roots scene.targets (items_in c.args.items) in
+    let n : ℕ = length (items_in c.args.items) in
     let w : ℕ = scene.workers in
     let same_workers : c.search.inside.workers ≡ w = ap (λ (s : Scene). s.workers) c.search.view_is in
     let some : 0 < w = let s = c.search.invariant.some in omega arith in
@@ -34,8 +34,8 @@ returns-clause-done g c =
           (c.in_ok-absorb.ensures.waiting ∙ ap (λ (l : List ℕ). p.waiting.items ++ l) left),
     )
 
-pub returns-then-is_empty-clause-done : goal.returns-then-is_empty-clause-done
-returns-then-is_empty-clause-done g c =
+pub returns-then-len-eq0-clause-done : goal.returns-then-len-eq0-clause-done
+returns-then-len-eq0-clause-done g c =
     let scene = c.args.search.now in let p = c.args.progress in
-    let none : length c.args.items.now ≡ 0 = search rules in
-    ([], [], step_of_none (targets_of_block scene.targets) (targets_at scene.roots scene.targets c.args.items.now) (length c.args.items.now) scene.workers (map items p.claims.items) p.waiting.items p.seat none c.requires.ready.sound)
+    let none : length (items_in c.args.items) ≡ 0 = search rules in
+    ([], [], step_of_none (targets_of_block scene.targets) (targets_at scene.roots scene.targets (items_in c.args.items)) (length (items_in c.args.items)) scene.workers (map items p.claims.items) p.waiting.items p.seat none c.requires.ready.sound)

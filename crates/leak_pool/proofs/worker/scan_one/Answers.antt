@@ -1,7 +1,7 @@
 use Rattle.std.proofs.Common.{◌≡◌, ◌∙◌, ap, sym, subst, ◌-◌, ◌++◌, ℕ, List, [], length, take, drop, append_assoc}
 use Rattle.std.proofs.lemmas.List.{take_rest, drop_at}
 use Rattle.leak_marks.specs.Lists.{Has}
-use Rattle.leak_pool.specs.Items.{targets_of_item}
+use Rattle.leak_pool.specs.Items.{items_in, targets_of_item}
 use Rattle.leak_pool.specs.Promises.{IsScanned}
 use Rattle.leak_pool.specs.Scene.{Scene, Work}
 use Rattle.leak_pool.specs.declared.source.Item.{Item}
@@ -15,7 +15,7 @@ work items scene = record { scene = scene; items = items }
 pub returns-clause-done : goal.returns-clause-done
 returns-clause-done g c =
     let scene : Scene = c.args.round.now.scene in let hand = c.args.hand.now in
-    let is = ap (λ (w : Work). w.scene) (ap (λ (s : Scene). work c.round.inside.items.now s) c.search.view_is ∙ c.round.view_is) in
+    let is = ap (λ (w : Work). w.scene) (ap (λ (s : Scene). work (items_in c.round.inside.items) s) c.search.view_is ∙ c.round.view_is) in
     let before : List ℕ = c.args.seat.now.seen in let after : List ℕ = c.scan.new.seat.seen in let longer : List ℕ = c.scan.new.list.items in
     let done : IsScanned (Has (targets_of_item scene.roots scene.targets c.args.item)) [] before hand.list.items after longer =
     subst (λ (s : Scene). IsScanned (Has (targets_of_item s.roots s.targets c.args.item)) [] before hand.list.items after longer) is c.in_ok-scan.ensures.done in

@@ -3,7 +3,7 @@ use Rattle.std.specs.Prelude.{slice_index_or, vec_capacity}
 use Rattle.std.proofs.lemmas.List.{append-nil, length-append}
 use Rattle.leak_marks.specs.Lists.{Has}
 use Rattle.leak_marks.proofs.ListLemmas.{has_back, has_last}
-use Rattle.leak_pool.specs.Items.{InRange, targets_of_item}
+use Rattle.leak_pool.specs.Items.{InRange, items_in, targets_of_item}
 use Rattle.leak_pool.specs.declared.hand.Hand.{Hand}
 use Rattle.leak_pool.specs.declared.source.Item.{Item}
 use Rattle.leak_pool.specs.declared.source.Item.TheVariants.{Root}
@@ -19,7 +19,7 @@ work items scene = record { scene = scene; items = items }
 pub scan-init : goal.scan-init
 scan-init g c =
     let w = c.args.round.now in let k = c.args.worker in let first = c.share_start-next.result in
-    let mono = share-mono k (k + 1) (length c.round.inside.items.now) c.search.inside.workers c.search.invariant.some (omega arith) in
+    let mono = share-mono k (k + 1) c.len-count.result c.search.inside.workers c.search.invariant.some (omega arith) in
     let empty : length c.args.hand.now.stack.items ≡ 0 = ap (λ (l : List ℕ). length l) c.requires.none.1 in
     record {
       from = omega arith;
@@ -33,7 +33,7 @@ scan-init g c =
 pub scan_one-requires-clause-item : goal.scan_one-requires-clause-item
 scan_one-requires-clause-item g c =
     let w = c.args.round.now in
-    let is = ap (λ (v : Work). v.scene) (ap (λ (s : Scene). work c.round.inside.items.now s) c.search.view_is ∙ c.round.view_is) in
+    let is = ap (λ (v : Work). v.scene) (ap (λ (s : Scene). work (items_in c.round.inside.items) s) c.search.view_is ∙ c.round.view_is) in
     let inside = subst (λ (s : Scene). (i : Item) (b : ℕ) → Has (targets_of_item s.roots s.targets i) b → b < length s.targets) is (λ i b h. c.targets_are_blocks.ensures i b h) in
     let working = c.scan.invariant.working in
     worker_inside w (length w.scene.targets) inside c.share_start-next.result c.scan.next c.args.seat.now c.scan.seat c.scan.hand.list.items c.scan.hand.stack.items c.scan.hand.left.items working c.in-Some.block
@@ -60,7 +60,7 @@ scan-preserved-in-Continue-1 g c =
 pub scan-smaller-in-Continue-1 : goal.scan-smaller-in-Continue-1
 scan-smaller-in-Continue-1 g c =
     let w = c.args.round.now in let i = c.scan.invariant in
-    let is = ap (λ (v : Work). v.scene) (ap (λ (s : Scene). work c.round.inside.items.now s) c.search.view_is ∙ c.round.view_is) in
+    let is = ap (λ (v : Work). v.scene) (ap (λ (s : Scene). work (items_in c.round.inside.items) s) c.search.view_is ∙ c.round.view_is) in
     let inside = subst (λ (s : Scene). (i : Item) (b : ℕ) → Has (targets_of_item s.roots s.targets i) b → b < length s.targets) is (λ i b h. c.targets_are_blocks.ensures i b h) in
     let hand : Hand = record { list = c.scan.hand.list; stack = c.pop.new.self; left = c.scan.hand.left } in
     let later : Hand = c.scan_one.new.hand in
@@ -79,9 +79,10 @@ scan-preserved g c =
     let w = c.args.round.now in let i = c.scan.invariant in
     let hand : Hand = record { list = c.scan.hand.list; stack = c.pop.new.self; left = c.scan.hand.left } in
     let later : Hand = c.scan_one-then-next-end.new.hand in let after = c.scan_one-then-next-end.new.seat in
-    let items : c.round.inside.items.now ≡ w.items = ap (λ (v : Work). v.items) c.round.view_is in
+    let items : (items_in c.round.inside.items) ≡ w.items = ap (λ (v : Work). v.items) c.round.view_is in
     let p : IsPutAway (items_of w c.scan.next) w.scene.stack c.scan.seat after hand later =
-    subst (λ (l : List Item). IsPutAway (targets_of_item w.scene.roots w.scene.targets (slice_index_or l c.scan.next (Root 0))) w.scene.stack c.scan.seat after hand later) items c.in_ok-scan_one-2.ensures.done in
+    subst (λ (l : List Item). IsPutAway (targets_of_item w.scene.roots w.scene.targets (slice_index_or l c.scan.next (Root 0))) w.scene.stack c.scan.seat after hand later) items
+    (subst (λ (i : Item). IsPutAway (targets_of_item w.scene.roots w.scene.targets i) w.scene.stack c.scan.seat after hand later) (c.at.ensures (Root 0)) c.in_ok-scan_one-2.ensures.done) in
     let was : c.scan.hand.stack.items ≡ hand.stack.items = c.in_default.ensures.items ∙ append-nil hand.stack.items in
     let less : length hand.stack.items ≤ w.scene.stack = let f = i.few in let e = ap (λ (l : List ℕ). length l) was in omega arith in
     record {
@@ -97,13 +98,14 @@ scan-preserved g c =
 pub scan-smaller : goal.scan-smaller
 scan-smaller g c =
     let w = c.args.round.now in let i = c.scan.invariant in
-    let is = ap (λ (v : Work). v.scene) (ap (λ (s : Scene). work c.round.inside.items.now s) c.search.view_is ∙ c.round.view_is) in
+    let is = ap (λ (v : Work). v.scene) (ap (λ (s : Scene). work (items_in c.round.inside.items) s) c.search.view_is ∙ c.round.view_is) in
     let inside = subst (λ (s : Scene). (i : Item) (b : ℕ) → Has (targets_of_item s.roots s.targets i) b → b < length s.targets) is (λ i b h. c.targets_are_blocks.ensures i b h) in
     let hand : Hand = record { list = c.scan.hand.list; stack = c.pop.new.self; left = c.scan.hand.left } in
     let later : Hand = c.scan_one-then-next-end.new.hand in let after = c.scan_one-then-next-end.new.seat in
-    let items : c.round.inside.items.now ≡ w.items = ap (λ (v : Work). v.items) c.round.view_is in
+    let items : (items_in c.round.inside.items) ≡ w.items = ap (λ (v : Work). v.items) c.round.view_is in
     let p : IsPutAway (items_of w c.scan.next) w.scene.stack c.scan.seat after hand later =
-    subst (λ (l : List Item). IsPutAway (targets_of_item w.scene.roots w.scene.targets (slice_index_or l c.scan.next (Root 0))) w.scene.stack c.scan.seat after hand later) items c.in_ok-scan_one-2.ensures.done in
+    subst (λ (l : List Item). IsPutAway (targets_of_item w.scene.roots w.scene.targets (slice_index_or l c.scan.next (Root 0))) w.scene.stack c.scan.seat after hand later) items
+    (subst (λ (i : Item). IsPutAway (targets_of_item w.scene.roots w.scene.targets i) w.scene.stack c.scan.seat after hand later) (c.at.ensures (Root 0)) c.in_ok-scan_one-2.ensures.done) in
     let was : c.scan.hand.stack.items ≡ hand.stack.items = c.in_default.ensures.items ∙ append-nil hand.stack.items in
     let same : length c.scan.hand.stack.items ≡ length hand.stack.items = ap (λ (l : List ℕ). length l) was in
     let working : IsWorking (blocks_of w) (InRange (items_of w) c.share_start-next.result (c.scan.next + 1)) c.args.seat.now after later.list.items later.stack.items later.left.items =

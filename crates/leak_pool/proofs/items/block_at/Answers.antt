@@ -1,0 +1,7 @@
+use Rattle.std.proofs.Common.{◌∙◌, ap, sym}
+use Rattle.std.proofs.lemmas.List.{get_or-map, get_or_read}
+use Rattle.leak_pool.specs.declared.source.Item.TheVariants.{Block}
+use Rattle.leak_pool.proofs.items.block_at.Goals as goal
+
+pub returns : goal.returns
+returns c d = sym (get_or-map Block c.args.blocks.now c.args.k 0 d c.requires)

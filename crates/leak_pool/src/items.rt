@@ -1,0 +1,59 @@
+//! What the workers of a round scan.
+ghost use Rattle.std.specs.Prelude.{◌≡◌, ◌↔◌, ◌<◌, IsTrue, length, map, slice_index_or};
+ghost use Rattle.leak_pool.specs.Items.{items_in, AreMany};
+ghost use Rattle.leak_pool.specs.declared.source.Item.{Item};
+ghost use Rattle.leak_pool.specs.declared.source.Item.TheVariants.{Block};
+
+use crate::source::Item;
+
+/// From so many blocks on a round is worth the threads that it starts. Own rule: four workers scan fewer in less time
+/// than their threads take to start.
+const MANY: usize = 1000;
+
+/// The items of a round, which stand in no list of their own: so many parts of the roots, or blocks.
+#[derive(Clone, Copy)]
+pub(crate) enum Items<'a> {
+    Roots(usize),
+    Blocks(&'a [u32]),
+}
+
+impl<'a> Items<'a> {
+    /// How many items there are.
+    pub(crate) fn len(&self) -> usize
+        ensures { result ≡ length (items_in self.now) }
+    {
+        match self {
+            Items::Roots(parts) => *parts,
+            Items::Blocks(blocks) => blocks.len(),
+        }
+    }
+
+    /// The item with the number.
+    pub(crate) fn at(&self, k: usize) -> Item
+        requires { k < length (items_in self.now) }
+        ensures { (d : Item) → result ≡ slice_index_or (items_in self.now) k d }
+    {
+        match self {
+            Items::Roots(_) => Item::Root(k),
+            Items::Blocks(blocks) => block_at(blocks, k),
+        }
+    }
+
+    /// Whether threads are worth their start. The roots are scanned once, and a part of them can have thousands of words.
+    pub(crate) fn are_many(&self) -> bool
+        ensures { IsTrue result ↔ AreMany (items_in self.now) }
+    {
+        match self {
+            Items::Roots(parts) => *parts > 0,
+            Items::Blocks(blocks) => blocks.len() >= MANY,
+        }
+    }
+}
+
+/// The block with the number among those of a round.
+fn block_at(blocks: &[u32], k: usize) -> Item
+    requires { k < length blocks.now }
+    ensures { (d : Item) → result ≡ slice_index_or (map Block blocks.now) k d }
+{
+    Item::Block(blocks[k])
+}
