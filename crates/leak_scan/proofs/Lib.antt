@@ -6,3 +6,4 @@ pub mod Advance
 pub mod Listing
 pub mod Held
 pub mod RootRanges
+pub mod Blocks

@@ -4,7 +4,7 @@ ghost use Rattle.leak_elf.specs.Words.{word_of};
 ghost use Rattle.leak_elf.specs.Aligned.{aligned_words};
 
 use crate::tests::{block, listed, lives};
-use crate::{Pages, Targets};
+use crate::{BlockRuns, Pages, Targets, list_run};
 use leak_elf::{Image, Words, core_k};
 use leak_index::{Reading, Sorted};
 use std::cell::Cell;
@@ -156,5 +156,78 @@ fn runs_are_taken_in_place_of_words(rt: HostRuntime) -> Result<(), Fail> {
     let targets = Targets::of_block(&counted, &lookup, &huge);
     assert_eq!(rt; listed(alloc, targets)?.len(), 0);
     assert_eq!(rt; (counted.asked.get(), counted.runs.get()), (0, 2));
+    Ok(())
+}
+
+#[test]
+fn blocks_in_one_run_ask_for_it_once(rt: HostRuntime) -> Result<(), Fail> {
+    let alloc = rt.alloc();
+    let words = [(0x10100, 0x10200), (0x10118, 0x10210), (0x10128, 0x10240)];
+    let core = core_k(alloc, &words)?;
+    let image = Image::read(alloc, core.as_slice())?;
+    let live = lives(alloc, "+ 0x10200 0x20\n+ 0x10220 0x20\n")?;
+    assert!(rt; live.blocks().len() == 2);
+    let lookup = Sorted::new(&live, Reading::interior());
+    let counted = CountedRuns::new(&image);
+    let mut runs = BlockRuns::new(&counted);
+    // the second has a byte more than its words, and the third begins before both
+    let starts = [(0x10100, 0x20), (0x10120, 0x11), (0x100f0, 0x18)];
+    let found: [&[u32]; 3] = [&[0, 0], &[1], &[0]];
+    for ((start, size), wanted) in starts.iter().zip(found) {
+        let mut targets = Vec::new(alloc);
+        let Some(bytes) = runs.of_block(&block(*start, *size)) else {
+            return Ok(assert!(rt; false, "{start} is in the core"));
+        };
+        assert!(rt; list_run(&lookup, bytes, 2, &mut targets)?, "{start}");
+        assert_eq!(rt; targets.as_slice(), wanted, "{start}");
+    }
+    assert_eq!(rt; (counted.asked.get(), counted.runs.get()), (0, 2));
+    Ok(())
+}
+
+#[test]
+fn blocks_outside_a_run_have_no_bytes(rt: HostRuntime) -> Result<(), Fail> {
+    let alloc = rt.alloc();
+    let core = core_k(alloc, &[])?;
+    let image = Image::read(alloc, core.as_slice())?;
+    let mut runs = BlockRuns::new(&image);
+    // (the core ends at 0x11000; a block of less than 8 bytes has no word)
+    let cases = [
+        (0x10ff0, 0x10, Some(0x10)),
+        (0x10ff0, 0x17, Some(0x10)),
+        (0x10ff0, 0x18, None),
+        (0x10ff4, 0x8, None),
+        (0x10ff4, 0x7, Some(0)),
+        (0x20000, 0x8, None),
+        (0x10000, 0x1000, Some(0x1000)),
+    ];
+    for (start, size, bytes) in cases {
+        let found = runs.of_block(&block(start, size)).map(|run| run.len());
+        assert_eq!(rt; found, bytes, "{start} {size}");
+    }
+    Ok(())
+}
+
+#[test]
+fn a_run_with_more_targets_than_room_is_told(rt: HostRuntime) -> Result<(), Fail> {
+    let alloc = rt.alloc();
+    let core = core_k(alloc, &[(0x10100, 0x10200), (0x10108, 0x10220)])?;
+    let image = Image::read(alloc, core.as_slice())?;
+    let live = lives(alloc, "+ 0x10200 0x20\n+ 0x10220 0x20\n")?;
+    assert!(rt; live.blocks().len() == 2);
+    let lookup = Sorted::new(&live, Reading::interior());
+    let Some(bytes) = BlockRuns::new(&image).of_block(&block(0x10100, 0x10)) else {
+        return Ok(assert!(rt; false, "the block is in the core"));
+    };
+    // the second word is one past the end of the first block, too
+    for (room, fits) in [(0, false), (1, false), (2, false), (3, true)] {
+        let mut targets = Vec::new(alloc);
+        assert_eq!(rt;
+            list_run(&lookup, bytes, room, &mut targets)?,
+            fits,
+            "{room}"
+        );
+        assert_eq!(rt; targets.len(), room, "{room}");
+    }
     Ok(())
 }

@@ -12,6 +12,7 @@
 //! addresses are those of x86-64. The contracts don't say how much is read.
 #![tactic(auto)]
 
+mod block_runs;
 #[cfg(test)]
 mod counted;
 mod course;
@@ -24,11 +25,14 @@ mod reading;
 #[cfg(test)]
 mod root_tests;
 mod root_words;
+mod run_targets;
 mod targets;
 #[cfg(test)]
 mod tests;
 
+pub use block_runs::BlockRuns;
 pub use holding::heads;
 pub use laws::{ranges_lead_less, targets_are_blocks, worked_heads, worked_targets};
 pub use pages::Pages;
+pub use run_targets::list_run;
 pub use targets::Targets;

@@ -1,0 +1,26 @@
+-- One more word.
+use Rattle.std.proofs.Common.{◌≡◌, ◌∷◌, ◌∙◌, ◌++◌, ◌^◌, ap, sym, subst, ◌<◌, ℕ, List, length, arith, rules}
+use Rattle.std.specs.List.{AllByRecursion}
+use Rattle.leak_scan.specs.Places.{words_in}
+use Rattle.leak_scan.specs.Targets.{targets_of}
+use Rattle.leak_scan.proofs.Blocks.{word_listed, all_listed, all_small}
+use Rattle.leak_scan.proofs.Runs.{words_more}
+use Rattle.leak_scan.proofs.run_targets.list_run.Goals as goal
+
+pub list_hits-requires-clause-small : goal.list_hits-requires-clause-small
+list_hits-requires-clause-small g c =
+    let index = g.L.Lookup.index c.args.lookup.now in
+    subst (λ (l : List ℕ). AllByRecursion (λ b. b < 2 ^ 32) l) (sym c.hits.ensures)
+    (all_small (length index.blocks) (2 ^ 32) _ (omega (arith, c.requires.few)) (c.hits_are_blocks.ensures index c.split_word-word.result.0))
+
+pub loop-rest-preserved : goal.loop-rest-preserved
+loop-rest-preserved g c =
+    let index = g.L.Lookup.index c.args.lookup.now in
+    let more : words_in c.loop-rest.rest.now ≡ c.split_word-word.result.0 ∷ words_in c.split_word-word.result.1.now = rw (c.split_word-word.ensures.word, c.split_word-word.ensures.rest) (words_more _ c.loop-rest-test.true) in
+    record {
+      within = c.in_ok-list_hits.ensures.within;
+      listed = word_listed index c.loop-rest.targets.items _ _ c.loop-rest.rest.now c.split_word-word.result.1.now _ c.split_word-word.result.0 more c.hits.ensures (c.in_ok-list_hits.ensures.listed (search rules)) c.loop-rest.invariant.listed;
+    }
+
+pub returns-clause-listed : goal.returns-clause-listed
+returns-clause-listed g c _ = all_listed (g.L.Lookup.index c.args.lookup.now) _ c.loop-rest.rest.now _ c.loop-rest-test.false c.loop-rest.invariant.listed

@@ -1,0 +1,69 @@
+//! Lists what words lead to.
+ghost use Rattle.std.specs.Prelude.{◌≡◌, ◌<◌, ◌≤◌, ◌++◌, ◌∷◌, [], ◌^◌, length, IfOk, IsTrue};
+ghost use Rattle.std.specs.List.{AllByRecursion};
+ghost use Rattle.leak_index.specs.Hits.{hits_in};
+ghost use Rattle.leak_scan.specs.Targets.{targets_of};
+ghost use Rattle.leak_scan.specs.Places.{words_in};
+
+use crate::first::split_word;
+use leak_index::{Hits, Lookup, hits_are_blocks};
+use std::alloc::AllocError;
+
+/// Lists what the words of a run lead to after the others, unless that makes more than so many. Each 8 bytes are a word.
+pub fn list_run<L: Lookup>(
+    lookup: &L,
+    run: &[u8],
+    room: usize,
+    targets: &mut Vec<u32>,
+) -> Result<bool, AllocError>
+    requires few { length (L.index lookup.now).blocks < 2 ^ 32 }
+    requires within { length targets.old.items ≤ room }
+    ensures within { length targets.new.items ≤ room }
+    ensures listed { IfOk result (λ fits. IsTrue fits →
+        targets.new.items ≡ targets.old.items ++ targets_of (L.index lookup.now) (words_in run.now)) }
+{
+    // (a law, for the proof: each hit is the number of a block)
+    hits_are_blocks();
+    let mut rest = run;
+    while rest.len() >= 8 {
+        let (word, others) = split_word(rest);
+        rest = others;
+        if !list_hits(lookup.hits(word), room, targets)? {
+            return Ok(false);
+        }
+    }
+    Ok(true)
+}
+
+/// Lists the blocks that a word leads to after the others.
+fn list_hits(hits: Hits, room: usize, targets: &mut Vec<u32>) -> Result<bool, AllocError>
+    requires small { AllByRecursion (λ block. block < 2 ^ 32) (hits_in hits) }
+    requires within { length targets.old.items ≤ room }
+    ensures within { length targets.new.items ≤ room }
+    ensures listed { IfOk result (λ fits. IsTrue fits → targets.new.items ≡ targets.old.items ++ hits_in hits) }
+{
+    match hits {
+        Hits::Zero => Ok(true),
+        Hits::One(block) => list_target(block, room, targets),
+        Hits::Two(first, second) => {
+            if !list_target(first, room, targets)? {
+                return Ok(false);
+            }
+            list_target(second, room, targets)
+        }
+    }
+}
+
+/// Lists a block after the others.
+fn list_target(block: usize, room: usize, targets: &mut Vec<u32>) -> Result<bool, AllocError>
+    requires small { block < 2 ^ 32 }
+    requires within { length targets.old.items ≤ room }
+    ensures within { length targets.new.items ≤ room }
+    ensures listed { IfOk result (λ fits. IsTrue fits → targets.new.items ≡ targets.old.items ++ block ∷ []) }
+{
+    if targets.len() >= room {
+        return Ok(false);
+    }
+    targets.push(block as u32)?;
+    Ok(true)
+}
