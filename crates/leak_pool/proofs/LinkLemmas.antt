@@ -7,6 +7,7 @@ use Rattle.std.specs.Prelude.{IfOk, IfSome}
 use Rattle.std.specs.Fork.{IsChunk}
 use Rattle.std.specs.declared.alloc.AllocError.{AllocError}
 use Rattle.leak_blocks.specs.declared.block.Block.{Block}
+use Rattle.leak_elf.specs.Words.{words_between}
 use Rattle.leak_index.specs.Hits.{Index}
 use Rattle.leak_scan.specs.Targets.{targets_of, block_words, block_targets}
 use Rattle.leak_pool.specs.Items.{targets_of_block}
@@ -86,6 +87,10 @@ listed_more lists n starts targets more longer behind listed joined is grown =
 pub target_of : (word_at : ℕ → Option ℕ) (index : Index) (blocks : List Block) (k : ℕ) (d : Block) → k < length blocks → targets_of_block (map (block_targets word_at index) blocks) k ≡ targets_of index (block_words word_at (get_or blocks k d))
 unfolding block_targets
 target_of word_at index blocks k d h = get_or-map (block_targets word_at index) blocks k d [] h
+
+-- the same memory leads to the same
+pub moved : (f g : ℕ → Option ℕ) (index : Index) (from to : ℕ) (now before : List ℕ) → f ≡ g → now ≡ before ++ targets_of index (words_between f from to) → now ≡ before ++ targets_of index (words_between g from to)
+moved f g index from to now before same is = subst (λ (h : ℕ → Option ℕ). now ≡ before ++ targets_of index (words_between h from to)) same is
 
 -- ---- rows of all blocks
 

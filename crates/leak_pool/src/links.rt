@@ -2,7 +2,7 @@
 ghost use Rattle.std.specs.Prelude.{◌≡◌, ◌<◌, ◌≤◌, ◌^◌, ◌++◌, ℕ, List, Ok, Some, length, map, slice_index_or, IfOk, IfSome, IsTrue};
 ghost use Rattle.leak_marks.specs.Lists.{Has};
 ghost use Rattle.leak_marks.specs.Seats.{IsSound};
-ghost use Rattle.leak_scan.specs.Targets.{block_targets};
+ghost use Rattle.leak_scan.specs.Targets.{block_targets, block_words, targets_of};
 ghost use Rattle.leak_pool.specs.Items.{targets_of_block};
 ghost use Rattle.leak_pool.specs.Links.{AreListed, AreLinks};
 ghost use Rattle.leak_pool.specs.LinksLaw.{links_prop};
@@ -16,7 +16,7 @@ use leak_blocks::Block;
 use leak_elf::Words;
 use leak_index::Lookup;
 use leak_marks::{MarkSeat, Marks};
-use leak_scan::Targets;
+use leak_scan::{BlockRuns, Targets, list_run};
 use std::alloc::{AllocError, Global};
 use std::thread::{Threads, map_chunks};
 
@@ -59,6 +59,28 @@ fn list_targets<W: Words, L: Lookup>(
     Ok(true)
 }
 
+// Lists what a block leads to after the others, unless that makes more than so many.
+fn list_block<W: Words, L: Lookup>(
+    runs: &mut BlockRuns<'_, W>,
+    lookup: &L,
+    block: &Block,
+    room: usize,
+    targets: &mut Vec<u32>,
+) -> Result<bool, AllocError>
+    requires few { length (L.index lookup.now).blocks < 2 ^ 32 }
+    requires within { length targets.old.items ≤ room }
+    ensures same { runs.new.words.now ≡ runs.old.words.now }
+    ensures within { length targets.new.items ≤ room }
+    ensures listed { let led = targets_of (L.index lookup.now) (block_words (W.word_at runs.old.words.now) block.now) in
+        IfOk result (λ fits. IsTrue fits → targets.new.items ≡ targets.old.items ++ led) }
+{
+    if let Some(bytes) = runs.of_block(block) {
+        return list_run(lookup, bytes, room, targets);
+    }
+    let found = Targets::of_block(runs.words, lookup, block);
+    list_targets(found, room, targets)
+}
+
 // What the blocks lead to, unless they lead to more than so many.
 fn rows_of<W: Words, L: Lookup>(
     alloc: Global,
@@ -75,9 +97,9 @@ fn rows_of<W: Words, L: Lookup>(
     starts.reserve(blocks.len())?;
     starts.push(0)?;
     let mut targets = Vec::new(alloc);
+    let mut runs = BlockRuns::new(words);
     for k in 0..blocks.len() {
-        let found = Targets::of_block(words, lookup, &blocks[k]);
-        if !list_targets(found, room as usize, &mut targets)? {
+        if !list_block(&mut runs, lookup, &blocks[k], room as usize, &mut targets)? {
             return Ok(None);
         }
         starts.push(targets.len() as u32)?;
