@@ -18,54 +18,109 @@ struct Case {
     fits: bool,
 }
 
-/// A block of 32 bytes at 0x10100.
-const fn of_32(name: &'static str, core: &'static [Part], fits: bool) -> Case {
-    Case {
-        name,
-        core,
-        log: "+ 0x10100 0x20\n",
-        start: 0x10100,
-        size: 32,
-        fits,
-    }
-}
+/// The log of the block of 32 bytes.
+const OF_32: &str = "+ 0x10100 0x20\n";
 
 /// The least chunk of a block of 32 bytes at 0x10100, and the next one.
 const CHUNK: [Part; 2] = [Part::Word(0x100f8, 0x31), Part::Word(0x10128, 0x21)];
 
 static CASES: [Case; 16] = [
-    of_32("a chunk in use", &CHUNK, true),
-    of_32(
-        "16 bytes more",
-        &[Part::Word(0x100f8, 0x41), Part::Word(0x10138, 1)],
-        true,
-    ),
-    of_32(
-        "32 bytes more",
-        &[Part::Word(0x100f8, 0x51), Part::Word(0x10148, 1)],
-        true,
-    ),
-    of_32(
-        "48 bytes more",
-        &[Part::Word(0x100f8, 0x61), Part::Word(0x10158, 1)],
-        false,
-    ),
-    of_32(
-        "a free chunk",
-        &[Part::Word(0x100f8, 0x31), Part::Word(0x10128, 0x20)],
-        false,
-    ),
-    of_32(
-        "another arena",
-        &[Part::Word(0x100f8, 0x35), Part::Word(0x10128, 1)],
-        true,
-    ),
-    of_32("a mapping", &[Part::Word(0x100f8, 0x1002)], true),
-    of_32("the least mapping", &[Part::Word(0x100f8, 0x32)], true),
-    of_32("a small mapping", &[Part::Word(0x100f8, 0x22)], false),
-    of_32("a large mapping", &[Part::Word(0x100f8, 0x1042)], false),
-    of_32("the largest mapping", &[Part::Word(0x100f8, 0x1032)], true),
-    of_32("no chunk", &[], false),
+    Case {
+        name: "a chunk in use",
+        core: &CHUNK,
+        log: OF_32,
+        start: 0x10100,
+        size: 32,
+        fits: true,
+    },
+    Case {
+        name: "16 bytes more",
+        core: &[Part::Word(0x100f8, 0x41), Part::Word(0x10138, 1)],
+        log: OF_32,
+        start: 0x10100,
+        size: 32,
+        fits: true,
+    },
+    Case {
+        name: "32 bytes more",
+        core: &[Part::Word(0x100f8, 0x51), Part::Word(0x10148, 1)],
+        log: OF_32,
+        start: 0x10100,
+        size: 32,
+        fits: true,
+    },
+    Case {
+        name: "48 bytes more",
+        core: &[Part::Word(0x100f8, 0x61), Part::Word(0x10158, 1)],
+        log: OF_32,
+        start: 0x10100,
+        size: 32,
+        fits: false,
+    },
+    Case {
+        name: "a free chunk",
+        core: &[Part::Word(0x100f8, 0x31), Part::Word(0x10128, 0x20)],
+        log: OF_32,
+        start: 0x10100,
+        size: 32,
+        fits: false,
+    },
+    Case {
+        name: "another arena",
+        core: &[Part::Word(0x100f8, 0x35), Part::Word(0x10128, 1)],
+        log: OF_32,
+        start: 0x10100,
+        size: 32,
+        fits: true,
+    },
+    Case {
+        name: "a mapping",
+        core: &[Part::Word(0x100f8, 0x1002)],
+        log: OF_32,
+        start: 0x10100,
+        size: 32,
+        fits: true,
+    },
+    Case {
+        name: "the least mapping",
+        core: &[Part::Word(0x100f8, 0x32)],
+        log: OF_32,
+        start: 0x10100,
+        size: 32,
+        fits: true,
+    },
+    Case {
+        name: "a small mapping",
+        core: &[Part::Word(0x100f8, 0x22)],
+        log: OF_32,
+        start: 0x10100,
+        size: 32,
+        fits: false,
+    },
+    Case {
+        name: "a large mapping",
+        core: &[Part::Word(0x100f8, 0x1042)],
+        log: OF_32,
+        start: 0x10100,
+        size: 32,
+        fits: false,
+    },
+    Case {
+        name: "the largest mapping",
+        core: &[Part::Word(0x100f8, 0x1032)],
+        log: OF_32,
+        start: 0x10100,
+        size: 32,
+        fits: true,
+    },
+    Case {
+        name: "no chunk",
+        core: &[],
+        log: OF_32,
+        start: 0x10100,
+        size: 32,
+        fits: false,
+    },
     Case {
         name: "no word before the block",
         core: &[Part::Word(0x10018, 1)],
