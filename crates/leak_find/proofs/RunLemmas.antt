@@ -12,13 +12,18 @@ use Rattle.leak_search.specs.declared.error.FindError.{FindError}
 use Rattle.leak_search.specs.declared.error.FindError.TheVariants.{NoMemory}
 use Rattle.leak_find.specs.declared.fault.ReadFault.{ReadFault}
 use Rattle.leak_find.specs.declared.fault.RunFault.{RunFault}
-use Rattle.leak_find.specs.declared.fault.RunFault.TheVariants.{Read, Find, Write}
+use Rattle.leak_find.specs.declared.fault.RunFault.TheVariants.{Read, Find, NoBlock, Write}
 use Rattle.leak_search.specs.declared.found.Found.{Found}
 use Rattle.leak_request.specs.declared.options.Options.{Options}
 use Rattle.leak_search.specs.Inputs.{IsFaultOfOne, IsFaultOfTwo}
 use Rattle.leak_find.specs.Reading.{IsWholeInput, IsStopped}
 use Rattle.leak_request.specs.Requests.{file_count}
 use Rattle.leak_find.specs.Run.{left_in, input_at, limit_at, AreInputs, Finds, IsFaultOf, HasFound, IsReaderFault, IsFindFault, IsSearchFault}
+use Rattle.leak_search.specs.Holding.{IsWhyFault, TellsWhy}
+use Rattle.leak_search.specs.declared.holding.Why.{Why}
+use Rattle.leak_search.specs.declared.holding.WhyError.{WhyError}
+use Rattle.leak_search.specs.declared.holding.WhyError.TheVariants.{Find as Refused, NoBlock as Missing}
+use Rattle.leak_find.specs.Why.{HasTold, IsAskFault, IsHoldingFault, at_asking}
 use Rattle.leak_search.specs.Search.{FindsOne}
 use Rattle.leak_search.specs.Signs.{AreSigns}
 use Rattle.leak_search.specs.SearchTwo.{FindsTwo}
@@ -106,7 +111,16 @@ stopped o before mid after inputs (Read number e) so_far few fault others = reco
   later = λ i h. let n = fault.0 in others i (λ same. absurd (omega (arith, h, n, same))) ∙ so_far.later i (omega (arith, h, n));
 }
 stopped o before mid after inputs (Find e) so_far few fault others = absurd fault
+stopped o before mid after inputs (NoBlock a) so_far few fault others = absurd fault
 stopped o before mid after inputs (Write f) so_far few fault others = absurd fault
+
+pub ask_stopped : (o : Options) (address : ℕ) (before mid after : List (Option (List ℕ))) (inputs : List (List ℕ)) (e : RunFault) → SoFar o before mid inputs
+    → length inputs + 1 ≤ file_count o.two → IsReaderFault mid after (length inputs) (limit_at o (length inputs)) e
+    → ((i : ℕ) → i ≢ length inputs → left_in after i ≡ left_in mid i) → IsAskFault o address before after e
+ask_stopped o address before mid after inputs (Read number e) so_far few fault others = stopped o before mid after inputs (Read number e) so_far few fault others
+ask_stopped o address before mid after inputs (Find e) so_far few fault others = absurd fault
+ask_stopped o address before mid after inputs (NoBlock a) so_far few fault others = absurd fault
+ask_stopped o address before mid after inputs (Write f) so_far few fault others = absurd fault
 
 -- ---- searches of what was read
 
@@ -140,6 +154,32 @@ fault_one o before after core log core_read log_read e one so_far core_is log_is
   fault = λ other. subst (λ (b : Bool). IsFaultOf b (core ∷ log ∷ []) e) (sym one)
       (subst (λ (l : List ℕ). IsFaultOfOne core l e) log_is (subst (λ (c : List ℕ). IsFaultOfOne c log_read e) core_is (fault other)));
 }
+
+-- ---- a block that is asked for in what was read
+
+module _ (o : Options) (address : ℕ) (before after : List (Option (List ℕ))) (core log core_read log_read : List ℕ)
+    (so_far : SoFar o before after (core ∷ log ∷ [])) (core_is : core_read ≡ core) (log_is : log_read ≡ log) where
+  pub has_told : (why : Why) → TellsWhy core_read log_read (listed_by o.reading) o.skip address why → HasTold o address before after why
+  has_told why tells = record {
+    inputs = core ∷ log ∷ [];
+    count = refl;
+    read = so_far.read;
+    tells = subst (λ (l : List ℕ). TellsWhy core l (listed_by o.reading) o.skip address why) log_is
+        (subst (λ (c : List ℕ). TellsWhy c log_read (listed_by o.reading) o.skip address why) core_is tells);
+  }
+
+  pub holding_fault : (e : WhyError) → (e ≢ Refused NoMemory → IsWhyFault core_read log_read address e) → IsHoldingFault o address before after e
+  holding_fault e fault = record {
+    inputs = core ∷ log ∷ [];
+    count = refl;
+    read = so_far.read;
+    fault = λ other. subst (λ (l : List ℕ). IsWhyFault core l address e) log_is
+        (subst (λ (c : List ℕ). IsWhyFault c log_read address e) core_is (fault other));
+  }
+
+  pub ask_fault : (e : WhyError) → (e ≢ Refused NoMemory → IsWhyFault core_read log_read address e) → IsAskFault o address before after (at_asking e)
+  ask_fault (Refused e) fault = holding_fault (Refused e) fault
+  ask_fault (Missing a) fault = holding_fault (Missing a) fault
 
 module _ (o : Options) (before after : List (Option (List ℕ))) (core1 log1 core2 log2 core1_read log1_read core2_read log2_read : List ℕ) (two : o.two ≡ true)
     (so_far : SoFar o before after (core1 ∷ log1 ∷ core2 ∷ log2 ∷ [])) (core1_is : core1_read ≡ core1) (log1_is : log1_read ≡ log1) (core2_is : core2_read ≡ core2) (log2_is : log2_read ≡ log2) where

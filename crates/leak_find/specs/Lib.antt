@@ -1,3 +1,4 @@
 pub mod Reading
 pub mod Reads
 pub mod Run
+pub mod Why

@@ -8,7 +8,7 @@ use Rattle.leak_search.specs.declared.error.FindError.TheVariants.{NoMemory}
 use Rattle.leak_search.specs.declared.found.Found.{Found}
 use Rattle.leak_find.specs.declared.fault.ReadFault.{ReadFault}
 use Rattle.leak_find.specs.declared.fault.RunFault.{RunFault}
-use Rattle.leak_find.specs.declared.fault.RunFault.TheVariants.{Read, Find, Write}
+use Rattle.leak_find.specs.declared.fault.RunFault.TheVariants.{Read, Find, NoBlock, Write}
 use Rattle.leak_request.specs.declared.options.Options.{Options}
 use Rattle.leak_search.specs.Inputs.{IsFaultOfOne, IsFaultOfTwo}
 use Rattle.leak_find.specs.Reading.{IsWholeInput, IsStopped}
@@ -80,6 +80,7 @@ pub record Runs (o : Options) (before after : List (Option (List ℕ))) (held ho
 abbrev pub IsReaderFault : List (Option (List ℕ)) → List (Option (List ℕ)) → ℕ → ℕ → RunFault → Type 0
 IsReaderFault before after i limit (Read n e) = (n ≡ i + 1) × IsStopped (left_in before i) (left_in after i) limit e
 IsReaderFault before after i limit (Find e) = ⊥
+IsReaderFault before after i limit (NoBlock a) = ⊥
 IsReaderFault before after i limit (Write f) = ⊥
 
 -- The readers before the one with the number, from 1, were read to their ends, and those after it were not read
@@ -109,10 +110,12 @@ pub record IsWriteFault (o : Options) (before after : List (Option (List ℕ))) 
 abbrev pub IsSearchFault : Options → List (Option (List ℕ)) → List (Option (List ℕ)) → RunFault → Type 0
 IsSearchFault o before after (Read n e) = IsReadFault o before after n e
 IsSearchFault o before after (Find e) = IsFindFault o before after e
+IsSearchFault o before after (NoBlock a) = ⊥
 IsSearchFault o before after (Write f) = ⊥
 
 -- why a run gives no status: nothing is written before the report is made
 abbrev pub IsRunFault : Options → List (Option (List ℕ)) → List (Option (List ℕ)) → Option (List ℕ) → Option (List ℕ) → RunFault → Type 0
 IsRunFault o before after held holds (Read n e) = Keeps held holds × IsReadFault o before after n e
 IsRunFault o before after held holds (Find e) = Keeps held holds × IsFindFault o before after e
+IsRunFault o before after held holds (NoBlock a) = ⊥
 IsRunFault o before after held holds (Write f) = IsWriteFault o before after held holds f

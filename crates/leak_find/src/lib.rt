@@ -7,8 +7,9 @@
 //!
 //! [`find_alone`] searches one core on the caller's thread, [`find_one`] by worker threads, under the same promise, and
 //! [`find_two`] searches a later core from what an earlier one says. [`find_why`] tells why a block is held. These stand
-//! in `leak_search`, where it is also said what a leak, a root and a chain are. [`run`] does the same from readers to
-//! writers: how inputs are read, and what a run comes to, is said in `specs/Reads.antt` and `specs/Run.antt`.
+//! in `leak_search`, where it is also said what a leak, a root and a chain are. [`run`] and [`run_why`] do
+//! the same from readers to writers: how inputs are read, and what a run comes to, is said in `specs/Reads.antt`,
+//! `specs/Run.antt` and `specs/Why.antt`.
 //!
 //! An allocation of 32 bytes, and a core in which no word leads to it:
 //!
@@ -26,10 +27,12 @@
 //! the program, or how long a search takes.
 #![tactic(auto)]
 
+mod asking;
 mod fault;
 mod readers;
 mod running;
 
+pub use asking::run_why;
 pub use fault::{ReadFault, RunFault};
 pub use leak_index::{Reading, ReadingError};
 pub use leak_pool::{Gate, Open, Plan, PlanError};

@@ -17,7 +17,7 @@ use std::io::{Read, Write};
 use std::thread::Threads;
 
 /// Reads the reader with the number, from 0, to its end.
-fn read_reader<R: Read>(
+pub(crate) fn read_reader<R: Read>(
     alloc: Global,
     readers: &mut [R],
     number: u8,

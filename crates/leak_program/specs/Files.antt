@@ -5,6 +5,7 @@ use Rattle.leak_request.specs.declared.options.Options.{Options}
 use Rattle.leak_request.specs.declared.options.Request.{Request}
 use Rattle.leak_find.specs.declared.fault.RunFault.{RunFault}
 use Rattle.leak_find.specs.Run.{IsRunFault, Runs}
+use Rattle.leak_find.specs.Why.{IsWhyRunFault, RunsWhy}
 use Rattle.leak_program.specs.declared.failure.Failure.{Failure}
 use Rattle.leak_program.specs.declared.failure.Failure.TheVariants.{Word, Usage, Open, Run, NoMemory}
 
@@ -21,6 +22,19 @@ pub record FailsFiles (o : Options) (held holds : Option (List ℕ)) (fault : Ru
   pub after : List (Option (List ℕ))
   pub fails : IsRunFault o before after held holds fault
 
+-- some readers were read by the options and asked for the block of the address; the answer was written, and nothing
+-- else; the status is that of the answer
+pub record AsksFiles (o : Options) (address : ℕ) (held holds : Option (List ℕ)) (status : ℕ) : Type 0 where
+  pub before : List (Option (List ℕ))
+  pub after : List (Option (List ℕ))
+  pub runs : RunsWhy o address before after held holds status
+
+-- some readers were read by the options, and gave no answer for this reason
+pub record FailsAsked (o : Options) (address : ℕ) (held holds : Option (List ℕ)) (fault : RunFault) : Type 0 where
+  pub before : List (Option (List ℕ))
+  pub after : List (Option (List ℕ))
+  pub fails : IsWhyRunFault o address before after held holds fault
+
 -- one of the paths can't be opened, or an allocation failed
 abbrev pub IsOpenFault : List (List ℕ) → Failure → Type 0
 IsOpenFault paths Word = ⊥
@@ -36,3 +50,11 @@ IsFileFault r held holds (Usage fault) = ⊥
 IsFileFault r held holds (Open path) = Keeps held holds × Contains (map string_bytes r.paths.items) (string_bytes path)
 IsFileFault r held holds (Run fault) = FailsFiles r.options held holds fault
 IsFileFault r held holds NoMemory = Keeps held holds
+
+-- the same of files that are asked for the block of an address
+abbrev pub IsAskFailure : Request → ℕ → Option (List ℕ) → Option (List ℕ) → Failure → Type 0
+IsAskFailure r address held holds Word = ⊥
+IsAskFailure r address held holds (Usage fault) = ⊥
+IsAskFailure r address held holds (Open path) = Keeps held holds × Contains (map string_bytes r.paths.items) (string_bytes path)
+IsAskFailure r address held holds (Run fault) = FailsAsked r.options address held holds fault
+IsAskFailure r address held holds NoMemory = Keeps held holds

@@ -5,6 +5,7 @@ ghost use Rattle.std.specs.Io.KnownBytes.{Keeps};
 ghost use Rattle.leak_program.specs.Answer.{Answers, IsFailureOf};
 ghost use Rattle.leak_program.specs.Sample.{SearchesSample};
 
+use crate::asking::ask_files;
 use crate::failure::Failure;
 use crate::files::search_files;
 use crate::sample::search_sample;
@@ -15,7 +16,8 @@ use std::thread::Threads;
 
 /// Searches what the words ask for, which begin with the program's name, writes the report to the first writer and then
 /// the warnings to the second, and gives the status: 0 where nothing leaked, and 1 otherwise; with `--strict`, 3 where
-/// there is a warning.
+/// there is a warning. Where the words ask what holds a block, the answer is written to the first writer, and the status
+/// is 0 where the block is held, and 1 where it leaked.
 ///
 /// Where no word follows the name, a sample is searched. After a refusal nothing is written, unless it is the writer
 /// that failed.
@@ -39,5 +41,8 @@ pub fn answer<R: Files + AllocGlobal + Threads + Sync, W: Write, V: Write>(
         return search_sample(rt, writer, warner);
     }
     let request = request(rt.alloc(), words)?;
-    search_files(rt, &request, writer, warner)
+    match request.address {
+        Some(address) => ask_files(rt, &request, address, writer),
+        None => search_files(rt, &request, writer, warner),
+    }
 }

@@ -43,7 +43,10 @@ pub fn search_files<R: Files + AllocGlobal + Threads + Sync, W: Write, V: Write>
 }
 
 /// The files with the paths, opened in order, up to the first that can't be opened.
-fn opened<R: Files + AllocGlobal>(rt: &R, paths: &[String]) -> Result<Vec<R::File>, Failure>
+pub(crate) fn opened<R: Files + AllocGlobal>(
+    rt: &R,
+    paths: &[String],
+) -> Result<Vec<R::File>, Failure>
     ensures ok { IfOk result (λ files. length files.items ≡ length paths.now) }
     ensures refused { IfErr result (IsOpenFault (map string_bytes paths.now)) }
 {

@@ -2,7 +2,7 @@
 //!
 //! [`start`] is all that `main` calls: it takes the words, prints the report or, on standard error, why there is none,
 //! and gives the status. [`answer`] does what the words ask for and writes to any writer: it searches files
-//! ([`search_files`]) or, where no word follows the program's name, a sample from memory ([`search_sample`]). A
+//! ([`search_files`]), asks what holds a block in them ([`ask_files`]) or, where no word follows the program's name, a sample from memory ([`search_sample`]). A
 //! [`Failure`] says why there is no report.
 //!
 //! No contract can say what a file holds. Where files are searched, the contracts say that some bytes were read and
@@ -11,12 +11,14 @@
 #![tactic(auto)]
 
 mod answering;
+mod asking;
 mod failure;
 mod files;
 mod sample;
 mod starting;
 
 pub use answering::answer;
+pub use asking::ask_files;
 pub use failure::Failure;
 pub use files::search_files;
 pub use sample::search_sample;

@@ -62,6 +62,33 @@ fn one_word_is_no_request(rt: HostRuntime) -> Result<(), Fail> {
 }
 
 #[test]
+fn a_bad_address_is_refused_before_a_file_is_opened(rt: HostRuntime) -> Result<(), Fail> {
+    let words = words_of(&rt, "why no/such.core no/such.log 10100")?;
+    let mut written: Vec<u8> = Vec::new(rt.alloc());
+    let mut warned: Vec<u8> = Vec::new(rt.alloc());
+    let answer = answer(&rt, words.as_slice(), &mut written, &mut warned);
+    assert!(rt; matches!(answer, Err(Failure::Usage(UsageFault::Address))));
+    assert!(rt; written.is_empty());
+    assert!(rt; warned.is_empty());
+    Ok(())
+}
+
+#[test]
+fn a_file_that_is_to_be_asked_is_named(rt: HostRuntime) -> Result<(), Fail> {
+    let words = words_of(&rt, "why no/such.core no/such.log 0x10100")?;
+    let mut written: Vec<u8> = Vec::new(rt.alloc());
+    let mut warned: Vec<u8> = Vec::new(rt.alloc());
+    let answer = answer(&rt, words.as_slice(), &mut written, &mut warned);
+    let Err(Failure::Open(path)) = answer else {
+        assert!(rt; false, "the core is not there");
+        return Ok(());
+    };
+    assert_eq!(rt; path.as_str(), "no/such.core");
+    assert!(rt; written.is_empty());
+    Ok(())
+}
+
+#[test]
 fn texts_of_failures(rt: HostRuntime) -> Result<(), Fail> {
     let alloc = rt.alloc();
     let cases = [
@@ -69,6 +96,11 @@ fn texts_of_failures(rt: HostRuntime) -> Result<(), Fail> {
         (
             Failure::Usage(UsageFault::Displace(DisplaceFault::Number(1))),
             "--displace: item 1 is not a number",
+        ),
+        (Failure::Usage(UsageFault::Address), "bad address"),
+        (
+            Failure::Run(RunFault::NoBlock(0xABC)),
+            "no live block holds 0xabc",
         ),
         (
             Failure::Open("no.core".to_string(alloc)?),

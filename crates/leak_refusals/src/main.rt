@@ -22,7 +22,7 @@ use std::rt::Env;
 use std::thread::Threads;
 
 /// The calls, by name.
-static CALLS: [&str; 35] = [
+static CALLS: [&str; 37] = [
     "core_k",
     "Image::read",
     "Threads::read",
@@ -54,9 +54,11 @@ static CALLS: [&str; 35] = [
     "find_alone_checked",
     "find_one",
     "find_two",
+    "find_why",
     "read_all",
     "run",
     "run_two",
+    "run_why",
     "request",
 ];
 
@@ -134,9 +136,11 @@ fn answer_of<R: AllocGlobal + Threads + Sync>(rt: &R, name: &str) -> Option<Answ
         "find_alone_checked" => whole::checked(alloc),
         "find_one" => whole::by_workers(rt),
         "find_two" => whole::two_cores(rt),
+        "find_why" => whole::held_by(alloc),
         "read_all" => whole::input(alloc),
         "run" => whole::runs(rt),
         "run_two" => whole::runs_two(rt),
+        "run_why" => whole::runs_why(alloc),
         "request" => whole::command_line(alloc),
         _ => None,
     }

@@ -3,8 +3,8 @@
 use crate::answer::Answer;
 use crate::samples::{MOVED, ONE_BLOCK, Sample, TWO_BLOCKS, chain, core_of, set, vector_core};
 use leak_find::{
-    FindError, Found, Options, ReadFault, RunFault, Skip, UsageFault, find_alone, find_one,
-    find_two, read_all, request, run,
+    FindError, Found, Options, ReadFault, RunFault, Skip, UsageFault, WhyError, find_alone,
+    find_one, find_two, find_why, read_all, request, run, run_why,
 };
 use leak_index::Reading;
 use leak_pool::{Open, Plan};
@@ -266,6 +266,69 @@ pub(crate) fn runs_two<R: AllocGlobal + Threads + Sync>(rt: &R) -> Option<Answer
     inputs.push(later_core(alloc)?).ok()?;
     inputs.push(MOVED.as_bytes().to_vec(alloc).ok()?).ok()?;
     run_of(rt, inputs, true, TWO, 0)
+}
+
+/// Two blocks, the first of which holds the second.
+const HOLDING: &str = "+ 0x10100 0x20\n+ 0x10200 0x10\n";
+
+/// What holds the second block: the first, which a root word leads to.
+const ASKED: &str = "asked 0x10200 16 2 ?\n\
+                     root 0x10008 holds 0x10100\n\
+                     block 0x10100 32 1 ?\n\
+                     word 0x10100 holds 0x10200\n\
+                     block 0x10200 16 2 ?\n";
+
+/// A core in which a root word leads to the first block, and the first block to the second.
+fn holding_core(alloc: Global) -> Option<Vec<u8>> {
+    core_of(alloc, &[(0x10008, 0x10100), (0x10100, 0x10200)])
+}
+
+/// `find_why` of a block that another holds.
+pub(crate) fn held_by(alloc: Global) -> Option<Answer> {
+    let core = holding_core(alloc)?;
+    let reading = Reading::interior();
+    let answer = match find_why(
+        alloc,
+        &core,
+        HOLDING.as_bytes(),
+        reading,
+        Skip::none(),
+        0x10200,
+    ) {
+        Ok(why) => Answer::of(why.held && why.text.as_slice() == ASKED.as_bytes()),
+        Err(error) => Answer::of_refusal(error == WhyError::Find(FindError::NoMemory)),
+    };
+    Some(answer)
+}
+
+/// `run_why` of the same block.
+pub(crate) fn runs_why(alloc: Global) -> Option<Answer> {
+    let mut readers = Vec::new(alloc);
+    readers.push(Cursor::new(holding_core(alloc)?)).ok()?;
+    readers
+        .push(Cursor::new(HOLDING.as_bytes().to_vec(alloc).ok()?))
+        .ok()?;
+    let options = Options {
+        two: false,
+        reading: Reading::interior(),
+        skip: Skip::none(),
+        plan: Plan::new(1, 1, 0).ok()?,
+        other_heap: false,
+        check: false,
+        strict: false,
+        core_limit: 8192,
+        log_limit: 8192,
+    };
+    if readers.len() != 2 {
+        return Some(Answer::Other);
+    }
+    let mut written: Vec<u8> = Vec::with_capacity(alloc, 1000).ok()?;
+    let readers = readers.as_mut_slice();
+    let answer = match run_why(alloc, readers, &options, 0x10200, &mut written) {
+        Ok(status) => Answer::of(status == 0 && written.as_slice() == ASKED.as_bytes()),
+        Err(fault) => Answer::of_refusal(is_wanting(&fault) && written.is_empty()),
+    };
+    Some(answer)
 }
 
 /// `request` of the plainest words.

@@ -1,9 +1,10 @@
 //! What the program is asked for: from the words of a command line to a request.
 //!
 //! [`request`] reads the words, which begin with the program's name, by a command line of clap: `leak_find one CORE
-//! LOG`, `leak_find two CORE1 LOG1 CORE2 LOG2` or `leak_find why CORE LOG ADDRESS`, with options after the subcommand. It gives a [`Request`], the paths
-//! of the files and the [`Options`] of the search, or says as a [`UsageFault`] why there is none. [`read_displace`]
-//! reads the list of `--displace`, and answers its first fault as a [`DisplaceFault`].
+//! LOG`, `leak_find two CORE1 LOG1 CORE2 LOG2` or `leak_find why CORE LOG ADDRESS`, with options after the subcommand.
+//! It gives a [`Request`], the paths of the files, the [`Options`] of the search and the address of a block that is asked
+//! for, or says as a [`UsageFault`] why there is none. [`read_displace`] reads the list of `--displace`, and answers its
+//! first fault as a [`DisplaceFault`].
 //!
 //! The command line is own rule; its definition stands in `specs/CommandLine.antt`, and what clap makes of words is
 //! defined by clap's specs. The contracts don't say how clap's texts of help and of refusals read, and nothing here opens

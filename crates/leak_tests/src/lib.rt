@@ -55,6 +55,10 @@ mod vectors;
 #[cfg(test)]
 mod lists;
 
+// Runs that ask what holds a block.
+#[cfg(test)]
+mod asking;
+
 // Which leaked blocks are heads, in one core and in two.
 #[cfg(test)]
 mod heads;

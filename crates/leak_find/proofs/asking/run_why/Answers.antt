@@ -1,0 +1,11 @@
+use Rattle.std.proofs.Common.{◌<◌, ℕ, List, length, take, subst}
+use Rattle.std.specs.Io.KnownBytes.{Appends}
+use Rattle.leak_find.proofs.asking.run_why.Goals as goal
+
+pub returns-in-Err-clause-refused : goal.returns-in-Err-clause-refused
+returns-in-Err-clause-refused g c = record {
+  why = c.in_ok-why.why;
+  has_told = c.in_ok-why.ensures.ok;
+  short = subst (λ (text : List ℕ). c.in-Err.fault.written < length text) c.deref.ensures.value c.in-Err.ensures.short;
+  written = subst (λ (text : List ℕ). Appends (g.W.Write.contents c.args.writer.now) (g.W.Write.contents c.write.new.writer) (take c.in-Err.fault.written text)) c.deref.ensures.value c.in-Err.ensures.fault;
+}

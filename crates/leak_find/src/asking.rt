@@ -1,0 +1,72 @@
+//! Why a block is held, from readers to a writer.
+
+ghost use Rattle.std.specs.Prelude.{◌≡◌, IfOk, IfErr, false, length, map};
+ghost use Rattle.leak_find.specs.Why.{HasTold, IsAskFault, IsWhyRunFault, RunsWhy, at_asking};
+
+use crate::fault::RunFault;
+use crate::running::read_reader;
+use leak_report::write;
+use leak_request::Options;
+use leak_search::{Why, WhyError, find_why};
+use std::alloc::Global;
+use std::io::{Read, Write};
+
+/// Reads a core and its log, and asks what holds the live block of the address.
+fn ask<R: Read>(
+    alloc: Global,
+    readers: &mut [R],
+    options: &Options,
+    address: u64,
+) -> Result<Why, RunFault>
+    requires one { options.now.two ≡ false }
+    requires readers { length readers.old ≡ 2 }
+    ensures ok { IfOk result (HasTold options.now address
+        (map R.remaining readers.old) (map R.remaining readers.new)) }
+    ensures refused { IfErr result (IsAskFault options.now address
+        (map R.remaining readers.old) (map R.remaining readers.new)) }
+{
+    let core = read_reader(alloc, readers, 0, options.core_limit)?;
+    let log = read_reader(alloc, readers, 1, options.log_limit)?;
+    match find_why(alloc, &core, &log, options.reading, options.skip, address) {
+        Ok(why) => Ok(why),
+        Err(error) => Err(at_asking(error)),
+    }
+}
+
+/// The refusal of a run whose inputs were read.
+fn at_asking(error: WhyError) -> RunFault
+    ensures { result ≡ at_asking error }
+{
+    match error {
+        WhyError::Find(error) => RunFault::Find(error),
+        WhyError::NoBlock(address) => RunFault::NoBlock(address),
+    }
+}
+
+/// Reads a core and its log, asks what holds the live block of the address, and writes the answer: 0 where the block is
+/// held, and 1 where it leaked.
+///
+/// Both inputs are read in order before the block is looked for, and the answer is made before anything is written. After
+/// a refusal the readers stand where the reads left them.
+pub fn run_why<R: Read, W: Write>(
+    alloc: Global,
+    readers: &mut [R],
+    options: &Options,
+    address: u64,
+    writer: &mut W,
+) -> Result<u8, RunFault>
+    requires one { options.now.two ≡ false }
+    requires readers { length readers.old ≡ 2 }
+    ensures ok { IfOk result (RunsWhy options.now address
+        (map R.remaining readers.old) (map R.remaining readers.new)
+        (W.contents writer.old) (W.contents writer.new)) }
+    ensures refused { IfErr result (IsWhyRunFault options.now address
+        (map R.remaining readers.old) (map R.remaining readers.new)
+        (W.contents writer.old) (W.contents writer.new)) }
+{
+    let why = ask(alloc, readers, options, address)?;
+    if let Err(fault) = write(&why.text, writer) {
+        return Err(RunFault::Write(fault));
+    }
+    Ok(if why.held { 0 } else { 1 })
+}

@@ -1,0 +1,37 @@
+//! The question what holds a block, asked of files.
+
+ghost use Rattle.std.specs.Prelude.{◌≡◌, IfOk, IfErr, false, length};
+ghost use Rattle.leak_program.specs.Files.{AsksFiles, IsAskFailure};
+
+use crate::failure::Failure;
+use crate::files::opened;
+use leak_find::{Request, run_why};
+use std::io::Write;
+use std::rt::Files;
+
+/// Opens both files of the request in order, asks what holds the block of the address, and writes the answer.
+pub fn ask_files<R: Files + AllocGlobal, W: Write>(
+    rt: &R,
+    request: &Request,
+    address: u64,
+    writer: &mut W,
+) -> Result<u8, Failure>
+    requires one { request.now.options.two ≡ false }
+    requires files { length request.now.paths.items ≡ 2 }
+    ensures ok { IfOk result
+        (AsksFiles request.now.options address (W.contents writer.old) (W.contents writer.new)) }
+    ensures refused { IfErr result
+        (IsAskFailure request.now address (W.contents writer.old) (W.contents writer.new)) }
+{
+    let mut files = opened(rt, request.paths.as_slice())?;
+    match run_why(
+        rt.alloc(),
+        files.as_mut_slice(),
+        &request.options,
+        address,
+        writer,
+    ) {
+        Ok(status) => Ok(status),
+        Err(fault) => Err(Failure::Run(fault)),
+    }
+}

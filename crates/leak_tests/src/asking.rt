@@ -1,0 +1,104 @@
+//! Runs that ask what holds a block, over readers and a writer, some of which fail.
+
+ghost use Rattle.std.specs.Prelude.{IfOk, false, ◌≡◌};
+
+use crate::examples::ONE_BLOCK;
+use crate::fakes::{Sink, Source};
+use crate::samples::{Part, core_of};
+use leak_find::{FindError, Options, ReadFault, RunFault, Skip, WriteFault, run_why};
+use leak_index::Reading;
+use leak_mtrace::LogError;
+use leak_pool::Plan;
+use std::test::Fail;
+
+/// How the core and the log are read, with their limits.
+fn options(core_limit: u64, log_limit: u64) -> Result<Options, Fail>
+    ensures { IfOk result (λ options. options.two ≡ false) }
+{
+    Ok(Options {
+        two: false,
+        reading: Reading::interior(),
+        skip: Skip::none(),
+        plan: Plan::new(1, 1, 0)?,
+        other_heap: false,
+        check: false,
+        strict: false,
+        core_limit,
+        log_limit,
+    })
+}
+
+/// The answer for the one block, where a root word leads to it.
+const HELD: &str = "asked 0x10100 32 1 ./a.out:[0x401136]\n\
+                    root 0x10008 holds 0x10100\n\
+                    block 0x10100 32 1 ./a.out:[0x401136]\n";
+
+/// The same where none does.
+const LEAKED: &str = "asked 0x10100 32 1 ./a.out:[0x401136]\nleaked\n";
+
+#[test]
+fn a_block_is_held_or_leaked(rt: HostRuntime) -> Result<(), Fail> {
+    let cases = [(0x10100, HELD, 0), (0x10200, LEAKED, 1)];
+    for (word, text, wanted) in cases {
+        let core = core_of(rt.alloc(), &[Part::Word(0x10008, word)])?;
+        let mut readers = [core.as_slice(), ONE_BLOCK.as_bytes()];
+        let mut out: Vec<u8> = Vec::new(rt.alloc());
+        let options = options(8192, 36)?;
+        let status = run_why(rt.alloc(), &mut readers, &options, 0x1011F, &mut out)?;
+        assert_eq!(rt; out.as_slice(), text.as_bytes());
+        assert_eq!(rt; status, wanted);
+    }
+    Ok(())
+}
+
+#[test]
+fn no_block_holds_the_address(rt: HostRuntime) -> Result<(), Fail> {
+    let core = core_of(rt.alloc(), &[])?;
+    for address in [0x10120, 0x100FF, 0, u64::MAX] {
+        let mut readers = [core.as_slice(), ONE_BLOCK.as_bytes()];
+        let mut out: Vec<u8> = Vec::new(rt.alloc());
+        let options = options(8192, 36)?;
+        let answer = run_why(rt.alloc(), &mut readers, &options, address, &mut out);
+        assert_eq!(rt; answer, Err(RunFault::NoBlock(address)));
+        assert!(rt; out.is_empty());
+    }
+    Ok(())
+}
+
+#[test]
+fn inputs_are_refused_before_the_address(rt: HostRuntime) -> Result<(), Fail> {
+    let core = core_of(rt.alloc(), &[])?;
+    let cases = [
+        (8191, "", RunFault::Read(1, ReadFault::TooLong)),
+        (8192, ONE_BLOCK, RunFault::Read(2, ReadFault::TooLong)),
+        (
+            8192,
+            "+ 0x10100\n",
+            RunFault::Find(FindError::Log(1, LogError::BadLine(1))),
+        ),
+    ];
+    for (core_limit, log, fault) in cases {
+        let mut readers = [core.as_slice(), log.as_bytes()];
+        let mut out: Vec<u8> = Vec::new(rt.alloc());
+        let options = options(core_limit, 35)?;
+        let answer = run_why(rt.alloc(), &mut readers, &options, 0, &mut out);
+        assert_eq!(rt; answer, Err(fault));
+        assert!(rt; out.is_empty());
+    }
+    Ok(())
+}
+
+#[test]
+fn a_writer_that_fails_has_the_first_bytes(rt: HostRuntime) -> Result<(), Fail> {
+    let core = core_of(rt.alloc(), &[])?;
+    let mut readers = [
+        Source::of(rt.alloc(), core.as_slice())?,
+        Source::slow(rt.alloc(), ONE_BLOCK.as_bytes(), 5)?,
+    ];
+    let mut out = Sink::of(rt.alloc(), 7);
+    let options = options(8192, 36)?;
+    let answer = run_why(rt.alloc(), &mut readers, &options, 0x10100, &mut out);
+    assert_eq!(rt; answer, Err(RunFault::Write(WriteFault { written: 7 })));
+    assert_eq!(rt; out.held.as_slice(), b"asked 0".as_slice());
+    Ok(())
+}
