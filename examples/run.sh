@@ -1,7 +1,8 @@
 #!/bin/sh
-# Builds leaky.c, in_vector.c, hidden.c, in_flight.c and mixed.c, runs them under mtrace and then with capture, takes cores of them, searches the
+# Builds leaky.c, in_vector.c, hidden.c, in_flight.c, mixed.c and stale.c, runs them under mtrace and then with capture, takes cores of them, searches the
 # cores, and compares each report with what the program's construction says: which sizes leaked, and that nothing else did. Then
-# it searches cores with logs that are theirs and with logs that aren't, and compares the warnings.
+# it searches cores with logs that are theirs and with logs that aren't, and compares the warnings. At last it asks what holds a
+# block that only a stale word holds.
 #
 #     examples/run.sh LEAK_FIND
 #
@@ -17,6 +18,7 @@ gcc -g -O0 -Wno-unused-result -o "$work/in_flight" "$here/in_flight.c"
 gcc -g -O0 -Wno-unused-result -o "$work/in_vector" "$here/in_vector.c"
 gcc -g -O0 -Wno-unused-result -o "$work/hidden" "$here/hidden.c"
 gcc -g -O0 -pthread -o "$work/mixed" "$here/mixed.c"
+gcc -g -O0 -o "$work/stale" "$here/stale.c"
 cd "$work"
 
 # check NAME LINES SIZES HEADS SUBCOMMAND FILE..: searches, shows the report, and compares its first lines, those that speak of
@@ -232,4 +234,31 @@ warns "the right log" 0 mixed.core.1 mixed.copy.1
 head -n -50 mixed.copy.1 > mixed.cut
 warns "a log without its last lines" 1 mixed.core.1 mixed.cut
 warns "the log of another process" 1 mixed.core.1 in_flight.copy.1
+
+# stale.c: its block is lost, and counts as held: by a word of the stack, with no other block in between.
+start stale
+await stale 1
+stack=$(awk '$6 == "[stack]" { print $1 }' "/proc/$process/maps")
+dump stale 1
+stop
+block=$(sed -n 's/.* + \(0x[0-9a-f]*\) 0x2d$/\1/p' stale.copy.1)
+status=0
+"$leak_find" why stale.core.1 stale.copy.1 "$block" > report || status=$?
+echo "== what holds a lost block"
+cat report
+root=$(awk -v block="$block" 'NR == 2 && $1 == "root" && $3 == "holds" && $4 == block { print $2 }' report)
+lines=$(awk -v block="$block" '$2 == block && $3 == 45 { print $1 }' report | tr '\n' ' ')
+if [ "$status" != 0 ] || [ "$lines" != "asked block " ] || [ "$(wc -l < report)" != 3 ] \
+    || [ $((root)) -lt $((0x${stack%-*})) ] || [ $((root)) -ge $((0x${stack#*-})) ]; then
+    echo "NOT as built: status $status, the stack is $stack" >&2
+    exit 1
+fi
+
+# An address that no block holds is refused.
+status=0
+"$leak_find" why stale.core.1 stale.copy.1 0x10 2> warned || status=$?
+if [ "$status" != 2 ] || [ "$(cat warned)" != "leak_find: no live block holds 0x10" ]; then
+    echo "NOT as built: status $status" >&2
+    exit 1
+fi
 echo "as built"
