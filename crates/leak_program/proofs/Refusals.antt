@@ -1,5 +1,6 @@
 -- From files that are not searched to words that get no report.
-use Rattle.std.proofs.Common.{◌≡◌, List, Option, None, Some, ℕ}
+use Rattle.std.proofs.Common.{◌≡◌, List, Option, None, Some, ℕ, Result, Ok, Err, IfErr, refl}
+use Rattle.std.specs.Io.KnownBytes.{Keeps}
 use Rattle.leak_request.specs.declared.options.Request.{Request}
 use Rattle.leak_request.specs.Requests.{IsRequestOf}
 use Rattle.leak_program.specs.declared.failure.Failure.{Failure}
@@ -24,3 +25,12 @@ refused_ask words r address held holds (Usage fault) asked some fails = absurd f
 refused_ask words r address held holds (Open path) asked some fails = record { request = r; asked = asked; fails = rw (some) fails }
 refused_ask words r address held holds (Run fault) asked some fails = record { request = r; asked = asked; fails = rw (some) fails }
 refused_ask words r address held holds NoMemory asked some fails = record { request = r; asked = asked; fails = rw (some) fails }
+
+-- a writer that is given nothing keeps what it holds
+pub kept : (held : Option (List ℕ)) → Keeps held held
+kept None = tt
+kept (Some bytes) = refl
+
+pub kept_err : {T E : Type 0} (result : Result T E) (held : Option (List ℕ)) → IfErr result (λ _. Keeps held held)
+kept_err (Ok value) held = tt
+kept_err (Err e) held = kept held
