@@ -26,6 +26,8 @@ fi
 start ./plain
 verdict 'one is dead, one lives' "$(cat pid) dead, $process live" \
     "$("$kit/leak_trace" --list | awk 'NR > 1 { print $1, $2 }' | sort -k 2 | paste -s -d , | sed 's/,/, /')"
+verdict 'the program of one' "./plain, $work/table.$process" \
+    "$("$kit/leak_trace" --list | awk -v pid=$process '$1 == pid { print $4, $5 }')"
 verdict 'nothing else is said, where SIGPIPE is ignored, as in a service' '' \
     "$(trap '' PIPE; "$kit/leak_trace" --list 2>&1 > /dev/null)"
 other=1 as=
