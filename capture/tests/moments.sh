@@ -12,7 +12,7 @@ for _ in $(seq "$moments"); do
     search threads
     "$finder" one --skip-freed threads.core threads.log > freed.report 2>&1
     strangers freed.report >> strangers
-    awk '$1 == "freed" { print $2 > 0 }' freed.report >> freed
+    awk '$1 == "freed" { print ($2 > 0) }' freed.report >> known
     python3 "$kit/tests/spans.py" threads.log > spans || { cat spans; wrong=$((wrong + 1)); }
     strangers threads.report >> strangers
     grep -c '^leak ' threads.report >> counts
@@ -20,7 +20,7 @@ for _ in $(seq "$moments"); do
 done
 verdict "entries, at $moments moments" 0 $wrong
 verdict 'wrongly named' '' "$(cat strangers)"
-echo "     freed memory was known at $(grep -c 1 freed) of $moments moments"
+echo "     freed memory was known at $(grep -c 1 known) of $moments moments"
 echo "     of 600 lost blocks were named: $(sort -n counts | tr '\n' ' ')"
 
 echo "== pairs of dumps"
