@@ -2,7 +2,7 @@
 
 use crate::tests::samples::core_of;
 use crate::{Open, Plan, Start, mark, mark_alone, mark_by_links, mark_from};
-use leak_blocks::{SmallSpans, replay};
+use leak_blocks::{Live, SmallSpans, replay};
 use leak_elf::Image;
 use leak_index::{Reading, Sorted};
 use leak_mtrace::Log;
@@ -15,7 +15,7 @@ use std::test::Fail;
 /// Where `rbx` of the sample core's thread stands: at byte 348 of the file.
 const RBX: u64 = 0xf15c;
 
-/// Whether each way to mark marks just these blocks, with links to free chunks or without them.
+/// Whether each way to mark marks just these blocks, of the words with links to free chunks or without them.
 fn all_mark<R: std::thread::Threads + Sync>(
     rt: &R,
     alloc: Global,
@@ -27,31 +27,54 @@ fn all_mark<R: std::thread::Threads + Sync>(
     let core = core_of(alloc, words)?;
     let image = Image::read(alloc, core.as_slice())?;
     let threads = Threads::read(alloc, &image)?;
-    let live = replay(alloc, &Log::read(alloc, log.as_bytes())?)?;
+    let log = Log::read(alloc, log.as_bytes())?;
+    let live = replay(alloc, &log)?;
     let small = SmallSpans::none(alloc);
-    let roots = Roots::find(alloc, &image, &threads, &live, &small)?.skip_links(skip_links);
-    let (w, l, r, b) = (
-        &image,
-        &Sorted::new(&live, Reading::interior()),
-        &roots,
-        &live,
-    );
+    let roots = Roots::find(alloc, &image, &threads, &live, &small)?;
+    let roots = roots.skip_links(skip_links);
+    let alone = marks_alone(alloc, &image, &roots, &live, set)?;
+    let by_workers = workers_mark(rt, alloc, &image, &roots, &live, set)?;
+    Ok(alone && by_workers)
+}
+
+/// Whether the caller's thread marks just these blocks.
+fn marks_alone(
+    alloc: Global,
+    image: &Image,
+    roots: &Roots,
+    live: &Live,
+    set: &[bool],
+) -> Result<bool, Fail> {
+    let lookup = Sorted::new(live, Reading::interior());
+    let marked = mark_alone(alloc, image, &lookup, roots, live)?;
+    Ok(marked.set.as_slice() == set)
+}
+
+/// Whether workers do, over the words and over links, and from nothing.
+fn workers_mark<R: std::thread::Threads + Sync>(
+    rt: &R,
+    alloc: Global,
+    image: &Image,
+    roots: &Roots,
+    live: &Live,
+    set: &[bool],
+) -> Result<bool, Fail> {
+    let lookup = Sorted::new(live, Reading::interior());
+    let plan = Plan::new(2, 512, 1024)?;
+    let over_words = mark(rt, alloc, image, &lookup, roots, live, plan, &Open)?;
+    let over_links = mark_by_links(rt, alloc, image, &lookup, roots, live, plan, &Open, 1000)?;
     let start = Start {
         marked: Vec::new(alloc),
         rescan: Vec::new(alloc),
     };
-    let pages = Pages::new(Vec::new(alloc)).unwrap();
-    let plan = Plan::new(2, 512, 1024)?;
-    let alone = mark_alone(alloc, w, l, r, b)?;
-    let by_workers = mark(rt, alloc, w, l, r, b, plan, &Open)?;
-    let by_links = mark_by_links(rt, alloc, w, l, r, b, plan, &Open, 1000)?;
-    let from = mark_from(rt, alloc, w, l, r, b, plan, &Open, &start, &pages)?;
-    Ok(
-        alone.set.as_slice() == set
-            && by_workers.set.as_slice() == set
-            && by_links.set.as_slice() == set
-            && from.set.as_slice() == set,
-    )
+    let Some(pages) = Pages::new(Vec::new(alloc)) else {
+        return Ok(false);
+    };
+    let from_nothing = mark_from(
+        rt, alloc, image, &lookup, roots, live, plan, &Open, &start, &pages,
+    )?;
+    let is_set = over_words.set.as_slice() == set && over_links.set.as_slice() == set;
+    Ok(is_set && from_nothing.set.as_slice() == set)
 }
 
 #[test]
