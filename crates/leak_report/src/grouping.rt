@@ -24,21 +24,23 @@ fn add<'a>(
     ensures { OnOk result (HasLeakAdded groups.old groups.new text.now (record { block = block.now; head = head })) }
 {
     let one = u64::from(head);
-    let row = match groups.get(text) {
-        Some(row) => CallerRow {
-            blocks: row.blocks + 1,
-            bytes: row.bytes + block.size,
-            heads: row.heads + one,
-            caller: row.caller,
-        },
-        None => CallerRow {
-            blocks: 1,
-            bytes: block.size,
-            heads: one,
-            caller: block.caller,
-        },
+    let first = CallerRow {
+        blocks: 1,
+        bytes: block.size,
+        heads: one,
+        caller: block.caller,
     };
-    groups.insert(text, row)?;
+    // One search where the text is new, as most are where there are many.
+    let Some(row) = groups.insert(text, first)? else {
+        return Ok(());
+    };
+    let more = CallerRow {
+        blocks: row.blocks + 1,
+        bytes: row.bytes + block.size,
+        heads: row.heads + one,
+        caller: row.caller,
+    };
+    groups.insert(text, more)?;
     Ok(())
 }
 

@@ -1,4 +1,5 @@
-use Rattle.std.proofs.Common.{ℕ, ◌+◌, Bool, true, false, bytes_eq, ◌≡◌, refl, ap, ◌∙◌, cond, Some}
+-- The text was new, or its row has one more block.
+use Rattle.std.proofs.Common.{ℕ, ◌+◌, Bool, true, false, bytes_eq, ◌≡◌, refl, sym, ap, ◌∙◌, cond, Option, None, Some}
 use mir.Val.{bool_byte}
 use Rattle.std.proofs.lemmas.Map.Text.{btree_map_updates_str}
 use Rattle.leak_blocks.specs.declared.block.Block.{Block}
@@ -6,7 +7,6 @@ use Rattle.leak_report.specs.declared.totals.CallerRow.{CallerRow}
 use Rattle.leak_report.specs.Totals.{Leak}
 use Rattle.leak_report.specs.Groups.{with_leak, group_at}
 use Rattle.leak_report.proofs.grouping.add.Goals as goal
-use Rattle.leak_report.proofs.grouping.add.Goals.{in-Some, in-None}
 
 -- a row with one more block, so many bytes more and so many heads more, and the row of one block
 abbrev more : CallerRow → ℕ → ℕ → CallerRow
@@ -20,14 +20,29 @@ one_of : (head : Bool) → bool_byte head ≡ cond head 1 0
 one_of true = refl
 one_of false = refl
 
+-- what is written twice has what was written last
+cond_twice : {X : Type 0} (t : Bool) (x y z : X) → cond t x (cond t y z) ≡ cond t x z
+cond_twice true x y z = refl
+cond_twice false x y z = refl
+
+pub returns-in_default : goal.returns-in_default
+returns-in_default c =
+    let one : c.from-one.result ≡ cond c.args.head 1 0 = c.from-one.ensures ∙ one_of c.args.head in
+    let leak : Leak = record { block = c.args.block.now; head = c.args.head } in
+    let none : group_at c.args.groups.now c.args.text.now ≡ None = sym c.in_ok-row.ensures.old ∙ c.in_default.is in
+    let row : first c.args.block.now c.from-one.result ≡ with_leak (group_at c.args.groups.now c.args.text.now) leak =
+    ap (λ (n : ℕ). first c.args.block.now n) one ∙ ap (λ (o : Option CallerRow). with_leak o leak) (sym none) in
+    λ t. btree_map_updates_str c.args.text.now c.args.groups.now c.insert.new.self _ c.in_ok-row.ensures.updates t
+    ∙ ap (λ r. cond (bytes_eq c.args.text.now t) (Some r) (group_at c.args.groups.now t)) row
+
 pub returns : goal.returns
 returns c =
     let one : c.from-one.result ≡ cond c.args.head 1 0 = c.from-one.ensures ∙ one_of c.args.head in
     let leak : Leak = record { block = c.args.block.now; head = c.args.head } in
-    let row : c.match-get.row ≡ with_leak (group_at c.args.groups.now c.args.text.now) leak =
-    elim c.match-get.branch [
-      | in-Some w ↦ w.row-is ∙ ap (λ (n : ℕ). more w.in-Some.row.now c.args.block.now.size n) one ∙ ap (λ r. with_leak r leak) w.in-Some.ensures.value
-      | in-None w ↦ w.row-is ∙ ap (λ (n : ℕ). first c.args.block.now n) one ∙ ap (λ r. with_leak r leak) w.in-None.ensures.value
-    ] in
-    λ t. btree_map_updates_str c.args.text.now c.args.groups.now c.insert.new.self _ c.in_ok-insert.ensures.updates t
+    let found : group_at c.args.groups.now c.args.text.now ≡ Some c.in-Some.row = sym c.in_ok-row.ensures.old ∙ c.in-Some.is in
+    let row : more c.in-Some.row c.args.block.now.size c.from-one.result ≡ with_leak (group_at c.args.groups.now c.args.text.now) leak =
+    ap (λ (n : ℕ). more c.in-Some.row c.args.block.now.size n) one ∙ ap (λ (o : Option CallerRow). with_leak o leak) (sym found) in
+    λ t. btree_map_updates_str c.args.text.now c.insert.new.self c.insert-2.new.self _ c.in_ok-insert.ensures.updates t
+    ∙ ap (λ (o : Option CallerRow). cond (bytes_eq c.args.text.now t) (Some (more c.in-Some.row c.args.block.now.size c.from-one.result)) o) (btree_map_updates_str c.args.text.now c.args.groups.now c.insert.new.self _ c.in_ok-row.ensures.updates t)
+    ∙ cond_twice (bytes_eq c.args.text.now t) _ _ (group_at c.args.groups.now t)
     ∙ ap (λ r. cond (bytes_eq c.args.text.now t) (Some r) (group_at c.args.groups.now t)) row
