@@ -17,8 +17,8 @@ use Rattle.leak_dirty.specs.declared.retracing.Retraced.{Retraced}
 use Rattle.leak_dirty.specs.Differing.{differs, reread_of}
 use Rattle.leak_dirty.specs.Kept.{kept_of, fresh_of}
 
--- the graph of two cores: a chain begins at a kept block, at a fresh one, or at one that is led to first, as by a root word
--- of the later core, and goes on by words of that core
+-- the graph of two cores: a chain begins at a kept block, at a fresh one, or at one that is led to first, as by a root
+-- word of the later core, and goes on by words of that core
 abbrev pub graph_of_two : (ℕ → Option ℕ) → Index → List ℕ → List ℕ → List ℕ → Graph
 graph_of_two word_now index first kept fresh = record {
   first = kept ++ fresh ++ first;
@@ -70,8 +70,8 @@ pub record IsStartWith (c : Carry) (s : Start) : Type 0 where
   pub rescan : s.rescan.items
       ≡ map (λ b. (b, Differing)) c.kept.items ++ map (λ b. (b, Whole)) c.fresh.items
 
--- What marking again comes to. Where the words of kept blocks off the pages lead to kept and fresh blocks alone, the set
--- is what chains of the two cores reach, and the claims partition what of it is neither kept nor fresh.
+-- What marking again comes to. Where the words of kept blocks off the pages lead to kept and fresh blocks alone, the
+-- set is what chains of the two cores reach, and the claims partition what of it is neither kept nor fresh.
 pub record IsRetrace (word_now : ℕ → Option ℕ) (index : Index) (places : Places) (pages : List ℕ)
     (c : Carry) (workers : ℕ) (r : Retraced) : Type 0 where
   pub from :
