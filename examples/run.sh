@@ -1,8 +1,8 @@
 #!/bin/sh
 # Builds leaky.c, in_vector.c, hidden.c, in_flight.c, mixed.c and stale.c, runs them under mtrace and then with capture, takes cores of them, searches the
 # cores, and compares each report with what the program's construction says: which sizes leaked, and that nothing else did. Then
-# it searches cores with logs that are theirs and with logs that aren't, and compares the warnings. At last it asks what holds a
-# block that only a stale word holds.
+# it searches cores with logs that are theirs and with logs that aren't, and compares the warnings and the misfits that --check
+# lists. At last it asks what holds a block that only a stale word holds.
 #
 #     examples/run.sh LEAK_FIND
 #
@@ -233,6 +233,19 @@ stop
 warns "the right log" 0 mixed.core.1 mixed.copy.1
 head -n -50 mixed.copy.1 > mixed.cut
 warns "a log without its last lines" 1 mixed.core.1 mixed.cut
+
+# --check lists them, and the lines that were cut off gave each of them back. What is taken out of the leaks is no leak.
+"$leak_find" one --check mixed.core.1 mixed.cut > report 2> warned || true
+echo "== the blocks that were given back since"
+grep '^misfit' report
+tail -n 50 mixed.copy.1 | awk '$(NF - 1) == "-" || $(NF - 1) == "<" { print $NF }' | sort > given_back
+awk '$1 == "misfit" { print $2 }' report | sort > listed
+if [ "$(awk '$1 == "misfits" { print $2 }' report)" != "$(wc -l < listed)" ] || [ ! -s listed ] || [ -n "$(comm -23 listed given_back)" ]; then
+    echo "NOT as built: the misfits are not those that were given back" >&2
+    exit 1
+fi
+echo "$(grep -c '^leak ' report || true) leaks, of which $(awk 'NR == FNR { if (/^misfit /) misfit[$2]; next } /^leak / && $2 in misfit' report report | wc -l) are none"
+
 warns "the log of another process" 1 mixed.core.1 in_flight.copy.1
 
 # stale.c: its block is lost, and counts as held: by a word of the stack, with no other block in between.
