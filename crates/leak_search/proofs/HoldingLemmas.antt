@@ -21,22 +21,24 @@ use Rattle.leak_search.specs.declared.error.FindError.{FindError}
 use Rattle.leak_search.specs.declared.holding.Why.{Why}
 use Rattle.leak_search.specs.declared.holding.WhyError.TheVariants.{NoBlock}
 use Rattle.leak_search.specs.declared.inputs.Input.{Input}
-use Rattle.leak_search.specs.Inputs.{IsRead}
+use Rattle.leak_search.specs.Inputs.{AreRootsFor, IsRead}
 use Rattle.leak_search.specs.Search.{graph_of_one, index_of}
 use Rattle.leak_search.specs.Holding.{TellsWhy, IsWhyFault}
 use Rattle.leak_search.proofs.SearchLemmas.{input_blocks, index_is, marked_graph}
 
 pub tells_why : (core log : List ℕ) (reading : Option (List ℕ)) (skip : Skip) (address : ℕ) (input : Input) (index : Index) (places : Places) (block : ℕ) (chain : Option Chain) (found : Why)
-    → (read : IsRead core log input) → index ≡ record { blocks = input.live.blocks; reading = reading } → AreRootsOf input.image input.live.blocks (spans_of skip read.0) places
+    → (read : IsRead core log input) → index ≡ record { blocks = input.live.blocks; reading = reading } → input.skip ≡ skip → AreRootsFor read.0 input places
     → IsAsked input.live.blocks address block → IsWhy (word_of input.image) index places block chain
     → (IsSome chain ↔ Reach (search_graph (word_of input.image) index places) block)
     → found.text.items ≡ text_of log input.live.blocks (sets_of (entries input.image)) block chain → found.held ≡ is_some chain
     → TellsWhy core log reading skip address found
-tells_why core log reading skip address input index places block chain found read is roots asked why reached text held =
+tells_why core log reading skip address input index places block chain found read is skips roots asked why reached text held =
     let e = input_blocks core log read.0 input read.1 in
     let file = read.1.image in
-    let of_core = subst (λ (f : List ℕ). AreRootsOf f input.live.blocks (spans_of skip read.0) places) file roots in
-    let g = marked_graph core reading skip read.0 input.live.blocks index places e is of_core in
+    let of_core = subst (λ (f : List ℕ). AreRootsOf f input.live.blocks (spans_of skip read.0) places) file
+    (subst (λ (s : Skip). AreRootsOf input.image input.live.blocks (spans_of s read.0) places) skips roots.roots) in
+    let links : places.skips_links ≡ skip.links = roots.links ∙ ap (λ (s : Skip). s.links) skips in
+    let g = marked_graph core reading skip read.0 input.live.blocks index places e is of_core links in
     record {
       accepted = read.1.accepted;
       lines = read.0;
@@ -45,6 +47,7 @@ tells_why core log reading skip address input index places block chain found rea
       asked = subst (λ (bs : List Block). IsAsked bs address block) e asked;
       places = places;
       are_places = subst (λ (bs : List Block). AreRootsOf core bs (spans_of skip read.0) places) e of_core;
+      links = links;
       chain = chain;
       why =
           subst (λ (i : Index). IsWhy (word_of core) i places block chain) (index_is reading read.0 input.live.blocks index e is)

@@ -2,27 +2,28 @@
 use Rattle.std.proofs.Common.{◌≡◌, ℕ, suc, ◌+◌, ◌≤◌, ◌<◌, Bool, true, false, not, cond, ◌==◌, ◌&&◌, List, [], ◌∷◌, ◌++◌, length, filter, filter_map, flat_map, Option, Some, None, slice_get, inl, inr, refl, sym, ap, ◌∙◌, arith}
 use Rattle.std.specs.Prelude.{if◌then◌else◌}
 use Rattle.std.specs.List.{cons_option}
-use Rattle.std.proofs.lemmas.Grind.{flat_map-append}
+use Rattle.std.specs.Option.{option_map_or}
 use Rattle.leak_elf.specs.Words.{word_of}
 use Rattle.leak_mtrace.specs.declared.line.Line.{Line}
 use Rattle.leak_notes.specs.Threads.{registers_of}
 use Rattle.leak_blocks.specs.declared.block.Block.{Block}
-use Rattle.leak_blocks.specs.declared.small.Span.{Span}
 use Rattle.leak_blocks.specs.Live.{live_of}
 use Rattle.leak_index.specs.Hits.{Index, hits_of}
 use Rattle.leak_roots.specs.declared.skip.Skip.{Skip}
-use Rattle.leak_roots.specs.Roots.{is_freed, outside_places, root_places, root_words}
+use Rattle.leak_roots.specs.Roots.{is_freed, outside_places, root_places}
 use Rattle.leak_roots.specs.Skipped.{spans_of}
 use Rattle.leak_roots.proofs.LeftOut.{none_left_out}
+use Rattle.leak_fit.specs.FreeLinks.{is_free_link_past}
+use Rattle.leak_scan.specs.RootWords.{held_by, held_from, targets_without_links}
 use Rattle.leak_scan.specs.Targets.{targets_of}
 use Rattle.leak_marks.specs.Lists.{Has, Within, times}
 use Rattle.leak_marks.specs.Reach.{Reach}
 use Rattle.leak_marks.proofs.ListLemmas.{has_back, has_front, of_append, times-append}
 use Rattle.leak_marks.proofs.ReachLemmas.{reach_within}
-use Rattle.leak_pool.specs.Marking.{graph_of}
+use Rattle.leak_pool.specs.Marking.{graph_of, led_in_memory}
 use Rattle.leak_dirty.specs.Kept.{kept_of, has_marked_line, numbers_from}
 use Rattle.leak_search.specs.Laws.{nothing}
-use Rattle.leak_search.specs.Search.{graph_of_one, index_of}
+use Rattle.leak_search.specs.Search.{first_of, graph_of_one, index_of}
 use Rattle.leak_search.specs.SearchTwo.{IsMarkedEarlier, graph_of_later, kept_blocks, new_blocks}
 
 -- ---- fewer words lead to fewer blocks
@@ -43,28 +44,53 @@ fewer f w p (a ∷ places) x =
       | false ↦ times_later f (w a) (filter_map w (filter p places)) (filter_map w places) x (fewer f w p places x)
     ]
 
--- the root words without spans are all words outside live blocks
-all_words : (core : List ℕ) (blocks : List Block) → root_words core blocks [] ≡ registers_of core ++ filter_map (word_of core) (outside_places core blocks)
-unfolding root_words root_places
-all_words core blocks = ap (λ (places : List ℕ). registers_of core ++ filter_map (word_of core) places) (sym (none_left_out [] (outside_places core blocks) refl))
+-- ---- without links, words lead to fewer blocks
 
-pub roots_within : (core : List ℕ) (index : Index) (blocks : List Block) (spans : List Span) → Within (targets_of index (root_words core blocks spans)) (targets_of index (root_words core blocks []))
-unfolding targets_of root_words root_places
-roots_within core index blocks spans x has =
-    let f = hits_of index in
+times_filter : (p : ℕ → Bool) (xs : List ℕ) (x : ℕ) → times x (filter p xs) ≤ times x xs
+times_filter p [] x = omega arith
+times_filter p (y ∷ ys) x =
+    elim (p y) as (λ t. times x (cond t (y ∷ filter p ys) (filter p ys)) ≤ times x (y ∷ ys)) [
+      | true ↦ (let le = times_filter p ys x in omega (arith, le))
+      | false ↦ (let le = times_filter p ys x in omega (arith, le))
+    ]
+
+fewer_held : (w : ℕ → Option ℕ) (index : Index) (places : List ℕ) (x : ℕ) → times x (flat_map (held_from w index) places) ≤ times x (flat_map (hits_of index) (filter_map w places))
+fewer_held w index [] x = omega arith
+fewer_held w index (a ∷ places) x = go (w a) (fewer_held w index places x)
+  where
+    go : (o : Option ℕ) → times x (flat_map (held_from w index) places) ≤ times x (flat_map (hits_of index) (filter_map w places))
+        → times x (option_map_or (held_by w index a) o [] ++ flat_map (held_from w index) places) ≤ times x (flat_map (hits_of index) (cons_option o (filter_map w places)))
+    go None le = le
+    go (Some v) le =
+        let few = times_filter (λ n. not (is_free_link_past w index.blocks a v n)) (hits_of index v) x in
+        omega (arith, times-append x (held_by w index a v) (flat_map (held_from w index) places), times-append x (hits_of index v) (flat_map (hits_of index) (filter_map w places)), few, le)
+
+fewer_led : (links : Bool) (w : ℕ → Option ℕ) (index : Index) (places : List ℕ) (x : ℕ) → times x (led_in_memory links w index places) ≤ times x (flat_map (hits_of index) (filter_map w places))
+unfolding targets_of targets_without_links
+fewer_led false w index places x = omega arith
+fewer_led true w index places x = fewer_held w index places x
+
+-- ---- without freed places too
+
+pub first_within : (core : List ℕ) (reading : Option (List ℕ)) (skip : Skip) (lines : List Line) → Within (first_of core (index_of reading lines) skip lines) (first_of core (index_of reading lines) nothing lines)
+unfolding targets_of root_places
+first_within core reading skip lines x has =
+    let f = hits_of (index_of reading lines) in
     let w = word_of core in
-    let p = λ (a : ℕ). not (is_freed spans a) in
-    let outside = outside_places core blocks in
+    let p = λ (a : ℕ). not (is_freed (spans_of skip lines) a) in
+    let outside = outside_places core (live_of lines) in
+    let registers = flat_map f (registers_of core) in
     let few = fewer f w p outside x in
-    let left = ap (times x) (flat_map-append f (registers_of core) (filter_map w (filter p outside))) ∙ times-append x (flat_map f (registers_of core)) (flat_map f (filter_map w (filter p outside))) in
-    let right = ap (λ (ws : List ℕ). times x (flat_map f ws)) (all_words core blocks)
-    ∙ ap (times x) (flat_map-append f (registers_of core) (filter_map w outside)) ∙ times-append x (flat_map f (registers_of core)) (flat_map f (filter_map w outside)) in
-    omega (arith, few, left, right, has)
+    let held = fewer_led skip.links w (index_of reading lines) (filter p outside) x in
+    let left = times-append x registers (led_in_memory skip.links w (index_of reading lines) (filter p outside)) in
+    let right : times x (first_of core (index_of reading lines) nothing lines) ≡ times x registers + times x (flat_map f (filter_map w outside)) =
+    ap (λ (places : List ℕ). times x (registers ++ flat_map f (filter_map w places))) (sym (none_left_out [] outside refl)) ∙ times-append x registers (flat_map f (filter_map w outside)) in
+    omega (arith, few, held, left, right, has)
 
 pub marked_without : (core : List ℕ) (reading : Option (List ℕ)) (skip : Skip) (lines : List Line) (i : ℕ) → Reach (graph_of_one core reading skip lines) i → Reach (graph_of_one core reading nothing lines) i
 unfolding graph_of
 marked_without core reading skip lines i reached =
-    reach_within (graph_of_one core reading skip lines) (graph_of_one core reading nothing lines) (roots_within core (index_of reading lines) (live_of lines) (spans_of skip lines)) (λ b. (λ h. h, λ h. h)) refl i reached
+    reach_within (graph_of_one core reading skip lines) (graph_of_one core reading nothing lines) (first_within core reading skip lines) (λ b. (λ h. h, λ h. h)) refl i reached
 
 -- ---- fewer blocks are kept
 
@@ -128,6 +154,6 @@ pub marked_in_two_without : (core1 core2 : List ℕ) (reading : Option (List ℕ
 marked_in_two_without core1 core2 reading skip before now part whole i few all reached =
     reach_within (graph_of_later core2 reading skip (kept_blocks before part now) (new_blocks before now) now)
     (graph_of_later core2 reading nothing (kept_blocks before whole now) (new_blocks before now) now)
-    (λ x h. begins (kept_blocks before part now) (kept_blocks before whole now) (new_blocks before now) (targets_of (index_of reading now) (root_words core2 (live_of now) (spans_of skip now)))
-    (targets_of (index_of reading now) (root_words core2 (live_of now) [])) x (kept_fewer core1 reading skip before now part whole x few all) (roots_within core2 (index_of reading now) (live_of now) (spans_of skip now) x) h)
+    (λ x h. begins (kept_blocks before part now) (kept_blocks before whole now) (new_blocks before now) (first_of core2 (index_of reading now) skip now)
+    (first_of core2 (index_of reading now) nothing now) x (kept_fewer core1 reading skip before now part whole x few all) (first_within core2 reading skip now x) h)
     (λ b. (λ h. h, λ h. h)) (same_targets core2 reading skip nothing (kept_blocks before part now) (kept_blocks before whole now) (new_blocks before now) now) i reached

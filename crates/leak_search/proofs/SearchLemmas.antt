@@ -19,14 +19,15 @@ use Rattle.leak_index.specs.Hits.{Index}
 use Rattle.leak_notes.specs.Threads.{threads_of}
 use Rattle.leak_fit.specs.Fit.{fits_core, fits_of}
 use Rattle.leak_scan.specs.Heads.{heads_of}
-use Rattle.leak_roots.specs.Places.{Places, words_at}
-use Rattle.leak_roots.specs.Roots.{AreRootsOf, freed_places, root_words}
+use Rattle.leak_notes.specs.Threads.{registers_of}
+use Rattle.leak_roots.specs.Places.{Places}
+use Rattle.leak_roots.specs.Roots.{AreRootsOf, freed_places, root_places}
 use Rattle.leak_roots.specs.Skipped.{spans_of, freed_of}
 use Rattle.leak_roots.specs.declared.skip.Skip.{Skip}
 use Rattle.leak_marks.specs.Reach.{Graph, Reach}
 use Rattle.leak_marks.specs.Partition.{Partitions}
 use Rattle.leak_pool.specs.declared.marked.Marked.{Marked}
-use Rattle.leak_pool.specs.Marking.{IsSet, Marks, graph_of, lists_of}
+use Rattle.leak_pool.specs.Marking.{IsSet, Marks, graph_of, led_by_roots, led_from, lists_of}
 use Rattle.leak_report.specs.declared.head.Head.{Head}
 use Rattle.leak_report.specs.Totals.{HaveCallersIn, leaked_in}
 use Rattle.leak_report.proofs.Callers.{have_callers}
@@ -37,7 +38,7 @@ use Rattle.leak_pool.specs.declared.error.PoolError.{PoolError}
 use Rattle.leak_pool.specs.declared.error.PoolError.TheVariants.{TooMany as TooManyForPool, NoMemory as NoMemoryForPool}
 use Rattle.leak_search.specs.declared.found.Found.{Found}
 use Rattle.leak_search.specs.declared.inputs.Input.{Input}
-use Rattle.leak_search.specs.Inputs.{IsReadOf, IsRead, IsFaultOfOne, at_marking}
+use Rattle.leak_search.specs.Inputs.{AreRootsFor, IsInput, IsReadOf, IsRead, IsFaultOfOne, at_marking}
 use Rattle.leak_search.specs.Search.{FindsOne, graph_of_one, head_with, index_of, text_with}
 use Rattle.leak_search.specs.Signs.{fits_told, fits_with}
 
@@ -60,6 +61,18 @@ too_many core log input read many =
     let e = input_blocks core log read.0 input read.1 in
     inr (refl, read.1.accepted, (read.0, read.1.is_log, subst (λ (bs : List Block). 2 ^ 32 ≤ length bs) e (omega (arith, many))))
 
+-- an input that was read
+abbrev pub as_input : (core log : List ℕ) (lines : List Line) (input : Input) → IsReadOf core log lines input → IsInput lines input
+as_input core log lines input read = record { log = log; read = subst (λ (file : List ℕ). IsReadOf file log lines input) (sym read.image) read }
+
+-- the places found are those of the input's root words
+pub roots_found : (lines : List Line) (input : Input) (found places : Places) → AreRootsOf input.image input.live.blocks (spans_of input.skip lines) found
+    → places ≡ record found { skips_links = input.skip.links } → AreRootsFor lines input places
+roots_found lines input found places roots is = subst (λ (p : Places). AreRootsFor lines input p) (sym is) (record {
+  roots = record { registers = roots.registers; memory = roots.memory; ranges = roots.ranges; freed = roots.freed };
+  links = refl;
+})
+
 -- the blocks outside a set, counted in the set
 pub leaked_count : (set : List Bool) (blocks : List Block) → length set ≡ length blocks → length (leaked_in set blocks) ≡ count_by not set
 leaked_count [] blocks same = refl
@@ -73,10 +86,10 @@ leaked_count (false ∷ set) (b ∷ blocks) same =
     let one = sum_by-cons (λ (x : Bool). cond (not x) 1 0) false set in
     rw (one, ← rest) (omega arith)
 
--- the words at the places found are the root words
-pub found_words : (core : List ℕ) (blocks : List Block) (spans : List Span) (places : Places) → AreRootsOf core blocks spans places → words_at (word_of core) places ≡ root_words core blocks spans
-unfolding words_at root_words
-found_words core blocks spans places roots = rw (roots.registers, roots.memory) refl
+-- what the words at the places found lead to is what the root words lead to
+pub found_first : (core : List ℕ) (index : Index) (blocks : List Block) (spans : List Span) (links : Bool) (places : Places) → AreRootsOf core blocks spans places → places.skips_links ≡ links
+    → led_by_roots (word_of core) index places ≡ led_from links (word_of core) index (registers_of core) (root_places core blocks spans)
+found_first core index blocks spans links places roots same = rw (roots.registers, roots.memory, same) refl
 
 -- the threads that were read are those of the core that was read
 pub threads_read : (core log : List ℕ) (input : Input) → IsRead core log input → input.threads ≡ threads_of input.image
@@ -84,10 +97,10 @@ threads_read core log input read = read.1.threads ∙ ap threads_of (sym read.1.
 
 -- the graph that was marked is that of the core and the lines
 pub marked_graph : (core : List ℕ) (reading : Option (List ℕ)) (skip : Skip) (lines : List Line) (blocks : List Block) (index : Index) (places : Places)
-    → blocks ≡ live_of lines → index ≡ record { blocks = blocks; reading = reading } → AreRootsOf core blocks (spans_of skip lines) places
-    → graph_of (word_of core) index (words_at (word_of core) places) [] ≡ graph_of_one core reading skip lines
-marked_graph core reading skip lines blocks index places are is roots =
-    rw (found_words core blocks (spans_of skip lines) places roots, is, are) refl
+    → blocks ≡ live_of lines → index ≡ record { blocks = blocks; reading = reading } → AreRootsOf core blocks (spans_of skip lines) places → places.skips_links ≡ skip.links
+    → graph_of (word_of core) index (led_by_roots (word_of core) index places) [] ≡ graph_of_one core reading skip lines
+marked_graph core reading skip lines blocks index places are is roots links =
+    rw (found_first core index blocks (spans_of skip lines) skip.links places roots links, is, are) refl
 
 counted : (asked : Bool) (core : List ℕ) (blocks : List Block) (small : List Span) (places : Places) → places.freed ≡ length (freed_places core blocks (if asked then small else []))
     → (if asked then Some places.freed else None) ≡ (if asked then Some (length (freed_places core blocks small)) else None)
@@ -125,14 +138,14 @@ fits_each (Some v) true input is =
 -- a search that read, found roots and marked
 pub finds_one : (core log : List ℕ) (reading : Option (List ℕ)) (check : Bool) (workers : ℕ) (input : Input) (index : Index) (places : Places) (head : Head) (fits : Option (List Bool)) (marked : Marked) (found : Found)
     → (read : IsRead core log input) → length input.live.blocks < 2 ^ 32 → index ≡ record { blocks = input.live.blocks; reading = reading }
-    → AreRootsOf core input.live.blocks (spans_of input.skip read.0) places → Marks (word_of core) index places workers marked → head ≡ head_with input places None
+    → AreRootsOf core input.live.blocks (spans_of input.skip read.0) places → places.skips_links ≡ input.skip.links → Marks (word_of core) index places workers marked → head ≡ head_with input places None
     → fits ≡ fits_with check input
     → found.report.items ≡ text_of head input.live.blocks marked.set.items (heads_of (word_of core) index marked.set.items) fits log
     → found.leaked ≡ length (leaked_in marked.set.items input.live.blocks) → found.claims ≡ marked.claims
     → FindsOne core log reading input.skip check workers found
-finds_one core log reading check workers input index places head fits marked found read few is roots marks head_at fits_is report leaked claims =
+finds_one core log reading check workers input index places head fits marked found read few is roots links marks head_at fits_is report leaked claims =
     let e = input_blocks core log read.0 input read.1 in
-    let g = marked_graph core reading input.skip read.0 input.live.blocks index places e is roots in
+    let g = marked_graph core reading input.skip read.0 input.live.blocks index places e is roots links in
     record {
       accepted = read.1.accepted;
       lines = read.0;
@@ -178,7 +191,7 @@ few_blocks n not_many = omega (arith, not_many)
 pub finds_read : (core log : List ℕ) (reading : Option (List ℕ)) (skip : Skip) (check : Bool) (workers : ℕ) (input : Input) (index : Index) (places : Places) (head : Head) (fits : Option (List Bool)) (marked : Marked) (found : Found)
     → (read : IsRead core log input) → input.skip ≡ skip → (2 ^ 32 - 1 < length input.live.blocks → IsErrOf {T = Marked} {E = PoolError} (Ok marked) TooManyForPool)
     → index ≡ record { blocks = input.live.blocks; reading = reading }
-    → AreRootsOf input.image input.live.blocks (spans_of input.skip read.0) places → Marks (word_of input.image) index places workers marked → head ≡ head_with input places None
+    → AreRootsFor read.0 input places → Marks (word_of input.image) index places workers marked → head ≡ head_with input places None
     → fits ≡ fits_with check input
     → found.report.items ≡ text_with head input index marked.set.items fits log
     → found.leaked ≡ length (leaked_in marked.set.items input.live.blocks) → found.claims ≡ marked.claims
@@ -186,7 +199,8 @@ pub finds_read : (core log : List ℕ) (reading : Option (List ℕ)) (skip : Ski
 finds_read core log reading skip check workers input index places head fits marked found read skips many is roots marks head_at fits_is report leaked claims =
     subst (λ (s : Skip). FindsOne core log reading s check workers found) skips
     (finds_one core log reading check workers input index places head fits marked found read (few_blocks (length input.live.blocks) (λ h. no_error marked (many h))) is
-    (subst (λ (file : List ℕ). AreRootsOf file input.live.blocks (spans_of input.skip read.0) places) read.1.image roots)
+    (subst (λ (file : List ℕ). AreRootsOf file input.live.blocks (spans_of input.skip read.0) places) read.1.image roots.roots)
+    roots.links
     (subst (λ (file : List ℕ). Marks (word_of file) index places workers marked) read.1.image marks)
     head_at fits_is
     (subst (λ (file : List ℕ). found.report.items ≡ text_of head input.live.blocks marked.set.items (heads_of (word_of file) index marked.set.items) fits log) read.1.image report)

@@ -8,8 +8,8 @@ use Rattle.leak_blocks.specs.declared.block.Block.{Block}
 use Rattle.leak_blocks.specs.Live.{live_of}
 use Rattle.leak_index.specs.Hits.{Index}
 use Rattle.leak_scan.specs.Heads.{heads_of}
-use Rattle.leak_roots.specs.Places.{Places, words_at}
-use Rattle.leak_roots.specs.Roots.{AreRootsOf, root_words}
+use Rattle.leak_roots.specs.Places.{Places}
+use Rattle.leak_roots.specs.Roots.{AreRootsOf}
 use Rattle.leak_roots.specs.Skipped.{spans_of}
 use Rattle.leak_roots.specs.declared.skip.Skip.{Skip}
 use Rattle.leak_marks.specs.Lists.{Has}
@@ -20,7 +20,7 @@ use Rattle.leak_marks.proofs.ReachLemmas.{reach_within}
 use Rattle.leak_pool.specs.declared.marked.Marked.{Marked}
 use Rattle.leak_pool.specs.declared.error.PoolError.{PoolError}
 use Rattle.leak_pool.specs.declared.error.PoolError.TheVariants.{TooMany as TooManyForPool, NoMemory as NoMemoryForPool}
-use Rattle.leak_pool.specs.Marking.{IsSet, Marks, graph_of, lists_of}
+use Rattle.leak_pool.specs.Marking.{IsSet, Marks, graph_of, led_by_roots, lists_of}
 use Rattle.leak_dirty.specs.declared.kept.Carry.{Carry}
 use Rattle.leak_dirty.specs.declared.retracing.Retraced.{Retraced}
 use Rattle.leak_dirty.specs.Differing.{AreDiffering, differs, reread_of}
@@ -35,19 +35,16 @@ use Rattle.leak_search.specs.declared.found.Found.{Found}
 use Rattle.leak_search.specs.declared.inputs.Input.{Input}
 use Rattle.leak_search.specs.declared.two_cores.Between.{Between}
 use Rattle.leak_search.specs.declared.two_cores.Inputs.{Inputs}
-use Rattle.leak_search.specs.Inputs.{IsReadOf, IsRead, IsInput, IsInputFault, IsFaultless, IsFaultOfTwo, IsTooMany, Continues, ArePaired, AreReadTwo, at_marking}
-use Rattle.leak_search.specs.Search.{graph_of_one, head_with, index_of, text_with}
+use Rattle.leak_search.specs.Inputs.{AreRootsFor, IsReadOf, IsRead, IsInput, IsInputFault, IsFaultless, IsFaultOfTwo, IsTooMany, Continues, ArePaired, AreReadTwo, at_marking}
+use Rattle.leak_search.specs.Search.{first_of, graph_of_one, head_with, index_of, text_with}
 use Rattle.leak_search.specs.SearchTwo.{IsMarkedEarlier, IsBetween, FindsLater, FindsTwo, graph_of_later, head_of_two, kept_blocks, new_blocks, numbers_of_two, size_of}
 use Rattle.leak_search.specs.Signs.{fits_told, fits_with}
-use Rattle.leak_search.proofs.SearchLemmas.{fits_are, found_words, head_is, index_is, input_blocks, marked_graph}
+use Rattle.leak_search.proofs.SearchLemmas.{as_input, fits_are, found_first, head_is, index_is, input_blocks, marked_graph}
 
 -- ---- refusals
 
 abbrev pub faultless : (core log : List ℕ) (lines : List Line) (input : Input) → IsReadOf core log lines input → IsFaultless core log
 faultless core log lines input read = record { core_is = read.accepted; lines = lines; log_is = read.is_log }
-
-abbrev pub as_input : (core log : List ℕ) (lines : List Line) (input : Input) → IsReadOf core log lines input → IsInput lines input
-as_input core log lines input read = record { log = log; read = subst (λ (file : List ℕ). IsReadOf file log lines input) (sym read.image) read }
 
 -- the inputs, as they were read
 abbrev pub paired : (core1 log1 core2 log2 : List ℕ) (inputs : Inputs) (read : AreReadTwo core1 log1 core2 log2 inputs) → ArePaired read.before read.now inputs
@@ -103,11 +100,11 @@ is_true answer test same says = sym same ∙ says
 
 pub marked_earlier : (reading : Option (List ℕ)) (workers : ℕ) (lines : List Line) (input : Input) (index : Index) (places : Places) (marked : Marked)
     → IsInput lines input → index ≡ record { blocks = input.live.blocks; reading = reading }
-    → AreRootsOf input.image input.live.blocks (spans_of input.skip lines) places → Marks (word_of input.image) index places workers marked
+    → AreRootsFor lines input places → Marks (word_of input.image) index places workers marked
     → IsMarkedEarlier input.image reading input.skip lines marked.set.items
 marked_earlier reading workers lines input index places marked is_input is roots marks =
     let e = input_blocks input.image is_input.log lines input is_input.read in
-    let g = marked_graph input.image reading input.skip lines input.live.blocks index places e is roots in
+    let g = marked_graph input.image reading input.skip lines input.live.blocks index places e is roots.roots roots.links in
     subst (λ (bs : List Block). IsSet marked.set.items (length bs) (Reach (graph_of_one input.image reading input.skip lines))) (ap (λ (i : Index). i.blocks) is ∙ e)
     (subst (λ (h : Graph). IsSet marked.set.items (length index.blocks) (Reach h)) g marks.set)
 
@@ -146,7 +143,7 @@ others_lead_within core1 core2 reading skip before now b between continues same 
 
     within : OthersLeadWithin (word_of core2) (index_of reading (before ++ continues.0)) b.pages (kept_blocks before between.earlier (before ++ continues.0)) (new_blocks before (before ++ continues.0))
     within i block at kept a w from to is out j hit =
-        same (word_of core1) (word_of core2) reading (root_words core1 (live_of before) (spans_of skip before)) before continues.0 between.earlier (record { marked = between.marked })
+        same (word_of core1) (word_of core2) reading (first_of core1 (index_of reading before) skip before) before continues.0 between.earlier (record { marked = between.marked })
         i block at kept a w from to is (not_differing _ out) j hit
 
 -- ---- the later core
@@ -178,14 +175,14 @@ for_memory T (Err e) h = λ other. absurd (other h)
 
 -- the graph that was marked again is that of the later core and its lines
 later_graph : (core : List ℕ) (reading : Option (List ℕ)) (skip : Skip) (lines : List Line) (blocks : List Block) (index : Index) (places : Places) (kept fresh : List ℕ)
-    → blocks ≡ live_of lines → index ≡ record { blocks = blocks; reading = reading } → AreRootsOf core blocks (spans_of skip lines) places
-    → graph_of_two (word_of core) index (words_at (word_of core) places) kept fresh ≡ graph_of_later core reading skip kept fresh lines
-later_graph core reading skip lines blocks index places kept fresh are is roots =
-    rw (found_words core blocks (spans_of skip lines) places roots, is, are) refl
+    → blocks ≡ live_of lines → index ≡ record { blocks = blocks; reading = reading } → AreRootsOf core blocks (spans_of skip lines) places → places.skips_links ≡ skip.links
+    → graph_of_two (word_of core) index (led_by_roots (word_of core) index places) kept fresh ≡ graph_of_later core reading skip kept fresh lines
+later_graph core reading skip lines blocks index places kept fresh are is roots links =
+    rw (found_first core index blocks (spans_of skip lines) skip.links places roots links, is, are) refl
 
 -- a search of the later core that read, compared, found roots and marked again
 finds_later : (core log : List ℕ) (reading : Option (List ℕ)) (check : Bool) (workers : ℕ) (lines : List Line) (input : Input) (index : Index) (places : Places) (head : Head) (fits : Option (List Bool)) (pages : List ℕ) (c : Carry) (r : Retraced) (count bytes : ℕ) (found : Found)
-    → IsReadOf core log lines input → index ≡ record { blocks = input.live.blocks; reading = reading } → AreRootsOf core input.live.blocks (spans_of input.skip lines) places
+    → IsReadOf core log lines input → index ≡ record { blocks = input.live.blocks; reading = reading } → AreRootsOf core input.live.blocks (spans_of input.skip lines) places → places.skips_links ≡ input.skip.links
     → OthersLeadWithin (word_of core) (index_of reading lines) pages c.kept.items c.fresh.items
     → IsRetrace (word_of core) index places pages c workers r → count ≡ length c.fresh.items → bytes ≡ size_of input.live.blocks c.fresh.items
     → head ≡ head_with input places (Some (record { fresh = count; fresh_bytes = bytes; reread = r.reread }))
@@ -193,11 +190,11 @@ finds_later : (core log : List ℕ) (reading : Option (List ℕ)) (check : Bool)
     → found.report.items ≡ text_of head input.live.blocks r.marked.set.items (heads_of (word_of core) index r.marked.set.items) fits log
     → found.leaked ≡ length (leaked_in r.marked.set.items input.live.blocks) → found.claims ≡ r.marked.claims
     → FindsLater core log reading input.skip check lines pages c.kept.items c.fresh.items workers found
-finds_later core log reading check workers lines input index places head fits pages c r count bytes found read is roots others retrace counted sized head_at fits_is report leaked claims =
+finds_later core log reading check workers lines input index places head fits pages c r count bytes found read is roots links others retrace counted sized head_at fits_is report leaked claims =
     let e = input_blocks core log lines input read in
     let same_index = index_is reading lines input.live.blocks index e is in
     let within = subst (λ (i : Index). OthersLeadWithin (word_of core) i pages c.kept.items c.fresh.items) (sym same_index) others in
-    let g = later_graph core reading input.skip lines input.live.blocks index places c.kept.items c.fresh.items e is roots in
+    let g = later_graph core reading input.skip lines input.live.blocks index places c.kept.items c.fresh.items e is roots links in
     let set = subst (λ (bs : List Block). IsSet r.marked.set.items (length bs) (Reach (graph_of_later core reading input.skip c.kept.items c.fresh.items lines))) (ap (λ (i : Index). i.blocks) same_index)
     (subst (λ (h : Graph). IsSet r.marked.set.items (length index.blocks) (Reach h)) g (retrace.set within)) in
     record {
@@ -228,7 +225,7 @@ finds_inputs : (log1 log2 : List ℕ) (reading : Option (List ℕ)) (skip : Skip
     → IsReadOf first.image log1 before first → IsReadOf second.image log2 now second → length first.live.blocks < 2 ^ 32 → length second.live.blocks < 2 ^ 32
     → IsTrue (is_continued_by log1 log2) → Continues before now → SameWordsLeadWithin
     → IsBetween first.image second.image reading skip before now b → second.skip ≡ skip
-    → index ≡ record { blocks = second.live.blocks; reading = reading } → AreRootsOf second.image second.live.blocks (spans_of second.skip now) places
+    → index ≡ record { blocks = second.live.blocks; reading = reading } → AreRootsFor now second places
     → IsRetrace (word_of second.image) index places b.pages b.carry workers r → count ≡ length b.carry.fresh.items → bytes ≡ size_of second.live.blocks b.carry.fresh.items
     → head ≡ head_with second places (Some (record { fresh = count; fresh_bytes = bytes; reread = r.reread }))
     → fits ≡ fits_with check second
@@ -238,7 +235,7 @@ finds_inputs : (log1 log2 : List ℕ) (reading : Option (List ℕ)) (skip : Skip
 finds_inputs log1 log2 reading skip check workers before now first second index places head fits b r count bytes found read1 read2 few1 few2 continued continues same between skips is roots retrace counted sized head_at fits_is report leaked claims =
     let others = others_lead_within first.image second.image reading skip before now b between continues same in
     let later = subst (λ (s : Skip). FindsLater second.image log2 reading s check now b.pages b.carry.kept.items b.carry.fresh.items workers found) skips
-    (finds_later second.image log2 reading check workers now second index places head fits b.pages b.carry r count bytes found read2 is roots others retrace counted sized head_at fits_is report leaked claims) in
+    (finds_later second.image log2 reading check workers now second index places head fits b.pages b.carry r count bytes found read2 is roots.roots roots.links others retrace counted sized head_at fits_is report leaked claims) in
     record {
       first = faultless first.image log1 before first read1;
       second = faultless second.image log2 now second read2;
@@ -256,7 +253,7 @@ finds_inputs log1 log2 reading skip check workers before now first second index 
 pub finds_two : (core1 log1 core2 log2 : List ℕ) (reading : Option (List ℕ)) (skip : Skip) (check : Bool) (workers : ℕ) (inputs : Inputs) (index : Index) (places : Places) (head : Head) (fits : Option (List Bool)) (b : Between) (r : Retraced) (count bytes : ℕ) (found : Found)
     → (read : AreReadTwo core1 log1 core2 log2 inputs) → SameWordsLeadWithin
     → IsBetween inputs.first.image inputs.second.image reading inputs.first.skip read.before read.now b → (inputs.first.skip ≡ skip) × (inputs.second.skip ≡ skip)
-    → index ≡ record { blocks = inputs.second.live.blocks; reading = reading } → AreRootsOf inputs.second.image inputs.second.live.blocks (spans_of inputs.second.skip read.now) places
+    → index ≡ record { blocks = inputs.second.live.blocks; reading = reading } → AreRootsFor read.now inputs.second places
     → IsRetrace (word_of inputs.second.image) index places b.pages b.carry workers r → count ≡ length b.carry.fresh.items → bytes ≡ size_of inputs.second.live.blocks b.carry.fresh.items
     → head ≡ head_with inputs.second places (Some (record { fresh = count; fresh_bytes = bytes; reread = r.reread }))
     → fits ≡ fits_with check inputs.second

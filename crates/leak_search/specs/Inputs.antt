@@ -12,6 +12,8 @@ use Rattle.leak_mtrace.specs.declared.error.LogError.TheVariants.{NoMemory as No
 use Rattle.leak_mtrace.specs.Log.{IsLog, IsFirstFault, CallersAreIn, is_continued_by, torn_of, whole_len_of}
 use Rattle.leak_blocks.specs.Live.{live_of, replay_of}
 use Rattle.leak_blocks.specs.Small.{CoverSame}
+use Rattle.leak_roots.specs.Places.{Places}
+use Rattle.leak_roots.specs.Roots.{AreRootsOf}
 use Rattle.leak_roots.specs.Skipped.{spans_of}
 use Rattle.leak_pool.specs.declared.error.PoolError.{PoolError}
 use Rattle.leak_pool.specs.declared.error.PoolError.TheVariants.{TooMany as TooManyForPool, NoMemory as NoMemoryForPool}
@@ -100,6 +102,11 @@ IsRead core log input = (lines : List Line) × IsReadOf core log lines input
 pub record IsInput (lines : List Line) (input : Input) : Type 0 where
   pub log : List ℕ
   pub read : IsReadOf input.image log lines input
+
+-- these are the places of the input's root words, without what its search leaves out
+pub record AreRootsFor (lines : List Line) (input : Input) (places : Places) : Type 0 where
+  pub roots : AreRootsOf input.image input.live.blocks (spans_of input.skip lines) places
+  pub links : places.skips_links ≡ input.skip.links
 
 -- the lines of the earlier log begin those of the later
 abbrev pub Continues : List Line → List Line → Type 0

@@ -8,12 +8,13 @@ use Rattle.leak_blocks.specs.Live.{live_of, replay_of}
 use Rattle.leak_index.specs.Hits.{Index}
 use Rattle.leak_roots.specs.declared.skip.Skip.{Skip}
 use Rattle.leak_roots.specs.Places.{Places}
-use Rattle.leak_roots.specs.Roots.{root_words}
+use Rattle.leak_notes.specs.Threads.{registers_of}
+use Rattle.leak_roots.specs.Roots.{root_places}
 use Rattle.leak_roots.specs.Skipped.{spans_of, freed_of}
 use Rattle.leak_scan.specs.Heads.{heads_of}
 use Rattle.leak_marks.specs.Reach.{Graph, Reach}
 use Rattle.leak_marks.specs.Partition.{Partitions}
-use Rattle.leak_pool.specs.Marking.{IsSet, graph_of}
+use Rattle.leak_pool.specs.Marking.{IsSet, graph_of, led_from}
 use Rattle.leak_report.specs.declared.head.Head.{Head}
 use Rattle.leak_report.specs.declared.head.Two.{Two}
 use Rattle.leak_report.specs.Totals.{leaked_in}
@@ -27,10 +28,17 @@ use Rattle.leak_search.specs.Signs.{fits_told}
 abbrev pub index_of : Option (List ℕ) → List Line → Index
 index_of reading lines = record { blocks = live_of lines; reading = reading }
 
+-- the live blocks that the root words of the core lead to, without what is left out
+abbrev pub first_of : List ℕ → Index → Skip → List Line → List ℕ
+first_of core index skip lines =
+    led_from skip.links (word_of core) index (registers_of core)
+    (root_places core (live_of lines) (spans_of skip lines))
+
 -- which live block leads to which, and which of them the root words of the core lead to
 abbrev pub graph_of_one : List ℕ → Option (List ℕ) → Skip → List Line → Graph
 graph_of_one core reading skip lines =
-    graph_of (word_of core) (index_of reading lines) (root_words core (live_of lines) (spans_of skip lines)) []
+    let index = index_of reading lines in
+    graph_of (word_of core) index (first_of core index skip lines) []
 
 -- the numbers of the report's first lines
 abbrev pub head_of_one : List ℕ → List ℕ → Skip → List Line → Head

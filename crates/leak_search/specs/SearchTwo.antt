@@ -10,8 +10,7 @@ use Rattle.leak_mtrace.specs.Log.{is_continued_by, torn_of}
 use Rattle.leak_blocks.specs.declared.block.Block.{Block}
 use Rattle.leak_blocks.specs.Live.{live_of, replay_of}
 use Rattle.leak_roots.specs.declared.skip.Skip.{Skip}
-use Rattle.leak_roots.specs.Roots.{root_words}
-use Rattle.leak_roots.specs.Skipped.{spans_of, freed_of}
+use Rattle.leak_roots.specs.Skipped.{freed_of}
 use Rattle.leak_scan.specs.Heads.{heads_of}
 use Rattle.leak_marks.specs.Lists.{Has}
 use Rattle.leak_marks.specs.Reach.{Graph, Reach}
@@ -28,7 +27,7 @@ use Rattle.leak_search.specs.declared.found.Found.{Found}
 use Rattle.leak_search.specs.declared.two_cores.Between.{Between}
 use Rattle.leak_search.specs.Inputs.{IsFaultless}
 use Rattle.leak_search.specs.Signs.{fits_told}
-use Rattle.leak_search.specs.Search.{index_of, graph_of_one, claims_of}
+use Rattle.leak_search.specs.Search.{first_of, index_of, graph_of_one, claims_of}
 
 -- the blocks that chains of the earlier core reach, as tests for the live blocks of its log
 abbrev pub IsMarkedEarlier : List ℕ → Option (List ℕ) → Skip → List Line → List Bool → Type 0
@@ -45,7 +44,8 @@ new_blocks before now = fresh_of (length before) (live_of now)
 -- chains of the later core begin at kept blocks, at new ones, and at those that its root words lead to
 abbrev pub graph_of_later : List ℕ → Option (List ℕ) → Skip → List ℕ → List ℕ → List Line → Graph
 graph_of_later core reading skip kept fresh lines =
-    graph_of_two (word_of core) (index_of reading lines) (root_words core (live_of lines) (spans_of skip lines)) kept fresh
+    let index = index_of reading lines in
+    graph_of_two (word_of core) index (first_of core index skip lines) kept fresh
 
 -- the sum of the sizes of the numbered blocks
 unfoldable pub size_of : List Block → List ℕ → ℕ

@@ -8,12 +8,12 @@ ghost use Rattle.leak_search.specs.Signs.{AreSigns};
 
 use crate::error::FindError;
 use crate::found::Found;
-use crate::inputs::read_input;
+use crate::inputs::{find_roots, read_input};
 use crate::reporting::{Aside, head_of, report_of};
 use crate::signing::oddities_of_one;
 use leak_index::{Reading, Sorted};
 use leak_pool::mark_alone;
-use leak_roots::{Roots, Skip};
+use leak_roots::Skip;
 use std::alloc::Global;
 
 /// Searches a core and its log on the caller's thread, with one list of claims.
@@ -29,18 +29,14 @@ pub fn find_alone(
     check: bool,
 ) -> Result<Found, FindError>
     ensures ok { IfOk result (FindsOne core.now log.now (listed_by reading) skip check 1) }
-    ensures signs { IfOk result (λ found. AreSigns (core.now ∷ log.now ∷ []) found.signs.items) }
-    ensures refused { IfErr result (λ e. e ≢ FindError.NoMemory → IsFaultOfOne core.now log.now e) }
+    ensures signs { IfOk result (λ found.
+        AreSigns (core.now ∷ log.now ∷ []) found.signs.items) }
+    ensures refused { IfErr result (λ e. e ≢ FindError.NoMemory
+        → IsFaultOfOne core.now log.now e) }
 {
     let input = read_input(alloc, 1, skip, core, log)?;
     let oddities = oddities_of_one(alloc, &input, check)?;
-    let roots = Roots::find(
-        alloc,
-        &input.image,
-        &input.threads,
-        &input.live,
-        &input.small,
-    )?;
+    let roots = find_roots(alloc, &input)?;
     let lookup = Sorted::new(&input.live, reading);
     let marked = mark_alone(alloc, &input.image, &lookup, &roots, &input.live)?;
     let head = head_of(&input, &roots, None);

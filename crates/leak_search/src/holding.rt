@@ -7,10 +7,10 @@ ghost use Rattle.leak_search.specs.declared.holding.WhyError.TheVariants.{Find};
 ghost use Rattle.leak_search.specs.Holding.{IsWhyFault, TellsWhy};
 
 use crate::error::FindError;
-use crate::inputs::read_input;
+use crate::inputs::{find_roots, read_input};
 use leak_index::{Reading, Sorted};
 use leak_notes::register_sets;
-use leak_roots::{Roots, Skip};
+use leak_roots::Skip;
 use leak_why::{block_at, text, why};
 use std::alloc::{AllocError, Global};
 use thiserror::Error;
@@ -67,13 +67,7 @@ pub fn find_why(
     let Some(block) = block_at(&input.live, address) else {
         return Err(WhyError::NoBlock(address));
     };
-    let roots = Roots::find(
-        alloc,
-        &input.image,
-        &input.threads,
-        &input.live,
-        &input.small,
-    )?;
+    let roots = find_roots(alloc, &input)?;
     let lookup = Sorted::new(&input.live, reading);
     let chain = why(alloc, &input.image, &lookup, &roots, &input.live, block)?;
     let sets = register_sets(alloc, &input.image)?;

@@ -1,15 +1,16 @@
 //! An input: a core, and the log of its allocations.
 
-ghost use Rattle.std.specs.Prelude.{◌≡◌, ◌≢◌, IfOk, IfErr};
-ghost use Rattle.leak_search.specs.Inputs.{IsInputFault, IsRead};
+ghost use Rattle.std.specs.Prelude.{◌≡◌, ◌≢◌, List, IfOk, IfErr};
+ghost use Rattle.leak_mtrace.specs.declared.line.Line.{Line};
+ghost use Rattle.leak_search.specs.Inputs.{AreRootsFor, IsInput, IsInputFault, IsRead};
 
 use crate::error::{FindError, at_core, at_log, at_notes};
 use leak_blocks::{Live, SmallSpans, replay};
 use leak_elf::Image;
 use leak_mtrace::Log;
 use leak_notes::Threads;
-use leak_roots::Skip;
-use std::alloc::Global;
+use leak_roots::{Roots, Skip};
+use std::alloc::{AllocError, Global};
 
 /// A core and its log, read: nothing is marked yet. The log's lines are dropped, and their live blocks are kept.
 #[derive(Drop)]
@@ -37,7 +38,8 @@ pub(crate) fn read_input<'a>(
 ) -> Result<Input<'a>, FindError>
     ensures ok { IfOk result (IsRead core.now log.now) }
     ensures skip { IfOk result (λ input. input.skip ≡ skip) }
-    ensures refused { IfErr result (λ e. e ≢ FindError.NoMemory → IsInputFault number core.now log.now e) }
+    ensures refused { IfErr result (λ e. e ≢ FindError.NoMemory
+        → IsInputFault number core.now log.now e) }
 {
     let image = match Image::read(alloc, core) {
         Ok(image) => image,
@@ -62,4 +64,19 @@ pub(crate) fn read_input<'a>(
         torn: log.torn(),
         whole_len: log.whole_len(),
     })
+}
+
+/// The root words of an input, without what its search leaves out.
+pub(crate) fn find_roots(alloc: Global, input: &Input) -> Result<Roots, AllocError>
+    ensures { (lines : List Line) → IsInput lines input.now
+        → IfOk result (AreRootsFor lines input.now) }
+{
+    let roots = Roots::find(
+        alloc,
+        &input.image,
+        &input.threads,
+        &input.live,
+        &input.small,
+    )?;
+    Ok(roots.skip_links(input.skip.links))
 }

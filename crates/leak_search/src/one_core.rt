@@ -8,12 +8,12 @@ ghost use Rattle.leak_search.specs.Signs.{AreSigns};
 
 use crate::error::FindError;
 use crate::found::Found;
-use crate::inputs::read_input;
+use crate::inputs::{find_roots, read_input};
 use crate::reporting::{Aside, head_of, report_of};
 use crate::signing::oddities_of_one;
 use leak_index::{Paged, Reading};
 use leak_pool::{Gate, Plan, mark_by_links};
-use leak_roots::{Roots, Skip};
+use leak_roots::Skip;
 use std::alloc::Global;
 
 /// What blocks lead to is listed where that takes an eighth of the core at most, at four bytes a target. Own rule: lists of
@@ -42,19 +42,16 @@ pub fn find_one<R: std::thread::Threads + Sync, G: Gate + Sync>(
     plan: Plan,
     gate: &G,
 ) -> Result<Found, FindError>
-    ensures ok { IfOk result (FindsOne core.now log.now (listed_by reading) skip check plan.workers) }
-    ensures signs { IfOk result (λ found. AreSigns (core.now ∷ log.now ∷ []) found.signs.items) }
-    ensures refused { IfErr result (λ e. e ≢ FindError.NoMemory → IsFaultOfOne core.now log.now e) }
+    ensures ok { IfOk result
+        (FindsOne core.now log.now (listed_by reading) skip check plan.workers) }
+    ensures signs { IfOk result (λ found.
+        AreSigns (core.now ∷ log.now ∷ []) found.signs.items) }
+    ensures refused { IfErr result (λ e. e ≢ FindError.NoMemory
+        → IsFaultOfOne core.now log.now e) }
 {
     let input = read_input(alloc, 1, skip, core, log)?;
     let oddities = oddities_of_one(alloc, &input, check)?;
-    let roots = Roots::find(
-        alloc,
-        &input.image,
-        &input.threads,
-        &input.live,
-        &input.small,
-    )?;
+    let roots = find_roots(alloc, &input)?;
     let lookup = Paged::new(alloc, &input.live, reading)?;
     let marked = mark_by_links(
         rt,

@@ -59,7 +59,8 @@ pub(crate) fn report_of<L: Lookup>(
     ensures report { IfOk result (λ found. found.report.items ≡
         text_with aside.head input.now (L.index lookup.now) marked.set.items
         (option_map (λ v. v.items) aside.oddities.fits) log.now) }
-    ensures leaked { IfOk result (λ found. found.leaked ≡ length (leaked_in marked.set.items input.now.live.blocks)) }
+    ensures leaked { IfOk result (λ found.
+        found.leaked ≡ length (leaked_in marked.set.items input.now.live.blocks)) }
     ensures claims { IfOk result (λ found. found.claims ≡ marked.claims) }
     ensures signs { IfOk result (λ found. found.signs.items ≡ aside.oddities.signs.items) }
     ensures memory { IfErr result (λ e. e ≡ FindError.NoMemory) }

@@ -7,18 +7,23 @@ ghost use Rattle.leak_mtrace.specs.declared.line.Line.{Line};
 ghost use Rattle.leak_mtrace.specs.Log.{is_continued_by, whole_len_of};
 ghost use Rattle.leak_blocks.specs.Live.{live_of};
 ghost use Rattle.leak_blocks.specs.Span.{AreAddressed, AreDisjoint};
+ghost use Rattle.leak_elf.specs.Words.{word_of};
 ghost use Rattle.leak_index.specs.Readings.{listed_by};
+ghost use Rattle.leak_dirty.specs.Kept.{IsCarry};
+ghost use Rattle.leak_dirty.specs.Retrace.{IsRetrace};
 ghost use Rattle.leak_search.specs.Inputs.{IsInput, ArePaired, AreReadTwo, IsFaultOfTwo};
 ghost use Rattle.leak_search.specs.Signs.{AreSigns};
 ghost use Rattle.leak_search.specs.SearchTwo.{IsMarkedEarlier, IsBetween, FindsTwo, size_of};
 
 use crate::error::FindError;
 use crate::found::Found;
-use crate::inputs::{Input, read_input};
+use crate::inputs::{Input, find_roots, read_input};
 use crate::reporting::{Aside, head_of, report_of};
 use crate::signing::oddities_of_two;
 use leak_blocks::Block;
-use leak_dirty::{Carry, absent_are_fresh, carry, differing, retrace, same_words_lead_within};
+use leak_dirty::{
+    Carry, Retraced, absent_are_fresh, carry, differing, retrace, same_words_lead_within,
+};
 use leak_index::{Paged, Reading};
 use leak_pool::{Gate, Marked, Plan, mark};
 use leak_report::Two;
@@ -53,8 +58,10 @@ fn read_two<'a, 'b>(
     log2: &[u8],
 ) -> Result<Inputs<'a, 'b>, FindError>
     ensures read { IfOk result (AreReadTwo core1.now log1.now core2.now log2.now) }
-    ensures skip { IfOk result (λ inputs. (inputs.first.skip ≡ skip) × (inputs.second.skip ≡ skip)) }
-    ensures refused { IfErr result (λ e. e ≢ FindError.NoMemory → IsFaultOfTwo core1.now log1.now core2.now log2.now e) }
+    ensures skip { IfOk result (λ inputs.
+        (inputs.first.skip ≡ skip) × (inputs.second.skip ≡ skip)) }
+    ensures refused { IfErr result (λ e. e ≢ FindError.NoMemory
+        → IsFaultOfTwo core1.now log1.now core2.now log2.now e) }
 {
     let first = read_input(alloc, 1, skip, core1, log1)?;
     let second = read_input(alloc, 2, skip, core2, log2)?;
@@ -70,6 +77,14 @@ fn read_two<'a, 'b>(
     Ok(Inputs { first, second })
 }
 
+/// The threads of a search, and how they share its work.
+#[derive(Drop)]
+struct Workers<'a, R: Threads + Sync, G: Gate + Sync> {
+    rt: &'a R,
+    plan: Plan,
+    gate: &'a G,
+}
+
 /// What marking in the later core begins with.
 #[derive(Drop)]
 pub(crate) struct Between {
@@ -79,64 +94,90 @@ pub(crate) struct Between {
 
 /// Marks the blocks of the first log that chains of its core reach.
 fn mark_earlier<R: Threads + Sync, G: Gate + Sync>(
-    rt: &R,
+    workers: &Workers<'_, R, G>,
     alloc: Global,
     input: &Input,
     reading: Reading,
-    plan: Plan,
-    gate: &G,
 ) -> Result<Marked, FindError>
     requires read { (lines : List Line) × IsInput lines input.now }
     requires few { length input.now.live.blocks < 2 ^ 32 }
-    ensures marked { IfOk result (λ marked. (lines : List Line) → IsInput lines input.now → IsMarkedEarlier input.now.image (listed_by reading) input.now.skip lines marked.set.items) }
+    ensures marked { IfOk result (λ marked. (lines : List Line) → IsInput lines input.now
+        → IsMarkedEarlier input.now.image (listed_by reading) input.now.skip lines marked.set.items) }
     ensures memory { IfErr result (λ e. e ≡ FindError.NoMemory) }
 {
-    let roots = Roots::find(
-        alloc,
-        &input.image,
-        &input.threads,
-        &input.live,
-        &input.small,
-    )?;
+    let roots = find_roots(alloc, input)?;
     let lookup = Paged::new(alloc, &input.live, reading)?;
     let marked = mark(
-        rt,
+        workers.rt,
         alloc,
         &input.image,
         &lookup,
         &roots,
         &input.live,
-        plan,
-        gate,
+        workers.plan,
+        workers.gate,
     )?;
     Ok(marked)
 }
 
 /// Marks in the first core, and finds which blocks of the second log are kept or new, and which pages differ.
 fn compare<R: Threads + Sync, G: Gate + Sync>(
-    rt: &R,
+    workers: &Workers<'_, R, G>,
     alloc: Global,
     inputs: &Inputs,
     reading: Reading,
-    plan: Plan,
-    gate: &G,
 ) -> Result<Between, FindError>
     requires paired { (before : List Line) × (now : List Line) × ArePaired before now inputs.now }
-    requires few { (length inputs.now.first.live.blocks < 2 ^ 32) × (length inputs.now.second.live.blocks < 2 ^ 32) }
-    ensures between { IfOk result (λ between. (before now : List Line) → ArePaired before now inputs.now → IsBetween inputs.now.first.image inputs.now.second.image (listed_by reading) inputs.now.first.skip before now between) }
+    requires few { (length inputs.now.first.live.blocks < 2 ^ 32)
+        × (length inputs.now.second.live.blocks < 2 ^ 32) }
+    ensures between { IfOk result (λ between. (before now : List Line)
+        → ArePaired before now inputs.now
+        → IsBetween inputs.now.first.image inputs.now.second.image (listed_by reading)
+        inputs.now.first.skip before now between) }
     ensures memory { IfErr result (λ e. e ≡ FindError.NoMemory) }
 {
     // (a law, for the proof: blocks that the first log lacks are new)
     absent_are_fresh();
-    let marked = mark_earlier(rt, alloc, &inputs.first, reading, plan, gate)?;
+    let marked = mark_earlier(workers, alloc, &inputs.first, reading)?;
     let carry = carry(
         alloc,
         &inputs.first.live,
         marked.set.as_slice(),
         &inputs.second.live,
     )?;
-    let pages = differing(rt, alloc, &inputs.first.image, &inputs.second.image)?;
+    let pages = differing(workers.rt, alloc, &inputs.first.image, &inputs.second.image)?;
     Ok(Between { carry, pages })
+}
+
+/// Marks in the later core from what was marked in the earlier one.
+fn mark_later<R: Threads + Sync, G: Gate + Sync>(
+    workers: &Workers<'_, R, G>,
+    alloc: Global,
+    input: &Input,
+    lookup: &Paged,
+    roots: &Roots,
+    between: &Between,
+) -> Result<Retraced, FindError>
+    requires blocks { lookup.now.blocks ≡ input.now.live.blocks }
+    requires carried { IsCarry (length input.now.live.blocks) between.now.carry }
+    requires few { length input.now.live.blocks < 2 ^ 32 }
+    ensures traced { IfOk result (IsRetrace (word_of input.now.image) lookup.now roots.now
+        between.now.pages between.now.carry workers.now.plan.workers) }
+    ensures memory { IfErr result (λ e. e ≡ FindError.NoMemory) }
+{
+    let retraced = retrace(
+        workers.rt,
+        alloc,
+        &input.image,
+        lookup,
+        roots,
+        &input.live,
+        &between.carry,
+        &between.pages,
+        workers.plan,
+        workers.gate,
+    )?;
+    Ok(retraced)
 }
 
 /// The sum of the sizes of the numbered blocks, in bytes.
@@ -152,6 +193,22 @@ fn sum_sizes(blocks: &[Block], numbers: &[u32]) -> u64
         bytes += blocks[*number as usize].size;
     }
     bytes
+}
+
+/// The numbers of the report that are of two cores.
+fn numbers_of(input: &Input, carry: &Carry, reread: u64) -> Two
+    requires { IsCarry (length input.now.live.blocks) carry.now }
+    ensures { result ≡ record {
+      fresh = length carry.now.fresh.items;
+      fresh_bytes = size_of input.now.live.blocks carry.now.fresh.items;
+      reread = reread;
+    } }
+{
+    Two {
+        fresh: carry.fresh.len() as u64,
+        fresh_bytes: sum_sizes(input.live.blocks(), &carry.fresh),
+        reread,
+    }
 }
 
 /// Searches two cores of one process and their logs by the workers of the plan, with a list of claims for each.
@@ -178,42 +235,25 @@ pub fn find_two<R: Threads + Sync, G: Gate + Sync>(
     plan: Plan,
     gate: &G,
 ) -> Result<Found, FindError>
-    ensures ok { IfOk result (FindsTwo core1.now log1.now core2.now log2.now (listed_by reading) skip check plan.workers) }
-    ensures signs { IfOk result (λ found. AreSigns (core1.now ∷ log1.now ∷ core2.now ∷ log2.now ∷ []) found.signs.items) }
-    ensures refused { IfErr result (λ e. e ≢ FindError.NoMemory → IsFaultOfTwo core1.now log1.now core2.now log2.now e) }
+    ensures ok { IfOk result (FindsTwo core1.now log1.now core2.now log2.now
+        (listed_by reading) skip check plan.workers) }
+    ensures signs { IfOk result (λ found.
+        AreSigns (core1.now ∷ log1.now ∷ core2.now ∷ log2.now ∷ []) found.signs.items) }
+    ensures refused { IfErr result (λ e. e ≢ FindError.NoMemory
+        → IsFaultOfTwo core1.now log1.now core2.now log2.now e) }
 {
     // (a law, for the proof: words on pages that are the same need no second scan)
     same_words_lead_within();
+    let workers = Workers { rt, plan, gate };
     let inputs = read_two(alloc, skip, core1, log1, core2, log2)?;
-    let between = compare(rt, alloc, &inputs, reading, plan, gate)?;
+    let between = compare(&workers, alloc, &inputs, reading)?;
     let oddities = oddities_of_two(alloc, &inputs.first, &inputs.second, check)?;
     let Inputs { first, second } = inputs;
     drop(first); // no more is asked of it
-    let roots = Roots::find(
-        alloc,
-        &second.image,
-        &second.threads,
-        &second.live,
-        &second.small,
-    )?;
+    let roots = find_roots(alloc, &second)?;
     let lookup = Paged::new(alloc, &second.live, reading)?;
-    let retraced = retrace(
-        rt,
-        alloc,
-        &second.image,
-        &lookup,
-        &roots,
-        &second.live,
-        &between.carry,
-        &between.pages,
-        plan,
-        gate,
-    )?;
-    let two = Two {
-        fresh: between.carry.fresh.len() as u64,
-        fresh_bytes: sum_sizes(second.live.blocks(), &between.carry.fresh),
-        reread: retraced.reread,
-    };
+    let retraced = mark_later(&workers, alloc, &second, &lookup, &roots, &between)?;
+    let two = numbers_of(&second, &between.carry, retraced.reread);
     let head = head_of(&second, &roots, Some(two));
     let aside = Aside { head, oddities };
     report_of(alloc, &second, &lookup, log2, retraced.marked, aside)

@@ -1,10 +1,7 @@
-use Rattle.std.proofs.Common.{◌≡◌, ◌∙◌, ℕ, List, ap, subst}
+use Rattle.std.proofs.Common.{◌≡◌, ◌∙◌, ℕ, List, ap}
 use Rattle.leak_notes.specs.declared.sets.RegisterSet.{RegisterSet}
-use Rattle.leak_roots.specs.Skipped.{spans_of}
-use Rattle.leak_roots.specs.declared.skip.Skip.{Skip}
 use Rattle.leak_why.specs.Text.{text_of}
-use Rattle.leak_blocks.specs.Small.{CoverSame}
-use Rattle.leak_search.proofs.SearchLemmas.{input_callers, threads_read}
+use Rattle.leak_search.proofs.SearchLemmas.{as_input, input_callers}
 use Rattle.leak_search.proofs.HoldingLemmas.{tells_why, no_block}
 use Rattle.leak_search.proofs.holding.find_why.Goals as goal
 
@@ -17,9 +14,7 @@ text-requires c = record { in_log = input_callers c.args.core.now c.args.log.now
 pub returns-clause-ok : goal.returns-clause-ok
 returns-clause-ok c =
     tells_why c.args.core.now c.args.log.now _ c.args.skip c.args.address c.in_ok-input.input c.new-lookup.result c.in_ok-roots.roots c.in-Some.block c.in_ok-chain.chain _
-    c.in_ok-input.ensures.ok c.new-lookup.ensures (c.in_ok-roots.ensures.of_core (spans_of c.args.skip c.in_ok-input.ensures.ok.0)
-    (subst (λ (s : Skip). CoverSame c.in_ok-input.input.small (spans_of s c.in_ok-input.ensures.ok.0)) c.in_ok-input.ensures.skip c.in_ok-input.ensures.ok.1.small)
-    (threads_read c.args.core.now c.args.log.now c.in_ok-input.input c.in_ok-input.ensures.ok))
+    c.in_ok-input.ensures.ok c.new-lookup.ensures c.in_ok-input.ensures.skip (c.in_ok-roots.ensures _ (as_input _ _ _ _ c.in_ok-input.ensures.ok.1))
     c.in-Some.ensures.some c.in_ok-chain.ensures.why c.in_ok-chain.ensures.reach
     (c.in_ok-text.ensures ∙ ap (λ (s : List RegisterSet). text_of c.args.log.now c.in_ok-input.input.live.blocks s c.in-Some.block c.in_ok-chain.chain) (c.as_slice.ensures.value ∙ c.in_ok-sets.ensures))
     c.is_some.ensures

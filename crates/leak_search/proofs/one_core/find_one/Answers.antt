@@ -1,10 +1,9 @@
 use Rattle.std.proofs.Common.{◌≡◌, ap, ◌∙◌, Err, List, [], ◌∷◌}
 use Rattle.std.proofs.lemmas.Result.{err_from_is_err_and}
-use Rattle.leak_roots.specs.Skipped.{spans_of}
 use Rattle.leak_search.specs.declared.found.Found.{Found}
 use Rattle.leak_search.specs.Signs.{AreSigns}
 use Rattle.leak_search.proofs.SignLemmas.{are_of_one}
-use Rattle.leak_search.proofs.SearchLemmas.{at_ok, finds_read, fits_each, input_callers, marking_refused, ok_by, threads_read}
+use Rattle.leak_search.proofs.SearchLemmas.{as_input, at_ok, finds_read, fits_each, input_callers, marking_refused, ok_by}
 use Rattle.leak_search.proofs.TwoLemmas.{for_memory}
 use Rattle.leak_search.proofs.one_core.find_one.Goals as goal
 
@@ -22,7 +21,7 @@ report_of-requires-clause-a_fit_each g c = fits_each c.in_ok-oddities.oddities.f
 pub returns-clause-ok : goal.returns-clause-ok
 returns-clause-ok g c = ok_by _ _ (λ found is.
     finds_read _ _ _ _ _ _ c.in_ok-input.input _ _ _ _ c.in_ok-marked.marked found c.in_ok-input.ensures.ok c.in_ok-input.ensures.skip c.in_ok-marked.ensures.many.1
-    c.in_ok-lookup.ensures (c.in_ok-roots.ensures.of_core (spans_of c.in_ok-input.input.skip c.in_ok-input.ensures.ok.0) c.in_ok-input.ensures.ok.1.small (threads_read _ _ _ c.in_ok-input.ensures.ok)) c.in_ok-marked.ensures.marks c.head_of-head.ensures c.in_ok-oddities.ensures.fits
+    c.in_ok-lookup.ensures (c.in_ok-roots.ensures _ (as_input _ _ _ _ c.in_ok-input.ensures.ok.1)) c.in_ok-marked.ensures.marks c.head_of-head.ensures c.in_ok-oddities.ensures.fits
     (at_ok _ _ found is c.report_of.ensures.report) (at_ok _ _ found is c.report_of.ensures.leaked) (at_ok _ _ found is c.report_of.ensures.claims))
 
 pub returns-clause-refused : goal.returns-clause-refused
