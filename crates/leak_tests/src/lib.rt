@@ -47,6 +47,10 @@ mod two_cores;
 #[cfg(test)]
 mod freed;
 
+// Reports that leave out malloc's links to free chunks.
+#[cfg(test)]
+mod free_links;
+
 // Cores with vector registers.
 #[cfg(test)]
 mod vectors;
