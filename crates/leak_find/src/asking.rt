@@ -1,7 +1,7 @@
 //! Why a block is held, from readers to a writer.
 
 ghost use Rattle.std.specs.Prelude.{◌≡◌, IfOk, IfErr, false, length, map};
-ghost use Rattle.leak_find.specs.Why.{HasTold, IsAskFault, IsWhyRunFault, RunsWhy, at_asking};
+ghost use Rattle.leak_find.specs.Why.{HasTold, IsAskFault, IsWhyRunFault, RunsWhy, at_asking, status_by_held};
 
 use crate::fault::RunFault;
 use crate::running::read_reader;
@@ -68,5 +68,12 @@ pub fn run_why<R: Read, W: Write>(
     if let Err(fault) = write(&why.text, writer) {
         return Err(RunFault::Write(fault));
     }
-    Ok(if why.held { 0 } else { 1 })
+    Ok(status_of(why.held))
+}
+
+/// The exit status of an answer.
+fn status_of(held: bool) -> u8
+    ensures { result ≡ status_by_held held }
+{
+    if held { 0 } else { 1 }
 }
