@@ -14,6 +14,6 @@ pub returns-clause-ok : goal.returns-clause-ok
 returns-clause-ok g c = record {
   why = c.in_ok-why.why;
   has_told = c.in_ok-why.ensures.ok;
-  written = subst (λ (text : List ℕ). Appends (g.W.Write.contents c.args.writer.now) (g.W.Write.contents c.write.new.writer) text) c.deref.ensures.value c.in_default-write.ensures.ok;
+  written = subst (λ (text : List ℕ). Appends (g.W.Write.contents c.args.writer.now) (g.W.Write.contents c.write.new.writer) text) c.deref.ensures.value c.in_default.ensures.ok;
   status_is = c.status_of.ensures;
 }
