@@ -22,7 +22,7 @@ use std::rt::Env;
 use std::thread::Threads;
 
 /// The calls, by name.
-static CALLS: [&str; 37] = [
+static CALLS: [&str; 38] = [
     "core_k",
     "Image::read",
     "Threads::read",
@@ -52,6 +52,7 @@ static CALLS: [&str; 37] = [
     "find_alone_vectors",
     "find_alone_unfreed",
     "find_alone_checked",
+    "find_alone_unlinked",
     "find_one",
     "find_two",
     "find_why",
@@ -134,6 +135,7 @@ fn answer_of<R: AllocGlobal + Threads + Sync>(rt: &R, name: &str) -> Option<Answ
         "find_alone_vectors" => whole::vectors(alloc),
         "find_alone_unfreed" => whole::unfreed(alloc),
         "find_alone_checked" => whole::checked(alloc),
+        "find_alone_unlinked" => whole::unlinked(alloc),
         "find_one" => whole::by_workers(rt),
         "find_two" => whole::two_cores(rt),
         "find_why" => whole::held_by(alloc),

@@ -38,7 +38,6 @@ pub(crate) fn totals(alloc: Global) -> Option<Answer> {
     let live = live_of(alloc, FOUR_CALLERS)?;
     let set = [false; 4];
     let heads = [true; 4];
-    let fits = [true, false, true, true];
     if live.blocks().len() != 4 || !have_callers_in(live.blocks(), FOUR_CALLERS.as_bytes()) {
         return Some(Answer::Other);
     }
@@ -58,6 +57,7 @@ pub(crate) fn report(alloc: Global) -> Option<Answer> {
     let live = live_of(alloc, FOUR_CALLERS)?;
     let set = [false; 4];
     let heads = [true; 4];
+    let fits = [true, false, true, true];
     if live.blocks().len() != 4 || !have_callers_in(live.blocks(), FOUR_CALLERS.as_bytes()) {
         return Some(Answer::Other);
     }

@@ -138,6 +138,39 @@ pub(crate) fn checked(alloc: Global) -> Option<Answer> {
     Some(answer_of(found, MISFIT))
 }
 
+/// The report of two blocks, to one of which malloc's link to a free chunk alone leads.
+const UNLINKED: &str = "blocks 2 bytes 48\n\
+                        undumped 0\n\
+                        unknown 0 displaced 0 torn 0\n\
+                        marked 1 bytes 16\n\
+                        leaked 1 bytes 32\n\
+                        heads 1\n\
+                        caller 1 32 1 ?\n\
+                        leak 0x10100 32 1 head ?\n";
+
+/// `find_alone` of these blocks without links to free chunks.
+pub(crate) fn unlinked(alloc: Global) -> Option<Answer> {
+    let words = [
+        (0x100f8, 0x31),
+        (0x10008, 0x10120),
+        (0x10010, 0x10200),
+        (0x10138, 0xfff8),
+    ];
+    let core = core_of(alloc, &words)?;
+    let found = find_alone(
+        alloc,
+        core.as_slice(),
+        b"+ 0x10100 0x20\n+ 0x10200 0x10\n",
+        Reading::interior(),
+        Skip {
+            freed: false,
+            links: true,
+        },
+        false,
+    );
+    Some(answer_of(found, UNLINKED))
+}
+
 /// `find_one` of the chain of a hundred by three workers.
 pub(crate) fn by_workers<R: AllocGlobal + Threads + Sync>(rt: &R) -> Option<Answer> {
     let sample: Sample = chain(rt.alloc())?;
