@@ -1,5 +1,6 @@
 -- How an input is read, read by read. Own rule: the reading ends with every reader.
-use Rattle.std.specs.Prelude.{◌≡◌, ◌≢◌, ℕ, ◌+◌, ◌-◌, ◌<◌, ◌≤◌, List, [], ◌∷◌, ◌++◌, length, take, Result, Ok, Err, IfOk}
+use Rattle.std.specs.Prelude.{◌≡◌, ◌≢◌, ℕ, ◌+◌, ◌-◌, ◌<◌, ◌≤◌, List, [], ◌∷◌, ◌++◌, length}
+use Rattle.std.specs.Prelude.{take, Result, Ok, Err, IfOk}
 use Rattle.std.specs.IoError.{error_kind}
 use Rattle.std.specs.declared.io.Error.{Error}
 use Rattle.std.specs.declared.io.ErrorKind.TheVariants.{Interrupted}
@@ -16,7 +17,8 @@ Calls R = R → List ℕ → Result ℕ Error → R → Type 0
 abbrev pub StopsBy : ℕ → ℕ → Result ℕ Error → ReadFault → Type 0
 StopsBy left interruptions (Ok count) TooLong = left < count
 StopsBy left interruptions (Err e) Device = error_kind e ≢ Interrupted
-StopsBy left interruptions (Err e) TooManyTurns = (error_kind e ≡ Interrupted) × (1000000 ≤ interruptions + 1)
+StopsBy left interruptions (Err e) TooManyTurns =
+    (error_kind e ≡ Interrupted) × (1000000 ≤ interruptions + 1)
 StopsBy left interruptions (Ok count) f = ⊥
 StopsBy left interruptions (Err e) f = ⊥
 
@@ -56,7 +58,8 @@ pub record OneRead (R : Type 0) : Type 0 where
   pub answer : Result ℕ Error
 
 -- a read into a piece of one byte at least, which has no room for more than a byte over the limit
-pub record IsRead {R : Type 0} (calls : Calls R) (limit : ℕ) (was : Progress) (read : OneRead R) (after : R) : Type 0 where
+pub record IsRead {R : Type 0} (calls : Calls R) (limit : ℕ) (was : Progress) (read : OneRead R)
+    (after : R) : Type 0 where
   pub asks : 0 < length read.piece
   pub bounded : length was.bytes + length read.piece ≤ limit + 1
   pub within : IfOk read.answer (λ count. count ≤ length read.piece)
@@ -70,12 +73,14 @@ ComesBy calls limit first (read ∷ reads) last now =
     × IsRead calls limit was read last × GoesOn limit was read.piece read.answer now
 
 -- from the first reader to the last, the reading came so far by reads that let it go on
-pub record HasCome {R : Type 0} (calls : Calls R) (limit : ℕ) (first last : R) (now : Progress) : Type 0 where
+pub record HasCome {R : Type 0} (calls : Calls R) (limit : ℕ) (first last : R)
+    (now : Progress) : Type 0 where
   pub reads : List (OneRead R)
   pub by_reads : ComesBy calls limit first reads last now
 
 -- the reading went on until a read found the end, and these are the bytes
-pub record IsWhole {R : Type 0} (calls : Calls R) (limit : ℕ) (first last : R) (bytes : List ℕ) : Type 0 where
+pub record IsWhole {R : Type 0} (calls : Calls R) (limit : ℕ) (first last : R)
+    (bytes : List ℕ) : Type 0 where
   pub now : Progress
   pub read : OneRead R
   pub come : HasCome calls limit first read.before now
@@ -84,7 +89,8 @@ pub record IsWhole {R : Type 0} (calls : Calls R) (limit : ℕ) (first last : R)
   pub is : bytes ≡ now.bytes
 
 -- the reading went on until a read ended it with the fault
-pub record IsCutOff {R : Type 0} (calls : Calls R) (limit : ℕ) (first last : R) (f : ReadFault) : Type 0 where
+pub record IsCutOff {R : Type 0} (calls : Calls R) (limit : ℕ) (first last : R)
+    (f : ReadFault) : Type 0 where
   pub now : Progress
   pub read : OneRead R
   pub come : HasCome calls limit first read.before now

@@ -1,5 +1,7 @@
 -- What a run does to its readers and its writer, where these tell their bytes.
-use Rattle.std.specs.Prelude.{◌≡◌, ◌≢◌, ℕ, ◌+◌, ◌<◌, ◌≤◌, ◌%◌, ◌==◌, Bool, true, false, ◌&&◌, List, [], length, map, Option, None, slice_index_or, take, nat_lt, if◌then◌else◌}
+use Rattle.std.specs.Prelude.{◌≡◌, ◌≢◌, ℕ, ◌+◌, ◌<◌, ◌≤◌, ◌%◌, ◌==◌, Bool, true, false, ◌&&◌}
+use Rattle.std.specs.Prelude.{List, [], length, map, Option, None, slice_index_or, take, nat_lt}
+use Rattle.std.specs.Prelude.{if◌then◌else◌}
 use Rattle.std.specs.Io.KnownBytes.{Appends, Keeps}
 use Rattle.leak_index.specs.Readings.{listed_by}
 use Rattle.leak_report.specs.declared.output.WriteFault.{WriteFault}
@@ -32,22 +34,29 @@ abbrev pub limit_at : Options → ℕ → ℕ
 limit_at o i = if i % 2 == 0 then o.core_limit else o.log_limit
 
 -- the first readers held these inputs, and each was read to its end
-pub record AreInputs (o : Options) (before after : List (Option (List ℕ))) (inputs : List (List ℕ)) : Type 0 where
-  pub each : (i : ℕ) → i < length inputs → IsWholeInput (left_in before i) (left_in after i) (limit_at o i) (input_at inputs i)
+pub record AreInputs (o : Options) (before after : List (Option (List ℕ)))
+    (inputs : List (List ℕ)) : Type 0 where
+  pub each : (i : ℕ) → i < length inputs
+      → IsWholeInput (left_in before i) (left_in after i) (limit_at o i) (input_at inputs i)
 
 -- what a search of one core and its log, or of two, comes to
 abbrev pub Finds : Bool → Options → List (List ℕ) → Found → Type 0
-Finds false o inputs found = FindsOne (input_at inputs 0) (input_at inputs 1) (listed_by o.reading) o.skip o.check o.plan.workers found
+Finds false o inputs found =
+    FindsOne (input_at inputs 0) (input_at inputs 1)
+    (listed_by o.reading) o.skip o.check o.plan.workers found
 Finds true o inputs found =
-    FindsTwo (input_at inputs 0) (input_at inputs 1) (input_at inputs 2) (input_at inputs 3) (listed_by o.reading) o.skip o.check o.plan.workers found
+    FindsTwo (input_at inputs 0) (input_at inputs 1) (input_at inputs 2) (input_at inputs 3)
+    (listed_by o.reading) o.skip o.check o.plan.workers found
 
 -- the first fault of one core and its log, or of two
 abbrev pub IsFaultOf : Bool → List (List ℕ) → FindError → Type 0
 IsFaultOf false inputs e = IsFaultOfOne (input_at inputs 0) (input_at inputs 1) e
-IsFaultOf true inputs e = IsFaultOfTwo (input_at inputs 0) (input_at inputs 1) (input_at inputs 2) (input_at inputs 3) e
+IsFaultOf true inputs e =
+    IsFaultOfTwo (input_at inputs 0) (input_at inputs 1) (input_at inputs 2) (input_at inputs 3) e
 
 -- all readers were read to their ends, and the search of what they held came to this
-pub record HasFound (o : Options) (before after : List (Option (List ℕ))) (found : Found) : Type 0 where
+pub record HasFound (o : Options) (before after : List (Option (List ℕ)))
+    (found : Found) : Type 0 where
   pub inputs : List (List ℕ)
   pub count : length inputs ≡ file_count o.two
   pub read : AreInputs o before after inputs
@@ -64,11 +73,13 @@ warnings_by o signs = warnings_of (map (signs_that_count o.other_heap) signs)
 
 -- 3 where a warning counts, else whether something leaked
 abbrev pub status_by : Bool → ℕ → List ℕ → ℕ
-status_by strict leaked warnings = if strict && nat_lt 0 (length warnings) then 3 else (if nat_lt 0 leaked then 1 else 0)
+status_by strict leaked warnings =
+    if strict && nat_lt 0 (length warnings) then 3 else (if nat_lt 0 leaked then 1 else 0)
 
 -- What was written is the report of what the readers held, and nothing else; and to the second writer, of the warnings,
 -- all or a first part.
-pub record Runs (o : Options) (before after : List (Option (List ℕ))) (held holds heard hears : Option (List ℕ)) (status : ℕ) : Type 0 where
+pub record Runs (o : Options) (before after : List (Option (List ℕ)))
+    (held holds heard hears : Option (List ℕ)) (status : ℕ) : Type 0 where
   pub found : Found
   pub has_found : HasFound o before after found
   pub written : Appends held holds found.report.items
@@ -77,44 +88,52 @@ pub record Runs (o : Options) (before after : List (Option (List ℕ))) (held ho
   pub status_is : status ≡ status_by o.strict found.leaked (warnings_by o found.signs.items)
 
 -- the reader with the number, from 0, was not read to its end
-abbrev pub IsReaderFault : List (Option (List ℕ)) → List (Option (List ℕ)) → ℕ → ℕ → RunFault → Type 0
-IsReaderFault before after i limit (Read n e) = (n ≡ i + 1) × IsStopped (left_in before i) (left_in after i) limit e
+abbrev pub IsReaderFault : List (Option (List ℕ)) → List (Option (List ℕ)) → ℕ → ℕ
+    → RunFault → Type 0
+IsReaderFault before after i limit (Read n e) =
+    (n ≡ i + 1) × IsStopped (left_in before i) (left_in after i) limit e
 IsReaderFault before after i limit (Find e) = ⊥
 IsReaderFault before after i limit (NoBlock a) = ⊥
 IsReaderFault before after i limit (Write f) = ⊥
 
 -- The readers before the one with the number, from 1, were read to their ends, and those after it were not read
-pub record IsReadFault (o : Options) (before after : List (Option (List ℕ))) (number : ℕ) (e : ReadFault) : Type 0 where
+pub record IsReadFault (o : Options) (before after : List (Option (List ℕ))) (number : ℕ)
+    (e : ReadFault) : Type 0 where
   pub inputs : List (List ℕ)
   pub number_is : number ≡ length inputs + 1
   pub few : number ≤ file_count o.two
   pub earlier : AreInputs o before after inputs
-  pub stopped : IsStopped (left_in before (length inputs)) (left_in after (length inputs)) (limit_at o (length inputs)) e
+  pub stopped : IsStopped (left_in before (length inputs)) (left_in after (length inputs))
+      (limit_at o (length inputs)) e
   pub later : (i : ℕ) → number ≤ i → left_in after i ≡ left_in before i
 
 -- all readers were read to their ends, and what they held has this fault first
-pub record IsFindFault (o : Options) (before after : List (Option (List ℕ))) (e : FindError) : Type 0 where
+pub record IsFindFault (o : Options) (before after : List (Option (List ℕ)))
+    (e : FindError) : Type 0 where
   pub inputs : List (List ℕ)
   pub count : length inputs ≡ file_count o.two
   pub read : AreInputs o before after inputs
   pub fault : e ≢ NoMemory → IsFaultOf o.two inputs e
 
 -- the search was made, and of its report just the first bytes were written
-pub record IsWriteFault (o : Options) (before after : List (Option (List ℕ))) (held holds : Option (List ℕ)) (f : WriteFault) : Type 0 where
+pub record IsWriteFault (o : Options) (before after : List (Option (List ℕ)))
+    (held holds : Option (List ℕ)) (f : WriteFault) : Type 0 where
   pub found : Found
   pub has_found : HasFound o before after found
   pub short : f.written < length found.report.items
   pub written : Appends held holds (take f.written found.report.items)
 
 -- why there is no report of what the readers held
-abbrev pub IsSearchFault : Options → List (Option (List ℕ)) → List (Option (List ℕ)) → RunFault → Type 0
+abbrev pub IsSearchFault : Options → List (Option (List ℕ)) → List (Option (List ℕ))
+    → RunFault → Type 0
 IsSearchFault o before after (Read n e) = IsReadFault o before after n e
 IsSearchFault o before after (Find e) = IsFindFault o before after e
 IsSearchFault o before after (NoBlock a) = ⊥
 IsSearchFault o before after (Write f) = ⊥
 
 -- why a run gives no status: nothing is written before the report is made
-abbrev pub IsRunFault : Options → List (Option (List ℕ)) → List (Option (List ℕ)) → Option (List ℕ) → Option (List ℕ) → RunFault → Type 0
+abbrev pub IsRunFault : Options → List (Option (List ℕ)) → List (Option (List ℕ))
+    → Option (List ℕ) → Option (List ℕ) → RunFault → Type 0
 IsRunFault o before after held holds (Read n e) = Keeps held holds × IsReadFault o before after n e
 IsRunFault o before after held holds (Find e) = Keeps held holds × IsFindFault o before after e
 IsRunFault o before after held holds (NoBlock a) = ⊥
