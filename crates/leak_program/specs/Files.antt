@@ -11,7 +11,8 @@ use Rattle.leak_program.specs.declared.failure.Failure.TheVariants.{Word, Usage,
 
 -- some readers were read and searched by the options; the report was written, and nothing else, and its warnings to the
 -- second writer, or a first part of them; the status is that of the report and the warnings
-pub record SearchesFiles (o : Options) (held holds heard hears : Option (List ℕ)) (status : ℕ) : Type 0 where
+pub record SearchesFiles (o : Options) (held holds heard hears : Option (List ℕ))
+    (status : ℕ) : Type 0 where
   pub before : List (Option (List ℕ))
   pub after : List (Option (List ℕ))
   pub runs : Runs o before after held holds heard hears status
@@ -24,13 +25,15 @@ pub record FailsFiles (o : Options) (held holds : Option (List ℕ)) (fault : Ru
 
 -- some readers were read by the options and asked for the block of the address; the answer was written, and nothing
 -- else; the status is that of the answer
-pub record AsksFiles (o : Options) (address : ℕ) (held holds : Option (List ℕ)) (status : ℕ) : Type 0 where
+pub record AsksFiles (o : Options) (address : ℕ) (held holds : Option (List ℕ))
+    (status : ℕ) : Type 0 where
   pub before : List (Option (List ℕ))
   pub after : List (Option (List ℕ))
   pub runs : RunsWhy o address before after held holds status
 
 -- some readers were read by the options, and gave no answer for this reason
-pub record FailsAsked (o : Options) (address : ℕ) (held holds : Option (List ℕ)) (fault : RunFault) : Type 0 where
+pub record FailsAsked (o : Options) (address : ℕ) (held holds : Option (List ℕ))
+    (fault : RunFault) : Type 0 where
   pub before : List (Option (List ℕ))
   pub after : List (Option (List ℕ))
   pub fails : IsWhyRunFault o address before after held holds fault
@@ -47,7 +50,8 @@ IsOpenFault paths NoMemory = Unit {0}
 abbrev pub IsFileFault : Request → Option (List ℕ) → Option (List ℕ) → Failure → Type 0
 IsFileFault r held holds Word = ⊥
 IsFileFault r held holds (Usage fault) = ⊥
-IsFileFault r held holds (Open path) = Keeps held holds × Contains (map string_bytes r.paths.items) (string_bytes path)
+IsFileFault r held holds (Open path) =
+    Keeps held holds × Contains (map string_bytes r.paths.items) (string_bytes path)
 IsFileFault r held holds (Run fault) = FailsFiles r.options held holds fault
 IsFileFault r held holds NoMemory = Keeps held holds
 
@@ -55,6 +59,7 @@ IsFileFault r held holds NoMemory = Keeps held holds
 abbrev pub IsAskFailure : Request → ℕ → Option (List ℕ) → Option (List ℕ) → Failure → Type 0
 IsAskFailure r address held holds Word = ⊥
 IsAskFailure r address held holds (Usage fault) = ⊥
-IsAskFailure r address held holds (Open path) = Keeps held holds × Contains (map string_bytes r.paths.items) (string_bytes path)
+IsAskFailure r address held holds (Open path) =
+    Keeps held holds × Contains (map string_bytes r.paths.items) (string_bytes path)
 IsAskFailure r address held holds (Run fault) = FailsAsked r.options address held holds fault
 IsAskFailure r address held holds NoMemory = Keeps held holds

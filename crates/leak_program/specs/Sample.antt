@@ -13,7 +13,8 @@ sample_log = codes "@ ./a.out:[0x401136] + 0x10100 0x20\n"
 abbrev pub sample_inputs : List (Option (List ℕ))
 sample_inputs = Some (sample_with ((0x10008, 0x10100) ∷ [])) ∷ Some sample_log ∷ []
 
--- the sample, which has no heap, was searched as one core with an interior reading and with freed memory, and the report was written
+-- the sample, which has no heap, was searched as one core with an interior reading and with freed memory,
+-- and the report was written
 pub record SearchesSample (held holds heard hears : Option (List ℕ)) (status : ℕ) : Type 0 where
   pub options : Options
   pub one : options.two ≡ false

@@ -2,8 +2,8 @@
 //!
 //! [`start`] is all that `main` calls: it takes the words, prints the report or, on standard error, why there is none,
 //! and gives the status. [`answer`] does what the words ask for and writes to any writer: it searches files
-//! ([`search_files`]), asks what holds a block in them ([`ask_files`]) or, where no word follows the program's name, a sample from memory ([`search_sample`]). A
-//! [`Failure`] says why there is no report.
+//! ([`search_files`]), asks what holds a block in them ([`ask_files`]) or, where no word follows the program's name,
+//! searches a sample from memory ([`search_sample`]). A [`Failure`] says why there is no report.
 //!
 //! No contract can say what a file holds. Where files are searched, the contracts say that some bytes were read and
 //! searched by the options of the words, that just the report of these was written, and that the status is that of the
