@@ -9,3 +9,4 @@ pub mod Texts
 pub mod Sums
 pub mod Callers
 pub mod MisfitLemmas
+pub mod PlaceLemmas

@@ -1,5 +1,7 @@
 -- The rows that a map holds, sorted, are the rows of the blocks.
-use Rattle.std.proofs.Common.{◌≡◌, ℕ, ◌+◌, Bool, true, false, not, ◌&&◌, cond, List, [], ◌∷◌, length, map, filter, get_or, Some, inl, inr, refl, sym, ap, ◌∙◌, arith}
+use Rattle.std.proofs.Common.{◌≡◌, ℕ, ◌+◌, Bool, true, false, not, ◌&&◌, cond, List, [], ◌∷◌, length, map, filter, get_or, ◌<◌, Option, None, Some, inl, inr, refl, sym, ap, subst, ◌∙◌, arith}
+use Rattle.std.specs.Prelude.{nat_eq}
+use Rattle.std.proofs.lemmas.Bool.{eqb-true}
 use Rattle.std.specs.List.{AllByRecursion}
 use Rattle.std.specs.List.Sorted.{IsStrictlySortedBy, IsPermutation, IsSortedByKey, IsStableByKey, IsSortedBy, ties}
 use Rattle.std.specs.Cmp.{IsTotalOrder}
@@ -9,15 +11,17 @@ use Rattle.std.specs.declared.cmp.Ordering.TheVariants.{Less, Equal, Greater}
 use Rattle.std.specs.Ordering.{nat_cmp, is_lt, eq_by_cmp, is_eq, ordering_reverse, ordering_then}
 use Rattle.std.specs.BTreeMap.{BTreeMap, IsOrdered, values}
 use Rattle.std.specs.Map.{lookup, keys_of, values_of}
-use Rattle.std.proofs.lemmas.Cmp.{on_total, back_total, nat_cmp_total, nat_list_cmp_total, eq_by_cmp_equiv}
+use Rattle.std.proofs.lemmas.Cmp.{on_total, then_total, back_total, ranked as compared, nat_cmp_total, nat_list_cmp_total, eq_by_cmp_equiv}
 use Rattle.std.proofs.lemmas.List.Sorted.{ranks_by, ties_stay_sorted}
 use Rattle.std.proofs.lemmas.Map.Keys.{IsDistinct-from_sorted, IsDistinct-IsPermutation, apart_from_distinct, Less-from_sorted, sorted_from_all_adjacent}
 use Rattle.std.proofs.lemmas.Map.Views.{All-found}
-use denote.Ref.{Bor}
 use Rattle.leak_blocks.specs.declared.block.Block.{Block}
 use Rattle.leak_report.specs.declared.totals.CallerRow.{CallerRow}
 use Rattle.leak_report.specs.Totals.{Leak, IsIn, HaveCallersIn, bytes_in, heads_in, text_at, with_text, has_same_text, first_of_each, row_of, rank, ranked, rows_of, leaks_in}
-use Rattle.leak_report.specs.Groups.{row_from, row_with, order_of_texts, AreGroups}
+use Rattle.leak_report.specs.Places.{place_of}
+use Rattle.leak_report.specs.Groups.{Key, row_from, row_with, order_of_keys, AreGroups}
+use Rattle.leak_report.proofs.Joins.{row_at}
+use Rattle.leak_report.proofs.PlaceLemmas.{AreBytes, place_tells, bytes_of_text}
 use Rattle.leak_report.proofs.Members.{Has, each_implied, each_mapped, each_filtered, each_from_All, each_moved, Has-moved, same_elements}
 use Rattle.leak_report.proofs.Ranks.{rank_total, each_ranked, Has-ranked, sorted_ranked}
 use Rattle.leak_report.proofs.Firsts.{IsRow, each_is_row, with_text-head, Has-row, all_differ}
@@ -29,8 +33,20 @@ by_text log r s = slice_cmp nat_cmp (text_at log r.caller) (text_at log s.caller
 by_text_total : (log : List ℕ) → IsTotalOrder (by_text log)
 by_text_total log = on_total (λ (r : CallerRow). text_at log r.caller) nat_list_cmp_total
 
-order_of_texts_total : IsTotalOrder order_of_texts
-order_of_texts_total = on_total (λ (x : Bor (List ℕ)). x.now) nat_list_cmp_total
+order_of_keys_total : IsTotalOrder order_of_keys
+order_of_keys_total = then_total (on_total (λ (k : Key). k.0) nat_cmp_total) (on_total (λ (k : Key). k.1.now) nat_list_cmp_total)
+
+-- keys with the places of their texts stand in the order of the texts
+key_tells : (prefix : List ℕ) (x y : Key) → AreBytes x.1.now → AreBytes y.1.now → x.0 ≡ place_of prefix x.1.now → y.0 ≡ place_of prefix y.1.now
+    → order_of_keys x y ≡ Less → slice_cmp nat_cmp x.1.now y.1.now ≡ Less
+key_tells prefix x y bytes_x bytes_y at_x at_y less = go (nat_cmp x.0 y.0) refl less
+  where
+    go : (o : Ordering) → nat_cmp x.0 y.0 ≡ o → ordering_then o (slice_cmp nat_cmp x.1.now y.1.now) ≡ Less → slice_cmp nat_cmp x.1.now y.1.now ≡ Less
+    go Less e h =
+        let up : x.0 < y.0 = compared x.0 y.0 Less (sym e) in
+        place_tells prefix x.1.now y.1.now bytes_x bytes_y (omega (arith, up, at_x, at_y))
+    go Equal e h = h
+    go Greater e h = cc
 
 -- a row of a text has it
 row_with-text : (log : List ℕ) (blocks : List Leak) (text : List ℕ) (row : CallerRow) → row_with log blocks text ≡ Some row → text_at log row.caller ≡ text
@@ -42,18 +58,32 @@ row_with-text log blocks text row is = go (with_text log text blocks) refl is
         let same : record { blocks = length (b ∷ rest); bytes = bytes_in (b ∷ rest); heads = heads_in (b ∷ rest); caller = b.block.caller } ≡ row = cc in
         sym (ap (λ (x : CallerRow). text_at log x.caller) same) ∙ with_text-head log text blocks b rest e
 
-module _ (log : List ℕ) (blocks : List Leak) (groups : BTreeMap (Bor (List ℕ)) CallerRow) (ordered : IsOrdered order_of_texts groups) (are : AreGroups log blocks groups) where
-  each_entry : AllByRecursion (λ e. row_with log blocks e.0.now ≡ Some e.1) groups.entries
-  each_entry = each_from_All (λ e. row_with log blocks e.0.now ≡ Some e.1) groups.entries
-      (λ k d h. sym (are (get_or groups.entries k d).0.now) ∙ All-found order_of_texts_total groups ordered k d h)
+-- a key with the place of its text, which is that of its row
+abbrev IsEntry : List ℕ → List ℕ → Key × CallerRow → Type 0
+IsEntry prefix log e = (e.0.0 ≡ place_of prefix e.0.1.now) × (text_at log e.1.caller ≡ e.0.1.now)
+
+-- what is found is of such a key
+found_at : (n m : ℕ) (o : Option CallerRow) (row : CallerRow) → cond (nat_eq n m) o None ≡ Some row → (n ≡ m) × (o ≡ Some row)
+found_at n m o row e = go (nat_eq n m) refl e
+  where
+    go : (t : Bool) → nat_eq n m ≡ t → cond t o None ≡ Some row → (n ≡ m) × (o ≡ Some row)
+    go true is e = (eqb-true n m is, e)
+    go false is e = cc
+
+module _ (prefix log : List ℕ) (blocks : List Leak) (groups : BTreeMap Key CallerRow) (ordered : IsOrdered order_of_keys groups) (are : AreGroups prefix log blocks groups) where
+  each_found : AllByRecursion (λ e. (e.0.0 ≡ place_of prefix e.0.1.now) × (row_with log blocks e.0.1.now ≡ Some e.1)) groups.entries
+  each_found = each_from_All (λ e. (e.0.0 ≡ place_of prefix e.0.1.now) × (row_with log blocks e.0.1.now ≡ Some e.1)) groups.entries
+      (λ k d h. found_at (get_or groups.entries k d).0.0 (place_of prefix (get_or groups.entries k d).0.1.now) (row_with log blocks (get_or groups.entries k d).0.1.now) (get_or groups.entries k d).1
+      (sym (are (get_or groups.entries k d).0) ∙ All-found order_of_keys_total groups ordered k d h))
 
   each_value : AllByRecursion (IsRow log blocks) (values groups)
   each_value = each_mapped (λ e. e.1) (IsRow log blocks) groups.entries
-      (each_implied (λ e. row_with log blocks e.0.now ≡ Some e.1) (λ e. IsRow log blocks e.1)
-      (λ e h. ap (row_with log blocks) (row_with-text log blocks e.0.now e.1 h) ∙ h) groups.entries each_entry)
+      (each_implied (λ e. (e.0.0 ≡ place_of prefix e.0.1.now) × (row_with log blocks e.0.1.now ≡ Some e.1)) (λ e. IsRow log blocks e.1)
+      (λ e h. ap (row_with log blocks) (row_with-text log blocks e.0.1.now e.1 h.1) ∙ h.1) groups.entries each_found)
 
-  each_text : AllByRecursion (λ e. text_at log e.1.caller ≡ e.0.now) groups.entries
-  each_text = each_implied (λ e. row_with log blocks e.0.now ≡ Some e.1) (λ e. text_at log e.1.caller ≡ e.0.now) (λ e h. row_with-text log blocks e.0.now e.1 h) groups.entries each_entry
+  each_entry : AllByRecursion (IsEntry prefix log) groups.entries
+  each_entry = each_implied (λ e. (e.0.0 ≡ place_of prefix e.0.1.now) × (row_with log blocks e.0.1.now ≡ Some e.1)) (IsEntry prefix log)
+      (λ e h. (h.0, row_with-text log blocks e.0.1.now e.1 h.1)) groups.entries each_found
 
 lookup-Has : {K X : Type 0} (test : K → Bool) (es : List (K × X)) (v : X) → lookup test es ≡ Some v → Has (values_of es) v
 lookup-Has test [] v e = cc
@@ -63,20 +93,24 @@ lookup-Has {K} {X} test (f ∷ es) v e = go (test f.0) e (lookup-Has test es v)
     go true e later = inl (cc)
     go false e later = inr (later e)
 
-above : (log : List ℕ) (e : Bor (List ℕ) × CallerRow) (es : List (Bor (List ℕ) × CallerRow)) → text_at log e.1.caller ≡ e.0.now
-    → AllByRecursion (λ f. text_at log f.1.caller ≡ f.0.now) es → AllByRecursion (λ k. order_of_texts e.0 k ≡ Less) (keys_of es)
+entry_bytes : (prefix log : List ℕ) (e : Key × CallerRow) → AreBytes log → IsEntry prefix log e → AreBytes e.0.1.now
+entry_bytes prefix log e bytes is = subst AreBytes is.1 (bytes_of_text log e.1.caller bytes)
+
+above : (prefix log : List ℕ) → AreBytes log → (e : Key × CallerRow) (es : List (Key × CallerRow)) → IsEntry prefix log e
+    → AllByRecursion (IsEntry prefix log) es → AllByRecursion (λ k. order_of_keys e.0 k ≡ Less) (keys_of es)
     → AllByRecursion (λ s. by_text log e.1 s ≡ Less) (values_of es)
-above log e [] is all up = tt
-above log e (f ∷ es) is all up = (
-  ap (λ t. slice_cmp nat_cmp t (text_at log f.1.caller)) is ∙ ap (λ t. slice_cmp nat_cmp e.0.now t) all.0 ∙ up.0,
-  above log e es is all.1 up.1,
+above prefix log bytes e [] is all up = tt
+above prefix log bytes e (f ∷ es) is all up = (
+  ap (λ t. slice_cmp nat_cmp t (text_at log f.1.caller)) is.1 ∙ ap (λ t. slice_cmp nat_cmp e.0.1.now t) all.0.1
+      ∙ key_tells prefix e.0 f.0 (entry_bytes prefix log e bytes is) (entry_bytes prefix log f bytes all.0) is.0 all.0.0 up.0,
+  above prefix log bytes e es is all.1 up.1,
 )
 
-values_ascend : (log : List ℕ) (es : List (Bor (List ℕ) × CallerRow)) → AllByRecursion (λ e. text_at log e.1.caller ≡ e.0.now) es
-    → IsStrictlySortedBy order_of_texts (keys_of es) → IsStrictlySortedBy (by_text log) (values_of es)
+values_ascend : (prefix log : List ℕ) → AreBytes log → (es : List (Key × CallerRow)) → AllByRecursion (IsEntry prefix log) es
+    → IsStrictlySortedBy order_of_keys (keys_of es) → IsStrictlySortedBy (by_text log) (values_of es)
 unfolding IsStrictlySortedBy
-values_ascend log [] all up = tt
-values_ascend log (e ∷ es) all up = (above log e es all.0 all.1 up.0, values_ascend log es all.1 up.1)
+values_ascend prefix log bytes [] all up = tt
+values_ascend prefix log bytes (e ∷ es) all up = (above prefix log bytes e es all.0 all.1 up.0, values_ascend prefix log bytes es all.1 up.1)
 
 -- neighbors after the sort
 neighbors : (log : List ℕ) (a b : CallerRow) → is_lt (nat_cmp a.bytes b.bytes) ≡ false → eq_by_cmp (by_text log) a b ≡ false
@@ -114,21 +148,22 @@ sorted_values log vs rows up moved falls stable =
     (ranks_by nat_list_cmp_total (λ (r : CallerRow). text_at log r.caller)) (ranks_by (back_total nat_cmp_total) (λ (r : CallerRow). r.bytes))
     vs rows sorted stable k nothing h t))
 
-pub rows_are : (log : List ℕ) (blocks : List Leak) (groups : BTreeMap (Bor (List ℕ)) CallerRow) (rows : List CallerRow)
-    → IsOrdered order_of_texts groups → AreGroups log blocks groups → IsPermutation (values groups) rows
+pub rows_are : (prefix log : List ℕ) (blocks : List Leak) (groups : BTreeMap Key CallerRow) (rows : List CallerRow) → AreBytes log
+    → IsOrdered order_of_keys groups → AreGroups prefix log blocks groups → IsPermutation (values groups) rows
     → IsSortedByKey (λ (r : CallerRow). r.bytes) (λ x y. nat_cmp y x) rows → IsStableByKey (λ (r : CallerRow). r.bytes) (λ x y. nat_cmp y x) (values groups) rows
     → rows ≡ rows_of log blocks
 unfolding rows_of
-rows_are log blocks groups rows ordered are moved falls stable =
+rows_are prefix log blocks groups rows bytes ordered are moved falls stable =
     let each : List CallerRow = map (row_of log blocks) (first_of_each log blocks) in
     same_elements (rank log) (rank_total log) rows (ranked log each)
-    (sorted_values log (values groups) rows (values_ascend log groups.entries (each_text log blocks groups ordered are) ordered) moved falls stable)
+    (sorted_values log (values groups) rows (values_ascend prefix log bytes groups.entries (each_entry prefix log blocks groups ordered are) ordered) moved falls stable)
     (sorted_ranked log each (all_differ log blocks blocks))
     (each_moved (Has (ranked log each)) (values groups) rows moved
-    (each_implied (IsRow log blocks) (Has (ranked log each)) (λ r is. Has-ranked log each r (Has-row log blocks r is)) (values groups) (each_value log blocks groups ordered are)))
+    (each_implied (IsRow log blocks) (Has (ranked log each)) (λ r is. Has-ranked log each r (Has-row log blocks r is)) (values groups) (each_value prefix log blocks groups ordered are)))
     (each_ranked (Has rows) log each
     (each_implied (IsRow log blocks) (Has rows)
-    (λ r is. Has-moved (values groups) rows r moved (lookup-Has (λ k. is_eq (slice_cmp nat_cmp (text_at log r.caller) k.now)) groups.entries r (are (text_at log r.caller) ∙ is))) each (each_is_row log blocks)))
+    (λ r is. let key : Key = (place_of prefix (text_at log r.caller), record { ref_ptr = (0, 0); now = text_at log r.caller }) in
+    Has-moved (values groups) rows r moved (lookup-Has (λ k. is_eq (order_of_keys key k)) groups.entries r (row_at prefix log blocks groups are key refl ∙ is))) each (each_is_row log blocks)))
 
 -- the rows name callers of the blocks
 first_of_each-in : (P : Leak → Type 0) (log : List ℕ) (leaks : List Leak) → AllByRecursion P leaks → AllByRecursion P (first_of_each log leaks)

@@ -1,12 +1,13 @@
 -- Rows by the text of their caller, as a map holds them.
-use Rattle.std.specs.Prelude.{◌≡◌, ℕ, ◌+◌, ◌^◌, ◌<◌, ◌≤◌, List, [], ◌∷◌, length, if◌then◌else◌, bytes_eq, Option, None, Some}
+use Rattle.std.specs.Prelude.{◌≡◌, ℕ, ◌+◌, ◌^◌, ◌<◌, ◌≤◌, List, [], ◌∷◌, length, if◌then◌else◌, nat_eq, Option, None, Some}
 use Rattle.std.specs.Cmp.Lexicographic.{slice_cmp}
-use Rattle.std.specs.Ordering.{nat_cmp}
+use Rattle.std.specs.Ordering.{nat_cmp, ordering_then, is_eq}
 use Rattle.std.specs.declared.cmp.Ordering.{Ordering}
-use Rattle.std.specs.BTreeMap.{BTreeMap, get_by}
+use Rattle.std.specs.BTreeMap.{BTreeMap, get}
 use denote.Ref.{Bor}
 use Rattle.leak_blocks.specs.declared.block.Block.{Block}
 use Rattle.leak_report.specs.declared.totals.CallerRow.{CallerRow}
+use Rattle.leak_report.specs.Places.{place_of}
 use Rattle.leak_report.specs.Totals.{Leak, bytes_in, heads_in, with_text}
 
 -- a row with one more leaked block
@@ -34,18 +35,21 @@ row_from (l ∷ leaks) = Some (record { blocks = length (l ∷ leaks); bytes = b
 abbrev pub row_with : List ℕ → List Leak → List ℕ → Option CallerRow
 row_with log leaks text = row_from (with_text log text leaks)
 
-abbrev pub order_of_texts : Bor (List ℕ) → Bor (List ℕ) → Ordering
-order_of_texts x y = slice_cmp nat_cmp x.now y.now
+-- a key is a text, after its place. Keys go by the place, and then by the text.
+abbrev pub Key : Type 0
+Key = ℕ × Bor (List ℕ)
 
--- what the map has at a text
-abbrev pub group_at : BTreeMap (Bor (List ℕ)) CallerRow → List ℕ → Option CallerRow
-group_at groups text = get_by (λ k. slice_cmp nat_cmp text k.now) groups
+abbrev pub order_of_keys : Key → Key → Ordering
+order_of_keys x y = ordering_then (nat_cmp x.0 y.0) (slice_cmp nat_cmp x.1.now y.1.now)
 
--- the leaked block was added to the row of the text, and the other rows are as before
-abbrev pub HasLeakAdded : BTreeMap (Bor (List ℕ)) CallerRow → BTreeMap (Bor (List ℕ)) CallerRow → List ℕ → Leak → Type 0
-HasLeakAdded old new text l =
-    (t : List ℕ) → group_at new t ≡ (if bytes_eq text t then Some (with_leak (group_at old text) l) else group_at old t)
+-- the leaked block was added to the row of the key, and the other rows are as before
+abbrev pub HasLeakAdded : BTreeMap Key CallerRow → BTreeMap Key CallerRow → Key → Leak → Type 0
+HasLeakAdded old new key l =
+    (k : Key) → get order_of_keys new k
+    ≡ (if is_eq (order_of_keys key k) then Some (with_leak (get order_of_keys old key) l) else get order_of_keys old k)
 
--- at each text the map has the row of the leaked blocks
-abbrev pub AreGroups : List ℕ → List Leak → BTreeMap (Bor (List ℕ)) CallerRow → Type 0
-AreGroups log leaks groups = (text : List ℕ) → group_at groups text ≡ row_with log leaks text
+-- at each key the map has the row of the leaked blocks, where the key has the place of its text by the prefix
+abbrev pub AreGroups : List ℕ → List ℕ → List Leak → BTreeMap Key CallerRow → Type 0
+AreGroups prefix log leaks groups =
+    (k : Key) → get order_of_keys groups k
+    ≡ (if nat_eq k.0 (place_of prefix k.1.now) then row_with log leaks k.1.now else None)

@@ -1,4 +1,5 @@
 pub mod Totals
+pub mod Places
 pub mod Groups
 pub mod Laws
 pub mod Lines

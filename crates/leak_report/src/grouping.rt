@@ -2,26 +2,30 @@
 ghost use Rattle.std.specs.Prelude.{◌≡◌, ◌^◌, ◌<◌, length, IfOk, OnOk, IfSome};
 ghost use Rattle.std.specs.List.Sorted.{IsPermutation, IsSortedByKey, IsStableByKey};
 ghost use Rattle.std.specs.Ordering.{nat_cmp};
-ghost use Rattle.std.specs.BTreeMap.{values, IsOrdered};
+ghost use Rattle.std.specs.BTreeMap.{get, values, IsOrdered};
 ghost use Rattle.leak_report.specs.Totals.{leaks_in, bytes_of, HaveCallersIn};
-ghost use Rattle.leak_report.specs.Groups.{HasRoom, HasLeakAdded, order_of_texts, group_at, AreGroups};
+ghost use Rattle.leak_report.specs.Groups.{HasRoom, HasLeakAdded, order_of_keys, AreGroups};
 
 use crate::lines::caller_text;
+use crate::places::place;
 use crate::totals::CallerRow;
 use leak_blocks::Block;
 use std::alloc::{AllocError, Global};
 use std::cmp::Reverse;
 use std::collections::BTreeMap;
 
+/// The place of a text, and the text: in the order of texts, of which few are compared.
+type Key<'a> = (u64, &'a [u8]);
+
 /// Adds a leaked block to the row of its caller's text, or begins that row with it.
 fn add<'a>(
-    groups: &mut BTreeMap<&'a [u8], CallerRow>,
-    text: &'a [u8],
+    groups: &mut BTreeMap<Key<'a>, CallerRow>,
+    key: Key<'a>,
     block: &Block,
     head: bool,
 ) -> Result<(), AllocError>
-    requires { IfSome (group_at groups.old text.now) (λ row. HasRoom row block.now) }
-    ensures { OnOk result (HasLeakAdded groups.old groups.new text.now (record { block = block.now; head = head })) }
+    requires { IfSome (get order_of_keys groups.old key) (λ row. HasRoom row block.now) }
+    ensures { OnOk result (HasLeakAdded groups.old groups.new key.entry (record { block = block.now; head = head })) }
 {
     let one = u64::from(head);
     let first = CallerRow {
@@ -31,7 +35,7 @@ fn add<'a>(
         caller: block.caller,
     };
     // One search where the text is new, as most are where there are many.
-    let Some(row) = groups.insert(text, first)? else {
+    let Some(row) = groups.insert(key, first)? else {
         return Ok(());
     };
     let more = CallerRow {
@@ -40,36 +44,38 @@ fn add<'a>(
         heads: row.heads + one,
         caller: row.caller,
     };
-    groups.insert(text, more)?;
+    groups.insert(key, more)?;
     Ok(())
 }
 
-/// The rows of the blocks that the set leaves out, by the text of their caller.
+/// The rows of the blocks that the set leaves out, by the text of their caller and its place by the prefix.
 pub fn leaked_groups<'a>(
     alloc: Global,
+    prefix: &[u8],
     blocks: &[Block],
     set: &[bool],
     heads: &[bool],
     log: &'a [u8],
-) -> Result<BTreeMap<&'a [u8], CallerRow>, AllocError>
+) -> Result<BTreeMap<Key<'a>, CallerRow>, AllocError>
     requires one_each { length set.now ≡ length blocks.now }
     requires an_entry_each { length heads.now ≡ length blocks.now }
     requires in_log { HaveCallersIn log.now blocks.now }
     requires fits { bytes_of blocks.now < 2 ^ 64 }
-    ensures { IfOk result (λ groups. AreGroups log.now (leaks_in set.now heads.now blocks.now) groups) }
+    ensures { IfOk result (AreGroups prefix.now log.now (leaks_in set.now heads.now blocks.now)) }
 {
     let mut groups = BTreeMap::new(alloc);
     for (i, block) in blocks.iter().enumerate() {
         if !set[i] {
-            add(&mut groups, caller_text(log, block.caller), block, heads[i])?;
+            let text = caller_text(log, block.caller);
+            add(&mut groups, (place(prefix, text), text), block, heads[i])?;
         }
     }
     Ok(groups)
 }
 
 /// The rows, in the order of their texts.
-fn rows_of(alloc: Global, groups: &BTreeMap<&[u8], CallerRow>) -> Result<Vec<CallerRow>, AllocError>
-    ensures ordered { IsOrdered order_of_texts groups.now }
+fn rows_of(alloc: Global, groups: &BTreeMap<Key, CallerRow>) -> Result<Vec<CallerRow>, AllocError>
+    ensures ordered { IsOrdered order_of_keys groups.now }
     ensures rows { IfOk result (λ rows. rows.items ≡ values groups.now) }
 {
     // A list that is collected may do without the room that it asks for first.
@@ -84,9 +90,9 @@ fn rows_of(alloc: Global, groups: &BTreeMap<&[u8], CallerRow>) -> Result<Vec<Cal
 /// The rows, the most bytes first. Those with equal bytes stay in the order of their texts, since the sort is stable.
 pub fn ranked_rows(
     alloc: Global,
-    groups: &BTreeMap<&[u8], CallerRow>,
+    groups: &BTreeMap<Key, CallerRow>,
 ) -> Result<Vec<CallerRow>, AllocError>
-    ensures ordered { IsOrdered order_of_texts groups.now }
+    ensures ordered { IsOrdered order_of_keys groups.now }
     ensures permutation { IfOk result (λ rows. IsPermutation (values groups.now) rows.items) }
     ensures sorted { IfOk result (λ rows. IsSortedByKey (λ row. row.bytes) (λ x y. nat_cmp y x) rows.items) }
     ensures stable { IfOk result (λ rows. IsStableByKey (λ row. row.bytes) (λ x y. nat_cmp y x) (values groups.now) rows.items) }

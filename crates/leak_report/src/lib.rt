@@ -16,6 +16,7 @@ mod laws;
 mod lines;
 mod misfits;
 mod output;
+mod places;
 mod report;
 mod signs;
 #[cfg(test)]

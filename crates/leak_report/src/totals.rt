@@ -3,6 +3,7 @@ ghost use Rattle.std.specs.Prelude.{◌≡◌, ◌^◌, ◌<◌, length, IfOk};
 ghost use Rattle.leak_report.specs.Totals.{marked_in, leaked_in, leaks_in, bytes_of, heads_in, rows_of, HaveCallersIn};
 
 use crate::grouping::{leaked_groups, ranked_rows};
+use crate::places::prefix_of;
 use leak_blocks::{Block, Live};
 use std::alloc::{AllocError, Global};
 
@@ -53,7 +54,8 @@ impl Totals {
         let blocks = live.blocks();
         let bytes = live.bytes();
         let (marked, marked_bytes) = marked_sizes(blocks, set);
-        let groups = leaked_groups(alloc, blocks, set, heads, log)?;
+        let prefix = prefix_of(blocks, set, log);
+        let groups = leaked_groups(alloc, prefix, blocks, set, heads, log)?;
         let rows = ranked_rows(alloc, &groups)?;
         Ok(Totals {
             blocks: blocks.len() as u64 - marked,

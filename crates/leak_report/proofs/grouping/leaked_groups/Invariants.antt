@@ -5,4 +5,4 @@ use Rattle.leak_report.proofs.grouping.leaked_groups.Given as goal
 
 -- the rows of the blocks so far
 abbrev pub invariant-loop-i : goal.invariant-loop-i
-invariant-loop-i l = AreGroups l.log (leaks_in (take l.i l.set) (take l.i l.heads) (take l.i l.blocks)) l.groups
+invariant-loop-i l = AreGroups l.prefix l.log (leaks_in (take l.i l.set) (take l.i l.heads) (take l.i l.blocks)) l.groups

@@ -1,6 +1,7 @@
 use Rattle.std.proofs.Common.{ap, arith}
 use Rattle.leak_report.specs.Totals.{leaks_in, bytes_of}
 use Rattle.leak_report.proofs.Leaks.{length-both, bytes_of-both, length-marked, bytes_of-marked}
+use Rattle.leak_report.proofs.PlaceLemmas.{are_bytes}
 use Rattle.leak_report.proofs.Orders.{rows_are}
 use Rattle.leak_report.proofs.totals.Totals.of.Goals as goal
 
@@ -30,5 +31,5 @@ returns-clause-bytes c =
 pub returns-clause-rows : goal.returns-clause-rows
 returns-clause-rows c =
     rw (← c.blocks-blocks.ensures.value)
-    (rows_are c.args.log.now (leaks_in c.args.set.now c.args.heads.now c.blocks-blocks.result.now) c.in_ok-groups.groups c.in_ok-rows.rows.items c.ranked_rows.ensures.ordered
+    (rows_are c.prefix_of-prefix.result.now c.args.log.now (leaks_in c.args.set.now c.args.heads.now c.blocks-blocks.result.now) c.in_ok-groups.groups c.in_ok-rows.rows.items (are_bytes c.args.log.now c.type_inv.log) c.ranked_rows.ensures.ordered
     c.in_ok-groups.ensures c.in_ok-rows.ensures.permutation c.in_ok-rows.ensures.sorted c.in_ok-rows.ensures.stable)

@@ -1,0 +1,87 @@
+//! Numbers by which texts stand in order, so that most pairs of texts are compared without looking at their bytes.
+ghost use Rattle.std.specs.Prelude.{◌≡◌, ◌<◌, ◌≤◌, length, slice_index_or, IfSome};
+ghost use Rattle.leak_report.specs.Places.{number_of, place_of};
+ghost use Rattle.leak_report.specs.Totals.{HaveCallersIn};
+
+use crate::lines::caller_text;
+use leak_blocks::Block;
+
+/// The byte at a place, or 0 where the text is shorter.
+fn byte(text: &[u8], i: usize) -> u64
+    ensures value { result ≡ slice_index_or text.now i 0 }
+    ensures small { result < 256 }
+{
+    match text.get(i) {
+        Some(byte) => u64::from(*byte),
+        None => 0,
+    }
+}
+
+/// The first eight bytes as a number, the first byte the highest.
+fn number(text: &[u8]) -> u64
+    ensures { result ≡ number_of 8 0 text.now }
+{
+    byte(text, 0) * 0x100_0000_0000_0000
+        + byte(text, 1) * 0x1_0000_0000_0000
+        + byte(text, 2) * 0x100_0000_0000
+        + byte(text, 3) * 0x1_0000_0000
+        + byte(text, 4) * 0x100_0000
+        + byte(text, 5) * 0x1_0000
+        + byte(text, 6) * 0x100
+        + byte(text, 7)
+}
+
+/// Where a text stands among those that begin with the prefix: by the eight bytes after it. A text below all of these
+/// stands at 0, and one above them at the greatest number.
+pub fn place(prefix: &[u8], text: &[u8]) -> u64
+    ensures { result ≡ place_of prefix.now text.now }
+{
+    for (i, byte) in prefix.iter().enumerate() {
+        if text.len() <= i || text[i] < *byte {
+            return 0;
+        }
+        if *byte < text[i] {
+            return u64::MAX;
+        }
+    }
+    number(&text[prefix.len()..])
+}
+
+/// How many bytes both begin with, if a colon is among them, or the whole of the first.
+fn shared(first: &[u8], text: &[u8]) -> Option<usize>
+    ensures { IfSome result (λ n. n ≤ length first.now) }
+{
+    let mut named = false;
+    for (i, byte) in first.iter().enumerate() {
+        if text.len() <= i || text[i] != *byte {
+            return if named { Some(i) } else { None };
+        }
+        if *byte == b':' {
+            named = true;
+        }
+    }
+    Some(first.len())
+}
+
+/// The bytes that the callers of one file begin with, by which [`place`] tells apart the most.
+///
+/// Own rule: the file is that of the first leaked block with a caller, and callers of other files are passed over. The
+/// places stand in order by any prefix.
+pub fn prefix_of<'a>(blocks: &[Block], set: &[bool], log: &'a [u8]) -> &'a [u8]
+    requires one_each { length set.now ≡ length blocks.now }
+    requires in_log { HaveCallersIn log.now blocks.now }
+{
+    let mut prefix: &[u8] = b"?";
+    for (i, block) in blocks.iter().enumerate() {
+        if !set[i] {
+            let text = caller_text(log, block.caller);
+            if prefix.len() <= 1 {
+                prefix = text;
+            }
+            if let Some(n) = shared(prefix, text) {
+                prefix = &prefix[..n];
+            }
+        }
+    }
+    prefix
+}
