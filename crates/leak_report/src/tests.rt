@@ -88,6 +88,47 @@ fn whole_reports(rt: HostRuntime) -> Result<(), Fail> {
 }
 
 #[test]
+fn callers_stand_by_their_bytes(rt: HostRuntime) -> Result<(), Fail> {
+    let cases = [
+        // the callers of one file, some of them the beginning of others
+        (
+            "@ ./a:[0x12345679] + 0x10100 0x20\n@ ./a:[0x1][0x3] + 0x10200 0x20\n@ ./a:[0x1] + 0x10300 0x20\n@ ./a: + 0x10400 0x20\n@ ./a:[0x12345678] + 0x10500 0x20\n@ ./a:[0x2] + 0x10600 0x20\n",
+            "blocks 6 bytes 192\nundumped 0\nunknown 0 displaced 0 torn 0\nmarked 0 bytes 0\nleaked 6 bytes 192\nheads 6\ncaller 1 32 1 ./a:\ncaller 1 32 1 ./a:[0x12345678]\ncaller 1 32 1 ./a:[0x12345679]\ncaller 1 32 1 ./a:[0x1]\ncaller 1 32 1 ./a:[0x1][0x3]\ncaller 1 32 1 ./a:[0x2]\nleak 0x10100 32 1 head ./a:[0x12345679]\nleak 0x10200 32 2 head ./a:[0x1][0x3]\nleak 0x10300 32 3 head ./a:[0x1]\nleak 0x10400 32 4 head ./a:\nleak 0x10500 32 5 head ./a:[0x12345678]\nleak 0x10600 32 6 head ./a:[0x2]\n",
+        ),
+        // zero bytes, which stand where a shorter text has ended
+        (
+            "@ ./a:1 + 0x10100 0x20\n@ ./a:1\0 + 0x10200 0x20\n@ ./a:1\0\0 + 0x10300 0x20\n@ ./a:\0 + 0x10400 0x20\n@ ./a: + 0x10500 0x20\n",
+            "blocks 5 bytes 160\nundumped 0\nunknown 0 displaced 0 torn 0\nmarked 0 bytes 0\nleaked 5 bytes 160\nheads 5\ncaller 1 32 1 ./a:\ncaller 1 32 1 ./a:\0\ncaller 1 32 1 ./a:1\ncaller 1 32 1 ./a:1\0\ncaller 1 32 1 ./a:1\0\0\nleak 0x10100 32 1 head ./a:1\nleak 0x10200 32 2 head ./a:1\0\nleak 0x10300 32 3 head ./a:1\0\0\nleak 0x10400 32 4 head ./a:\0\nleak 0x10500 32 5 head ./a:\n",
+        ),
+        // no caller, and callers of other files, below and above
+        (
+            "+ 0x10100 0x20\n@ ./b:[0x2] + 0x10200 0x20\n@ ./b:[0x1] + 0x10300 0x20\n@ /c:[0x3] + 0x10400 0x20\n@ !d:[0x4] + 0x10500 0x20\n@ . + 0x10600 0x20\n@ ./a:[0x5] + 0x10700 0x20\n",
+            "blocks 7 bytes 224\nundumped 0\nunknown 0 displaced 0 torn 0\nmarked 0 bytes 0\nleaked 7 bytes 224\nheads 7\ncaller 1 32 1 !d:[0x4]\ncaller 1 32 1 .\ncaller 1 32 1 ./a:[0x5]\ncaller 1 32 1 ./b:[0x1]\ncaller 1 32 1 ./b:[0x2]\ncaller 1 32 1 /c:[0x3]\ncaller 1 32 1 ?\nleak 0x10100 32 1 head ?\nleak 0x10200 32 2 head ./b:[0x2]\nleak 0x10300 32 3 head ./b:[0x1]\nleak 0x10400 32 4 head /c:[0x3]\nleak 0x10500 32 5 head !d:[0x4]\nleak 0x10600 32 6 head .\nleak 0x10700 32 7 head ./a:[0x5]\n",
+        ),
+        // one caller alone
+        (
+            "@ ./a:[0x1] + 0x10100 0x20\n@ ./a:[0x1] + 0x10200 0x20\n",
+            "blocks 2 bytes 64\nundumped 0\nunknown 0 displaced 0 torn 0\nmarked 0 bytes 0\nleaked 2 bytes 64\nheads 2\ncaller 2 64 2 ./a:[0x1]\nleak 0x10100 32 1 head ./a:[0x1]\nleak 0x10200 32 2 head ./a:[0x1]\n",
+        ),
+    ];
+    for (log, wanted) in cases {
+        let count = log.lines().count();
+        let marked = vec![in rt.alloc(); false; count]?;
+        let heads = vec![in rt.alloc(); true; count]?;
+        let found = report(
+            &rt,
+            rt.alloc(),
+            &NOTHING_ODD,
+            log,
+            marked.as_slice(),
+            heads.as_slice(),
+        )?;
+        assert_eq!(rt; found.as_slice(), wanted.as_bytes(), "{log}");
+    }
+    Ok(())
+}
+
+#[test]
 fn first_lines_of_two_cores(rt: HostRuntime) -> Result<(), Fail> {
     let head = Head {
         undumped: 4096,
