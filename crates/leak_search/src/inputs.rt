@@ -16,6 +16,8 @@ use std::alloc::{AllocError, Global};
 #[derive(Drop)]
 pub(crate) struct Input<'a> {
     pub image: Image<'a>,
+    /// How many bytes the core has.
+    pub core_len: usize,
     pub threads: Threads,
     pub live: Live,
     /// What a search leaves out of the root words.
@@ -57,6 +59,7 @@ pub(crate) fn read_input<'a>(
     let small = skip.spans(alloc, &log)?;
     Ok(Input {
         image,
+        core_len: core.len(),
         threads,
         live,
         skip,

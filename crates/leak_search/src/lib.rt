@@ -35,6 +35,7 @@ mod inputs;
 mod laws;
 mod one_core;
 mod reporting;
+mod searching;
 mod signing;
 mod two_cores;
 

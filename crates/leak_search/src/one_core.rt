@@ -8,17 +8,14 @@ ghost use Rattle.leak_search.specs.Signs.{AreSigns};
 
 use crate::error::FindError;
 use crate::found::Found;
-use crate::inputs::{find_roots, read_input};
+use crate::inputs::read_input;
 use crate::reporting::{Aside, head_of, report_of};
+use crate::searching::{Workers, ground_of, mark_input};
 use crate::signing::oddities_of_one;
-use leak_index::{Paged, Reading};
-use leak_pool::{Gate, Plan, mark_by_links};
+use leak_index::Reading;
+use leak_pool::{Gate, Plan};
 use leak_roots::Skip;
 use std::alloc::Global;
-
-/// What blocks lead to is listed where that takes an eighth of the core at most, at four bytes a target. Own rule: lists of
-/// a core that is all addresses would take half of it.
-const LINK_SHARE: usize = 32;
 
 /// Searches a core and its log by the workers of the plan.
 ///
@@ -51,20 +48,10 @@ pub fn find_one<R: std::thread::Threads + Sync, G: Gate + Sync>(
 {
     let input = read_input(alloc, 1, skip, core, log)?;
     let oddities = oddities_of_one(alloc, &input, check)?;
-    let roots = find_roots(alloc, &input)?;
-    let lookup = Paged::new(alloc, &input.live, reading)?;
-    let marked = mark_by_links(
-        rt,
-        alloc,
-        &input.image,
-        &lookup,
-        &roots,
-        &input.live,
-        plan,
-        gate,
-        core.len() / LINK_SHARE,
-    )?;
-    let head = head_of(&input, &roots, None);
+    let ground = ground_of(alloc, &input, reading)?;
+    let workers = Workers { rt, plan, gate };
+    let marked = mark_input(&workers, alloc, &input, &ground)?;
+    let head = head_of(&input, &ground.roots, None);
     let aside = Aside { head, oddities };
-    report_of(alloc, &input, &lookup, log, marked, aside)
+    report_of(alloc, &input, &ground.lookup, log, marked, aside)
 }

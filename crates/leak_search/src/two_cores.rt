@@ -17,17 +17,18 @@ ghost use Rattle.leak_search.specs.SearchTwo.{IsMarkedEarlier, IsBetween, FindsT
 
 use crate::error::FindError;
 use crate::found::Found;
-use crate::inputs::{Input, find_roots, read_input};
+use crate::inputs::{Input, read_input};
 use crate::reporting::{Aside, head_of, report_of};
+use crate::searching::{Ground, Workers, ground_of, mark_input};
 use crate::signing::oddities_of_two;
 use leak_blocks::Block;
 use leak_dirty::{
     Carry, Retraced, absent_are_fresh, carry, differing, retrace, same_words_lead_within,
 };
-use leak_index::{Paged, Reading};
-use leak_pool::{Gate, Marked, Plan, mark};
+use leak_index::Reading;
+use leak_pool::{Gate, Marked, Plan};
 use leak_report::Two;
-use leak_roots::{Roots, Skip};
+use leak_roots::Skip;
 use leak_scan::Pages;
 use std::alloc::Global;
 use std::thread::Threads;
@@ -77,14 +78,6 @@ fn read_two<'a, 'b>(
     Ok(Inputs { first, second })
 }
 
-/// The threads of a search, and how they share its work.
-#[derive(Drop)]
-struct Workers<'a, R: Threads + Sync, G: Gate + Sync> {
-    rt: &'a R,
-    plan: Plan,
-    gate: &'a G,
-}
-
 /// What marking in the later core begins with.
 #[derive(Drop)]
 pub(crate) struct Between {
@@ -105,18 +98,8 @@ fn mark_earlier<R: Threads + Sync, G: Gate + Sync>(
         → IsMarkedEarlier input.now.image (listed_by reading) input.now.skip lines marked.set.items) }
     ensures memory { IfErr result (λ e. e ≡ FindError.NoMemory) }
 {
-    let roots = find_roots(alloc, input)?;
-    let lookup = Paged::new(alloc, &input.live, reading)?;
-    let marked = mark(
-        workers.rt,
-        alloc,
-        &input.image,
-        &lookup,
-        &roots,
-        &input.live,
-        workers.plan,
-        workers.gate,
-    )?;
+    let ground = ground_of(alloc, input, reading)?;
+    let marked = mark_input(workers, alloc, input, &ground)?;
     Ok(marked)
 }
 
@@ -154,23 +137,22 @@ fn mark_later<R: Threads + Sync, G: Gate + Sync>(
     workers: &Workers<'_, R, G>,
     alloc: Global,
     input: &Input,
-    lookup: &Paged,
-    roots: &Roots,
+    ground: &Ground,
     between: &Between,
 ) -> Result<Retraced, FindError>
-    requires blocks { lookup.now.blocks ≡ input.now.live.blocks }
+    requires blocks { ground.now.lookup.blocks ≡ input.now.live.blocks }
     requires carried { IsCarry (length input.now.live.blocks) between.now.carry }
     requires few { length input.now.live.blocks < 2 ^ 32 }
-    ensures traced { IfOk result (IsRetrace (word_of input.now.image) lookup.now roots.now
-        between.now.pages between.now.carry workers.now.plan.workers) }
+    ensures traced { IfOk result (IsRetrace (word_of input.now.image)
+        ground.now.lookup ground.now.roots between.now.pages between.now.carry workers.now.plan.workers) }
     ensures memory { IfErr result (λ e. e ≡ FindError.NoMemory) }
 {
     let retraced = retrace(
         workers.rt,
         alloc,
         &input.image,
-        lookup,
-        roots,
+        &ground.lookup,
+        &ground.roots,
         &input.live,
         &between.carry,
         &between.pages,
@@ -250,11 +232,10 @@ pub fn find_two<R: Threads + Sync, G: Gate + Sync>(
     let oddities = oddities_of_two(alloc, &inputs.first, &inputs.second, check)?;
     let Inputs { first, second } = inputs;
     drop(first); // no more is asked of it
-    let roots = find_roots(alloc, &second)?;
-    let lookup = Paged::new(alloc, &second.live, reading)?;
-    let retraced = mark_later(&workers, alloc, &second, &lookup, &roots, &between)?;
+    let ground = ground_of(alloc, &second, reading)?;
+    let retraced = mark_later(&workers, alloc, &second, &ground, &between)?;
     let two = numbers_of(&second, &between.carry, retraced.reread);
-    let head = head_of(&second, &roots, Some(two));
+    let head = head_of(&second, &ground.roots, Some(two));
     let aside = Aside { head, oddities };
-    report_of(alloc, &second, &lookup, log2, retraced.marked, aside)
+    report_of(alloc, &second, &ground.lookup, log2, retraced.marked, aside)
 }

@@ -21,7 +21,7 @@ report_of-requires-clause-a_fit_each g c = fits_each c.in_ok-oddities.oddities.f
 pub returns-clause-ok : goal.returns-clause-ok
 returns-clause-ok g c = ok_by _ _ (λ found is.
     finds_read _ _ _ _ _ _ c.in_ok-input.input _ _ _ _ c.in_ok-marked.marked found c.in_ok-input.ensures.ok c.in_ok-input.ensures.skip c.in_ok-marked.ensures.many.1
-    c.in_ok-lookup.ensures (c.in_ok-roots.ensures _ (as_input _ _ _ _ c.in_ok-input.ensures.ok.1)) c.in_ok-marked.ensures.marks c.head_of-head.ensures c.in_ok-oddities.ensures.fits
+    c.in_ok-ground.ensures.lookup (c.in_ok-ground.ensures.roots _ (as_input _ _ _ _ c.in_ok-input.ensures.ok.1)) c.in_ok-marked.ensures.marks c.head_of-head.ensures c.in_ok-oddities.ensures.fits
     (at_ok _ _ found is c.report_of.ensures.report) (at_ok _ _ found is c.report_of.ensures.leaked) (at_ok _ _ found is c.report_of.ensures.claims))
 
 pub returns-clause-refused : goal.returns-clause-refused

@@ -29,8 +29,8 @@ returns-clause-refused g c = for_memory _ _ c.report_of.ensures.memory
 pub returns-clause-ok : goal.returns-clause-ok
 returns-clause-ok g c = ok_by _ _ (λ found is.
     finds_two _ _ _ _ _ _ _ _ c.in_ok-inputs.inputs _ _ _ _ c.in_ok-between.between c.in_ok-retraced.retraced _ _ found c.in_ok-inputs.ensures.read c.same_words_lead_within.ensures
-    (c.in_ok-between.ensures.between _ _ (paired _ _ _ _ _ c.in_ok-inputs.ensures.read)) c.in_ok-inputs.ensures.skip c.in_ok-lookup.ensures (c.in_ok-roots.ensures _ (as_input _ _ _ _ c.in_ok-inputs.ensures.read.second)) c.in_ok-retraced.ensures.traced refl refl
-    (c.head_of-head.ensures ∙ ap (λ (t : Two). head_with c.in_ok-inputs.inputs.second c.in_ok-roots.roots (Some t)) c.numbers_of-two.ensures)
+    (c.in_ok-between.ensures.between _ _ (paired _ _ _ _ _ c.in_ok-inputs.ensures.read)) c.in_ok-inputs.ensures.skip c.in_ok-ground.ensures.lookup (c.in_ok-ground.ensures.roots _ (as_input _ _ _ _ c.in_ok-inputs.ensures.read.second)) c.in_ok-retraced.ensures.traced refl refl
+    (c.head_of-head.ensures ∙ ap (λ (t : Two). head_with c.in_ok-inputs.inputs.second c.in_ok-ground.ground.roots (Some t)) c.numbers_of-two.ensures)
     c.in_ok-oddities.ensures.fits (at_ok _ _ found is c.report_of.ensures.report) (at_ok _ _ found is c.report_of.ensures.leaked) (at_ok _ _ found is c.report_of.ensures.claims))
 
 pub returns-clause-signs : goal.returns-clause-signs
