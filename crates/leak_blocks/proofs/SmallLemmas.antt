@@ -1,9 +1,6 @@
 -- The spans of small allocations, and their addresses as ranges that are apart.
 use Rattle.std.proofs.Common.{◌≡◌, ℕ, ◌+◌, ◌-◌, ◌<◌, ◌≤◌, max, leb, Bool, true, false, cond, ◌&&◌, ◌||◌, List, [], ◌∷◌, ◌++◌, length, map, filter, take, get_or, slice_get, Some, zero, suc, ◌⊎◌, inl, inr, refl, sym, ap, subst, ◌∙◌, arith}
 use Rattle.std.specs.List.{All, AllByRecursion, list_any}
-use Rattle.std.specs.Result.{OnOk}
-use Rattle.std.specs.declared.result.Result.{Result}
-use Rattle.std.specs.declared.result.Result.TheVariants.{Ok, Err}
 use Rattle.std.specs.List.Sorted.{IsPermutation, IsNonDecreasingBy}
 use Rattle.std.proofs.lemmas.Bool.{le-leb, lt-leb, cases_lt}
 use Rattle.std.proofs.lemmas.List.{map-append, take_all}
@@ -183,11 +180,6 @@ covered_all (s ∷ spans) first a some is = rw is (or_twice (holds a s) (list_an
 pub merged_all : (spans : List Span) (first : Span) (i : ℕ) (ranges : List Span) (open' : Span) → AreMerged spans first i ranges open' → 0 < length spans → first ≡ get_or spans 0 first → length spans ≤ i → CoverSame (ranges ++ open' ∷ []) spans
 merged_all spans first i ranges open' merged some is all a =
     merged.same a ∙ ap (λ (xs : List Span). holds a first || is_covered xs a) (take_all i spans all) ∙ covered_all spans first a some is
-
--- what holds of a result whatever it is
-pub ok_always : {T E P : Type 0} (r : Result T E) → P → OnOk r P
-ok_always (Ok x) p = p
-ok_always (Err e) p = tt
 
 unfoldable pub no_span : Span
 no_span = record { first = 0; last = 0 }

@@ -1,6 +1,6 @@
 //! The addresses of small allocations, live or given back.
 
-ghost use Rattle.std.specs.Prelude.{◌≡◌, IfOk, OnOk, List, []};
+ghost use Rattle.std.specs.Prelude.{◌≡◌, IfOk, List, []};
 ghost use Rattle.std.specs.List.Sorted.{IsNonDecreasingBy};
 ghost use Rattle.leak_mtrace.specs.Log.{LinesFit};
 ghost use Rattle.leak_blocks.specs.declared.small.Span.{Span};
@@ -44,21 +44,12 @@ fn is_small(line: &Line) -> bool
     is_allocation(line) && line.size < MAPPED_BYTES
 }
 
-/// How many of the lines allocate small blocks.
-fn count_small(lines: &[Line]) -> usize {
-    let mut count = 0usize;
-    for line in lines {
-        count = count.saturating_add(usize::from(is_small(line)));
-    }
-    count
-}
-
 /// The spans of the small allocations, in the order of their lines.
 fn spans_of(alloc: Global, lines: &[Line]) -> Result<Vec<Span>, AllocError>
     requires { LinesFit lines.now }
     ensures { IfOk result (λ spans. spans.items ≡ small_spans_of lines.now) }
 {
-    let mut spans = Vec::with_capacity(alloc, count_small(lines))?;
+    let mut spans = Vec::with_capacity(alloc, lines.len())?;
     for line in lines {
         if is_small(line) {
             spans.push(Span {
@@ -71,13 +62,13 @@ fn spans_of(alloc: Global, lines: &[Line]) -> Result<Vec<Span>, AllocError>
 }
 
 /// Puts the spans by ascending first address.
-fn sort(spans: &mut Vec<Span>) -> Result<(), AllocError>
+fn sort(spans: &mut Vec<Span>)
     requires { AreSpans spans.old.items }
-    ensures ascending { OnOk result (IsNonDecreasingBy (λ s. s.first) spans.new.items) }
-    ensures spans { OnOk result (AreSpans spans.new.items) }
-    ensures same { OnOk result (CoverSame spans.new.items spans.old.items) }
+    ensures ascending { IsNonDecreasingBy (λ s. s.first) spans.new.items }
+    ensures spans { AreSpans spans.new.items }
+    ensures same { CoverSame spans.new.items spans.old.items }
 {
-    spans.sort_by_key(|span| span.first)
+    spans.sort_unstable_by_key(|span| span.first);
 }
 
 /// The addresses of the spans as ranges that are apart, from spans by ascending first address.
@@ -87,7 +78,7 @@ fn merged(alloc: Global, spans: &[Span]) -> Result<Vec<Span>, AllocError>
     ensures apart { IfOk result (λ ranges. AreApart ranges.items) }
     ensures same { IfOk result (λ ranges. CoverSame ranges.items spans.now) }
 {
-    let mut ranges = Vec::new(alloc);
+    let mut ranges = Vec::with_capacity(alloc, spans.len())?;
     let Some(first) = spans.first() else {
         return Ok(ranges);
     };
@@ -126,12 +117,12 @@ impl SmallSpans {
 /// The addresses of the log's small allocations: each span of fewer than 131,072 bytes, whether its block is live, was
 /// given back or was displaced.
 ///
-/// While they are found it takes 16 bytes for each allocation, and as much again to sort them.
+/// While they are found it takes 16 bytes for each line, and as much again for each small allocation.
 pub fn small_spans(alloc: Global, log: &Log) -> Result<SmallSpans, AllocError>
     ensures { IfOk result (λ spans. CoverSame spans (small_spans_of log.now.lines)) }
 {
     let mut spans = spans_of(alloc, log.lines())?;
-    sort(&mut spans)?;
+    sort(&mut spans);
     let ranges = merged(alloc, &spans)?;
     Ok(SmallSpans { ranges })
 }

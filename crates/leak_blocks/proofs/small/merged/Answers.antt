@@ -8,7 +8,7 @@ use Rattle.leak_blocks.proofs.small.merged.Goals.{then-span-saturating_add, else
 pub loop-span-init : goal.loop-span-init
 loop-span-init c =
     let f : IsFirst c.args.spans.now c.in-Some.first.now = is_first _ _ (sym c.in-Some.ensures.value) in
-    rw c.new-ranges.ensures.items (merged_first c.args.spans.now c.in-Some.first.now c.requires.spans c.requires.ascending f.some f.is)
+    rw c.in_ok-ranges.ensures.items (merged_first c.args.spans.now c.in-Some.first.now c.requires.spans c.requires.ascending f.some f.is)
 
 pub loop-span-preserved : goal.loop-span-preserved
 unfolding no_span

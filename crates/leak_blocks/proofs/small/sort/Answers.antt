@@ -1,15 +1,14 @@
 use Rattle.std.proofs.Common.{rules, ◌≤◌}
-use Rattle.std.proofs.lemmas.Result.{on_ok_weaker}
 use Rattle.std.proofs.lemmas.List.Sorted.{IsNonDecreasingBy-from_sort_by_key, All-permutation}
 use Rattle.leak_blocks.specs.declared.small.Span.{Span}
-use Rattle.leak_blocks.proofs.SmallLemmas.{same_sorted, ok_always}
+use Rattle.leak_blocks.proofs.SmallLemmas.{same_sorted}
 use Rattle.leak_blocks.proofs.small.sort.Goals as goal
 
 pub returns-clause-ascending : goal.returns-clause-ascending
-returns-clause-ascending c = on_ok_weaker c.sort_by_key.result (λ sorted. IsNonDecreasingBy-from_sort_by_key (λ (s : Span). s.first) c.sort_by_key.new.self.items sorted (λ a r f h. search rules)) c.sort_by_key.ensures.sorted
+returns-clause-ascending c = IsNonDecreasingBy-from_sort_by_key (λ (s : Span). s.first) c.sort_unstable_by_key.new.self.items c.sort_unstable_by_key.ensures.sorted (λ a r f h. search rules)
 
 pub returns-clause-spans : goal.returns-clause-spans
-returns-clause-spans c = ok_always c.sort_by_key.result (All-permutation (λ (s : Span). s.first ≤ s.last) c.args.spans.now.items c.sort_by_key.new.self.items c.sort_by_key.ensures.permutation c.requires)
+returns-clause-spans c = All-permutation (λ (s : Span). s.first ≤ s.last) c.args.spans.now.items c.sort_unstable_by_key.new.self.items c.sort_unstable_by_key.ensures.permutation c.requires
 
 pub returns-clause-same : goal.returns-clause-same
-returns-clause-same c = ok_always c.sort_by_key.result (same_sorted c.args.spans.now.items c.sort_by_key.new.self.items c.sort_by_key.ensures.permutation)
+returns-clause-same c = same_sorted c.args.spans.now.items c.sort_unstable_by_key.new.self.items c.sort_unstable_by_key.ensures.permutation
