@@ -47,6 +47,42 @@ firsts_ascend spans j k d apart l h =
       | inr m ↦ let q : j ≡ k = omega arith in rw q (omega arith)
     ]
 
+-- so many of the spans end before the address
+pub record ArePast (spans : List Span) (many addr : ℕ) : Type 0 where
+  pub bound : many ≤ length spans
+  pub within : (k : ℕ) (d : Span) → k < many → (get_or spans k d).last < addr
+
+any_span : (spans : List Span) (k : ℕ) (d e : Span) → k < length spans → get_or spans k d ≡ get_or spans k e
+any_span [] k d e h = absurd (omega arith)
+any_span (s ∷ spans) zero d e h = refl
+any_span (s ∷ spans) (suc k) d e h = any_span spans k d e (omega arith)
+
+-- one more ends before it
+pub past_more : (spans : List Span) (i addr : ℕ) (e : Span) → ArePast spans i addr → i < length spans → (get_or spans i e).last < addr → ArePast spans (i + 1) addr
+past_more spans i addr e past h l = record {
+  bound = omega arith;
+  within = λ k d m. elim (cases_lt k i) [
+    | inl q ↦ past.within k d q
+    | inr q ↦ let same : k ≡ i = omega arith in rw (same, any_span spans i d e h) l
+  ];
+}
+
+-- where one doesn't, no later one does
+pub later_last : (spans : List Span) (i addr : ℕ) (e : Span) → AreApart spans → addr ≤ (get_or spans i e).last → (k : ℕ) (d : Span) → i ≤ k → k < length spans → addr ≤ (get_or spans k d).last
+later_last spans i addr e apart l k d m h =
+    let same = any_span spans i e d (omega arith) in
+    let f : addr ≤ (get_or spans i d).last = rw (← same) l in
+    elim (cases_lt (get_or spans k d).last addr) [
+      | inl q ↦ absurd (let a = lasts_ascend spans i k d addr apart m h q in omega arith)
+      | inr q ↦ q
+    ]
+
+-- where the last of so many does, all do
+pub all_past : (spans : List Span) (many addr : ℕ) (e : Span) → AreApart spans → many ≤ length spans → 0 < many → (get_or spans (many - 1) e).last < addr → (k : ℕ) (d : Span) → k < many → (get_or spans k d).last < addr
+all_past spans many addr e apart bound some l k d h =
+    let same = any_span spans (many - 1) e d (omega arith) in
+    lasts_ascend spans k (many - 1) d addr apart (omega arith) (omega arith) (rw (← same) l)
+
 -- ---- one place
 
 and_first : (x y : Bool) → (x && y) ≡ true → x ≡ true

@@ -1,6 +1,6 @@
 //! Leaving out freed memory.
 
-ghost use Rattle.std.specs.Prelude.{◌≡◌, ◌+◌, ◌++◌, ◌<◌, ◌≤◌, ◌*◌, ◌^◌, ◌%◌, ℕ, length, slice_index_or, filter, not, OnOk, IfOk};
+ghost use Rattle.std.specs.Prelude.{◌≡◌, ◌+◌, ◌++◌, ◌<◌, ◌≤◌, ◌*◌, ◌^◌, ◌%◌, ℕ, length, slice_index_or, filter, not, OnOk, IfOk, IsTrue};
 ghost use Rattle.leak_blocks.specs.declared.small.Span.{Span};
 ghost use Rattle.leak_blocks.specs.Small.{AreApart};
 ghost use Rattle.leak_roots.specs.Places.{memory_places, addresses_in, IsRange, AreRanges, EndBy};
@@ -16,10 +16,22 @@ struct Run {
     freed: bool,
     /// Where they end, excluded: a multiple of 8.
     end: u64,
+    /// How many of the spans end before the last byte of the first place.
+    passed: usize,
 }
 
-/// How many of the spans end before the address.
-fn count_before(spans: &[Span], addr: u64) -> usize
+/// Whether so many of the spans, at least, end before the address.
+fn are_past(spans: &[Span], many: usize, addr: u64) -> bool
+    requires { AreApart spans.now }
+    ensures bound { IsTrue result → many ≤ length spans.now }
+    ensures within { IsTrue result → (k : ℕ) (d : Span) → k < many
+        → (slice_index_or spans.now k d).last < addr }
+{
+    many <= spans.len() && (many == 0 || spans[many - 1].last < addr)
+}
+
+/// How many of the spans end before the address, found by a search among all.
+fn search_before(spans: &[Span], addr: u64) -> usize
     requires { AreApart spans.now }
     ensures bound { result ≤ length spans.now }
     ensures within { (k : ℕ) (d : Span) → k < result → (slice_index_or spans.now k d).last < addr }
@@ -29,8 +41,26 @@ fn count_before(spans: &[Span], addr: u64) -> usize
     spans.partition_point(|span| span.last < addr)
 }
 
-/// Places from `from` on, up to `to` at most, of which each is freed, or none.
-fn run_from(spans: &[Span], from: u64, to: u64) -> Run
+/// How many of the spans end before the address. Those that were passed for an address below it are not looked at again.
+fn count_before(spans: &[Span], passed: usize, addr: u64) -> usize
+    requires { AreApart spans.now }
+    ensures bound { result ≤ length spans.now }
+    ensures within { (k : ℕ) (d : Span) → k < result → (slice_index_or spans.now k d).last < addr }
+    ensures beyond { (k : ℕ) (d : Span) → result ≤ k → k < length spans.now
+        → addr ≤ (slice_index_or spans.now k d).last }
+{
+    if !are_past(spans, passed, addr) {
+        return search_before(spans, addr);
+    }
+    let mut count = passed;
+    while count < spans.len() && spans[count].last < addr {
+        count += 1;
+    }
+    count
+}
+
+/// Places from `from` on, up to `to` at most, of which each is freed, or none. So many spans were passed before them.
+fn run_from(spans: &[Span], passed: usize, from: u64, to: u64) -> Run
     requires apart { AreApart spans.now }
     requires range { IsRange (from, to) }
     ensures some { from < result.end }
@@ -40,11 +70,12 @@ fn run_from(spans: &[Span], from: u64, to: u64) -> Run
         → is_freed spans.now a ≡ result.freed }
 {
     let last = from + 7;
-    let next = count_before(spans, last);
+    let next = count_before(spans, passed, last);
     if next == spans.len() {
         return Run {
             freed: false,
             end: to,
+            passed: next,
         };
     }
     let span = spans[next];
@@ -57,14 +88,16 @@ fn run_from(spans: &[Span], from: u64, to: u64) -> Run
     Run {
         freed,
         end: from + 8 * words.min((to - from) / 8),
+        passed: next,
     }
 }
 
-/// Adds the places of a range that aren't freed, and counts the others.
+/// Adds the places of a range that aren't freed, and counts the others. The spans are passed as the ranges ascend.
 fn push_kept(
     kept: &mut Vec<(u64, u64)>,
     range: (u64, u64),
     spans: &[Span],
+    passed: &mut usize,
 ) -> Result<u64, AllocError>
     requires apart { AreApart spans.now }
     requires range { IsRange range }
@@ -83,13 +116,14 @@ fn push_kept(
     let (mut from, to) = range;
     let mut freed = 0;
     while from < to {
-        let run = run_from(spans, from, to);
+        let run = run_from(spans, *passed, from, to);
         if run.freed {
             freed += (run.end - from) / 8;
         } else {
             kept.push((from, run.end))?;
         }
         from = run.end;
+        *passed = run.passed;
     }
     Ok(freed)
 }
@@ -111,8 +145,9 @@ fn keep_others(
 {
     let mut kept = Vec::new(alloc);
     let mut freed = 0;
+    let mut passed = 0;
     for range in memory {
-        freed += push_kept(&mut kept, *range, spans)?;
+        freed += push_kept(&mut kept, *range, spans, &mut passed)?;
     }
     Ok((kept, freed))
 }

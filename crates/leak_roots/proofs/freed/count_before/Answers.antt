@@ -1,19 +1,25 @@
-use Rattle.std.proofs.Common.{ltb, arith, rules}
-use Rattle.std.proofs.lemmas.Bool.{ltb-true, ltb-false, lt-ltb}
-use Rattle.std.proofs.lemmas.List.Sorted.{IsPartitionPoint-from_clause}
-use Rattle.std.specs.List.Sorted.{IsPartitionedBy}
-use Rattle.leak_blocks.specs.declared.small.Span.{Span}
-use Rattle.leak_roots.proofs.LeftOut.{lasts_ascend}
+use Rattle.leak_roots.proofs.LeftOut.{past_more, later_last}
 use Rattle.leak_roots.proofs.freed.count_before.Goals as goal
 
-pub returns-clause-within : goal.returns-clause-within
-returns-clause-within c =
-    let parted : IsPartitionedBy (λ (s : Span). ltb s.last c.args.addr) c.args.spans.now = λ i j d le lt h. lt-ltb _ _ (let t = ltb-true _ _ h in lasts_ascend c.args.spans.now i j d c.args.addr c.requires le lt t) in
-    let point = IsPartitionPoint-from_clause (λ (s : Span). ltb s.last c.args.addr) _ _ c.partition_point.ensures.partitioned parted (λ a r q k. search rules) in
-    λ k d h. ltb-true _ _ (point.0 k d (omega arith) h)
+pub loop-count-init : goal.loop-count-init
+loop-count-init c = record {
+  bound = c.are_past.ensures.bound c.if-not-are_past.false;
+  within = c.are_past.ensures.within c.if-not-are_past.false;
+}
 
-pub returns-clause-beyond : goal.returns-clause-beyond
-returns-clause-beyond c =
-    let parted : IsPartitionedBy (λ (s : Span). ltb s.last c.args.addr) c.args.spans.now = λ i j d le lt h. lt-ltb _ _ (let t = ltb-true _ _ h in lasts_ascend c.args.spans.now i j d c.args.addr c.requires le lt t) in
-    let point = IsPartitionPoint-from_clause (λ (s : Span). ltb s.last c.args.addr) _ _ c.partition_point.ensures.partitioned parted (λ a r q k. search rules) in
-    λ k d h l. ltb-false _ _ (point.1 k d h l)
+pub loop-count-preserved : goal.loop-count-preserved
+loop-count-preserved c =
+    past_more c.args.spans.now c.loop-count.count c.args.addr (record { first = 0; last = 0 }) c.loop-count.invariant c.loop-count-test.true c.if-spans-count.true
+
+pub returns-else-spans-count-clause-within : goal.returns-else-spans-count-clause-within
+returns-else-spans-count-clause-within c = c.loop-count.invariant.within
+
+pub returns-else-spans-count-clause-beyond : goal.returns-else-spans-count-clause-beyond
+returns-else-spans-count-clause-beyond c =
+    later_last c.args.spans.now c.loop-count.count c.args.addr (record { first = 0; last = 0 }) c.requires c.if-spans-count.false
+
+pub returns-after-loop-count-clause-bound : goal.returns-after-loop-count-clause-bound
+returns-after-loop-count-clause-bound c = c.loop-count.invariant.bound
+
+pub returns-after-loop-count-clause-within : goal.returns-after-loop-count-clause-within
+returns-after-loop-count-clause-within c = c.loop-count.invariant.within
