@@ -5,3 +5,5 @@ pub mod Writable
 pub mod Cutting
 pub mod Bridges
 pub mod LeftOut
+pub mod Numbered
+pub mod Whole

@@ -2,5 +2,7 @@ pub mod Places
 pub mod Roots
 pub mod Skipped
 pub mod Pieces
+pub mod Cut
+pub mod Numbers
 pub mod Laws
 pub mod Rows

@@ -2,7 +2,8 @@
 //!
 //! [`Roots::find`] takes the register words of all threads, and the words in writable segments that share no byte
 //! with a live block: globals, stacks, and what the allocator keeps between blocks. [`Roots`] holds memory as ranges
-//! of addresses, so it is small. [`Roots::cut`] makes [`Piece`]s of it, units of work of bounded size.
+//! of addresses, so it is small. [`Roots::cut`] makes [`Piece`]s of it, units of work of bounded size. [`Roots::pieces`]
+//! tells each of them by its number instead, and lists none.
 //!
 //! Registers and writable memory as roots follow bdwgc. That freed memory and dead stack are roots too is own rule,
 //! with that no stack limit is read from a register. Where the spans of small allocations are given, the words of freed
@@ -14,6 +15,7 @@ mod error;
 mod freed;
 mod laws;
 mod piece;
+mod pieces;
 mod places;
 mod roots;
 mod rows;
@@ -24,6 +26,7 @@ mod tests;
 pub use error::CutError;
 pub use laws::pieces_hold_root_words;
 pub use piece::Piece;
+pub use pieces::Pieces;
 pub use roots::Roots;
 pub use rows::worked_roots;
 pub use skip::Skip;

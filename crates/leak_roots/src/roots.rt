@@ -7,10 +7,12 @@ ghost use Rattle.leak_blocks.specs.Small.{CoverSame};
 ghost use Rattle.leak_roots.specs.Places.{Places, AreRanges, memory_places};
 ghost use Rattle.leak_roots.specs.Roots.{AreRootsOf, freed_places, root_places};
 ghost use Rattle.leak_roots.specs.Pieces.{AreCut};
+ghost use Rattle.leak_roots.specs.Cut.{pieces_of};
 
 use crate::error::CutError;
 use crate::freed::leave_out_freed;
 use crate::piece::{Piece, push_memory, push_registers};
+use crate::pieces::Pieces;
 use crate::places::find_ranges;
 use leak_blocks::{Live, SmallSpans};
 use leak_elf::Image;
@@ -130,5 +132,14 @@ impl Roots {
             push_memory(&mut pieces, *range, words)?;
         }
         Ok(pieces)
+    }
+
+    /// The pieces of the root words, each of at most so many words, told by their numbers: no list of them is made.
+    pub fn pieces(&self, alloc: Global, words: usize) -> Result<Pieces<'_>, CutError>
+        ensures zero { (result ≡ Err CutError.Zero) ↔ (words ≡ 0) }
+        ensures value { IfOk result (λ pieces. pieces ≡ pieces_of words self.now) }
+        ensures cut { IfOk result (AreCut self.now words) }
+    {
+        Pieces::new(alloc, self, words)
     }
 }
