@@ -15,6 +15,7 @@ use std::io::{Read, Write};
 fn ask<R: Read>(
     alloc: Global,
     readers: &mut [R],
+    sizes: &[u64],
     options: &Options,
     address: u64,
 ) -> Result<Why, RunFault>
@@ -25,8 +26,8 @@ fn ask<R: Read>(
     ensures refused { IfErr result (IsAskFault options.now address
         (map R.remaining readers.old) (map R.remaining readers.new)) }
 {
-    let core = read_reader(alloc, readers, 0, options.core_limit)?;
-    let log = read_reader(alloc, readers, 1, options.log_limit)?;
+    let core = read_reader(alloc, readers, sizes, 0, options.core_limit)?;
+    let log = read_reader(alloc, readers, sizes, 1, options.log_limit)?;
     match find_why(alloc, &core, &log, options.reading, options.skip, address) {
         Ok(why) => Ok(why),
         Err(error) => Err(at_asking(error)),
@@ -64,7 +65,28 @@ pub fn run_why<R: Read, W: Write>(
         (map R.remaining readers.old) (map R.remaining readers.new)
         (W.contents writer.old) (W.contents writer.new)) }
 {
-    let why = ask(alloc, readers, options, address)?;
+    run_why_sized(alloc, readers, &[], options, address, writer)
+}
+
+/// Runs as [`run_why`] does, with readers that are said to have so many bytes, as those of [`run_sized`] are.
+pub fn run_why_sized<R: Read, W: Write>(
+    alloc: Global,
+    readers: &mut [R],
+    sizes: &[u64],
+    options: &Options,
+    address: u64,
+    writer: &mut W,
+) -> Result<u8, RunFault>
+    requires one { options.now.two ≡ false }
+    requires readers { length readers.old ≡ 2 }
+    ensures ok { IfOk result (RunsWhy options.now address
+        (map R.remaining readers.old) (map R.remaining readers.new)
+        (W.contents writer.old) (W.contents writer.new)) }
+    ensures refused { IfErr result (IsWhyRunFault options.now address
+        (map R.remaining readers.old) (map R.remaining readers.new)
+        (W.contents writer.old) (W.contents writer.new)) }
+{
+    let why = ask(alloc, readers, sizes, options, address)?;
     if let Err(fault) = write(&why.text, writer) {
         return Err(RunFault::Write(fault));
     }

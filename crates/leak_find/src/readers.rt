@@ -1,6 +1,6 @@
 //! Reading an input to its end.
 
-ghost use Rattle.std.specs.Prelude.{◌<◌, IfOk, IfErr};
+ghost use Rattle.std.specs.Prelude.{◌≡◌, ◌<◌, [], IfOk, IfErr};
 ghost use Rattle.std.specs.Io.{ReadsAtMost};
 ghost use Rattle.std.specs.Io.KnownBytes.{ReadConsumes};
 ghost use Rattle.leak_find.specs.Reading.{IsWholeInput, IsStopped};
@@ -47,17 +47,37 @@ pub fn read_all<R: Read>(alloc: Global, reader: &mut R, limit: u64) -> Result<Ve
     ensures refused { IfErr result
         (IsStopped (R.remaining reader.old) (R.remaining reader.new) limit) }
 {
-    read_on(alloc, reader, limit)
+    read_sized(alloc, reader, limit, 0)
+}
+
+/// Reads as [`read_all`] does, from a reader that is said to have so many bytes. The size changes only time and memory.
+pub(crate) fn read_sized<R: Read>(
+    alloc: Global,
+    reader: &mut R,
+    limit: u64,
+    size: u64,
+) -> Result<Vec<u8>, ReadFault>
+    ensures ok { IfOk result (λ v.
+        IsWholeInput (R.remaining reader.old) (R.remaining reader.new) limit v.items) }
+    ensures refused { IfErr result
+        (IsStopped (R.remaining reader.old) (R.remaining reader.new) limit) }
+{
+    read_on(alloc, reader, limit, size)
 }
 
 /// Reads until a read finds the end, or until an answer stops the reading.
-fn read_on<R: ReadCalls>(alloc: Global, reader: &mut R, limit: u64) -> Result<Vec<u8>, ReadFault>
+fn read_on<R: ReadCalls>(
+    alloc: Global,
+    reader: &mut R,
+    limit: u64,
+    size: u64,
+) -> Result<Vec<u8>, ReadFault>
     ensures ok { IfOk result (λ v. IsWhole R.calls limit reader.old reader.new v.items) }
     ensures refused { IfErr result (IsGivenUp R.calls limit reader.old reader.new) }
 {
     let mut buffer = vec![in alloc; 0u8; PIECE]?;
     let piece = buffer.as_mut_slice();
-    let mut bytes: Vec<u8> = Vec::new(alloc);
+    let mut bytes = list_for(alloc, size.min(limit));
     let mut interruptions = 0;
     'reading: loop {
         let left = limit - bytes.len() as u64;
@@ -70,6 +90,18 @@ fn read_on<R: ReadCalls>(alloc: Global, reader: &mut R, limit: u64) -> Result<Ve
             Turn::Again(turns) => interruptions = turns,
             Turn::Stop(fault) => return Err(fault),
         }
+    }
+}
+
+/// An empty list with room for so many bytes, or with none where that can't be had.
+///
+/// A size that is said is no promise, so it refuses nothing.
+fn list_for(alloc: Global, size: u64) -> Vec<u8>
+    ensures { result.items ≡ [] }
+{
+    match Vec::with_capacity(alloc, size as usize) {
+        Ok(bytes) => bytes,
+        Err(_) => Vec::new(alloc),
     }
 }
 

@@ -7,7 +7,7 @@ ghost use Rattle.std.specs.Io.KnownBytes.{Appends, Keeps};
 ghost use Rattle.leak_find.specs.Run.{signs_that_count, status_by, warnings_by, left_in, IsReaderFault, HasFound, IsSearchFault, Runs, IsRunFault};
 
 use crate::fault::RunFault;
-use crate::readers::read_all;
+use crate::readers::read_sized;
 use leak_pool::Open;
 use leak_report::{Signs, warnings, write};
 use leak_request::Options;
@@ -16,10 +16,12 @@ use std::alloc::{AllocError, Global};
 use std::io::{Read, Write};
 use std::thread::Threads;
 
-/// Reads the reader with the number, from 0, to its end.
+/// Reads the reader with the number, from 0, to its end. The sizes are those that the readers are said to have; one that
+/// is missing counts as 0.
 pub(crate) fn read_reader<R: Read>(
     alloc: Global,
     readers: &mut [R],
+    sizes: &[u64],
     number: u8,
     limit: u64,
 ) -> Result<Vec<u8>, RunFault>
@@ -34,7 +36,8 @@ pub(crate) fn read_reader<R: Read>(
         → left_in (map R.remaining readers.new) i ≡ left_in (map R.remaining readers.old) i }
     ensures count { length readers.new ≡ length readers.old }
 {
-    match read_all(alloc, &mut readers[number as usize], limit) {
+    let size = sizes.get(number as usize).copied().unwrap_or(0);
+    match read_sized(alloc, &mut readers[number as usize], limit, size) {
         Ok(bytes) => Ok(bytes),
         Err(fault) => Err(RunFault::Read(number + 1, fault)),
     }
@@ -45,6 +48,7 @@ fn search_one<T: Threads + Sync, R: Read>(
     rt: &T,
     alloc: Global,
     readers: &mut [R],
+    sizes: &[u64],
     options: &Options,
 ) -> Result<Found, RunFault>
     requires one { options.now.two ≡ false }
@@ -54,8 +58,8 @@ fn search_one<T: Threads + Sync, R: Read>(
     ensures refused { IfErr result (IsSearchFault options.now
         (map R.remaining readers.old) (map R.remaining readers.new)) }
 {
-    let core = read_reader(alloc, readers, 0, options.core_limit)?;
-    let log = read_reader(alloc, readers, 1, options.log_limit)?;
+    let core = read_reader(alloc, readers, sizes, 0, options.core_limit)?;
+    let log = read_reader(alloc, readers, sizes, 1, options.log_limit)?;
     match find_one(
         rt,
         alloc,
@@ -77,6 +81,7 @@ fn search_two<T: Threads + Sync, R: Read>(
     rt: &T,
     alloc: Global,
     readers: &mut [R],
+    sizes: &[u64],
     options: &Options,
 ) -> Result<Found, RunFault>
     requires two { options.now.two ≡ true }
@@ -86,10 +91,10 @@ fn search_two<T: Threads + Sync, R: Read>(
     ensures refused { IfErr result (IsSearchFault options.now
         (map R.remaining readers.old) (map R.remaining readers.new)) }
 {
-    let core1 = read_reader(alloc, readers, 0, options.core_limit)?;
-    let log1 = read_reader(alloc, readers, 1, options.log_limit)?;
-    let core2 = read_reader(alloc, readers, 2, options.core_limit)?;
-    let log2 = read_reader(alloc, readers, 3, options.log_limit)?;
+    let core1 = read_reader(alloc, readers, sizes, 0, options.core_limit)?;
+    let log1 = read_reader(alloc, readers, sizes, 1, options.log_limit)?;
+    let core2 = read_reader(alloc, readers, sizes, 2, options.core_limit)?;
+    let log2 = read_reader(alloc, readers, sizes, 3, options.log_limit)?;
     match find_two(
         rt,
         alloc,
@@ -113,6 +118,7 @@ fn search<T: Threads + Sync, R: Read>(
     rt: &T,
     alloc: Global,
     readers: &mut [R],
+    sizes: &[u64],
     options: &Options,
 ) -> Result<Found, RunFault>
     requires { length readers.old ≡ file_count options.now.two }
@@ -122,9 +128,9 @@ fn search<T: Threads + Sync, R: Read>(
         (map R.remaining readers.old) (map R.remaining readers.new)) }
 {
     if options.two {
-        search_two(rt, alloc, readers, options)
+        search_two(rt, alloc, readers, sizes, options)
     } else {
-        search_one(rt, alloc, readers, options)
+        search_one(rt, alloc, readers, sizes, options)
     }
 }
 
@@ -187,7 +193,32 @@ pub fn run<T: Threads + Sync, R: Read, W: Write, V: Write>(
         (W.contents writer.old) (W.contents writer.new)) }
     ensures silent { IfErr result (λ _. Keeps (V.contents warner.old) (V.contents warner.new)) }
 {
-    let found = search(rt, alloc, readers, options)?;
+    run_sized(rt, alloc, readers, &[], options, writer, warner)
+}
+
+/// Runs as [`run`] does, with readers that are said to have so many bytes, in their order; 0, as a size that is missing,
+/// says nothing. A list has the said size from the start, at most its limit, where that memory can be had. Nothing else
+/// rests on a size.
+pub fn run_sized<T: Threads + Sync, R: Read, W: Write, V: Write>(
+    rt: &T,
+    alloc: Global,
+    readers: &mut [R],
+    sizes: &[u64],
+    options: &Options,
+    writer: &mut W,
+    warner: &mut V,
+) -> Result<u8, RunFault>
+    requires { length readers.old ≡ file_count options.now.two }
+    ensures ok { IfOk result (Runs options.now
+        (map R.remaining readers.old) (map R.remaining readers.new)
+        (W.contents writer.old) (W.contents writer.new)
+        (V.contents warner.old) (V.contents warner.new)) }
+    ensures refused { IfErr result (IsRunFault options.now
+        (map R.remaining readers.old) (map R.remaining readers.new)
+        (W.contents writer.old) (W.contents writer.new)) }
+    ensures silent { IfErr result (λ _. Keeps (V.contents warner.old) (V.contents warner.new)) }
+{
+    let found = search(rt, alloc, readers, sizes, options)?;
     let Ok(warnings) = warnings_by(alloc, options, found.signs.as_slice()) else {
         return Err(RunFault::Find(FindError::NoMemory));
     };

@@ -9,7 +9,7 @@ reading-init g c = record {
   room = search rules;
   few = search rules;
   turns = search rules;
-  come = rw c.new-bytes.ensures.items (none_yet _ _ _);
+  come = rw c.list_for-bytes.ensures (none_yet _ _ _);
 }
 
 pub returns-in_err-buffer-clause-refused : goal.returns-in_err-buffer-clause-refused

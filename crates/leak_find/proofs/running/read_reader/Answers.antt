@@ -5,18 +5,18 @@ use Rattle.leak_find.proofs.running.read_reader.Goals as goal
 pub returns-in-Ok-clause-ok : goal.returns-in-Ok-clause-ok
 returns-in-Ok-clause-ok g c =
     of_reader _ _ _ _ _ _ (left_is g.R.Read.remaining c.args.readers.now c.args.number c.index-readers-number.result c.requires.there)
-    (left_same g.R.Read.remaining c.args.readers.now c.args.number c.read_all.new.reader c.requires.there) c.in-Ok.ensures.ok
+    (left_same g.R.Read.remaining c.args.readers.now c.args.number c.read_sized.new.reader c.requires.there) c.in-Ok.ensures.ok
 
 pub returns-in-Ok-clause-others : goal.returns-in-Ok-clause-others
-returns-in-Ok-clause-others g c = left_other g.R.Read.remaining c.args.readers.now c.args.number c.read_all.new.reader
+returns-in-Ok-clause-others g c = left_other g.R.Read.remaining c.args.readers.now c.args.number c.read_sized.new.reader
 
 pub returns-in-Err-clause-refused : goal.returns-in-Err-clause-refused
 returns-in-Err-clause-refused g c = (
   refl,
-  is_stopped (map g.R.Read.remaining c.args.readers.now) (map g.R.Read.remaining (slice_set c.args.readers.now c.args.number c.read_all.new.reader)) c.args.number _ _ _ _
+  is_stopped (map g.R.Read.remaining c.args.readers.now) (map g.R.Read.remaining (slice_set c.args.readers.now c.args.number c.read_sized.new.reader)) c.args.number _ _ _ _
       (left_is g.R.Read.remaining c.args.readers.now c.args.number c.index-readers-number.result c.requires.there)
-      (left_same g.R.Read.remaining c.args.readers.now c.args.number c.read_all.new.reader c.requires.there) c.in-Err.ensures.refused,
+      (left_same g.R.Read.remaining c.args.readers.now c.args.number c.read_sized.new.reader c.requires.there) c.in-Err.ensures.refused,
 )
 
 pub returns-in-Err-clause-others : goal.returns-in-Err-clause-others
-returns-in-Err-clause-others g c = left_other g.R.Read.remaining c.args.readers.now c.args.number c.read_all.new.reader
+returns-in-Err-clause-others g c = left_other g.R.Read.remaining c.args.readers.now c.args.number c.read_sized.new.reader

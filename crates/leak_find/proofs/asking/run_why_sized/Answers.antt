@@ -1,6 +1,6 @@
 use Rattle.std.proofs.Common.{◌<◌, ℕ, List, length, take, subst}
 use Rattle.std.specs.Io.KnownBytes.{Appends}
-use Rattle.leak_find.proofs.asking.run_why.Goals as goal
+use Rattle.leak_find.proofs.asking.run_why_sized.Goals as goal
 
 pub returns-in-Err-clause-refused : goal.returns-in-Err-clause-refused
 returns-in-Err-clause-refused g c = record {

@@ -2,7 +2,7 @@ use Rattle.std.proofs.Common.{◌≡◌, ◌<◌, ℕ, List, length, take, ap, s
 use Rattle.std.specs.Io.KnownBytes.{Appends}
 use Rattle.leak_find.specs.Run.{status_by, warnings_by}
 use Rattle.leak_find.proofs.RunLemmas.{first_part}
-use Rattle.leak_find.proofs.running.run.Goals as goal
+use Rattle.leak_find.proofs.running.run_sized.Goals as goal
 
 pub returns-in-Err-clause-refused : goal.returns-in-Err-clause-refused
 returns-in-Err-clause-refused g c = record {

@@ -1,5 +1,5 @@
 use Rattle.leak_find.proofs.Consumed.{answers_ok, answers_refused}
-use Rattle.leak_find.proofs.readers.read_all.Goals as goal
+use Rattle.leak_find.proofs.readers.read_sized.Goals as goal
 
 pub returns-clause-ok : goal.returns-clause-ok
 returns-clause-ok g c = answers_ok g.R.Read.remaining c.args.limit c.args.reader.now (λ v. v.items) c.read_on.new.reader c.read_on.result c.read_on.ensures.ok
