@@ -4,8 +4,8 @@ ghost use Rattle.std.specs.Prelude.{◌≡◌, IfOk, IfErr, false, length};
 ghost use Rattle.leak_program.specs.Files.{AsksFiles, IsAskFailure};
 
 use crate::failure::Failure;
-use crate::files::opened;
-use leak_find::{Request, run_why};
+use crate::files::{opened, sizes_of};
+use leak_find::{Request, run_why_sized};
 use std::io::Write;
 use std::rt::Files;
 
@@ -24,9 +24,11 @@ pub fn ask_files<R: Files + AllocGlobal, W: Write>(
         (IsAskFailure request.now address (W.contents writer.old) (W.contents writer.new)) }
 {
     let mut files = opened(rt, request.paths.as_slice())?;
-    match run_why(
+    let sizes = sizes_of(files.as_slice());
+    match run_why_sized(
         rt.alloc(),
         files.as_mut_slice(),
+        &sizes,
         &request.options,
         address,
         writer,

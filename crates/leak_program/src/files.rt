@@ -6,8 +6,8 @@ ghost use Rattle.leak_request.specs.Requests.{file_count};
 ghost use Rattle.leak_program.specs.Files.{IsFileFault, IsOpenFault, SearchesFiles};
 
 use crate::failure::Failure;
-use leak_find::{Request, run};
-use std::fs;
+use leak_find::{Request, run_sized};
+use std::fs::{self, OpenFile};
 use std::io::Write;
 use std::rt::Files;
 use std::thread::Threads;
@@ -29,10 +29,12 @@ pub fn search_files<R: Files + AllocGlobal + Threads + Sync, W: Write, V: Write>
     ensures silent { IfErr result (λ _. Keeps (V.contents warner.old) (V.contents warner.new)) }
 {
     let mut files = opened(rt, request.paths.as_slice())?;
-    match run(
+    let sizes = sizes_of(files.as_slice());
+    match run_sized(
         rt,
         rt.alloc(),
         files.as_mut_slice(),
+        &sizes,
         &request.options,
         writer,
         warner,
@@ -58,4 +60,21 @@ pub(crate) fn opened<R: Files + AllocGlobal>(
         }
     }
     Ok(files)
+}
+
+/// The sizes that the first four files are said to have, in order. A request has no more.
+pub(crate) fn sizes_of<F: OpenFile>(files: &[F]) -> [u64; 4] {
+    let mut sizes = [0; 4];
+    for (size, file) in sizes.iter_mut().zip(files) {
+        *size = size_of(file);
+    }
+    sizes
+}
+
+/// The size that the file is said to have, in bytes: 0 where that can't be told, as of a pipe.
+fn size_of<F: OpenFile>(file: &F) -> u64 {
+    match file.metadata() {
+        Ok(metadata) => metadata.len(),
+        Err(_) => 0,
+    }
 }
