@@ -52,7 +52,7 @@ pub fn mark_by_links<R: Threads + Sync, W: Words + Sync, L: Lookup + Sync, G: Ga
         live,
         blocks,
         roots,
-        pieces: pieces.as_slice(),
+        pieces: &pieces,
         rescan: &[],
         pages: &pages,
     };

@@ -13,7 +13,7 @@ use crate::start::Start;
 use leak_blocks::Live;
 use leak_elf::Words;
 use leak_index::Lookup;
-use leak_roots::{Piece, Roots};
+use leak_roots::{Pieces, Roots};
 use leak_scan::Pages;
 use std::alloc::{AllocError, Global};
 use std::thread::Threads;
@@ -74,7 +74,7 @@ pub fn mark_from<R: Threads + Sync, W: Words + Sync, L: Lookup + Sync, G: Gate +
         live,
         blocks,
         roots,
-        pieces: pieces.as_slice(),
+        pieces: &pieces,
         rescan: start.rescan.as_slice(),
         pages,
     };
@@ -84,10 +84,10 @@ pub fn mark_from<R: Threads + Sync, W: Words + Sync, L: Lookup + Sync, G: Gate +
 }
 
 /// The pieces of the roots. A piece of a plan has a word, so memory alone can be missing.
-pub(crate) fn pieces_of(alloc: Global, roots: &Roots, plan: Plan) -> Result<Vec<Piece>, AllocError>
-    ensures { IfOk result (λ pieces. AreCut roots.now plan.piece pieces.items) }
+pub(crate) fn pieces_of(alloc: Global, roots: &Roots, plan: Plan) -> Result<Pieces<'_>, AllocError>
+    ensures { IfOk result (AreCut roots.now plan.piece) }
 {
     roots
-        .cut(alloc, plan.piece() as usize)
+        .pieces(alloc, plan.piece() as usize)
         .map_err(|_| AllocError)
 }

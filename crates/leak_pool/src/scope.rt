@@ -14,7 +14,7 @@ use leak_blocks::{Block, Live};
 use leak_elf::Words;
 use leak_index::Lookup;
 use leak_marks::{MarkSeat, Marks};
-use leak_roots::{Piece, Roots};
+use leak_roots::{Piece, Pieces, Roots};
 use leak_scan::{Pages, Targets};
 use std::alloc::AllocError;
 
@@ -26,7 +26,7 @@ pub(crate) struct Scope<'a, W: Words, L: Lookup> {
     pub(crate) live: &'a Live,
     pub(crate) blocks: &'a [Block],
     pub(crate) roots: &'a Roots,
-    pub(crate) pieces: &'a [Piece],
+    pub(crate) pieces: &'a Pieces<'a>,
     pub(crate) rescan: &'a [(u32, Part)],
     pub(crate) pages: &'a Pages,
     ghost of_live: { (L.index lookup.now).blocks ≡ live.now.blocks },
@@ -51,7 +51,7 @@ impl<'a, W: Words, L: Lookup> Scope<'a, W, L> {
             Item::Block(block) => {
                 Targets::of_block(self.words, self.lookup, &self.blocks[block as usize])
             }
-            Item::Root(place) if place < self.pieces.len() => self.of_piece(self.pieces[place]),
+            Item::Root(place) if place < self.pieces.len() => self.of_piece(self.pieces.at(place)),
             Item::Root(place) => self.of_part(self.rescan[place - self.pieces.len()]),
         }
     }

@@ -1,9 +1,8 @@
 use Rattle.std.proofs.Common.{ℕ, List, ◌≡◌, ◌<◌, ◌∙◌, ap, sym, subst, length, arith}
 use Rattle.std.specs.Prelude.{slice_index_or}
 use Rattle.leak_blocks.specs.declared.block.Block.{Block}
-use Rattle.leak_roots.specs.declared.piece.Piece.{Piece}
 use Rattle.leak_pool.specs.declared.start.Part.{Part}
-use Rattle.leak_pool.specs.Scopes.{ArePieces, AreParts, root_targets, all_targets}
+use Rattle.leak_pool.specs.Scopes.{AreParts, root_targets, all_targets}
 use Rattle.leak_pool.specs.Rounds.{IsMarked, graph_over}
 use Rattle.leak_pool.specs.Marking.{lists_of}
 use Rattle.leak_pool.proofs.ScopeLemmas.{long_all}
@@ -17,9 +16,9 @@ invariant_of-scope g c =
       of_live = c.requires.blocks;
       same = c.requires.blocks ∙ sym c.blocks-blocks.ensures.value;
       few = omega arith;
-      in_roots = subst (λ (l : List Piece). ArePieces c.args.roots.now l) (sym c.as_slice.ensures.value) c.in_ok-pieces.ensures.each;
-      in_blocks = subst (λ (n : ℕ). AreParts n c.as_slice-2.result.now) (sym e)
-          (subst (λ (l : List (ℕ × Part)). AreParts (length c.args.live.now.blocks) l) (sym c.as_slice-2.ensures.value)
+      in_roots = c.in_ok-pieces.ensures.each;
+      in_blocks = subst (λ (n : ℕ). AreParts n c.as_slice.result.now) (sym e)
+          (subst (λ (l : List (ℕ × Part)). AreParts (length c.args.live.now.blocks) l) (sym c.as_slice.ensures.value)
           (parts_inside (length c.args.live.now.blocks) c.args.start.now.marked.items c.args.start.now.rescan.items c.requires.start.inside c.requires.start.rescan));
     }
 
@@ -36,11 +35,9 @@ pub returns-clause-marks : goal.returns-clause-marks
 returns-clause-marks g c =
     let w = g.W.Words.word_at c.args.words.now in let i = g.L.Lookup.index c.args.lookup.now in
     let m = c.in_ok-marked.marked in let s = c.args.start.now in
-    let a : IsMarked (graph_over (root_targets w i c.args.roots.now c.as_slice.result.now c.args.pages.now c.as_slice-2.result.now) (all_targets w i) c.as_slice-given.result.now) (length (all_targets w i)) c.args.plan.workers m.set.items (lists_of m) m.rounds = c.in_ok-marked.ensures in
-    let b : IsMarked (graph_over (root_targets w i c.args.roots.now c.in_ok-pieces.pieces.items c.args.pages.now c.as_slice-2.result.now) (all_targets w i) c.as_slice-given.result.now) (length (all_targets w i)) c.args.plan.workers m.set.items (lists_of m) m.rounds =
-    subst (λ (l : List Piece). IsMarked (graph_over (root_targets w i c.args.roots.now l c.args.pages.now c.as_slice-2.result.now) (all_targets w i) c.as_slice-given.result.now) (length (all_targets w i)) c.args.plan.workers m.set.items (lists_of m) m.rounds) c.as_slice.ensures.value a in
-    let d : IsMarked (graph_over (root_targets w i c.args.roots.now c.in_ok-pieces.pieces.items c.args.pages.now s.rescan.items) (all_targets w i) c.as_slice-given.result.now) (length (all_targets w i)) c.args.plan.workers m.set.items (lists_of m) m.rounds =
-    subst (λ (l : List (ℕ × Part)). IsMarked (graph_over (root_targets w i c.args.roots.now c.in_ok-pieces.pieces.items c.args.pages.now l) (all_targets w i) c.as_slice-given.result.now) (length (all_targets w i)) c.args.plan.workers m.set.items (lists_of m) m.rounds) c.as_slice-2.ensures.value b in
-    let e : IsMarked (graph_over (root_targets w i c.args.roots.now c.in_ok-pieces.pieces.items c.args.pages.now s.rescan.items) (all_targets w i) s.marked.items) (length (all_targets w i)) c.args.plan.workers m.set.items (lists_of m) m.rounds =
-    subst (λ (l : List ℕ). IsMarked (graph_over (root_targets w i c.args.roots.now c.in_ok-pieces.pieces.items c.args.pages.now s.rescan.items) (all_targets w i) l) (length (all_targets w i)) c.args.plan.workers m.set.items (lists_of m) m.rounds) c.as_slice-given.ensures.value d in
-    marks_from w i c.args.roots.now c.in_ok-pieces.pieces.items c.args.pages.now s c.args.plan.workers c.args.plan.piece m c.in_ok-pieces.ensures e
+    let a : IsMarked (graph_over (root_targets w i c.args.roots.now c.in_ok-pieces.pieces c.args.pages.now c.as_slice.result.now) (all_targets w i) c.as_slice-given.result.now) (length (all_targets w i)) c.args.plan.workers m.set.items (lists_of m) m.rounds = c.in_ok-marked.ensures in
+    let d : IsMarked (graph_over (root_targets w i c.args.roots.now c.in_ok-pieces.pieces c.args.pages.now s.rescan.items) (all_targets w i) c.as_slice-given.result.now) (length (all_targets w i)) c.args.plan.workers m.set.items (lists_of m) m.rounds =
+    subst (λ (l : List (ℕ × Part)). IsMarked (graph_over (root_targets w i c.args.roots.now c.in_ok-pieces.pieces c.args.pages.now l) (all_targets w i) c.as_slice-given.result.now) (length (all_targets w i)) c.args.plan.workers m.set.items (lists_of m) m.rounds) c.as_slice.ensures.value a in
+    let e : IsMarked (graph_over (root_targets w i c.args.roots.now c.in_ok-pieces.pieces c.args.pages.now s.rescan.items) (all_targets w i) s.marked.items) (length (all_targets w i)) c.args.plan.workers m.set.items (lists_of m) m.rounds =
+    subst (λ (l : List ℕ). IsMarked (graph_over (root_targets w i c.args.roots.now c.in_ok-pieces.pieces c.args.pages.now s.rescan.items) (all_targets w i) l) (length (all_targets w i)) c.args.plan.workers m.set.items (lists_of m) m.rounds) c.as_slice-given.ensures.value d in
+    marks_from w i c.args.roots.now c.in_ok-pieces.pieces c.args.pages.now s c.args.plan.workers c.args.plan.piece m c.in_ok-pieces.ensures e
