@@ -22,7 +22,7 @@ use std::rt::Env;
 use std::thread::Threads;
 
 /// The calls, by name.
-static CALLS: [&str; 38] = [
+static CALLS: [&str; 39] = [
     "core_k",
     "Image::read",
     "Threads::read",
@@ -34,6 +34,7 @@ static CALLS: [&str; 38] = [
     "Roots::find",
     "Roots::find_unfreed",
     "cut",
+    "pieces",
     "Claims::new",
     "Marks::new",
     "split",
@@ -116,7 +117,8 @@ fn answer_of<R: AllocGlobal + Threads + Sync>(rt: &R, name: &str) -> Option<Answ
         "Paged::new" => searching::paged(alloc),
         "Roots::find" => searching::roots(alloc),
         "Roots::find_unfreed" => searching::unfreed_roots(alloc),
-        "cut" => searching::pieces(alloc),
+        "cut" => searching::cut(alloc),
+        "pieces" => searching::pieces(alloc),
         "Claims::new" => marking::claims(alloc),
         "Marks::new" => marking::table(alloc),
         "split" => marking::split(alloc),

@@ -70,16 +70,32 @@ fn words_in(pieces: &[Piece]) -> u64 {
     words
 }
 
-/// `cut` of the same roots with a block among them.
-pub(crate) fn pieces(alloc: Global) -> Option<Answer> {
+/// The root words of the sample core with a block.
+fn roots_outside(alloc: Global) -> Option<Roots> {
     let core = core_of(alloc, &[])?;
     let image = Image::read(alloc, core.as_slice()).ok()?;
     let threads = Threads::read(alloc, &image).ok()?;
     let live = live_of(alloc, "+ 0x10100 0x20\n")?;
     let small = SmallSpans::none(alloc);
-    let roots = Roots::find(alloc, &image, &threads, &live, &small).ok()?;
+    Roots::find(alloc, &image, &threads, &live, &small).ok()
+}
+
+/// `cut` of these roots.
+pub(crate) fn cut(alloc: Global) -> Option<Answer> {
+    let roots = roots_outside(alloc)?;
     match roots.cut(alloc, 10) {
         Ok(pieces) => Some(Answer::of(words_in(pieces.as_slice()) == 535)),
+        Err(error) => Some(Answer::of_refusal(error == CutError::NoMemory)),
+    }
+}
+
+/// `pieces` of these roots: 3 of the registers, 4 before the block and 48 after it.
+pub(crate) fn pieces(alloc: Global) -> Option<Answer> {
+    let roots = roots_outside(alloc)?;
+    match roots.pieces(alloc, 10) {
+        Ok(pieces) => Some(Answer::of(
+            pieces.len() == 55 && pieces.at(54) == Piece::Memory(0x10fd0, 0x11000),
+        )),
         Err(error) => Some(Answer::of_refusal(error == CutError::NoMemory)),
     }
 }
