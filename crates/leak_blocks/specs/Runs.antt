@@ -3,6 +3,7 @@ use Rattle.std.specs.Prelude.{◌≡◌, ℕ, ◌+◌, ◌<◌, ◌≤◌, ◌�
 use Rattle.std.specs.List.{AllByRecursion}
 use Rattle.leak_mtrace.specs.declared.line.Line.{Line}
 use Rattle.leak_blocks.specs.declared.block.Block.{Block}
+use Rattle.leak_blocks.specs.declared.course.Course.{Course}
 use Rattle.leak_blocks.specs.Span.{AreDisjoint, span_end}
 use Rattle.leak_blocks.specs.Live.{replay_of}
 use Rattle.leak_blocks.specs.Laws.{IsOfLine}
@@ -49,3 +50,8 @@ pub record IsRunAfter (lines : List Line) (count : ℕ) (entries : List (ℕ × 
   pub blocks : IsSplit lines entries run low high (replay_of (take count lines)).blocks
   pub missed : unknown ≡ (replay_of (take count lines)).unknown
   pub ended : displaced ≡ (replay_of (take count lines)).displaced
+
+-- the replay has come to this after the first lines of the log
+abbrev pub IsCourseAfter : List Line → ℕ → Course → Type 0
+IsCourseAfter lines count course =
+    IsRunAfter lines count course.numbers.entries course.run.items course.low course.high course.unknown course.displaced

@@ -3,7 +3,7 @@ ghost use Rattle.std.specs.Prelude.{◌≡◌, ◌+◌, ◌<◌, ◌++◌, map, 
 ghost use Rattle.leak_mtrace.specs.Log.{LinesFit};
 ghost use Rattle.leak_blocks.specs.Live.{is_allocation, is_give_back};
 ghost use Rattle.leak_blocks.specs.Numbers.{HasBlocks};
-ghost use Rattle.leak_blocks.specs.Runs.{MayBePlaced, ArePlacedOf, IsLimitOf, IsRunAfter, AreJoinedOf};
+ghost use Rattle.leak_blocks.specs.Runs.{MayBePlaced, ArePlacedOf, IsLimitOf, IsCourseAfter, AreJoinedOf};
 
 use crate::replaying::{Numbers, block_at, displace, is_allocation, is_give_back};
 use leak_mtrace::Line;
@@ -76,7 +76,8 @@ pub(crate) fn joined(
     run: Vec<usize>,
 ) -> Result<Vec<usize>, AllocError>
     requires { MayBePlaced lines.now numbers.now.entries run.items }
-    ensures { IfOk result (λ joined. AreJoinedOf lines.now numbers.now.entries run.items joined.items) }
+    ensures { IfOk result (λ joined.
+        AreJoinedOf lines.now numbers.now.entries run.items joined.items) }
 {
     let held = run.len();
     let first = match run.first() {
@@ -95,8 +96,8 @@ impl Course<'_> {
     pub(crate) fn step(&mut self, lines: &[Line], index: usize) -> Result<(), AllocError>
         requires in_log { index < length lines.now }
         requires fit { LinesFit lines.now }
-        requires so_far { IsRunAfter lines.now index self.old.numbers.entries self.old.run.items self.old.low self.old.high self.old.unknown self.old.displaced }
-        ensures { OnOk result (IsRunAfter lines.now (index + 1) self.new.numbers.entries self.new.run.items self.new.low self.new.high self.new.unknown self.new.displaced) }
+        requires so_far { IsCourseAfter lines.now index self.old }
+        ensures { OnOk result (IsCourseAfter lines.now (index + 1) self.new) }
     {
         let line = &lines[index];
         if is_allocation(line) {
@@ -112,9 +113,9 @@ impl Course<'_> {
     fn allocate(&mut self, lines: &[Line], line: &Line, index: usize) -> Result<(), AllocError>
         requires at { slice_get lines.now index ≡ Some line.now }
         requires fit { LinesFit lines.now }
-        requires so_far { IsRunAfter lines.now index self.old.numbers.entries self.old.run.items self.old.low self.old.high self.old.unknown self.old.displaced }
+        requires so_far { IsCourseAfter lines.now index self.old }
         requires allocates { is_allocation line.now ≡ true }
-        ensures { OnOk result (IsRunAfter lines.now (index + 1) self.new.numbers.entries self.new.run.items self.new.low self.new.high self.new.unknown self.new.displaced) }
+        ensures { OnOk result (IsCourseAfter lines.now (index + 1) self.new) }
     {
         let last = line.addr + (line.size.max(1) - 1);
         if line.addr <= self.low || self.high <= last {
@@ -129,9 +130,9 @@ impl Course<'_> {
     fn begin(&mut self, lines: &[Line], line: &Line, index: usize) -> Result<(), AllocError>
         requires at { slice_get lines.now index ≡ Some line.now }
         requires fit { LinesFit lines.now }
-        requires so_far { IsRunAfter lines.now index self.old.numbers.entries self.old.run.items self.old.low self.old.high self.old.unknown self.old.displaced }
+        requires so_far { IsCourseAfter lines.now index self.old }
         requires allocates { is_allocation line.now ≡ true }
-        ensures { OnOk result (IsRunAfter lines.now (index + 1) self.new.numbers.entries self.new.run.items self.new.low self.new.high self.new.unknown self.new.displaced) }
+        ensures { OnOk result (IsCourseAfter lines.now (index + 1) self.new) }
     {
         let last = line.addr + (line.size.max(1) - 1);
         place(&mut self.numbers, lines, &self.run)?;
@@ -153,9 +154,9 @@ impl Course<'_> {
     /// Goes over a give-back.
     fn give_back(&mut self, lines: &[Line], line: &Line, index: usize) -> Result<(), AllocError>
         requires at { slice_get lines.now index ≡ Some line.now }
-        requires so_far { IsRunAfter lines.now index self.old.numbers.entries self.old.run.items self.old.low self.old.high self.old.unknown self.old.displaced }
+        requires so_far { IsCourseAfter lines.now index self.old }
         requires gives_back { is_give_back line.now ≡ true }
-        ensures { OnOk result (IsRunAfter lines.now (index + 1) self.new.numbers.entries self.new.run.items self.new.low self.new.high self.new.unknown self.new.displaced) }
+        ensures { OnOk result (IsCourseAfter lines.now (index + 1) self.new) }
     {
         if let Some(number) = self.run.last() {
             if block_at(lines, *number).start == line.addr {

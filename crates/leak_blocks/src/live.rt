@@ -18,7 +18,8 @@ pub struct Live {
 impl Model for Live {
     ghost Value = { Replay };
 
-    ghost view = { λ live. record { blocks = live.blocks.items; unknown = live.unknown; displaced = live.displaced } };
+    ghost view = { λ live.
+        record { blocks = live.blocks.items; unknown = live.unknown; displaced = live.displaced } };
 
     ghost invariant = { λ live. AreSummed live.blocks.items live.bytes };
 }
@@ -41,7 +42,8 @@ impl Live {
     pub(crate) fn new(blocks: Vec<Block>, unknown: u64, displaced: u64) -> Live
         requires addressed { AreAddressed blocks.items }
         requires disjoint { AreDisjoint blocks.items }
-        ensures { result ≡ record { blocks = blocks.items; unknown = unknown; displaced = displaced } }
+        ensures { result
+            ≡ record { blocks = blocks.items; unknown = unknown; displaced = displaced } }
     {
         let bytes = total(&blocks);
         Live {

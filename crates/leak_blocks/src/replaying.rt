@@ -100,9 +100,12 @@ struct Stage {
 fn stretch(alloc: Global, lines: &[Line], bytes: usize, stage: Stage) -> Result<Stage, AllocError>
     requires in_log { stage.next < length lines.now }
     requires fit { LinesFit lines.now }
-    requires so_far { IsNumberedAfter lines.now stage.next stage.numbers.items stage.unknown stage.displaced }
-    ensures later { IfOk result (λ later. (stage.next < later.next) × (later.next ≤ length lines.now)) }
-    ensures after { IfOk result (λ later. IsNumberedAfter lines.now later.next later.numbers.items later.unknown later.displaced) }
+    requires so_far { IsNumberedAfter lines.now
+        stage.next stage.numbers.items stage.unknown stage.displaced }
+    ensures later { IfOk result
+        (λ later. (stage.next < later.next) × (later.next ≤ length lines.now)) }
+    ensures after { IfOk result (λ later. IsNumberedAfter lines.now
+        later.next later.numbers.items later.unknown later.displaced) }
 {
     let arena = Bump::try_with_capacity(alloc, bytes)?;
     let mut numbers = BTreeMap::new(&arena);

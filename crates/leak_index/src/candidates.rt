@@ -26,9 +26,11 @@ pub(crate) struct Candidates<'a> {
 impl<'a> Model for Candidates<'a> {
     ghost Value = { Index };
 
-    ghost view = { λ candidates. record { blocks = candidates.blocks.now; reading = listed_by candidates.reading } };
+    ghost view = { λ candidates.
+        record { blocks = candidates.blocks.now; reading = listed_by candidates.reading } };
 
-    ghost invariant = { λ candidates. AreWithin candidates.blocks.now candidates.low candidates.high };
+    ghost invariant = { λ candidates.
+        AreWithin candidates.blocks.now candidates.low candidates.high };
 }
 
 impl<'a> Candidates<'a> {

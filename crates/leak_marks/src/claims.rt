@@ -20,10 +20,14 @@ impl Model for Claims {
 
     ghost Value = { ClaimState };
 
-    ghost view = { λ c. record { blocks = length c.marked.items; lists = map (λ v. v.items) c.lists.items } };
+    ghost view = { λ c.
+        record { blocks = length c.marked.items; lists = map (λ v. v.items) c.lists.items } };
 
-    ghost invariant = { λ c. All (λ v. (vec_len v ≤ count_by (λ m. m) c.marked.items) × (length c.marked.items ≤ vec_capacity v)) c.lists.items
-        × ((b : ℕ) → b < length c.marked.items → slice_index_or c.marked.items b false ≡ has (concat (map (λ v. v.items) c.lists.items)) b) };
+    ghost invariant = { λ c.
+        All (λ v. (vec_len v ≤ count_by (λ m. m) c.marked.items)
+        × (length c.marked.items ≤ vec_capacity v)) c.lists.items
+        × ((b : ℕ) → b < length c.marked.items → slice_index_or c.marked.items b false
+        ≡ has (concat (map (λ v. v.items) c.lists.items)) b) };
 }
 
 impl Claims {

@@ -29,7 +29,8 @@ impl Model for Marks {
 
     ghost view = { λ m. record { table = m.words.shared.table_id; blocks = m.words.shared.key } };
 
-    ghost invariant = { λ m. (m.words.shared.table_id.words ≡ word_count m.words.shared.key) × (m.words.shared.table_id.slots ≡ 0) };
+    ghost invariant = { λ m. (m.words.shared.table_id.words ≡ word_count m.words.shared.key)
+        × (m.words.shared.table_id.slots ≡ 0) };
 }
 
 impl Marks {

@@ -19,7 +19,8 @@ impl Model for MarkSeat {
 
     ghost Value = { Held };
 
-    ghost view = { λ s. held s.seat.table_id s.seat.me.0.claims s.seat.me.0.seen s.seat.me.0.share };
+    ghost view = { λ s.
+        held s.seat.table_id s.seat.me.0.claims s.seat.me.0.seen s.seat.me.0.share };
 
     ghost invariant = { λ s. IsSeated s.share s.seat.me };
 }

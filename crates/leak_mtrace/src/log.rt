@@ -20,7 +20,8 @@ pub struct Log {
 impl Model for Log {
     ghost Value = { Whole };
 
-    ghost view = { λ log. record { lines = log.lines.items; torn = log.torn; whole_len = log.whole_len } };
+    ghost view = { λ log.
+        record { lines = log.lines.items; torn = log.torn; whole_len = log.whole_len } };
 
     ghost invariant = { λ log. LinesFit log.lines.items };
 }

@@ -32,7 +32,8 @@ pub fn register_sets(alloc: Global, image: &Image) -> Result<Vec<RegisterSet>, A
 /// Adds the sets of a part that begins at the offset in the file.
 fn push_sets(sets: &mut Vec<RegisterSet>, offset: u64, part: &[u8]) -> Result<(), AllocError>
     requires { offset + length part.now < 2 ^ 64 }
-    ensures { OnOk result (sets.new.items ≡ sets.old.items ++ sets_of (entries_from (record { offset = offset; bytes = part.now }))) }
+    ensures { OnOk result (sets.new.items ≡ sets.old.items
+        ++ sets_of (entries_from (record { offset = offset; bytes = part.now }))) }
 {
     let mut entry = Entry::first(offset, part);
     'entries: while !entry.is_end() {

@@ -26,7 +26,8 @@ fn merge(marks: &Marks, lower: (MarkSeat, Gained), upper: (MarkSeat, Gained)) ->
     requires { (lower.0.table ≡ marks.now.table) × (upper.0.table ≡ marks.now.table) }
     ensures seat { result.0 ≡ both_seats lower.0 upper.0 }
     ensures sound { IsSound result.0 }
-    ensures gained { IfOk result.1 (λ all. IsOkAnd lower.1 (λ a. IsOkAnd upper.1 (λ b. AreBoth a b all))) }
+    ensures gained { IfOk result.1
+        (λ all. IsOkAnd lower.1 (λ a. IsOkAnd upper.1 (λ b. AreBoth a b all))) }
 {
     let (mut seat, first) = lower;
     let (other, second) = upper;

@@ -48,7 +48,8 @@ fn list_targets<W: Words, L: Lookup>(
     requires small { (b : ℕ) → Has found b → b < 2 ^ 32 }
     requires within { length targets.old.items ≤ room }
     ensures within { length targets.new.items ≤ room }
-    ensures listed { IfOk result (λ fits. IsTrue fits → targets.new.items ≡ targets.old.items ++ found.entry) }
+    ensures listed { IfOk result
+        (λ fits. IsTrue fits → targets.new.items ≡ targets.old.items ++ found.entry) }
 {
     for block in found {
         if targets.len() == room {
@@ -71,7 +72,8 @@ fn list_block<W: Words, L: Lookup>(
     requires within { length targets.old.items ≤ room }
     ensures same { runs.new.words.now ≡ runs.old.words.now }
     ensures within { length targets.new.items ≤ room }
-    ensures listed { let led = targets_of (L.index lookup.now) (block_words (W.word_at runs.old.words.now) block.now) in
+    ensures listed { let words = block_words (W.word_at runs.old.words.now) block.now in
+        let led = targets_of (L.index lookup.now) words in
         IfOk result (λ fits. IsTrue fits → targets.new.items ≡ targets.old.items ++ led) }
 {
     if let Some(bytes) = runs.of_block(block) {
@@ -90,8 +92,10 @@ fn rows_of<W: Words, L: Lookup>(
     room: u32,
 ) -> Result<Option<Rows>, AllocError>
     requires few { length (L.index lookup.now).blocks < 2 ^ 32 }
-    ensures { let targets = map (block_targets (W.word_at words.now) (L.index lookup.now)) blocks.now in
-        IfOk result (λ rows. IfSome rows (λ r. AreListed (targets_of_block targets) (length blocks.now) r.starts.items r.targets.items)) }
+    ensures { let targets = map (block_targets (W.word_at words.now) (L.index lookup.now))
+        blocks.now in
+        IfOk result (λ rows. IfSome rows (λ r. AreListed (targets_of_block targets)
+        (length blocks.now) r.starts.items r.targets.items)) }
 {
     let mut starts = Vec::new(alloc);
     starts.reserve(blocks.len())?;
@@ -112,7 +116,8 @@ fn all_rows(
     alloc: Global,
     parts: Vec<Result<Option<Rows>, AllocError>>,
 ) -> Result<Option<Vec<Rows>>, AllocError>
-    ensures { IfOk result (λ rows. IfSome rows (λ r. parts.items ≡ map (λ x. Ok (Some x)) r.items)) }
+    ensures { IfOk result (λ rows.
+        IfSome rows (λ r. parts.items ≡ map (λ x. Ok (Some x)) r.items)) }
 {
     let mut rows = Vec::new(alloc);
     for part in parts {
@@ -142,8 +147,10 @@ pub(crate) fn links_of<'a, 'b, R: Threads + Sync, W: Words + Sync, L: Lookup + S
     let (words, lookup) = (scope.words, scope.lookup);
     let rows_of_part = move |_start: usize, part: &[Block]| -> Result<Option<Rows>, AllocError>
         requires { length (L.index lookup.now).blocks < 2 ^ 32 }
-        ensures { let targets = map (block_targets (W.word_at words.entry.now) (L.index lookup.entry.now)) part.entry.now in
-            IfOk result (λ rows. IfSome rows (λ r. AreListed (targets_of_block targets) (length part.entry.now) r.starts.items r.targets.items)) }
+        ensures { let word_at = W.word_at words.entry.now in
+            let targets = map (block_targets word_at (L.index lookup.entry.now)) part.entry.now in
+            IfOk result (λ rows. IfSome rows (λ r. AreListed (targets_of_block targets)
+            (length part.entry.now) r.starts.items r.targets.items)) }
     { rows_of(alloc, words, lookup, part, share) };
     let parts = map_chunks(rt, alloc, scope.blocks, size, &rows_of_part)?;
     let Some(rows) = all_rows(alloc, parts)? else {

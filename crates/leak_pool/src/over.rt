@@ -138,7 +138,8 @@ pub(crate) fn mark_over<R: Threads + Sync, S: Source + Sync, G: Gate + Sync>(
     ensures { let targets = S.targets source.now in
         let graph = graph_over (S.roots source.now) targets given.now in
         IfOk result (λ m.
-        IsMarked graph (length targets) plan.workers m.set.items (as_lists m.claims.items) m.rounds) }
+        IsMarked graph (length targets) plan.workers m.set.items
+        (as_lists m.claims.items) m.rounds) }
 {
     targets_are_blocks(source);
     if source.blocks() == 0 {

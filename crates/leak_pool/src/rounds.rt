@@ -26,7 +26,9 @@ fn absorb(
 ) -> Result<(), AllocError>
     requires { length gained.now ≤ length claims.old.items }
     ensures count { length claims.new.items ≡ length claims.old.items }
-    ensures claims { IfOk result (λ _. as_lists claims.new.items ≡ appended_from 0 (as_lists claims.old.items) (as_lists gained.now)) }
+    ensures claims { IfOk result
+        (λ _. as_lists claims.new.items
+        ≡ appended_from 0 (as_lists claims.old.items) (as_lists gained.now)) }
     ensures waiting { IfOk result (λ _. waiting.new.items ≡ waiting.old.items ++ left.now) }
 {
     waiting.extend_from_slice(left)?;
@@ -64,7 +66,8 @@ pub(crate) fn by_workers<R: Threads + Sync, S: Source + Sync, G: Gate + Sync>(
     requires ready { IsReady search.now progress }
     requires items { All (IsItem search.now.roots search.now.targets) (items_in items) }
     ensures ready { IfOk result (IsReady search.now) }
-    ensures done { IfOk result (HasScanned (InItems search.now (items_in items.entry)) search.now progress) }
+    ensures done { IfOk result
+        (HasScanned (InItems search.now (items_in items.entry)) search.now progress) }
 {
     if items.len() == 0 {
         return Ok(progress);

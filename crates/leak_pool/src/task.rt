@@ -32,7 +32,8 @@ pub(crate) trait Task {
     /// few items: those that follow lists.
     fn is_shared(&self, low: u32, middle: u32, high: u32) -> bool
         requires { (low ≤ middle) × (middle ≤ high) × (high ≤ (work self.now).scene.workers) }
-        ensures { IsTrue result ↔ (AreMany (work self.now).items × HaveBoth (work self.now) low middle high) };
+        ensures { IsTrue result ↔ (AreMany (work self.now).items
+            × HaveBoth (work self.now) low middle high) };
 
     /// One worker scans its share.
     fn scan_share(&self, alloc: Global, seat: &mut MarkSeat, worker: u32) -> Gained

@@ -25,7 +25,8 @@ fn add<'a>(
     head: bool,
 ) -> Result<(), AllocError>
     requires { IfSome (get order_of_keys groups.old key) (λ row. HasRoom row block.now) }
-    ensures { OnOk result (HasLeakAdded groups.old groups.new key.entry (record { block = block.now; head = head })) }
+    ensures { OnOk result (HasLeakAdded groups.old groups.new key.entry
+        (record { block = block.now; head = head })) }
 {
     let one = u64::from(head);
     let first = CallerRow {
@@ -94,8 +95,11 @@ pub fn ranked_rows(
 ) -> Result<Vec<CallerRow>, AllocError>
     ensures ordered { IsOrdered order_of_keys groups.now }
     ensures permutation { IfOk result (λ rows. IsPermutation (values groups.now) rows.items) }
-    ensures sorted { IfOk result (λ rows. IsSortedByKey (λ row. row.bytes) (λ x y. nat_cmp y x) rows.items) }
-    ensures stable { IfOk result (λ rows. IsStableByKey (λ row. row.bytes) (λ x y. nat_cmp y x) (values groups.now) rows.items) }
+    ensures sorted { IfOk result
+        (λ rows. IsSortedByKey (λ row. row.bytes) (λ x y. nat_cmp y x) rows.items) }
+    ensures stable { IfOk result
+        (λ rows. IsStableByKey (λ row. row.bytes) (λ x y. nat_cmp y x) (values groups.now)
+        rows.items) }
 {
     let mut rows = rows_of(alloc, groups)?;
     rows.sort_by_key(|row| Reverse(row.bytes))?;

@@ -23,14 +23,16 @@ pub fn caller_text<'a>(log: &'a [u8], caller: (usize, usize)) -> &'a [u8]
 
 /// Appends a line of some blocks: their name, their number and the sum of their sizes.
 pub fn push_sizes(out: &mut String, name: &str, blocks: u64, bytes: u64) -> Result<(), AllocError>
-    ensures { OnOk result (string_bytes out.new ≡ string_bytes out.old ++ sizes_line name.now blocks bytes) }
+    ensures { OnOk result (string_bytes out.new ≡ string_bytes out.old
+        ++ sizes_line name.now blocks bytes) }
 {
     writeln!(out, "{name} {blocks} bytes {bytes}")
 }
 
 /// Appends the lines of what the core leaves out and of what is odd about the log.
 pub fn push_head(out: &mut String, head: &Head) -> Result<(), AllocError>
-    ensures { OnOk result (string_bytes out.new ≡ string_bytes out.old ++ undumped_line head.now ++ log_line head.now) }
+    ensures { OnOk result (string_bytes out.new ≡ string_bytes out.old ++ undumped_line head.now
+        ++ log_line head.now) }
 {
     let Head {
         undumped,
@@ -132,7 +134,8 @@ pub fn push_leak(
     log: &[u8],
 ) -> Result<(), AllocError>
     requires { IsIn log.now block.now.caller }
-    ensures { OnOk result (out.new.items ≡ out.old.items ++ leak_line log.now (record { block = block.now; head = head })) }
+    ensures { OnOk result (out.new.items ≡ out.old.items
+        ++ leak_line log.now (record { block = block.now; head = head })) }
 {
     let Block {
         start,

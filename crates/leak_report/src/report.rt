@@ -52,9 +52,12 @@ fn sums(alloc: Global, head: &Head, live: &Live, totals: &Totals) -> Result<Stri
     requires small { totals.now.bytes ≤ bytes_of live.now.blocks }
     ensures { IfOk result (λ out. string_bytes out ≡
         sizes_line (codes "blocks") (length live.now.blocks) (bytes_of live.now.blocks)
-        ++ undumped_line head.now ++ log_line head.now ++ freed_lines head.now.freed ++ two_lines head.now.two
-        ++ sizes_line (codes "marked") (length live.now.blocks - totals.now.blocks) (bytes_of live.now.blocks - totals.now.bytes)
-        ++ sizes_line (codes "leaked") totals.now.blocks totals.now.bytes ++ heads_line totals.now.heads) }
+        ++ undumped_line head.now ++ log_line head.now ++ freed_lines head.now.freed
+        ++ two_lines head.now.two
+        ++ sizes_line (codes "marked") (length live.now.blocks - totals.now.blocks)
+        (bytes_of live.now.blocks - totals.now.bytes)
+        ++ sizes_line (codes "leaked") totals.now.blocks totals.now.bytes
+        ++ heads_line totals.now.heads) }
 {
     let (blocks, bytes) = (live.blocks().len() as u64, live.bytes());
     let mut out = String::new(alloc);
@@ -81,7 +84,8 @@ fn push_callers(
     log: &[u8],
 ) -> Result<(), AllocError>
     requires { AllByRecursion (λ row. IsIn log.now row.caller) rows.now }
-    ensures { OnOk result (out.new.items ≡ out.old.items ++ flat_map (caller_line log.now) rows.now) }
+    ensures { OnOk result (out.new.items ≡ out.old.items
+        ++ flat_map (caller_line log.now) rows.now) }
 {
     let mut buffer = String::new(alloc);
     for row in rows {
@@ -102,7 +106,8 @@ fn push_leaks(
     requires one_each { length set.now ≡ length blocks.now }
     requires an_entry_each { length heads.now ≡ length blocks.now }
     requires in_log { HaveCallersIn log.now blocks.now }
-    ensures { OnOk result (out.new.items ≡ out.old.items ++ flat_map (leak_line log.now) (leaks_in set.now heads.now blocks.now)) }
+    ensures { OnOk result (out.new.items ≡ out.old.items
+        ++ flat_map (leak_line log.now) (leaks_in set.now heads.now blocks.now)) }
 {
     let mut buffer = String::new(alloc);
     for (i, block) in blocks.iter().enumerate() {

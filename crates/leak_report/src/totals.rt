@@ -46,10 +46,15 @@ impl Totals {
         requires one_each { length set.now ≡ length live.now.blocks }
         requires an_entry_each { length heads.now ≡ length live.now.blocks }
         requires in_log { HaveCallersIn log.now live.now.blocks }
-        ensures count { IfOk result (λ totals. totals.blocks ≡ length (leaked_in set.now live.now.blocks)) }
-        ensures bytes { IfOk result (λ totals. totals.bytes ≡ bytes_of (leaked_in set.now live.now.blocks)) }
-        ensures heads { IfOk result (λ totals. totals.heads ≡ heads_in (leaks_in set.now heads.now live.now.blocks)) }
-        ensures rows { IfOk result (λ totals. totals.rows.items ≡ rows_of log.now (leaks_in set.now heads.now live.now.blocks)) }
+        ensures count { IfOk result
+            (λ totals. totals.blocks ≡ length (leaked_in set.now live.now.blocks)) }
+        ensures bytes { IfOk result
+            (λ totals. totals.bytes ≡ bytes_of (leaked_in set.now live.now.blocks)) }
+        ensures heads { IfOk result
+            (λ totals. totals.heads ≡ heads_in (leaks_in set.now heads.now live.now.blocks)) }
+        ensures rows { IfOk result
+            (λ totals. totals.rows.items
+            ≡ rows_of log.now (leaks_in set.now heads.now live.now.blocks)) }
     {
         let blocks = live.blocks();
         let bytes = live.bytes();

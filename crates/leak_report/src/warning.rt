@@ -24,7 +24,8 @@ fn push_input(
     input: usize,
     signs: &Signs,
 ) -> Result<(), AllocError>
-    ensures { OnOk result (string_bytes out.new ≡ string_bytes out.old ++ input_warnings input signs.now) }
+    ensures { OnOk result (string_bytes out.new ≡ string_bytes out.old
+        ++ input_warnings input signs.now) }
 {
     push_no_block(out, input, signs.live)?;
     push_torn(out, input, signs.torn)?;
@@ -35,13 +36,15 @@ fn push_input(
 
 /// Appends a warning of the input.
 fn push_warning(out: &mut String, input: usize, text: &str) -> Result<(), AllocError>
-    ensures { OnOk result (string_bytes out.new ≡ string_bytes out.old ++ warning_line input text.now) }
+    ensures { OnOk result (string_bytes out.new ≡ string_bytes out.old
+        ++ warning_line input text.now) }
 {
     writeln!(out, "leak_find: warning: input {input}: {text}")
 }
 
 fn push_no_block(out: &mut String, input: usize, live: u64) -> Result<(), AllocError>
-    ensures { OnOk result (string_bytes out.new ≡ string_bytes out.old ++ no_block_line input live) }
+    ensures { OnOk result (string_bytes out.new ≡ string_bytes out.old
+        ++ no_block_line input live) }
 {
     if live > 0 {
         return Ok(());
@@ -66,7 +69,8 @@ fn push_unknown(
     input: usize,
     unknown: u64,
 ) -> Result<(), AllocError>
-    ensures { OnOk result (string_bytes out.new ≡ string_bytes out.old ++ unknown_line input unknown) }
+    ensures { OnOk result (string_bytes out.new ≡ string_bytes out.old
+        ++ unknown_line input unknown) }
 {
     if unknown == 0 {
         return Ok(());
@@ -86,7 +90,8 @@ fn push_displaced(
     input: usize,
     displaced: u64,
 ) -> Result<(), AllocError>
-    ensures { OnOk result (string_bytes out.new ≡ string_bytes out.old ++ displaced_line input displaced) }
+    ensures { OnOk result (string_bytes out.new ≡ string_bytes out.old
+        ++ displaced_line input displaced) }
 {
     if displaced == 0 {
         return Ok(());
@@ -107,7 +112,8 @@ fn push_misfits(
     misfits: u64,
     live: u64,
 ) -> Result<(), AllocError>
-    ensures { OnOk result (string_bytes out.new ≡ string_bytes out.old ++ misfits_line input misfits live) }
+    ensures { OnOk result (string_bytes out.new ≡ string_bytes out.old
+        ++ misfits_line input misfits live) }
 {
     if misfits == 0 {
         return Ok(());

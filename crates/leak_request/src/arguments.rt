@@ -218,7 +218,8 @@ fn is_given(found: &ArgMatches, id: &str) -> bool
 }
 
 fn reading(found: &ArgMatches) -> Result<Reading, DisplaceFault>
-    ensures ok { IfOk result (λ reading. IsListedBy (list_in (found_rows found.now)) (listed_by reading)) }
+    ensures ok { IfOk result (λ reading.
+        IsListedBy (list_in (found_rows found.now)) (listed_by reading)) }
     ensures refused { IfErr result (IsListFaultAt (found_rows found.now)) }
 {
     match value(found, "displace") {

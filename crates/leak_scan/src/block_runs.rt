@@ -37,7 +37,8 @@ impl<'a, W: Words> BlockRuns<'a, W> {
     /// at once.
     pub fn of_block(&mut self, block: &Block) -> Option<&'a [u8]>
         ensures same { self.new.words.now ≡ self.old.words.now }
-        ensures bytes { IfSome result (λ bytes. words_in bytes.now ≡ block_words (W.word_at self.old.words.now) block.now) }
+        ensures bytes { IfSome result
+            (λ bytes. words_in bytes.now ≡ block_words (W.word_at self.old.words.now) block.now) }
     {
         let words = self.words;
         let from = block.start;

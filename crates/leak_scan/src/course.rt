@@ -29,7 +29,8 @@ pub(crate) fn next_on<'a, W: Words, L: Lookup>(
     ensures over { IsOver (L.index lookup.now) result.1 }
     ensures split { let w = W.word_at words.now in let i = L.index lookup.now in
         targets_ahead w i course.entry ≡ hits_in result.0 ++ targets_ahead w i result.1 }
-    ensures end { result.0 ≡ Hits.Zero → targets_ahead (W.word_at words.now) (L.index lookup.now) result.1 ≡ [] }
+    ensures end { result.0 ≡ Hits.Zero
+        → targets_ahead (W.word_at words.now) (L.index lookup.now) result.1 ≡ [] }
 {
     match course {
         Course::Plain(pages, place) => {

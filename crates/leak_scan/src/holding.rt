@@ -56,7 +56,8 @@ fn drop_held<W: Words, L: Lookup>(
     requires entries { length heads.old ≡ length blocks.now }
     requires same_blocks { (L.index lookup.now).blocks ≡ blocks.now }
     ensures { let index = L.index lookup.now in
-        (b : ℕ) → slice_index_or heads.new b false ≡ after_blocks (W.word_at words.now) index set.now heads.old 0 blocks.now b }
+        (b : ℕ) → slice_index_or heads.new b false
+        ≡ after_blocks (W.word_at words.now) index set.now heads.old 0 blocks.now b }
 {
     // (a law, for the proof: each target is the number of a block)
     targets_are_blocks();

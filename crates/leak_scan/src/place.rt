@@ -30,7 +30,8 @@ pub(crate) struct Step<'a> {
 fn advance<'a, W: Words>(words: &'a W, pages: Option<&'a Pages>, from: u64, count: u64) -> Step<'a>
     requires { 0 < count }
     ensures split { let f = listed_word (W.word_at words.now) (option_copied pages.entry) in
-        words_from f from count ≡ words_found result.found ++ words_from f result.from result.count }
+        words_from f from count ≡ words_found result.found
+        ++ words_from f result.from result.count }
     ensures fewer { result.count < count }
 {
     let end = Step {

@@ -20,7 +20,8 @@ pub fn list_run<L: Lookup>(
     requires within { length targets.old.items ≤ room }
     ensures within { length targets.new.items ≤ room }
     ensures listed { IfOk result (λ fits. IsTrue fits →
-        targets.new.items ≡ targets.old.items ++ targets_of (L.index lookup.now) (words_in run.now)) }
+        targets.new.items ≡ targets.old.items
+        ++ targets_of (L.index lookup.now) (words_in run.now)) }
 {
     // (a law, for the proof: each hit is the number of a block)
     hits_are_blocks();
@@ -40,7 +41,8 @@ fn list_hits(hits: Hits, room: usize, targets: &mut Vec<u32>) -> Result<bool, Al
     requires small { AllByRecursion (λ block. block < 2 ^ 32) (hits_in hits) }
     requires within { length targets.old.items ≤ room }
     ensures within { length targets.new.items ≤ room }
-    ensures listed { IfOk result (λ fits. IsTrue fits → targets.new.items ≡ targets.old.items ++ hits_in hits) }
+    ensures listed { IfOk result
+        (λ fits. IsTrue fits → targets.new.items ≡ targets.old.items ++ hits_in hits) }
 {
     match hits {
         Hits::Zero => Ok(true),
@@ -59,7 +61,8 @@ fn list_target(block: usize, room: usize, targets: &mut Vec<u32>) -> Result<bool
     requires small { block < 2 ^ 32 }
     requires within { length targets.old.items ≤ room }
     ensures within { length targets.new.items ≤ room }
-    ensures listed { IfOk result (λ fits. IsTrue fits → targets.new.items ≡ targets.old.items ++ block ∷ []) }
+    ensures listed { IfOk result
+        (λ fits. IsTrue fits → targets.new.items ≡ targets.old.items ++ block ∷ []) }
 {
     if targets.len() >= room {
         return Ok(false);

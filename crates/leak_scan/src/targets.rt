@@ -31,7 +31,8 @@ pub struct Targets<'a, W: Words, L: Lookup> {
 impl<'a, W: Words, L: Lookup> Model for Targets<'a, W, L> {
     ghost Value = { List ℕ };
 
-    ghost view = { λ t. cons_option t.second (targets_ahead (W.word_at t.words.now) (L.index t.lookup.now) t.course) };
+    ghost view = { λ t. cons_option t.second
+        (targets_ahead (W.word_at t.words.now) (L.index t.lookup.now) t.course) };
 
     ghost invariant = { λ t. IsOver (L.index t.lookup.now) t.course };
 }
@@ -39,7 +40,8 @@ impl<'a, W: Words, L: Lookup> Model for Targets<'a, W, L> {
 impl<'a, W: Words, L: Lookup> Targets<'a, W, L> {
     /// Over the words whose 8 bytes all lie from `from` on and before `to`.
     pub fn of_range(words: &'a W, lookup: &'a L, from: u64, to: u64) -> Targets<'a, W, L>
-        ensures { result ≡ targets_of (L.index lookup.now) (words_between (W.word_at words.now) from to) }
+        ensures { result ≡ targets_of (L.index lookup.now)
+            (words_between (W.word_at words.now) from to) }
     {
         let count = to.saturating_sub(7).saturating_sub(from);
         Targets::over(words, lookup, None, from, count)
@@ -87,7 +89,8 @@ impl<'a, W: Words, L: Lookup> Targets<'a, W, L> {
 
     /// Over the words whose 8 bytes all lie in the block.
     pub fn of_block(words: &'a W, lookup: &'a L, block: &Block) -> Targets<'a, W, L>
-        ensures { result ≡ targets_of (L.index lookup.now) (block_words (W.word_at words.now) block.now) }
+        ensures { result ≡ targets_of (L.index lookup.now)
+            (block_words (W.word_at words.now) block.now) }
     {
         let count = block.size.saturating_sub(7);
         Targets::over(words, lookup, None, block.start, count)

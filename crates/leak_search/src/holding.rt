@@ -61,7 +61,8 @@ pub fn find_why(
     address: u64,
 ) -> Result<Why, WhyError>
     ensures ok { IfOk result (TellsWhy core.now log.now (listed_by reading) skip address) }
-    ensures refused { IfErr result (λ e. e ≢ Find NoMemory → IsWhyFault core.now log.now address e) }
+    ensures refused { IfErr result
+        (λ e. e ≢ Find NoMemory → IsWhyFault core.now log.now address e) }
 {
     let input = read_input(alloc, 1, skip, core, log)?;
     let Some(block) = block_at(&input.live, address) else {

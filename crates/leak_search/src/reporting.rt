@@ -54,7 +54,8 @@ pub(crate) fn report_of<L: Lookup>(
 ) -> Result<Found, FindError>
     requires one_each { length marked.set.items ≡ length input.now.live.blocks }
     requires same_blocks { (L.index lookup.now).blocks ≡ input.now.live.blocks }
-    requires a_fit_each { IfSome aside.oddities.fits (λ v. length v.items ≡ length input.now.live.blocks) }
+    requires a_fit_each { IfSome aside.oddities.fits
+        (λ v. length v.items ≡ length input.now.live.blocks) }
     requires in_log { HaveCallersIn log.now input.now.live.blocks }
     ensures report { IfOk result (λ found. found.report.items ≡
         text_with aside.head input.now (L.index lookup.now) marked.set.items

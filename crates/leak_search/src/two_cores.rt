@@ -95,7 +95,8 @@ fn mark_earlier<R: Threads + Sync, G: Gate + Sync>(
     requires read { (lines : List Line) × IsInput lines input.now }
     requires few { length input.now.live.blocks < 2 ^ 32 }
     ensures marked { IfOk result (λ marked. (lines : List Line) → IsInput lines input.now
-        → IsMarkedEarlier input.now.image (listed_by reading) input.now.skip lines marked.set.items) }
+        → IsMarkedEarlier input.now.image (listed_by reading) input.now.skip lines
+        marked.set.items) }
     ensures memory { IfErr result (λ e. e ≡ FindError.NoMemory) }
 {
     let ground = ground_of(alloc, input, reading)?;
@@ -144,7 +145,8 @@ fn mark_later<R: Threads + Sync, G: Gate + Sync>(
     requires carried { IsCarry (length input.now.live.blocks) between.now.carry }
     requires few { length input.now.live.blocks < 2 ^ 32 }
     ensures traced { IfOk result (IsRetrace (word_of input.now.image)
-        ground.now.lookup ground.now.roots between.now.pages between.now.carry workers.now.plan.workers) }
+        ground.now.lookup ground.now.roots between.now.pages between.now.carry
+        workers.now.plan.workers) }
     ensures memory { IfErr result (λ e. e ≡ FindError.NoMemory) }
 {
     let retraced = retrace(

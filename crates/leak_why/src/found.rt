@@ -29,8 +29,10 @@ pub(crate) struct Entry {
 
 /// The number of the block's entry.
 pub(crate) fn number_of(entries: &[Entry], block: usize) -> Option<usize>
-    ensures some { IfSome result (λ i. (e : Entry) × (slice_get entries.now i ≡ Some e) × (e.block ≡ block)) }
-    ensures none { IfNone result ((i : ℕ) (e : Entry) → slice_get entries.now i ≡ Some e → e.block ≢ block) }
+    ensures some { IfSome result
+        (λ i. (e : Entry) × (slice_get entries.now i ≡ Some e) × (e.block ≡ block)) }
+    ensures none { IfNone result
+        ((i : ℕ) (e : Entry) → slice_get entries.now i ≡ Some e → e.block ≢ block) }
 {
     for (i, entry) in entries.iter().enumerate() {
         if entry.block == block {

@@ -27,7 +27,8 @@ pub fn text(
     log: &[u8],
 ) -> Result<Vec<u8>, AllocError>
     requires in_log { HaveCallersIn log.now live.now.blocks }
-    ensures { IfOk result (λ out. out.items ≡ text_of log.now live.now.blocks sets.now block chain.now) }
+    ensures { IfOk result (λ out. out.items
+        ≡ text_of log.now live.now.blocks sets.now block chain.now) }
 {
     let blocks = live.blocks();
     let mut out = Vec::new(alloc);
@@ -64,7 +65,8 @@ fn push_root(
 
 /// Appends where a root word stands.
 fn push_place(buffer: &mut String, sets: &[RegisterSet], place: RootPlace) -> Result<(), AllocError>
-    ensures { OnOk result (string_bytes buffer.new ≡ string_bytes buffer.old ++ place_text sets.now place) }
+    ensures { OnOk result (string_bytes buffer.new ≡ string_bytes buffer.old
+        ++ place_text sets.now place) }
 {
     match place {
         RootPlace::Register(number) => push_register(buffer, sets, number),
@@ -74,7 +76,8 @@ fn push_place(buffer: &mut String, sets: &[RegisterSet], place: RootPlace) -> Re
 
 /// Appends the name of the register word with the number, and its thread.
 fn push_register(buffer: &mut String, sets: &[RegisterSet], number: usize) -> Result<(), AllocError>
-    ensures { OnOk result (string_bytes buffer.new ≡ string_bytes buffer.old ++ register_text 0 sets.now number) }
+    ensures { OnOk result (string_bytes buffer.new ≡ string_bytes buffer.old
+        ++ register_text 0 sets.now number) }
 {
     let mut left = number;
     let mut threads: usize = 0;
@@ -152,7 +155,8 @@ fn push_links(
     log: &[u8],
 ) -> Result<(), AllocError>
     requires { HaveCallersIn log.now blocks.now }
-    ensures { OnOk result (out.new.items ≡ out.old.items ++ links_text log.now blocks.now links.now) }
+    ensures { OnOk result (out.new.items ≡ out.old.items
+        ++ links_text log.now blocks.now links.now) }
 {
     let mut left = links.len();
     while left > 0 {
@@ -185,7 +189,8 @@ fn push_numbered(
     log: &[u8],
 ) -> Result<(), AllocError>
     requires { HaveCallersIn log.now blocks.now }
-    ensures { OnOk result (out.new.items ≡ out.old.items ++ numbered_line name.now log.now blocks.now number) }
+    ensures { OnOk result (out.new.items ≡ out.old.items
+        ++ numbered_line name.now log.now blocks.now number) }
 {
     match blocks.get(number) {
         None => Ok(()),
