@@ -38,7 +38,8 @@ pub fn mark_by_links<R: Threads + Sync, W: Words + Sync, L: Lookup + Sync, G: Ga
 ) -> Result<Marked, PoolError>
     requires { (L.index lookup.now).blocks ≡ live.now.blocks }
     ensures many { IsErrOf result PoolError.TooMany ↔ (2 ^ 32 - 1 < length live.now.blocks) }
-    ensures marks { IfOk result (Marks (W.word_at words.now) (L.index lookup.now) roots.now plan.workers) }
+    ensures marks { IfOk result
+        (Marks (W.word_at words.now) (L.index lookup.now) roots.now plan.workers) }
 {
     let blocks = live.blocks();
     if blocks.len() > u32::MAX as usize {
@@ -71,8 +72,10 @@ fn mark_linked<R: Threads + Sync, S: Source + Sync, G: Gate + Sync>(
     gate: &G,
 ) -> Result<Marked, AllocError>
     requires { IfSome links (λ l. l.source.now ≡ source.now) }
-    ensures { let targets = S.targets source.now in let graph = graph_over (S.roots source.now) targets [] in
-        IfOk result (λ m. IsMarked graph (length targets) plan.workers m.set.items (as_lists m.claims.items) m.rounds) }
+    ensures { let targets = S.targets source.now in
+        let graph = graph_over (S.roots source.now) targets [] in
+        IfOk result (λ m. IsMarked graph (length targets) plan.workers m.set.items
+        (as_lists m.claims.items) m.rounds) }
 {
     match links {
         Some(links) => mark_over(rt, alloc, &links, gate, plan, &[]),

@@ -39,10 +39,12 @@ pub(crate) struct Scope<'a, W: Words, L: Lookup> {
 impl<'a, W: Words, L: Lookup> Scope<'a, W, L> {
     // The blocks that an item leads to.
     fn targets(&self, item: Item) -> Targets<'a, W, L>
-        requires { let s = self.now in let w = W.word_at s.words.now in let i = L.index s.lookup.now in
+        requires { let s = self.now in
+            let w = W.word_at s.words.now in let i = L.index s.lookup.now in
             IsItem (root_targets w i s.roots.now s.pieces.now s.pages.now s.rescan.now)
             (all_targets w i) item }
-        ensures { let s = self.now in let w = W.word_at s.words.now in let i = L.index s.lookup.now in
+        ensures { let s = self.now in
+            let w = W.word_at s.words.now in let i = L.index s.lookup.now in
             result ≡ targets_of_item
             (root_targets w i s.roots.now s.pieces.now s.pages.now s.rescan.now)
             (all_targets w i) item }
@@ -59,7 +61,8 @@ impl<'a, W: Words, L: Lookup> Scope<'a, W, L> {
     // The blocks that a piece of the roots leads to.
     fn of_piece(&self, piece: Piece) -> Targets<'a, W, L>
         requires { IsPiece self.now.roots.now piece }
-        ensures { let s = self.now in let w = W.word_at s.words.now in let i = L.index s.lookup.now in
+        ensures { let s = self.now in
+            let w = W.word_at s.words.now in let i = L.index s.lookup.now in
             result ≡ piece_targets w i s.roots.now piece }
     {
         match piece {
@@ -76,7 +79,8 @@ impl<'a, W: Words, L: Lookup> Scope<'a, W, L> {
     // The blocks that a part of a block leads to.
     fn of_part(&self, part: (u32, Part)) -> Targets<'a, W, L>
         requires { part.0 < length self.now.blocks.now }
-        ensures { let s = self.now in let w = W.word_at s.words.now in let i = L.index s.lookup.now in
+        ensures { let s = self.now in
+            let w = W.word_at s.words.now in let i = L.index s.lookup.now in
             result ≡ part_targets w i s.pages.now part }
     {
         let block = &self.blocks[part.0 as usize];
