@@ -45,8 +45,12 @@ fn report(
 }
 
 /// The report of a log without a live block.
-const NO_BLOCK: &str =
-    "blocks 0 bytes 0\nundumped 0\nunknown 0 displaced 0 torn 0\nmarked 0 bytes 0\nleaked 0 bytes 0\nheads 0\n";
+const NO_BLOCK: &str = "blocks 0 bytes 0\n\
+    undumped 0\n\
+    unknown 0 displaced 0 torn 0\n\
+    marked 0 bytes 0\n\
+    leaked 0 bytes 0\n\
+    heads 0\n";
 
 #[test]
 fn whole_reports(rt: HostRuntime) -> Result<(), Fail> {
@@ -56,28 +60,65 @@ fn whole_reports(rt: HostRuntime) -> Result<(), Fail> {
             "@ ./a.out:[0x401136] + 0x10100 0x20\n",
             [true].as_slice(),
             [false].as_slice(),
-            "blocks 1 bytes 32\nundumped 0\nunknown 0 displaced 0 torn 0\nmarked 1 bytes 32\nleaked 0 bytes 0\nheads 0\n",
+            "blocks 1 bytes 32\n\
+            undumped 0\n\
+            unknown 0 displaced 0 torn 0\n\
+            marked 1 bytes 32\n\
+            leaked 0 bytes 0\n\
+            heads 0\n",
         ),
         // rows by their bytes, not by their blocks, and ties by the text
         (
-            "@ a:[0x1] + 0x10100 0x20\n@ c:[0x3] + 0x10200 0x10\n@ c:[0x3] + 0x10300 0x18\n@ b:[0x2] + 0x10400 0x28\n",
+            "@ a:[0x1] + 0x10100 0x20\n\
+            @ c:[0x3] + 0x10200 0x10\n\
+            @ c:[0x3] + 0x10300 0x18\n\
+            @ b:[0x2] + 0x10400 0x28\n",
             [false, false, false, false].as_slice(),
             [true, true, true, true].as_slice(),
-            "blocks 4 bytes 112\nundumped 0\nunknown 0 displaced 0 torn 0\nmarked 0 bytes 0\nleaked 4 bytes 112\nheads 4\ncaller 1 40 1 b:[0x2]\ncaller 2 40 2 c:[0x3]\ncaller 1 32 1 a:[0x1]\nleak 0x10100 32 1 head a:[0x1]\nleak 0x10200 16 2 head c:[0x3]\nleak 0x10300 24 3 head c:[0x3]\nleak 0x10400 40 4 head b:[0x2]\n",
+            "blocks 4 bytes 112\n\
+            undumped 0\n\
+            unknown 0 displaced 0 torn 0\n\
+            marked 0 bytes 0\n\
+            leaked 4 bytes 112\n\
+            heads 4\n\
+            caller 1 40 1 b:[0x2]\n\
+            caller 2 40 2 c:[0x3]\n\
+            caller 1 32 1 a:[0x1]\n\
+            leak 0x10100 32 1 head a:[0x1]\n\
+            leak 0x10200 16 2 head c:[0x3]\n\
+            leak 0x10300 24 3 head c:[0x3]\n\
+            leak 0x10400 40 4 head b:[0x2]\n",
         ),
         // a row with a head and a block that is held
         (
             "+ 0x10100 0x20\n+ 0x10200 0x10\n+ 0x10300 0x8\n",
             [false, false, false].as_slice(),
             [true, false, true].as_slice(),
-            "blocks 3 bytes 56\nundumped 0\nunknown 0 displaced 0 torn 0\nmarked 0 bytes 0\nleaked 3 bytes 56\nheads 2\ncaller 3 56 2 ?\nleak 0x10100 32 1 head ?\nleak 0x10200 16 2 held ?\nleak 0x10300 8 3 head ?\n",
+            "blocks 3 bytes 56\n\
+            undumped 0\n\
+            unknown 0 displaced 0 torn 0\n\
+            marked 0 bytes 0\n\
+            leaked 3 bytes 56\n\
+            heads 2\n\
+            caller 3 56 2 ?\n\
+            leak 0x10100 32 1 head ?\n\
+            leak 0x10200 16 2 held ?\n\
+            leak 0x10300 8 3 head ?\n",
         ),
         // a caller that is a question mark, and no caller, have one row
         (
             "@ ? + 0x10100 0x20\n+ 0x10200 0x10\n+ 0x10300 0x8\n",
             [false, false, true].as_slice(),
             [false, true, false].as_slice(),
-            "blocks 3 bytes 56\nundumped 0\nunknown 0 displaced 0 torn 0\nmarked 1 bytes 8\nleaked 2 bytes 48\nheads 1\ncaller 2 48 1 ?\nleak 0x10100 32 1 held ?\nleak 0x10200 16 2 head ?\n",
+            "blocks 3 bytes 56\n\
+            undumped 0\n\
+            unknown 0 displaced 0 torn 0\n\
+            marked 1 bytes 8\n\
+            leaked 2 bytes 48\n\
+            heads 1\n\
+            caller 2 48 1 ?\n\
+            leak 0x10100 32 1 held ?\n\
+            leak 0x10200 16 2 head ?\n",
         ),
     ];
     for (log, marked, heads, wanted) in cases {
@@ -92,23 +133,97 @@ fn callers_stand_by_their_bytes(rt: HostRuntime) -> Result<(), Fail> {
     let cases = [
         // the callers of one file, some of them the beginning of others
         (
-            "@ ./a:[0x12345679] + 0x10100 0x20\n@ ./a:[0x1][0x3] + 0x10200 0x20\n@ ./a:[0x1] + 0x10300 0x20\n@ ./a: + 0x10400 0x20\n@ ./a:[0x12345678] + 0x10500 0x20\n@ ./a:[0x2] + 0x10600 0x20\n",
-            "blocks 6 bytes 192\nundumped 0\nunknown 0 displaced 0 torn 0\nmarked 0 bytes 0\nleaked 6 bytes 192\nheads 6\ncaller 1 32 1 ./a:\ncaller 1 32 1 ./a:[0x12345678]\ncaller 1 32 1 ./a:[0x12345679]\ncaller 1 32 1 ./a:[0x1]\ncaller 1 32 1 ./a:[0x1][0x3]\ncaller 1 32 1 ./a:[0x2]\nleak 0x10100 32 1 head ./a:[0x12345679]\nleak 0x10200 32 2 head ./a:[0x1][0x3]\nleak 0x10300 32 3 head ./a:[0x1]\nleak 0x10400 32 4 head ./a:\nleak 0x10500 32 5 head ./a:[0x12345678]\nleak 0x10600 32 6 head ./a:[0x2]\n",
+            "@ ./a:[0x12345679] + 0x10100 0x20\n\
+            @ ./a:[0x1][0x3] + 0x10200 0x20\n\
+            @ ./a:[0x1] + 0x10300 0x20\n\
+            @ ./a: + 0x10400 0x20\n\
+            @ ./a:[0x12345678] + 0x10500 0x20\n\
+            @ ./a:[0x2] + 0x10600 0x20\n",
+            "blocks 6 bytes 192\n\
+            undumped 0\n\
+            unknown 0 displaced 0 torn 0\n\
+            marked 0 bytes 0\n\
+            leaked 6 bytes 192\n\
+            heads 6\n\
+            caller 1 32 1 ./a:\n\
+            caller 1 32 1 ./a:[0x12345678]\n\
+            caller 1 32 1 ./a:[0x12345679]\n\
+            caller 1 32 1 ./a:[0x1]\n\
+            caller 1 32 1 ./a:[0x1][0x3]\n\
+            caller 1 32 1 ./a:[0x2]\n\
+            leak 0x10100 32 1 head ./a:[0x12345679]\n\
+            leak 0x10200 32 2 head ./a:[0x1][0x3]\n\
+            leak 0x10300 32 3 head ./a:[0x1]\n\
+            leak 0x10400 32 4 head ./a:\n\
+            leak 0x10500 32 5 head ./a:[0x12345678]\n\
+            leak 0x10600 32 6 head ./a:[0x2]\n",
         ),
         // zero bytes, which stand where a shorter text has ended
         (
-            "@ ./a:1 + 0x10100 0x20\n@ ./a:1\0 + 0x10200 0x20\n@ ./a:1\0\0 + 0x10300 0x20\n@ ./a:\0 + 0x10400 0x20\n@ ./a: + 0x10500 0x20\n",
-            "blocks 5 bytes 160\nundumped 0\nunknown 0 displaced 0 torn 0\nmarked 0 bytes 0\nleaked 5 bytes 160\nheads 5\ncaller 1 32 1 ./a:\ncaller 1 32 1 ./a:\0\ncaller 1 32 1 ./a:1\ncaller 1 32 1 ./a:1\0\ncaller 1 32 1 ./a:1\0\0\nleak 0x10100 32 1 head ./a:1\nleak 0x10200 32 2 head ./a:1\0\nleak 0x10300 32 3 head ./a:1\0\0\nleak 0x10400 32 4 head ./a:\0\nleak 0x10500 32 5 head ./a:\n",
+            "@ ./a:1 + 0x10100 0x20\n\
+            @ ./a:1\0 + 0x10200 0x20\n\
+            @ ./a:1\0\0 + 0x10300 0x20\n\
+            @ ./a:\0 + 0x10400 0x20\n\
+            @ ./a: + 0x10500 0x20\n",
+            "blocks 5 bytes 160\n\
+            undumped 0\n\
+            unknown 0 displaced 0 torn 0\n\
+            marked 0 bytes 0\n\
+            leaked 5 bytes 160\n\
+            heads 5\n\
+            caller 1 32 1 ./a:\n\
+            caller 1 32 1 ./a:\0\n\
+            caller 1 32 1 ./a:1\n\
+            caller 1 32 1 ./a:1\0\n\
+            caller 1 32 1 ./a:1\0\0\n\
+            leak 0x10100 32 1 head ./a:1\n\
+            leak 0x10200 32 2 head ./a:1\0\n\
+            leak 0x10300 32 3 head ./a:1\0\0\n\
+            leak 0x10400 32 4 head ./a:\0\n\
+            leak 0x10500 32 5 head ./a:\n",
         ),
         // no caller, and callers of other files, below and above
         (
-            "+ 0x10100 0x20\n@ ./b:[0x2] + 0x10200 0x20\n@ ./b:[0x1] + 0x10300 0x20\n@ /c:[0x3] + 0x10400 0x20\n@ !d:[0x4] + 0x10500 0x20\n@ . + 0x10600 0x20\n@ ./a:[0x5] + 0x10700 0x20\n",
-            "blocks 7 bytes 224\nundumped 0\nunknown 0 displaced 0 torn 0\nmarked 0 bytes 0\nleaked 7 bytes 224\nheads 7\ncaller 1 32 1 !d:[0x4]\ncaller 1 32 1 .\ncaller 1 32 1 ./a:[0x5]\ncaller 1 32 1 ./b:[0x1]\ncaller 1 32 1 ./b:[0x2]\ncaller 1 32 1 /c:[0x3]\ncaller 1 32 1 ?\nleak 0x10100 32 1 head ?\nleak 0x10200 32 2 head ./b:[0x2]\nleak 0x10300 32 3 head ./b:[0x1]\nleak 0x10400 32 4 head /c:[0x3]\nleak 0x10500 32 5 head !d:[0x4]\nleak 0x10600 32 6 head .\nleak 0x10700 32 7 head ./a:[0x5]\n",
+            "+ 0x10100 0x20\n\
+            @ ./b:[0x2] + 0x10200 0x20\n\
+            @ ./b:[0x1] + 0x10300 0x20\n\
+            @ /c:[0x3] + 0x10400 0x20\n\
+            @ !d:[0x4] + 0x10500 0x20\n\
+            @ . + 0x10600 0x20\n\
+            @ ./a:[0x5] + 0x10700 0x20\n",
+            "blocks 7 bytes 224\n\
+            undumped 0\n\
+            unknown 0 displaced 0 torn 0\n\
+            marked 0 bytes 0\n\
+            leaked 7 bytes 224\n\
+            heads 7\n\
+            caller 1 32 1 !d:[0x4]\n\
+            caller 1 32 1 .\n\
+            caller 1 32 1 ./a:[0x5]\n\
+            caller 1 32 1 ./b:[0x1]\n\
+            caller 1 32 1 ./b:[0x2]\n\
+            caller 1 32 1 /c:[0x3]\n\
+            caller 1 32 1 ?\n\
+            leak 0x10100 32 1 head ?\n\
+            leak 0x10200 32 2 head ./b:[0x2]\n\
+            leak 0x10300 32 3 head ./b:[0x1]\n\
+            leak 0x10400 32 4 head /c:[0x3]\n\
+            leak 0x10500 32 5 head !d:[0x4]\n\
+            leak 0x10600 32 6 head .\n\
+            leak 0x10700 32 7 head ./a:[0x5]\n",
         ),
         // one caller alone
         (
             "@ ./a:[0x1] + 0x10100 0x20\n@ ./a:[0x1] + 0x10200 0x20\n",
-            "blocks 2 bytes 64\nundumped 0\nunknown 0 displaced 0 torn 0\nmarked 0 bytes 0\nleaked 2 bytes 64\nheads 2\ncaller 2 64 2 ./a:[0x1]\nleak 0x10100 32 1 head ./a:[0x1]\nleak 0x10200 32 2 head ./a:[0x1]\n",
+            "blocks 2 bytes 64\n\
+            undumped 0\n\
+            unknown 0 displaced 0 torn 0\n\
+            marked 0 bytes 0\n\
+            leaked 2 bytes 64\n\
+            heads 2\n\
+            caller 2 64 2 ./a:[0x1]\n\
+            leak 0x10100 32 1 head ./a:[0x1]\n\
+            leak 0x10200 32 2 head ./a:[0x1]\n",
         ),
     ];
     for (log, wanted) in cases {
@@ -144,8 +259,15 @@ fn first_lines_of_two_cores(rt: HostRuntime) -> Result<(), Fail> {
     };
     let log = "+ 0x10100 0x20\n+ 0x10200 0x10\n";
     let found = report(&rt, rt.alloc(), &head, log, &[true, true], &[false, false])?;
-    let wanted =
-        "blocks 2 bytes 48\nundumped 4096\nunknown 2 displaced 1 torn 1\nfreed 7\nnew 1 bytes 32\nreread 18446744073709551615\nmarked 2 bytes 48\nleaked 0 bytes 0\nheads 0\n";
+    let wanted = "blocks 2 bytes 48\n\
+        undumped 4096\n\
+        unknown 2 displaced 1 torn 1\n\
+        freed 7\n\
+        new 1 bytes 32\n\
+        reread 18446744073709551615\n\
+        marked 2 bytes 48\n\
+        leaked 0 bytes 0\n\
+        heads 0\n";
     assert_eq!(rt; found.as_slice(), wanted.as_bytes());
     Ok(())
 }
@@ -155,8 +277,12 @@ fn misfits_are_listed_where_asked(rt: HostRuntime) -> Result<(), Fail> {
     let log = "@ a:[0x1] + 0x10100 0x20\n+ 0x10200 0x10\n@ b:[0x2] + 0x10300 0\n".as_bytes();
     let live = replay(rt.alloc(), &Log::read(rt.alloc(), log)?)?;
     let (set, heads) = ([true, false, true], [false, true, false]);
-    let first =
-        "blocks 3 bytes 48\nundumped 0\nunknown 0 displaced 0 torn 0\nmarked 2 bytes 32\nleaked 1 bytes 16\nheads 1\n";
+    let first = "blocks 3 bytes 48\n\
+        undumped 0\n\
+        unknown 0 displaced 0 torn 0\n\
+        marked 2 bytes 32\n\
+        leaked 1 bytes 16\n\
+        heads 1\n";
     let leaks = "caller 1 16 1 ?\nleak 0x10200 16 2 head ?\n";
     let cases = [
         ([true, true, true].as_slice(), "misfits 0\n", ""),
@@ -315,7 +441,8 @@ fn each_sign_has_its_warning(rt: HostRuntime) -> Result<(), Fail> {
         (signs(1), ""),
         (
             signs(0),
-            "leak_find: warning: input 1: no live block: the log shows no allocation that was kept\n",
+            "leak_find: warning: input 1: no live block: the log shows no allocation that was \
+            kept\n",
         ),
         (
             Signs { torn, ..signs(1) },
@@ -326,21 +453,24 @@ fn each_sign_has_its_warning(rt: HostRuntime) -> Result<(), Fail> {
                 unknown,
                 ..signs(1)
             },
-            "leak_find: warning: input 1: 2 give-backs of blocks that were not live: tracing began late, or lines are missing\n",
+            "leak_find: warning: input 1: 2 give-backs of blocks that were not live: tracing \
+            began late, or lines are missing\n",
         ),
         (
             Signs {
                 displaced,
                 ..signs(1)
             },
-            "leak_find: warning: input 1: 3 allocations over a live block: lines are missing or out of order\n",
+            "leak_find: warning: input 1: 3 allocations over a live block: lines are missing or \
+            out of order\n",
         ),
         (
             Signs {
                 misfits,
                 ..signs(5)
             },
-            "leak_find: warning: input 1: 4 of 5 live blocks have no chunk of their size in use in the core: the log is of another moment, or of another process\n",
+            "leak_find: warning: input 1: 4 of 5 live blocks have no chunk of their size in use \
+            in the core: the log is of another moment, or of another process\n",
         ),
     ];
     for (signs, wanted) in cases {
@@ -366,10 +496,14 @@ fn warnings_go_by_input(rt: HostRuntime) -> Result<(), Fail> {
     let found = warnings(rt.alloc(), &[first, second])?;
     let wanted = [
         "leak_find: warning: input 1: the log ends inside a line: its last calls are missing",
-        "leak_find: warning: input 1: 18446744073709551615 of 18446744073709551615 live blocks have no chunk of their size in use in the core: the log is of another moment, or of another process",
+        "leak_find: warning: input 1: 18446744073709551615 of 18446744073709551615 live blocks \
+        have no chunk of their size in use in the core: the log is of another moment, or of \
+        another process",
         "leak_find: warning: input 2: no live block: the log shows no allocation that was kept",
-        "leak_find: warning: input 2: 1 give-backs of blocks that were not live: tracing began late, or lines are missing",
-        "leak_find: warning: input 2: 1 allocations over a live block: lines are missing or out of order",
+        "leak_find: warning: input 2: 1 give-backs of blocks that were not live: tracing began \
+        late, or lines are missing",
+        "leak_find: warning: input 2: 1 allocations over a live block: lines are missing or out \
+        of order",
     ];
     assert!(rt; found.as_str().lines().eq(wanted.iter().copied()));
     assert_eq!(rt; warnings(rt.alloc(), &[])?.as_str(), "");
