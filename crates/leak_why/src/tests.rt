@@ -265,8 +265,10 @@ fn a_chain_of_a_hundred_blocks(rt: HostRuntime) -> Result<(), Fail> {
     // after the line of the block asked for: the root, a hundred blocks, and a word of each but the last
     let lines = shown.iter().filter(|byte| **byte == b'\n').count();
     assert_eq!(rt; lines, 201);
-    let begins =
-        b"asked 0x10e60 16 100 ?\nroot 0x10008 holds 0x10200\nblock 0x10200 16 1 ?\nword 0x10200 holds 0x10220\n";
+    let begins = b"asked 0x10e60 16 100 ?\n\
+        root 0x10008 holds 0x10200\n\
+        block 0x10200 16 1 ?\n\
+        word 0x10200 holds 0x10220\n";
     assert!(rt; shown.starts_with(begins.as_slice()));
     Ok(())
 }
