@@ -281,7 +281,15 @@ fn the_report_without_links(rt: HostRuntime) -> Result<(), Fail> {
     )?;
     assert_eq!(rt;
         found.report.as_slice(),
-        b"blocks 1 bytes 32\nundumped 0\nunknown 0 displaced 0 torn 0\nmarked 0 bytes 0\nleaked 1 bytes 32\nheads 1\ncaller 1 32 1 ?\nleak 0x10100 32 1 head ?\n".as_slice()
+        b"blocks 1 bytes 32\n\
+        undumped 0\n\
+        unknown 0 displaced 0 torn 0\n\
+        marked 0 bytes 0\n\
+        leaked 1 bytes 32\n\
+        heads 1\n\
+        caller 1 32 1 ?\n\
+        leak 0x10100 32 1 head ?\n"
+            .as_slice()
     );
     Ok(())
 }

@@ -212,8 +212,19 @@ fn a_block_without_a_chunk_is_a_misfit(rt: HostRuntime) -> Result<(), Fail> {
 const THREE_BLOCKS: &str =
     "@ a:[0x1] + 0x10300 0x18\n@ b:[0x2] + 0x10100 0x20\n@ c:[0x3] + 0x10200 0x10\n";
 
-const TWO_MISFITS: &str =
-    "blocks 3 bytes 72\nundumped 0\nunknown 0 displaced 0 torn 0\nmarked 1 bytes 16\nleaked 2 bytes 56\nheads 2\nmisfits 2\ncaller 1 32 1 b:[0x2]\ncaller 1 24 1 a:[0x1]\nleak 0x10100 32 2 head b:[0x2]\nleak 0x10300 24 1 head a:[0x1]\nmisfit 0x10200 16 3 c:[0x3]\nmisfit 0x10300 24 1 a:[0x1]\n";
+const TWO_MISFITS: &str = "blocks 3 bytes 72\n\
+    undumped 0\n\
+    unknown 0 displaced 0 torn 0\n\
+    marked 1 bytes 16\n\
+    leaked 2 bytes 56\n\
+    heads 2\n\
+    misfits 2\n\
+    caller 1 32 1 b:[0x2]\n\
+    caller 1 24 1 a:[0x1]\n\
+    leak 0x10100 32 2 head b:[0x2]\n\
+    leak 0x10300 24 1 head a:[0x1]\n\
+    misfit 0x10200 16 3 c:[0x3]\n\
+    misfit 0x10300 24 1 a:[0x1]\n";
 
 #[test]
 fn workers_tell_misfits(rt: HostRuntime) -> Result<(), Fail> {
@@ -245,8 +256,18 @@ fn workers_tell_misfits(rt: HostRuntime) -> Result<(), Fail> {
 }
 
 /// The first core has no chunk for the block of its log, and the second one no chunk for the new block.
-const MISFIT_OF_THE_SECOND: &str =
-    "blocks 2 bytes 48\nundumped 0\nunknown 0 displaced 0 torn 0\nnew 1 bytes 16\nreread 0\nmarked 1 bytes 16\nleaked 1 bytes 32\nheads 1\nmisfits 1\ncaller 1 32 1 ?\nleak 0x10100 32 1 head ?\nmisfit 0x10200 16 2 ?\n";
+const MISFIT_OF_THE_SECOND: &str = "blocks 2 bytes 48\n\
+    undumped 0\n\
+    unknown 0 displaced 0 torn 0\n\
+    new 1 bytes 16\n\
+    reread 0\n\
+    marked 1 bytes 16\n\
+    leaked 1 bytes 32\n\
+    heads 1\n\
+    misfits 1\n\
+    caller 1 32 1 ?\n\
+    leak 0x10100 32 1 head ?\n\
+    misfit 0x10200 16 2 ?\n";
 
 #[test]
 fn two_cores_tell_misfits_of_the_second(rt: HostRuntime) -> Result<(), Fail> {

@@ -31,7 +31,8 @@ fn options(two: bool, other_heap: bool, strict: bool) -> Result<Options, Fail>
 const CHUNK: [Part; 2] = [Part::Word(0x100f8, 0x31), Part::Word(0x10128, 0x21)];
 
 const MISFIT: &str =
-    "leak_find: warning: input 1: 1 of 1 live blocks have no chunk of their size in use in the core: the log is of another moment, or of another process\n";
+    "leak_find: warning: input 1: 1 of 1 live blocks have no chunk of their size in use in the \
+    core: the log is of another moment, or of another process\n";
 
 const NO_BLOCK: &str =
     "leak_find: warning: input 1: no live block: the log shows no allocation that was kept\n";
@@ -40,10 +41,12 @@ const TORN: &str =
     "leak_find: warning: input 1: the log ends inside a line: its last calls are missing\n";
 
 const UNKNOWN: &str =
-    "leak_find: warning: input 1: 1 give-backs of blocks that were not live: tracing began late, or lines are missing\n";
+    "leak_find: warning: input 1: 1 give-backs of blocks that were not live: tracing began late, \
+    or lines are missing\n";
 
 const DISPLACED: &str =
-    "leak_find: warning: input 1: 1 allocations over a live block: lines are missing or out of order\n";
+    "leak_find: warning: input 1: 1 allocations over a live block: lines are missing or out of \
+    order\n";
 
 /// A log with parts of a core, the status, and the warnings where the heap is glibc's and where it isn't.
 struct Case {
@@ -168,7 +171,8 @@ fn each_of_two_inputs_has_its_warnings(rt: HostRuntime) -> Result<(), Fail> {
     let with_chunk = core_of(rt.alloc(), &CHUNK)?;
     let without = core_of(rt.alloc(), &[])?;
     let second =
-        "leak_find: warning: input 2: 1 of 1 live blocks have no chunk of their size in use in the core: the log is of another moment, or of another process\n";
+        "leak_find: warning: input 2: 1 of 1 live blocks have no chunk of their size in use in \
+        the core: the log is of another moment, or of another process\n";
     let cases = [
         (&with_chunk, &with_chunk, "", ""),
         (&without, &with_chunk, MISFIT, ""),
