@@ -36,7 +36,7 @@ pub(crate) struct Links<'a, S: Source> {
     /// How many blocks each row has, but for the last.
     pub(crate) size: usize,
     pub(crate) rows: Vec<Rows>,
-    ghost listed: { AreLinks (S.targets source.now) size rows.items } by { links_prop (S.targets source.now) size rows.items },
+    ghost listed: { AreLinks (S.targets source.now) size rows.items } by { links_prop _ _ _ },
 }
 
 // Lists the targets of a block after the others, unless that makes more than so many.
