@@ -36,7 +36,7 @@ fn merge(marks: &Marks, lower: (MarkSeat, Gained), upper: (MarkSeat, Gained)) ->
 }
 
 /// The workers from `low` up to `high` scan their shares at once, by halves.
-pub(crate) fn half<R: Threads + Sync, T: Task + Sync>(
+pub(crate) fn scan_shares<R: Threads + Sync, T: Task + Sync>(
     rt: &R,
     alloc: Global,
     task: &T,
@@ -53,8 +53,8 @@ pub(crate) fn half<R: Threads + Sync, T: Task + Sync>(
     }
     let middle = low + (high - low) / 2;
     if !task.is_shared(low, middle, high) {
-        let (seat, first) = half(rt, alloc, task, seat, low, middle);
-        let (seat, second) = half(rt, alloc, task, seat, middle, high);
+        let (seat, first) = scan_shares(rt, alloc, task, seat, low, middle);
+        let (seat, second) = scan_shares(rt, alloc, task, seat, middle, high);
         return (seat, both(first, second));
     }
     let other = task.marks().split(&mut seat).unwrap();
@@ -63,11 +63,11 @@ pub(crate) fn half<R: Threads + Sync, T: Task + Sync>(
         move || -> (MarkSeat, Gained)
             requires { CanScan (T.work task.now) middle high other }
             ensures { HaveScanned (T.work task.entry.now) middle high other result.0 result.1 }
-        { half(rt, alloc, task, other, middle, high) },
+        { scan_shares(rt, alloc, task, other, middle, high) },
         move || -> (MarkSeat, Gained)
             requires { CanScan (T.work task.now) low middle seat }
             ensures { HaveScanned (T.work task.entry.now) low middle seat result.0 result.1 }
-        { half(rt, alloc, task, seat, low, middle) },
+        { scan_shares(rt, alloc, task, seat, low, middle) },
     );
     merge(task.marks(), lower, upper)
 }

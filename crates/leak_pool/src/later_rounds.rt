@@ -13,7 +13,7 @@ use std::mem::replace;
 use std::thread::Threads;
 
 /// A later round: the caller scans the first of the blocks that wait, and the workers scan the others.
-pub(crate) fn later<R: Threads + Sync, S: Source + Sync, G: Gate + Sync>(
+pub(crate) fn later_round<R: Threads + Sync, S: Source + Sync, G: Gate + Sync>(
     rt: &R,
     alloc: Global,
     search: &Search<'_, S, G>,
@@ -47,7 +47,7 @@ pub(crate) fn until_none<R: Threads + Sync, S: Source + Sync, G: Gate + Sync>(
 {
     let mut rounds = 1u64;
     'until: while !progress.waiting.is_empty() {
-        progress = later(rt, alloc, search, progress)?;
+        progress = later_round(rt, alloc, search, progress)?;
         rounds += 1;
     }
     Ok((progress, rounds))

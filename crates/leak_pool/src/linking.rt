@@ -9,7 +9,7 @@ use crate::gate::Gate;
 use crate::links::{Links, links_of};
 use crate::marked::Marked;
 use crate::marking::pieces_of;
-use crate::over::mark_over;
+use crate::marking_by_rounds::mark_by_rounds;
 use crate::plan::Plan;
 use crate::scope::Scope;
 use crate::source::Source;
@@ -78,7 +78,7 @@ fn mark_linked<R: Threads + Sync, S: Source + Sync, G: Gate + Sync>(
         (as_lists m.claims.items) m.rounds) }
 {
     match links {
-        Some(links) => mark_over(rt, alloc, &links, gate, plan, &[]),
-        None => mark_over(rt, alloc, source, gate, plan, &[]),
+        Some(links) => mark_by_rounds(rt, alloc, &links, gate, plan, &[]),
+        None => mark_by_rounds(rt, alloc, source, gate, plan, &[]),
     }
 }

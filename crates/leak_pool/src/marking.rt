@@ -6,7 +6,7 @@ ghost use Rattle.leak_pool.specs.Marking.{Marks, MarksFrom, IsStartOf};
 use crate::error::PoolError;
 use crate::gate::Gate;
 use crate::marked::Marked;
-use crate::over::mark_over;
+use crate::marking_by_rounds::mark_by_rounds;
 use crate::plan::Plan;
 use crate::scope::Scope;
 use crate::start::Start;
@@ -79,7 +79,7 @@ pub fn mark_from<R: Threads + Sync, W: Words + Sync, L: Lookup + Sync, G: Gate +
         pages,
     };
     let given = start.marked.as_slice();
-    let marked = mark_over(rt, alloc, &scope, gate, plan, given)?;
+    let marked = mark_by_rounds(rt, alloc, &scope, gate, plan, given)?;
     Ok(marked)
 }
 

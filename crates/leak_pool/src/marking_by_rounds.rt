@@ -9,7 +9,7 @@ ghost use Rattle.leak_pool.specs.Marking.{IsSet};
 
 use crate::gate::Gate;
 use crate::items::Items;
-use crate::later::until_none;
+use crate::later_rounds::until_none;
 use crate::marked::Marked;
 use crate::plan::Plan;
 use crate::progress::Progress;
@@ -126,7 +126,7 @@ fn set_of(alloc: Global, words: &[u64], blocks: u32) -> Result<Vec<bool>, AllocE
 }
 
 /// Marks what the parts of the roots lead to, from the given blocks on.
-pub(crate) fn mark_over<R: Threads + Sync, S: Source + Sync, G: Gate + Sync>(
+pub(crate) fn mark_by_rounds<R: Threads + Sync, S: Source + Sync, G: Gate + Sync>(
     rt: &R,
     alloc: Global,
     source: &S,

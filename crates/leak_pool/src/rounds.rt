@@ -8,7 +8,7 @@ ghost use Rattle.leak_pool.specs.Progress.{IsReady, HasScanned, InItems};
 ghost use Rattle.leak_pool.specs.Rounds.{AreCounted};
 
 use crate::gate::Gate;
-use crate::halves::half;
+use crate::halves::scan_shares;
 use crate::items::Items;
 use crate::progress::Progress;
 use crate::search::{Round, Search};
@@ -83,7 +83,7 @@ pub(crate) fn by_workers<R: Threads + Sync, S: Source + Sync, G: Gate + Sync>(
         items,
         steps: steps.as_slice(),
     };
-    let (seat, gained) = half(rt, alloc, &round, seat, 0, search.workers);
+    let (seat, gained) = scan_shares(rt, alloc, &round, seat, 0, search.workers);
     let gained = gained?;
     count_steps(&mut steps, items.len(), search.workers);
     let left = gained.left.as_slice();

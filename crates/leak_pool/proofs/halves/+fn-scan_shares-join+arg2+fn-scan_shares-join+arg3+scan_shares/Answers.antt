@@ -4,7 +4,7 @@ use Rattle.leak_pool.specs.Promises.{AreBoth, IsHalf}
 use Rattle.leak_pool.specs.Scene.{blocks_of, items_of}
 use Rattle.leak_pool.specs.declared.task.Gains.{Gains}
 use Rattle.leak_pool.proofs.HalfLemmas.{pair_ok, some_at, half_after, half_joined, add_two}
-use Rattle.leak_pool.proofs.halves.+fn-half-join+arg2+fn-half-join+arg3+half.Goals as goal
+use Rattle.leak_pool.proofs.halves.+fn-scan_shares-join+arg2+fn-scan_shares-join+arg3+scan_shares.Goals as goal
 
 abbrev items : Vec ℕ Global → List ℕ
 items v = v.items
@@ -21,16 +21,16 @@ returns-then-not-is_shared g t c =
     let middle : ℕ = c.args.low + (c.args.high - c.args.low) / 2 in
     let some : 0 < w = let l = c.requires.some in let h = c.requires.workers in omega arith in let lower : c.args.low ≤ middle = omega arith in let upper : middle ≤ c.args.high = omega arith in
     record {
-      table = c.half-seat-then-not-is_shared.ensures.table ∙ c.half-seat.ensures.table;
-      share = c.half-seat-then-not-is_shared.ensures.share ∙ c.half-seat.ensures.share;
-      sound = c.half-seat-then-not-is_shared.ensures.sound;
-      done = pair_ok c.both.result c.half-seat.result.1 c.half-seat-then-not-is_shared.result.1 Put
-          (λ (a : Gains). IsHalf blocks targets n w c.args.low middle c.args.seat c.half-seat.result.0 (map items a.claims.items) a.left.items)
-          (λ (b : Gains). IsHalf blocks targets n w middle c.args.high c.half-seat.result.0 c.half-seat-then-not-is_shared.result.0 (map items b.claims.items) b.left.items)
-          (λ (l : Gains). IsHalf blocks targets n w c.args.low c.args.high c.args.seat c.half-seat-then-not-is_shared.result.0 (map items l.claims.items) l.left.items)
-          c.both.ensures c.half-seat.ensures.done c.half-seat-then-not-is_shared.ensures.done
-          (λ l a b j x y. add_two items (λ (gs : List (List ℕ)) (ls : List ℕ). IsHalf blocks targets n w c.args.low c.args.high c.args.seat c.half-seat-then-not-is_shared.result.0 gs ls) l.claims.items a.claims.items b.claims.items l.left.items a.left.items b.left.items j.0 j.1
-          (half_after blocks targets n w c.args.low middle c.args.high some lower upper c.args.seat c.half-seat.result.0 c.half-seat-then-not-is_shared.result.0 (map items a.claims.items) (map items b.claims.items) a.left.items b.left.items x y));
+      table = c.scan_shares-seat-then-not-is_shared.ensures.table ∙ c.scan_shares-seat.ensures.table;
+      share = c.scan_shares-seat-then-not-is_shared.ensures.share ∙ c.scan_shares-seat.ensures.share;
+      sound = c.scan_shares-seat-then-not-is_shared.ensures.sound;
+      done = pair_ok c.both.result c.scan_shares-seat.result.1 c.scan_shares-seat-then-not-is_shared.result.1 Put
+          (λ (a : Gains). IsHalf blocks targets n w c.args.low middle c.args.seat c.scan_shares-seat.result.0 (map items a.claims.items) a.left.items)
+          (λ (b : Gains). IsHalf blocks targets n w middle c.args.high c.scan_shares-seat.result.0 c.scan_shares-seat-then-not-is_shared.result.0 (map items b.claims.items) b.left.items)
+          (λ (l : Gains). IsHalf blocks targets n w c.args.low c.args.high c.args.seat c.scan_shares-seat-then-not-is_shared.result.0 (map items l.claims.items) l.left.items)
+          c.both.ensures c.scan_shares-seat.ensures.done c.scan_shares-seat-then-not-is_shared.ensures.done
+          (λ l a b j x y. add_two items (λ (gs : List (List ℕ)) (ls : List ℕ). IsHalf blocks targets n w c.args.low c.args.high c.args.seat c.scan_shares-seat-then-not-is_shared.result.0 gs ls) l.claims.items a.claims.items b.claims.items l.left.items a.left.items b.left.items j.0 j.1
+          (half_after blocks targets n w c.args.low middle c.args.high some lower upper c.args.seat c.scan_shares-seat.result.0 c.scan_shares-seat-then-not-is_shared.result.0 (map items a.claims.items) (map items b.claims.items) a.left.items b.left.items x y));
     }
 
 pub merge-requires : goal.merge-requires

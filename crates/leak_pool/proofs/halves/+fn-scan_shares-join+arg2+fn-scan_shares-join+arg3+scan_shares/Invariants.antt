@@ -1,8 +1,8 @@
 use Rattle.std.proofs.Common.{◌+◌, ◌-◌, ◌*◌}
-use Rattle.leak_pool.proofs.halves.+fn-half-join+arg2+fn-half-join+arg3+half.Given as goal
+use Rattle.leak_pool.proofs.halves.+fn-scan_shares-join+arg2+fn-scan_shares-join+arg3+scan_shares.Given as goal
 
-abbrev pub decreases-half : goal.decreases-half
-decreases-half g l = 2 * (l.high - l.low)
+abbrev pub decreases-scan_shares : goal.decreases-scan_shares
+decreases-scan_shares g l = 2 * (l.high - l.low)
 
 abbrev pub decreases-join+arg2 : goal.decreases-join+arg2
 decreases-join+arg2 g l = 2 * (l.high - l.middle) + 1

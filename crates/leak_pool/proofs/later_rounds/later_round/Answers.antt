@@ -13,7 +13,7 @@ use Rattle.leak_pool.proofs.GoingLemmas.{later_round, waiting_inside, all_blocks
 use Rattle.leak_pool.proofs.StepLemmas.{ok_both, two_steps}
 use Rattle.leak_pool.proofs.FromLemmas.{if_ok}
 use Rattle.leak_marks.proofs.ListLemmas.{there}
-use Rattle.leak_pool.proofs.later.later.Goals as goal
+use Rattle.leak_pool.proofs.later_rounds.later_round.Goals as goal
 
 -- what waits is of the scene's blocks
 waits : (scene : Scene) (p : Progress) (ws : Vec ℕ Global) → IsBetween scene p → ws ≡ p.waiting → (b : ℕ) → Has ws.items b → b < length scene.targets

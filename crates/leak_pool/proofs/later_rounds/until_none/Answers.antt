@@ -3,7 +3,7 @@ use Rattle.leak_pool.specs.Scene.{Scene}
 use Rattle.leak_pool.specs.declared.progress.Progress.{Progress}
 use Rattle.leak_pool.specs.Progress.{IsBetween}
 use Rattle.leak_pool.proofs.GoingLemmas.{going_few}
-use Rattle.leak_pool.proofs.later.until_none.Goals as goal
+use Rattle.leak_pool.proofs.later_rounds.until_none.Goals as goal
 
 few : (scene : Scene) (p : Progress) → IsBetween scene p → length p.seat.claims ≤ length scene.targets
 few scene p between = going_few _ _ _ _ _ _ _ between.going.1

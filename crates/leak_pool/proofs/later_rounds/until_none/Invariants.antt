@@ -1,6 +1,6 @@
 use Rattle.std.proofs.Common.{◌+◌, ◌-◌, ◌≤◌, length}
 use Rattle.leak_pool.specs.Progress.{IsBetween}
-use Rattle.leak_pool.proofs.later.until_none.Given as goal
+use Rattle.leak_pool.proofs.later_rounds.until_none.Given as goal
 
 abbrev pub invariant-until : goal.invariant-until
 invariant-until g l = record {

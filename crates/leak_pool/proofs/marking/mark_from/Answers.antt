@@ -22,8 +22,8 @@ invariant_of-scope g c =
           (parts_inside (length c.args.live.now.blocks) c.args.start.now.marked.items c.args.start.now.rescan.items c.requires.start.inside c.requires.start.rescan));
     }
 
-pub mark_over-requires-after_bounds : goal.mark_over-requires-after_bounds
-mark_over-requires-after_bounds g c κs within k d h =
+pub mark_by_rounds-requires-after_bounds : goal.mark_by_rounds-requires-after_bounds
+mark_by_rounds-requires-after_bounds g c κs within k d h =
     let w = g.W.Words.word_at c.args.words.now in let i = g.L.Lookup.index c.args.lookup.now in
     let v : c.as_slice-given.result.now ≡ c.args.start.now.marked.items = c.as_slice-given.ensures.value in
     let b = c.requires.start.inside (slice_index_or c.args.start.now.marked.items k d) (at_has_any c.args.start.now.marked.items k d (subst (λ (l : List ℕ). k < length l) v h)) in

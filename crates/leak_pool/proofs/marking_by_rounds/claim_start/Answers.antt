@@ -1,7 +1,7 @@
 use Rattle.std.proofs.Common.{◌∙◌, ◌+◌, take, get_or, arith}
 use Rattle.leak_pool.proofs.EndLemmas.{start_more}
 use Rattle.std.proofs.lemmas.List.{take_more}
-use Rattle.leak_pool.proofs.over.claim_start.Goals as goal
+use Rattle.leak_pool.proofs.marking_by_rounds.claim_start.Goals as goal
 
 pub loop-block-preserved : goal.loop-block-preserved
 loop-block-preserved c =

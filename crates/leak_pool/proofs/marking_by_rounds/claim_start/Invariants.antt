@@ -1,7 +1,7 @@
 use Rattle.std.proofs.Common.{◌≡◌, take}
 use Rattle.leak_marks.specs.Lists.{Within}
 use Rattle.leak_marks.specs.Seats.{IsSound}
-use Rattle.leak_pool.proofs.over.claim_start.Given as goal
+use Rattle.leak_pool.proofs.marking_by_rounds.claim_start.Given as goal
 
 abbrev pub invariant-loop-block : goal.invariant-loop-block
 invariant-loop-block l = record {

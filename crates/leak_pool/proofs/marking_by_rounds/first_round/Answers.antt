@@ -13,7 +13,7 @@ use Rattle.leak_pool.proofs.CountLemmas.{has_at}
 use Rattle.leak_pool.proofs.StepLemmas.{ok_both, one_step}
 use Rattle.leak_pool.proofs.EndLemmas.{going_first, first_going}
 use Rattle.leak_pool.proofs.ItemLemmas.{roots_long, root_at}
-use Rattle.leak_pool.proofs.over.first_round.Goals as goal
+use Rattle.leak_pool.proofs.marking_by_rounds.first_round.Goals as goal
 
 pub by_workers-requires-clause-items : goal.by_workers-requires-clause-items
 by_workers-requires-clause-items g c κs within k d h =

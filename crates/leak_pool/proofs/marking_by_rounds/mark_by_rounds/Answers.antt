@@ -3,7 +3,7 @@ use Rattle.leak_marks.specs.Lists.{mark_of}
 use Rattle.leak_pool.specs.Marking.{IsSet}
 use Rattle.leak_pool.specs.Rounds.{graph_over}
 use Rattle.leak_pool.proofs.EndLemmas.{marked_of_words, marked_none}
-use Rattle.leak_pool.proofs.over.mark_over.Goals as goal
+use Rattle.leak_pool.proofs.marking_by_rounds.mark_by_rounds.Goals as goal
 
 abbrev items : Vec ℕ Global → List ℕ
 items v = v.items

@@ -4,7 +4,7 @@ use Rattle.leak_pool.specs.Rounds.{AreWords, Going, graph_over}
 use Rattle.leak_pool.specs.Progress.{claims_of}
 use Rattle.leak_pool.proofs.StepLemmas.{ok_at}
 use Rattle.leak_pool.proofs.EndLemmas.{words_at_end}
-use Rattle.leak_pool.proofs.over.mark_words.Goals as goal
+use Rattle.leak_pool.proofs.marking_by_rounds.mark_words.Goals as goal
 
 abbrev items : Vec ℕ Global → List ℕ
 items v = v.items

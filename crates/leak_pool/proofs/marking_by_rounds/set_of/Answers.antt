@@ -1,7 +1,7 @@
 use Rattle.std.proofs.Common.{◌≡◌}
 use Rattle.leak_marks.specs.Lists.{mark_of}
 use Rattle.leak_pool.proofs.EndLemmas.{set_none, set_more}
-use Rattle.leak_pool.proofs.over.set_of.Goals as goal
+use Rattle.leak_pool.proofs.marking_by_rounds.set_of.Goals as goal
 
 pub loop-block-init : goal.loop-block-init
 loop-block-init c = set_none _ c.in_ok-set.set.items c.in_ok-set.ensures.items

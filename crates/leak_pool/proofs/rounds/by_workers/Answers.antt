@@ -20,15 +20,15 @@ returns-clause-done g c =
     let w : ℕ = scene.workers in
     let same_workers : c.search.inside.workers ≡ w = ap (λ (s : Scene). s.workers) c.search.view_is in
     let some : 0 < w = let s = c.search.invariant.some in omega arith in
-    let scanned = c.half-seat.ensures in
+    let scanned = c.scan_shares-seat.ensures in
     let gains : Gains = c.in_ok-gained.gained in
-    let done = subst (λ (k : ℕ). IfOk c.half-seat.result.1 (λ (g : Gains). IsHalf blocks targets n w 0 k p.seat c.half-seat.result.0 (map items g.claims.items) g.left.items)) same_workers scanned.done in
-    let h = ok_at c.half-seat.result.1 gains (λ (g : Gains). IsHalf blocks targets n w 0 w p.seat c.half-seat.result.0 (map items g.claims.items) g.left.items) c.in_ok-gained.was done in
+    let done = subst (λ (k : ℕ). IfOk c.scan_shares-seat.result.1 (λ (g : Gains). IsHalf blocks targets n w 0 k p.seat c.scan_shares-seat.result.0 (map items g.claims.items) g.left.items)) same_workers scanned.done in
+    let h = ok_at c.scan_shares-seat.result.1 gains (λ (g : Gains). IsHalf blocks targets n w 0 w p.seat c.scan_shares-seat.result.0 (map items g.claims.items) g.left.items) c.in_ok-gained.was done in
     let same : c.as_slice-2.result.now ≡ gains.claims.items = c.as_slice-2.ensures.value in
     let left : c.as_slice-left.result.now ≡ gains.left.items = c.as_slice-left.ensures.value in (
       map items gains.claims.items,
       gains.left.items,
-      step_of_half blocks targets n w (map items p.claims.items) p.waiting.items p.seat (map items c.absorb.new.claims.items) c.absorb.new.waiting.items c.half-seat.result.0 (map items gains.claims.items) gains.left.items
+      step_of_half blocks targets n w (map items p.claims.items) p.waiting.items p.seat (map items c.absorb.new.claims.items) c.absorb.new.waiting.items c.scan_shares-seat.result.0 (map items gains.claims.items) gains.left.items
           some h scanned.table scanned.share scanned.sound
           (c.in_ok-absorb.ensures.claims ∙ ap (λ (l : List (Vec ℕ Global)). appended_from 0 (map items p.claims.items) (map items l)) same)
           (c.in_ok-absorb.ensures.waiting ∙ ap (λ (l : List ℕ). p.waiting.items ++ l) left),
