@@ -1,6 +1,6 @@
 -- The words of a block in a run, and what is listed of them.
 use Rattle.std.proofs.Common.{◌≡◌, ℕ, ◌+◌, ◌-◌, ◌*◌, ◌/◌, ◌<◌, ◌≤◌, ◌^◌, refl, ap, sym, ◌∙◌, subst, List, [], ◌∷◌, ◌++◌, length, take, drop, Option, Some, append_assoc, arith}
-use Rattle.std.proofs.lemmas.List.{append-nil, length-drop}
+use Rattle.std.proofs.lemmas.List.{append-nil, length-append, length-drop}
 use Rattle.std.specs.Int.{w64}
 use Rattle.std.specs.List.{AllByRecursion}
 use Rattle.leak_elf.specs.Fields.{number_at}
@@ -41,6 +41,18 @@ word_listed index before now hits bytes later all word more led is whole =
 -- nothing is left
 pub all_listed : (index : Index) (now bytes all : List ℕ) → length bytes < 8 → now ++ targets_of index (words_in bytes) ≡ all → now ≡ all
 all_listed index now bytes all short whole = sym (append-nil now) ∙ ap (λ (l : List ℕ). now ++ l) (sym (ap (targets_of index) (words_none bytes short) ∙ targets_none index)) ∙ whole
+
+-- where the next hits don't fit, not all do
+pub all_over : (index : Index) (before start hits bytes later led : List ℕ) (word room : ℕ) → words_in bytes ≡ word ∷ words_in later → hits ≡ hits_of index word
+    → before ++ targets_of index (words_in bytes) ≡ start ++ led → room < length before + length hits → room < length start + length led
+all_over index before start hits bytes later led word room more is whole over =
+    let len : List ℕ → ℕ = λ (l : List ℕ). length l in
+    let rest : List ℕ = targets_of index (words_in later) in
+    let now : List ℕ = targets_of index (words_in bytes) in
+    let split : now ≡ hits ++ rest = ap (targets_of index) more ∙ targets_more index word (words_in later) ∙ ap (λ (l : List ℕ). l ++ rest) (sym is) in
+    let a : length now ≡ length hits + length rest = ap len split ∙ length-append hits rest in
+    let b : length before + length now ≡ length start + length led = sym (length-append before now) ∙ ap len whole ∙ length-append start led in
+    omega arith
 
 -- what is below one bound is below a greater one
 pub all_small : (n m : ℕ) (xs : List ℕ) → n ≤ m → AllByRecursion (λ b. b < n) xs → AllByRecursion (λ b. b < m) xs

@@ -1,5 +1,5 @@
 //! Lists what words lead to.
-ghost use Rattle.std.specs.Prelude.{◌≡◌, ◌<◌, ◌≤◌, ◌++◌, ◌∷◌, [], ◌^◌, length, IfOk, IsTrue};
+ghost use Rattle.std.specs.Prelude.{◌≡◌, ◌<◌, ◌≤◌, ◌+◌, ◌++◌, ◌∷◌, [], ◌^◌, length, IfOk, IsTrue, IsFalse};
 ghost use Rattle.std.specs.List.{AllByRecursion};
 ghost use Rattle.leak_index.specs.Hits.{hits_in};
 ghost use Rattle.leak_scan.specs.Targets.{targets_of};
@@ -22,6 +22,8 @@ pub fn list_run<L: Lookup>(
     ensures listed { IfOk result (λ fits. IsTrue fits →
         targets.new.items ≡ targets.old.items
         ++ targets_of (L.index lookup.now) (words_in run.now)) }
+    ensures over { let led = targets_of (L.index lookup.now) (words_in run.now) in
+        IfOk result (λ fits. IsFalse fits → room < length targets.old.items + length led) }
 {
     // (a law, for the proof: each hit is the number of a block)
     hits_are_blocks();
@@ -43,6 +45,8 @@ fn list_hits(hits: Hits, room: usize, targets: &mut Vec<u32>) -> Result<bool, Al
     ensures within { length targets.new.items ≤ room }
     ensures listed { IfOk result
         (λ fits. IsTrue fits → targets.new.items ≡ targets.old.items ++ hits_in hits) }
+    ensures over { IfOk result
+        (λ fits. IsFalse fits → room < length targets.old.items + length (hits_in hits)) }
 {
     match hits {
         Hits::Zero => Ok(true),
@@ -63,6 +67,7 @@ fn list_target(block: usize, room: usize, targets: &mut Vec<u32>) -> Result<bool
     ensures within { length targets.new.items ≤ room }
     ensures listed { IfOk result
         (λ fits. IsTrue fits → targets.new.items ≡ targets.old.items ++ block ∷ []) }
+    ensures over { IfOk result (λ fits. IsFalse fits → room ≤ length targets.old.items) }
 {
     if targets.len() >= room {
         return Ok(false);
