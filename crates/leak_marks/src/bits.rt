@@ -1,6 +1,6 @@
 //! Where a block's mark stands.
 ghost use Rattle.std.specs.Prelude.{◌≡◌, ◌/◌, ◌%◌, ◌^◌, ◌↔◌, IsTrue};
-ghost use Rattle.leak_marks.specs.Lists.{word_count};
+ghost use Rattle.leak_marks.specs.Lists.{mark_of, word_count};
 ghost use Rattle.std.specs.Int.{bit_at};
 
 /// The word of a block.
@@ -22,6 +22,16 @@ pub(crate) fn is_set(word: u64, block: u32) -> bool
     ensures { IsTrue result ↔ bit_at word (block % 64) ≡ 1 }
 {
     (word >> (block % 64)) & 1 == 1
+}
+
+/// Whether the mark of a block is set in the words that a table was closed with. Past them none is.
+pub fn is_marked(words: &[u64], block: u32) -> bool
+    ensures { IsTrue result ↔ (mark_of words.now block ≡ 1) }
+{
+    match words.get(word_of(block)) {
+        Some(word) => is_set(*word, block),
+        None => false,
+    }
 }
 
 /// The number of words for so many blocks.

@@ -22,6 +22,7 @@ mod rule;
 mod seat;
 mod view;
 
+pub use bits::is_marked;
 pub use claims::Claims;
 pub use marks::Marks;
 pub use seat::MarkSeat;

@@ -1,6 +1,6 @@
 //! Marking by workers, from a start, over any source.
-ghost use Rattle.std.specs.Prelude.{◌≡◌, ◌<◌, ◌≤◌, ◌+◌, [], ◌/◌, ◌↔◌, length, replicate, All, IfOk, IsTrue};
-ghost use Rattle.leak_marks.specs.Lists.{Within, mark_of, word_count};
+ghost use Rattle.std.specs.Prelude.{◌≡◌, ◌<◌, [], length, replicate, All, IfOk};
+ghost use Rattle.leak_marks.specs.Lists.{Within, mark_of};
 ghost use Rattle.leak_marks.specs.Seats.{IsSound};
 ghost use Rattle.leak_pool.specs.Promises.{as_lists};
 ghost use Rattle.leak_pool.specs.Rounds.{AreWords, IsMarked, graph_over};
@@ -17,7 +17,7 @@ use crate::rounds::by_workers;
 use crate::search::Search;
 use crate::source::{Source, targets_are_blocks};
 use leak_marks::laws::whole_runs;
-use leak_marks::{MarkSeat, Marks};
+use leak_marks::{MarkSeat, Marks, is_marked};
 use std::alloc::{AllocError, Global};
 use std::thread::Threads;
 
@@ -105,17 +105,8 @@ fn mark_words<R: Threads + Sync, S: Source + Sync, G: Gate + Sync>(
     Ok((words, progress.claims, rounds))
 }
 
-// Whether the mark of a block is set: bit `block % 64` of word `block / 64`.
-fn is_marked(words: &[u64], block: u32) -> bool
-    requires { block / 64 < length words.now }
-    ensures { IsTrue result ↔ (mark_of words.now block ≡ 1) }
-{
-    (words[(block / 64) as usize] >> (block % 64)) & 1 == 1
-}
-
 // For each block whether its mark is set.
 fn set_of(alloc: Global, words: &[u64], blocks: u32) -> Result<Vec<bool>, AllocError>
-    requires { word_count blocks ≤ length words.now }
     ensures { IfOk result (λ set. IsSet set.items blocks (λ b. mark_of words.now b ≡ 1)) }
 {
     let mut set = Vec::with_capacity(alloc, blocks as usize)?;
