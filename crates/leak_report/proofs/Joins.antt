@@ -124,7 +124,7 @@ AreGroups-push prefix log blocks b key old new are place is steps = λ k. steps 
         step k false false (tests k ∙ other_key prefix text k f) f
         ∙ ap (λ s. cond s (row_with log (blocks ++ b ∷ []) k.1.now) None) (sym f)
 
-row_from-fits : (leaks : List Leak) (b : Block) → length leaks + 1 < 2 ^ 64 → bytes_in leaks + b.size < 2 ^ 64
+pub row_from-fits : (leaks : List Leak) (b : Block) → length leaks + 1 < 2 ^ 64 → bytes_in leaks + b.size < 2 ^ 64
     → IfSome (row_from leaks) (λ row. HasRoom row b)
 row_from-fits [] b h k = tt
 row_from-fits (l ∷ leaks) b h k = record { blocks = h; bytes = k; heads = few_heads (l ∷ leaks) }

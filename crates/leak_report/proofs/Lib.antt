@@ -1,6 +1,7 @@
 pub mod Writes
 pub mod Leaks
 pub mod Joins
+pub mod Listed
 pub mod Members
 pub mod Ranks
 pub mod Firsts

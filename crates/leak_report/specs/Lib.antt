@@ -1,6 +1,7 @@
 pub mod Totals
 pub mod Places
 pub mod Groups
+pub mod Listing
 pub mod Laws
 pub mod Lines
 pub mod Misfits

@@ -5,6 +5,7 @@ ghost use Rattle.std.specs.Ordering.{nat_cmp};
 ghost use Rattle.std.specs.BTreeMap.{get, values, IsOrdered};
 ghost use Rattle.leak_report.specs.Totals.{leaks_in, bytes_of, HaveCallersIn};
 ghost use Rattle.leak_report.specs.Groups.{HasRoom, HasLeakAdded, order_of_keys, AreGroups};
+ghost use Rattle.leak_report.specs.Listing.{ArePlaced, AreByPlace};
 
 use crate::lines::caller_text;
 use crate::places::place;
@@ -49,7 +50,59 @@ fn add<'a>(
     Ok(())
 }
 
+/// A leaked block.
+#[derive(Clone, Copy)]
+pub(crate) struct PlacedLeak {
+    /// The place of its caller's text.
+    pub(crate) place: u64,
+    /// Its number among all blocks.
+    pub(crate) number: usize,
+}
+
+/// The blocks that the set leaves out, by ascending number.
+fn leaks_with_places(
+    alloc: Global,
+    prefix: &[u8],
+    blocks: &[Block],
+    set: &[bool],
+    log: &[u8],
+) -> Result<Vec<PlacedLeak>, AllocError>
+    requires one_each { length set.now ≡ length blocks.now }
+    requires in_log { HaveCallersIn log.now blocks.now }
+    ensures { IfOk result (λ leaks.
+        ArePlaced prefix.now log.now set.now blocks.now leaks.items) }
+{
+    let mut leaks = Vec::new(alloc);
+    for (i, block) in blocks.iter().enumerate() {
+        if !set[i] {
+            let place = place(prefix, caller_text(log, block.caller));
+            leaks.push(PlacedLeak { place, number: i })?;
+        }
+    }
+    Ok(leaks)
+}
+
+/// The blocks that the set leaves out, by ascending place. Those of one place stay in order, and so do those of one text.
+fn leaks_by_place(
+    alloc: Global,
+    prefix: &[u8],
+    blocks: &[Block],
+    set: &[bool],
+    log: &[u8],
+) -> Result<Vec<PlacedLeak>, AllocError>
+    requires one_each { length set.now ≡ length blocks.now }
+    requires in_log { HaveCallersIn log.now blocks.now }
+    ensures { IfOk result (λ leaks.
+        AreByPlace prefix.now log.now set.now blocks.now leaks.items) }
+{
+    let mut leaks = leaks_with_places(alloc, prefix, blocks, set, log)?;
+    leaks.sort_by_key(|leak| leak.place)?;
+    Ok(leaks)
+}
+
 /// The rows of the blocks that the set leaves out, by the text of their caller and its place by the prefix.
+///
+/// Keys that ascend are put at the map's end one after another, however many there are.
 pub fn leaked_groups<'a>(
     alloc: Global,
     prefix: &[u8],
@@ -64,12 +117,12 @@ pub fn leaked_groups<'a>(
     requires fits { bytes_of blocks.now < 2 ^ 64 }
     ensures { IfOk result (AreGroups prefix.now log.now (leaks_in set.now heads.now blocks.now)) }
 {
+    let leaks = leaks_by_place(alloc, prefix, blocks, set, log)?;
     let mut groups = BTreeMap::new(alloc);
-    for (i, block) in blocks.iter().enumerate() {
-        if !set[i] {
-            let text = caller_text(log, block.caller);
-            add(&mut groups, (place(prefix, text), text), block, heads[i])?;
-        }
+    for leak in leaks.as_slice() {
+        let block = &blocks[leak.number];
+        let key = (leak.place, caller_text(log, block.caller));
+        add(&mut groups, key, block, heads[leak.number])?;
     }
     Ok(groups)
 }

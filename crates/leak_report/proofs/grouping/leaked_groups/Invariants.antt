@@ -1,8 +1,8 @@
-use Rattle.std.proofs.Common.{take}
-use Rattle.leak_report.specs.Totals.{leaks_in}
+-- The rows of the leaked blocks so far, by place.
+use Rattle.std.proofs.Common.{map, take}
 use Rattle.leak_report.specs.Groups.{AreGroups}
+use Rattle.leak_report.specs.Listing.{leak_of}
 use Rattle.leak_report.proofs.grouping.leaked_groups.Given as goal
 
--- the rows of the blocks so far
-abbrev pub invariant-loop-i : goal.invariant-loop-i
-invariant-loop-i l = AreGroups l.prefix l.log (leaks_in (take l.i l.set) (take l.i l.heads) (take l.i l.blocks)) l.groups
+abbrev pub invariant-loop-leak : goal.invariant-loop-leak
+invariant-loop-leak l = AreGroups l.prefix l.log (map (leak_of l.heads l.blocks) (take l.leak-index l.leak-items)) l.groups

@@ -1,0 +1,201 @@
+-- Leaked blocks by the places of their callers' texts.
+use Rattle.std.proofs.Common.{◌≡◌, ℕ, zero, suc, ◌+◌, ◌^◌, ◌<◌, ◌≤◌, Bool, true, false, not, ◌&&◌, cond, List, [], ◌∷◌, ◌++◌, length, take, get_or, map, filter, bytes_eq, Option, None, IfSome, refl, sym, ap, subst, ◌∙◌, arith, add-one}
+use Rattle.std.specs.List.{All, AllByRecursion, sum_by}
+use Rattle.std.specs.List.Sorted.{IsPermutation, IsStableByKey}
+use Rattle.std.specs.Bool.{Decides}
+use Rattle.std.specs.BTreeMap.{BTreeMap}
+use Rattle.std.specs.Prelude.{nat_eq}
+use Rattle.std.specs.Ordering.{nat_cmp, is_lt}
+use Rattle.std.specs.declared.cmp.Ordering.{Ordering}
+use Rattle.std.specs.declared.cmp.Ordering.TheVariants.{Equal}
+use Rattle.std.proofs.lemmas.Cmp.{tied_itself, nat_cmp_total}
+use Rattle.std.proofs.lemmas.List.{map_push, take_all, take_more, take-map, length-map, length-append, length-take-le}
+use Rattle.std.proofs.lemmas.List.Sums.{sum_by_push, sum_by-take-le, sum_by-cons}
+use Rattle.std.proofs.lemmas.List.Filters.{length-filter_both, sum_by-filter_both}
+use Rattle.std.proofs.lemmas.List.Sorted.{All-permutation, sum_by-IsPermutation, length_permutation}
+use Rattle.std.proofs.lemmas.Slice.Eq.{bytes_eq-Decides}
+use Rattle.leak_blocks.specs.declared.block.Block.{Block}
+use Rattle.leak_report.specs.declared.totals.CallerRow.{CallerRow}
+use Rattle.leak_report.specs.declared.grouping.PlacedLeak.{PlacedLeak}
+use Rattle.leak_report.specs.Places.{place_of}
+use Rattle.leak_report.specs.Totals.{Leak, leaks_in, bytes_of, bytes_in, text_at, with_text}
+use Rattle.leak_report.specs.Groups.{Key, HasRoom, AreGroups, row_from, row_with}
+use Rattle.leak_report.specs.Listing.{IsPlaced, ArePlaced, AreByPlace, block_of, leak_of}
+use Rattle.leak_report.proofs.Leaks.{leaks_push, leaks_stay, bytes_in-leaks, length-leaks}
+use Rattle.leak_report.proofs.Joins.{row_from-fits}
+
+-- ---- listing
+
+all_push : {X : Type 0} (P : X → Type 0) (xs : List X) (x : X) → AllByRecursion P xs → P x → AllByRecursion P (xs ++ x ∷ [])
+all_push P [] x all here = (here, tt)
+all_push P (y ∷ xs) x all here = (all.0, all_push P xs x all.1 here)
+
+all_at : {X : Type 0} (P : X → Type 0) (xs : List X) → AllByRecursion P xs → All P xs
+all_at P [] all k d h = absurd (omega arith)
+all_at P (x ∷ xs) all zero d h = all.0
+all_at P (x ∷ xs) all (suc k) d h = all_at P xs all.1 k d (omega arith)
+
+-- those among the first blocks
+pub record AreFirst (prefix log : List ℕ) (set : List Bool) (blocks : List Block) (i : ℕ) (placed : List PlacedLeak) : Type 0 where
+  pub leaks : (heads : List Bool) → length heads ≡ length blocks → map (leak_of heads blocks) placed ≡ leaks_in (take i set) (take i heads) (take i blocks)
+  pub each : AllByRecursion (IsPlaced prefix log blocks) placed
+
+pub first_none : (prefix log : List ℕ) (set : List Bool) (blocks : List Block) → AreFirst prefix log set blocks 0 []
+first_none prefix log set blocks = record { leaks = λ heads e. refl; each = tt }
+
+pub first_more : (prefix log : List ℕ) (set : List Bool) (blocks : List Block) (i place : ℕ) (placed : List PlacedLeak) → AreFirst prefix log set blocks i placed
+    → length set ≡ length blocks → i < length blocks → get_or set i false ≡ false
+    → place ≡ place_of prefix (text_at log (block_of blocks (record { place = place; number = i })).caller)
+    → AreFirst prefix log set blocks (i + 1) (placed ++ record { place = place; number = i } ∷ [])
+first_more prefix log set blocks i place placed first same h out is =
+    let p : PlacedLeak = record { place = place; number = i } in
+    record {
+      leaks = λ heads e.
+          map_push (leak_of heads blocks) placed p
+          ∙ ap (λ (ls : List Leak). ls ++ leak_of heads blocks p ∷ []) (first.leaks heads e)
+          ∙ sym (leaks_push set heads blocks i false false (record { start = 0; size = 0; line = 0; caller = (0, 0) }) (omega arith) (omega arith) h out)
+          ∙ ap (λ (n : ℕ). leaks_in (take n set) (take n heads) (take n blocks)) (sym (add-one i));
+      each = all_push (IsPlaced prefix log blocks) placed p first.each (record { inside = h; place = is });
+    }
+
+pub first_same : (prefix log : List ℕ) (set : List Bool) (blocks : List Block) (i : ℕ) (placed : List PlacedLeak) → AreFirst prefix log set blocks i placed
+    → length set ≡ length blocks → i < length blocks → get_or set i false ≡ true → AreFirst prefix log set blocks (i + 1) placed
+first_same prefix log set blocks i placed first same h out = record {
+  leaks = λ heads e.
+      first.leaks heads e
+      ∙ sym (leaks_stay set heads blocks i false (omega arith) (omega arith) h out)
+      ∙ ap (λ (n : ℕ). leaks_in (take n set) (take n heads) (take n blocks)) (sym (add-one i));
+  each = first.each;
+}
+
+pub first_all : (prefix log : List ℕ) (set : List Bool) (blocks : List Block) (i : ℕ) (placed : List PlacedLeak) → AreFirst prefix log set blocks i placed
+    → length set ≡ length blocks → length blocks ≤ i → ArePlaced prefix log set blocks placed
+first_all prefix log set blocks i placed first same h = record {
+  leaks = λ heads e. first.leaks heads e ∙ rw (take_all i set (omega arith), take_all i heads (omega arith), take_all i blocks h) refl;
+  each = first.each;
+}
+
+-- ---- sorting
+
+pub each_sorted : (prefix log : List ℕ) (set : List Bool) (blocks : List Block) (sorted : List PlacedLeak) → AreByPlace prefix log set blocks sorted
+    → All (IsPlaced prefix log blocks) sorted
+each_sorted prefix log set blocks sorted by =
+    All-permutation (IsPlaced prefix log blocks) by.listed sorted by.permutation (all_at (IsPlaced prefix log blocks) by.listed by.placed.each)
+
+-- what is picked by a test stays what it was where only others are left out first
+narrowed : {X : Type 0} (q r : X → Bool) (xs : List X) → All (λ x. q x ≡ true → r x ≡ true) xs → filter q xs ≡ filter q (filter r xs)
+narrowed q r [] all = refl
+narrowed q r (x ∷ xs) all = go (q x) (r x) refl refl (narrowed q r xs (λ k d h. all (suc k) d (omega arith)))
+  where
+    go : (s t : Bool) → q x ≡ s → r x ≡ t → filter q xs ≡ filter q (filter r xs) → filter q (x ∷ xs) ≡ filter q (filter r (x ∷ xs))
+    go true true e f rest = rw (f, e) (ap (λ ys. x ∷ ys) rest)
+    go true false e f rest = absurd (let g : r x ≡ true = all 0 x (omega arith) e in cc)
+    go false true e f rest = rw (f, e) rest
+    go false false e f rest = rw (f, e) rest
+
+filter_map : {X Y : Type 0} (f : X → Y) (q : Y → Bool) (xs : List X) → filter q (map f xs) ≡ map f (filter (λ x. q (f x)) xs)
+filter_map f q [] = refl
+filter_map f q (x ∷ xs) = go (q (f x)) refl (filter_map f q xs)
+  where
+    go : (t : Bool) → q (f x) ≡ t → filter q (map f xs) ≡ map f (filter (λ x. q (f x)) xs) → filter q (map f (x ∷ xs)) ≡ map f (filter (λ x. q (f x)) (x ∷ xs))
+    go true e rest = rw e (ap (λ ys. f x ∷ ys) rest)
+    go false e rest = rw e rest
+
+-- the numbers of one place tie
+same_place : (m n : ℕ) → m ≡ n → (not (is_lt (nat_cmp m n)) && not (is_lt (nat_cmp n m))) ≡ true
+same_place m n e = rw (e, tied_itself nat_cmp_total n) refl
+
+-- those of one text are those that they were, in the same order
+text_stays : (prefix log : List ℕ) (set heads : List Bool) (blocks : List Block) (sorted : List PlacedLeak) (text : List ℕ) → AreByPlace prefix log set blocks sorted
+    → length heads ≡ length blocks → with_text log text (map (leak_of heads blocks) sorted) ≡ with_text log text (leaks_in set heads blocks)
+text_stays prefix log set heads blocks sorted text by e =
+    let f : PlacedLeak → Leak = leak_of heads blocks in
+    let q : Leak → Bool = λ l. bytes_eq (text_at log l.block.caller) text in
+    let g : PlacedLeak → Bool = λ p. bytes_eq (text_at log (block_of blocks p).caller) text in
+    let at : PlacedLeak = record { place = place_of prefix text; number = 0 } in
+    let t : PlacedLeak → Bool = λ p. not (is_lt (nat_cmp at.place p.place)) && not (is_lt (nat_cmp p.place at.place)) in
+    let ties : (xs : List PlacedLeak) → All (IsPlaced prefix log blocks) xs → All (λ p. g p ≡ true → t p ≡ true) xs =
+    λ xs all k d h is. same_place at.place (get_or xs k d).place
+    (ap (place_of prefix) (sym ((bytes_eq-Decides (text_at log (block_of blocks (get_or xs k d)).caller) text).0 is)) ∙ sym (all k d h).place) in
+    let each : All (IsPlaced prefix log blocks) by.listed = all_at (IsPlaced prefix log blocks) by.listed by.placed.each in
+    filter_map f q sorted
+    ∙ ap (map f) (narrowed g t sorted (ties sorted (each_sorted prefix log set blocks sorted by)))
+    ∙ ap (λ xs. map f (filter g xs)) (by.stable at)
+    ∙ ap (map f) (sym (narrowed g t by.listed (ties by.listed each)))
+    ∙ sym (filter_map f q by.listed)
+    ∙ ap (filter q) (by.placed.leaks heads e)
+
+pub groups_sorted : (prefix log : List ℕ) (set heads : List Bool) (blocks : List Block) (sorted : List PlacedLeak) (groups : BTreeMap Key CallerRow) → AreByPlace prefix log set blocks sorted
+    → length heads ≡ length blocks → AreGroups prefix log (map (leak_of heads blocks) sorted) groups → AreGroups prefix log (leaks_in set heads blocks) groups
+groups_sorted prefix log set heads blocks sorted groups by e are = λ k.
+    are k ∙ ap (λ (ls : List Leak). cond (nat_eq k.0 (place_of prefix k.1.now)) (row_from ls) None) (text_stays prefix log set heads blocks sorted k.1.now by e)
+
+-- ---- room
+
+-- a row of the first of some leaked blocks has room for the next
+row_fits : (log : List ℕ) (leaks : List Leak) (i : ℕ) (d : Leak) (text : List ℕ) (r : Option CallerRow) → r ≡ row_with log (take i leaks) text → i < length leaks
+    → length leaks < 2 ^ 64 → bytes_in leaks < 2 ^ 64 → IfSome r (λ row. HasRoom row (get_or leaks i d).block)
+row_fits log leaks i d text r is h fits sum =
+    let before : List Leak = take i leaks in
+    let leak : Leak = get_or leaks i d in
+    let has : Leak → Bool = λ (x : Leak). bytes_eq (text_at log x.block.caller) text in
+    let size : Leak → ℕ = λ (x : Leak). x.block.size in
+    let more : take (i + 1) leaks ≡ before ++ leak ∷ [] = take_more leaks i d h in
+    let wide : bytes_in (before ++ leak ∷ []) ≤ bytes_in leaks = subst (λ (xs : List Leak). bytes_in xs ≤ bytes_in leaks) more (sum_by-take-le size leaks (i + 1)) in
+    subst (λ (o : Option CallerRow). IfSome o (λ row. HasRoom row leak.block)) (sym is)
+    (row_from-fits (with_text log text before) leak.block
+    (omega (arith, length-filter_both has (λ x. not (has x)) (λ x. refl) before, length-take-le i leaks (omega arith), h, fits))
+    (omega (arith, sum_by-filter_both has (λ x. not (has x)) (λ x. refl) size before, sum_by_push size before leak, wide, sum)))
+
+sum_of_map : {X Y : Type 0} (f : X → Y) (g : Y → ℕ) (xs : List X) → sum_by g (map f xs) ≡ sum_by (λ x. g (f x)) xs
+sum_of_map f g [] = refl
+sum_of_map f g (x ∷ xs) = sum_by-cons g (f x) (map f xs) ∙ ap (λ (n : ℕ). g (f x) + n) (sum_of_map f g xs) ∙ sym (sum_by-cons (λ y. g (f y)) x xs)
+
+pub sorted_fits : (prefix log : List ℕ) (set heads : List Bool) (blocks : List Block) (sorted : List PlacedLeak) (i : ℕ) (d : PlacedLeak) (text : List ℕ) (r : Option CallerRow)
+    → AreByPlace prefix log set blocks sorted → length heads ≡ length blocks → r ≡ row_with log (map (leak_of heads blocks) (take i sorted)) text → i < length sorted
+    → length blocks < 2 ^ 64 → bytes_of blocks < 2 ^ 64 → IfSome r (λ row. HasRoom row (block_of blocks (get_or sorted i d)))
+sorted_fits prefix log set heads blocks sorted i d text r by e is h fits sum =
+    let f : PlacedLeak → Leak = leak_of heads blocks in
+    let size : Leak → ℕ = λ (x : Leak). x.block.size in
+    let all : List Leak = leaks_in set heads blocks in
+    let many : length (map f sorted) ≤ length blocks = omega (
+      arith,
+      length-map sorted f,
+      length_permutation by.listed sorted by.permutation,
+      length-map by.listed f,
+      ap (λ (xs : List Leak). length xs) (by.placed.leaks heads e),
+      length-leaks set heads blocks,
+    ) in
+    let wide : bytes_in (map f sorted) ≤ bytes_of blocks = omega (
+      arith,
+      sum_of_map f size sorted,
+      sum_by-IsPermutation (λ (p : PlacedLeak). size (f p)) by.listed sorted by.permutation,
+      sum_of_map f size by.listed,
+      ap bytes_in (by.placed.leaks heads e),
+      bytes_in-leaks set heads blocks,
+    ) in
+    let at : get_or (map f sorted) i (f d) ≡ f (get_or sorted i d) = map_at f sorted i d h in
+    subst (λ (l : Leak). IfSome r (λ row. HasRoom row l.block)) at
+    (row_fits log (map f sorted) i (f d) text r (is ∙ ap (λ (ls : List Leak). row_with log ls text) (sym (take-map f i sorted))) (omega (arith, length-map sorted f, h)) (omega (arith, many, fits)) (omega (arith, wide, sum)))
+  where
+    map_at : {X Y : Type 0} (f : X → Y) (xs : List X) (i : ℕ) (d : X) → i < length xs → get_or (map f xs) i (f d) ≡ f (get_or xs i d)
+    map_at f [] i d h = refl
+    map_at f (x ∷ xs) zero d h = refl
+    map_at f (x ∷ xs) (suc i) d h = map_at f xs i d (omega arith)
+
+-- the first, and one more
+pub sorted_more : (heads : List Bool) (blocks : List Block) (sorted : List PlacedLeak) (i : ℕ) (d : PlacedLeak) → i < length sorted
+    → map (leak_of heads blocks) (take (i + 1) sorted) ≡ map (leak_of heads blocks) (take i sorted) ++ leak_of heads blocks (get_or sorted i d) ∷ []
+sorted_more heads blocks sorted i d h = ap (map (leak_of heads blocks)) (take_more sorted i d h) ∙ map_push (leak_of heads blocks) (take i sorted) (get_or sorted i d)
+
+cond_same : {X : Type 0} (t : Bool) (x : X) → cond t x x ≡ x
+cond_same true x = refl
+cond_same false x = refl
+
+pub sorted_none : (prefix log : List ℕ) (groups : BTreeMap Key CallerRow) → groups.entries ≡ [] → AreGroups prefix log [] groups
+sorted_none prefix log groups is = λ k. rw is (sym (cond_same {X = Option CallerRow} (nat_eq k.0 (place_of prefix k.1.now)) None))
+
+pub inside_sorted : (prefix log : List ℕ) (set : List Bool) (blocks : List Block) (listed sorted : List PlacedLeak) (i : ℕ) (d : PlacedLeak) → AreByPlace prefix log set blocks listed
+    → sorted ≡ listed → i < length sorted → IsPlaced prefix log blocks (get_or sorted i d)
+inside_sorted prefix log set blocks listed sorted i d by same h =
+    subst (λ (xs : List PlacedLeak). All (IsPlaced prefix log blocks) xs) (sym same) (each_sorted prefix log set blocks listed by) i d h
