@@ -22,7 +22,7 @@ use std::rt::Env;
 use std::thread::Threads;
 
 /// The calls, by name.
-static CALLS: [&str; 39] = [
+static CALLS: [&str; 41] = [
     "core_k",
     "Image::read",
     "Threads::read",
@@ -59,8 +59,10 @@ static CALLS: [&str; 39] = [
     "find_why",
     "read_all",
     "run",
+    "run_sized",
     "run_two",
     "run_why",
+    "run_why_sized",
     "request",
 ];
 
@@ -143,8 +145,10 @@ fn answer_of<R: AllocGlobal + Threads + Sync>(rt: &R, name: &str) -> Option<Answ
         "find_why" => whole::held_by(alloc),
         "read_all" => whole::input(alloc),
         "run" => whole::runs(rt),
+        "run_sized" => whole::runs_sized(rt),
         "run_two" => whole::runs_two(rt),
         "run_why" => whole::runs_why(alloc),
+        "run_why_sized" => whole::runs_why_sized(alloc),
         "request" => whole::command_line(alloc),
         _ => None,
     }

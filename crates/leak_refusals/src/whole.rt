@@ -1,10 +1,12 @@
 //! The calls that search from bytes to a report.
 
+ghost use Rattle.std.specs.Prelude.{◌≡◌};
+
 use crate::answer::Answer;
 use crate::samples::{MOVED, ONE_BLOCK, Sample, TWO_BLOCKS, chain, core_of, set, vector_core};
 use leak_find::{
     FindError, Found, Options, ReadFault, RunFault, Skip, UsageFault, WhyError, find_alone,
-    find_one, find_two, find_why, read_all, request, run, run_why,
+    find_one, find_two, find_why, read_all, request, run, run_sized, run_why, run_why_sized,
 };
 use leak_index::Reading;
 use leak_pool::{Open, Plan};
@@ -233,11 +235,29 @@ fn is_wanting(fault: &RunFault) -> bool {
     }
 }
 
+/// How the runs search, by so many workers.
+fn options(two: bool, plan: Plan) -> Options
+    ensures { result.two ≡ two }
+{
+    Options {
+        two,
+        reading: Reading::interior(),
+        skip: Skip::none(),
+        plan,
+        other_heap: false,
+        check: false,
+        strict: false,
+        core_limit: 8192,
+        log_limit: 8192,
+    }
+}
+
 /// What a run over the inputs answers, where it is to write the report and to end with the status. The writer has room for
-/// all of it, and after want of memory nothing is written.
+/// all of it, and after want of memory nothing is written. Where sizes are given, the readers come with them.
 fn run_of<R: AllocGlobal + Threads + Sync>(
     rt: &R,
     inputs: Vec<Vec<u8>>,
+    sizes: Option<&[u64]>,
     two: bool,
     report: &str,
     status: u8,
@@ -246,30 +266,26 @@ fn run_of<R: AllocGlobal + Threads + Sync>(
     for input in inputs {
         readers.push(Cursor::new(input)).ok()?;
     }
-    let options = Options {
-        two,
-        reading: Reading::interior(),
-        skip: Skip::none(),
-        plan: Plan::new(3, 16, 4).ok()?,
-        other_heap: false,
-        check: false,
-        strict: false,
-        core_limit: 8192,
-        log_limit: 8192,
-    };
+    let options = options(two, Plan::new(3, 16, 4).ok()?);
     if readers.len() != if two { 4 } else { 2 } {
         return Some(Answer::Other);
     }
     let mut written: Vec<u8> = Vec::with_capacity(rt.alloc(), 1000).ok()?;
     let mut warned: Vec<u8> = Vec::with_capacity(rt.alloc(), 1000).ok()?;
-    match run(
-        rt,
-        rt.alloc(),
-        readers.as_mut_slice(),
-        &options,
-        &mut written,
-        &mut warned,
-    ) {
+    let (alloc, readers) = (rt.alloc(), readers.as_mut_slice());
+    let answer = match sizes {
+        Some(sizes) => run_sized(
+            rt,
+            alloc,
+            readers,
+            sizes,
+            &options,
+            &mut written,
+            &mut warned,
+        ),
+        None => run(rt, alloc, readers, &options, &mut written, &mut warned),
+    };
+    match answer {
         Ok(given) => Some(Answer::of(given == status && written.as_slice() == report.as_bytes())),
         Err(fault) => Some(Answer::of_refusal(
             is_wanting(&fault) && written.is_empty() && warned.is_empty(),
@@ -279,6 +295,16 @@ fn run_of<R: AllocGlobal + Threads + Sync>(
 
 /// `run` over one lost block, and over one that is held.
 pub(crate) fn runs<R: AllocGlobal + Threads + Sync>(rt: &R) -> Option<Answer> {
+    lost_and_held(rt, None)
+}
+
+/// `run_sized` over the same, with the sizes of the core and the log.
+pub(crate) fn runs_sized<R: AllocGlobal + Threads + Sync>(rt: &R) -> Option<Answer> {
+    lost_and_held(rt, Some(&[8192, ONE_BLOCK.len() as u64]))
+}
+
+/// A run over one lost block, and over one that is held.
+fn lost_and_held<R: AllocGlobal + Threads + Sync>(rt: &R, sizes: Option<&[u64]>) -> Option<Answer> {
     let alloc = rt.alloc();
     let mut lost = Vec::new(alloc);
     lost.push(core_of(alloc, &[])?).ok()?;
@@ -286,8 +312,8 @@ pub(crate) fn runs<R: AllocGlobal + Threads + Sync>(rt: &R) -> Option<Answer> {
     let mut held = Vec::new(alloc);
     held.push(core_of(alloc, &[(0x10008, 0x10100)])?).ok()?;
     held.push(ONE_BLOCK.as_bytes().to_vec(alloc).ok()?).ok()?;
-    let first = run_of(rt, lost, false, LOST, 1)?;
-    Some(first.worse(run_of(rt, held, false, HELD, 0)?))
+    let first = run_of(rt, lost, sizes, false, LOST, 1)?;
+    Some(first.worse(run_of(rt, held, sizes, false, HELD, 0)?))
 }
 
 /// `run` over two cores.
@@ -298,7 +324,7 @@ pub(crate) fn runs_two<R: AllocGlobal + Threads + Sync>(rt: &R) -> Option<Answer
     inputs.push(TWO_BLOCKS.as_bytes().to_vec(alloc).ok()?).ok()?;
     inputs.push(later_core(alloc)?).ok()?;
     inputs.push(MOVED.as_bytes().to_vec(alloc).ok()?).ok()?;
-    run_of(rt, inputs, true, TWO, 0)
+    run_of(rt, inputs, None, true, TWO, 0)
 }
 
 /// Two blocks, the first of which holds the second.
@@ -336,28 +362,32 @@ pub(crate) fn held_by(alloc: Global) -> Option<Answer> {
 
 /// `run_why` of the same block.
 pub(crate) fn runs_why(alloc: Global) -> Option<Answer> {
+    why_of(alloc, None)
+}
+
+/// `run_why_sized` of the same block, with the sizes of the core and the log.
+pub(crate) fn runs_why_sized(alloc: Global) -> Option<Answer> {
+    why_of(alloc, Some(&[8192, HOLDING.len() as u64]))
+}
+
+/// What a run that asks for the block answers. Where sizes are given, the readers come with them.
+fn why_of(alloc: Global, sizes: Option<&[u64]>) -> Option<Answer> {
     let mut readers = Vec::new(alloc);
     readers.push(Cursor::new(holding_core(alloc)?)).ok()?;
     readers
         .push(Cursor::new(HOLDING.as_bytes().to_vec(alloc).ok()?))
         .ok()?;
-    let options = Options {
-        two: false,
-        reading: Reading::interior(),
-        skip: Skip::none(),
-        plan: Plan::new(1, 1, 0).ok()?,
-        other_heap: false,
-        check: false,
-        strict: false,
-        core_limit: 8192,
-        log_limit: 8192,
-    };
+    let options = options(false, Plan::new(1, 1, 0).ok()?);
     if readers.len() != 2 {
         return Some(Answer::Other);
     }
     let mut written: Vec<u8> = Vec::with_capacity(alloc, 1000).ok()?;
     let readers = readers.as_mut_slice();
-    let answer = match run_why(alloc, readers, &options, 0x10200, &mut written) {
+    let answer = match sizes {
+        Some(sizes) => run_why_sized(alloc, readers, sizes, &options, 0x10200, &mut written),
+        None => run_why(alloc, readers, &options, 0x10200, &mut written),
+    };
+    let answer = match answer {
         Ok(status) => Answer::of(status == 0 && written.as_slice() == ASKED.as_bytes()),
         Err(fault) => Answer::of_refusal(is_wanting(&fault) && written.is_empty()),
     };
