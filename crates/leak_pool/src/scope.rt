@@ -33,7 +33,7 @@ pub(crate) struct Scope<'a, W: Words, L: Lookup> {
     ghost same: { (L.index lookup.now).blocks ≡ blocks.now },
     ghost few: { length blocks.now < 2 ^ 32 },
     ghost in_roots: { ArePieces roots.now pieces.now } by { pieces_prop roots.now pieces.now },
-    ghost in_blocks: { AreParts (length blocks.now) rescan.now } by { parts_prop (length blocks.now) rescan.now },
+    ghost in_blocks: { AreParts (length blocks.now) rescan.now } by { parts_prop _ _ },
 }
 
 impl<'a, W: Words, L: Lookup> Scope<'a, W, L> {
