@@ -1,5 +1,5 @@
 -- The spans of small allocations, and their addresses as ranges that are apart.
-use Rattle.std.proofs.Common.{◌≡◌, ℕ, ◌+◌, ◌-◌, ◌<◌, ◌≤◌, max, leb, Bool, true, false, cond, ◌&&◌, ◌||◌, List, [], ◌∷◌, ◌++◌, length, map, filter, take, get_or, slice_get, Some, zero, suc, ◌⊎◌, inl, inr, refl, sym, ap, subst, ◌∙◌, arith}
+use Rattle.std.proofs.Common.{◌≡◌, ℕ, ◌+◌, ◌-◌, ◌<◌, ◌≤◌, max, leb, Bool, true, false, cond, ◌&&◌, ◌||◌, List, [], ◌∷◌, ◌++◌, length, map, filter, take, get_or, slice_get, Some, zero, suc, ◌⊎◌, inl, inr, refl, sym, ap, subst, ◌∙◌, append-nil, arith}
 use Rattle.std.specs.List.{All, AllByRecursion, list_any}
 use Rattle.std.specs.List.Sorted.{IsPermutation, IsNonDecreasingBy}
 use Rattle.std.proofs.lemmas.Bool.{le-leb, lt-leb, cases_lt}
@@ -192,3 +192,63 @@ pub record IsFirst (spans : List Span) (s : Span) : Type 0 where
 pub is_first : (spans : List Span) (s : Span) → slice_get spans 0 ≡ Some s → IsFirst spans s
 is_first [] s e = cc
 is_first (x ∷ spans) s e = record { some = omega arith; is = cc }
+
+-- ---- listing
+
+pub spans_push : (spans : List Span) (s : Span) → AreSpans spans → s.first ≤ s.last → AreSpans (spans ++ s ∷ [])
+spans_push [] s h l zero d m = l
+spans_push [] s h l (suc k) d m = absurd (omega arith)
+spans_push (x ∷ spans) s h l zero d m = h zero d (omega arith)
+spans_push (x ∷ spans) s h l (suc k) d m = spans_push spans s (λ j e n. h (suc j) e (omega arith)) l k d (omega arith)
+
+pub spans_before : (spans : List Span) (s : Span) → AreSpans (spans ++ s ∷ []) → AreSpans spans
+spans_before [] s h k d m = absurd (omega arith)
+spans_before (x ∷ spans) s h zero d m = h zero d (omega arith)
+spans_before (x ∷ spans) s h (suc k) d m = spans_before spans s (λ j e n. h (suc j) e (omega arith)) k d (omega arith)
+
+pub last_span : (spans : List Span) (s : Span) → AreSpans (spans ++ s ∷ []) → s.first ≤ s.last
+last_span [] s h = h zero s (omega arith)
+last_span (x ∷ spans) s h = last_span spans s (λ j e n. h (suc j) e (omega arith))
+
+-- the last span is longer now
+pub covered_longer : (spans : List Span) (s t u : Span) (a : ℕ) → s.first ≡ t.first → s.first ≤ s.last → u.first ≡ s.first → u.last ≡ max s.last t.last
+    → is_covered (spans ++ u ∷ []) a ≡ (is_covered (spans ++ s ∷ []) a || holds a t)
+covered_longer spans s t u a same l f g =
+    covered_push spans u a
+    ∙ ap (λ (b : Bool). is_covered spans a || b) (joined a s t u (omega arith) (omega arith) f g)
+    ∙ sym (or_assoc (is_covered spans a) (holds a s) (holds a t))
+    ∙ ap (λ (b : Bool). b || holds a t) (sym (covered_push spans s a))
+
+pub covered_one : (spans : List Span) (s : Span) (a : ℕ) → is_covered (spans ++ s ∷ []) a ≡ (is_covered spans a || holds a s)
+covered_one = covered_push
+
+-- the spans have the addresses of the small allocations of the first lines
+pub record AreListed (lines : List Line) (i : ℕ) (spans : List Span) : Type 0 where
+  pub each : AreSpans spans
+  pub same : (a : ℕ) → is_covered spans a ≡ is_covered (small_spans_of (take i lines)) a
+
+pub listed_none : (lines : List Line) → AreListed lines 0 []
+unfolding small_spans_of
+listed_none lines = record { each = λ k d h. absurd (omega arith); same = λ a. refl }
+
+pub listed_more : (lines : List Line) (i : ℕ) (d : Line) (spans later : List Span) → AreListed lines i spans → i < length lines → is_small (get_or lines i d) ≡ true → AreSpans later
+    → ((a : ℕ) → is_covered later a ≡ (is_covered spans a || holds a (span_of (get_or lines i d)))) → AreListed lines (i + 1) later
+listed_more lines i d spans later listed h small each steps = record {
+  each = each;
+  same = λ a.
+      steps a
+      ∙ ap (λ (b : Bool). b || holds a (span_of (get_or lines i d))) (listed.same a)
+      ∙ sym (covered_push (small_spans_of (take i lines)) (span_of (get_or lines i d)) a)
+      ∙ ap (λ (xs : List Span). is_covered xs a) (sym (spans_more lines i d h ∙ ap (λ (t : Bool). small_spans_of (take i lines) ++ cond t (span_of (get_or lines i d) ∷ []) []) small));
+}
+
+pub listed_same : (lines : List Line) (i : ℕ) (d : Line) (spans : List Span) → AreListed lines i spans → i < length lines → is_small (get_or lines i d) ≡ false → AreListed lines (i + 1) spans
+listed_same lines i d spans listed h other = record {
+  each = listed.each;
+  same = λ a.
+      listed.same a
+      ∙ ap (λ (xs : List Span). is_covered xs a) (sym (spans_more lines i d h ∙ ap (λ (t : Bool). small_spans_of (take i lines) ++ cond t (span_of (get_or lines i d) ∷ []) []) other ∙ append-nil (small_spans_of (take i lines))));
+}
+
+pub listed_all : (lines : List Line) (i : ℕ) (spans : List Span) → AreListed lines i spans → length lines ≤ i → CoverSame spans (small_spans_of lines)
+listed_all lines i spans listed h a = listed.same a ∙ ap (λ (xs : List Line). is_covered (small_spans_of xs) a) (take_all i lines h)

@@ -1,10 +1,10 @@
 //! The addresses of small allocations, live or given back.
 
-ghost use Rattle.std.specs.Prelude.{◌≡◌, IfOk, List, []};
+ghost use Rattle.std.specs.Prelude.{◌≡◌, ◌≤◌, ◌||◌, ℕ, IfOk, OnOk, List, []};
 ghost use Rattle.std.specs.List.Sorted.{IsNonDecreasingBy};
 ghost use Rattle.leak_mtrace.specs.Log.{LinesFit};
 ghost use Rattle.leak_blocks.specs.declared.small.Span.{Span};
-ghost use Rattle.leak_blocks.specs.Small.{is_small, small_spans_of, AreApart, AreSpans, CoverSame};
+ghost use Rattle.leak_blocks.specs.Small.{is_small, small_spans_of, holds, is_covered, AreApart, AreSpans, CoverSame};
 
 use crate::replaying::is_allocation;
 use leak_mtrace::{Line, Log};
@@ -44,18 +44,45 @@ fn is_small(line: &Line) -> bool
     is_allocation(line) && line.size < MAPPED_BYTES
 }
 
-/// The spans of the small allocations, in the order of their lines.
+/// Adds a span, or lengthens the last one where both begin at one address.
+fn add(spans: &mut Vec<Span>, span: Span) -> Result<(), AllocError>
+    requires each { AreSpans spans.old.items }
+    requires one { span.first ≤ span.last }
+    ensures each { OnOk result (AreSpans spans.new.items) }
+    ensures same { OnOk result ((a : ℕ) → is_covered spans.new.items a
+        ≡ (is_covered spans.old.items a || holds a span)) }
+{
+    let Some(last) = spans.pop() else {
+        spans.push(span)?;
+        return Ok(());
+    };
+    if last.first == span.first {
+        let longer = last.last.max(span.last);
+        spans.push(Span {
+            last: longer,
+            ..span
+        })?;
+        return Ok(());
+    }
+    spans.push(last)?;
+    spans.push(span)?;
+    Ok(())
+}
+
+/// Spans that have the addresses of the small allocations. A place that is used again at once has one of them.
 fn spans_of(alloc: Global, lines: &[Line]) -> Result<Vec<Span>, AllocError>
     requires { LinesFit lines.now }
-    ensures { IfOk result (λ spans. spans.items ≡ small_spans_of lines.now) }
+    ensures each { IfOk result (λ spans. AreSpans spans.items) }
+    ensures same { IfOk result (λ spans. CoverSame spans.items (small_spans_of lines.now)) }
 {
     let mut spans = Vec::with_capacity(alloc, lines.len())?;
     for line in lines {
         if is_small(line) {
-            spans.push(Span {
+            let span = Span {
                 first: line.addr,
                 last: line.addr + (line.size.max(1) - 1),
-            })?;
+            };
+            add(&mut spans, span)?;
         }
     }
     Ok(spans)

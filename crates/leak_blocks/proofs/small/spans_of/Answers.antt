@@ -1,23 +1,34 @@
-use Rattle.std.proofs.Common.{append-nil, refl}
+use Rattle.std.proofs.Common.{ℕ, ◌+◌, ◌-◌, ◌||◌, get_or, ap, sym, ◌∙◌}
 use Rattle.leak_mtrace.specs.declared.line.Line.{Line}
 use Rattle.leak_mtrace.specs.declared.line.Kind.TheVariants.{Alloc}
-use Rattle.leak_blocks.specs.Small.{small_spans_of}
-use Rattle.leak_blocks.proofs.SmallLemmas.{spans_more}
+use Rattle.leak_blocks.specs.declared.small.Span.{Span}
+use Rattle.leak_blocks.specs.Small.{holds, is_covered}
+use Rattle.leak_blocks.proofs.SmallLemmas.{listed_none, listed_more, listed_same, listed_all}
 use Rattle.leak_blocks.proofs.small.spans_of.Goals as goal
-use Rattle.leak_blocks.proofs.small.spans_of.Goals.{then-is_small+in_ok-push, else-is_small}
+use Rattle.leak_blocks.proofs.small.spans_of.Goals.{then-is_small+in_ok-add, else-is_small}
 
 no_line : Line
 no_line = record { kind = Alloc; addr = 0; size = 0; caller = (0, 0) }
 
+abbrev span_to : ℕ → ℕ → Span
+span_to addr size = record { first = addr; last = addr + (size - 1) }
+
 pub loop-line-init : goal.loop-line-init
-unfolding small_spans_of
-loop-line-init c = c.in_ok-spans.ensures.items
+loop-line-init c = rw c.in_ok-spans.ensures.items (listed_none c.args.lines.now)
 
 pub loop-line-preserved : goal.loop-line-preserved
 unfolding no_line
 loop-line-preserved c =
-    let more = spans_more c.args.lines.now c.loop-line.line-index no_line c.loop-line-test.true in
     elim c.if-is_small.branch [
-      | then-is_small+in_ok-push w ↦ rw (w.spans-is, w.in_ok-push.ensures.items, more, ← c.is_small.ensures, w.if-is_small.true, ← w.max.ensures, c.loop-line.invariant) refl
-      | else-is_small w ↦ rw (w.spans-is, more, ← c.is_small.ensures, w.if-is_small.false, append-nil, c.loop-line.invariant) refl
+      | then-is_small+in_ok-add w ↦
+          rw w.spans-is
+          (listed_more c.args.lines.now c.loop-line.line-index no_line c.loop-line.spans.items w.add.new.spans.items c.loop-line.invariant c.loop-line-test.true (sym c.is_small.ensures ∙ w.if-is_small.true) w.in_ok-add.ensures.each
+          (λ a. w.in_ok-add.ensures.same a ∙ ap (λ (n : ℕ). is_covered c.loop-line.spans.items a || holds a (span_to (get_or c.args.lines.now c.loop-line.line-index no_line).addr n)) w.max.ensures))
+      | else-is_small w ↦ rw w.spans-is (listed_same c.args.lines.now c.loop-line.line-index no_line c.loop-line.spans.items c.loop-line.invariant c.loop-line-test.true (sym c.is_small.ensures ∙ w.if-is_small.false))
     ]
+
+pub returns-clause-each : goal.returns-clause-each
+returns-clause-each c = c.loop-line.invariant.each
+
+pub returns-clause-same : goal.returns-clause-same
+returns-clause-same c = listed_all c.args.lines.now c.loop-line.line-index c.loop-line.spans.items c.loop-line.invariant c.loop-line-test.false
