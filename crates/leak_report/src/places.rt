@@ -63,25 +63,40 @@ fn shared(first: &[u8], text: &[u8]) -> Option<usize>
     Some(first.len())
 }
 
-/// The bytes that the callers of one file begin with, by which [`place`] tells apart the most.
+/// How many leaked blocks [`prefix_of`] looks at, twice as many at most.
+const SAMPLE: u64 = 2000;
+
+/// The bytes that the callers of one file begin with, by which [`place`] tells apart the most: of some leaked blocks
+/// among so many, which stand evenly among them.
 ///
 /// Own rule: the file is that of the first leaked block with a caller, and callers of other files are passed over. The
 /// places stand in order by any prefix.
-pub fn prefix_of<'a>(blocks: &[Block], set: &[bool], log: &'a [u8]) -> &'a [u8]
+pub fn prefix_of<'a>(blocks: &[Block], set: &[bool], leaked: u64, log: &'a [u8]) -> &'a [u8]
     requires one_each { length set.now ≡ length blocks.now }
     requires in_log { HaveCallersIn log.now blocks.now }
 {
+    let distance = leaked / SAMPLE + 1;
     let mut prefix: &[u8] = b"?";
+    let mut left = 0;
     for (i, block) in blocks.iter().enumerate() {
         if !set[i] {
-            let text = caller_text(log, block.caller);
-            if prefix.len() <= 1 {
-                prefix = text;
+            if left == 0 {
+                left = distance;
+                prefix = shared_prefix(prefix, caller_text(log, block.caller));
             }
-            if let Some(n) = shared(prefix, text) {
-                prefix = &prefix[..n];
-            }
+            left -= 1;
         }
     }
     prefix
+}
+
+/// What a prefix and a text both begin with, if both are of one file, and the text for the prefix of no caller.
+fn shared_prefix<'a>(prefix: &'a [u8], text: &'a [u8]) -> &'a [u8] {
+    if prefix.len() <= 1 {
+        return text;
+    }
+    match shared(prefix, text) {
+        Some(n) => &prefix[..n],
+        None => prefix,
+    }
 }

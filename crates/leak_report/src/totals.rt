@@ -59,11 +59,12 @@ impl Totals {
         let blocks = live.blocks();
         let bytes = live.bytes();
         let (marked, marked_bytes) = marked_sizes(blocks, set);
-        let prefix = prefix_of(blocks, set, log);
+        let leaked = blocks.len() as u64 - marked;
+        let prefix = prefix_of(blocks, set, leaked, log);
         let groups = leaked_groups(alloc, prefix, blocks, set, heads, log)?;
         let rows = ranked_rows(alloc, &groups)?;
         Ok(Totals {
-            blocks: blocks.len() as u64 - marked,
+            blocks: leaked,
             bytes: bytes - marked_bytes,
             heads: count_heads(blocks, set, heads),
             rows,

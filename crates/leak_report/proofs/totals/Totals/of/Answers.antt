@@ -5,11 +5,11 @@ use Rattle.leak_report.proofs.PlaceLemmas.{are_bytes}
 use Rattle.leak_report.proofs.Orders.{rows_are}
 use Rattle.leak_report.proofs.totals.Totals.of.Goals as goal
 
-pub overflow_sub-result : goal.overflow_sub-result
-overflow_sub-result c = omega (arith, c.marked_sizes-marked.ensures.number, length-marked c.args.set.now c.blocks-blocks.result.now)
+pub overflow_sub-leaked : goal.overflow_sub-leaked
+overflow_sub-leaked c = omega (arith, c.marked_sizes-marked.ensures.number, length-marked c.args.set.now c.blocks-blocks.result.now)
 
-pub overflow_sub-result-2 : goal.overflow_sub-result-2
-overflow_sub-result-2 c =
+pub overflow_sub-result : goal.overflow_sub-result
+overflow_sub-result c =
     omega (arith, c.marked_sizes-marked.ensures.bytes, bytes_of-marked c.args.set.now c.blocks-blocks.result.now, c.bytes-bytes.ensures, ap bytes_of c.blocks-blocks.ensures.value)
 
 pub returns-clause-count : goal.returns-clause-count
