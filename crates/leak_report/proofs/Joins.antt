@@ -1,8 +1,7 @@
 -- Rows, as blocks are added one by one.
-use Rattle.std.proofs.Common.{◌≡◌, ℕ, ◌+◌, ◌^◌, ◌<◌, ◌≤◌, Bool, true, false, not, cond, suc, List, [], ◌∷◌, ◌++◌, length, take, get_or, filter, bytes_eq, Option, None, Some, IfSome, refl, sym, ap, subst, ◌∙◌, arith, zero-add}
+use Rattle.std.proofs.Common.{◌≡◌, ℕ, ◌+◌, ◌^◌, ◌<◌, ◌≤◌, Bool, true, false, not, cond, suc, List, [], ◌∷◌, ◌++◌, length, take, get_or, bytes_eq, Option, None, Some, IfSome, refl, sym, ap, subst, ◌∙◌, arith, zero-add}
 use Rattle.std.proofs.lemmas.List.Sums.{sum_by_push, sum_by-take-le}
-use Rattle.std.proofs.lemmas.List.{length-append, length-take-le, append-nil}
-use Rattle.std.proofs.lemmas.List.Elements.{filter-append}
+use Rattle.std.proofs.lemmas.List.{length-append, length-take-le}
 use Rattle.std.proofs.lemmas.List.Filters.{length-filter_both, sum_by-filter_both}
 use Rattle.std.proofs.lemmas.Slice.Eq.{bytes_eq-Decides}
 use Rattle.std.proofs.lemmas.Map.Text.{is_eq-slice_cmp}
@@ -10,7 +9,6 @@ use Rattle.std.proofs.lemmas.Cmp.{tied_itself, nat_cmp_total, ranked}
 use Rattle.std.proofs.lemmas.Bool.{eq-eqb, eqb-true, false_from_ne_true}
 use Rattle.std.specs.Prelude.{nat_eq}
 use Rattle.std.specs.Bool.{Decides}
-use Rattle.std.specs.BTreeMap.{BTreeMap, get}
 use Rattle.std.specs.Cmp.Lexicographic.{slice_cmp}
 use Rattle.std.specs.declared.cmp.Ordering.{Ordering}
 use Rattle.std.specs.declared.cmp.Ordering.TheVariants.{Less, Equal, Greater}
@@ -19,7 +17,7 @@ use Rattle.leak_blocks.specs.declared.block.Block.{Block}
 use Rattle.leak_report.specs.declared.totals.CallerRow.{CallerRow}
 use Rattle.leak_report.specs.Totals.{Leak, leaks_in, bytes_of, bytes_in, heads_in, text_at, with_text}
 use Rattle.leak_report.specs.Places.{place_of}
-use Rattle.leak_report.specs.Groups.{Key, order_of_keys, with_leak, HasRoom, HasLeakAdded, row_from, row_with, AreGroups}
+use Rattle.leak_report.specs.Groups.{Key, order_of_keys, with_leak, HasRoom, HasLeak, row_from, row_with, found_in, AreEntries}
 use Rattle.leak_report.proofs.Leaks.{leaks_push, bytes_in-leaks, length-leaks, filter-push_yes, filter-push_no, heads_in-push, few_heads}
 
 row_from-push : (leaks : List Leak) (l : Leak) → row_from (leaks ++ l ∷ []) ≡ Some (with_leak (row_from leaks) l)
@@ -82,22 +80,22 @@ other_key prefix text k e = false_from_ne_true (is_eq (ordering_then (nat_cmp (p
     exact : (x y : ℕ) → nat_cmp x y ≡ Equal → x ≡ y
     exact x y e = ranked x y Equal (sym e)
 
--- what the map has at a key with the place of its text
-pub row_at : (prefix log : List ℕ) (blocks : List Leak) (groups : BTreeMap Key CallerRow) → AreGroups prefix log blocks groups
-    → (key : Key) → key.0 ≡ place_of prefix key.1.now → get order_of_keys groups key ≡ row_with log blocks key.1.now
-row_at prefix log blocks groups are key place =
+-- what the entries have at a key with the place of its text
+pub row_at : (prefix log : List ℕ) (blocks : List Leak) (entries : List (Key × CallerRow)) → AreEntries prefix log blocks entries
+    → (key : Key) → key.0 ≡ place_of prefix key.1.now → found_in entries key ≡ row_with log blocks key.1.now
+row_at prefix log blocks entries are key place =
     are key ∙ ap (λ t. cond t (row_with log blocks key.1.now) None) (eq-eqb key.0 (place_of prefix key.1.now) place)
 
 -- what `add` says makes the rows of the blocks those with one more
-pub AreGroups-push : (prefix log : List ℕ) (blocks : List Leak) (b : Leak) (key : Key) (old new : BTreeMap Key CallerRow)
-    → AreGroups prefix log blocks old → key.0 ≡ place_of prefix key.1.now → key.1.now ≡ text_at log b.block.caller
-    → HasLeakAdded old new key b → AreGroups prefix log (blocks ++ b ∷ []) new
-AreGroups-push prefix log blocks b key old new are place is steps = λ k. steps k ∙ go k (nat_eq k.0 (place_of prefix k.1.now)) refl
+pub AreEntries-push : (prefix log : List ℕ) (blocks : List Leak) (b : Leak) (key : Key) (old new : List (Key × CallerRow))
+    → AreEntries prefix log blocks old → key.0 ≡ place_of prefix key.1.now → key.1.now ≡ text_at log b.block.caller
+    → HasLeak old new key b → AreEntries prefix log (blocks ++ b ∷ []) new
+AreEntries-push prefix log blocks b key old new are place is steps = λ k. steps k ∙ go k (nat_eq k.0 (place_of prefix k.1.now)) refl
   where
     text : List ℕ
     text = text_at log b.block.caller
 
-    at_key : get order_of_keys old key ≡ row_with log blocks text
+    at_key : found_in old key ≡ row_with log blocks text
     at_key = row_at prefix log blocks old are key place ∙ ap (row_with log blocks) is
 
     tests : (k : Key) → is_eq (order_of_keys key k) ≡ is_eq (ordering_then (nat_cmp (place_of prefix text) k.0) (slice_cmp nat_cmp text k.1.now))
@@ -106,15 +104,15 @@ AreGroups-push prefix log blocks b key old new are place is steps = λ k. steps 
         ∙ ap (λ (t : List ℕ). is_eq (ordering_then (nat_cmp (place_of prefix text) k.0) (slice_cmp nat_cmp t k.1.now))) is
 
     step : (k : Key) (t u : Bool) → is_eq (order_of_keys key k) ≡ t → nat_eq k.0 (place_of prefix k.1.now) ≡ u
-        → cond (is_eq (order_of_keys key k)) (Some (with_leak (get order_of_keys old key) b)) (get order_of_keys old k)
+        → cond (is_eq (order_of_keys key k)) (Some (with_leak (found_in old key) b)) (found_in old k)
         ≡ cond t (Some (with_leak (row_with log blocks text) b)) (cond u (row_with log blocks k.1.now) None)
     step k t u e f =
-        ap (λ s. cond s (Some (with_leak (get order_of_keys old key) b)) (get order_of_keys old k)) e
-        ∙ ap (λ r. cond t (Some (with_leak r b)) (get order_of_keys old k)) at_key
+        ap (λ s. cond s (Some (with_leak (found_in old key) b)) (found_in old k)) e
+        ∙ ap (λ r. cond t (Some (with_leak r b)) (found_in old k)) at_key
         ∙ ap (λ r. cond t (Some (with_leak (row_with log blocks text) b)) r) (are k ∙ ap (λ s. cond s (row_with log blocks k.1.now) None) f)
 
     go : (k : Key) (u : Bool) → nat_eq k.0 (place_of prefix k.1.now) ≡ u
-        → cond (is_eq (order_of_keys key k)) (Some (with_leak (get order_of_keys old key) b)) (get order_of_keys old k)
+        → cond (is_eq (order_of_keys key k)) (Some (with_leak (found_in old key) b)) (found_in old k)
         ≡ cond (nat_eq k.0 (place_of prefix k.1.now)) (row_with log (blocks ++ b ∷ []) k.1.now) None
     go k true f =
         step k (bytes_eq text k.1.now) true (tests k ∙ same_key prefix text k (eqb-true k.0 (place_of prefix k.1.now) f)) f

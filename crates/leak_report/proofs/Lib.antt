@@ -6,6 +6,7 @@ pub mod Members
 pub mod Ranks
 pub mod Firsts
 pub mod Orders
+pub mod Ascending
 pub mod Texts
 pub mod Sums
 pub mod Callers

@@ -1,15 +1,10 @@
 -- Leaked blocks by the places of their callers' texts.
 use Rattle.std.proofs.Common.{◌≡◌, ℕ, zero, suc, ◌+◌, ◌^◌, ◌<◌, ◌≤◌, Bool, true, false, not, ◌&&◌, cond, List, [], ◌∷◌, ◌++◌, length, take, get_or, map, filter, bytes_eq, Option, None, IfSome, refl, sym, ap, subst, ◌∙◌, arith, add-one}
 use Rattle.std.specs.List.{All, AllByRecursion, sum_by}
-use Rattle.std.specs.List.Sorted.{IsPermutation, IsStableByKey}
-use Rattle.std.specs.Bool.{Decides}
-use Rattle.std.specs.BTreeMap.{BTreeMap}
 use Rattle.std.specs.Prelude.{nat_eq}
 use Rattle.std.specs.Ordering.{nat_cmp, is_lt}
-use Rattle.std.specs.declared.cmp.Ordering.{Ordering}
-use Rattle.std.specs.declared.cmp.Ordering.TheVariants.{Equal}
 use Rattle.std.proofs.lemmas.Cmp.{tied_itself, nat_cmp_total}
-use Rattle.std.proofs.lemmas.List.{map_push, take_all, take_more, take-map, length-map, length-append, length-take-le}
+use Rattle.std.proofs.lemmas.List.{map_push, take_all, take_more, take-map, length-map, length-take-le}
 use Rattle.std.proofs.lemmas.List.Sums.{sum_by_push, sum_by-take-le, sum_by-cons}
 use Rattle.std.proofs.lemmas.List.Filters.{length-filter_both, sum_by-filter_both}
 use Rattle.std.proofs.lemmas.List.Sorted.{All-permutation, sum_by-IsPermutation, length_permutation}
@@ -19,14 +14,14 @@ use Rattle.leak_report.specs.declared.totals.CallerRow.{CallerRow}
 use Rattle.leak_report.specs.declared.grouping.PlacedLeak.{PlacedLeak}
 use Rattle.leak_report.specs.Places.{place_of}
 use Rattle.leak_report.specs.Totals.{Leak, leaks_in, bytes_of, bytes_in, text_at, with_text}
-use Rattle.leak_report.specs.Groups.{Key, HasRoom, AreGroups, row_from, row_with}
+use Rattle.leak_report.specs.Groups.{Key, HasRoom, AreEntries, row_from, row_with}
 use Rattle.leak_report.specs.Listing.{IsPlaced, ArePlaced, AreByPlace, block_of, leak_of}
 use Rattle.leak_report.proofs.Leaks.{leaks_push, leaks_stay, bytes_in-leaks, length-leaks}
 use Rattle.leak_report.proofs.Joins.{row_from-fits}
 
 -- ---- listing
 
-all_push : {X : Type 0} (P : X → Type 0) (xs : List X) (x : X) → AllByRecursion P xs → P x → AllByRecursion P (xs ++ x ∷ [])
+pub all_push : {X : Type 0} (P : X → Type 0) (xs : List X) (x : X) → AllByRecursion P xs → P x → AllByRecursion P (xs ++ x ∷ [])
 all_push P [] x all here = (here, tt)
 all_push P (y ∷ xs) x all here = (all.0, all_push P xs x all.1 here)
 
@@ -125,9 +120,9 @@ text_stays prefix log set heads blocks sorted text by e =
     ∙ sym (filter_map f q by.listed)
     ∙ ap (filter q) (by.placed.leaks heads e)
 
-pub groups_sorted : (prefix log : List ℕ) (set heads : List Bool) (blocks : List Block) (sorted : List PlacedLeak) (groups : BTreeMap Key CallerRow) → AreByPlace prefix log set blocks sorted
-    → length heads ≡ length blocks → AreGroups prefix log (map (leak_of heads blocks) sorted) groups → AreGroups prefix log (leaks_in set heads blocks) groups
-groups_sorted prefix log set heads blocks sorted groups by e are = λ k.
+pub entries_sorted : (prefix log : List ℕ) (set heads : List Bool) (blocks : List Block) (sorted : List PlacedLeak) (entries : List (Key × CallerRow)) → AreByPlace prefix log set blocks sorted
+    → length heads ≡ length blocks → AreEntries prefix log (map (leak_of heads blocks) sorted) entries → AreEntries prefix log (leaks_in set heads blocks) entries
+entries_sorted prefix log set heads blocks sorted entries by e are = λ k.
     are k ∙ ap (λ (ls : List Leak). cond (nat_eq k.0 (place_of prefix k.1.now)) (row_from ls) None) (text_stays prefix log set heads blocks sorted k.1.now by e)
 
 -- ---- room
@@ -192,8 +187,8 @@ cond_same : {X : Type 0} (t : Bool) (x : X) → cond t x x ≡ x
 cond_same true x = refl
 cond_same false x = refl
 
-pub sorted_none : (prefix log : List ℕ) (groups : BTreeMap Key CallerRow) → groups.entries ≡ [] → AreGroups prefix log [] groups
-sorted_none prefix log groups is = λ k. rw is (sym (cond_same {X = Option CallerRow} (nat_eq k.0 (place_of prefix k.1.now)) None))
+pub sorted_none : (prefix log : List ℕ) (entries : List (Key × CallerRow)) → entries ≡ [] → AreEntries prefix log [] entries
+sorted_none prefix log entries is = λ k. rw is (sym (cond_same {X = Option CallerRow} (nat_eq k.0 (place_of prefix k.1.now)) None))
 
 pub inside_sorted : (prefix log : List ℕ) (set : List Bool) (blocks : List Block) (listed sorted : List PlacedLeak) (i : ℕ) (d : PlacedLeak) → AreByPlace prefix log set blocks listed
     → sorted ≡ listed → i < length sorted → IsPlaced prefix log blocks (get_or sorted i d)

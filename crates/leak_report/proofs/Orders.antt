@@ -9,20 +9,19 @@ use Rattle.std.specs.Cmp.Lexicographic.{slice_cmp}
 use Rattle.std.specs.declared.cmp.Ordering.{Ordering}
 use Rattle.std.specs.declared.cmp.Ordering.TheVariants.{Less, Equal, Greater}
 use Rattle.std.specs.Ordering.{nat_cmp, is_lt, eq_by_cmp, is_eq, ordering_reverse, ordering_then}
-use Rattle.std.specs.BTreeMap.{BTreeMap, IsOrdered, values}
 use Rattle.std.specs.Map.{lookup, keys_of, values_of}
 use Rattle.std.proofs.lemmas.Cmp.{on_total, then_total, back_total, ranked as compared, nat_cmp_total, nat_list_cmp_total, eq_by_cmp_equiv}
 use Rattle.std.proofs.lemmas.List.Sorted.{ranks_by, ties_stay_sorted}
 use Rattle.std.proofs.lemmas.Map.Keys.{IsDistinct-from_sorted, IsDistinct-IsPermutation, apart_from_distinct, Less-from_sorted, sorted_from_all_adjacent}
-use Rattle.std.proofs.lemmas.Map.Views.{All-found}
 use Rattle.leak_blocks.specs.declared.block.Block.{Block}
 use Rattle.leak_report.specs.declared.totals.CallerRow.{CallerRow}
 use Rattle.leak_report.specs.Totals.{Leak, IsIn, HaveCallersIn, bytes_in, heads_in, text_at, with_text, has_same_text, first_of_each, row_of, rank, ranked, rows_of, leaks_in}
 use Rattle.leak_report.specs.Places.{place_of}
-use Rattle.leak_report.specs.Groups.{Key, row_from, row_with, order_of_keys, AreGroups}
+use Rattle.leak_report.specs.Groups.{Key, row_from, row_with, order_of_keys, found_in, AreEntries}
+use Rattle.leak_report.specs.Listing.{AreByText}
 use Rattle.leak_report.proofs.Joins.{row_at}
 use Rattle.leak_report.proofs.PlaceLemmas.{AreBytes, place_tells, bytes_of_text}
-use Rattle.leak_report.proofs.Members.{Has, each_implied, each_mapped, each_filtered, each_from_All, each_moved, Has-moved, same_elements}
+use Rattle.leak_report.proofs.Members.{Has, each_implied, each_mapped, each_filtered, each_moved, Has-moved, same_elements}
 use Rattle.leak_report.proofs.Ranks.{rank_total, each_ranked, Has-ranked, sorted_ranked}
 use Rattle.leak_report.proofs.Firsts.{IsRow, each_is_row, with_text-head, Has-row, all_differ}
 
@@ -33,7 +32,7 @@ by_text log r s = slice_cmp nat_cmp (text_at log r.caller) (text_at log s.caller
 by_text_total : (log : List ℕ) → IsTotalOrder (by_text log)
 by_text_total log = on_total (λ (r : CallerRow). text_at log r.caller) nat_list_cmp_total
 
-order_of_keys_total : IsTotalOrder order_of_keys
+pub order_of_keys_total : IsTotalOrder order_of_keys
 order_of_keys_total = then_total (on_total (λ (k : Key). k.0) nat_cmp_total) (on_total (λ (k : Key). k.1.now) nat_list_cmp_total)
 
 -- keys with the places of their texts stand in the order of the texts
@@ -70,20 +69,34 @@ found_at n m o row e = go (nat_eq n m) refl e
     go true is e = (eqb-true n m is, e)
     go false is e = cc
 
-module _ (prefix log : List ℕ) (blocks : List Leak) (groups : BTreeMap Key CallerRow) (ordered : IsOrdered order_of_keys groups) (are : AreGroups prefix log blocks groups) where
-  each_found : AllByRecursion (λ e. (e.0.0 ≡ place_of prefix e.0.1.now) × (row_with log blocks e.0.1.now ≡ Some e.1)) groups.entries
-  each_found = each_from_All (λ e. (e.0.0 ≡ place_of prefix e.0.1.now) × (row_with log blocks e.0.1.now ≡ Some e.1)) groups.entries
-      (λ k d h. found_at (get_or groups.entries k d).0.0 (place_of prefix (get_or groups.entries k d).0.1.now) (row_with log blocks (get_or groups.entries k d).0.1.now) (get_or groups.entries k d).1
-      (sym (are (get_or groups.entries k d).0) ∙ All-found order_of_keys_total groups ordered k d h))
+-- each entry is found by its key, where keys ascend
+each_here : (es : List (Key × CallerRow)) → IsStrictlySortedBy order_of_keys (keys_of es) → AllByRecursion (λ e. found_in es e.0 ≡ Some e.1) es
+unfolding IsStrictlySortedBy
+each_here [] up = tt
+each_here (e ∷ es) up =
+    (ap (λ t. cond t (Some e.1) (found_in es e.0)) ((eq_by_cmp_equiv order_of_keys_total).refl e.0), later es up.0 (each_here es up.1))
+  where
+    later : (fs : List (Key × CallerRow)) → AllByRecursion (λ k. order_of_keys e.0 k ≡ Less) (keys_of fs) → AllByRecursion (λ f. found_in es f.0 ≡ Some f.1) fs
+        → AllByRecursion (λ f. found_in (e ∷ es) f.0 ≡ Some f.1) fs
+    later [] up all = tt
+    later (f ∷ fs) up all = (
+      ap (λ t. cond t (Some e.1) (found_in es f.0)) ((eq_by_cmp_equiv order_of_keys_total).symm f.0 e.0 ∙ ap is_eq up.0) ∙ all.0,
+      later fs up.1 all.1,
+    )
 
-  each_value : AllByRecursion (IsRow log blocks) (values groups)
-  each_value = each_mapped (λ e. e.1) (IsRow log blocks) groups.entries
+module _ (prefix log : List ℕ) (blocks : List Leak) (es : List (Key × CallerRow)) (ordered : IsStrictlySortedBy order_of_keys (keys_of es)) (are : AreEntries prefix log blocks es) where
+  each_found : AllByRecursion (λ e. (e.0.0 ≡ place_of prefix e.0.1.now) × (row_with log blocks e.0.1.now ≡ Some e.1)) es
+  each_found = each_implied (λ e. found_in es e.0 ≡ Some e.1) (λ e. (e.0.0 ≡ place_of prefix e.0.1.now) × (row_with log blocks e.0.1.now ≡ Some e.1))
+      (λ e h. found_at e.0.0 (place_of prefix e.0.1.now) (row_with log blocks e.0.1.now) e.1 (sym (are e.0) ∙ h)) es (each_here es ordered)
+
+  each_value : AllByRecursion (IsRow log blocks) (values_of es)
+  each_value = each_mapped (λ e. e.1) (IsRow log blocks) es
       (each_implied (λ e. (e.0.0 ≡ place_of prefix e.0.1.now) × (row_with log blocks e.0.1.now ≡ Some e.1)) (λ e. IsRow log blocks e.1)
-      (λ e h. ap (row_with log blocks) (row_with-text log blocks e.0.1.now e.1 h.1) ∙ h.1) groups.entries each_found)
+      (λ e h. ap (row_with log blocks) (row_with-text log blocks e.0.1.now e.1 h.1) ∙ h.1) es each_found)
 
-  each_entry : AllByRecursion (IsEntry prefix log) groups.entries
+  each_entry : AllByRecursion (IsEntry prefix log) es
   each_entry = each_implied (λ e. (e.0.0 ≡ place_of prefix e.0.1.now) × (row_with log blocks e.0.1.now ≡ Some e.1)) (IsEntry prefix log)
-      (λ e h. (h.0, row_with-text log blocks e.0.1.now e.1 h.1)) groups.entries each_found
+      (λ e h. (h.0, row_with-text log blocks e.0.1.now e.1 h.1)) es each_found
 
 lookup-Has : {K X : Type 0} (test : K → Bool) (es : List (K × X)) (v : X) → lookup test es ≡ Some v → Has (values_of es) v
 lookup-Has test [] v e = cc
@@ -148,22 +161,24 @@ sorted_values log vs rows up moved falls stable =
     (ranks_by nat_list_cmp_total (λ (r : CallerRow). text_at log r.caller)) (ranks_by (back_total nat_cmp_total) (λ (r : CallerRow). r.bytes))
     vs rows sorted stable k nothing h t))
 
-pub rows_are : (prefix log : List ℕ) (blocks : List Leak) (groups : BTreeMap Key CallerRow) (rows : List CallerRow) → AreBytes log
-    → IsOrdered order_of_keys groups → AreGroups prefix log blocks groups → IsPermutation (values groups) rows
-    → IsSortedByKey (λ (r : CallerRow). r.bytes) (λ x y. nat_cmp y x) rows → IsStableByKey (λ (r : CallerRow). r.bytes) (λ x y. nat_cmp y x) (values groups) rows
+pub rows_are : (prefix log : List ℕ) (blocks : List Leak) (given rows : List CallerRow) → AreBytes log → AreByText prefix log blocks given → IsPermutation given rows
+    → IsSortedByKey (λ (r : CallerRow). r.bytes) (λ x y. nat_cmp y x) rows → IsStableByKey (λ (r : CallerRow). r.bytes) (λ x y. nat_cmp y x) given rows
     → rows ≡ rows_of log blocks
 unfolding rows_of
-rows_are prefix log blocks groups rows bytes ordered are moved falls stable =
+rows_are prefix log blocks given rows bytes by moved falls stable =
     let each : List CallerRow = map (row_of log blocks) (first_of_each log blocks) in
+    let es : List (Key × CallerRow) = by.entries in
+    let up : IsStrictlySortedBy (by_text log) given = subst (IsStrictlySortedBy (by_text log)) by.listed (values_ascend prefix log bytes es (each_entry prefix log blocks es by.ordered by.are) by.ordered) in
+    let have : AllByRecursion (IsRow log blocks) given = subst (AllByRecursion (IsRow log blocks)) by.listed (each_value prefix log blocks es by.ordered by.are) in
     same_elements (rank log) (rank_total log) rows (ranked log each)
-    (sorted_values log (values groups) rows (values_ascend prefix log bytes groups.entries (each_entry prefix log blocks groups ordered are) ordered) moved falls stable)
+    (sorted_values log given rows up moved falls stable)
     (sorted_ranked log each (all_differ log blocks blocks))
-    (each_moved (Has (ranked log each)) (values groups) rows moved
-    (each_implied (IsRow log blocks) (Has (ranked log each)) (λ r is. Has-ranked log each r (Has-row log blocks r is)) (values groups) (each_value prefix log blocks groups ordered are)))
+    (each_moved (Has (ranked log each)) given rows moved
+    (each_implied (IsRow log blocks) (Has (ranked log each)) (λ r is. Has-ranked log each r (Has-row log blocks r is)) given have))
     (each_ranked (Has rows) log each
     (each_implied (IsRow log blocks) (Has rows)
     (λ r is. let key : Key = (place_of prefix (text_at log r.caller), record { ref_ptr = (0, 0); now = text_at log r.caller }) in
-    Has-moved (values groups) rows r moved (lookup-Has (λ k. is_eq (order_of_keys key k)) groups.entries r (row_at prefix log blocks groups are key refl ∙ is))) each (each_is_row log blocks)))
+    Has-moved given rows r moved (subst (λ (vs : List CallerRow). Has vs r) by.listed (lookup-Has (λ k. is_eq (order_of_keys key k)) es r (row_at prefix log blocks es by.are key refl ∙ is)))) each (each_is_row log blocks)))
 
 -- the rows name callers of the blocks
 first_of_each-in : (P : Leak → Type 0) (log : List ℕ) (leaks : List Leak) → AllByRecursion P leaks → AllByRecursion P (first_of_each log leaks)

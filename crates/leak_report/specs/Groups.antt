@@ -3,7 +3,8 @@ use Rattle.std.specs.Prelude.{◌≡◌, ℕ, ◌+◌, ◌^◌, ◌<◌, ◌≤�
 use Rattle.std.specs.Cmp.Lexicographic.{slice_cmp}
 use Rattle.std.specs.Ordering.{nat_cmp, ordering_then, is_eq}
 use Rattle.std.specs.declared.cmp.Ordering.{Ordering}
-use Rattle.std.specs.BTreeMap.{BTreeMap, get}
+use Rattle.std.specs.BTreeMap.{BTreeMap, is_at}
+use Rattle.std.specs.Map.{lookup}
 use denote.Ref.{Bor}
 use Rattle.leak_blocks.specs.declared.block.Block.{Block}
 use Rattle.leak_report.specs.declared.totals.CallerRow.{CallerRow}
@@ -42,14 +43,24 @@ Key = ℕ × Bor (List ℕ)
 abbrev pub order_of_keys : Key → Key → Ordering
 order_of_keys x y = ordering_then (nat_cmp x.0 y.0) (slice_cmp nat_cmp x.1.now y.1.now)
 
--- the leaked block was added to the row of the key, and the other rows are as before
-abbrev pub HasLeakAdded : BTreeMap Key CallerRow → BTreeMap Key CallerRow → Key → Leak → Type 0
-HasLeakAdded old new key l =
-    (k : Key) → get order_of_keys new k
-    ≡ (if is_eq (order_of_keys key k) then Some (with_leak (get order_of_keys old key) l) else get order_of_keys old k)
+-- what the entries have at a key
+abbrev pub found_in : List (Key × CallerRow) → Key → Option CallerRow
+found_in entries k = lookup (is_at (order_of_keys k)) entries
 
--- at each key the map has the row of the leaked blocks, where the key has the place of its text by the prefix
-abbrev pub AreGroups : List ℕ → List ℕ → List Leak → BTreeMap Key CallerRow → Type 0
-AreGroups prefix log leaks groups =
-    (k : Key) → get order_of_keys groups k
+-- the leaked block was added to the row of the key, and the other rows are as before
+abbrev pub HasLeak : List (Key × CallerRow) → List (Key × CallerRow) → Key → Leak → Type 0
+HasLeak old new key l =
+    (k : Key) → found_in new k
+    ≡ (if is_eq (order_of_keys key k) then Some (with_leak (found_in old key) l) else found_in old k)
+
+abbrev pub HasLeakAdded : BTreeMap Key CallerRow → BTreeMap Key CallerRow → Key → Leak → Type 0
+HasLeakAdded old new key l = HasLeak old.entries new.entries key l
+
+-- at each key there is the row of the leaked blocks, where the key has the place of its text by the prefix
+abbrev pub AreEntries : List ℕ → List ℕ → List Leak → List (Key × CallerRow) → Type 0
+AreEntries prefix log leaks entries =
+    (k : Key) → found_in entries k
     ≡ (if nat_eq k.0 (place_of prefix k.1.now) then row_with log leaks k.1.now else None)
+
+abbrev pub AreGroups : List ℕ → List ℕ → List Leak → BTreeMap Key CallerRow → Type 0
+AreGroups prefix log leaks groups = AreEntries prefix log leaks groups.entries

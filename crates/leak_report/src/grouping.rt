@@ -1,22 +1,47 @@
 //! Leaked blocks by the text of their caller.
-ghost use Rattle.std.specs.Prelude.{◌≡◌, ◌^◌, ◌<◌, length, IfOk, OnOk, IfSome};
-ghost use Rattle.std.specs.List.Sorted.{IsPermutation, IsSortedByKey, IsStableByKey};
-ghost use Rattle.std.specs.Ordering.{nat_cmp};
+ghost use Rattle.std.specs.Prelude.{◌≡◌, None, Some, length, IfOk, OnOk, IfSome};
 ghost use Rattle.std.specs.BTreeMap.{get, values, IsOrdered};
-ghost use Rattle.leak_report.specs.Totals.{leaks_in, bytes_of, HaveCallersIn};
-ghost use Rattle.leak_report.specs.Groups.{HasRoom, HasLeakAdded, order_of_keys, AreGroups};
-ghost use Rattle.leak_report.specs.Listing.{ArePlaced, AreByPlace};
+ghost use Rattle.leak_report.specs.Totals.{leaks_in, HaveCallersIn};
+ghost use Rattle.leak_report.specs.Groups.{HasRoom, HasLeakAdded, with_leak, order_of_keys, AreGroups};
+ghost use Rattle.leak_report.specs.Listing.{ArePlaced, AreByPlace, AreByText, IsComplete};
 
+use crate::by_text::Leaked;
 use crate::lines::caller_text;
 use crate::places::place;
 use crate::totals::CallerRow;
 use leak_blocks::Block;
 use std::alloc::{AllocError, Global};
-use std::cmp::Reverse;
 use std::collections::BTreeMap;
 
 /// The place of a text, and the text: in the order of texts, of which few are compared.
-type Key<'a> = (u64, &'a [u8]);
+pub(crate) type Key<'a> = (u64, &'a [u8]);
+
+/// The row of one leaked block.
+pub(crate) fn first_row(block: &Block, head: bool) -> CallerRow
+    ensures { result ≡ with_leak None (record { block = block.now; head = head }) }
+{
+    let one = u64::from(head);
+    CallerRow {
+        blocks: 1,
+        bytes: block.size,
+        heads: one,
+        caller: block.caller,
+    }
+}
+
+/// The row with one more leaked block.
+pub(crate) fn longer_row(row: CallerRow, block: &Block, head: bool) -> CallerRow
+    requires { HasRoom row block.now }
+    ensures { result ≡ with_leak (Some row) (record { block = block.now; head = head }) }
+{
+    let one = u64::from(head);
+    CallerRow {
+        blocks: row.blocks + 1,
+        bytes: row.bytes + block.size,
+        heads: row.heads + one,
+        caller: row.caller,
+    }
+}
 
 /// Adds a leaked block to the row of its caller's text, or begins that row with it.
 fn add<'a>(
@@ -29,24 +54,11 @@ fn add<'a>(
     ensures { OnOk result (HasLeakAdded groups.old groups.new key.entry
         (record { block = block.now; head = head })) }
 {
-    let one = u64::from(head);
-    let first = CallerRow {
-        blocks: 1,
-        bytes: block.size,
-        heads: one,
-        caller: block.caller,
-    };
     // One search where the text is new, as most are where there are many.
-    let Some(row) = groups.insert(key, first)? else {
+    let Some(row) = groups.insert(key, first_row(block, head))? else {
         return Ok(());
     };
-    let more = CallerRow {
-        blocks: row.blocks + 1,
-        bytes: row.bytes + block.size,
-        heads: row.heads + one,
-        caller: row.caller,
-    };
-    groups.insert(key, more)?;
+    groups.insert(key, longer_row(row, block, head))?;
     Ok(())
 }
 
@@ -83,7 +95,7 @@ fn leaks_with_places(
 }
 
 /// The blocks that the set leaves out, by ascending place. Those of one place stay in order, and so do those of one text.
-fn leaks_by_place(
+pub(crate) fn leaks_by_place(
     alloc: Global,
     prefix: &[u8],
     blocks: &[Block],
@@ -100,31 +112,50 @@ fn leaks_by_place(
     Ok(leaks)
 }
 
-/// The rows of the blocks that the set leaves out, by the text of their caller and its place by the prefix.
+/// The rows of the leaked blocks, by the text of their caller and its place by the prefix.
 ///
 /// Keys that ascend are put at the map's end one after another, however many there are.
-pub fn leaked_groups<'a>(
+fn leaked_groups<'a>(
     alloc: Global,
-    prefix: &[u8],
-    blocks: &[Block],
-    set: &[bool],
-    heads: &[bool],
-    log: &'a [u8],
+    leaked: &Leaked<'a>,
+    leaks: &[PlacedLeak],
 ) -> Result<BTreeMap<Key<'a>, CallerRow>, AllocError>
-    requires one_each { length set.now ≡ length blocks.now }
-    requires an_entry_each { length heads.now ≡ length blocks.now }
-    requires in_log { HaveCallersIn log.now blocks.now }
-    requires fits { bytes_of blocks.now < 2 ^ 64 }
-    ensures { IfOk result (AreGroups prefix.now log.now (leaks_in set.now heads.now blocks.now)) }
+    requires complete { IsComplete leaked.now }
+    requires by_place { let l = leaked.now in
+        AreByPlace l.prefix.now l.log.now l.set.now l.blocks.now leaks.now }
+    ensures { let l = leaked.now in
+        IfOk result (AreGroups l.prefix.now l.log.now (leaks_in l.set.now l.heads.now l.blocks.now)) }
 {
-    let leaks = leaks_by_place(alloc, prefix, blocks, set, log)?;
+    let Leaked {
+        blocks,
+        heads,
+        log,
+        ..
+    } = *leaked;
     let mut groups = BTreeMap::new(alloc);
-    for leak in leaks.as_slice() {
+    for leak in leaks {
         let block = &blocks[leak.number];
         let key = (leak.place, caller_text(log, block.caller));
         add(&mut groups, key, block, heads[leak.number])?;
     }
     Ok(groups)
+}
+
+/// The rows of the leaked blocks in the order of their texts, in whichever order the blocks are.
+pub(crate) fn grouped_rows(
+    alloc: Global,
+    leaked: &Leaked,
+    leaks: &[PlacedLeak],
+) -> Result<Vec<CallerRow>, AllocError>
+    requires complete { IsComplete leaked.now }
+    requires by_place { let l = leaked.now in
+        AreByPlace l.prefix.now l.log.now l.set.now l.blocks.now leaks.now }
+    ensures { let l = leaked.now in
+        IfOk result (λ rows. AreByText l.prefix.now l.log.now
+        (leaks_in l.set.now l.heads.now l.blocks.now) rows.items) }
+{
+    let groups = leaked_groups(alloc, leaked, leaks)?;
+    rows_of(alloc, &groups)
 }
 
 /// The rows, in the order of their texts.
@@ -138,23 +169,5 @@ fn rows_of(alloc: Global, groups: &BTreeMap<Key, CallerRow>) -> Result<Vec<Calle
     for row in given {
         rows.push(*row)?;
     }
-    Ok(rows)
-}
-
-/// The rows, the most bytes first. Those with equal bytes stay in the order of their texts, since the sort is stable.
-pub fn ranked_rows(
-    alloc: Global,
-    groups: &BTreeMap<Key, CallerRow>,
-) -> Result<Vec<CallerRow>, AllocError>
-    ensures ordered { IsOrdered order_of_keys groups.now }
-    ensures permutation { IfOk result (λ rows. IsPermutation (values groups.now) rows.items) }
-    ensures sorted { IfOk result
-        (λ rows. IsSortedByKey (λ row. row.bytes) (λ x y. nat_cmp y x) rows.items) }
-    ensures stable { IfOk result
-        (λ rows. IsStableByKey (λ row. row.bytes) (λ x y. nat_cmp y x) (values groups.now)
-        rows.items) }
-{
-    let mut rows = rows_of(alloc, groups)?;
-    rows.sort_by_key(|row| Reverse(row.bytes))?;
     Ok(rows)
 }

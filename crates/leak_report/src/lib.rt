@@ -10,6 +10,7 @@
 //! for a writer that tells its bytes alone.
 #![tactic(auto)]
 
+mod by_text;
 mod grouping;
 mod head;
 mod laws;

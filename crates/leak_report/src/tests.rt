@@ -212,6 +212,26 @@ fn callers_stand_by_their_bytes(rt: HostRuntime) -> Result<(), Fail> {
             leak 0x10600 32 6 head .\n\
             leak 0x10700 32 7 head ./a:[0x5]\n",
         ),
+        // two callers of another file in turn
+        (
+            "@ ./b:[0x1] + 0x10100 0x20\n\
+            @ ./a:1 + 0x10200 0x20\n\
+            @ ./a:2 + 0x10300 0x20\n\
+            @ ./a:1 + 0x10400 0x20\n",
+            "blocks 4 bytes 128\n\
+            undumped 0\n\
+            unknown 0 displaced 0 torn 0\n\
+            marked 0 bytes 0\n\
+            leaked 4 bytes 128\n\
+            heads 4\n\
+            caller 2 64 2 ./a:1\n\
+            caller 1 32 1 ./a:2\n\
+            caller 1 32 1 ./b:[0x1]\n\
+            leak 0x10100 32 1 head ./b:[0x1]\n\
+            leak 0x10200 32 2 head ./a:1\n\
+            leak 0x10300 32 3 head ./a:2\n\
+            leak 0x10400 32 4 head ./a:1\n",
+        ),
         // one caller alone
         (
             "@ ./a:[0x1] + 0x10100 0x20\n@ ./a:[0x1] + 0x10200 0x20\n",

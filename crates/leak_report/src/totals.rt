@@ -2,7 +2,7 @@
 ghost use Rattle.std.specs.Prelude.{◌≡◌, ◌^◌, ◌<◌, length, IfOk};
 ghost use Rattle.leak_report.specs.Totals.{marked_in, leaked_in, leaks_in, bytes_of, heads_in, rows_of, HaveCallersIn};
 
-use crate::grouping::{leaked_groups, ranked_rows};
+use crate::by_text::{Leaked, ranked_rows};
 use crate::places::prefix_of;
 use leak_blocks::{Block, Live};
 use std::alloc::{AllocError, Global};
@@ -59,12 +59,18 @@ impl Totals {
         let blocks = live.blocks();
         let bytes = live.bytes();
         let (marked, marked_bytes) = marked_sizes(blocks, set);
-        let leaked = blocks.len() as u64 - marked;
-        let prefix = prefix_of(blocks, set, leaked, log);
-        let groups = leaked_groups(alloc, prefix, blocks, set, heads, log)?;
-        let rows = ranked_rows(alloc, &groups)?;
+        let number = blocks.len() as u64 - marked;
+        let prefix = prefix_of(blocks, set, number, log);
+        let leaked = Leaked {
+            prefix,
+            blocks,
+            set,
+            heads,
+            log,
+        };
+        let rows = ranked_rows(alloc, &leaked)?;
         Ok(Totals {
-            blocks: leaked,
+            blocks: number,
             bytes: bytes - marked_bytes,
             heads: count_heads(blocks, set, heads),
             rows,

@@ -5,4 +5,4 @@ use Rattle.leak_report.specs.Listing.{leak_of}
 use Rattle.leak_report.proofs.grouping.leaked_groups.Given as goal
 
 abbrev pub invariant-loop-leak : goal.invariant-loop-leak
-invariant-loop-leak l = AreGroups l.prefix l.log (map (leak_of l.heads l.blocks) (take l.leak-index l.leak-items)) l.groups
+invariant-loop-leak l = AreGroups l.leaked.prefix.now l.leaked.log.now (map (leak_of l.leaked.heads.now l.leaked.blocks.now) (take l.leak-index l.leaks)) l.groups

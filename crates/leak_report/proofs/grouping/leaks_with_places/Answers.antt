@@ -1,4 +1,4 @@
-use Rattle.std.proofs.Common.{arith, ap, ◌∙◌}
+use Rattle.std.proofs.Common.{ap, ◌∙◌}
 use Rattle.leak_report.specs.Places.{place_of}
 use Rattle.leak_report.proofs.Listed.{first_none, first_more, first_same, first_all}
 use Rattle.leak_report.proofs.grouping.leaks_with_places.Goals as goal

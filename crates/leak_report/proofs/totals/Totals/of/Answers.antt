@@ -5,8 +5,8 @@ use Rattle.leak_report.proofs.PlaceLemmas.{are_bytes}
 use Rattle.leak_report.proofs.Orders.{rows_are}
 use Rattle.leak_report.proofs.totals.Totals.of.Goals as goal
 
-pub overflow_sub-leaked : goal.overflow_sub-leaked
-overflow_sub-leaked c = omega (arith, c.marked_sizes-marked.ensures.number, length-marked c.args.set.now c.blocks-blocks.result.now)
+pub overflow_sub-number : goal.overflow_sub-number
+overflow_sub-number c = omega (arith, c.marked_sizes-marked.ensures.number, length-marked c.args.set.now c.blocks-blocks.result.now)
 
 pub overflow_sub-result : goal.overflow_sub-result
 overflow_sub-result c =
@@ -30,6 +30,7 @@ returns-clause-bytes c =
 
 pub returns-clause-rows : goal.returns-clause-rows
 returns-clause-rows c =
+    let ranked = c.in_ok-rows.ensures in
     rw (← c.blocks-blocks.ensures.value)
-    (rows_are c.prefix_of-prefix.result.now c.args.log.now (leaks_in c.args.set.now c.args.heads.now c.blocks-blocks.result.now) c.in_ok-groups.groups c.in_ok-rows.rows.items (are_bytes c.args.log.now c.type_inv.log) c.ranked_rows.ensures.ordered
-    c.in_ok-groups.ensures c.in_ok-rows.ensures.permutation c.in_ok-rows.ensures.sorted c.in_ok-rows.ensures.stable)
+    (rows_are c.prefix_of-prefix.result.now c.args.log.now (leaks_in c.args.set.now c.args.heads.now c.blocks-blocks.result.now) ranked.given c.in_ok-rows.rows.items (are_bytes c.args.log.now c.type_inv.log)
+    ranked.by_text ranked.permutation ranked.sorted ranked.stable)

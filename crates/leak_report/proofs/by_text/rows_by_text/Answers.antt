@@ -1,0 +1,129 @@
+-- One more leaked block, with a greater key, the last one or a lesser one.
+use Rattle.std.proofs.Common.{◌≡◌, ℕ, List, ◌-◌, length, map, take, get_or, Some, refl, sym, ap, subst, ◌∙◌, arith}
+use Rattle.std.proofs.lemmas.List.{take_all}
+use Rattle.leak_report.specs.declared.grouping.PlacedLeak.{PlacedLeak}
+use Rattle.leak_report.specs.declared.totals.CallerRow.{CallerRow}
+use Rattle.leak_report.specs.Places.{place_of}
+use Rattle.leak_report.specs.Totals.{Leak}
+use Rattle.leak_report.specs.Groups.{Key, HasRoom, with_leak, AreEntries}
+use Rattle.leak_report.specs.Listing.{AreByPlace, block_of, leak_of}
+use Rattle.leak_report.proofs.Ascending.{ascending_more, ascending_same, ascending_all, last_is_ready}
+use Rattle.leak_report.proofs.Listed.{entries_sorted, inside_sorted, sorted_more}
+use Rattle.leak_report.proofs.by_text.rows_by_text.Goals as goal
+use Rattle.leak_report.proofs.by_text.rows_by_text.Goals.{in-Less+in_ok-push-in-Less, in-Equal}
+
+no_leak : PlacedLeak
+no_leak = record { place = 0; number = 0 }
+
+no_row : CallerRow
+no_row = record { blocks = 0; bytes = 0; heads = 0; caller = (0, 0) }
+
+pub loop-leak-init : goal.loop-leak-init
+loop-leak-init c = (c.new-rows.ensures.items, refl)
+
+pub offset_bounds-blocks-leak : goal.offset_bounds-blocks-leak
+unfolding no_leak
+offset_bounds-blocks-leak c =
+    let l = c.args.leaked.now in
+    let i = inside_sorted l.prefix.now l.log.now l.set.now l.blocks.now c.in_ok-leaks.leaks.items c.as_slice-leak-items.result.now c.loop-leak.leak-index no_leak c.in_ok-leaks.ensures c.as_slice-leak-items.ensures.value c.loop-leak-test.true in
+    let h = i.inside in omega arith
+
+pub bounds-blocks-leak : goal.bounds-blocks-leak
+unfolding no_leak
+bounds-blocks-leak c =
+    let l = c.args.leaked.now in
+    let i = inside_sorted l.prefix.now l.log.now l.set.now l.blocks.now c.in_ok-leaks.leaks.items c.as_slice-leak-items.result.now c.loop-leak.leak-index no_leak c.in_ok-leaks.ensures c.as_slice-leak-items.ensures.value c.loop-leak-test.true in
+    i.inside
+
+pub bounds-heads-leak : goal.bounds-heads-leak
+unfolding no_leak
+bounds-heads-leak c =
+    let l = c.args.leaked.now in
+    let i = inside_sorted l.prefix.now l.log.now l.set.now l.blocks.now c.in_ok-leaks.leaks.items c.as_slice-leak-items.result.now c.loop-leak.leak-index no_leak c.in_ok-leaks.ensures c.as_slice-leak-items.ensures.value c.loop-leak-test.true in
+    let h = i.inside in let e = c.requires.an_entry_each in omega arith
+
+pub overflow_sub-end : goal.overflow_sub-end
+unfolding no_leak
+overflow_sub-end c =
+    let l = c.args.leaked.now in
+    let items = c.as_slice-leak-items.result.now in
+    let key : Key = ((get_or items c.loop-leak.leak-index no_leak).place, c.caller_text.result) in
+    let by : AreByPlace l.prefix.now l.log.now l.set.now l.blocks.now items = subst (AreByPlace l.prefix.now l.log.now l.set.now l.blocks.now) (sym c.as_slice-leak-items.ensures.value) c.in_ok-leaks.ensures in
+    let ready = last_is_ready l.prefix.now l.log.now l.set.now l.heads.now l.blocks.now items c.loop-leak.leak-index no_leak c.loop-leak.rows.items key c.loop-leak.last no_row by c.requires.an_entry_each
+    c.loop-leak-test.true (omega arith) c.requires.fits c.loop-leak.invariant (sym c.order.ensures ∙ c.in-Equal.is) in
+    omega (arith, ready.0, c.len-end.ensures)
+
+pub index-requires : goal.index-requires
+unfolding no_leak
+index-requires c =
+    let l = c.args.leaked.now in
+    let items = c.as_slice-leak-items.result.now in
+    let key : Key = ((get_or items c.loop-leak.leak-index no_leak).place, c.caller_text.result) in
+    let by : AreByPlace l.prefix.now l.log.now l.set.now l.blocks.now items = subst (AreByPlace l.prefix.now l.log.now l.set.now l.blocks.now) (sym c.as_slice-leak-items.ensures.value) c.in_ok-leaks.ensures in
+    let ready = last_is_ready l.prefix.now l.log.now l.set.now l.heads.now l.blocks.now items c.loop-leak.leak-index no_leak c.loop-leak.rows.items key c.loop-leak.last no_row by c.requires.an_entry_each
+    c.loop-leak-test.true (omega arith) c.requires.fits c.loop-leak.invariant (sym c.order.ensures ∙ c.in-Equal.is) in
+    omega (arith, ready.0, c.len-end.ensures)
+
+pub longer_row-requires : goal.longer_row-requires
+unfolding no_leak
+longer_row-requires c =
+    let l = c.args.leaked.now in
+    let items = c.as_slice-leak-items.result.now in
+    let key : Key = ((get_or items c.loop-leak.leak-index no_leak).place, c.caller_text.result) in
+    let by : AreByPlace l.prefix.now l.log.now l.set.now l.blocks.now items = subst (AreByPlace l.prefix.now l.log.now l.set.now l.blocks.now) (sym c.as_slice-leak-items.ensures.value) c.in_ok-leaks.ensures in
+    let ready = last_is_ready l.prefix.now l.log.now l.set.now l.heads.now l.blocks.now items c.loop-leak.leak-index no_leak c.loop-leak.rows.items key c.loop-leak.last c.index.result.now by c.requires.an_entry_each
+    c.loop-leak-test.true (omega arith) c.requires.fits c.loop-leak.invariant (sym c.order.ensures ∙ c.in-Equal.is) in
+    let size : c.len-end.result ≡ length c.loop-leak.rows.items = omega (arith, c.len-end.ensures) in
+    let at : c.index.result.now ≡ get_or c.loop-leak.rows.items (length c.loop-leak.rows.items - 1) c.index.result.now =
+    c.index.ensures ∙ ap (λ (n : ℕ). get_or c.loop-leak.rows.items (n - 1) c.index.result.now) size in
+    subst (λ (r : CallerRow). HasRoom r (block_of l.blocks.now (get_or items c.loop-leak.leak-index no_leak))) (sym at) ready.1
+
+pub index_mut-requires : goal.index_mut-requires
+unfolding no_leak
+index_mut-requires c =
+    let l = c.args.leaked.now in
+    let items = c.as_slice-leak-items.result.now in
+    let key : Key = ((get_or items c.loop-leak.leak-index no_leak).place, c.caller_text.result) in
+    let by : AreByPlace l.prefix.now l.log.now l.set.now l.blocks.now items = subst (AreByPlace l.prefix.now l.log.now l.set.now l.blocks.now) (sym c.as_slice-leak-items.ensures.value) c.in_ok-leaks.ensures in
+    let ready = last_is_ready l.prefix.now l.log.now l.set.now l.heads.now l.blocks.now items c.loop-leak.leak-index no_leak c.loop-leak.rows.items key c.loop-leak.last no_row by c.requires.an_entry_each
+    c.loop-leak-test.true (omega arith) c.requires.fits c.loop-leak.invariant (sym c.order.ensures ∙ c.in-Equal.is) in
+    omega (arith, ready.0, c.len-end.ensures)
+
+pub loop-leak-preserved : goal.loop-leak-preserved
+unfolding no_leak no_row
+loop-leak-preserved c =
+    let l = c.args.leaked.now in
+    let items = c.as_slice-leak-items.result.now in
+    let key : Key = ((get_or items c.loop-leak.leak-index no_leak).place, c.caller_text.result) in
+    let leak : Leak = leak_of l.heads.now l.blocks.now (get_or items c.loop-leak.leak-index no_leak) in
+    let before : List Leak = map (leak_of l.heads.now l.blocks.now) (take c.loop-leak.leak-index items) in
+    let i = inside_sorted l.prefix.now l.log.now l.set.now l.blocks.now c.in_ok-leaks.leaks.items items c.loop-leak.leak-index no_leak c.in_ok-leaks.ensures c.as_slice-leak-items.ensures.value c.loop-leak-test.true in
+    let place : key.0 ≡ place_of l.prefix.now key.1.now = i.place ∙ ap (place_of l.prefix.now) (sym c.caller_text.ensures) in
+    let more = sorted_more l.heads.now l.blocks.now items c.loop-leak.leak-index no_leak c.loop-leak-test.true in
+    elim c.match-order.branch [
+      | in-Less+in_ok-push-in-Less w ↦
+          rw (w.rows-is, w.last-is, w.in_ok-push-in-Less.ensures.items, w.first_row.ensures, more)
+          (ascending_more l.prefix.now l.log.now before c.loop-leak.rows.items key leak place c.caller_text.ensures c.loop-leak.last c.loop-leak.invariant (sym c.order.ensures ∙ w.in-Less.is))
+      | in-Equal w ↦
+          let size : w.len-end.result ≡ length c.loop-leak.rows.items = omega (arith, w.len-end.ensures) in
+          let at : w.index.result.now ≡ get_or c.loop-leak.rows.items (length c.loop-leak.rows.items - 1) w.index.result.now =
+          w.index.ensures ∙ ap (λ (n : ℕ). get_or c.loop-leak.rows.items (n - 1) w.index.result.now) size in
+          let longer : w.longer_row.result ≡ with_leak (Some (get_or c.loop-leak.rows.items (length c.loop-leak.rows.items - 1) w.index.result.now)) leak =
+          w.longer_row.ensures ∙ ap (λ (r : CallerRow). with_leak (Some r) leak) at in
+          rw (w.rows-is, w.last-is, size, longer, more)
+          (ascending_same l.prefix.now l.log.now before c.loop-leak.rows.items key leak place c.caller_text.ensures c.loop-leak.last w.index.result.now c.loop-leak.invariant (sym c.order.ensures ∙ w.in-Equal.is))
+    ]
+
+pub returns : goal.returns
+returns c =
+    let l = c.args.leaked.now in
+    let items = c.as_slice-leak-items.result.now in
+    let by : AreByPlace l.prefix.now l.log.now l.set.now l.blocks.now items = subst (AreByPlace l.prefix.now l.log.now l.set.now l.blocks.now) (sym c.as_slice-leak-items.ensures.value) c.in_ok-leaks.ensures in
+    let all = ascending_all l.prefix.now l.log.now _ c.loop-leak.rows.items c.loop-leak.last c.loop-leak.invariant in
+    record {
+      entries = all.entries;
+      ordered = all.ordered;
+      are = entries_sorted l.prefix.now l.log.now l.set.now l.heads.now l.blocks.now items all.entries by c.requires.an_entry_each
+          (subst (λ (xs : List PlacedLeak). AreEntries l.prefix.now l.log.now (map (leak_of l.heads.now l.blocks.now) xs) all.entries) (take_all c.loop-leak.leak-index items c.loop-leak-test.false) all.are);
+      listed = all.listed;
+    }

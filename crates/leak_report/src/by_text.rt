@@ -1,0 +1,86 @@
+//! Rows of leaked blocks in the order of their callers' texts.
+ghost use Rattle.std.specs.Prelude.{◌≡◌, IfOk};
+ghost use Rattle.leak_report.specs.Totals.{leaks_in};
+ghost use Rattle.leak_report.specs.Listing.{AreByText, AreRanked, IsComplete, order_after};
+
+use crate::grouping::{Key, first_row, grouped_rows, leaks_by_place, longer_row};
+use crate::lines::caller_text;
+use crate::totals::CallerRow;
+use leak_blocks::Block;
+use std::alloc::{AllocError, Global};
+use std::cmp::{Ordering, Reverse};
+
+/// Blocks, some of which leaked, and the log that their callers are ranges of.
+#[derive(Clone, Copy)]
+pub(crate) struct Leaked<'a> {
+    /// The bytes that the places of texts are told after.
+    pub(crate) prefix: &'a [u8],
+    pub(crate) blocks: &'a [Block],
+    /// For each block, whether it is no leaked one.
+    pub(crate) set: &'a [bool],
+    /// For each block, whether it is a head. Of those in the set it says nothing.
+    pub(crate) heads: &'a [bool],
+    pub(crate) log: &'a [u8],
+}
+
+/// How the last key stands to one more, where there is a last one. Each key stands after none.
+fn order(last: Option<Key>, key: Key) -> Ordering
+    ensures { result ≡ order_after last.entry key.entry }
+{
+    match last {
+        None => Ordering::Less,
+        Some(last) => last.cmp(&key),
+    }
+}
+
+/// The rows of the leaked blocks, in the order of their texts.
+///
+/// Where the keys of the blocks by place ascend, those of one text follow one another, and no map is needed. They do but for
+/// texts that differ and have one place.
+fn rows_by_text(alloc: Global, leaked: &Leaked) -> Result<Vec<CallerRow>, AllocError>
+    requires { IsComplete leaked.now }
+    ensures { let l = leaked.now in
+        IfOk result (λ rows. AreByText l.prefix.now l.log.now
+        (leaks_in l.set.now l.heads.now l.blocks.now) rows.items) }
+{
+    let Leaked {
+        prefix,
+        blocks,
+        set,
+        heads,
+        log,
+    } = *leaked;
+    let leaks = leaks_by_place(alloc, prefix, blocks, set, log)?;
+    let mut rows = Vec::new(alloc);
+    let mut last = None;
+    for leak in leaks.as_slice() {
+        let block = &blocks[leak.number];
+        let head = heads[leak.number];
+        let key = (leak.place, caller_text(log, block.caller));
+        match order(last, key) {
+            Ordering::Less => {
+                rows.push(first_row(block, head))?;
+                last = Some(key);
+            }
+            Ordering::Equal => {
+                let end = rows.len() - 1;
+                rows[end] = longer_row(rows[end], block, head);
+            }
+            Ordering::Greater => return grouped_rows(alloc, leaked, leaks.as_slice()),
+        }
+    }
+    Ok(rows)
+}
+
+/// The rows of the leaked blocks, the most bytes first. Those with equal bytes stay in the order of their texts, since the
+/// sort is stable.
+pub(crate) fn ranked_rows(alloc: Global, leaked: &Leaked) -> Result<Vec<CallerRow>, AllocError>
+    requires { IsComplete leaked.now }
+    ensures { let l = leaked.now in
+        IfOk result (λ rows. AreRanked l.prefix.now l.log.now
+        (leaks_in l.set.now l.heads.now l.blocks.now) rows.items) }
+{
+    let mut rows = rows_by_text(alloc, leaked)?;
+    rows.sort_by_key(|row| Reverse(row.bytes))?;
+    Ok(rows)
+}
