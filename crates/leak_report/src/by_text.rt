@@ -16,14 +16,14 @@ pub(crate) struct Leaked<'a> {
     /// The bytes that the places of texts are told after.
     pub(crate) prefix: &'a [u8],
     pub(crate) blocks: &'a [Block],
-    /// For each block, whether it is no leaked one.
+    /// For each block, whether it is marked. The others leaked.
     pub(crate) set: &'a [bool],
-    /// For each block, whether it is a head. Of those in the set it says nothing.
+    /// For each block, whether it is a head. Of marked blocks it says nothing.
     pub(crate) heads: &'a [bool],
     pub(crate) log: &'a [u8],
 }
 
-/// How the last key stands to one more, where there is a last one. Each key stands after none.
+/// How the last key, where there is one, stands to the next. Each key may be the first.
 fn order(last: Option<Key>, key: Key) -> Ordering
     ensures { result ≡ order_after last.entry key.entry }
 {
@@ -35,8 +35,8 @@ fn order(last: Option<Key>, key: Key) -> Ordering
 
 /// The rows of the leaked blocks, in the order of their texts.
 ///
-/// Where the keys of the blocks by place ascend, those of one text follow one another, and no map is needed. They do but for
-/// texts that differ and have one place.
+/// Where the keys of the blocks by place ascend, those of one text follow one another, and no map is needed. Only texts that
+/// differ and have one place may stand in another order.
 fn rows_by_text(alloc: Global, leaked: &Leaked) -> Result<Vec<CallerRow>, AllocError>
     requires { IsComplete leaked.now }
     ensures { let l = leaked.now in
