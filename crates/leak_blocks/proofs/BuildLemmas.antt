@@ -1,10 +1,8 @@
--- The list of blocks that is built from their numbers.
-use Rattle.std.proofs.Common.{◌≡◌, ℕ, refl, sym, subst, ap, ◌∙◌, List, [], ◌∷◌, ◌++◌, length, map, drop, append_assoc, append-nil}
+-- A list of numbered blocks that is built from their numbers.
+use Rattle.std.proofs.Common.{◌≡◌, ℕ, refl, sym, subst, ◌∙◌, List, [], ◌∷◌, ◌++◌, length, map, drop, append_assoc, append-nil}
 use Rattle.std.specs.List.{AllByRecursion}
-use Rattle.leak_mtrace.specs.declared.line.Line.{Line}
 use Rattle.leak_blocks.specs.declared.block.Block.{Block}
-use Rattle.leak_blocks.specs.Laws.{IsOfLine}
-use Rattle.leak_blocks.specs.Numbers.{AreNumbered}
+use Rattle.leak_blocks.specs.Numbers.{IsNumbered}
 
 -- the blocks that are built, and those whose numbers are left
 pub record AreBuilt (blocks built : List Block) (numbers : List ℕ) : Type 0 where
@@ -12,29 +10,26 @@ pub record AreBuilt (blocks built : List Block) (numbers : List ℕ) : Type 0 wh
   pub whole : blocks ≡ built ++ rest
   pub left : numbers ≡ map (λ b. b.line) rest
 
-pub built_at_first : (lines : List Line) (blocks built : List Block) (numbers : List ℕ) → AreNumbered lines numbers blocks → built ≡ [] → AreBuilt blocks built (drop 0 numbers)
-built_at_first lines blocks built numbers of e = record { rest = blocks; whole = ap (λ (l : List Block). l ++ blocks) (sym e); left = of.listed }
-
 -- the block of the next number
-pub record IsNext (lines : List Line) (blocks built : List Block) (number : ℕ) (numbers : List ℕ) : Type 0 where
+pub record IsNext (allocated : List Block) (blocks built : List Block) (number : ℕ) (numbers : List ℕ) : Type 0 where
   pub block : Block
   pub is_number : block.line ≡ number
-  pub of_line : IsOfLine lines block
+  pub is_numbered : IsNumbered allocated block
   pub later : AreBuilt blocks (built ++ block ∷ []) numbers
 
 pub all_behind : (P : Block → Type 0) (bs : List Block) (b : Block) (cs : List Block) → AllByRecursion P (bs ++ b ∷ cs) → P b
 all_behind P [] b cs h = h.0
 all_behind P (c ∷ bs) b cs h = all_behind P bs b cs h.1
 
-pub next_built : (lines : List Line) (blocks built : List Block) (before numbers : List ℕ) (number : ℕ) → AllByRecursion (IsOfLine lines) blocks → AreBuilt blocks built before → before ≡ number ∷ numbers → IsNext lines blocks built number numbers
-next_built lines blocks built before numbers number all b e = go b.rest b.whole (sym e ∙ b.left)
+pub next_built : (allocated : List Block) (blocks built : List Block) (before numbers : List ℕ) (number : ℕ) → AllByRecursion (IsNumbered allocated) blocks → AreBuilt blocks built before → before ≡ number ∷ numbers → IsNext allocated blocks built number numbers
+next_built allocated blocks built before numbers number all b e = go b.rest b.whole (sym e ∙ b.left)
   where
-    go : (rest : List Block) → blocks ≡ built ++ rest → number ∷ numbers ≡ map (λ b. b.line) rest → IsNext lines blocks built number numbers
+    go : (rest : List Block) → blocks ≡ built ++ rest → number ∷ numbers ≡ map (λ b. b.line) rest → IsNext allocated blocks built number numbers
     go [] w l = absurd cc
     go (c ∷ cs) w l = record {
       block = c;
       is_number = cc;
-      of_line = all_behind (IsOfLine lines) built c cs (subst (AllByRecursion (IsOfLine lines)) w all);
+      is_numbered = all_behind (IsNumbered allocated) built c cs (subst (AllByRecursion (IsNumbered allocated)) w all);
       later = record { rest = cs; whole = w ∙ sym (append_assoc built (c ∷ []) cs); left = cc };
     }
 

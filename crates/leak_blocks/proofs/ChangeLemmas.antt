@@ -15,8 +15,8 @@ use Rattle.leak_blocks.specs.declared.block.Block.{Block}
 use Rattle.leak_blocks.specs.Span.{AreDisjoint, span_end}
 use Rattle.leak_blocks.specs.Live.{among}
 use Rattle.leak_blocks.specs.Steps.{meets}
-use Rattle.leak_blocks.specs.Laws.{IsOfLine, IsIn}
-use Rattle.leak_blocks.specs.Numbers.{entry_of, entries_of, AreOf, IsMet}
+use Rattle.leak_blocks.specs.Laws.{IsIn}
+use Rattle.leak_blocks.specs.Numbers.{IsNumbered, entry_of, entries_of, AreOf, IsMet}
 use Rattle.leak_blocks.proofs.OrderLemmas.{all_filter, filter_disjoint}
 use Rattle.leak_blocks.proofs.NumberLemmas.{at_of}
 
@@ -134,35 +134,35 @@ pub counted : (x : Line) (bs : List Block) → length (unmet x bs) + count_by (m
 counted x bs = omega (arith, length-filter (meets x) bs, length-filter_both (meets x) (λ b. not (meets x b)) (λ b. refl) bs)
 
 -- the blocks that are left on the way
-pub record AreLeft (lines : List Line) (x : Line) (entries : List (ℕ × ℕ)) (blocks : List Block) : Type 0 where
+pub record AreLeft (allocated : List Block) (x : Line) (entries : List (ℕ × ℕ)) (blocks : List Block) : Type 0 where
   pub left : List Block
-  pub of : AreOf lines entries left
+  pub of : AreOf allocated entries left
   pub same : unmet x left ≡ unmet x blocks
 
-pub left_at_first : (lines : List Line) (x : Line) (entries : List (ℕ × ℕ)) (blocks : List Block) → AreOf lines entries blocks → AreLeft lines x entries blocks
-left_at_first lines x entries blocks of = record { left = blocks; of = of; same = refl }
+pub left_at_first : (allocated : List Block) (x : Line) (entries : List (ℕ × ℕ)) (blocks : List Block) → AreOf allocated entries blocks → AreLeft allocated x entries blocks
+left_at_first allocated x entries blocks of = record { left = blocks; of = of; same = refl }
 
-pub without : (lines : List Line) (entries fewer : List (ℕ × ℕ)) (blocks : List Block) (a : ℕ) → fewer ≡ remove_entry (is_at (nat_cmp a)) entries → AreOf lines entries blocks → AreOf lines fewer (elsewhere a blocks)
-without lines entries fewer blocks a e of = record {
+pub without : (allocated : List Block) (entries fewer : List (ℕ × ℕ)) (blocks : List Block) (a : ℕ) → fewer ≡ remove_entry (is_at (nat_cmp a)) entries → AreOf allocated entries blocks → AreOf allocated fewer (elsewhere a blocks)
+without allocated entries fewer blocks a e of = record {
   listed = e ∙ ap (remove_entry (is_at (nat_cmp a))) of.listed ∙ removed a blocks of.disjoint;
-  numbered = all_filter (IsOfLine lines) (λ b. not (a == b.start)) blocks of.numbered;
+  numbered = all_filter (IsNumbered allocated) (λ b. not (a == b.start)) blocks of.numbered;
   disjoint = filter_disjoint (λ b. not (a == b.start)) blocks of.disjoint;
 }
 
-pub found_entry : (lines : List Line) (entries : List (ℕ × ℕ)) (blocks : List Block) (x : Line) (a : ℕ) → AreOf lines entries blocks → IsMet x blocks (Some a) → is_some (lookup (is_at (nat_cmp a)) entries) ≡ true
-found_entry lines entries blocks x a of m =
+pub found_entry : (allocated : List Block) (entries : List (ℕ × ℕ)) (blocks : List Block) (x : Line) (a : ℕ) → AreOf allocated entries blocks → IsMet x blocks (Some a) → is_some (lookup (is_at (nat_cmp a)) entries) ≡ true
+found_entry allocated entries blocks x a of m =
     ap (λ (es : List (ℕ × ℕ)). is_some (lookup (is_at (nat_cmp a)) es)) of.listed ∙ looked_up a blocks
     ∙ subst (λ (k : ℕ). list_any (λ c. c.start == k) blocks ≡ true) m.2 (listed_start m.0 blocks m.1)
 
-pub left_after : (lines : List Line) (x : Line) (entries fewer : List (ℕ × ℕ)) (blocks : List Block) (a : ℕ) (l : AreLeft lines x entries blocks) → IsMet x l.left (Some a) → fewer ≡ remove_entry (is_at (nat_cmp a)) entries → AreLeft lines x fewer blocks
-left_after lines x entries fewer blocks a l m e = record {
+pub left_after : (allocated : List Block) (x : Line) (entries fewer : List (ℕ × ℕ)) (blocks : List Block) (a : ℕ) (l : AreLeft allocated x entries blocks) → IsMet x l.left (Some a) → fewer ≡ remove_entry (is_at (nat_cmp a)) entries → AreLeft allocated x fewer blocks
+left_after allocated x entries fewer blocks a l m e = record {
   left = elsewhere a l.left;
-  of = without lines entries fewer l.left a e l.of;
+  of = without allocated entries fewer l.left a e l.of;
   same = subst (λ (k : ℕ). unmet x (elsewhere k l.left) ≡ unmet x l.left) m.2 (unmet_without x m.0 l.left l.of.disjoint m.1 m.3) ∙ l.same;
 }
 
-pub left_at_last : (lines : List Line) (x : Line) (entries : List (ℕ × ℕ)) (blocks : List Block) (l : AreLeft lines x entries blocks) → list_any (meets x) l.left ≡ false → entries ≡ entries_of (unmet x blocks)
-left_at_last lines x entries blocks l h = l.of.listed ∙ ap entries_of (sym (all_unmet x l.left h) ∙ l.same)
+pub left_at_last : (allocated : List Block) (x : Line) (entries : List (ℕ × ℕ)) (blocks : List Block) (l : AreLeft allocated x entries blocks) → list_any (meets x) l.left ≡ false → entries ≡ entries_of (unmet x blocks)
+left_at_last allocated x entries blocks l h = l.of.listed ∙ ap entries_of (sym (all_unmet x l.left h) ∙ l.same)
 
 entries_many : (bs : List Block) → length (entries_of bs) ≡ length bs
 entries_many [] = refl

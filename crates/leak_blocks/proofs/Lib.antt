@@ -4,10 +4,13 @@ pub mod GrowthLemmas
 pub mod LiveLemmas
 pub mod LineLemmas
 pub mod NumberLemmas
+pub mod NumberedLemmas
 pub mod ChangeLemmas
 pub mod StepLemmas
 pub mod SumLemmas
 pub mod BuildLemmas
+pub mod GatherLemmas
 pub mod SmallLemmas
+pub mod ReadLemmas
 pub mod RunLemmas
 pub mod CourseLemmas

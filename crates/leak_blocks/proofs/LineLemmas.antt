@@ -1,13 +1,11 @@
 -- Live blocks are those of their lines, and have their addresses in 64 bits.
-use Rattle.std.proofs.Common.{◌≡◌, ℕ, zero, suc, ◌+◌, ◌-◌, ◌^◌, ◌<◌, ◌≤◌, ◌⊎◌, inl, inr, Bool, true, false, not, ◌&&◌, refl, sym, subst, ap, ◌∙◌, true≢false, List, [], ◌∷◌, ◌++◌, length, take, drop, Some, None, slice_get, arith, ◌==◌, nat_lt, if◌then◌else◌, append_assoc, length-append}
+use Rattle.std.proofs.Common.{◌≡◌, ℕ, ◌+◌, ◌-◌, ◌^◌, ◌<◌, ◌≤◌, ◌⊎◌, inl, inr, Bool, true, false, not, ◌&&◌, refl, sym, subst, ap, ◌∙◌, true≢false, List, [], ◌∷◌, ◌++◌, length, Some, None, slice_get, arith, ◌==◌, nat_lt, if◌then◌else◌, append_assoc, length-append}
 use Rattle.std.specs.List.{list_any, cons_option, AllByRecursion}
 use Rattle.std.proofs.lemmas.Bool.Decides.{nat_tests}
-use Rattle.std.proofs.lemmas.List.{take-append-drop}
 use Rattle.leak_mtrace.specs.declared.line.Kind.{Kind}
 use Rattle.leak_mtrace.specs.declared.line.Kind.TheVariants.{Alloc, Free, MoveOut, MoveIn, Failed, Remark}
 use Rattle.leak_mtrace.specs.declared.line.Line.{Line}
 use Rattle.leak_mtrace.specs.Log.{IsPastEnd, LinesFit}
-use Rattle.leak_blocks.specs.declared.block.Block.{Block}
 use Rattle.leak_blocks.specs.Span.{IsAddressed, AreAddressed}
 use Rattle.leak_blocks.specs.Live.{allocates, block_of, live_of, is_allocation, ends}
 use Rattle.leak_blocks.specs.Laws.{IsOfLine}
@@ -42,23 +40,6 @@ of_lines_from lines q (x ∷ xs) e = go (is_allocation x) (not (list_any (ends x
 pub live_of_lines : (lines : List Line) → AllByRecursion (IsOfLine lines) (live_of lines)
 unfolding live_of
 live_of_lines lines = all_ascending (IsOfLine lines) (live_from [] lines) (of_lines_from lines [] lines refl)
-
--- ---- of the first lines
-
-longer_get : (xs ys : List Line) (n : ℕ) (x : Line) → slice_get xs n ≡ Some x → slice_get (xs ++ ys) n ≡ Some x
-longer_get [] ys n x e = absurd cc
-longer_get (y ∷ xs) ys zero x e = e
-longer_get (y ∷ xs) ys (suc n) x e = longer_get xs ys n x e
-
-all_longer : (xs ys : List Line) (bs : List Block) → AllByRecursion (IsOfLine xs) bs → AllByRecursion (IsOfLine (xs ++ ys)) bs
-all_longer xs ys [] h = tt
-all_longer xs ys (b ∷ bs) h = (
-  record { line = h.0.line; numbered = h.0.numbered; within = omega (arith, h.0.within, length-append xs ys); at = longer_get xs ys (b.line - 1) h.0.line h.0.at; allocates = h.0.allocates; same = h.0.same },
-  all_longer xs ys bs h.1,
-)
-
-pub first_of_lines : (lines : List Line) (n : ℕ) → AllByRecursion (IsOfLine lines) (live_of (take n lines))
-first_of_lines lines n = subst (λ (l : List Line). AllByRecursion (IsOfLine l) (live_of (take n lines))) (take-append-drop n lines) (all_longer (take n lines) (drop n lines) (live_of (take n lines)) (live_of_lines (take n lines)))
 
 -- ---- addresses
 

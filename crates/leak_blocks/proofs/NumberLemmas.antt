@@ -1,14 +1,15 @@
 -- The map of a replay, read as the blocks that it stands for.
-use Rattle.std.proofs.Common.{◌≡◌, ℕ, zero, suc, ◌+◌, ◌-◌, ◌<◌, ◌≤◌, max, ◌⊎◌, inl, inr, Bool, true, false, not, ◌&&◌, ◌||◌, cond, refl, sym, subst, ap, ◌∙◌, List, [], ◌∷◌, ◌++◌, length, filter, Some, slice_get, get_or, arith, nat_lt}
+use Rattle.std.proofs.Common.{◌≡◌, ℕ, ◌+◌, ◌-◌, ◌<◌, ◌≤◌, max, ◌⊎◌, inl, inr, Bool, true, false, not, ◌&&◌, ◌||◌, cond, refl, sym, subst, ap, ◌∙◌, List, [], ◌∷◌, ◌++◌, length, filter, Some, arith, nat_lt}
 use Rattle.std.specs.List.{list_any, AllByRecursion}
 use Rattle.std.specs.Ordering.{nat_cmp, is_lt}
 use Rattle.std.proofs.lemmas.Bool.Decides.{nat_tests}
+use Rattle.std.proofs.lemmas.Option.{slice_get_within}
 use Rattle.leak_mtrace.specs.declared.line.Line.{Line}
 use Rattle.leak_blocks.specs.declared.block.Block.{Block}
 use Rattle.leak_blocks.specs.Span.{AreDisjoint, span_end}
 use Rattle.leak_blocks.specs.Steps.{meets}
-use Rattle.leak_blocks.specs.Laws.{IsOfLine, IsIn}
-use Rattle.leak_blocks.specs.Numbers.{entry_of, entries_of, AreOf, IsMet}
+use Rattle.leak_blocks.specs.Laws.{IsIn}
+use Rattle.leak_blocks.specs.Numbers.{IsNumbered, IsAllocationAt, HasPlaceOf, entry_of, entries_of, AreOf, IsMet}
 use Rattle.leak_blocks.proofs.OrderLemmas.{is_less, is_not_less, less_of, not_less_of}
 
 -- ---- the last block that begins by an address
@@ -102,22 +103,15 @@ unmet_by x last b h bs others = all_weaker (λ c. (last < c.start) ⊎ (span_end
     nearer c (inl l) = inl l
     nearer c (inr l) = inr (omega (arith, h, l))
 
--- ---- lines by their numbers
-
-pub got : (xs : List Line) (n : ℕ) (x d : Line) → slice_get xs n ≡ Some x → get_or xs n d ≡ x
-got [] n x d e = absurd cc
-got (y ∷ xs) zero x d e = cc
-got (y ∷ xs) (suc n) x d e = got xs n x d e
-
--- the number of an entry is that of a line
-pub number_within : (lines : List Line) (entries : List (ℕ × ℕ)) (blocks : List Block) (last : ℕ) (e : ℕ × ℕ) → AreOf lines entries blocks → IsLast last blocks e → (0 < e.1) × (e.1 ≤ length lines)
-number_within lines entries blocks last e of l =
-    let k : IsOfLine lines l.block = at_of (IsOfLine lines) l.block blocks of.numbered l.listed in
-    subst (λ (p : ℕ × ℕ). (0 < p.1) × (p.1 ≤ length lines)) l.entry (k.numbered, k.within)
+-- the number of an entry is that of an allocation
+pub number_within : (allocated : List Block) (entries : List (ℕ × ℕ)) (blocks : List Block) (last : ℕ) (e : ℕ × ℕ) → AreOf allocated entries blocks → IsLast last blocks e → e.1 < length allocated
+number_within allocated entries blocks last e of l =
+    let k : IsNumbered allocated l.block = at_of (IsNumbered allocated) l.block blocks of.numbered l.listed in
+    subst (λ (p : ℕ × ℕ). p.1 < length allocated) l.entry (slice_get_within allocated l.block.line k.0 k.1.at)
 
 -- ---- what the map says of an allocation, whose last address this is
 
-module _ (lines : List Line) (entries : List (ℕ × ℕ)) (blocks : List Block) (of : AreOf lines entries blocks) (last : ℕ) where
+module _ (allocated : List Block) (entries : List (ℕ × ℕ)) (blocks : List Block) (of : AreOf allocated entries blocks) (last : ℕ) where
   pub last_listed : (t : List (ℕ × ℕ)) (e : ℕ × ℕ) → filter (is_by last) entries ≡ t ++ e ∷ [] → IsLast last blocks e
   last_listed t e h = last_by last blocks t e of.disjoint (sym (ap (filter (is_by last)) of.listed) ∙ h)
 
@@ -127,13 +121,13 @@ module _ (lines : List Line) (entries : List (ℕ × ℕ)) (blocks : List Block)
         (all_weaker (λ b. last < b.start) (λ b. (last < b.start) ⊎ (span_end b ≤ x.addr)) (λ b l. inl l) blocks
         (none_by last blocks (sym (ap (filter (is_by last)) of.listed) ∙ h)))
 
-    -- the block of the last entry, as it is read from its line
-    module _ (e : ℕ × ℕ) (found : Block) (is_found : (b : Block) → IsOfLine lines b → b.line ≡ e.1 → found ≡ b) (l : IsLast last blocks e) where
-      same : found ≡ l.block
-      same = is_found l.block (at_of (IsOfLine lines) l.block blocks of.numbered l.listed) (ap (λ (p : ℕ × ℕ). p.1) l.entry)
+    -- the allocation of the last entry
+    module _ (e : ℕ × ℕ) (found : Block) (is_found : IsAllocationAt allocated e.1 found) (l : IsLast last blocks e) where
+      same : HasPlaceOf found l.block
+      same = is_found l.block (at_of (IsNumbered allocated) l.block blocks of.numbered l.listed) (ap (λ (p : ℕ × ℕ). p.1) l.entry)
 
       pub found_met : x.addr - found.start < max found.size 1 → IsMet x blocks (Some found.start)
-      found_met h = (l.block, l.listed, ap (λ (b : Block). b.start) (sym same), met_by x last l.block is_last l.begins (subst (λ (b : Block). x.addr - b.start < max b.size 1) same h))
+      found_met h = (l.block, l.listed, sym same.start, met_by x last l.block is_last l.begins (subst (λ (n : ℕ). x.addr - n < max l.block.size 1) same.start (subst (λ (n : ℕ). x.addr - found.start < max n 1) same.size h)))
 
       pub found_unmet : max found.size 1 ≤ x.addr - found.start → list_any (meets x) blocks ≡ false
-      found_unmet h = none_met x last is_last blocks (unmet_by x last l.block (subst (λ (b : Block). max b.size 1 ≤ x.addr - b.start) same h) blocks l.others)
+      found_unmet h = none_met x last is_last blocks (unmet_by x last l.block (subst (λ (n : ℕ). max l.block.size 1 ≤ x.addr - n) same.start (subst (λ (n : ℕ). max n 1 ≤ x.addr - found.start) same.size h)) blocks l.others)

@@ -13,8 +13,7 @@ use Rattle.leak_blocks.specs.declared.block.Block.{Block}
 use Rattle.leak_blocks.specs.Span.{AreDisjoint, span_end}
 use Rattle.leak_blocks.specs.Live.{among}
 use Rattle.leak_blocks.specs.Steps.{meets}
-use Rattle.leak_blocks.specs.Laws.{IsOfLine, IsBlockAt}
-use Rattle.leak_blocks.specs.Numbers.{entry_of, entries_of}
+use Rattle.leak_blocks.specs.Numbers.{IsNumbered, IsAllocationAt, HasPlaceOf, entry_of, entries_of}
 use Rattle.leak_blocks.specs.Runs.{AreBetween}
 use Rattle.leak_blocks.proofs.OrderLemmas.{among_before, among_behind, is_less, is_not_less, less_of, not_less_of}
 use Rattle.leak_blocks.proofs.NumberLemmas.{all_weaker}
@@ -74,23 +73,23 @@ pub record ArePlaced (blocks above : List Block) (entries : List (ℕ × ℕ)) (
   pub built : AreBuilt blocks placed numbers
   pub listed : entries ≡ entries_of (placed ++ above)
 
-pub placed_at_first : (lines : List Line) (entries : List (ℕ × ℕ)) (run : List ℕ) (below held above : List Block) → AreBetween lines entries run below held above → ArePlaced (below ++ held) above entries (drop 0 run)
-placed_at_first lines entries run below held above b = record { placed = below; built = record { rest = held; whole = refl; left = b.listed }; listed = b.mapped }
+pub placed_at_first : (allocated : List Block) (entries : List (ℕ × ℕ)) (run : List ℕ) (below held above : List Block) → AreBetween allocated entries run below held above → ArePlaced (below ++ held) above entries (drop 0 run)
+placed_at_first allocated entries run below held above b = record { placed = below; built = record { rest = held; whole = refl; left = b.listed }; listed = b.mapped }
 
-pub next_placed : (lines : List Line) (blocks above : List Block) (entries now : List (ℕ × ℕ)) (before numbers : List ℕ) (number : ℕ) (found : Block) → AllByRecursion (IsOfLine lines) blocks → AreDisjoint (blocks ++ above) →
-    ArePlaced blocks above entries before → before ≡ number ∷ numbers → IsBlockAt lines number found → now ≡ insert_entry nat_cmp entries found.start number → ArePlaced blocks above now numbers
-next_placed lines blocks above entries now before numbers number found all d p e at i =
-    let n : IsNext lines blocks p.placed number numbers = next_built lines blocks p.placed before numbers number all p.built e in
+pub next_placed : (allocated : List Block) (blocks above : List Block) (entries now : List (ℕ × ℕ)) (before numbers : List ℕ) (number : ℕ) (found : Block) → AllByRecursion (IsNumbered allocated) blocks → AreDisjoint (blocks ++ above) →
+    ArePlaced blocks above entries before → before ≡ number ∷ numbers → IsAllocationAt allocated number found → now ≡ insert_entry nat_cmp entries found.start number → ArePlaced blocks above now numbers
+next_placed allocated blocks above entries now before numbers number found all d p e at i =
+    let n : IsNext allocated blocks p.placed number numbers = next_built allocated blocks p.placed before numbers number all p.built e in
     let order : AreDisjoint (p.placed ++ n.block ∷ (n.later.rest ++ above)) =
     subst AreDisjoint (ap (λ (l : List Block). l ++ above) (n.later.whole ∙ append_assoc p.placed (n.block ∷ []) n.later.rest) ∙ append_assoc p.placed (n.block ∷ n.later.rest) above) d in
     let front : AllByRecursion (λ c. span_end c ≤ n.block.start) p.placed = ends_before n.block (n.later.rest ++ above) p.placed order in
     let back : AllByRecursion (λ c. span_end n.block ≤ c.start) above = all_back (λ c. span_end n.block ≤ c.start) n.later.rest above (disjoint_back p.placed (n.block ∷ (n.later.rest ++ above)) order).0 in
-    let same : found ≡ n.block = at n.block n.of_line n.is_number in
+    let same : HasPlaceOf found n.block = at n.block n.is_numbered n.is_number in
     record {
       placed = p.placed ++ n.block ∷ [];
       built = n.later;
       listed = i ∙ ap (λ (l : List (ℕ × ℕ)). insert_entry nat_cmp l found.start number) p.listed
-          ∙ ap (λ (s : ℕ). insert_entry nat_cmp (entries_of (p.placed ++ above)) s number) (ap (λ (b : Block). b.start) same)
+          ∙ ap (λ (s : ℕ). insert_entry nat_cmp (entries_of (p.placed ++ above)) s number) same.start
           ∙ ap (λ (k : ℕ). insert_entry nat_cmp (entries_of (p.placed ++ above)) n.block.start k) (sym n.is_number)
           ∙ inserted n.block (p.placed ++ above) (all_both (λ c. c.start ≢ n.block.start) p.placed above
           (all_weaker (λ c. span_end c ≤ n.block.start) (λ c. c.start ≢ n.block.start) (λ c l k. absurd (omega (arith, l, k))) p.placed front)
@@ -174,13 +173,13 @@ last_got xs number e =
     sym (take-length xs) ∙ ap (λ (k : ℕ). take k xs) more ∙ take_more xs (length xs - 1) number within
     ∙ ap (λ (n : ℕ). take (length xs - 1) xs ++ n ∷ []) (get_or_from_slice_get xs (length xs - 1) number number e)
 
--- the numbers are those of lines
-pub number_of_line : (lines : List Line) (bs : List Block) (k number : ℕ) → AllByRecursion (IsOfLine lines) bs → slice_get (map (λ b. b.line) bs) k ≡ Some number → (0 < number) × (number ≤ length lines)
-number_of_line lines [] k number h e = absurd cc
-number_of_line lines (b ∷ bs) zero number h e =
+-- the numbers are those of allocations
+pub number_of_allocation : (allocated bs : List Block) (k number : ℕ) → AllByRecursion (IsNumbered allocated) bs → slice_get (map (λ b. b.line) bs) k ≡ Some number → number < length allocated
+number_of_allocation allocated [] k number h e = absurd cc
+number_of_allocation allocated (b ∷ bs) zero number h e =
     let same : b.line ≡ number = cc in
-    subst (λ (n : ℕ). (0 < n) × (n ≤ length lines)) same (h.0.numbered, h.0.within)
-number_of_line lines (b ∷ bs) (suc k) number h e = number_of_line lines bs k number h.1 cc
+    subst (λ (n : ℕ). n < length allocated) same (slice_get_within allocated b.line h.0.0 h.0.1.at)
+number_of_allocation allocated (b ∷ bs) (suc k) number h e = number_of_allocation allocated bs k number h.1 cc
 
 -- ---- the place of a new block among those that it doesn't meet
 
@@ -326,15 +325,15 @@ pub record IsParted (first : ℕ) (below held above : List Block) : Type 0 where
   pub all : (below ++ held) ++ above ≡ front ++ (held ++ back)
 
 -- the address is the start of the run's first block, or 0
-pub parted_at_first : (lines : List Line) (entries : List (ℕ × ℕ)) (run : List ℕ) (below held above : List Block) (number : ℕ) (found : Block) → AreBetween lines entries run below held above → slice_get run 0 ≡ Some number → IsBlockAt lines number found →
+pub parted_at_first : (allocated : List Block) (entries : List (ℕ × ℕ)) (run : List ℕ) (below held above : List Block) (number : ℕ) (found : Block) → AreBetween allocated entries run below held above → slice_get run 0 ≡ Some number → IsAllocationAt allocated number found →
     IsParted found.start below held above
-parted_at_first lines entries run below [] above number found b e at = absurd (not_some (ap (λ (ns : List ℕ). slice_get ns 0) (sym b.listed) ∙ e))
+parted_at_first allocated entries run below [] above number found b e at = absurd (not_some (ap (λ (ns : List ℕ). slice_get ns 0) (sym b.listed) ∙ e))
   where
     not_some : slice_get [] 0 ≡ Some number → ⊥
     not_some h = cc
-parted_at_first lines entries run below (h ∷ held) above number found b e at =
+parted_at_first allocated entries run below (h ∷ held) above number found b e at =
     let numbered : h.line ≡ number = same_number (ap (λ (ns : List ℕ). slice_get ns 0) (sym b.listed) ∙ e) in
-    let same : found.start ≡ h.start = ap (λ (c : Block). c.start) (at h (all_back (IsOfLine lines) below (h ∷ held) b.numbered).0 numbered) in
+    let same : found.start ≡ h.start = (at h (all_back (IsNumbered allocated) below (h ∷ held) b.numbered).0 numbered).start in
     let order : AreDisjoint (below ++ h ∷ (held ++ above)) = subst AreDisjoint (append_assoc below (h ∷ held) above) b.disjoint in
     record {
       front = below;
@@ -348,12 +347,12 @@ parted_at_first lines entries run below (h ∷ held) above number found b e at =
     same_number : Some h.line ≡ Some number → h.line ≡ number
     same_number k = cc
 
-pub parted_at_none : (lines : List Line) (entries : List (ℕ × ℕ)) (run : List ℕ) (below held above : List Block) → AreBetween lines entries run below held above → slice_get run 0 ≡ None → IsParted 0 below held above
-parted_at_none lines entries run below (h ∷ held) above b e = absurd (not_none (ap (λ (ns : List ℕ). slice_get ns 0) (sym b.listed) ∙ e))
+pub parted_at_none : (allocated : List Block) (entries : List (ℕ × ℕ)) (run : List ℕ) (below held above : List Block) → AreBetween allocated entries run below held above → slice_get run 0 ≡ None → IsParted 0 below held above
+parted_at_none allocated entries run below (h ∷ held) above b e = absurd (not_none (ap (λ (ns : List ℕ). slice_get ns 0) (sym b.listed) ∙ e))
   where
     not_none : Some h.line ≡ None → ⊥
     not_none k = cc
-parted_at_none lines entries run below [] above b e = record {
+parted_at_none allocated entries run below [] above b e = record {
   front = [];
   back = below ++ above;
   whole = refl;
@@ -366,10 +365,10 @@ parted_at_none lines entries run below [] above b e = record {
     above_zero [] = tt
     above_zero (c ∷ bs) = (omega arith, above_zero bs)
 
-pub joined_parts : (lines : List Line) (entries : List (ℕ × ℕ)) (run : List ℕ) (below held above : List Block) (first : ℕ) → AreBetween lines entries run below held above → IsParted first below held above →
+pub joined_parts : (allocated : List Block) (entries : List (ℕ × ℕ)) (run : List ℕ) (below held above : List Block) (first : ℕ) → AreBetween allocated entries run below held above → IsParted first below held above →
     (until from : List (ℕ × ℕ)) (longer turned joined : List ℕ) (n : ℕ) → until ≡ filter (is_until first) entries → from ≡ filter (is_from first) entries → n ≡ length run → longer ≡ run ++ map (λ e. e.1) until →
     turned ≡ drop n longer ++ take n longer → joined ≡ turned ++ map (λ e. e.1) from → joined ≡ map (λ b. b.line) ((below ++ held) ++ above)
-joined_parts lines entries run below held above first b p until from longer turned joined n u f k l t j =
+joined_parts allocated entries run below held above first b p until from longer turned joined n u f k l t j =
     let ends : entries ≡ entries_of (p.front ++ p.back) = b.mapped ∙ ap entries_of p.whole in
     let fronts : map (λ (e : ℕ × ℕ). e.1) until ≡ map (λ b. b.line) p.front = ap (map (λ (e : ℕ × ℕ). e.1)) (u ∙ ap (filter (is_until first)) ends ∙ until_front first p.front p.back p.before p.after) ∙ numbers_of p.front in
     let backs : map (λ (e : ℕ × ℕ). e.1) from ≡ map (λ b. b.line) p.back = ap (map (λ (e : ℕ × ℕ). e.1)) (f ∙ ap (filter (is_from first)) ends ∙ from_front first p.front p.back p.before ∙ from_back first p.back p.after) ∙ numbers_of p.back in

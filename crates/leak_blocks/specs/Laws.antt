@@ -1,5 +1,5 @@
 -- What the live blocks of every log are like.
-use Rattle.std.specs.Prelude.{◌≡◌, ◌+◌, ◌-◌, ◌≤◌, ◌<◌, ◌⊎◌, cond, List, [], ◌∷◌, ◌++◌, length, slice_get, Some, IsTrue, if◌then◌else◌, count_by, ℕ}
+use Rattle.std.specs.Prelude.{◌≡◌, ◌+◌, ◌-◌, ◌≤◌, ◌<◌, ◌⊎◌, cond, List, [], ◌∷◌, ◌++◌, length, slice_get, Some, IsTrue, if◌then◌else◌, count_by}
 use Rattle.std.specs.List.{AllByRecursion}
 use Rattle.leak_mtrace.specs.declared.line.Line.{Line}
 use Rattle.leak_mtrace.specs.Log.{LinesFit}
@@ -20,10 +20,6 @@ pub record IsOfLine (lines : List Line) (b : Block) : Type 0 where
   pub at : slice_get lines (b.line - 1) ≡ Some line
   pub allocates : IsTrue (is_allocation line)
   pub same : b ≡ block_of b.line line
-
--- the block is this one, if it has the number
-abbrev pub IsBlockAt : List Line → ℕ → Block → Type 0
-IsBlockAt lines number found = (b : Block) → IsOfLine lines b → b.line ≡ number → found ≡ b
 
 -- so its caller is that of a line
 abbrev pub LiveAreOfLines : Type 0

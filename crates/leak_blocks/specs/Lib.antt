@@ -6,3 +6,4 @@ pub mod Laws
 pub mod Numbers
 pub mod Runs
 pub mod Examples
+pub mod Outcome

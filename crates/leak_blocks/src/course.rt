@@ -1,11 +1,13 @@
 //! A replay between two lines.
-ghost use Rattle.std.specs.Prelude.{◌≡◌, ◌+◌, ◌<◌, ◌++◌, map, length, slice_get, Some, IfOk, OnOk, true};
-ghost use Rattle.leak_mtrace.specs.Log.{LinesFit};
-ghost use Rattle.leak_blocks.specs.Live.{is_allocation, is_give_back};
+ghost use Rattle.std.specs.Prelude.{◌≡◌, ◌++◌, map, IfOk, OnOk, true};
+ghost use Rattle.leak_mtrace.specs.Log.{IsPastEnd};
+ghost use Rattle.leak_blocks.specs.Live.{block_of, is_allocation, is_give_back};
 ghost use Rattle.leak_blocks.specs.Numbers.{HasBlocks};
-ghost use Rattle.leak_blocks.specs.Runs.{MayBePlaced, ArePlacedOf, IsLimitOf, IsCourseAfter, AreJoinedOf};
+ghost use Rattle.leak_blocks.specs.Runs.{MayBePlaced, ArePlacedOf, IsLimitOf, HasComeTo, IsStepOf, AreJoinedOf};
 
-use crate::replaying::{Numbers, block_at, displace, is_allocation, is_give_back};
+use crate::block::Block;
+use crate::numbers::{Numbers, block_at, displace};
+use crate::replaying::{is_allocation, is_give_back};
 use leak_mtrace::Line;
 use std::alloc::AllocError;
 use std::collections::btree_map::Range;
@@ -20,8 +22,10 @@ const NEAR_BYTES: u64 = 1 << 20;
 /// give-back needs it.
 #[derive(Drop)]
 pub(crate) struct Course<'a> {
+    /// The blocks of all allocations so far, in the order of their lines.
+    pub(crate) allocated: Vec<Block>,
     pub(crate) numbers: Numbers<'a>,
-    /// The numbers of the run's lines, by the starts of their blocks.
+    /// The numbers of the run's allocations, by the starts of their blocks.
     pub(crate) run: Vec<usize>,
     /// No block of the run, nor one below it, has an address above this one.
     pub(crate) low: u64,
@@ -34,22 +38,22 @@ pub(crate) struct Course<'a> {
 /// Puts the blocks of the run in the map.
 pub(crate) fn place(
     numbers: &mut Numbers<'_>,
-    lines: &[Line],
+    allocated: &[Block],
     run: &[usize],
 ) -> Result<(), AllocError>
-    requires { MayBePlaced lines.now numbers.old.entries run.now }
-    ensures { OnOk result (ArePlacedOf lines.now numbers.old.entries run.now numbers.new.entries) }
+    requires { MayBePlaced allocated.now numbers.old.entries run.now }
+    ensures { OnOk result (ArePlacedOf allocated.now numbers.old.entries run.now numbers.new.entries) }
 {
     for number in run {
-        numbers.insert(block_at(lines, *number).start, *number)?;
+        numbers.insert(block_at(allocated, *number).start, *number)?;
     }
     Ok(())
 }
 
 /// The start of the first block at this address or above it. Without one, the last address of all.
-fn limit(numbers: &Numbers<'_>, lines: &[Line], last: u64) -> u64
-    requires { HasBlocks lines.now numbers.now.entries }
-    ensures { IsLimitOf lines.now numbers.now.entries last result }
+fn limit(numbers: &Numbers<'_>, allocated: &[Block], last: u64) -> u64
+    requires { HasBlocks allocated.now numbers.now.entries }
+    ensures { IsLimitOf allocated.now numbers.now.entries last result }
 {
     match numbers.range(last..).next() {
         Some((start, _)) => *start,
@@ -67,21 +71,21 @@ fn append(joined: &mut Vec<usize>, entries: Range<'_, u64, usize>) -> Result<(),
     Ok(())
 }
 
-/// The numbers of the run's lines and those of the map, by the starts of their blocks.
+/// The numbers of the run's allocations and those of the map, by the starts of their blocks.
 ///
 /// The run's list has room for all, so that none is made beside a full arena.
 pub(crate) fn joined(
     numbers: &Numbers<'_>,
-    lines: &[Line],
+    allocated: &[Block],
     run: Vec<usize>,
 ) -> Result<Vec<usize>, AllocError>
-    requires { MayBePlaced lines.now numbers.now.entries run.items }
+    requires { MayBePlaced allocated.now numbers.now.entries run.items }
     ensures { IfOk result (λ joined.
-        AreJoinedOf lines.now numbers.now.entries run.items joined.items) }
+        AreJoinedOf allocated.now numbers.now.entries run.items joined.items) }
 {
     let held = run.len();
     let first = match run.first() {
-        Some(number) => block_at(lines, *number).start,
+        Some(number) => block_at(allocated, *number).start,
         None => 0,
     };
     let mut joined = run;
@@ -91,81 +95,90 @@ pub(crate) fn joined(
     Ok(joined)
 }
 
+/// The block of the log's line of this number, counted from 1.
+fn block_of(line: &Line, number: usize) -> Block
+    ensures { result ≡ block_of number line.now }
+{
+    Block {
+        start: line.addr,
+        size: line.size,
+        line: number,
+        caller: line.caller,
+    }
+}
+
 impl Course<'_> {
-    /// Goes over the line of this index, counted from 0.
-    pub(crate) fn step(&mut self, lines: &[Line], index: usize) -> Result<(), AllocError>
-        requires in_log { index < length lines.now }
-        requires fit { LinesFit lines.now }
-        requires so_far { IsCourseAfter lines.now index self.old }
-        ensures { OnOk result (IsCourseAfter lines.now (index + 1) self.new) }
+    /// Goes over the next line, which has this number, counted from 1.
+    pub(crate) fn step(&mut self, line: &Line, number: usize) -> Result<(), AllocError>
+        requires fits { IsPastEnd line.now → ⊥ }
+        requires so_far { HasComeTo number self.old }
+        ensures { OnOk result (IsStepOf line.now number self.old self.new) }
     {
-        let line = &lines[index];
         if is_allocation(line) {
-            self.allocate(lines, line, index)
+            self.allocate(line, number)
         } else if is_give_back(line) {
-            self.give_back(lines, line, index)
+            self.give_back(line, number)
         } else {
             Ok(())
         }
     }
 
     /// Goes over an allocation.
-    fn allocate(&mut self, lines: &[Line], line: &Line, index: usize) -> Result<(), AllocError>
-        requires at { slice_get lines.now index ≡ Some line.now }
-        requires fit { LinesFit lines.now }
-        requires so_far { IsCourseAfter lines.now index self.old }
+    fn allocate(&mut self, line: &Line, number: usize) -> Result<(), AllocError>
+        requires fits { IsPastEnd line.now → ⊥ }
+        requires so_far { HasComeTo number self.old }
         requires allocates { is_allocation line.now ≡ true }
-        ensures { OnOk result (IsCourseAfter lines.now (index + 1) self.new) }
+        ensures { OnOk result (IsStepOf line.now number self.old self.new) }
     {
         let last = line.addr + (line.size.max(1) - 1);
         if line.addr <= self.low || self.high <= last {
-            return self.begin(lines, line, index);
+            return self.begin(line, number);
         }
-        self.run.push(index + 1)?;
+        self.run.push(self.allocated.len())?;
+        self.allocated.push(block_of(line, number))?;
         self.low = last;
         Ok(())
     }
 
     /// Goes over an allocation, wherever it lies, and begins a new run with it.
-    fn begin(&mut self, lines: &[Line], line: &Line, index: usize) -> Result<(), AllocError>
-        requires at { slice_get lines.now index ≡ Some line.now }
-        requires fit { LinesFit lines.now }
-        requires so_far { IsCourseAfter lines.now index self.old }
+    fn begin(&mut self, line: &Line, number: usize) -> Result<(), AllocError>
+        requires fits { IsPastEnd line.now → ⊥ }
+        requires so_far { HasComeTo number self.old }
         requires allocates { is_allocation line.now ≡ true }
-        ensures { OnOk result (IsCourseAfter lines.now (index + 1) self.new) }
+        ensures { OnOk result (IsStepOf line.now number self.old self.new) }
     {
         let last = line.addr + (line.size.max(1) - 1);
-        place(&mut self.numbers, lines, &self.run)?;
+        place(&mut self.numbers, self.allocated.as_slice(), &self.run)?;
         self.run.clear();
-        self.displaced += displace(&mut self.numbers, lines, line);
+        self.displaced += displace(&mut self.numbers, self.allocated.as_slice(), line);
         // An allocation below the last, or far from it, is spared the search: few follow right above it.
         let near = line.addr.wrapping_sub(self.low) < NEAR_BYTES;
         let high = if near {
-            limit(&self.numbers, lines, last)
+            limit(&self.numbers, self.allocated.as_slice(), last)
         } else {
             last
         };
-        self.run.push(index + 1)?;
+        self.run.push(self.allocated.len())?;
+        self.allocated.push(block_of(line, number))?;
         self.low = last;
         self.high = high;
         Ok(())
     }
 
     /// Goes over a give-back.
-    fn give_back(&mut self, lines: &[Line], line: &Line, index: usize) -> Result<(), AllocError>
-        requires at { slice_get lines.now index ≡ Some line.now }
-        requires so_far { IsCourseAfter lines.now index self.old }
+    fn give_back(&mut self, line: &Line, number: usize) -> Result<(), AllocError>
+        requires so_far { HasComeTo number self.old }
         requires gives_back { is_give_back line.now ≡ true }
-        ensures { OnOk result (IsCourseAfter lines.now (index + 1) self.new) }
+        ensures { OnOk result (IsStepOf line.now number self.old self.new) }
     {
-        if let Some(number) = self.run.last() {
-            if block_at(lines, *number).start == line.addr {
+        if let Some(last) = self.run.last() {
+            if block_at(self.allocated.as_slice(), *last).start == line.addr {
                 self.run.pop();
                 self.low = line.addr - 1;
                 return Ok(());
             }
         }
-        place(&mut self.numbers, lines, &self.run)?;
+        place(&mut self.numbers, self.allocated.as_slice(), &self.run)?;
         self.run.clear();
         if self.numbers.remove(&line.addr).is_none() {
             self.unknown += 1;

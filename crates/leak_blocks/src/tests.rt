@@ -1,5 +1,5 @@
 use super::*;
-use leak_mtrace::Log;
+use leak_mtrace::{Log, LogError};
 use std::alloc::Global;
 use std::fmt::Write;
 use std::process::Abort;
@@ -8,14 +8,24 @@ use std::test::Fail;
 /// The live blocks of a log, as start, size and line, and how many of its lines are unknown, displaced and torn.
 type Outcome = (Vec<(u64, u64, usize)>, (u64, u64, u64));
 
-fn outcome(alloc: Global, text: &str) -> Result<Outcome, Fail> {
-    let log = Log::read(alloc, text.as_bytes())?;
-    let live = replay(alloc, &log)?;
+fn outcome_of(alloc: Global, live: &Live, torn: u64) -> Result<Outcome, Fail> {
     let mut blocks = Vec::new(alloc);
     for block in live.blocks() {
         blocks.push((block.start, block.size, block.line))?;
     }
-    Ok((blocks, (live.unknown(), live.displaced(), log.torn())))
+    Ok((blocks, (live.unknown(), live.displaced(), torn)))
+}
+
+/// What the log comes to, by its lines, and by its bytes too.
+fn outcome(rt: &impl Abort, alloc: Global, text: &str) -> Result<Outcome, Fail> {
+    let log = Log::read(alloc, text.as_bytes())?;
+    let by_lines = outcome_of(alloc, &replay(alloc, &log)?, log.torn())?;
+    let replayed = replay_bytes(alloc, text.as_bytes())?;
+    let by_bytes = outcome_of(alloc, &replayed.live, replayed.torn)?;
+    assert_eq!(rt; by_bytes.0.as_slice(), by_lines.0.as_slice(), "{text}");
+    assert_eq!(rt; by_bytes.1, by_lines.1, "{text}");
+    assert_eq!(rt; replayed.whole_len, log.whole_len(), "{text}");
+    Ok(by_lines)
 }
 
 /// A log, its live blocks as start, size and line, and how many of its lines are unknown, displaced and torn.
@@ -23,7 +33,7 @@ type Case<'a> = (&'a str, &'a [(u64, u64, usize)], (u64, u64, u64));
 
 fn replays(rt: &impl Abort, alloc: Global, cases: &[Case]) -> Result<(), Fail> {
     for (text, blocks, counts) in cases {
-        let found = outcome(alloc, text)?;
+        let found = outcome(rt, alloc, text)?;
         assert_eq!(rt; found.0.as_slice(), *blocks, "{text}");
         assert_eq!(rt; found.1, *counts, "{text}");
     }
@@ -96,6 +106,22 @@ fn lines_that_end_blocks_or_none(rt: HostRuntime) -> Result<(), Fail> {
 }
 
 #[test]
+fn logs_that_are_refused(rt: HostRuntime) -> Result<(), Fail> {
+    let cases = [
+        ("+ 0x100 0x20\n+ 0x100\n", LogError::BadLine(2)),
+        ("+ 0x100\n+ 0xffffffffffffffff 0x1\n", LogError::BadLine(1)),
+        ("+ 0xffffffffffffffff 0x1\n+ 0x100\n", LogError::Extent(1)),
+    ];
+    for (text, want) in cases {
+        match replay_bytes(rt.alloc(), text.as_bytes()) {
+            Ok(_) => panic!(rt; "{text}"),
+            Err(error) => assert_eq!(rt; error, want, "{text}"),
+        }
+    }
+    Ok(())
+}
+
+#[test]
 fn sizes_and_callers(rt: HostRuntime) -> Result<(), Fail> {
     let text = "+ 0x10200 0x10\n@ ./a.out:[0x401136] + 0x10100 0x20\n";
     let log = Log::read(rt.alloc(), text.as_bytes())?;
@@ -139,7 +165,7 @@ fn nodes_made_over_and_over(rt: HostRuntime) -> Result<(), Fail> {
         }
     }
     write!(text, "- 0x10\n+ 0x1008 0x10\n")?;
-    let (blocks, counts) = outcome(rt.alloc(), text.as_str())?;
+    let (blocks, counts) = outcome(&rt, rt.alloc(), text.as_str())?;
     assert_eq!(rt; blocks.len(), 600 + 16 * 7);
     assert_eq!(rt; counts, (2, 1, 0));
     Ok(())
@@ -288,7 +314,7 @@ fn runs_one_after_another(rt: HostRuntime) -> Result<(), Fail> {
         // over the first two of the region, and a give-back of one of them
         write!(text, "+ {:#x} 0x40\n- {:#x}\n", base + 0x60, base + 0x40)?;
     }
-    let (blocks, counts) = outcome(rt.alloc(), text.as_str())?;
+    let (blocks, counts) = outcome(&rt, rt.alloc(), text.as_str())?;
     assert_eq!(rt; blocks.len(), 20 * 19);
     assert_eq!(rt; counts, (20, 40, 0));
     Ok(())

@@ -101,6 +101,13 @@ impl<'a> Reader<'a> {
         Ok(Some(line))
     }
 
+    /// How many lines were read.
+    pub fn count(&self) -> usize
+        ensures { result ≡ self.now.count }
+    {
+        self.count
+    }
+
     /// How many lines are torn, once all are read: 1 where something follows the last line feed, and 0 otherwise.
     pub fn torn(&self) -> u64
         ensures { self.now.start ≡ whole_len_of self.now.bytes → result ≡ torn_of self.now.bytes }

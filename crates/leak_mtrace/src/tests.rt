@@ -173,6 +173,19 @@ fn logs_and_refusals(rt: HostRuntime) {
 }
 
 #[test]
+fn a_reader_counts_its_lines(rt: HostRuntime) -> Result<(), Fail> {
+    let mut reader = Reader::new(b"- 0x1\n\n+ 0x10 0x20\n- 0x");
+    assert_eq!(rt; reader.count(), 0);
+    for want in 1..=3usize {
+        assert_eq!(rt; reader.next_line()?.is_some(), true);
+        assert_eq!(rt; reader.count(), want);
+    }
+    assert_eq!(rt; reader.next_line()?.is_some(), false);
+    assert_eq!(rt; reader.count(), 3);
+    Ok(())
+}
+
+#[test]
 fn refusals_in_words(rt: HostRuntime) -> Result<(), Fail> {
     let cases = [
         (LogError::BadLine(17), "line 17 is not an mtrace line"),

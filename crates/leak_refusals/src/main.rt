@@ -22,13 +22,14 @@ use std::rt::Env;
 use std::thread::Threads;
 
 /// The calls, by name.
-static CALLS: [&str; 41] = [
+static CALLS: [&str; 42] = [
     "core_k",
     "Image::read",
     "Threads::read",
     "Threads::read_vectors",
     "Log::read",
     "replay",
+    "replay_bytes",
     "small_spans",
     "Paged::new",
     "Roots::find",
@@ -115,6 +116,7 @@ fn answer_of<R: AllocGlobal + Threads + Sync>(rt: &R, name: &str) -> Option<Answ
         "Threads::read_vectors" => reading::vectors(alloc),
         "Log::read" => reading::log(alloc),
         "replay" => reading::replayed(alloc),
+        "replay_bytes" => reading::replayed_bytes(alloc),
         "small_spans" => reading::small(alloc),
         "Paged::new" => searching::paged(alloc),
         "Roots::find" => searching::roots(alloc),

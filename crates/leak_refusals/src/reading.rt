@@ -2,7 +2,7 @@
 
 use crate::answer::Answer;
 use crate::samples::{FOUR_CALLERS, core_of, set, vector_core};
-use leak_blocks::{replay, small_spans};
+use leak_blocks::{Live, replay, replay_bytes, small_spans};
 use leak_elf::{ElfError, Image, core_k};
 use leak_mtrace::{Log, LogError};
 use leak_notes::{NoteError, Threads};
@@ -61,18 +61,29 @@ pub(crate) fn log(alloc: Global) -> Option<Answer> {
     }
 }
 
-/// `replay` of three allocations, of which the last ends both others.
+/// Three allocations, of which the last ends both others.
+const DISPLACED: &str = "+ 0x100 0x10\n+ 0x120 0x10\n+ 0x108 0x20\n";
+
+/// Whether these are the live blocks of that log.
+fn are_displaced(live: &Live) -> bool {
+    let last = live.blocks().first().map(|block| (block.start, block.size));
+    live.blocks().len() == 1 && last == Some((0x108, 32)) && live.displaced() == 2
+}
+
+/// `replay` of that log.
 pub(crate) fn replayed(alloc: Global) -> Option<Answer> {
-    let lines = "+ 0x100 0x10\n+ 0x120 0x10\n+ 0x108 0x20\n";
-    let log = Log::read(alloc, lines.as_bytes()).ok()?;
+    let log = Log::read(alloc, DISPLACED.as_bytes()).ok()?;
     match replay(alloc, &log) {
-        Ok(live) => {
-            let last = live.blocks().first().map(|block| (block.start, block.size));
-            Some(Answer::of(
-                live.blocks().len() == 1 && last == Some((0x108, 32)) && live.displaced() == 2,
-            ))
-        }
+        Ok(live) => Some(Answer::of(are_displaced(&live))),
         Err(_) => Some(Answer::Wanting),
+    }
+}
+
+/// `replay_bytes` of the same.
+pub(crate) fn replayed_bytes(alloc: Global) -> Option<Answer> {
+    match replay_bytes(alloc, DISPLACED.as_bytes()) {
+        Ok(replayed) => Some(Answer::of(are_displaced(&replayed.live))),
+        Err(error) => Some(Answer::of_refusal(error == LogError::NoMemory)),
     }
 }
 

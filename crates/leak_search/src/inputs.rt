@@ -2,17 +2,18 @@
 
 ghost use Rattle.std.specs.Prelude.{◌≡◌, ◌≢◌, List, IfOk, IfErr};
 ghost use Rattle.leak_mtrace.specs.declared.line.Line.{Line};
-ghost use Rattle.leak_search.specs.Inputs.{AreRootsFor, IsInput, IsInputFault, IsRead};
+ghost use Rattle.leak_mtrace.specs.Log.{IsFirstFault};
+ghost use Rattle.leak_search.specs.Inputs.{AreRootsFor, IsInput, IsInputFault, IsRead, IsReadLog};
 
 use crate::error::{FindError, at_core, at_log, at_notes};
-use leak_blocks::{Live, SmallSpans, replay};
+use leak_blocks::{Live, Replayed, SmallSpans, replay, replay_bytes};
 use leak_elf::Image;
-use leak_mtrace::Log;
+use leak_mtrace::{Log, LogError};
 use leak_notes::Threads;
 use leak_roots::{Roots, Skip};
 use std::alloc::{AllocError, Global};
 
-/// A core and its log, read: nothing is marked yet. The log's lines are dropped, and their live blocks are kept.
+/// A core and its log, read: nothing is marked yet. Of the log's lines only the live blocks are kept.
 #[derive(Drop)]
 pub(crate) struct Input<'a> {
     pub image: Image<'a>,
@@ -28,6 +29,24 @@ pub(crate) struct Input<'a> {
     pub torn: u64,
     /// How many bytes of the log its complete lines take.
     pub whole_len: usize,
+}
+
+/// Reads a log and finds its live blocks, and the spans whose freed places are left out. Its lines are listed only where those
+/// spans are made of them.
+fn read_log(alloc: Global, skip: Skip, log: &[u8]) -> Result<(Replayed, SmallSpans), LogError>
+    ensures ok { IfOk result (IsReadLog skip log.now) }
+    ensures refused { IfErr result (λ e. e ≢ LogError.NoMemory → IsFirstFault log.now e) }
+{
+    if !skip.freed {
+        return Ok((replay_bytes(alloc, log)?, SmallSpans::none(alloc)));
+    }
+    let log = Log::read(alloc, log)?;
+    let replayed = Replayed {
+        live: replay(alloc, &log)?,
+        torn: log.torn(),
+        whole_len: log.whole_len(),
+    };
+    Ok((replayed, skip.spans(alloc, &log)?))
 }
 
 /// Reads the input with the number, or gives its first fault: the core's, then its notes', then the log's.
@@ -51,21 +70,19 @@ pub(crate) fn read_input<'a>(
         Ok(threads) => threads,
         Err(error) => return Err(at_notes(number, error)),
     };
-    let log = match Log::read(alloc, log) {
-        Ok(log) => log,
+    let (replayed, small) = match read_log(alloc, skip, log) {
+        Ok(read) => read,
         Err(error) => return Err(at_log(number, error)),
     };
-    let live = replay(alloc, &log)?;
-    let small = skip.spans(alloc, &log)?;
     Ok(Input {
         image,
         core_len: core.len(),
         threads,
-        live,
+        live: replayed.live,
         skip,
         small,
-        torn: log.torn(),
-        whole_len: log.whole_len(),
+        torn: replayed.torn,
+        whole_len: replayed.whole_len,
     })
 }
 

@@ -6,4 +6,4 @@ use Rattle.leak_blocks.proofs.RunLemmas.{ArePlaced}
 use Rattle.leak_blocks.proofs.course.place.Given as goal
 
 abbrev pub invariant-loop-number : goal.invariant-loop-number
-invariant-loop-number l = (below held above : List Block) → AreBetween l.lines l.initial.numbers.entries l.run below held above → ArePlaced (below ++ held) above l.numbers.entries (drop l.number-index l.run)
+invariant-loop-number l = (below held above : List Block) → AreBetween l.allocated l.initial.numbers.entries l.run below held above → ArePlaced (below ++ held) above l.numbers.entries (drop l.number-index l.run)

@@ -1,4 +1,4 @@
-use Rattle.std.proofs.Common.{◌≡◌, ◌≤◌, ◌||◌, List, append-nil, ap, sym, subst, refl, ◌∙◌}
+use Rattle.std.proofs.Common.{◌≤◌, ◌||◌, List, append-nil, ap, sym, subst, ◌∙◌}
 use Rattle.leak_blocks.specs.declared.small.Span.{Span}
 use Rattle.leak_blocks.specs.Small.{holds, is_covered, AreSpans}
 use Rattle.leak_blocks.proofs.SmallLemmas.{covered_one, covered_longer, last_span}

@@ -1,9 +1,0 @@
--- The blocks of the first numbers, in order.
-use Rattle.std.proofs.Common.{List, drop}
-use Rattle.leak_blocks.specs.declared.block.Block.{Block}
-use Rattle.leak_blocks.specs.Numbers.{AreNumbered}
-use Rattle.leak_blocks.proofs.BuildLemmas.{AreBuilt}
-use Rattle.leak_blocks.proofs.replaying.blocks_of.Given as goal
-
-abbrev pub invariant-loop-number : goal.invariant-loop-number
-invariant-loop-number l = (blocks : List Block) → AreNumbered l.lines l.numbers blocks → AreBuilt blocks l.blocks.items (drop l.number-index l.numbers)

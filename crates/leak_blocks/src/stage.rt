@@ -1,0 +1,148 @@
+//! A replay between two arenas.
+ghost use Rattle.std.specs.Prelude.{◌≡◌, ◌+◌, [], List, length, IfOk, IsTrue};
+ghost use Rattle.leak_mtrace.specs.declared.line.Line.{Line};
+ghost use Rattle.leak_mtrace.specs.Log.{LinesFit};
+ghost use Rattle.leak_blocks.specs.Live.{replay_of};
+ghost use Rattle.leak_blocks.specs.Numbers.{HaveBlocks, AreBlocksOf, CountUp, IsStageAfter};
+ghost use Rattle.leak_blocks.specs.Runs.{IsCourseAfter};
+
+use crate::block::Block;
+use crate::course::{Course, joined, place};
+use crate::live::Live;
+use bumpalo::Bump;
+use std::alloc::{AllocError, Global};
+use std::collections::BTreeMap;
+
+/// What a node takes for each allocation, where it is as empty as it may be, and a quarter more.
+const NODE_BYTES: usize = 48;
+
+/// More than what one allocation may take: a node at each level of the tree.
+const PATH_BYTES: usize = 8192;
+
+/// The bytes of an arena for the nodes of so many allocations.
+pub(crate) fn arena_bytes(allocations: usize) -> usize {
+    node_bytes(allocations).saturating_add(PATH_BYTES)
+}
+
+/// The bytes of an arena that the nodes of so many further allocations may take.
+fn node_bytes(allocations: usize) -> usize {
+    allocations
+        .saturating_mul(NODE_BYTES)
+        .saturating_add(PATH_BYTES)
+}
+
+/// The replay between two arenas.
+#[derive(Drop)]
+pub(crate) struct Stage {
+    /// The blocks of all allocations so far, in the order of their lines.
+    pub(crate) allocated: Vec<Block>,
+    /// The numbers of those that no line so far ends, by the starts of their blocks.
+    pub(crate) numbers: Vec<usize>,
+    pub(crate) unknown: u64,
+    pub(crate) displaced: u64,
+}
+
+impl Stage {
+    /// Before the first line, with room for so many allocations.
+    pub(crate) fn new(alloc: Global, allocations: usize) -> Result<Stage, AllocError>
+        ensures { IfOk result (λ stage. IsStageAfter [] stage) }
+    {
+        Ok(Stage {
+            allocated: Vec::with_capacity(alloc, allocations)?,
+            numbers: Vec::with_capacity(alloc, allocations)?,
+            unknown: 0,
+            displaced: 0,
+        })
+    }
+
+    /// Goes on with the map in this arena.
+    ///
+    /// An arena uses no freed node again. So the allocations are placed in a new one, which is at most four fifths full
+    /// then, where the lines would fill the old one.
+    pub(crate) fn begin(self, arena: &Bump) -> Result<Course<'_>, AllocError>
+        requires { (lines : List Line) × IsStageAfter lines self }
+        ensures { IfOk result (λ course. (lines : List Line)
+            → IsStageAfter lines self → IsCourseAfter lines course) }
+    {
+        let mut numbers = BTreeMap::new(arena);
+        let mut run = self.numbers;
+        place(&mut numbers, self.allocated.as_slice(), run.as_slice())?;
+        run.clear();
+        Ok(Course {
+            allocated: self.allocated,
+            numbers,
+            run,
+            low: 0,
+            high: 0,
+            unknown: self.unknown,
+            displaced: self.displaced,
+        })
+    }
+
+    /// The live blocks, after the last line.
+    pub(crate) fn live(self, alloc: Global) -> Result<Live, AllocError>
+        requires { (lines : List Line) × LinesFit lines × IsStageAfter lines self }
+        ensures { IfOk result (λ live. (lines : List Line)
+            → IsStageAfter lines self → live ≡ replay_of lines) }
+    {
+        let blocks = blocks_of(alloc, self.allocated, self.numbers.as_slice())?;
+        Ok(Live::new(blocks, self.unknown, self.displaced))
+    }
+}
+
+impl Course<'_> {
+    /// Whether the arena of the map may have too few bytes left for the next line.
+    pub(crate) fn is_full(&self, arena: &Bump) -> bool {
+        arena.chunk_capacity() < node_bytes(self.run.len())
+    }
+
+    /// Leaves the arena.
+    pub(crate) fn end(self) -> Result<Stage, AllocError>
+        requires { (lines : List Line) × IsCourseAfter lines self }
+        ensures { IfOk result (λ stage. (lines : List Line)
+            → IsCourseAfter lines self.entry → IsStageAfter lines stage) }
+    {
+        let (allocated, run) = (self.allocated, self.run);
+        let numbers = joined(&self.numbers, allocated.as_slice(), run)?;
+        Ok(Stage {
+            allocated,
+            numbers,
+            unknown: self.unknown,
+            displaced: self.displaced,
+        })
+    }
+}
+
+/// Whether the numbers count all allocations, one after another.
+fn are_all(numbers: &[usize], allocations: usize) -> bool
+    ensures { IsTrue result
+        → CountUp 0 numbers.now × (length numbers.now ≡ allocations) }
+{
+    let mut next = 0;
+    for number in numbers {
+        if *number != next {
+            return false;
+        }
+        next += 1;
+    }
+    next == allocations
+}
+
+/// The blocks of the allocations with these numbers. Where they are all, in order, none is copied.
+fn blocks_of(
+    alloc: Global,
+    allocated: Vec<Block>,
+    numbers: &[usize],
+) -> Result<Vec<Block>, AllocError>
+    requires { HaveBlocks allocated.items numbers.now }
+    ensures { IfOk result (λ v. AreBlocksOf allocated.items numbers.now v.items) }
+{
+    if are_all(numbers, allocated.len()) {
+        return Ok(allocated);
+    }
+    let mut blocks = Vec::with_capacity(alloc, numbers.len())?;
+    for number in numbers {
+        blocks.push(allocated[*number])?;
+    }
+    Ok(blocks)
+}
