@@ -68,16 +68,9 @@ pub(crate) fn report_of<L: Lookup>(
 {
     let set = marked.set.as_slice();
     let heads = heads(alloc, &input.image, lookup, &input.live, set)?;
+    let live = &input.live;
     let fits = aside.oddities.fits.as_deref();
-    let report = text(
-        alloc,
-        &aside.head,
-        &input.live,
-        set,
-        heads.as_slice(),
-        fits,
-        log,
-    )?;
+    let report = text(alloc, &aside.head, live, set, heads.as_slice(), fits, log)?;
     Ok(Found {
         report,
         leaked: count_clear(set),

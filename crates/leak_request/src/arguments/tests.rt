@@ -211,47 +211,49 @@ fn bad_addresses(rt: HostRuntime) -> Result<(), Fail> {
     Ok(())
 }
 
+/// What is no request, or asks for help.
+const REFUSED: [&str; 36] = [
+    "one core.1",
+    "one core.1 trace.log more",
+    "one core.1 trace.log --workers 65",
+    "one core.1 trace.log --workers 0",
+    "one core.1 trace.log --piece 0",
+    "one core.1 trace.log --piece 65537",
+    "one core.1 trace.log --stack 65537",
+    "one core.1 trace.log --stack x",
+    "one core.1 trace.log --skip-freed --skip-freed",
+    "two a b c d --skip-freed a --skip-freed",
+    "one core.1 trace.log --skip-freed=true",
+    "one core.1 trace.log --skip-links --skip-links",
+    "one core.1 trace.log --skip-links=true",
+    "one core.1 trace.log --check --check",
+    "two a b c d --check=true",
+    "one core.1 trace.log --check --check --other-heap",
+    "one core.1 trace.log --strict --strict",
+    "one core.1 trace.log --strict=true",
+    "one core.1 trace.log --other-heap --strict --other-heap",
+    "--workers 2 one core.1 trace.log",
+    "two a b",
+    "two a b c",
+    "two a b c d e",
+    "two a b c d --workers 65",
+    "three a b",
+    "why a b",
+    "why a b 0x1 c",
+    "why a b 0x1 --workers 2",
+    "why a b 0x1 --strict",
+    "why a b 0x1 --check",
+    "why a b 0x1 --skip-freed --skip-freed",
+    "why --help",
+    "help",
+    "--help",
+    "one --help",
+    "two --help",
+];
+
 #[test]
 fn refused_words(rt: HostRuntime) -> Result<(), Fail> {
-    let lines = [
-        "one core.1",
-        "one core.1 trace.log more",
-        "one core.1 trace.log --workers 65",
-        "one core.1 trace.log --workers 0",
-        "one core.1 trace.log --piece 0",
-        "one core.1 trace.log --piece 65537",
-        "one core.1 trace.log --stack 65537",
-        "one core.1 trace.log --stack x",
-        "one core.1 trace.log --skip-freed --skip-freed",
-        "two a b c d --skip-freed a --skip-freed",
-        "one core.1 trace.log --skip-freed=true",
-        "one core.1 trace.log --skip-links --skip-links",
-        "one core.1 trace.log --skip-links=true",
-        "one core.1 trace.log --check --check",
-        "two a b c d --check=true",
-        "one core.1 trace.log --check --check --other-heap",
-        "one core.1 trace.log --strict --strict",
-        "one core.1 trace.log --strict=true",
-        "one core.1 trace.log --other-heap --strict --other-heap",
-        "--workers 2 one core.1 trace.log",
-        "two a b",
-        "two a b c",
-        "two a b c d e",
-        "two a b c d --workers 65",
-        "three a b",
-        "why a b",
-        "why a b 0x1 c",
-        "why a b 0x1 --workers 2",
-        "why a b 0x1 --strict",
-        "why a b 0x1 --check",
-        "why a b 0x1 --skip-freed --skip-freed",
-        "why --help",
-        "help",
-        "--help",
-        "one --help",
-        "two --help",
-    ];
-    for line in lines {
+    for line in REFUSED {
         let Err(UsageFault::Words(text)) = asked(&rt, line)? else {
             assert!(rt; false, "{line}");
             continue;

@@ -1,13 +1,16 @@
 -- One more leaked block, with a greater key, the last one or a lesser one.
-use Rattle.std.proofs.Common.{◌≡◌, ℕ, List, ◌-◌, length, map, take, get_or, Some, refl, sym, ap, subst, ◌∙◌, arith}
+use Rattle.std.proofs.Common.{◌≡◌, ℕ, List, ◌-◌, ◌<◌, ◌^◌, length, map, take, get_or, Option, Some, refl, sym, ap, subst, ◌∙◌, arith}
+use denote.Ref.{Bor}
+use Rattle.std.specs.declared.cmp.Ordering.TheVariants.{Equal}
 use Rattle.std.proofs.lemmas.List.{take_all}
 use Rattle.leak_report.specs.declared.grouping.PlacedLeak.{PlacedLeak}
+use Rattle.leak_report.specs.declared.by_text.Leaked.{Leaked}
 use Rattle.leak_report.specs.declared.totals.CallerRow.{CallerRow}
 use Rattle.leak_report.specs.Places.{place_of}
 use Rattle.leak_report.specs.Totals.{Leak}
 use Rattle.leak_report.specs.Groups.{Key, HasRoom, with_leak, AreEntries}
-use Rattle.leak_report.specs.Listing.{AreByPlace, block_of, leak_of}
-use Rattle.leak_report.proofs.Ascending.{ascending_more, ascending_same, ascending_all, last_is_ready}
+use Rattle.leak_report.specs.Listing.{AreByPlace, IsComplete, block_of, leak_of, order_after}
+use Rattle.leak_report.proofs.Ascending.{AreAscending, ascending_more, ascending_same, ascending_all, last_is_ready}
 use Rattle.leak_report.proofs.Listed.{entries_sorted, inside_sorted, sorted_more}
 use Rattle.leak_report.proofs.by_text.rows_by_text.Goals as goal
 use Rattle.leak_report.proofs.by_text.rows_by_text.Goals.{in-Less+in_ok-push-in-Less, in-Equal}
@@ -17,6 +20,15 @@ no_leak = record { place = 0; number = 0 }
 
 no_row : CallerRow
 no_row = record { blocks = 0; bytes = 0; heads = 0; caller = (0, 0) }
+
+-- where the leaked block at i has the key of the last row, there is a last row, and it has room for the block
+last_row : {l : Leaked} {leaks items : List PlacedLeak} {i : ℕ} (text : Bor (List ℕ)) (rows : List CallerRow) (last : Option Key) (d : CallerRow)
+    → IsComplete l → AreByPlace l.prefix.now l.log.now l.set.now l.blocks.now leaks → items ≡ leaks → i < length items → length l.blocks.now < 2 ^ 64
+    → AreAscending l.prefix.now l.log.now (map (leak_of l.heads.now l.blocks.now) (take i items)) rows last → order_after last ((get_or items i no_leak).place, text) ≡ Equal
+    → (0 < length rows) × HasRoom (get_or rows (length rows - 1) d) (block_of l.blocks.now (get_or items i no_leak))
+last_row {l} {leaks} {items} {i} text rows last d all by same h few are is =
+    last_is_ready l.prefix.now l.log.now l.set.now l.heads.now l.blocks.now items i no_leak rows ((get_or items i no_leak).place, text) last d
+    (subst (AreByPlace l.prefix.now l.log.now l.set.now l.blocks.now) (sym same) by) all.an_entry_each h few all.fits are is
 
 pub loop-leak-init : goal.loop-leak-init
 loop-leak-init c = (c.new-rows.ensures.items, refl)
@@ -45,23 +57,15 @@ bounds-heads-leak c =
 pub overflow_sub-end : goal.overflow_sub-end
 unfolding no_leak
 overflow_sub-end c =
-    let l = c.args.leaked.now in
-    let items = c.as_slice-leak-items.result.now in
-    let key : Key = ((get_or items c.loop-leak.leak-index no_leak).place, c.caller_text.result) in
-    let by : AreByPlace l.prefix.now l.log.now l.set.now l.blocks.now items = subst (AreByPlace l.prefix.now l.log.now l.set.now l.blocks.now) (sym c.as_slice-leak-items.ensures.value) c.in_ok-leaks.ensures in
-    let ready = last_is_ready l.prefix.now l.log.now l.set.now l.heads.now l.blocks.now items c.loop-leak.leak-index no_leak c.loop-leak.rows.items key c.loop-leak.last no_row by c.requires.an_entry_each
-    c.loop-leak-test.true (omega arith) c.requires.fits c.loop-leak.invariant (sym c.order.ensures ∙ c.in-Equal.is) in
+    let ready = last_row c.caller_text.result c.loop-leak.rows.items c.loop-leak.last no_row c.requires c.in_ok-leaks.ensures c.as_slice-leak-items.ensures.value c.loop-leak-test.true
+    (omega arith) c.loop-leak.invariant (sym c.order.ensures ∙ c.in-Equal.is) in
     omega (arith, ready.0, c.len-end.ensures)
 
 pub index-requires : goal.index-requires
 unfolding no_leak
 index-requires c =
-    let l = c.args.leaked.now in
-    let items = c.as_slice-leak-items.result.now in
-    let key : Key = ((get_or items c.loop-leak.leak-index no_leak).place, c.caller_text.result) in
-    let by : AreByPlace l.prefix.now l.log.now l.set.now l.blocks.now items = subst (AreByPlace l.prefix.now l.log.now l.set.now l.blocks.now) (sym c.as_slice-leak-items.ensures.value) c.in_ok-leaks.ensures in
-    let ready = last_is_ready l.prefix.now l.log.now l.set.now l.heads.now l.blocks.now items c.loop-leak.leak-index no_leak c.loop-leak.rows.items key c.loop-leak.last no_row by c.requires.an_entry_each
-    c.loop-leak-test.true (omega arith) c.requires.fits c.loop-leak.invariant (sym c.order.ensures ∙ c.in-Equal.is) in
+    let ready = last_row c.caller_text.result c.loop-leak.rows.items c.loop-leak.last no_row c.requires c.in_ok-leaks.ensures c.as_slice-leak-items.ensures.value c.loop-leak-test.true
+    (omega arith) c.loop-leak.invariant (sym c.order.ensures ∙ c.in-Equal.is) in
     omega (arith, ready.0, c.len-end.ensures)
 
 pub longer_row-requires : goal.longer_row-requires
@@ -69,10 +73,8 @@ unfolding no_leak
 longer_row-requires c =
     let l = c.args.leaked.now in
     let items = c.as_slice-leak-items.result.now in
-    let key : Key = ((get_or items c.loop-leak.leak-index no_leak).place, c.caller_text.result) in
-    let by : AreByPlace l.prefix.now l.log.now l.set.now l.blocks.now items = subst (AreByPlace l.prefix.now l.log.now l.set.now l.blocks.now) (sym c.as_slice-leak-items.ensures.value) c.in_ok-leaks.ensures in
-    let ready = last_is_ready l.prefix.now l.log.now l.set.now l.heads.now l.blocks.now items c.loop-leak.leak-index no_leak c.loop-leak.rows.items key c.loop-leak.last c.index.result.now by c.requires.an_entry_each
-    c.loop-leak-test.true (omega arith) c.requires.fits c.loop-leak.invariant (sym c.order.ensures ∙ c.in-Equal.is) in
+    let ready = last_row c.caller_text.result c.loop-leak.rows.items c.loop-leak.last c.index.result.now c.requires c.in_ok-leaks.ensures c.as_slice-leak-items.ensures.value c.loop-leak-test.true
+    (omega arith) c.loop-leak.invariant (sym c.order.ensures ∙ c.in-Equal.is) in
     let size : c.len-end.result ≡ length c.loop-leak.rows.items = omega (arith, c.len-end.ensures) in
     let at : c.index.result.now ≡ get_or c.loop-leak.rows.items (length c.loop-leak.rows.items - 1) c.index.result.now =
     c.index.ensures ∙ ap (λ (n : ℕ). get_or c.loop-leak.rows.items (n - 1) c.index.result.now) size in
@@ -81,12 +83,8 @@ longer_row-requires c =
 pub index_mut-requires : goal.index_mut-requires
 unfolding no_leak
 index_mut-requires c =
-    let l = c.args.leaked.now in
-    let items = c.as_slice-leak-items.result.now in
-    let key : Key = ((get_or items c.loop-leak.leak-index no_leak).place, c.caller_text.result) in
-    let by : AreByPlace l.prefix.now l.log.now l.set.now l.blocks.now items = subst (AreByPlace l.prefix.now l.log.now l.set.now l.blocks.now) (sym c.as_slice-leak-items.ensures.value) c.in_ok-leaks.ensures in
-    let ready = last_is_ready l.prefix.now l.log.now l.set.now l.heads.now l.blocks.now items c.loop-leak.leak-index no_leak c.loop-leak.rows.items key c.loop-leak.last no_row by c.requires.an_entry_each
-    c.loop-leak-test.true (omega arith) c.requires.fits c.loop-leak.invariant (sym c.order.ensures ∙ c.in-Equal.is) in
+    let ready = last_row c.caller_text.result c.loop-leak.rows.items c.loop-leak.last no_row c.requires c.in_ok-leaks.ensures c.as_slice-leak-items.ensures.value c.loop-leak-test.true
+    (omega arith) c.loop-leak.invariant (sym c.order.ensures ∙ c.in-Equal.is) in
     omega (arith, ready.0, c.len-end.ensures)
 
 pub loop-leak-preserved : goal.loop-leak-preserved
