@@ -6,10 +6,7 @@ use crate::samples::{Part, core_of};
 use leak_find::{Skip, find_alone, find_one, find_two};
 use leak_index::Reading;
 use leak_pool::Open;
-use std::alloc::Global;
-use std::process::Abort;
 use std::test::Fail;
-use std::thread::Threads;
 
 /// The first block leads to the second and to itself, and the third stands alone.
 const OWN_WORD: [Part; 2] = [Part::Word(0x10100, 0x10200), Part::Word(0x10108, 0x10100)];
@@ -112,59 +109,45 @@ fn heads_are_those_of_the_reading(rt: HostRuntime) -> Result<(), Fail> {
     Ok(())
 }
 
-/// The first lines of the reports of two cores, each with both blocks.
-const FRONT: &str = "blocks 2 bytes 48\n\
-                     undumped 0\nunknown 0 displaced 0 torn 0\n\
-                     new 0 bytes 0\nreread 0\n\
-                     marked 0 bytes 0\nleaked 2 bytes 48\n";
-
-/// Their last lines where the first block leads to the second in the later core.
-const NOW_HELD: &str = "heads 1\n\
-                        caller 2 48 1 ?\n\
-                        leak 0x10100 32 1 head ?\n\
-                        leak 0x10200 16 2 held ?\n";
-
-/// Their last lines where it does so in the earlier core alone.
-const HELD_BEFORE: &str = "heads 2\n\
-                           caller 2 48 2 ?\n\
-                           leak 0x10100 32 1 head ?\n\
-                           leak 0x10200 16 2 head ?\n";
-
-/// Checks that by each plan the report of two cores of these parts ends with these lines.
-fn tell_heads<R: Threads + Sync + Abort>(
-    rt: &R,
-    alloc: Global,
-    first: &[Part],
-    second: &[Part],
-    wanted: &str,
-) -> Result<(), Fail> {
-    let (first, second) = (core_of(alloc, first)?, core_of(alloc, second)?);
-    let log = TWO_BLOCKS.as_bytes();
-    for plan in plans(alloc)? {
-        let found = find_two(
-            rt,
-            alloc,
-            first.as_slice(),
-            log,
-            second.as_slice(),
-            log,
-            Reading::interior(),
-            Skip::none(),
-            false,
-            plan,
-            &Open,
-        )?;
-        let report = found.report.as_slice();
-        assert!(rt; report.starts_with(FRONT.as_bytes()), "by {plan:?}");
-        assert!(rt; report.ends_with(wanted.as_bytes()), "by {plan:?}");
-        assert_eq!(rt; report.len(), FRONT.len() + wanted.len(), "by {plan:?}");
-    }
-    Ok(())
-}
-
 #[test]
 fn heads_of_two_cores_are_those_of_the_later(rt: HostRuntime) -> Result<(), Fail> {
-    let held = Part::Word(0x10100, 0x10200);
-    tell_heads(&rt, rt.alloc(), &[], &[held], NOW_HELD)?;
-    tell_heads(&rt, rt.alloc(), &[held], &[], HELD_BEFORE)
+    let empty = core_of(rt.alloc(), &[])?;
+    let held = core_of(rt.alloc(), &[Part::Word(0x10100, 0x10200)])?;
+    let front = "blocks 2 bytes 48\n\
+                 undumped 0\nunknown 0 displaced 0 torn 0\n\
+                 new 0 bytes 0\nreread 0\n\
+                 marked 0 bytes 0\nleaked 2 bytes 48\n";
+    let now_held = "heads 1\n\
+                    caller 2 48 1 ?\n\
+                    leak 0x10100 32 1 head ?\n\
+                    leak 0x10200 16 2 held ?\n";
+    let held_before = "heads 2\n\
+                       caller 2 48 2 ?\n\
+                       leak 0x10100 32 1 head ?\n\
+                       leak 0x10200 16 2 head ?\n";
+    let cases = [(&empty, &held, now_held), (&held, &empty, held_before)];
+    let plans = plans(rt.alloc())?;
+    let log = TWO_BLOCKS.as_bytes();
+    for (first, second, wanted) in cases {
+        for plan in plans.as_slice() {
+            let found = find_two(
+                &rt,
+                rt.alloc(),
+                first.as_slice(),
+                log,
+                second.as_slice(),
+                log,
+                Reading::interior(),
+                Skip::none(),
+                false,
+                *plan,
+                &Open,
+            )?;
+            let report = found.report.as_slice();
+            assert!(rt; report.starts_with(front.as_bytes()), "by {plan:?}");
+            assert!(rt; report.ends_with(wanted.as_bytes()), "by {plan:?}");
+            assert_eq!(rt; report.len(), front.len() + wanted.len(), "by {plan:?}");
+        }
+    }
+    Ok(())
 }
