@@ -1,5 +1,5 @@
 //! A replay between two arenas.
-ghost use Rattle.std.specs.Prelude.{◌≡◌, ◌+◌, [], List, length, IfOk, IsTrue};
+ghost use Rattle.std.specs.Prelude.{◌≡◌, ◌≤◌, ◌++◌, [], List, length, drop, IfOk};
 ghost use Rattle.leak_mtrace.specs.declared.line.Line.{Line};
 ghost use Rattle.leak_mtrace.specs.Log.{LinesFit};
 ghost use Rattle.leak_blocks.specs.Live.{replay_of};
@@ -113,22 +113,39 @@ impl Course<'_> {
     }
 }
 
-/// Whether the numbers count all allocations, one after another.
-fn are_all(numbers: &[usize], allocations: usize) -> bool
-    ensures { IsTrue result
-        → CountUp 0 numbers.now × (length numbers.now ≡ allocations) }
+/// How many numbers there are up to the last that isn't at its own place.
+fn moved(numbers: &[usize]) -> usize
+    ensures bound { result ≤ length numbers.now }
+    ensures rest { CountUp result (drop result numbers.now) }
 {
-    let mut next = 0;
-    for number in numbers {
-        if *number != next {
-            return false;
-        }
-        next += 1;
+    let mut moved = numbers.len();
+    while moved > 0 && numbers[moved - 1] == moved - 1 {
+        moved -= 1;
     }
-    next == allocations
+    moved
 }
 
-/// The blocks of the allocations with these numbers. Where they are all, in order, none is copied.
+/// The blocks of the allocations with these numbers.
+fn gathered(alloc: Global, allocated: &[Block], numbers: &[usize]) -> Result<Vec<Block>, AllocError>
+    requires { HaveBlocks allocated.now numbers.now }
+    ensures { IfOk result (λ v. AreBlocksOf allocated.now numbers.now v.items) }
+{
+    let mut blocks = Vec::with_capacity(alloc, numbers.len())?;
+    for number in numbers {
+        blocks.push(allocated[*number])?;
+    }
+    Ok(blocks)
+}
+
+/// Puts these blocks in the place of as many at the front.
+fn replace_first(blocks: &mut [Block], first: &[Block])
+    requires { length first.now ≤ length blocks.old }
+    ensures { blocks.new ≡ first.now ++ drop (length first.now) blocks.old }
+{
+    blocks[..first.len()].copy_from_slice(first);
+}
+
+/// The blocks of the allocations with these numbers. Where all are live, only those that aren't at their places are copied.
 fn blocks_of(
     alloc: Global,
     allocated: Vec<Block>,
@@ -137,12 +154,12 @@ fn blocks_of(
     requires { HaveBlocks allocated.items numbers.now }
     ensures { IfOk result (λ v. AreBlocksOf allocated.items numbers.now v.items) }
 {
-    if are_all(numbers, allocated.len()) {
-        return Ok(allocated);
+    if numbers.len() != allocated.len() {
+        return gathered(alloc, allocated.as_slice(), numbers);
     }
-    let mut blocks = Vec::with_capacity(alloc, numbers.len())?;
-    for number in numbers {
-        blocks.push(allocated[*number])?;
-    }
+    let moved = moved(numbers);
+    let first = gathered(alloc, allocated.as_slice(), &numbers[..moved])?;
+    let mut blocks = allocated;
+    replace_first(blocks.as_mut_slice(), first.as_slice());
     Ok(blocks)
 }

@@ -271,7 +271,18 @@ fn allocations_at_ascending_addresses(rt: HostRuntime) -> Result<(), Fail> {
 
 #[test]
 fn allocations_over_and_beside_a_run(rt: HostRuntime) -> Result<(), Fail> {
-    let cases: [Case; 3] = [
+    let cases: [Case; 4] = [
+        // all are live, and the first two lie the other way round
+        (
+            "+ 0x200 0x10\n+ 0x100 0x10\n+ 0x300 0x10\n+ 0x310 0x8\n",
+            &[
+                (0x100, 16, 2),
+                (0x200, 16, 1),
+                (0x300, 16, 3),
+                (0x310, 8, 4),
+            ],
+            (0, 0, 0),
+        ),
         // an allocation over two blocks of the run
         (
             "+ 0x100 0x10\n+ 0x110 0x10\n+ 0x120 0x10\n+ 0x108 0x10\n- 0x100\n",

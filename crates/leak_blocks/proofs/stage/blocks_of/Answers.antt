@@ -1,37 +1,38 @@
--- Each number that is left is that of the next block.
-use Rattle.std.proofs.Common.{◌≡◌, ◌∙◌, sym, ap, subst, arith, List, ◌++◌, ◌∷◌, [], ℕ, ◌+◌, ◌<◌, length, drop, get_or}
-use Rattle.std.proofs.lemmas.List.{drop_more}
-use Rattle.std.proofs.lemmas.Option.{slice_get_within, get_or_from_slice_get}
+-- The blocks that aren't at their places are put in the place of the first, where all are live.
+use Rattle.std.proofs.Common.{◌≡◌, ◌≤◌, ◌∙◌, sym, ap, subst, ℕ, List, ◌++◌, length, take, drop}
+use Rattle.std.proofs.lemmas.List.{with_items_is}
 use Rattle.leak_blocks.specs.declared.block.Block.{Block}
-use Rattle.leak_blocks.proofs.BuildLemmas.{none_left}
-use Rattle.leak_blocks.proofs.GatherLemmas.{AreGathered, IsNextOf, gathered_at_first, next_gathered, gathered_at_last, all_counted}
+use Rattle.leak_blocks.specs.Numbers.{AreNumbered}
+use Rattle.leak_blocks.proofs.GatherLemmas.{all_gathered, as_many, first_gathered, halves}
 use Rattle.leak_blocks.proofs.stage.blocks_of.Goals as goal
 
-pub returns-then-are_all : goal.returns-then-are_all
-returns-then-are_all c = λ blocks n. all_counted c.args.allocated.items blocks c.args.numbers.now n (c.are_all.ensures c.if-are_all.true).0 ((c.are_all.ensures c.if-are_all.true).1 ∙ c.len.ensures ∙ c.args.allocated.ok.0)
+pub returns-then-numbers-len : goal.returns-then-numbers-len
+returns-then-numbers-len c = rw (sym c.as_slice.ensures.value) c.gathered.ensures
 
-pub loop-number-init : goal.loop-number-init
-loop-number-init c = λ blocks n. gathered_at_first c.args.allocated.items blocks c.in_ok-blocks.blocks.items c.args.numbers.now n c.in_ok-blocks.ensures.items
+pub gathered-requires-2 : goal.gathered-requires-2
+gathered-requires-2 c =
+    subst (λ (l : List Block). (x : List Block) × AreNumbered l (take c.moved-moved.result c.args.numbers.now) x) (sym c.as_slice-2.ensures.value)
+    (take c.moved-moved.result c.requires.0, (halves c.args.allocated.items c.requires.0 c.args.numbers.now c.moved-moved.result c.requires.1).first)
 
-pub index-requires : goal.index-requires
-index-requires c =
-    let n : IsNextOf c.args.allocated.items c.requires.0 c.loop-number.blocks.items (get_or c.args.numbers.now c.loop-number.number-index 0) (drop (c.loop-number.number-index + 1) c.args.numbers.now) =
-    next_gathered c.args.allocated.items c.requires.0 c.loop-number.blocks.items (drop c.loop-number.number-index c.args.numbers.now) _ _
-    (c.loop-number.invariant c.requires.0 c.requires.1) (drop_more c.args.numbers.now c.loop-number.number-index 0 c.loop-number-test.true) in
-    subst (λ (k : ℕ). get_or c.args.numbers.now c.loop-number.number-index 0 < k) (sym c.args.allocated.ok.0) (slice_get_within c.args.allocated.items _ n.block n.at)
-
-pub loop-number-preserved : goal.loop-number-preserved
-loop-number-preserved c = λ blocks of.
-    let n : IsNextOf c.args.allocated.items blocks c.loop-number.blocks.items (get_or c.args.numbers.now c.loop-number.number-index 0) (drop (c.loop-number.number-index + 1) c.args.numbers.now) =
-    next_gathered c.args.allocated.items blocks c.loop-number.blocks.items (drop c.loop-number.number-index c.args.numbers.now) _ _
-    (c.loop-number.invariant blocks of) (drop_more c.args.numbers.now c.loop-number.number-index 0 c.loop-number-test.true) in
-    let same : n.block ≡ c.index.result.now = sym (c.index.ensures ∙ get_or_from_slice_get c.args.allocated.items _ n.block c.index.result.now n.at) in
-    let pushed : c.loop-number.blocks.items ++ n.block ∷ [] ≡ c.push.new.self.items =
-    ap (λ (b : Block). c.loop-number.blocks.items ++ b ∷ []) same ∙ sym c.in_ok-push.ensures.items in
-    subst (λ (l : List Block). AreGathered c.args.allocated.items blocks l (drop (c.loop-number.number-index + 1) c.args.numbers.now)) pushed n.later
+pub replace_first-requires : goal.replace_first-requires
+replace_first-requires c =
+    let first : c.as_slice-3.result.now ≡ take c.moved-moved.result c.requires.0 = c.as_slice-3.ensures.value ∙ c.in_ok-first.ensures _
+    (subst (λ (l : List Block). AreNumbered l (take c.moved-moved.result c.args.numbers.now) (take c.moved-moved.result c.requires.0)) (sym c.as_slice-2.ensures.value)
+    (halves c.args.allocated.items c.requires.0 c.args.numbers.now c.moved-moved.result c.requires.1).first) in
+    let long : length c.as_slice-3.result.now ≡ c.moved-moved.result =
+    first_gathered c.args.allocated.items c.requires.0 c.as_slice-3.result.now c.args.numbers.now c.moved-moved.result c.requires.1 c.moved-moved.ensures.bound first in
+    rw long (rw c.as_mut_slice.ensures.value (subst (λ (m : ℕ). c.moved-moved.result ≤ m) (c.if-numbers-len.false ∙ c.len.ensures ∙ c.args.allocated.ok.0) c.moved-moved.ensures.bound))
 
 pub returns : goal.returns
 returns c = λ blocks of.
-    let last : c.loop-number.number-index ≡ length c.args.numbers.now = omega arith in
-    gathered_at_last c.args.allocated.items blocks c.loop-number.blocks.items (drop c.loop-number.number-index c.args.numbers.now) (c.loop-number.invariant blocks of)
-    (ap (λ (k : ℕ). drop k c.args.numbers.now) last ∙ none_left c.args.numbers.now)
+    let first : c.as_slice-3.result.now ≡ take c.moved-moved.result blocks = c.as_slice-3.ensures.value ∙ c.in_ok-first.ensures _
+    (subst (λ (l : List Block). AreNumbered l (take c.moved-moved.result c.args.numbers.now) (take c.moved-moved.result blocks)) (sym c.as_slice-2.ensures.value)
+    (halves c.args.allocated.items blocks c.args.numbers.now c.moved-moved.result of).first) in
+    let as_long : length c.args.numbers.now ≡ c.args.allocated.len = c.if-numbers-len.false ∙ c.len.ensures in
+    let whole : c.replace_first.new.blocks ≡ blocks =
+    c.replace_first.ensures
+    ∙ ap (λ (l : List Block). c.as_slice-3.result.now ++ drop (length c.as_slice-3.result.now) l) c.as_mut_slice.ensures.value
+    ∙ all_gathered c.args.allocated.items blocks c.as_slice-3.result.now c.args.numbers.now c.moved-moved.result of c.moved-moved.ensures.bound c.moved-moved.ensures.rest (as_long ∙ c.args.allocated.ok.0) first in
+    with_items_is c.args.allocated c.replace_first.new.blocks
+    (ap length whole ∙ sym (as_many c.args.allocated.items blocks c.args.numbers.now of) ∙ as_long)
+    ∙ whole
