@@ -7,6 +7,7 @@ pub mod NumberLemmas
 pub mod NumberedLemmas
 pub mod ChangeLemmas
 pub mod StepLemmas
+pub mod PlaceLemmas
 pub mod SumLemmas
 pub mod BuildLemmas
 pub mod GatherLemmas

@@ -1,22 +1,15 @@
 -- A reader and a replay that have come equally far.
 use Rattle.std.proofs.Common.{Bool, true, false, List}
 use Rattle.leak_mtrace.specs.declared.line.Line.{Line}
-use Rattle.leak_mtrace.specs.Log.{LinesFit}
-use Rattle.leak_mtrace.specs.Reading.{Reading, HasRead, HasReadAll}
+use Rattle.leak_mtrace.specs.Reading.{Reading, HasRead}
 use Rattle.leak_blocks.specs.declared.stage.Stage.{Stage}
 use Rattle.leak_blocks.specs.Numbers.{IsStageAfter}
+use Rattle.leak_blocks.specs.Runs.{AreAtEnd}
 
 -- between two arenas
 pub record AreBetweenArenas (reading : Reading) (stage : Stage) : Type 0 where
   pub lines : List Line
   pub read : HasRead reading lines
-  pub replayed : IsStageAfter lines stage
-
--- at the end of the log
-pub record AreAtEnd (reading : Reading) (stage : Stage) : Type 0 where
-  pub lines : List Line
-  pub read : HasReadAll reading lines
-  pub fit : LinesFit lines
   pub replayed : IsStageAfter lines stage
 
 -- there may be more, or they have come to the end

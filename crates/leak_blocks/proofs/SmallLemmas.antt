@@ -1,4 +1,4 @@
--- The spans of small allocations, and their addresses as ranges that are apart.
+-- Spans of allocations, and their addresses as ranges that are apart.
 use Rattle.std.proofs.Common.{◌≡◌, ℕ, ◌+◌, ◌<◌, ◌≤◌, max, leb, Bool, true, false, cond, ◌&&◌, ◌||◌, List, [], ◌∷◌, ◌++◌, length, map, filter, take, get_or, slice_get, Some, zero, suc, inl, inr, refl, sym, ap, subst, ◌∙◌, append-nil, arith}
 use Rattle.std.specs.List.{AllByRecursion, list_any}
 use Rattle.std.specs.List.Sorted.{IsPermutation, IsNonDecreasingBy}
@@ -7,32 +7,8 @@ use Rattle.std.proofs.lemmas.List.{map-append, take_all}
 use Rattle.std.proofs.lemmas.List.Elements.{filter_more}
 use Rattle.std.proofs.lemmas.List.Folds.{list_any-append, list_any_more}
 use Rattle.std.proofs.lemmas.List.Sorted.{list_any-IsPermutation}
-use Rattle.leak_mtrace.specs.declared.line.Line.{Line}
 use Rattle.leak_blocks.specs.declared.small.Span.{Span}
-use Rattle.leak_blocks.specs.Small.{is_small, span_of, small_spans_of, holds, is_covered, CoverSame, AreSpans, AreApart}
-
--- ---- the spans of lines
-
-map_cond : (b : Bool) (x : Line) → map span_of (cond b (x ∷ []) []) ≡ cond b (span_of x ∷ []) []
-map_cond true x = refl
-map_cond false x = refl
-
--- one line more
-pub spans_more : (lines : List Line) (i : ℕ) (d : Line) → i < length lines → small_spans_of (take (i + 1) lines) ≡ small_spans_of (take i lines) ++ cond (is_small (get_or lines i d)) (span_of (get_or lines i d) ∷ []) []
-unfolding small_spans_of
-spans_more lines i d h =
-    ap (map span_of) (filter_more is_small lines i d h)
-    ∙ map-append span_of (filter is_small (take i lines)) (cond (is_small (get_or lines i d)) (get_or lines i d ∷ []) [])
-    ∙ ap (λ (xs : List Span). map span_of (filter is_small (take i lines)) ++ xs) (map_cond (is_small (get_or lines i d)) (get_or lines i d))
-
-spans_at : (xs : List Line) → AreSpans (map span_of xs)
-spans_at [] k d h = absurd (omega arith)
-spans_at (x ∷ xs) zero d h = omega arith
-spans_at (x ∷ xs) (suc k) d h = spans_at xs k d (omega arith)
-
-pub are_spans : (lines : List Line) → AreSpans (small_spans_of lines)
-unfolding small_spans_of
-are_spans lines = spans_at (filter is_small lines)
+use Rattle.leak_blocks.specs.Small.{holds, is_covered, CoverSame, AreSpans, AreApart}
 
 -- ---- sorting
 
@@ -222,33 +198,44 @@ covered_longer spans s t u a same l f g =
 pub covered_one : (spans : List Span) (s : Span) (a : ℕ) → is_covered (spans ++ s ∷ []) a ≡ (is_covered spans a || holds a s)
 covered_one = covered_push
 
--- the spans have the addresses of the small allocations of the first lines
-pub record AreListed (lines : List Line) (i : ℕ) (spans : List Span) : Type 0 where
+-- the spans have the addresses of the picked ones of the first lines, or blocks
+pub record AreListed {X : Type 0} (pick : X → Bool) (span : X → Span) (xs : List X) (i : ℕ) (spans : List Span) : Type 0 where
   pub each : AreSpans spans
-  pub same : (a : ℕ) → is_covered spans a ≡ is_covered (small_spans_of (take i lines)) a
+  pub same : (a : ℕ) → is_covered spans a ≡ is_covered (map span (filter pick (take i xs))) a
 
-pub listed_none : (lines : List Line) → AreListed lines 0 []
-unfolding small_spans_of
-listed_none lines = record { each = λ k d h. absurd (omega arith); same = λ a. refl }
+module _ {X : Type 0} (pick : X → Bool) (span : X → Span) where
+  map_cond : (b : Bool) (x : X) → map span (cond b (x ∷ []) []) ≡ cond b (span x ∷ []) []
+  map_cond true x = refl
+  map_cond false x = refl
 
-pub listed_more : (lines : List Line) (i : ℕ) (d : Line) (spans later : List Span) → AreListed lines i spans → i < length lines → is_small (get_or lines i d) ≡ true → AreSpans later
-    → ((a : ℕ) → is_covered later a ≡ (is_covered spans a || holds a (span_of (get_or lines i d)))) → AreListed lines (i + 1) later
-listed_more lines i d spans later listed h small each steps = record {
-  each = each;
-  same = λ a.
-      steps a
-      ∙ ap (λ (b : Bool). b || holds a (span_of (get_or lines i d))) (listed.same a)
-      ∙ sym (covered_push (small_spans_of (take i lines)) (span_of (get_or lines i d)) a)
-      ∙ ap (λ (xs : List Span). is_covered xs a) (sym (spans_more lines i d h ∙ ap (λ (t : Bool). small_spans_of (take i lines) ++ cond t (span_of (get_or lines i d) ∷ []) []) small));
-}
+  -- one more
+  listed_next : (xs : List X) (i : ℕ) (d : X) → i < length xs → map span (filter pick (take (i + 1) xs)) ≡ map span (filter pick (take i xs)) ++ cond (pick (get_or xs i d)) (span (get_or xs i d) ∷ []) []
+  listed_next xs i d h =
+      ap (map span) (filter_more pick xs i d h)
+      ∙ map-append span (filter pick (take i xs)) (cond (pick (get_or xs i d)) (get_or xs i d ∷ []) [])
+      ∙ ap (λ (ys : List Span). map span (filter pick (take i xs)) ++ ys) (map_cond (pick (get_or xs i d)) (get_or xs i d))
 
-pub listed_same : (lines : List Line) (i : ℕ) (d : Line) (spans : List Span) → AreListed lines i spans → i < length lines → is_small (get_or lines i d) ≡ false → AreListed lines (i + 1) spans
-listed_same lines i d spans listed h other = record {
-  each = listed.each;
-  same = λ a.
-      listed.same a
-      ∙ ap (λ (xs : List Span). is_covered xs a) (sym (spans_more lines i d h ∙ ap (λ (t : Bool). small_spans_of (take i lines) ++ cond t (span_of (get_or lines i d) ∷ []) []) other ∙ append-nil (small_spans_of (take i lines))));
-}
+  pub listed_none : (xs : List X) → AreListed pick span xs 0 []
+  listed_none xs = record { each = λ k d h. absurd (omega arith); same = λ a. refl }
 
-pub listed_all : (lines : List Line) (i : ℕ) (spans : List Span) → AreListed lines i spans → length lines ≤ i → CoverSame spans (small_spans_of lines)
-listed_all lines i spans listed h a = listed.same a ∙ ap (λ (xs : List Line). is_covered (small_spans_of xs) a) (take_all i lines h)
+  pub listed_more : (xs : List X) (i : ℕ) (d : X) (spans later : List Span) → AreListed pick span xs i spans → i < length xs → pick (get_or xs i d) ≡ true → AreSpans later
+      → ((a : ℕ) → is_covered later a ≡ (is_covered spans a || holds a (span (get_or xs i d)))) → AreListed pick span xs (i + 1) later
+  listed_more xs i d spans later listed h small each steps = record {
+    each = each;
+    same = λ a.
+        steps a
+        ∙ ap (λ (b : Bool). b || holds a (span (get_or xs i d))) (listed.same a)
+        ∙ sym (covered_push (map span (filter pick (take i xs))) (span (get_or xs i d)) a)
+        ∙ ap (λ (ys : List Span). is_covered ys a) (sym (listed_next xs i d h ∙ ap (λ (t : Bool). map span (filter pick (take i xs)) ++ cond t (span (get_or xs i d) ∷ []) []) small));
+  }
+
+  pub listed_same : (xs : List X) (i : ℕ) (d : X) (spans : List Span) → AreListed pick span xs i spans → i < length xs → pick (get_or xs i d) ≡ false → AreListed pick span xs (i + 1) spans
+  listed_same xs i d spans listed h other = record {
+    each = listed.each;
+    same = λ a.
+        listed.same a
+        ∙ ap (λ (ys : List Span). is_covered ys a) (sym (listed_next xs i d h ∙ ap (λ (t : Bool). map span (filter pick (take i xs)) ++ cond t (span (get_or xs i d) ∷ []) []) other ∙ append-nil (map span (filter pick (take i xs)))));
+  }
+
+  pub listed_all : (xs : List X) (i : ℕ) (spans : List Span) → AreListed pick span xs i spans → length xs ≤ i → CoverSame spans (map span (filter pick xs))
+  listed_all xs i spans listed h a = listed.same a ∙ ap (λ (ys : List X). is_covered (map span (filter pick ys)) a) (take_all i xs h)

@@ -1,5 +1,5 @@
 -- A line of the log, as the replay takes it.
-use Rattle.std.proofs.Common.{◌≡◌, ℕ, ◌+◌, ◌≤◌, Bool, true, false, not, ◌&&◌, cond, refl, sym, ap, ◌∙◌, List, [], ◌∷◌, ◌++◌, length, filter, count_by, arith, ◌==◌, if◌then◌else◌}
+use Rattle.std.proofs.Common.{◌≡◌, ℕ, ◌+◌, ◌≤◌, Bool, true, false, not, ◌&&◌, cond, refl, sym, ap, ◌∙◌, List, [], ◌∷◌, ◌++◌, length, map, filter, count_by, arith, ◌==◌, if◌then◌else◌}
 use Rattle.std.specs.List.{list_any}
 use Rattle.std.proofs.lemmas.List.Elements.{filter_agree}
 use Rattle.std.proofs.lemmas.List.Sums.{length-filter, count_by-le-length}
@@ -111,9 +111,9 @@ module _ (lines : List Line) (x : Line) where
 
 -- ---- before the first line
 
-pub numbered_none : (allocated : List Block) (numbers : List ℕ) → numbers ≡ [] → IsNumberedAfter [] allocated numbers 0 0
+pub numbered_none : (allocated : List Block) (numbers : List ℕ) → allocated ≡ [] → numbers ≡ [] → IsNumberedAfter [] allocated numbers 0 0
 unfolding replay_of live_of
-numbered_none allocated numbers e = record { blocks = record { numbered = []; stand = tt; listed = e }; missed = refl; ended = refl }
+numbered_none allocated numbers f e = record { places = ap (map (λ (b : Block). (b.start, b.size))) f; blocks = record { numbered = []; stand = tt; listed = e }; missed = refl; ended = refl }
 
 -- ---- after the last line
 

@@ -6,7 +6,7 @@ use Rattle.leak_mtrace.specs.declared.line.Line.{Line}
 use Rattle.leak_blocks.specs.declared.block.Block.{Block}
 use Rattle.leak_blocks.specs.declared.stage.Stage.{Stage}
 use Rattle.leak_blocks.specs.Span.{AreDisjoint}
-use Rattle.leak_blocks.specs.Live.{replay_of}
+use Rattle.leak_blocks.specs.Live.{is_allocation, replay_of}
 use Rattle.leak_blocks.specs.Steps.{meets}
 use Rattle.leak_blocks.specs.Laws.{IsIn}
 
@@ -89,8 +89,17 @@ abbrev pub CountUp : ℕ → List ℕ → Type 0
 CountUp first [] = ⊤
 CountUp first (n ∷ ns) = (n ≡ first) × CountUp (first + 1) ns
 
--- the numbers of the live blocks and the counts after these lines
+-- the address and the size of each allocation of the lines, in their order
+abbrev pub places_of : List Line → List (ℕ × ℕ)
+places_of lines = map (λ x. (x.addr, x.size)) (filter is_allocation lines)
+
+-- the blocks have those
+abbrev pub HavePlacesOf : List Line → List Block → Type 0
+HavePlacesOf lines blocks = map (λ b. (b.start, b.size)) blocks ≡ places_of lines
+
+-- the allocations, the numbers of the live ones and the counts after these lines
 pub record IsNumberedAfter (lines : List Line) (allocated : List Block) (numbers : List ℕ) (unknown displaced : ℕ) : Type 0 where
+  pub places : HavePlacesOf lines allocated
   pub blocks : AreNumbered allocated numbers (replay_of lines).blocks
   pub missed : unknown ≡ (replay_of lines).unknown
   pub ended : displaced ≡ (replay_of lines).displaced

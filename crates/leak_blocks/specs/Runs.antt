@@ -8,7 +8,8 @@ use Rattle.leak_blocks.specs.declared.block.Block.{Block}
 use Rattle.leak_blocks.specs.declared.course.Course.{Course}
 use Rattle.leak_blocks.specs.Span.{AreDisjoint, span_end}
 use Rattle.leak_blocks.specs.Live.{replay_of}
-use Rattle.leak_blocks.specs.Numbers.{IsNumbered, AreNumbersOf, entries_of, AreOf}
+use Rattle.leak_blocks.specs.declared.stage.Stage.{Stage}
+use Rattle.leak_blocks.specs.Numbers.{IsNumbered, AreNumbersOf, HavePlacesOf, IsStageAfter, entries_of, AreOf}
 
 -- the run has the numbers of these blocks; the map has the entries of those below them, and of those above them
 pub record AreBetween (allocated : List Block) (entries : List (ℕ × ℕ)) (run : List ℕ) (below held above : List Block) : Type 0 where
@@ -48,6 +49,7 @@ pub record IsSplit (allocated : List Block) (entries : List (ℕ × ℕ)) (run :
 
 -- the allocations, the map, the run and the counts after these lines
 pub record IsRunAfter (lines : List Line) (allocated : List Block) (entries : List (ℕ × ℕ)) (run : List ℕ) (low high unknown displaced : ℕ) : Type 0 where
+  pub places : HavePlacesOf lines allocated
   pub numbered : List Block
   pub stand : AreNumbersOf allocated numbered (replay_of lines).blocks
   pub blocks : IsSplit allocated entries run low high numbered
@@ -84,3 +86,10 @@ pub record HaveReadAll (reading : Reading) (course : Course) : Type 0 where
 abbrev pub HaveReadOn : Bool → Reading → Course → Type 0
 HaveReadOn true reading course = HaveRead reading course
 HaveReadOn false reading course = HaveReadAll reading course
+
+-- the reader and a replay between two arenas have come to the end of the log
+pub record AreAtEnd (reading : Reading) (stage : Stage) : Type 0 where
+  pub lines : List Line
+  pub read : HasReadAll reading lines
+  pub fit : LinesFit lines
+  pub replayed : IsStageAfter lines stage

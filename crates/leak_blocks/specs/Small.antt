@@ -4,6 +4,7 @@
 use Rattle.std.specs.Prelude.{◌≡◌, ℕ, ◌+◌, ◌-◌, ◌<◌, ◌≤◌, max, Bool, ◌&&◌, nat_lt, nat_le, List, [], ◌∷◌, map, filter, ⊤}
 use Rattle.std.specs.List.{All, AllByRecursion, list_any}
 use Rattle.leak_mtrace.specs.declared.line.Line.{Line}
+use Rattle.leak_blocks.specs.declared.block.Block.{Block}
 use Rattle.leak_blocks.specs.declared.small.Span.{Span}
 use Rattle.leak_blocks.specs.Live.{is_allocation}
 
@@ -11,13 +12,26 @@ use Rattle.leak_blocks.specs.Live.{is_allocation}
 abbrev pub is_small : Line → Bool
 is_small x = is_allocation x && nat_lt x.size 131072
 
--- the addresses of an allocation; one of no bytes has its first address
+-- the addresses of an allocation at this address and of this size; one of no bytes has its first address
+abbrev pub span_at : ℕ → ℕ → Span
+span_at start size = record { first = start; last = start + (max size 1 - 1) }
+
 abbrev pub span_of : Line → Span
-span_of x = record { first = x.addr; last = x.addr + (max x.size 1 - 1) }
+span_of x = span_at x.addr x.size
 
 -- the spans of all small allocations of a log, whatever later lines say of them
 unfoldable pub small_spans_of : List Line → List Span
 small_spans_of lines = map span_of (filter is_small lines)
+
+abbrev pub is_small_block : Block → Bool
+is_small_block b = nat_lt b.size 131072
+
+abbrev pub block_span : Block → Span
+block_span b = span_at b.start b.size
+
+-- the same of blocks
+unfoldable pub small_block_spans : List Block → List Span
+small_block_spans blocks = map block_span (filter is_small_block blocks)
 
 -- the address is in the span
 abbrev pub holds : ℕ → Span → Bool

@@ -2,7 +2,8 @@
 //!
 //! [`replay`] goes over the lines of a `leak_mtrace::Log` and gives [`Live`]: each [`Block`] that no later line ends,
 //! by ascending address, with the number of give-backs that met no live block and the number of allocations that
-//! another allocation ended. [`replay_bytes`] does so while it reads the lines, and keeps none. glibc's mtrace says what a line reports; which line ends which block is own rule, stated
+//! another allocation ended. [`replay_bytes`] does so while it reads the lines, and keeps none; [`replay_with_spans`] also gives
+//! the addresses of small allocations. glibc's mtrace says what a line reports; which line ends which block is own rule, stated
 //! in `specs/Live.antt` over pairs of lines. [`Live`] keeps callers as ranges of the log's bytes, and no bytes.
 //!
 //! The contracts don't say that the log is complete, nor that its lines stand in the order of the calls.
@@ -25,5 +26,5 @@ pub use laws::{
     replays_line_by_line, worked_logs,
 };
 pub use live::Live;
-pub use replaying::{Replayed, replay, replay_bytes};
+pub use replaying::{Replayed, replay, replay_bytes, replay_with_spans};
 pub use small::{SmallSpans, Span, small_spans};

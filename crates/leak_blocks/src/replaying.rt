@@ -1,12 +1,16 @@
 //! Going over a log, line by line.
-ghost use Rattle.std.specs.Prelude.{◌≡◌, ◌≢◌, ◌<◌, ◌≤◌, length, take, IfOk, IfErr, IsTrue};
+ghost use Rattle.std.specs.Prelude.{◌≡◌, ◌≢◌, ◌<◌, ◌≤◌, List, length, take, IfOk, IfErr, IsTrue};
+ghost use Rattle.leak_mtrace.specs.declared.line.Line.{Line};
 ghost use Rattle.leak_mtrace.specs.Log.{LinesFit, IsFirstFault};
+ghost use Rattle.leak_mtrace.specs.Reading.{HasReadAll};
 ghost use Rattle.leak_blocks.specs.Live.{is_allocation, is_give_back, replay_of};
-ghost use Rattle.leak_blocks.specs.Outcome.{IsReplayOf};
-ghost use Rattle.leak_blocks.specs.Runs.{IsCourseAfter, HaveRead, HaveReadOn};
+ghost use Rattle.leak_blocks.specs.Numbers.{IsStageAfter};
+ghost use Rattle.leak_blocks.specs.Outcome.{ComesTo, IsReplayOf, IsSpannedReplayOf};
+ghost use Rattle.leak_blocks.specs.Runs.{IsCourseAfter, AreAtEnd, HaveRead, HaveReadOn};
 
 use crate::course::Course;
 use crate::live::Live;
+use crate::small::SmallSpans;
 use crate::stage::{Stage, arena_bytes};
 use bumpalo::Bump;
 use leak_mtrace::{Kind, Line, Log, LogError, Reader};
@@ -115,10 +119,10 @@ pub struct Replayed {
     pub whole_len: usize,
 }
 
-/// Reads a log and finds its live blocks, or gives its first fault: what [`Log::read`] and [`replay`] do one after the other. It
-/// keeps no lines, and 40 bytes for each allocation.
-pub fn replay_bytes(alloc: Global, bytes: &[u8]) -> Result<Replayed, LogError>
-    ensures ok { IfOk result (IsReplayOf bytes.now) }
+/// Reads a log and goes over all its lines. Returns the replay and the reader, which have come to its end.
+fn go_through(alloc: Global, bytes: &[u8]) -> Result<(Stage, Reader<'_>), LogError>
+    ensures bytes { IfOk result (λ ended. ended.1.bytes ≡ bytes.now) }
+    ensures after { IfOk result (λ ended. AreAtEnd ended.1 ended.0) }
     ensures refused { IfErr result (λ e. e ≢ LogError.NoMemory → IsFirstFault bytes.now e) }
 {
     let lines = memchr_iter(b'\n', bytes).count();
@@ -131,9 +135,41 @@ pub fn replay_bytes(alloc: Global, bytes: &[u8]) -> Result<Replayed, LogError>
         more = course.read_on(&arena, &mut reader)?;
         stage = course.end()?;
     }
+    Ok((stage, reader))
+}
+
+/// What the log comes to, whose end both have come to.
+fn outcome_of(alloc: Global, stage: Stage, reader: &Reader<'_>) -> Result<Replayed, AllocError>
+    requires { AreAtEnd reader.now stage }
+    ensures { IfOk result (λ replayed. (lines : List Line) → HasReadAll reader.now lines
+        → IsStageAfter lines stage → ComesTo reader.now.bytes lines replayed) }
+{
     Ok(Replayed {
         live: stage.live(alloc)?,
         torn: reader.torn(),
         whole_len: reader.whole_len(),
     })
+}
+
+/// Reads a log and finds its live blocks, or gives its first fault: what [`Log::read`] and [`replay`] do one after the other. It
+/// keeps no lines, and 40 bytes for each allocation.
+pub fn replay_bytes(alloc: Global, bytes: &[u8]) -> Result<Replayed, LogError>
+    ensures ok { IfOk result (IsReplayOf bytes.now) }
+    ensures refused { IfErr result (λ e. e ≢ LogError.NoMemory → IsFirstFault bytes.now e) }
+{
+    let (stage, reader) = go_through(alloc, bytes)?;
+    Ok(outcome_of(alloc, stage, &reader)?)
+}
+
+/// [`replay_bytes`], and with it the addresses of the log's small allocations, as [`small_spans`](crate::small_spans) finds them:
+/// they are made of the blocks of all allocations, so that no lines are kept here either.
+///
+/// While they are found it takes 16 bytes for each allocation, and as much again for each small one.
+pub fn replay_with_spans(alloc: Global, bytes: &[u8]) -> Result<(Replayed, SmallSpans), LogError>
+    ensures ok { IfOk result (IsSpannedReplayOf bytes.now) }
+    ensures refused { IfErr result (λ e. e ≢ LogError.NoMemory → IsFirstFault bytes.now e) }
+{
+    let (stage, reader) = go_through(alloc, bytes)?;
+    let small = stage.small_spans(alloc)?;
+    Ok((outcome_of(alloc, stage, &reader)?, small))
 }

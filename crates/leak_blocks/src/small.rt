@@ -1,12 +1,17 @@
 //! The addresses of small allocations, live or given back.
 
-ghost use Rattle.std.specs.Prelude.{◌≡◌, ◌≤◌, ◌||◌, ℕ, IfOk, OnOk, List, []};
+ghost use Rattle.std.specs.Prelude.{◌≡◌, ◌+◌, ◌^◌, ◌<◌, ◌≤◌, ◌||◌, ℕ, IfOk, OnOk, List, []};
 ghost use Rattle.std.specs.List.Sorted.{IsNonDecreasingBy};
 ghost use Rattle.leak_mtrace.specs.Log.{LinesFit};
+ghost use Rattle.leak_mtrace.specs.declared.line.Line.{Line};
 ghost use Rattle.leak_blocks.specs.declared.small.Span.{Span};
-ghost use Rattle.leak_blocks.specs.Small.{is_small, small_spans_of, holds, is_covered, AreApart, AreSpans, CoverSame};
+ghost use Rattle.leak_blocks.specs.Numbers.{IsStageAfter};
+ghost use Rattle.leak_blocks.specs.Span.{AreAddressed};
+ghost use Rattle.leak_blocks.specs.Small.{is_small, span_at, small_spans_of, small_block_spans, holds, is_covered, AreApart, AreSpans, CoverSame};
 
+use crate::block::Block;
 use crate::replaying::is_allocation;
+use crate::stage::Stage;
 use leak_mtrace::{Line, Log};
 use std::alloc::{AllocError, Global};
 use std::marker::Model;
@@ -44,6 +49,17 @@ fn is_small(line: &Line) -> bool
     is_allocation(line) && line.size < MAPPED_BYTES
 }
 
+/// The addresses of an allocation at this address and of this size. One of no bytes has its first address.
+fn span_at(start: u64, size: u64) -> Span
+    requires { start + size < 2 ^ 64 }
+    ensures { result ≡ span_at start size }
+{
+    Span {
+        first: start,
+        last: start + (size.max(1) - 1),
+    }
+}
+
 /// Adds a span, or lengthens the last one where both begin at one address.
 fn add(spans: &mut Vec<Span>, span: Span) -> Result<(), AllocError>
     requires each { AreSpans spans.old.items }
@@ -78,11 +94,22 @@ fn spans_of(alloc: Global, lines: &[Line]) -> Result<Vec<Span>, AllocError>
     let mut spans = Vec::with_capacity(alloc, lines.len())?;
     for line in lines {
         if is_small(line) {
-            let span = Span {
-                first: line.addr,
-                last: line.addr + (line.size.max(1) - 1),
-            };
-            add(&mut spans, span)?;
+            add(&mut spans, span_at(line.addr, line.size))?;
+        }
+    }
+    Ok(spans)
+}
+
+/// The same of blocks.
+fn block_spans(alloc: Global, blocks: &[Block]) -> Result<Vec<Span>, AllocError>
+    requires { AreAddressed blocks.now }
+    ensures each { IfOk result (λ spans. AreSpans spans.items) }
+    ensures same { IfOk result (λ spans. CoverSame spans.items (small_block_spans blocks.now)) }
+{
+    let mut spans = Vec::with_capacity(alloc, blocks.len())?;
+    for block in blocks {
+        if block.size < MAPPED_BYTES {
+            add(&mut spans, span_at(block.start, block.size))?;
         }
     }
     Ok(spans)
@@ -122,6 +149,28 @@ fn merged(alloc: Global, spans: &[Span]) -> Result<Vec<Span>, AllocError>
     Ok(ranges)
 }
 
+/// The addresses of the spans as ranges that are apart.
+fn joined(alloc: Global, spans: Vec<Span>) -> Result<SmallSpans, AllocError>
+    requires { AreSpans spans.items }
+    ensures { IfOk result (λ ranges. CoverSame ranges spans.items) }
+{
+    let mut spans = spans;
+    sort(&mut spans);
+    let ranges = merged(alloc, &spans)?;
+    Ok(SmallSpans { ranges })
+}
+
+impl Stage {
+    /// The addresses of all small allocations so far.
+    pub(crate) fn small_spans(&self, alloc: Global) -> Result<SmallSpans, AllocError>
+        requires { (lines : List Line) × LinesFit lines × IsStageAfter lines self.now }
+        ensures { IfOk result (λ spans. (lines : List Line)
+            → IsStageAfter lines self.now → CoverSame spans (small_spans_of lines)) }
+    {
+        joined(alloc, block_spans(alloc, &self.allocated)?)
+    }
+}
+
 impl SmallSpans {
     /// No address.
     pub fn none(alloc: Global) -> SmallSpans
@@ -148,8 +197,5 @@ impl SmallSpans {
 pub fn small_spans(alloc: Global, log: &Log) -> Result<SmallSpans, AllocError>
     ensures { IfOk result (λ spans. CoverSame spans (small_spans_of log.now.lines)) }
 {
-    let mut spans = spans_of(alloc, log.lines())?;
-    sort(&mut spans);
-    let ranges = merged(alloc, &spans)?;
-    Ok(SmallSpans { ranges })
+    joined(alloc, spans_of(alloc, log.lines())?)
 }

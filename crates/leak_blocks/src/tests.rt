@@ -117,6 +117,10 @@ fn logs_that_are_refused(rt: HostRuntime) -> Result<(), Fail> {
             Ok(_) => panic!(rt; "{text}"),
             Err(error) => assert_eq!(rt; error, want, "{text}"),
         }
+        match replay_with_spans(rt.alloc(), text.as_bytes()) {
+            Ok(_) => panic!(rt; "{text}"),
+            Err(error) => assert_eq!(rt; error, want, "{text}"),
+        }
     }
     Ok(())
 }
@@ -205,6 +209,9 @@ fn small_allocations_as_ranges(rt: HostRuntime) -> Result<(), Fail> {
     for (text, ranges) in cases {
         let log = Log::read(rt.alloc(), text.as_bytes())?;
         let found = small_spans(rt.alloc(), &log)?;
+        let (replayed, same) = replay_with_spans(rt.alloc(), text.as_bytes())?;
+        assert_eq!(rt; same.ranges(), found.ranges(), "{text}");
+        assert_eq!(rt; replayed.whole_len, text.len(), "{text}");
         let mut pairs = Vec::new(rt.alloc());
         for range in found.ranges() {
             pairs.push((range.first, range.last))?;
@@ -225,6 +232,8 @@ fn logs_without_a_small_allocation(rt: HostRuntime) -> Result<(), Fail> {
     for text in logs {
         let log = Log::read(rt.alloc(), text.as_bytes())?;
         assert_eq!(rt; small_spans(rt.alloc(), &log)?.ranges().len(), 0, "{text}");
+        let (_, small) = replay_with_spans(rt.alloc(), text.as_bytes())?;
+        assert_eq!(rt; small.ranges().len(), 0, "{text}");
     }
     assert_eq!(rt; SmallSpans::none(rt.alloc()).ranges().len(), 0);
     Ok(())

@@ -3,4 +3,4 @@ use Rattle.leak_blocks.proofs.StepLemmas.{numbered_none}
 use Rattle.leak_blocks.proofs.stage.Stage.new.Goals as goal
 
 pub returns : goal.returns
-returns c = numbered_none _ _ c.in_ok-with_capacity-2.ensures.items
+returns c = numbered_none _ _ c.in_ok-with_capacity.ensures.items c.in_ok-with_capacity-2.ensures.items
