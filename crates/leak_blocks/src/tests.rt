@@ -175,6 +175,20 @@ fn nodes_made_over_and_over(rt: HostRuntime) -> Result<(), Fail> {
     Ok(())
 }
 
+/// The ranges of the log's small allocations, by its lines, and by its bytes too.
+fn ranges_of(rt: &impl Abort, alloc: Global, text: &str) -> Result<Vec<(u64, u64)>, Fail> {
+    let log = Log::read(alloc, text.as_bytes())?;
+    let by_lines = small_spans(alloc, &log)?;
+    let (replayed, by_bytes) = replay_with_spans(alloc, text.as_bytes())?;
+    assert_eq!(rt; by_bytes.ranges(), by_lines.ranges(), "{text}");
+    assert_eq!(rt; replayed.whole_len, text.len(), "{text}");
+    let mut ranges = Vec::new(alloc);
+    for range in by_lines.ranges() {
+        ranges.push((range.first, range.last))?;
+    }
+    Ok(ranges)
+}
+
 /// A log, and the ranges of its small allocations, as the first and the last address of each.
 type Ranges<'a> = (&'a str, &'a [(u64, u64)]);
 
@@ -207,16 +221,8 @@ fn small_allocations_as_ranges(rt: HostRuntime) -> Result<(), Fail> {
         ),
     ];
     for (text, ranges) in cases {
-        let log = Log::read(rt.alloc(), text.as_bytes())?;
-        let found = small_spans(rt.alloc(), &log)?;
-        let (replayed, same) = replay_with_spans(rt.alloc(), text.as_bytes())?;
-        assert_eq!(rt; same.ranges(), found.ranges(), "{text}");
-        assert_eq!(rt; replayed.whole_len, text.len(), "{text}");
-        let mut pairs = Vec::new(rt.alloc());
-        for range in found.ranges() {
-            pairs.push((range.first, range.last))?;
-        }
-        assert_eq!(rt; pairs.as_slice(), ranges, "{text}");
+        let found = ranges_of(&rt, rt.alloc(), text)?;
+        assert_eq!(rt; found.as_slice(), ranges, "{text}");
     }
     Ok(())
 }
@@ -230,10 +236,7 @@ fn logs_without_a_small_allocation(rt: HostRuntime) -> Result<(), Fail> {
         "+ (nil) 0x20\n",
     ];
     for text in logs {
-        let log = Log::read(rt.alloc(), text.as_bytes())?;
-        assert_eq!(rt; small_spans(rt.alloc(), &log)?.ranges().len(), 0, "{text}");
-        let (_, small) = replay_with_spans(rt.alloc(), text.as_bytes())?;
-        assert_eq!(rt; small.ranges().len(), 0, "{text}");
+        assert_eq!(rt; ranges_of(&rt, rt.alloc(), text)?.len(), 0, "{text}");
     }
     assert_eq!(rt; SmallSpans::none(rt.alloc()).ranges().len(), 0);
     Ok(())

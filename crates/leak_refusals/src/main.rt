@@ -22,7 +22,7 @@ use std::rt::Env;
 use std::thread::Threads;
 
 /// The calls, by name.
-static CALLS: [&str; 42] = [
+static CALLS: [&str; 43] = [
     "core_k",
     "Image::read",
     "Threads::read",
@@ -30,6 +30,7 @@ static CALLS: [&str; 42] = [
     "Log::read",
     "replay",
     "replay_bytes",
+    "replay_with_spans",
     "small_spans",
     "Paged::new",
     "Roots::find",
@@ -117,6 +118,7 @@ fn answer_of<R: AllocGlobal + Threads + Sync>(rt: &R, name: &str) -> Option<Answ
         "Log::read" => reading::log(alloc),
         "replay" => reading::replayed(alloc),
         "replay_bytes" => reading::replayed_bytes(alloc),
+        "replay_with_spans" => reading::spanned(alloc),
         "small_spans" => reading::small(alloc),
         "Paged::new" => searching::paged(alloc),
         "Roots::find" => searching::roots(alloc),

@@ -2,7 +2,7 @@
 
 use crate::answer::Answer;
 use crate::samples::{FOUR_CALLERS, core_of, set, vector_core};
-use leak_blocks::{Live, replay, replay_bytes, small_spans};
+use leak_blocks::{Live, SmallSpans, replay, replay_bytes, replay_with_spans, small_spans};
 use leak_elf::{ElfError, Image, core_k};
 use leak_mtrace::{Log, LogError};
 use leak_notes::{NoteError, Threads};
@@ -87,15 +87,31 @@ pub(crate) fn replayed_bytes(alloc: Global) -> Option<Answer> {
     }
 }
 
-/// `small_spans` of three allocations, of which two touch.
-pub(crate) fn small(alloc: Global) -> Option<Answer> {
-    let lines = "+ 0x110 0x10\n+ 0x200 0x8\n+ 0x100 0x10\n- 0x100\n";
-    let log = Log::read(alloc, lines.as_bytes()).ok()?;
-    match small_spans(alloc, &log) {
-        Ok(spans) => {
-            let first = spans.ranges().first().map(|span| (span.first, span.last));
-            Some(Answer::of(spans.ranges().len() == 2 && first == Some((0x100, 0x11f))))
+/// Three allocations, of which two touch.
+const TOUCHING: &str = "+ 0x110 0x10\n+ 0x200 0x8\n+ 0x100 0x10\n- 0x100\n";
+
+/// Whether these are the addresses of those allocations.
+fn are_touching(spans: &SmallSpans) -> bool {
+    let first = spans.ranges().first().map(|span| (span.first, span.last));
+    spans.ranges().len() == 2 && first == Some((0x100, 0x11f))
+}
+
+/// `replay_with_spans` of that log.
+pub(crate) fn spanned(alloc: Global) -> Option<Answer> {
+    match replay_with_spans(alloc, TOUCHING.as_bytes()) {
+        Ok((replayed, spans)) => {
+            let live = replayed.live.blocks().len();
+            Some(Answer::of(live == 2 && are_touching(&spans)))
         }
+        Err(error) => Some(Answer::of_refusal(error == LogError::NoMemory)),
+    }
+}
+
+/// `small_spans` of the same.
+pub(crate) fn small(alloc: Global) -> Option<Answer> {
+    let log = Log::read(alloc, TOUCHING.as_bytes()).ok()?;
+    match small_spans(alloc, &log) {
+        Ok(spans) => Some(Answer::of(are_touching(&spans))),
         Err(_) => Some(Answer::Wanting),
     }
 }

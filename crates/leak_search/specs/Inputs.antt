@@ -13,6 +13,7 @@ use Rattle.leak_mtrace.specs.Log.{IsLog, IsFirstFault, CallersAreIn, is_continue
 use Rattle.leak_blocks.specs.Live.{live_of, replay_of}
 use Rattle.leak_blocks.specs.declared.replaying.Replayed.{Replayed}
 use Rattle.leak_blocks.specs.declared.small.Span.{Span}
+use Rattle.leak_blocks.specs.Outcome.{ComesTo}
 use Rattle.leak_blocks.specs.Small.{CoverSame}
 use Rattle.leak_roots.specs.Places.{Places}
 use Rattle.leak_roots.specs.Roots.{AreRootsOf}
@@ -86,14 +87,8 @@ IsFaultOfTwo core1 log1 core2 log2 e =
     ⊎ ((IsFaultless core1 log1 × IsInputFault 2 core2 log2 e) ⊎ (IsFaultless core1 log1 × IsFaultless core2 log2 × IsFaultBetween log1 log2 e))
 
 -- the log was read: its live blocks, and the spans whose freed places are left out
-pub record IsReadLog (skip : Skip) (log : List ℕ) (read : Replayed × List Span) : Type 0 where
-  pub lines : List Line
-  pub is_log : IsLog log lines
-  pub callers : CallersAreIn log lines
-  pub live : read.0.live ≡ replay_of lines
-  pub torn : read.0.torn ≡ torn_of log
-  pub whole_len : read.0.whole_len ≡ whole_len_of log
-  pub small : CoverSame read.1 (spans_of skip lines)
+abbrev pub IsReadLog : Skip → List ℕ → Replayed × List Span → Type 0
+IsReadLog skip log read = (lines : List Line) × ComesTo log lines read.0 × CoverSame read.1 (spans_of skip lines)
 
 -- the core and the log are free of faults, the log has these lines, and they were read as they are
 pub record IsReadOf (core log : List ℕ) (lines : List Line) (input : Input) : Type 0 where

@@ -6,9 +6,9 @@ ghost use Rattle.leak_mtrace.specs.Log.{IsFirstFault};
 ghost use Rattle.leak_search.specs.Inputs.{AreRootsFor, IsInput, IsInputFault, IsRead, IsReadLog};
 
 use crate::error::{FindError, at_core, at_log, at_notes};
-use leak_blocks::{Live, Replayed, SmallSpans, replay, replay_bytes};
+use leak_blocks::{Live, Replayed, SmallSpans, replay_bytes, replay_with_spans};
 use leak_elf::Image;
-use leak_mtrace::{Log, LogError};
+use leak_mtrace::LogError;
 use leak_notes::Threads;
 use leak_roots::{Roots, Skip};
 use std::alloc::{AllocError, Global};
@@ -31,22 +31,16 @@ pub(crate) struct Input<'a> {
     pub whole_len: usize,
 }
 
-/// Reads a log and finds its live blocks, and the spans whose freed places are left out. Its lines are listed only where those
-/// spans are made of them.
+/// Reads a log and finds its live blocks, and the spans whose freed places are left out.
 fn read_log(alloc: Global, skip: Skip, log: &[u8]) -> Result<(Replayed, SmallSpans), LogError>
     ensures ok { IfOk result (IsReadLog skip log.now) }
     ensures refused { IfErr result (λ e. e ≢ LogError.NoMemory → IsFirstFault log.now e) }
 {
-    if !skip.freed {
-        return Ok((replay_bytes(alloc, log)?, SmallSpans::none(alloc)));
+    if skip.freed {
+        replay_with_spans(alloc, log)
+    } else {
+        Ok((replay_bytes(alloc, log)?, SmallSpans::none(alloc)))
     }
-    let log = Log::read(alloc, log)?;
-    let replayed = Replayed {
-        live: replay(alloc, &log)?,
-        torn: log.torn(),
-        whole_len: log.whole_len(),
-    };
-    Ok((replayed, skip.spans(alloc, &log)?))
 }
 
 /// Reads the input with the number, or gives its first fault: the core's, then its notes', then the log's.

@@ -109,14 +109,16 @@ fn heads_are_those_of_the_reading(rt: HostRuntime) -> Result<(), Fail> {
     Ok(())
 }
 
+/// The report before its heads, of two blocks that nothing leads to, in cores that have the same words apart from those.
+const FRONT: &str = "blocks 2 bytes 48\n\
+                     undumped 0\nunknown 0 displaced 0 torn 0\n\
+                     new 0 bytes 0\nreread 0\n\
+                     marked 0 bytes 0\nleaked 2 bytes 48\n";
+
 #[test]
 fn heads_of_two_cores_are_those_of_the_later(rt: HostRuntime) -> Result<(), Fail> {
     let empty = core_of(rt.alloc(), &[])?;
     let held = core_of(rt.alloc(), &[Part::Word(0x10100, 0x10200)])?;
-    let front = "blocks 2 bytes 48\n\
-                 undumped 0\nunknown 0 displaced 0 torn 0\n\
-                 new 0 bytes 0\nreread 0\n\
-                 marked 0 bytes 0\nleaked 2 bytes 48\n";
     let now_held = "heads 1\n\
                     caller 2 48 1 ?\n\
                     leak 0x10100 32 1 head ?\n\
@@ -144,9 +146,9 @@ fn heads_of_two_cores_are_those_of_the_later(rt: HostRuntime) -> Result<(), Fail
                 &Open,
             )?;
             let report = found.report.as_slice();
-            assert!(rt; report.starts_with(front.as_bytes()), "by {plan:?}");
+            assert!(rt; report.starts_with(FRONT.as_bytes()), "by {plan:?}");
             assert!(rt; report.ends_with(wanted.as_bytes()), "by {plan:?}");
-            assert_eq!(rt; report.len(), front.len() + wanted.len(), "by {plan:?}");
+            assert_eq!(rt; report.len(), FRONT.len() + wanted.len(), "by {plan:?}");
         }
     }
     Ok(())
