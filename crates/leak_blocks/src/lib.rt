@@ -17,8 +17,6 @@ mod numbers;
 mod replaying;
 mod small;
 mod stage;
-#[cfg(test)]
-mod tests;
 
 pub use block::Block;
 pub use laws::{

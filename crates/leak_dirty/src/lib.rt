@@ -21,10 +21,3 @@ pub use comparing::differing;
 pub use kept::Carry;
 pub use laws::{absent_are_fresh, same_words_lead_within, worked_cores};
 pub use retracing::{Retraced, retrace};
-
-#[cfg(test)]
-mod many_kept_tests;
-#[cfg(test)]
-mod retracing_tests;
-#[cfg(test)]
-mod tests;

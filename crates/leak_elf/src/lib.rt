@@ -19,8 +19,6 @@ mod refusal;
 mod sample;
 mod search;
 mod segment;
-#[cfg(test)]
-mod tests;
 mod words;
 
 pub use error::ElfError;

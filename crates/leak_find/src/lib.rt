@@ -46,6 +46,3 @@ pub use leak_search::{
 };
 pub use readers::read_all;
 pub use running::{run, run_sized};
-
-#[cfg(test)]
-mod tests;

@@ -17,10 +17,6 @@ mod chunk;
 mod fitting;
 mod free_link;
 mod laws;
-#[cfg(test)]
-mod link_tests;
-#[cfg(test)]
-mod tests;
 
 pub use fitting::{count_misfits, fits};
 pub use free_link::{is_free_link, without_free_links};

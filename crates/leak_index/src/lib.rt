@@ -20,13 +20,9 @@ mod hits;
 mod laws;
 mod paged;
 mod place;
-#[cfg(test)]
-mod rank_tests;
 mod ranks;
 mod reading;
 mod sorted;
-#[cfg(test)]
-mod tests;
 
 pub use error::ReadingError;
 pub use hits::{Hits, Lookup};

@@ -26,6 +26,3 @@ pub use bits::is_marked;
 pub use claims::Claims;
 pub use marks::Marks;
 pub use seat::MarkSeat;
-
-#[cfg(test)]
-mod tests;

@@ -18,8 +18,6 @@ mod number;
 mod parsing;
 mod place;
 mod reader;
-#[cfg(test)]
-mod tests;
 
 pub use error::LogError;
 pub use laws::{

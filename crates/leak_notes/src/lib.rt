@@ -14,12 +14,8 @@ mod error;
 mod rows;
 mod sets;
 mod status;
-#[cfg(test)]
-mod tests;
 mod threads;
 mod vector;
-#[cfg(test)]
-mod vector_tests;
 mod words;
 
 pub use error::NoteError;

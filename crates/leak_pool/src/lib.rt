@@ -35,8 +35,6 @@ mod search;
 mod source;
 mod start;
 mod task;
-#[cfg(test)]
-mod tests;
 mod worker;
 
 pub use alone::mark_alone;

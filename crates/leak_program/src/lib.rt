@@ -23,6 +23,3 @@ pub use failure::Failure;
 pub use files::search_files;
 pub use sample::search_sample;
 pub use starting::{start, status_of};
-
-#[cfg(test)]
-mod tests;

@@ -20,8 +20,6 @@ mod output;
 mod places;
 mod report;
 mod signs;
-#[cfg(test)]
-mod tests;
 mod totals;
 mod warning;
 

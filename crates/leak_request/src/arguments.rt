@@ -247,6 +247,3 @@ fn text_of(alloc: Global, error: &Error) -> Result<String, AllocError>
     }
     error.to_string(alloc)
 }
-
-#[cfg(test)]
-mod tests;

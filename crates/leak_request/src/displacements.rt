@@ -82,6 +82,3 @@ fn with_digit(value: u64, byte: u8) -> Option<u64>
     }
     value.checked_mul(10)?.checked_add(u64::from(byte - b'0'))
 }
-
-#[cfg(test)]
-mod tests;

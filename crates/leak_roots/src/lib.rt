@@ -20,8 +20,6 @@ mod places;
 mod roots;
 mod rows;
 mod skip;
-#[cfg(test)]
-mod tests;
 
 pub use error::CutError;
 pub use laws::pieces_hold_root_words;

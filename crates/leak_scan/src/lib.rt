@@ -13,8 +13,6 @@
 #![tactic(auto)]
 
 mod block_runs;
-#[cfg(test)]
-mod counted;
 mod course;
 mod first;
 mod holding;
@@ -22,13 +20,9 @@ mod laws;
 mod pages;
 mod place;
 mod reading;
-#[cfg(test)]
-mod root_tests;
 mod root_words;
 mod run_targets;
 mod targets;
-#[cfg(test)]
-mod tests;
 
 pub use block_runs::BlockRuns;
 pub use holding::heads;

@@ -46,6 +46,3 @@ pub use holding::{Why, WhyError, find_why};
 pub use laws::leaked_stay_leaked;
 pub use one_core::find_one;
 pub use two_cores::find_two;
-
-#[cfg(test)]
-mod tests;

@@ -16,8 +16,6 @@ mod finding;
 mod found;
 mod spreading;
 mod telling;
-#[cfg(test)]
-mod tests;
 mod tracing;
 
 pub use asked::block_at;

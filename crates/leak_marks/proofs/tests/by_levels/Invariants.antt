@@ -1,5 +1,0 @@
-use Rattle.std.proofs.Common.{◌≡◌, length}
-use Rattle.leak_marks.proofs.tests.by_levels.Given as goal
-
-abbrev pub invariant-loop-block : goal.invariant-loop-block
-invariant-loop-block l = (l.claims.blocks ≡ 101) × (length l.claims.lists ≡ 2)

@@ -1,8 +1,0 @@
-//! Tests, by subject.
-
-mod free_links;
-mod gates;
-mod meetings;
-mod numbers;
-mod samples;
-mod starts;

@@ -1,8 +1,0 @@
-//! Tests, by subject.
-
-mod callers;
-mod devices;
-mod leaked;
-mod odd;
-mod reports;
-mod samples;

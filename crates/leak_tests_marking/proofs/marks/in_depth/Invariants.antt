@@ -1,0 +1,5 @@
+use Rattle.std.proofs.Common.{◌≡◌, length}
+use Rattle.leak_tests_marking.proofs.marks.in_depth.Given as goal
+
+abbrev pub invariant-loop-i : goal.invariant-loop-i
+invariant-loop-i l = (l.claims.blocks ≡ 101) × (length l.claims.lists ≡ 2)

@@ -1,0 +1,60 @@
+//! Tests of the crates that find roots, look blocks up and mark them, crate by crate.
+//!
+//! They stand beside those crates, so that the crates are proved once, without their tests.
+#![tactic(auto)]
+
+// Live blocks of a log.
+#[cfg(test)]
+mod samples;
+
+// Blocks that a word leads to.
+#[cfg(test)]
+mod index;
+
+// Lookups where blocks start at multiples of 16, and where they don't.
+#[cfg(test)]
+mod index_ranks;
+
+// Blocks that fit the heap of a core.
+#[cfg(test)]
+mod fit;
+
+// Links to free chunks.
+#[cfg(test)]
+mod fit_links;
+
+// Root words.
+#[cfg(test)]
+mod roots;
+
+// Blocks that the words of a range lead to.
+#[cfg(test)]
+mod scan;
+
+// Root words with links to free chunks, and without them.
+#[cfg(test)]
+mod scan_roots;
+
+// How many words of a core a scan asks for.
+#[cfg(test)]
+mod scan_counted;
+
+// Mark bits and lists of claims.
+#[cfg(test)]
+mod marks;
+
+// Marking by workers.
+#[cfg(test)]
+mod pool;
+
+// Pages of two cores that differ.
+#[cfg(test)]
+mod dirty;
+
+// Claims that stay, where there are many.
+#[cfg(test)]
+mod dirty_many_kept;
+
+// Claims of the first core that are traced in the second.
+#[cfg(test)]
+mod dirty_retracing;

@@ -1,0 +1,8 @@
+//! Marking by workers, by subject.
+
+mod free_links;
+mod gates;
+mod meetings;
+mod numbers;
+mod samples;
+mod starts;

@@ -1,0 +1,129 @@
+//! Workers that scan and claim at the same time.
+ghost use Rattle.std.specs.Prelude.{◌≡◌, []};
+ghost use Rattle.leak_elf.specs.Words.{word_of};
+ghost use Rattle.leak_elf.specs.Aligned.{aligned_words};
+
+use crate::pool::samples::{TURNS, core_of, two_apart};
+use leak_blocks::{SmallSpans, replay};
+use leak_elf::{Image, Words};
+use leak_index::{Reading, Sorted};
+use leak_mtrace::Log;
+use leak_notes::Threads;
+use leak_pool::{Open, Plan, Start, mark, mark_from};
+use leak_roots::Roots;
+use leak_scan::Pages;
+use std::alloc::Global;
+use std::sync::atomic::{AtomicU64, Ordering};
+use std::test::Fail;
+
+/// The words of a core, of which the first and the last wait for one another. Counts the reads of each.
+#[derive(Drop)]
+struct Meeting<'a> {
+    image: &'a Image<'a>,
+    reads: Vec<AtomicU64>,
+    late: AtomicU64,
+}
+
+impl<'a> Meeting<'a> {
+    /// How often the word was asked for.
+    fn reads(&self, addr: u64) -> u64 {
+        let at = (addr.wrapping_sub(0x10000) / 8) as usize;
+        match self.reads.as_slice().get(at) {
+            Some(reads) => reads.load(Ordering::SeqCst),
+            None => 0,
+        }
+    }
+
+    /// Waits until the word has been asked for.
+    fn wait_for(&self, addr: u64) {
+        for _ in 0..TURNS {
+            if self.reads(addr) != 0 {
+                return;
+            }
+        }
+        self.late.store(1, Ordering::SeqCst);
+    }
+}
+
+impl<'a> Words for Meeting<'a> {
+    ghost word_at = { λ meeting. word_of meeting.image.now };
+
+    fn word(&self, addr: u64) -> Option<u64> {
+        let at = (addr.wrapping_sub(0x10000) / 8) as usize;
+        if let Some(reads) = self.reads.as_slice().get(at) {
+            reads.fetch_add(1, Ordering::SeqCst);
+        }
+        match addr {
+            0x10000 => self.wait_for(0x10ff8),
+            0x10ff8 => self.wait_for(0x10000),
+            _ => {}
+        }
+        self.image.word(addr)
+    }
+
+    fn next(&self, from: u64) -> Option<u64> {
+        self.image.next(from)
+    }
+
+    ghost aligned = { λ meeting. aligned_words meeting.image.now };
+}
+
+/// The counts of the words of the sample core, all 0.
+fn counts(alloc: Global) -> Result<Vec<AtomicU64>, Fail> {
+    let mut counts = Vec::new(alloc);
+    for _ in 0..512 {
+        counts.push(AtomicU64::new(0))?;
+    }
+    Ok(counts)
+}
+
+/// A start that marks nothing.
+fn no_start(alloc: Global) -> Start
+    ensures { (result.marked.items ≡ []) × (result.rescan.items ≡ []) }
+{
+    Start {
+        marked: Vec::new(alloc),
+        rescan: Vec::new(alloc),
+    }
+}
+
+#[test]
+fn two_workers_scan_and_claim_at_the_same_time(rt: HostRuntime) -> Result<(), Fail> {
+    let alloc = rt.alloc();
+    let sample = two_apart(alloc)?;
+    let core = core_of(alloc, sample.words.as_slice())?;
+    let image = Image::read(alloc, core.as_slice())?;
+    let threads = Threads::read(alloc, &image)?;
+    let log = Log::read(alloc, sample.log.as_bytes())?;
+    let live = replay(alloc, &log)?;
+    let small = SmallSpans::none(alloc);
+    let roots = Roots::find(alloc, &image, &threads, &live, &small)?;
+    let lookup = Sorted::new(&live, Reading::interior());
+    let plan = Plan::new(2, 1, 0)?;
+    let nothing = no_start(alloc);
+    let Some(pages) = Pages::new(Vec::new(alloc)) else {
+        panic!(rt; "no pages are pages")
+    };
+    for from in [false, true] {
+        let words = Meeting {
+            image: &image,
+            reads: counts(alloc)?,
+            late: AtomicU64::new(0),
+        };
+        let marked = if from {
+            mark_from(
+                &rt, alloc, &words, &lookup, &roots, &live, plan, &Open, &nothing, &pages,
+            )?
+        } else {
+            mark(&rt, alloc, &words, &lookup, &roots, &live, plan, &Open)?
+        };
+        assert_eq!(rt; words.late.load(Ordering::SeqCst), 0);
+        assert_eq!(rt; marked.claims.len(), 2);
+        assert_eq!(rt; marked.claims[0].as_slice(), [0u32].as_slice());
+        assert_eq!(rt; marked.claims[1].as_slice(), [1u32].as_slice());
+        for reads in words.reads.as_slice() {
+            assert_eq!(rt; reads.load(Ordering::SeqCst), 1);
+        }
+    }
+    Ok(())
+}

@@ -1,0 +1,323 @@
+use leak_blocks::{Live, SmallSpans, replay};
+use leak_elf::{Image, core_k};
+use leak_mtrace::Log;
+use leak_notes::Threads;
+use leak_roots::{CutError, Piece, Roots, Skip};
+use std::alloc::Global;
+use std::test::Fail;
+
+/// The root words of a core, with the live blocks of a log.
+fn roots(alloc: Global, core: &[u8], log: &[u8]) -> Result<Roots, Fail> {
+    let image = Image::read(alloc, core)?;
+    let threads = Threads::read(alloc, &image)?;
+    let log = Log::read(alloc, log)?;
+    let live = replay(alloc, &log)?;
+    let small = Skip::none().spans(alloc, &log)?;
+    Ok(Roots::find(alloc, &image, &threads, &live, &small)?)
+}
+
+/// The root words of the sample core outside freed memory.
+fn unfreed_roots_of(alloc: Global, log: &str) -> Result<Roots, Fail> {
+    let core = core_k(alloc, &[])?;
+    let image = Image::read(alloc, core.as_slice())?;
+    let threads = Threads::read(alloc, &image)?;
+    let log = Log::read(alloc, log.as_bytes())?;
+    let live = replay(alloc, &log)?;
+    let skip = Skip {
+        freed: true,
+        links: false,
+    };
+    let small = skip.spans(alloc, &log)?;
+    Ok(Roots::find(alloc, &image, &threads, &live, &small)?)
+}
+
+/// The root words of the sample core.
+fn roots_of(alloc: Global, log: &[u8]) -> Result<Roots, Fail> {
+    let core = core_k(alloc, &[])?;
+    roots(alloc, core.as_slice(), log)
+}
+
+/// How many root words there are.
+fn count(roots: &Roots) -> u64 {
+    let mut words = roots.registers().len() as u64;
+    for (from, to) in roots.memory() {
+        words = words.saturating_add(to.saturating_sub(*from) / 8);
+    }
+    words
+}
+
+#[test]
+fn the_sample_has_a_root_word_at_each_place(rt: HostRuntime) -> Result<(), Fail> {
+    let all = roots_of(rt.alloc(), b"")?;
+    assert_eq!(rt; count(&all), 539);
+    assert_eq!(rt; all.registers(), [0u64; 27].as_slice());
+    assert_eq!(rt; all.memory(), [(0x10000, 0x11000)].as_slice());
+    Ok(())
+}
+
+#[test]
+fn vector_registers_are_roots(rt: HostRuntime) -> Result<(), Fail> {
+    let mut core = core_k(rt.alloc(), &[])?;
+    // A vector entry after the thread status, and a word in the upper half of xmm15.
+    let entry = b"\x05\0\0\0\0\x02\0\0\x02\0\0\0CORE\0\0\0\0";
+    for (at, bytes) in [
+        (96usize, 888u64.to_le_bytes().as_slice()),
+        (532, entry.as_slice()),
+        (960, 7u64.to_le_bytes().as_slice()),
+    ] {
+        for (place, byte) in core.iter_mut().skip(at).zip(bytes) {
+            *place = *byte;
+        }
+    }
+    let all = roots(rt.alloc(), core.as_slice(), b"")?;
+    assert_eq!(rt; count(&all), 571);
+    assert_eq!(rt; all.registers().get(58).copied(), Some(7));
+    let pieces = all.cut(rt.alloc(), 32)?;
+    assert_eq!(rt; pieces.get(0).copied(), Some(Piece::Registers(0, 32)));
+    assert_eq!(rt; pieces.get(1).copied(), Some(Piece::Registers(32, 59)));
+    Ok(())
+}
+
+#[test]
+fn the_registers_are_those_of_the_threads_that_are_given(rt: HostRuntime) -> Result<(), Fail> {
+    let core = core_k(rt.alloc(), &[])?;
+    let mut other = core_k(rt.alloc(), &[])?;
+    for byte in other.iter_mut().skip(348).take(1) {
+        *byte = 7;
+    }
+    let image = Image::read(rt.alloc(), core.as_slice())?;
+    let other = Image::read(rt.alloc(), other.as_slice())?;
+    let threads = Threads::read(rt.alloc(), &other)?;
+    let log = Log::read(rt.alloc(), b"")?;
+    let live = replay(rt.alloc(), &log)?;
+    let small = SmallSpans::none(rt.alloc());
+    let roots = Roots::find(rt.alloc(), &image, &threads, &live, &small)?;
+    assert_eq!(rt; roots.registers().get(5).copied(), Some(7));
+    assert_eq!(rt; roots.memory(), [(0x10000, 0x11000)].as_slice());
+    Ok(())
+}
+
+#[test]
+fn the_roots_say_whether_links_are_left_out(rt: HostRuntime) -> Result<(), Fail> {
+    let all = roots_of(rt.alloc(), b"+ 0x10100 0x20\n")?;
+    assert_eq!(rt; all.skips_links(), false);
+    let without = all.skip_links(true);
+    assert_eq!(rt; without.skips_links(), true);
+    assert_eq!(rt; count(&without), 535);
+    assert_eq!(rt; without.freed(), 0);
+    assert_eq!(rt; without.skip_links(false).skips_links(), false);
+    Ok(())
+}
+
+#[test]
+fn the_words_of_a_block_are_no_roots(rt: HostRuntime) -> Result<(), Fail> {
+    let without = roots_of(rt.alloc(), b"+ 0x10100 0x20\n")?;
+    assert_eq!(rt; count(&without), 535);
+    assert_eq!(rt;
+        without.memory(),
+        [(0x10000, 0x10100), (0x10120, 0x11000)].as_slice()
+    );
+    Ok(())
+}
+
+#[test]
+fn a_word_that_a_block_has_a_byte_of_is_no_root(rt: HostRuntime) -> Result<(), Fail> {
+    let one_byte = roots_of(rt.alloc(), b"+ 0x10107 0x1\n")?;
+    assert_eq!(rt;
+        one_byte.memory(),
+        [(0x10000, 0x10100), (0x10108, 0x11000)].as_slice()
+    );
+    let two_words = roots_of(rt.alloc(), b"+ 0x10107 0x2\n")?;
+    assert_eq!(rt;
+        two_words.memory(),
+        [(0x10000, 0x10100), (0x10110, 0x11000)].as_slice()
+    );
+    Ok(())
+}
+
+#[test]
+fn a_block_of_no_bytes_hides_no_word(rt: HostRuntime) -> Result<(), Fail> {
+    let all = roots_of(rt.alloc(), b"+ 0x10100 0\n+ 0x10204 0\n")?;
+    assert_eq!(rt; all.memory(), [(0x10000, 0x11000)].as_slice());
+    Ok(())
+}
+
+#[test]
+fn blocks_may_touch_and_pass_the_ends_of_the_segment(rt: HostRuntime) -> Result<(), Fail> {
+    let log = b"+ 0xff00 0x108\n+ 0x10010 0x8\n+ 0x10018 0x10\n+ 0x10ff4 0x100\n+ 0x20000 0x8\n";
+    let rest = roots_of(rt.alloc(), log)?;
+    assert_eq!(rt;
+        rest.memory(),
+        [(0x10008, 0x10010), (0x10028, 0x10ff0)].as_slice()
+    );
+    let none = roots_of(rt.alloc(), b"+ 0x8000 0x10000\n")?;
+    assert_eq!(rt; none.memory().len(), 0);
+    Ok(())
+}
+
+#[test]
+fn a_segment_that_is_not_writable_has_no_roots(rt: HostRuntime) -> Result<(), Fail> {
+    let mut core = core_k(rt.alloc(), &[])?;
+    for flags in core.iter_mut().skip(124).take(1) {
+        *flags = 4;
+    }
+    let registers = roots(rt.alloc(), core.as_slice(), b"")?;
+    assert_eq!(rt; registers.registers().len(), 27);
+    assert_eq!(rt; registers.memory().len(), 0);
+    Ok(())
+}
+
+#[test]
+fn pieces_have_the_words_that_are_asked(rt: HostRuntime) -> Result<(), Fail> {
+    let without = roots_of(rt.alloc(), b"+ 0x10100 0x20\n")?;
+    assert_eq!(rt; without.cut(rt.alloc(), 0).err(), Some(CutError::Zero));
+    let hundreds = without.cut(rt.alloc(), 100)?;
+    let expected = [
+        Piece::Registers(0, 27),
+        Piece::Memory(0x10000, 0x10100),
+        Piece::Memory(0x10120, 0x10440),
+        Piece::Memory(0x10440, 0x10760),
+        Piece::Memory(0x10760, 0x10a80),
+        Piece::Memory(0x10a80, 0x10da0),
+        Piece::Memory(0x10da0, 0x11000),
+    ];
+    assert_eq!(rt; hundreds.as_slice(), expected.as_slice());
+    assert_eq!(rt; without.cut(rt.alloc(), 1)?.len(), 535);
+    let most = without.cut(rt.alloc(), usize::MAX)?;
+    assert_eq!(rt; most.len(), 3);
+    Ok(())
+}
+
+#[test]
+fn pieces_are_told_by_their_numbers(rt: HostRuntime) -> Result<(), Fail> {
+    let log = b"+ 0x10010 0x10\n+ 0x10060 0x10\n+ 0x10080 0xf80\n";
+    let all = roots_of(rt.alloc(), log)?;
+    assert_eq!(rt; all.pieces(rt.alloc(), 0).err(), Some(CutError::Zero));
+    let pieces = all.pieces(rt.alloc(), 5)?;
+    let last = [
+        Piece::Registers(25, 27),
+        Piece::Memory(0x10000, 0x10010),
+        Piece::Memory(0x10020, 0x10048),
+        Piece::Memory(0x10048, 0x10060),
+        Piece::Memory(0x10070, 0x10080),
+    ];
+    assert_eq!(rt; pieces.len(), 10);
+    for place in 5..pieces.len() {
+        assert_eq!(rt; last.get(place - 5).copied(), Some(pieces.at(place)));
+    }
+    Ok(())
+}
+
+#[test]
+fn pieces_by_number_are_those_of_the_list(rt: HostRuntime) -> Result<(), Fail> {
+    let logs = [
+        // no range, one of 512 words, and short ranges alone
+        "+ 0x8000 0x10000\n",
+        "",
+        "+ 0x10010 0x10\n+ 0x10030 0x10\n+ 0x10050 0xfb0\n",
+        // a range of 8 words before short ones, between them, and after them
+        "+ 0x10040 0x10\n+ 0x10060 0x10\n+ 0x10080 0xf80\n",
+        "+ 0x10010 0x10\n+ 0x10060 0x10\n+ 0x10080 0xf80\n",
+        "+ 0x10010 0x10\n+ 0x10030 0x10\n+ 0x10080 0xf80\n",
+        // two such ranges side by side, and with short ranges between them
+        "+ 0x10040 0x10\n+ 0x10090 0xf70\n",
+        "+ 0x10040 0x10\n+ 0x10060 0x10\n+ 0x10080 0x10\n+ 0x100d0 0x10\n+ 0x100f0 0xf10\n",
+    ];
+    for log in logs {
+        let all = roots_of(rt.alloc(), log.as_bytes())?;
+        for words in [1, 2, 3, 5, 7, 8, 26, 27, 100, usize::MAX] {
+            let list = all.cut(rt.alloc(), words)?;
+            let pieces = all.pieces(rt.alloc(), words)?;
+            assert_eq!(rt; pieces.len(), list.len(), "{log} {words}");
+            for place in 0..pieces.len() {
+                let piece = list.get(place).copied();
+                assert_eq!(rt; piece, Some(pieces.at(place)), "{log} {words} {place}");
+            }
+        }
+    }
+    Ok(())
+}
+
+/// A log, how many places of the sample core are freed, and the ranges of the other places.
+type Case<'a> = (&'a str, u64, &'a [(u64, u64)]);
+
+#[test]
+fn freed_places_are_no_roots(rt: HostRuntime) -> Result<(), Fail> {
+    let cases: [Case; 5] = [
+        ("", 0, &[(0x10000, 0x11000)]),
+        (
+            "+ 0x10100 0x20\n- 0x10100\n",
+            4,
+            &[(0x10000, 0x10100), (0x10120, 0x11000)],
+        ),
+        // a place that is half outside the span stays
+        (
+            "+ 0x10100 0xc\n- 0x10100\n",
+            1,
+            &[(0x10000, 0x10100), (0x10108, 0x11000)],
+        ),
+        // two spans hold the bytes of one place
+        (
+            "+ 0x10100 0x4\n+ 0x10104 0x4\n- 0x10100\n- 0x10104\n",
+            1,
+            &[(0x10000, 0x10100), (0x10108, 0x11000)],
+        ),
+        // what lies in a live block is no place, and is not counted
+        (
+            "+ 0x10100 0x20\n+ 0x10110 0x10\n",
+            2,
+            &[(0x10000, 0x10100), (0x10120, 0x11000)],
+        ),
+    ];
+    for (log, freed, memory) in cases {
+        let roots = unfreed_roots_of(rt.alloc(), log)?;
+        assert_eq!(rt; roots.freed(), freed, "{log}");
+        assert_eq!(rt; roots.memory(), memory, "{log}");
+    }
+    Ok(())
+}
+
+#[test]
+fn freed_places_of_large_and_small_spans(rt: HostRuntime) -> Result<(), Fail> {
+    let cases: [Case; 4] = [
+        // spans may pass the ends of the segment
+        (
+            "+ 0xff00 0x108\n- 0xff00\n+ 0x10ff4 0x100\n- 0x10ff4\n",
+            2,
+            &[(0x10008, 0x10ff8)],
+        ),
+        ("+ 0x10100 0x1ffff\n- 0x10100\n", 480, &[(0x10000, 0x10100)]),
+        ("+ 0x10100 0x20000\n- 0x10100\n", 0, &[(0x10000, 0x11000)]),
+        (
+            "+ 0x10002 0x4\n- 0x10002\n+ 0x10010 0x7\n- 0x10010\n",
+            0,
+            &[(0x10000, 0x10010), (0x10010, 0x11000)],
+        ),
+    ];
+    for (log, freed, memory) in cases {
+        let roots = unfreed_roots_of(rt.alloc(), log)?;
+        assert_eq!(rt; roots.freed(), freed, "{log}");
+        assert_eq!(rt; roots.memory(), memory, "{log}");
+    }
+    Ok(())
+}
+
+#[test]
+fn without_spans_nothing_is_freed(rt: HostRuntime) -> Result<(), Fail> {
+    let all = roots_of(rt.alloc(), b"+ 0x10100 0x20\n- 0x10100\n")?;
+    assert_eq!(rt; all.freed(), 0);
+    assert_eq!(rt; all.memory(), [(0x10000, 0x11000)].as_slice());
+    Ok(())
+}
+
+#[test]
+fn each_reason_has_its_text(rt: HostRuntime) -> Result<(), Fail> {
+    let texts = [
+        (CutError::Zero, "a piece needs a word"),
+        (CutError::NoMemory, "out of memory"),
+    ];
+    for (error, text) in texts {
+        assert_eq!(rt; format!(in rt.alloc(); "{error}")?.as_str(), text);
+    }
+    Ok(())
+}

@@ -1,0 +1,28 @@
+//! Tests of the crates that read a core and a log, crate by crate.
+//!
+//! They stand beside those crates, so that the crates are proved once, without their tests.
+#![tactic(auto)]
+
+// Cores that differ from the sample in a named way.
+#[cfg(test)]
+mod cores;
+
+// Cores: headers, segments and words.
+#[cfg(test)]
+mod elf;
+
+// Threads and their registers.
+#[cfg(test)]
+mod notes;
+
+// Vector registers.
+#[cfg(test)]
+mod note_vectors;
+
+// Lines of a log.
+#[cfg(test)]
+mod mtrace;
+
+// Live blocks of a log.
+#[cfg(test)]
+mod blocks;
