@@ -1,3 +1,4 @@
+use crate::samples::same;
 use leak_blocks::{Live, replay};
 use leak_dirty::{carry, differing};
 use leak_elf::{Image, core_k};
@@ -32,7 +33,7 @@ fn a_page_that_only_the_later_core_has_differs(rt: HostRuntime) -> Result<(), Fa
     let one = Image::read(alloc, one.as_slice())?;
     let two = Image::read(alloc, two.as_slice())?;
     let pages = differing(&rt, alloc, &one, &two)?;
-    assert_eq!(rt; pages.numbers(), [17u64].as_slice());
+    same(&rt, pages.numbers(), [17u64].as_slice());
     let pages = differing(&rt, alloc, &two, &one)?;
     assert!(rt; pages.numbers().is_empty());
     Ok(())
@@ -46,7 +47,7 @@ fn a_page_with_a_changed_word_differs(rt: HostRuntime) -> Result<(), Fail> {
     let before = Image::read(alloc, before.as_slice())?;
     let now = Image::read(alloc, now.as_slice())?;
     let pages = differing(&rt, alloc, &before, &now)?;
-    assert_eq!(rt; pages.numbers(), [16u64].as_slice());
+    same(&rt, pages.numbers(), [16u64].as_slice());
     let pages = differing(&rt, alloc, &now, &now)?;
     assert!(rt; pages.numbers().is_empty());
     Ok(())
@@ -70,7 +71,7 @@ fn a_block_that_was_moved_is_fresh(rt: HostRuntime) -> Result<(), Fail> {
     }
     let carried = carry(alloc, &earlier, &[false, false], &later)?;
     assert!(rt; carried.kept.is_empty());
-    assert_eq!(rt; carried.fresh.as_slice(), [0u32].as_slice());
+    same(&rt, carried.fresh.as_slice(), [0u32].as_slice());
     Ok(())
 }
 
@@ -86,7 +87,7 @@ fn marked_blocks_that_are_live_still_are_kept(rt: HostRuntime) -> Result<(), Fai
         panic!(rt; "three blocks, then two");
     }
     let carried = carry(alloc, &earlier, &[true, true, true], &later)?;
-    assert_eq!(rt; carried.kept.as_slice(), [0u32, 1].as_slice());
+    same(&rt, carried.kept.as_slice(), [0u32, 1].as_slice());
     assert!(rt; carried.fresh.is_empty());
     Ok(())
 }

@@ -1,14 +1,11 @@
 ghost use Rattle.leak_elf.specs.Words.{word_of};
 ghost use Rattle.leak_elf.specs.Aligned.{aligned_words};
 
-use leak_blocks::{Live, SmallSpans, replay};
+use crate::samples::{Scene, same, scene_of};
 use leak_dirty::{carry, differing, retrace};
 use leak_elf::{Image, Words, core_k};
 use leak_index::{Reading, Sorted};
-use leak_mtrace::Log;
-use leak_notes::Threads;
 use leak_pool::{Open, Plan, PoolError};
-use leak_roots::Roots;
 use std::alloc::Global;
 use std::fmt::Write;
 use std::sync::atomic::{AtomicU64, Ordering};
@@ -59,15 +56,14 @@ fn wide_core(alloc: Global, last: u64) -> Result<Vec<u8>, Fail> {
     Ok(core)
 }
 
-/// The kept blocks.
-fn blocks(alloc: Global) -> Result<Live, Fail> {
+/// The log of the kept blocks.
+fn kept(alloc: Global) -> Result<String, Fail> {
     let mut log = String::new(alloc);
     for i in 0..KEPT {
         let start = 0x10000 + 16 * i;
         write!(log, "+ {start:#x} 0x8\n")?;
     }
-    let log = Log::read(alloc, log.as_bytes())?;
-    Ok(replay(alloc, &log)?)
+    Ok(log)
 }
 
 #[test]
@@ -79,23 +75,20 @@ fn no_word_of_two_thousand_kept_blocks_is_read_off_differing_pages(
     let first = wide_core(alloc, 0)?;
     // The last page has no kept block.
     let second = wide_core(alloc, 1)?;
+    let log = kept(alloc)?;
     let first = Image::read(alloc, first.as_slice())?;
-    let second = Image::read(alloc, second.as_slice())?;
-    let pages = differing(&rt, alloc, &first, &second)?;
-    assert_eq!(rt; pages.numbers(), [31u64].as_slice());
-    let live = blocks(alloc)?;
+    let Scene { image, live, roots } = scene_of(alloc, second.as_slice(), log.as_str())?;
+    let pages = differing(&rt, alloc, &first, &image)?;
+    same(&rt, pages.numbers(), [31u64].as_slice());
     if live.blocks().len() > u32::MAX as usize {
         return Err(Fail::from(PoolError::TooMany));
     }
     let marked = vec![in alloc; true; live.blocks().len()]?;
     let carried = carry(alloc, &live, &marked, &live)?;
-    assert_eq!(rt; carried.kept.len(), 2048);
-    let threads = Threads::read(alloc, &second)?;
-    let small = SmallSpans::none(alloc);
-    let roots = Roots::find(alloc, &second, &threads, &live, &small)?;
+    same(&rt, carried.kept.len(), 2048);
     let lookup = Sorted::new(&live, Reading::interior());
     let words = Counting {
-        image: &second,
+        image: &image,
         asked: &asked,
     };
     let plan = Plan::new(2, 512, 1024)?;
@@ -103,7 +96,7 @@ fn no_word_of_two_thousand_kept_blocks_is_read_off_differing_pages(
         &rt, alloc, &words, &lookup, &roots, &live, &carried, &pages, plan, &Open,
     )?;
     assert!(rt; retraced.marked.set.iter().all(|block| *block));
-    assert_eq!(rt; retraced.reread, 0);
-    assert_eq!(rt; asked.load(Ordering::SeqCst), 0);
+    same(&rt, retraced.reread, 0);
+    same(&rt, asked.load(Ordering::SeqCst), 0);
     Ok(())
 }

@@ -1,14 +1,11 @@
 ghost use Rattle.leak_elf.specs.Words.{word_of};
 ghost use Rattle.leak_elf.specs.Aligned.{aligned_words};
 
-use leak_blocks::{SmallSpans, replay};
+use crate::samples::{core_of, same, scene_of};
 use leak_dirty::{Retraced, carry, differing, retrace};
-use leak_elf::{Image, Words, core_k};
+use leak_elf::{Image, Words};
 use leak_index::{Reading, Sorted};
-use leak_mtrace::Log;
-use leak_notes::Threads;
 use leak_pool::{Open, Plan, PoolError};
-use leak_roots::Roots;
 use std::alloc::Global;
 use std::sync::atomic::{AtomicU64, Ordering};
 use std::test::Fail;
@@ -48,20 +45,6 @@ impl<'a> Words for Counting<'a> {
     ghost aligned = { λ counting. aligned_words counting.image.now };
 }
 
-/// The sample core with the words set.
-fn core_of(alloc: Global, words: &[(u64, u64)]) -> Result<Vec<u8>, Fail> {
-    let mut core = core_k(alloc, &[])?;
-    for (addr, word) in words {
-        let at = addr.wrapping_sub(0xf000) as usize;
-        for (i, value) in word.to_le_bytes().iter().enumerate() {
-            if let Some(byte) = core.get_mut(at.wrapping_add(i)) {
-                *byte = *value;
-            }
-        }
-    }
-    Ok(core)
-}
-
 /// Marks again in the later of two cores, by one worker, where all blocks of the earlier log were marked or none.
 fn traced<R: std::thread::Threads + Sync>(
     rt: &R,
@@ -73,29 +56,31 @@ fn traced<R: std::thread::Threads + Sync>(
 ) -> Result<Retraced, Fail> {
     let first = core_of(alloc, cores[0])?;
     let second = core_of(alloc, cores[1])?;
-    let first = Image::read(alloc, first.as_slice())?;
-    let second = Image::read(alloc, second.as_slice())?;
-    let pages = differing(rt, alloc, &first, &second)?;
-    let log = Log::read(alloc, logs[0].as_bytes())?;
-    let earlier = replay(alloc, &log)?;
-    let log = Log::read(alloc, logs[1].as_bytes())?;
-    let later = replay(alloc, &log)?;
-    if later.blocks().len() > u32::MAX as usize {
+    let earlier = scene_of(alloc, first.as_slice(), logs[0])?;
+    let later = scene_of(alloc, second.as_slice(), logs[1])?;
+    if later.live.blocks().len() > u32::MAX as usize {
         return Err(Fail::from(PoolError::TooMany));
     }
-    let marked = vec![in alloc; is_marked; earlier.blocks().len()]?;
-    let carried = carry(alloc, &earlier, &marked, &later)?;
-    let threads = Threads::read(alloc, &second)?;
-    let small = SmallSpans::none(alloc);
-    let roots = Roots::find(alloc, &second, &threads, &later, &small)?;
-    let lookup = Sorted::new(&later, Reading::interior());
+    let pages = differing(rt, alloc, &earlier.image, &later.image)?;
+    let marked = vec![in alloc; is_marked; earlier.live.blocks().len()]?;
+    let carried = carry(alloc, &earlier.live, &marked, &later.live)?;
+    let lookup = Sorted::new(&later.live, Reading::interior());
     let words = Counting {
-        image: &second,
+        image: &later.image,
         asked,
     };
     let plan = Plan::new(1, 512, 1024)?;
     Ok(retrace(
-        rt, alloc, &words, &lookup, &roots, &later, &carried, &pages, plan, &Open,
+        rt,
+        alloc,
+        &words,
+        &lookup,
+        &later.roots,
+        &later.live,
+        &carried,
+        &pages,
+        plan,
+        &Open,
     )?)
 }
 
@@ -109,12 +94,12 @@ fn a_fresh_block_is_scanned_where_nothing_differs(rt: HostRuntime) -> Result<(),
     ];
     let cores = [words.as_slice(), words.as_slice()];
     let retraced = traced(&rt, rt.alloc(), cores, logs, false, &asked)?;
-    assert_eq!(rt; retraced.marked.set.as_slice(), [true, true].as_slice());
-    assert_eq!(rt; retraced.marked.claims.len(), 1);
+    same(&rt, retraced.marked.set.as_slice(), [true, true].as_slice());
+    same(&rt, retraced.marked.claims.len(), 1);
     for claims in retraced.marked.claims.as_slice() {
-        assert_eq!(rt; claims.as_slice(), [1u32].as_slice());
+        same(&rt, claims.as_slice(), [1u32].as_slice());
     }
-    assert_eq!(rt; retraced.reread, 0);
+    same(&rt, retraced.reread, 0);
     Ok(())
 }
 
@@ -129,17 +114,17 @@ fn no_word_of_a_kept_block_is_read_where_nothing_differs(rt: HostRuntime) -> Res
     ];
     let cores = [words.as_slice(), words.as_slice()];
     let retraced = traced(&rt, rt.alloc(), cores, logs, true, &asked)?;
-    assert_eq!(rt; retraced.marked.set.as_slice(), [true, true].as_slice());
-    assert_eq!(rt; retraced.reread, 0);
-    assert_eq!(rt; asked.load(Ordering::SeqCst), 0);
+    same(&rt, retraced.marked.set.as_slice(), [true, true].as_slice());
+    same(&rt, retraced.reread, 0);
+    same(&rt, asked.load(Ordering::SeqCst), 0);
 
     let cores = [words.as_slice(), changed.as_slice()];
     let retraced = traced(&rt, rt.alloc(), cores, logs, true, &asked)?;
-    assert_eq!(rt; retraced.marked.set.as_slice(), [true, true].as_slice());
+    same(&rt, retraced.marked.set.as_slice(), [true, true].as_slice());
     for claims in retraced.marked.claims.as_slice() {
         assert!(rt; claims.is_empty());
     }
-    assert_eq!(rt; retraced.reread, 6);
+    same(&rt, retraced.reread, 6);
     assert!(rt; asked.load(Ordering::SeqCst) > 0);
     Ok(())
 }

@@ -1,4 +1,4 @@
-use crate::samples::lives;
+use crate::samples::{lives, same, same_in};
 use leak_index::{Hits, Lookup, Paged, Reading, ReadingError, Sorted};
 use std::alloc::{AllocError, Global};
 use std::process::Abort;
@@ -39,10 +39,10 @@ fn words_by_both_readings(rt: HostRuntime) -> Result<(), Fail> {
     let paged_interior = Paged::new(alloc, &live, Reading::interior())?;
     let paged_displaced = Paged::new(alloc, &live, by_eight)?;
     for (word, by_interior, by_displaced) in WORDS {
-        assert_eq!(rt; ask(&interior, word), by_interior, "{word}");
-        assert_eq!(rt; ask(&displaced, word), by_displaced, "{word}");
-        assert_eq!(rt; ask(&paged_interior, word), by_interior, "{word}");
-        assert_eq!(rt; ask(&paged_displaced, word), by_displaced, "{word}");
+        same_in(&rt, &word, ask(&interior, word), by_interior);
+        same_in(&rt, &word, ask(&displaced, word), by_displaced);
+        same_in(&rt, &word, ask(&paged_interior, word), by_interior);
+        same_in(&rt, &word, ask(&paged_displaced, word), by_displaced);
     }
     Ok(())
 }
@@ -58,8 +58,8 @@ fn check_both(
     let sorted = Sorted::new(&live, Reading::interior());
     let paged = Paged::new(alloc, &live, Reading::interior())?;
     for (word, hits) in cases {
-        assert_eq!(rt; sorted.hits(*word), *hits, "{word}, sorted");
-        assert_eq!(rt; paged.hits(*word), *hits, "{word}, by pages");
+        same_in(rt, &(word, "sorted"), sorted.hits(*word), *hits);
+        same_in(rt, &(word, "by pages"), paged.hits(*word), *hits);
     }
     Ok(())
 }
@@ -149,7 +149,7 @@ fn both_lookups_agree(rt: HostRuntime) -> Result<(), Fail> {
             let sorted = Sorted::new(&live, reading);
             let paged = Paged::new(alloc, &live, reading)?;
             for word in 0x10000..=0x11000 {
-                assert_eq!(rt; paged.hits(word), sorted.hits(word), "{word}");
+                same_in(&rt, &word, paged.hits(word), sorted.hits(word));
             }
         }
     }
@@ -163,8 +163,8 @@ fn a_log_without_blocks_leads_nowhere(rt: HostRuntime) -> Result<(), Fail> {
     let sorted = Sorted::new(&live, Reading::interior());
     let paged = Paged::new(alloc, &live, Reading::interior())?;
     for word in [0, 0x10100, u64::MAX] {
-        assert_eq!(rt; sorted.hits(word), Hits::Zero, "{word}, sorted");
-        assert_eq!(rt; paged.hits(word), Hits::Zero, "{word}, by pages");
+        same_in(&rt, &(word, "sorted"), sorted.hits(word), Hits::Zero);
+        same_in(&rt, &(word, "by pages"), paged.hits(word), Hits::Zero);
     }
     Ok(())
 }
@@ -187,7 +187,7 @@ fn a_displaced_reading_takes_the_start_and_the_listed_distances(
             (0x10120, Hits::Zero),
         ];
         for (word, hits) in cases {
-            assert_eq!(rt; lookup.hits(word), hits, "{word}");
+            same_in(&rt, &word, lookup.hits(word), hits);
         }
     }
     Ok(())
@@ -224,9 +224,9 @@ fn refused_displacements(rt: HostRuntime) -> Result<(), Fail> {
     ];
     for (values, reason, text) in cases {
         let refused = Reading::displaced(values).err();
-        assert_eq!(rt; refused, Some(reason));
+        same(&rt, refused, Some(reason));
         let printed = format!(in alloc; "{reason}")?;
-        assert_eq!(rt; printed.as_str(), text);
+        same(&rt, printed.as_str(), text);
     }
     Ok(())
 }

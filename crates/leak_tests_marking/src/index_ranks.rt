@@ -1,5 +1,5 @@
 //! Lookups where blocks start at multiples of 16, and where they don't.
-use crate::samples::lives;
+use crate::samples::{lives, same, same_in};
 use leak_blocks::{Block, Live};
 use leak_index::{Hits, Lookup, Paged, Reading, Sorted};
 use std::alloc::{AllocError, Global};
@@ -56,8 +56,8 @@ fn led_to(blocks: &[Block], word: u64) -> Hits {
 /// Checks both lookups for a word.
 fn check_word(rt: &impl Abort, live: &Live, sorted: &Sorted, paged: &Paged, word: u64) {
     let hits = led_to(live.blocks(), word);
-    assert_eq!(rt; sorted.hits(word), hits, "{word}, sorted");
-    assert_eq!(rt; paged.hits(word), hits, "{word}, by rows or pages");
+    same_in(rt, &(word, "sorted"), sorted.hits(word), hits);
+    same_in(rt, &(word, "by rows or pages"), paged.hits(word), hits);
 }
 
 #[test]
@@ -65,7 +65,7 @@ fn lookups_agree_around_starts_and_ends(rt: HostRuntime) -> Result<(), Fail> {
     let alloc = rt.alloc();
     for offset in [0, 8, 1] {
         let live = lives(alloc, ranges(alloc, offset)?.as_str())?;
-        assert_eq!(rt; live.blocks().len(), 400);
+        same(&rt, live.blocks().len(), 400);
         let sorted = Sorted::new(&live, Reading::interior());
         let paged = Paged::new(alloc, &live, Reading::interior())?;
         for block in live.blocks() {
@@ -130,9 +130,9 @@ fn starts_where_a_block_ends_and_where_none_does(rt: HostRuntime) -> Result<(), 
     let by_starts = Paged::new(alloc, &live, starts)?;
     let by_sixteen = Paged::new(alloc, &live, sixteen)?;
     for (word, interior, starts, sixteen) in STARTS {
-        assert_eq!(rt; by_interior.hits(word), interior, "{word}, interior");
-        assert_eq!(rt; by_starts.hits(word), starts, "{word}, starts");
-        assert_eq!(rt; by_sixteen.hits(word), sixteen, "{word}, displaced");
+        same_in(&rt, &(word, "interior"), by_interior.hits(word), interior);
+        same_in(&rt, &(word, "starts"), by_starts.hits(word), starts);
+        same_in(&rt, &(word, "displaced"), by_sixteen.hits(word), sixteen);
     }
     Ok(())
 }
@@ -162,7 +162,7 @@ fn the_first_and_the_last_addresses(rt: HostRuntime) -> Result<(), Fail> {
         (u64::MAX, Hits::One(3)),
     ];
     for (word, hits) in cases {
-        assert_eq!(rt; paged.hits(word), hits, "{word}");
+        same_in(&rt, &word, paged.hits(word), hits);
     }
     Ok(())
 }
@@ -179,8 +179,8 @@ fn thousands_of_rows_and_pages(rt: HostRuntime) -> Result<(), Fail> {
             let paged = Paged::new(alloc, &live, Reading::interior())?;
             for i in 0..3000usize {
                 let word = distance.wrapping_mul(i as u64).wrapping_add(start);
-                assert_eq!(rt; paged.hits(word), Hits::One(i), "{i}");
-                assert_eq!(rt; paged.hits(word.wrapping_sub(1)), Hits::Zero, "{i}");
+                same_in(&rt, &i, paged.hits(word), Hits::One(i));
+                same_in(&rt, &i, paged.hits(word.wrapping_sub(1)), Hits::Zero);
             }
         }
     }

@@ -1,3 +1,4 @@
+use crate::samples::{same, same_in};
 use leak_blocks::{Live, SmallSpans, replay};
 use leak_elf::{Image, core_k};
 use leak_mtrace::Log;
@@ -49,9 +50,9 @@ fn count(roots: &Roots) -> u64 {
 #[test]
 fn the_sample_has_a_root_word_at_each_place(rt: HostRuntime) -> Result<(), Fail> {
     let all = roots_of(rt.alloc(), b"")?;
-    assert_eq!(rt; count(&all), 539);
-    assert_eq!(rt; all.registers(), [0u64; 27].as_slice());
-    assert_eq!(rt; all.memory(), [(0x10000, 0x11000)].as_slice());
+    same(&rt, count(&all), 539);
+    same(&rt, all.registers(), [0u64; 27].as_slice());
+    same(&rt, all.memory(), [(0x10000, 0x11000)].as_slice());
     Ok(())
 }
 
@@ -70,11 +71,11 @@ fn vector_registers_are_roots(rt: HostRuntime) -> Result<(), Fail> {
         }
     }
     let all = roots(rt.alloc(), core.as_slice(), b"")?;
-    assert_eq!(rt; count(&all), 571);
-    assert_eq!(rt; all.registers().get(58).copied(), Some(7));
+    same(&rt, count(&all), 571);
+    same(&rt, all.registers().get(58).copied(), Some(7));
     let pieces = all.cut(rt.alloc(), 32)?;
-    assert_eq!(rt; pieces.get(0).copied(), Some(Piece::Registers(0, 32)));
-    assert_eq!(rt; pieces.get(1).copied(), Some(Piece::Registers(32, 59)));
+    same(&rt, pieces.get(0).copied(), Some(Piece::Registers(0, 32)));
+    same(&rt, pieces.get(1).copied(), Some(Piece::Registers(32, 59)));
     Ok(())
 }
 
@@ -92,30 +93,31 @@ fn the_registers_are_those_of_the_threads_that_are_given(rt: HostRuntime) -> Res
     let live = replay(rt.alloc(), &log)?;
     let small = SmallSpans::none(rt.alloc());
     let roots = Roots::find(rt.alloc(), &image, &threads, &live, &small)?;
-    assert_eq!(rt; roots.registers().get(5).copied(), Some(7));
-    assert_eq!(rt; roots.memory(), [(0x10000, 0x11000)].as_slice());
+    same(&rt, roots.registers().get(5).copied(), Some(7));
+    same(&rt, roots.memory(), [(0x10000, 0x11000)].as_slice());
     Ok(())
 }
 
 #[test]
 fn the_roots_say_whether_links_are_left_out(rt: HostRuntime) -> Result<(), Fail> {
     let all = roots_of(rt.alloc(), b"+ 0x10100 0x20\n")?;
-    assert_eq!(rt; all.skips_links(), false);
+    same(&rt, all.skips_links(), false);
     let without = all.skip_links(true);
-    assert_eq!(rt; without.skips_links(), true);
-    assert_eq!(rt; count(&without), 535);
-    assert_eq!(rt; without.freed(), 0);
-    assert_eq!(rt; without.skip_links(false).skips_links(), false);
+    same(&rt, without.skips_links(), true);
+    same(&rt, count(&without), 535);
+    same(&rt, without.freed(), 0);
+    same(&rt, without.skip_links(false).skips_links(), false);
     Ok(())
 }
 
 #[test]
 fn the_words_of_a_block_are_no_roots(rt: HostRuntime) -> Result<(), Fail> {
     let without = roots_of(rt.alloc(), b"+ 0x10100 0x20\n")?;
-    assert_eq!(rt; count(&without), 535);
-    assert_eq!(rt;
+    same(&rt, count(&without), 535);
+    same(
+        &rt,
         without.memory(),
-        [(0x10000, 0x10100), (0x10120, 0x11000)].as_slice()
+        [(0x10000, 0x10100), (0x10120, 0x11000)].as_slice(),
     );
     Ok(())
 }
@@ -123,14 +125,16 @@ fn the_words_of_a_block_are_no_roots(rt: HostRuntime) -> Result<(), Fail> {
 #[test]
 fn a_word_that_a_block_has_a_byte_of_is_no_root(rt: HostRuntime) -> Result<(), Fail> {
     let one_byte = roots_of(rt.alloc(), b"+ 0x10107 0x1\n")?;
-    assert_eq!(rt;
+    same(
+        &rt,
         one_byte.memory(),
-        [(0x10000, 0x10100), (0x10108, 0x11000)].as_slice()
+        [(0x10000, 0x10100), (0x10108, 0x11000)].as_slice(),
     );
     let two_words = roots_of(rt.alloc(), b"+ 0x10107 0x2\n")?;
-    assert_eq!(rt;
+    same(
+        &rt,
         two_words.memory(),
-        [(0x10000, 0x10100), (0x10110, 0x11000)].as_slice()
+        [(0x10000, 0x10100), (0x10110, 0x11000)].as_slice(),
     );
     Ok(())
 }
@@ -138,7 +142,7 @@ fn a_word_that_a_block_has_a_byte_of_is_no_root(rt: HostRuntime) -> Result<(), F
 #[test]
 fn a_block_of_no_bytes_hides_no_word(rt: HostRuntime) -> Result<(), Fail> {
     let all = roots_of(rt.alloc(), b"+ 0x10100 0\n+ 0x10204 0\n")?;
-    assert_eq!(rt; all.memory(), [(0x10000, 0x11000)].as_slice());
+    same(&rt, all.memory(), [(0x10000, 0x11000)].as_slice());
     Ok(())
 }
 
@@ -146,12 +150,13 @@ fn a_block_of_no_bytes_hides_no_word(rt: HostRuntime) -> Result<(), Fail> {
 fn blocks_may_touch_and_pass_the_ends_of_the_segment(rt: HostRuntime) -> Result<(), Fail> {
     let log = b"+ 0xff00 0x108\n+ 0x10010 0x8\n+ 0x10018 0x10\n+ 0x10ff4 0x100\n+ 0x20000 0x8\n";
     let rest = roots_of(rt.alloc(), log)?;
-    assert_eq!(rt;
+    same(
+        &rt,
         rest.memory(),
-        [(0x10008, 0x10010), (0x10028, 0x10ff0)].as_slice()
+        [(0x10008, 0x10010), (0x10028, 0x10ff0)].as_slice(),
     );
     let none = roots_of(rt.alloc(), b"+ 0x8000 0x10000\n")?;
-    assert_eq!(rt; none.memory().len(), 0);
+    same(&rt, none.memory().len(), 0);
     Ok(())
 }
 
@@ -162,15 +167,15 @@ fn a_segment_that_is_not_writable_has_no_roots(rt: HostRuntime) -> Result<(), Fa
         *flags = 4;
     }
     let registers = roots(rt.alloc(), core.as_slice(), b"")?;
-    assert_eq!(rt; registers.registers().len(), 27);
-    assert_eq!(rt; registers.memory().len(), 0);
+    same(&rt, registers.registers().len(), 27);
+    same(&rt, registers.memory().len(), 0);
     Ok(())
 }
 
 #[test]
 fn pieces_have_the_words_that_are_asked(rt: HostRuntime) -> Result<(), Fail> {
     let without = roots_of(rt.alloc(), b"+ 0x10100 0x20\n")?;
-    assert_eq!(rt; without.cut(rt.alloc(), 0).err(), Some(CutError::Zero));
+    same(&rt, without.cut(rt.alloc(), 0).err(), Some(CutError::Zero));
     let hundreds = without.cut(rt.alloc(), 100)?;
     let expected = [
         Piece::Registers(0, 27),
@@ -181,10 +186,10 @@ fn pieces_have_the_words_that_are_asked(rt: HostRuntime) -> Result<(), Fail> {
         Piece::Memory(0x10a80, 0x10da0),
         Piece::Memory(0x10da0, 0x11000),
     ];
-    assert_eq!(rt; hundreds.as_slice(), expected.as_slice());
-    assert_eq!(rt; without.cut(rt.alloc(), 1)?.len(), 535);
+    same(&rt, hundreds.as_slice(), expected.as_slice());
+    same(&rt, without.cut(rt.alloc(), 1)?.len(), 535);
     let most = without.cut(rt.alloc(), usize::MAX)?;
-    assert_eq!(rt; most.len(), 3);
+    same(&rt, most.len(), 3);
     Ok(())
 }
 
@@ -192,7 +197,7 @@ fn pieces_have_the_words_that_are_asked(rt: HostRuntime) -> Result<(), Fail> {
 fn pieces_are_told_by_their_numbers(rt: HostRuntime) -> Result<(), Fail> {
     let log = b"+ 0x10010 0x10\n+ 0x10060 0x10\n+ 0x10080 0xf80\n";
     let all = roots_of(rt.alloc(), log)?;
-    assert_eq!(rt; all.pieces(rt.alloc(), 0).err(), Some(CutError::Zero));
+    same(&rt, all.pieces(rt.alloc(), 0).err(), Some(CutError::Zero));
     let pieces = all.pieces(rt.alloc(), 5)?;
     let last = [
         Piece::Registers(25, 27),
@@ -201,9 +206,9 @@ fn pieces_are_told_by_their_numbers(rt: HostRuntime) -> Result<(), Fail> {
         Piece::Memory(0x10048, 0x10060),
         Piece::Memory(0x10070, 0x10080),
     ];
-    assert_eq!(rt; pieces.len(), 10);
+    same(&rt, pieces.len(), 10);
     for place in 5..pieces.len() {
-        assert_eq!(rt; last.get(place - 5).copied(), Some(pieces.at(place)));
+        same(&rt, last.get(place - 5).copied(), Some(pieces.at(place)));
     }
     Ok(())
 }
@@ -228,10 +233,10 @@ fn pieces_by_number_are_those_of_the_list(rt: HostRuntime) -> Result<(), Fail> {
         for words in [1, 2, 3, 5, 7, 8, 26, 27, 100, usize::MAX] {
             let list = all.cut(rt.alloc(), words)?;
             let pieces = all.pieces(rt.alloc(), words)?;
-            assert_eq!(rt; pieces.len(), list.len(), "{log} {words}");
+            same_in(&rt, &(log, words), pieces.len(), list.len());
             for place in 0..pieces.len() {
                 let piece = list.get(place).copied();
-                assert_eq!(rt; piece, Some(pieces.at(place)), "{log} {words} {place}");
+                same_in(&rt, &(log, words, place), piece, Some(pieces.at(place)));
             }
         }
     }
@@ -271,8 +276,8 @@ fn freed_places_are_no_roots(rt: HostRuntime) -> Result<(), Fail> {
     ];
     for (log, freed, memory) in cases {
         let roots = unfreed_roots_of(rt.alloc(), log)?;
-        assert_eq!(rt; roots.freed(), freed, "{log}");
-        assert_eq!(rt; roots.memory(), memory, "{log}");
+        same_in(&rt, &log, roots.freed(), freed);
+        same_in(&rt, &log, roots.memory(), memory);
     }
     Ok(())
 }
@@ -296,8 +301,8 @@ fn freed_places_of_large_and_small_spans(rt: HostRuntime) -> Result<(), Fail> {
     ];
     for (log, freed, memory) in cases {
         let roots = unfreed_roots_of(rt.alloc(), log)?;
-        assert_eq!(rt; roots.freed(), freed, "{log}");
-        assert_eq!(rt; roots.memory(), memory, "{log}");
+        same_in(&rt, &log, roots.freed(), freed);
+        same_in(&rt, &log, roots.memory(), memory);
     }
     Ok(())
 }
@@ -305,8 +310,8 @@ fn freed_places_of_large_and_small_spans(rt: HostRuntime) -> Result<(), Fail> {
 #[test]
 fn without_spans_nothing_is_freed(rt: HostRuntime) -> Result<(), Fail> {
     let all = roots_of(rt.alloc(), b"+ 0x10100 0x20\n- 0x10100\n")?;
-    assert_eq!(rt; all.freed(), 0);
-    assert_eq!(rt; all.memory(), [(0x10000, 0x11000)].as_slice());
+    same(&rt, all.freed(), 0);
+    same(&rt, all.memory(), [(0x10000, 0x11000)].as_slice());
     Ok(())
 }
 
@@ -317,7 +322,7 @@ fn each_reason_has_its_text(rt: HostRuntime) -> Result<(), Fail> {
         (CutError::NoMemory, "out of memory"),
     ];
     for (error, text) in texts {
-        assert_eq!(rt; format!(in rt.alloc(); "{error}")?.as_str(), text);
+        same(&rt, format!(in rt.alloc(); "{error}")?.as_str(), text);
     }
     Ok(())
 }

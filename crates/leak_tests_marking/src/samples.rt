@@ -1,12 +1,64 @@
 //! What more than one crate's tests are made of.
 
-use leak_blocks::{Live, replay};
+use leak_blocks::{Live, SmallSpans, replay};
+use leak_elf::{Image, core_k};
 use leak_mtrace::Log;
+use leak_notes::Threads;
+use leak_roots::Roots;
 use std::alloc::Global;
+use std::fmt::Debug;
+use std::process::Abort;
 use std::test::Fail;
 
 /// The live blocks of a log.
 pub fn lives(alloc: Global, text: &str) -> Result<Live, Fail> {
     let log = Log::read(alloc, text.as_bytes())?;
     Ok(replay(alloc, &log)?)
+}
+
+/// The sample core with the words set, each by its address.
+pub fn core_of(alloc: Global, words: &[(u64, u64)]) -> Result<Vec<u8>, Fail> {
+    let mut core = core_k(alloc, &[])?;
+    for (addr, word) in words {
+        let at = addr.wrapping_sub(0xf000) as usize;
+        for (i, value) in word.to_le_bytes().iter().enumerate() {
+            if let Some(byte) = core.get_mut(at.wrapping_add(i)) {
+                *byte = *value;
+            }
+        }
+    }
+    Ok(core)
+}
+
+/// What marking asks of a core and a log.
+#[derive(Drop)]
+pub struct Scene<'a> {
+    pub image: Image<'a>,
+    pub live: Live,
+    pub roots: Roots,
+}
+
+/// Reads a core and a log, with all root words.
+pub fn scene_of<'a>(alloc: Global, core: &'a [u8], log: &str) -> Result<Scene<'a>, Fail> {
+    let image = Image::read(alloc, core)?;
+    let threads = Threads::read(alloc, &image)?;
+    let live = lives(alloc, log)?;
+    let small = SmallSpans::none(alloc);
+    let roots = Roots::find(alloc, &image, &threads, &live, &small)?;
+    Ok(Scene { image, live, roots })
+}
+
+/// Ends the test where the two differ. (A comparison that is written out in a test takes three to five times the steps of a call to prove.)
+pub fn same<T: Copy + PartialEq + Debug>(rt: &impl Abort, found: T, wanted: T) {
+    assert_eq!(rt; found, wanted);
+}
+
+/// Ends the test where the two differ, and names the case.
+pub fn same_in<C: Debug, T: Copy + PartialEq + Debug>(
+    rt: &impl Abort,
+    case: &C,
+    found: T,
+    wanted: T,
+) {
+    assert_eq!(rt; found, wanted, "{case:?}");
 }

@@ -1,7 +1,7 @@
 ghost use Rattle.std.specs.Prelude.{◌≡◌, IfOk, length};
 ghost use Rattle.leak_scan.specs.Targets.{targets_of, block_words};
 
-use crate::samples::lives;
+use crate::samples::{lives, same, same_in};
 use crate::scan_counted::Counted;
 use leak_blocks::Block;
 use leak_elf::{Image, Words, core_k};
@@ -62,15 +62,15 @@ fn targets_of_ranges_and_registers(rt: HostRuntime) -> Result<(), Fail> {
     let live = lives(alloc, BLOCKS)?;
     let lookup = Sorted::new(&live, Reading::interior());
     let all = listed(alloc, Targets::of_range(&image, &lookup, 0, u64::MAX))?;
-    assert_eq!(rt; all.as_slice(), [0, 1, 2, 2, 0].as_slice());
+    same(&rt, all.as_slice(), [0, 1, 2, 2, 0].as_slice());
     // the word at 0x10008 ends after the range, and the others begin before it
     let none = listed(alloc, Targets::of_range(&image, &lookup, 0x10009, 0x10107))?;
-    assert_eq!(rt; none.as_slice(), [].as_slice());
+    same(&rt, none.as_slice(), [].as_slice());
     let first = listed(alloc, Targets::of_range(&image, &lookup, 0x10001, 0x10108))?;
-    assert_eq!(rt; first.as_slice(), [0, 1, 2].as_slice());
+    same(&rt, first.as_slice(), [0, 1, 2].as_slice());
     let registers = [0, 0x10200, 0x10120, u64::MAX];
     let led = listed(alloc, Targets::of_registers(&image, &registers, &lookup))?;
-    assert_eq!(rt; led.as_slice(), [2, 0, 1].as_slice());
+    same(&rt, led.as_slice(), [2, 0, 1].as_slice());
     Ok(())
 }
 
@@ -86,11 +86,11 @@ fn targets_of_blocks(rt: HostRuntime) -> Result<(), Fail> {
     for (size, targets) in cases {
         let block = block(0x10100, size);
         let found = listed(alloc, Targets::of_block(&image, &lookup, &block))?;
-        assert_eq!(rt; found.as_slice(), targets, "{size} bytes");
+        same_in(&rt, &size, found.as_slice(), targets);
     }
     let mut set = vec![in alloc; false; live.blocks().len()]?;
     mark_targets(&image, &lookup, &block(0x10ff0, 0x10), set.as_mut_slice());
-    assert_eq!(rt; set.as_slice(), [true, false, false].as_slice());
+    same(&rt, set.as_slice(), [true, false, false].as_slice());
     Ok(())
 }
 
@@ -104,10 +104,10 @@ fn a_huge_block_costs_what_is_dumped(rt: HostRuntime) -> Result<(), Fail> {
     let huge = block(0x10100, 0x1000_0000_0000_0000);
     let counted = Counted::new(&image);
     let targets = listed(alloc, Targets::of_block(&counted, &lookup, &huge))?;
-    assert_eq!(rt; targets.as_slice(), [0, 0].as_slice());
-    assert_eq!(rt; counted.asked(), 480);
+    same(&rt, targets.as_slice(), [0, 0].as_slice());
+    same(&rt, counted.asked(), 480);
     let by_runs = listed(alloc, Targets::of_block(&image, &lookup, &huge))?;
-    assert_eq!(rt; by_runs.as_slice(), [0, 0].as_slice());
+    same(&rt, by_runs.as_slice(), [0, 0].as_slice());
     Ok(())
 }
 
@@ -135,13 +135,13 @@ fn words_off_the_pages_are_not_asked_for(rt: HostRuntime) -> Result<(), Fail> {
             alloc,
             Targets::of_block_pages(&counted, &lookup, &held, &pages),
         )?;
-        assert_eq!(rt; targets.as_slice(), blocks);
-        assert_eq!(rt; counted.asked(), words);
+        same(&rt, targets.as_slice(), blocks);
+        same(&rt, counted.asked(), words);
         let by_runs = listed(
             alloc,
             Targets::of_block_pages(&image, &lookup, &held, &pages),
         )?;
-        assert_eq!(rt; by_runs.as_slice(), blocks);
+        same(&rt, by_runs.as_slice(), blocks);
     }
     Ok(())
 }
@@ -155,7 +155,7 @@ fn pages_ascend(rt: HostRuntime) -> Result<(), Fail> {
     let Some(pages) = Pages::new(Vec::from_slice(alloc, &[16, 18])?) else {
         return Ok(assert!(rt; false, "the numbers ascend"));
     };
-    assert_eq!(rt; pages.numbers(), [16, 18].as_slice());
+    same(&rt, pages.numbers(), [16, 18].as_slice());
     for (page, has) in [
         (15, false),
         (16, true),
@@ -163,7 +163,7 @@ fn pages_ascend(rt: HostRuntime) -> Result<(), Fail> {
         (18, true),
         (u64::MAX, false),
     ] {
-        assert_eq!(rt; pages.has(page), has, "{page}");
+        same_in(&rt, &page, pages.has(page), has);
     }
     Ok(())
 }
@@ -193,14 +193,16 @@ fn heads_of_leaked_blocks(rt: HostRuntime) -> Result<(), Fail> {
         let live = lives(alloc, three)?;
         assert!(rt; live.blocks().len() == set.len());
         let sorted = Sorted::new(&live, Reading::interior());
-        assert_eq!(rt;
+        same(
+            &rt,
             heads(alloc, &image, &sorted, &live, set)?.as_slice(),
-            wanted
+            wanted,
         );
         let paged = Paged::new(alloc, &live, Reading::interior())?;
-        assert_eq!(rt;
+        same(
+            &rt,
             heads(alloc, &image, &paged, &live, set)?.as_slice(),
-            wanted
+            wanted,
         );
     }
     Ok(())
@@ -217,8 +219,8 @@ fn words_of_marked_blocks_are_not_asked_for(rt: HostRuntime) -> Result<(), Fail>
     let set = [true, false, true];
     assert!(rt; live.blocks().len() == set.len());
     let found = heads(alloc, &counted, &lookup, &live, &set)?;
-    assert_eq!(rt; found.as_slice(), [false, true, false].as_slice());
+    same(&rt, found.as_slice(), [false, true, false].as_slice());
     // the 16 bytes of the second block
-    assert_eq!(rt; counted.asked(), 2);
+    same(&rt, counted.asked(), 2);
     Ok(())
 }

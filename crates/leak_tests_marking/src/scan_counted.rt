@@ -3,7 +3,7 @@ ghost use Rattle.std.specs.Prelude.{◌≡◌, ℕ, List, Option};
 ghost use Rattle.leak_elf.specs.Words.{word_of};
 ghost use Rattle.leak_elf.specs.Aligned.{aligned_words};
 
-use crate::samples::lives;
+use crate::samples::{lives, same, same_in};
 use crate::scan::{block, listed};
 use leak_elf::{Image, Words, core_k};
 use leak_index::{Reading, Sorted};
@@ -113,16 +113,16 @@ fn a_scan_asks_for_the_words_of_the_block_alone(rt: HostRuntime) -> Result<(), F
         let block = block(start, size);
         let counted = Counted::new(&image);
         let found = listed(alloc, Targets::of_block(&counted, &lookup, &block))?;
-        assert_eq!(rt; found.len(), 0, "{start} {size}");
-        assert_eq!(rt; counted.asked(), words, "{start} {size}");
+        same_in(&rt, &(start, size), found.len(), 0);
+        same_in(&rt, &(start, size), counted.asked(), words);
         for (page, here) in [(15, 0), (16, words), (17, 0)] {
             let Some(pages) = Pages::new(Vec::from_slice(alloc, &[page])?) else {
                 return Ok(assert!(rt; false, "one number ascends"));
             };
             let counted = Counted::new(&image);
             let targets = Targets::of_block_pages(&counted, &lookup, &block, &pages);
-            assert_eq!(rt; listed(alloc, targets)?.len(), 0, "{start} {size} {page}");
-            assert_eq!(rt; counted.asked(), here, "{start} {size} {page}");
+            same_in(&rt, &(start, size, page), listed(alloc, targets)?.len(), 0);
+            same_in(&rt, &(start, size, page), counted.asked(), here);
         }
     }
     Ok(())
@@ -147,16 +147,16 @@ fn runs_are_taken_in_place_of_words(rt: HostRuntime) -> Result<(), Fail> {
     for (start, size, words, runs) in cases {
         let counted = CountedRuns::new(&image);
         let targets = Targets::of_block(&counted, &lookup, &block(start, size));
-        assert_eq!(rt; listed(alloc, targets)?.len(), 0, "{start} {size}");
-        assert_eq!(rt; counted.asked.get(), words, "{start} {size}");
-        assert_eq!(rt; counted.runs.get(), runs, "{start} {size}");
+        same_in(&rt, &(start, size), listed(alloc, targets)?.len(), 0);
+        same_in(&rt, &(start, size), counted.asked.get(), words);
+        same_in(&rt, &(start, size), counted.runs.get(), runs);
     }
     // 480 words of it are in the core
     let huge = block(0x10100, 0x1000_0000_0000_0000);
     let counted = CountedRuns::new(&image);
     let targets = Targets::of_block(&counted, &lookup, &huge);
-    assert_eq!(rt; listed(alloc, targets)?.len(), 0);
-    assert_eq!(rt; (counted.asked.get(), counted.runs.get()), (0, 2));
+    same(&rt, listed(alloc, targets)?.len(), 0);
+    same(&rt, (counted.asked.get(), counted.runs.get()), (0, 2));
     Ok(())
 }
 
@@ -180,9 +180,9 @@ fn blocks_in_one_run_ask_for_it_once(rt: HostRuntime) -> Result<(), Fail> {
             return Ok(assert!(rt; false, "{start} is in the core"));
         };
         assert!(rt; list_run(&lookup, bytes, 2, &mut targets)?, "{start}");
-        assert_eq!(rt; targets.as_slice(), wanted, "{start}");
+        same_in(&rt, &start, targets.as_slice(), wanted);
     }
-    assert_eq!(rt; (counted.asked.get(), counted.runs.get()), (0, 2));
+    same(&rt, (counted.asked.get(), counted.runs.get()), (0, 2));
     Ok(())
 }
 
@@ -204,7 +204,7 @@ fn blocks_outside_a_run_have_no_bytes(rt: HostRuntime) -> Result<(), Fail> {
     ];
     for (start, size, bytes) in cases {
         let found = runs.of_block(&block(start, size)).map(|run| run.len());
-        assert_eq!(rt; found, bytes, "{start} {size}");
+        same_in(&rt, &(start, size), found, bytes);
     }
     Ok(())
 }
@@ -223,12 +223,13 @@ fn a_run_with_more_targets_than_room_is_told(rt: HostRuntime) -> Result<(), Fail
     // the second word is one past the end of the first block, too
     for (room, fits) in [(0, false), (1, false), (2, false), (3, true)] {
         let mut targets = Vec::new(alloc);
-        assert_eq!(rt;
+        same_in(
+            &rt,
+            &room,
             list_run(&lookup, bytes, room, &mut targets)?,
             fits,
-            "{room}"
         );
-        assert_eq!(rt; targets.len(), room, "{room}");
+        same_in(&rt, &room, targets.len(), room);
     }
     Ok(())
 }

@@ -1,6 +1,6 @@
 //! Root words with links to free chunks, and without them.
 
-use crate::samples::lives;
+use crate::samples::{lives, same};
 use crate::scan::listed;
 use crate::scan_counted::Counted;
 use leak_elf::{Image, core_k};
@@ -47,14 +47,14 @@ fn a_word_of_a_list_leads_nowhere(rt: HostRuntime) -> Result<(), Fail> {
     )?;
     for range in [(0x10000, 0x10100), (0x10008, 0x10010)] {
         let (plain, by_runs, by_words) = targets_with(alloc, core.as_slice(), BLOCK, range)?;
-        assert_eq!(rt; plain.as_slice(), [0].as_slice());
-        assert_eq!(rt; by_runs.len(), 0);
-        assert_eq!(rt; by_words.len(), 0);
+        same(&rt, plain.as_slice(), [0].as_slice());
+        same(&rt, by_runs.len(), 0);
+        same(&rt, by_words.len(), 0);
         // it leads to the block that begins there
         let (plain, by_runs, by_words) = targets_with(alloc, core.as_slice(), NEIGHBORS, range)?;
-        assert_eq!(rt; plain.as_slice(), [0, 1].as_slice());
-        assert_eq!(rt; by_runs.as_slice(), [1].as_slice());
-        assert_eq!(rt; by_words.as_slice(), [1].as_slice());
+        same(&rt, plain.as_slice(), [0, 1].as_slice());
+        same(&rt, by_runs.as_slice(), [1].as_slice());
+        same(&rt, by_words.as_slice(), [1].as_slice());
     }
     Ok(())
 }
@@ -83,9 +83,9 @@ fn other_words_lead_as_ever(rt: HostRuntime) -> Result<(), Fail> {
     ];
     for (range, with, without) in cases {
         let (plain, by_runs, by_words) = targets_with(alloc, core.as_slice(), BLOCK, range)?;
-        assert_eq!(rt; plain.len(), with);
-        assert_eq!(rt; by_runs.len(), without);
-        assert_eq!(rt; by_words.len(), without);
+        same(&rt, plain.len(), with);
+        same(&rt, by_runs.len(), without);
+        same(&rt, by_words.len(), without);
     }
     Ok(())
 }

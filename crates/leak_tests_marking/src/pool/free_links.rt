@@ -1,11 +1,9 @@
 //! Roots with malloc's links to free chunks, and without them.
 
-use crate::pool::samples::core_of;
-use leak_blocks::{Live, SmallSpans, replay};
+use crate::samples::{Scene, core_of, scene_of};
+use leak_blocks::Live;
 use leak_elf::Image;
 use leak_index::{Reading, Sorted};
-use leak_mtrace::Log;
-use leak_notes::Threads;
 use leak_pool::{Open, Plan, Start, mark, mark_alone, mark_by_links, mark_from};
 use leak_roots::Roots;
 use leak_scan::Pages;
@@ -25,12 +23,7 @@ fn all_mark<R: std::thread::Threads + Sync>(
     set: &[bool],
 ) -> Result<bool, Fail> {
     let core = core_of(alloc, words)?;
-    let image = Image::read(alloc, core.as_slice())?;
-    let threads = Threads::read(alloc, &image)?;
-    let log = Log::read(alloc, log.as_bytes())?;
-    let live = replay(alloc, &log)?;
-    let small = SmallSpans::none(alloc);
-    let roots = Roots::find(alloc, &image, &threads, &live, &small)?;
+    let Scene { image, live, roots } = scene_of(alloc, core.as_slice(), log)?;
     let roots = roots.skip_links(skip_links);
     let alone = marks_alone(alloc, &image, &roots, &live, set)?;
     let by_workers = workers_mark(rt, alloc, &image, &roots, &live, set)?;

@@ -1,6 +1,7 @@
 //! What passes a gate, and when.
 
 use crate::pool::samples::{TURNS, by_workers, lead_of_the_second, marked_count, two_apart};
+use crate::samples::same;
 use leak_pool::{Gate, Plan};
 use std::sync::atomic::{AtomicU64, Ordering};
 use std::test::Fail;
@@ -35,14 +36,14 @@ fn an_item_alone_is_that_of_the_last_worker(rt: HostRuntime) -> Result<(), Fail>
     // The registers and four ranges of memory are the first round's items: one for each worker, two for the last.
     let steps = [1, 1, 1, 1 + 2 + 3];
     for (passes, expected) in gate.of.iter().zip(steps) {
-        assert_eq!(rt; passes.load(Ordering::SeqCst), expected);
+        same(&rt, passes.load(Ordering::SeqCst), expected);
     }
-    assert_eq!(rt; marked.claims.len(), 4);
+    same(&rt, marked.claims.len(), 4);
     let claims: [&[u32]; 4] = [&[], &[0, 1], &[], &[2]];
     for (list, expected) in marked.claims.iter().zip(claims) {
-        assert_eq!(rt; list.as_slice(), expected);
+        same(&rt, list.as_slice(), expected);
     }
-    assert_eq!(rt; marked.rounds, 3);
+    same(&rt, marked.rounds, 3);
     Ok(())
 }
 
@@ -82,9 +83,9 @@ fn two_workers_pass_at_the_same_time(rt: HostRuntime) -> Result<(), Fail> {
             late: AtomicU64::new(0),
         };
         let marked = by_workers(&rt, rt.alloc(), &sample, Plan::new(2, 1, 0)?, &gate)?;
-        assert_eq!(rt; gate.late.load(Ordering::SeqCst), 0);
-        assert_eq!(rt; gate.others.load(Ordering::SeqCst), 1);
-        assert_eq!(rt; marked_count(&marked), 2);
+        same(&rt, gate.late.load(Ordering::SeqCst), 0);
+        same(&rt, gate.others.load(Ordering::SeqCst), 1);
+        same(&rt, marked_count(&marked), 2);
     }
     Ok(())
 }

@@ -3,14 +3,11 @@ ghost use Rattle.std.specs.Prelude.{◌≡◌, []};
 ghost use Rattle.leak_elf.specs.Words.{word_of};
 ghost use Rattle.leak_elf.specs.Aligned.{aligned_words};
 
-use crate::pool::samples::{TURNS, core_of, two_apart};
-use leak_blocks::{SmallSpans, replay};
+use crate::pool::samples::{TURNS, two_apart};
+use crate::samples::{core_of, same, scene_of};
 use leak_elf::{Image, Words};
 use leak_index::{Reading, Sorted};
-use leak_mtrace::Log;
-use leak_notes::Threads;
 use leak_pool::{Open, Plan, Start, mark, mark_from};
-use leak_roots::Roots;
 use leak_scan::Pages;
 use std::alloc::Global;
 use std::sync::atomic::{AtomicU64, Ordering};
@@ -92,13 +89,8 @@ fn two_workers_scan_and_claim_at_the_same_time(rt: HostRuntime) -> Result<(), Fa
     let alloc = rt.alloc();
     let sample = two_apart(alloc)?;
     let core = core_of(alloc, sample.words.as_slice())?;
-    let image = Image::read(alloc, core.as_slice())?;
-    let threads = Threads::read(alloc, &image)?;
-    let log = Log::read(alloc, sample.log.as_bytes())?;
-    let live = replay(alloc, &log)?;
-    let small = SmallSpans::none(alloc);
-    let roots = Roots::find(alloc, &image, &threads, &live, &small)?;
-    let lookup = Sorted::new(&live, Reading::interior());
+    let scene = scene_of(alloc, core.as_slice(), sample.log.as_str())?;
+    let lookup = Sorted::new(&scene.live, Reading::interior());
     let plan = Plan::new(2, 1, 0)?;
     let nothing = no_start(alloc);
     let Some(pages) = Pages::new(Vec::new(alloc)) else {
@@ -106,23 +98,41 @@ fn two_workers_scan_and_claim_at_the_same_time(rt: HostRuntime) -> Result<(), Fa
     };
     for from in [false, true] {
         let words = Meeting {
-            image: &image,
+            image: &scene.image,
             reads: counts(alloc)?,
             late: AtomicU64::new(0),
         };
         let marked = if from {
             mark_from(
-                &rt, alloc, &words, &lookup, &roots, &live, plan, &Open, &nothing, &pages,
+                &rt,
+                alloc,
+                &words,
+                &lookup,
+                &scene.roots,
+                &scene.live,
+                plan,
+                &Open,
+                &nothing,
+                &pages,
             )?
         } else {
-            mark(&rt, alloc, &words, &lookup, &roots, &live, plan, &Open)?
+            mark(
+                &rt,
+                alloc,
+                &words,
+                &lookup,
+                &scene.roots,
+                &scene.live,
+                plan,
+                &Open,
+            )?
         };
-        assert_eq!(rt; words.late.load(Ordering::SeqCst), 0);
-        assert_eq!(rt; marked.claims.len(), 2);
-        assert_eq!(rt; marked.claims[0].as_slice(), [0u32].as_slice());
-        assert_eq!(rt; marked.claims[1].as_slice(), [1u32].as_slice());
+        same(&rt, words.late.load(Ordering::SeqCst), 0);
+        assert!(rt; marked.claims.len() == 2);
+        same(&rt, marked.claims[0].as_slice(), [0u32].as_slice());
+        same(&rt, marked.claims[1].as_slice(), [1u32].as_slice());
         for reads in words.reads.as_slice() {
-            assert_eq!(rt; reads.load(Ordering::SeqCst), 1);
+            same(&rt, reads.load(Ordering::SeqCst), 1);
         }
     }
     Ok(())

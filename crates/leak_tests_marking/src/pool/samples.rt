@@ -1,12 +1,8 @@
 //! Samples, and marking of them.
 
-use leak_blocks::{SmallSpans, replay};
-use leak_elf::{Image, core_k};
+use crate::samples::{core_of, scene_of};
 use leak_index::{Reading, Sorted};
-use leak_mtrace::Log;
-use leak_notes::Threads;
 use leak_pool::{Gate, Marked, Plan, mark, mark_alone};
-use leak_roots::Roots;
 use std::alloc::Global;
 use std::fmt::Write;
 use std::test::Fail;
@@ -51,31 +47,12 @@ pub(crate) fn lead_of_the_second(alloc: Global) -> Result<Sample, Fail> {
     Ok(Sample { words, log })
 }
 
-/// The sample core with the words set.
-pub(crate) fn core_of(alloc: Global, words: &[(u64, u64)]) -> Result<Vec<u8>, Fail> {
-    let mut core = core_k(alloc, &[])?;
-    for (addr, word) in words {
-        let at = addr.wrapping_sub(0xf000) as usize;
-        for (i, value) in word.to_le_bytes().iter().enumerate() {
-            if let Some(byte) = core.get_mut(at.wrapping_add(i)) {
-                *byte = *value;
-            }
-        }
-    }
-    Ok(core)
-}
-
 /// Marks a sample on the caller's thread.
 pub(crate) fn alone(alloc: Global, sample: &Sample) -> Result<Marked, Fail> {
     let core = core_of(alloc, sample.words.as_slice())?;
-    let image = Image::read(alloc, core.as_slice())?;
-    let threads = Threads::read(alloc, &image)?;
-    let log = Log::read(alloc, sample.log.as_bytes())?;
-    let live = replay(alloc, &log)?;
-    let small = SmallSpans::none(alloc);
-    let roots = Roots::find(alloc, &image, &threads, &live, &small)?;
-    let lookup = Sorted::new(&live, Reading::interior());
-    Ok(mark_alone(alloc, &image, &lookup, &roots, &live)?)
+    let scene = scene_of(alloc, core.as_slice(), sample.log.as_str())?;
+    let lookup = Sorted::new(&scene.live, Reading::interior());
+    Ok(mark_alone(alloc, &scene.image, &lookup, &scene.roots, &scene.live)?)
 }
 
 /// Marks a sample by workers.
@@ -87,14 +64,18 @@ pub(crate) fn by_workers<R: std::thread::Threads + Sync, G: Gate + Sync>(
     gate: &G,
 ) -> Result<Marked, Fail> {
     let core = core_of(alloc, sample.words.as_slice())?;
-    let image = Image::read(alloc, core.as_slice())?;
-    let threads = Threads::read(alloc, &image)?;
-    let log = Log::read(alloc, sample.log.as_bytes())?;
-    let live = replay(alloc, &log)?;
-    let small = SmallSpans::none(alloc);
-    let roots = Roots::find(alloc, &image, &threads, &live, &small)?;
-    let lookup = Sorted::new(&live, Reading::interior());
-    Ok(mark(rt, alloc, &image, &lookup, &roots, &live, plan, gate)?)
+    let scene = scene_of(alloc, core.as_slice(), sample.log.as_str())?;
+    let lookup = Sorted::new(&scene.live, Reading::interior());
+    Ok(mark(
+        rt,
+        alloc,
+        &scene.image,
+        &lookup,
+        &scene.roots,
+        &scene.live,
+        plan,
+        gate,
+    )?)
 }
 
 /// How many blocks are marked.

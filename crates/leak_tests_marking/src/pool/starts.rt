@@ -2,11 +2,10 @@
 ghost use Rattle.std.specs.Prelude.{◌<◌, length};
 
 use crate::pool::samples::{Sample, alone, by_workers, claim_count};
-use leak_blocks::{Live, SmallSpans, replay};
+use crate::samples::{same, scene_of};
+use leak_blocks::Live;
 use leak_elf::{Image, core_k};
 use leak_index::{Reading, Sorted};
-use leak_mtrace::Log;
-use leak_notes::Threads;
 use leak_pool::{Marked, Open, Part, Plan, Start, mark_from};
 use leak_roots::Roots;
 use leak_scan::Pages;
@@ -21,16 +20,16 @@ fn no_block_takes_no_round(rt: HostRuntime) -> Result<(), Fail> {
         log: String::new(alloc),
     };
     let marked = alone(alloc, &empty)?;
-    assert_eq!(rt; marked.set.len(), 0);
-    assert_eq!(rt; marked.claims.len(), 1);
-    assert_eq!(rt; marked.rounds, 0);
+    same(&rt, marked.set.len(), 0);
+    same(&rt, marked.claims.len(), 1);
+    same(&rt, marked.rounds, 0);
     for workers in [1, 2, 3, 64] {
         let plan = Plan::new(workers, 512, 1024)?;
         let marked = by_workers(&rt, alloc, &empty, plan, &Open)?;
-        assert_eq!(rt; marked.set.len(), 0);
-        assert_eq!(rt; marked.claims.len(), workers as usize);
-        assert_eq!(rt; claim_count(&marked), 0);
-        assert_eq!(rt; marked.rounds, 0);
+        same(&rt, marked.set.len(), 0);
+        same(&rt, marked.claims.len(), workers as usize);
+        same(&rt, claim_count(&marked), 0);
+        same(&rt, marked.rounds, 0);
     }
     Ok(())
 }
@@ -61,12 +60,7 @@ fn from_first<R: std::thread::Threads + Sync>(
 fn a_start_is_scanned_again_in_parts(rt: HostRuntime) -> Result<(), Fail> {
     let alloc = rt.alloc();
     let core = core_k(alloc, &[(0x10100, 0x10200)])?;
-    let image = Image::read(alloc, core.as_slice())?;
-    let threads = Threads::read(alloc, &image)?;
-    let log = Log::read(alloc, b"+ 0x10100 0x20\n+ 0x10200 0x10\n")?;
-    let live = replay(alloc, &log)?;
-    let small = SmallSpans::none(alloc);
-    let roots = Roots::find(alloc, &image, &threads, &live, &small)?;
+    let scene = scene_of(alloc, core.as_slice(), "+ 0x10100 0x20\n+ 0x10200 0x10\n")?;
     let cases = [
         (Part::Whole, 17u64, 1usize),
         (Part::Differing, 16, 1),
@@ -76,10 +70,18 @@ fn a_start_is_scanned_again_in_parts(rt: HostRuntime) -> Result<(), Fail> {
         let Some(pages) = Pages::new(vec![in alloc; page]?) else {
             panic!(rt; "one page is pages")
         };
-        assert!(rt; !live.blocks().is_empty());
-        let marked = from_first(&rt, alloc, &image, &roots, &live, part, &pages)?;
-        assert_eq!(rt; marked.set.as_slice(), [true, claims == 1].as_slice());
-        assert_eq!(rt; claim_count(&marked), claims);
+        assert!(rt; !scene.live.blocks().is_empty());
+        let marked = from_first(
+            &rt,
+            alloc,
+            &scene.image,
+            &scene.roots,
+            &scene.live,
+            part,
+            &pages,
+        )?;
+        same(&rt, marked.set.as_slice(), [true, claims == 1].as_slice());
+        same(&rt, claim_count(&marked), claims);
     }
     Ok(())
 }
