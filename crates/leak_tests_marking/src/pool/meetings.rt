@@ -4,14 +4,16 @@ ghost use Rattle.leak_elf.specs.Words.{word_of};
 ghost use Rattle.leak_elf.specs.Aligned.{aligned_words};
 
 use crate::pool::samples::{TURNS, two_apart};
-use crate::samples::{core_of, same, scene_of};
+use crate::samples::{Scene, core_of, same, scene_of};
 use leak_elf::{Image, Words};
 use leak_index::{Reading, Sorted};
-use leak_pool::{Open, Plan, Start, mark, mark_from};
+use leak_pool::{Marked, Open, Plan, Start, mark, mark_from};
 use leak_scan::Pages;
 use std::alloc::Global;
+use std::process::Abort;
 use std::sync::atomic::{AtomicU64, Ordering};
 use std::test::Fail;
+use std::thread::Threads;
 
 /// The words of a core, of which the first and the last wait for one another. Counts the reads of each.
 #[derive(Drop)]
@@ -84,49 +86,42 @@ fn no_start(alloc: Global) -> Start
     }
 }
 
+/// Marks by two workers, from a start that marks nothing or from none.
+fn marked_by_two<R: Threads + Sync + Abort>(
+    rt: &R,
+    alloc: Global,
+    scene: &Scene,
+    words: &Meeting,
+    from: bool,
+) -> Result<Marked, Fail> {
+    let lookup = Sorted::new(&scene.live, Reading::interior());
+    let plan = Plan::new(2, 1, 0)?;
+    let (roots, live) = (&scene.roots, &scene.live);
+    if !from {
+        return Ok(mark(rt, alloc, words, &lookup, roots, live, plan, &Open)?);
+    }
+    let nothing = no_start(alloc);
+    let Some(pages) = Pages::new(Vec::new(alloc)) else {
+        panic!(rt; "no pages are pages")
+    };
+    Ok(mark_from(
+        rt, alloc, words, &lookup, roots, live, plan, &Open, &nothing, &pages,
+    )?)
+}
+
 #[test]
 fn two_workers_scan_and_claim_at_the_same_time(rt: HostRuntime) -> Result<(), Fail> {
     let alloc = rt.alloc();
     let sample = two_apart(alloc)?;
     let core = core_of(alloc, sample.words.as_slice())?;
     let scene = scene_of(alloc, core.as_slice(), sample.log.as_str())?;
-    let lookup = Sorted::new(&scene.live, Reading::interior());
-    let plan = Plan::new(2, 1, 0)?;
-    let nothing = no_start(alloc);
-    let Some(pages) = Pages::new(Vec::new(alloc)) else {
-        panic!(rt; "no pages are pages")
-    };
     for from in [false, true] {
         let words = Meeting {
             image: &scene.image,
             reads: counts(alloc)?,
             late: AtomicU64::new(0),
         };
-        let marked = if from {
-            mark_from(
-                &rt,
-                alloc,
-                &words,
-                &lookup,
-                &scene.roots,
-                &scene.live,
-                plan,
-                &Open,
-                &nothing,
-                &pages,
-            )?
-        } else {
-            mark(
-                &rt,
-                alloc,
-                &words,
-                &lookup,
-                &scene.roots,
-                &scene.live,
-                plan,
-                &Open,
-            )?
-        };
+        let marked = marked_by_two(&rt, alloc, &scene, &words, from)?;
         same(&rt, words.late.load(Ordering::SeqCst), 0);
         assert!(rt; marked.claims.len() == 2);
         same(&rt, marked.claims[0].as_slice(), [0u32].as_slice());
