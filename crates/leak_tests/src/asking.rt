@@ -2,6 +2,7 @@
 
 ghost use Rattle.std.specs.Prelude.{IfOk, false, ◌≡◌};
 
+use crate::comparisons::same;
 use crate::examples::ONE_BLOCK;
 use crate::fakes::{Sink, Source};
 use crate::samples::{Part, core_of};
@@ -46,8 +47,8 @@ fn a_block_is_held_or_leaked(rt: HostRuntime) -> Result<(), Fail> {
         let mut out: Vec<u8> = Vec::new(rt.alloc());
         let options = options(8192, 36)?;
         let status = run_why(rt.alloc(), &mut readers, &options, 0x1011F, &mut out)?;
-        assert_eq!(rt; out.as_slice(), text.as_bytes());
-        assert_eq!(rt; status, wanted);
+        same(&rt, out.as_slice(), text.as_bytes());
+        same(&rt, status, wanted);
     }
     Ok(())
 }
@@ -60,7 +61,7 @@ fn no_block_holds_the_address(rt: HostRuntime) -> Result<(), Fail> {
         let mut out: Vec<u8> = Vec::new(rt.alloc());
         let options = options(8192, 36)?;
         let answer = run_why(rt.alloc(), &mut readers, &options, address, &mut out);
-        assert_eq!(rt; answer, Err(RunFault::NoBlock(address)));
+        same(&rt, answer, Err(RunFault::NoBlock(address)));
         assert!(rt; out.is_empty());
     }
     Ok(())
@@ -94,7 +95,7 @@ fn inputs_are_refused_before_the_address(rt: HostRuntime) -> Result<(), Fail> {
     ];
     for (core_limit, log, fault) in cases {
         let (answer, silent) = asked_for_zero(rt.alloc(), &core, log, core_limit)?;
-        assert_eq!(rt; answer, Err(fault));
+        same(&rt, answer, Err(fault));
         assert!(rt; silent);
     }
     Ok(())
@@ -110,7 +111,7 @@ fn a_writer_that_fails_has_the_first_bytes(rt: HostRuntime) -> Result<(), Fail> 
     let mut out = Sink::of(rt.alloc(), 7);
     let options = options(8192, 36)?;
     let answer = run_why(rt.alloc(), &mut readers, &options, 0x10100, &mut out);
-    assert_eq!(rt; answer, Err(RunFault::Write(WriteFault { written: 7 })));
-    assert_eq!(rt; out.held.as_slice(), b"asked 0".as_slice());
+    same(&rt, answer, Err(RunFault::Write(WriteFault { written: 7 })));
+    same(&rt, out.held.as_slice(), b"asked 0".as_slice());
     Ok(())
 }

@@ -2,9 +2,11 @@
 
 ghost use Rattle.std.specs.Prelude.{IfOk, IsFalse};
 
+use crate::comparisons::{same, same_in};
 use crate::examples::{EXAMPLES, HELD, LOST, ONE_BLOCK};
 use crate::fakes::{Giver, Sink, Source, Taker, Turn};
 use crate::samples::{Part, core_of};
+use crate::searches::run_over;
 use leak_elf::ElfError;
 use leak_find::{FindError, Options, ReadFault, RunFault, Skip, run};
 use leak_index::Reading;
@@ -35,19 +37,10 @@ fn each_example_gives_its_report_and_status(rt: HostRuntime) -> Result<(), Fail>
     for example in &EXAMPLES {
         let core = core_of(rt.alloc(), example.core)?;
         let mut readers = [core.as_slice(), example.log.as_bytes()];
-        let mut out = Vec::new(rt.alloc());
-        let mut warned: Vec<u8> = Vec::new(rt.alloc());
-        let status = run(
-            &rt,
-            rt.alloc(),
-            &mut readers,
-            &options,
-            &mut out,
-            &mut warned,
-        )?;
+        let ran = run_over(&rt, rt.alloc(), &mut readers, &options);
         let name = example.name;
-        assert_eq!(rt; out.as_slice(), example.report.as_bytes(), "{name}");
-        assert_eq!(rt; status, u8::from(example.leaked > 0), "{name}");
+        same_in(&rt, &name, ran.out.as_slice(), example.report.as_bytes());
+        same_in(&rt, &name, ran.answer, Ok(u8::from(example.leaked > 0)));
     }
     Ok(())
 }
@@ -59,18 +52,10 @@ fn readers_that_give_a_byte_at_a_time_change_nothing(rt: HostRuntime) -> Result<
         Source::slow(rt.alloc(), core.as_slice(), 1)?,
         Source::slow(rt.alloc(), ONE_BLOCK.as_bytes(), 1)?,
     ];
-    let mut out = Vec::new(rt.alloc());
-    let mut warned: Vec<u8> = Vec::new(rt.alloc());
-    let status = run(
-        &rt,
-        rt.alloc(),
-        &mut readers,
-        &options(8192, 36)?,
-        &mut out,
-        &mut warned,
-    )?;
-    assert_eq!(rt; out.as_slice(), HELD.as_bytes());
-    assert_eq!(rt; status, 0);
+    let options = options(8192, 36)?;
+    let ran = run_over(&rt, rt.alloc(), &mut readers, &options);
+    same(&rt, ran.out.as_slice(), HELD.as_bytes());
+    same(&rt, ran.answer, Ok(0));
     Ok(())
 }
 
@@ -80,19 +65,14 @@ fn a_reader_over_its_limit_is_refused(rt: HostRuntime) -> Result<(), Fail> {
     let cases = [(8191, 36, 1), (8192, 35, 2), (8191, 35, 1)];
     for (core_limit, log_limit, reader) in cases {
         let mut readers = [core.as_slice(), ONE_BLOCK.as_bytes()];
-        let mut out = Vec::new(rt.alloc());
-        let mut warned: Vec<u8> = Vec::new(rt.alloc());
         let options = options(core_limit, log_limit)?;
-        let result = run(
+        let ran = run_over(&rt, rt.alloc(), &mut readers, &options);
+        same(
             &rt,
-            rt.alloc(),
-            &mut readers,
-            &options,
-            &mut out,
-            &mut warned,
+            ran.answer,
+            Err(RunFault::Read(reader, ReadFault::TooLong)),
         );
-        assert_eq!(rt; result, Err(RunFault::Read(reader, ReadFault::TooLong)));
-        assert!(rt; out.is_empty() && warned.is_empty(), "reader {reader}");
+        assert!(rt; ran.is_silent(), "reader {reader}");
     }
     Ok(())
 }
@@ -110,19 +90,10 @@ fn a_reader_that_fails_leaves_nothing_written(rt: HostRuntime) -> Result<(), Fai
             Source::of(rt.alloc(), core.as_slice())?,
             Source::of(rt.alloc(), ONE_BLOCK.as_bytes())?.failing_after(1),
         ];
-        let mut out = Vec::new(rt.alloc());
-        let mut warned: Vec<u8> = Vec::new(rt.alloc());
         let options = options(core_limit, 36)?;
-        let result = run(
-            &rt,
-            rt.alloc(),
-            &mut readers,
-            &options,
-            &mut out,
-            &mut warned,
-        );
-        assert_eq!(rt; result, Err(wanted));
-        assert!(rt; out.is_empty() && warned.is_empty(), "limit {core_limit}");
+        let ran = run_over(&rt, rt.alloc(), &mut readers, &options);
+        same(&rt, ran.answer, Err(wanted));
+        assert!(rt; ran.is_silent(), "limit {core_limit}");
     }
     Ok(())
 }
@@ -135,21 +106,13 @@ fn a_core_that_is_refused_leaves_nothing_written(rt: HostRuntime) -> Result<(), 
         Source::of(rt.alloc(), core.as_slice())?,
         Source::of(rt.alloc(), ONE_BLOCK.as_bytes())?,
     ];
-    let mut out = Vec::new(rt.alloc());
-    let mut warned: Vec<u8> = Vec::new(rt.alloc());
-    let result = run(
-        &rt,
-        rt.alloc(),
-        &mut readers,
-        &options(8192, 36)?,
-        &mut out,
-        &mut warned,
-    );
+    let options = options(8192, 36)?;
+    let ran = run_over(&rt, rt.alloc(), &mut readers, &options);
     let refusal = FindError::Core(1, ElfError::Truncated(1));
-    assert_eq!(rt; result, Err(RunFault::Find(refusal)));
-    assert!(rt; out.is_empty() && warned.is_empty());
+    same(&rt, ran.answer, Err(RunFault::Find(refusal)));
+    assert!(rt; ran.is_silent());
     // The log was read before the search was made.
-    assert_eq!(rt; readers[1].left(), 0);
+    same(&rt, readers[1].left(), 0);
     Ok(())
 }
 
@@ -174,12 +137,8 @@ fn a_writer_that_fails_holds_what_the_fault_tells(rt: HostRuntime) -> Result<(),
         let fault = WriteFault {
             written: room as u64,
         };
-        assert_eq!(rt; result, Err(RunFault::Write(fault)));
-        assert_eq!(rt;
-            out.held.as_slice(),
-            wanted.as_slice(),
-            "room for {room} bytes"
-        );
+        same(&rt, result, Err(RunFault::Write(fault)));
+        same_in(&rt, &room, out.held.as_slice(), wanted.as_slice());
     }
     Ok(())
 }
@@ -194,22 +153,14 @@ fn a_log_that_fails_at_any_read_leaves_nothing_written(rt: HostRuntime) -> Resul
             Source::of(rt.alloc(), core.as_slice())?,
             Source::slow(rt.alloc(), ONE_BLOCK.as_bytes(), 12)?.failing_after(reads),
         ];
-        let mut out = Vec::new(rt.alloc());
-        let mut warned: Vec<u8> = Vec::new(rt.alloc());
-        let result = run(
+        let ran = run_over(&rt, rt.alloc(), &mut readers, &options);
+        same_in(
             &rt,
-            rt.alloc(),
-            &mut readers,
-            &options,
-            &mut out,
-            &mut warned,
-        );
-        assert_eq!(rt;
-            result,
+            &reads,
+            ran.answer,
             Err(RunFault::Read(2, ReadFault::Device)),
-            "{reads}"
         );
-        assert!(rt; out.is_empty() && warned.is_empty(), "{reads}");
+        assert!(rt; ran.is_silent(), "{reads}");
     }
     Ok(())
 }
@@ -222,20 +173,16 @@ fn a_core_that_is_always_interrupted_leaves_the_log_unread(rt: HostRuntime) -> R
         Giver::of(rt.alloc(), core.as_slice(), &turns)?,
         Giver::of(rt.alloc(), ONE_BLOCK.as_bytes(), &[])?,
     ];
-    let mut out = Vec::new(rt.alloc());
-    let mut warned: Vec<u8> = Vec::new(rt.alloc());
-    let result = run(
+    let options = options(8192, 36)?;
+    let ran = run_over(&rt, rt.alloc(), &mut readers, &options);
+    same(
         &rt,
-        rt.alloc(),
-        &mut readers,
-        &options(8192, 36)?,
-        &mut out,
-        &mut warned,
+        ran.answer,
+        Err(RunFault::Read(1, ReadFault::TooManyTurns)),
     );
-    assert_eq!(rt; result, Err(RunFault::Read(1, ReadFault::TooManyTurns)));
-    assert!(rt; out.is_empty() && warned.is_empty());
-    assert_eq!(rt; readers.each_ref().map(|r| r.left()), [8092, 36]);
-    assert_eq!(rt; readers.each_ref().map(|r| r.reads), [1_000_001, 0]);
+    assert!(rt; ran.is_silent());
+    same(&rt, readers.each_ref().map(|r| r.left()), [8092, 36]);
+    same(&rt, readers.each_ref().map(|r| r.reads), [1_000_001, 0]);
     Ok(())
 }
 
@@ -255,7 +202,7 @@ fn a_writer_that_takes_nothing_holds_nothing(rt: HostRuntime) -> Result<(), Fail
             &mut out,
             &mut warned,
         );
-        assert_eq!(rt; result, Err(RunFault::Write(WriteFault { written: 0 })));
+        same(&rt, result, Err(RunFault::Write(WriteFault { written: 0 })));
         assert!(rt; out.held.is_empty());
     }
     Ok(())

@@ -1,12 +1,13 @@
 //! Cores of more program headers than the file header can number: the number stands in section header 0.
 
+use crate::comparisons::same;
 use crate::examples::{HELD, LOST, ONE_BLOCK};
 use crate::plans::few_plans;
 use crate::samples::{Part, core_of, set};
+use crate::searches::{Way, alone, by_plan};
 use leak_elf::ElfError;
-use leak_find::{FindError, Skip, find_alone, find_one};
-use leak_index::Reading;
-use leak_pool::{Open, Plan};
+use leak_find::FindError;
+use leak_pool::Plan;
 use std::alloc::Global;
 use std::test::Fail;
 use std::thread::Threads;
@@ -40,20 +41,10 @@ fn is_reported<R: Threads + Sync>(
     report: &str,
 ) -> Result<bool, Fail> {
     let log = ONE_BLOCK.as_bytes();
-    let alone = find_alone(alloc, core, log, Reading::interior(), Skip::none(), false)?;
+    let alone = alone(alloc, core, log, Way::plain())?;
     let mut same = alone.report.as_slice() == report.as_bytes();
     for plan in plans {
-        let found = find_one(
-            rt,
-            alloc,
-            core,
-            log,
-            Reading::interior(),
-            Skip::none(),
-            false,
-            *plan,
-            &Open,
-        )?;
+        let found = by_plan(rt, alloc, core, log, Way::plain(), *plan)?;
         same = same && found.report.as_slice() == report.as_bytes();
     }
     Ok(same)
@@ -73,7 +64,7 @@ fn seventy_thousand_headers_are_read(rt: HostRuntime) -> Result<(), Fail> {
     let held = [Part::Word(0x10008, 0x10100)];
     let mut core = with_headers_at_the_end(rt.alloc(), &held, 70_000)?;
     core.resize(8192 + 56 * 70_000, 0)?;
-    assert_eq!(rt; core.len(), 3_928_192);
+    same(&rt, core.len(), 3_928_192);
     let plans = few_plans(rt.alloc())?;
     assert!(rt; is_reported(&rt, rt.alloc(), core.as_slice(), plans.as_slice(), HELD)?);
     Ok(())
@@ -110,20 +101,14 @@ fn a_missing_section_header_is_told(rt: HostRuntime) -> Result<(), Fail> {
     let mut core = core_of(rt.alloc(), &[])?;
     set(&mut core, 56, &[0xff, 0xff]);
     let log = ONE_BLOCK.as_bytes();
-    let found = find_alone(
-        rt.alloc(),
-        core.as_slice(),
-        log,
-        Reading::interior(),
-        Skip::none(),
-        false,
-    );
+    let found = alone(rt.alloc(), core.as_slice(), log, Way::plain());
     let missing = FindError::Core(1, ElfError::Extended);
-    assert_eq!(rt; found.err(), Some(missing));
+    same(&rt, found.err(), Some(missing));
     let text = missing.to_string(rt.alloc())?;
-    assert_eq!(rt;
+    same(
+        &rt,
         text.as_str(),
-        "input 1: core: section header 0 is missing or cut off"
+        "input 1: core: section header 0 is missing or cut off",
     );
     Ok(())
 }

@@ -2,11 +2,13 @@
 
 ghost use Rattle.std.specs.Prelude.{IfOk, IsTrue};
 
+use crate::comparisons::{same, same_in};
 use crate::examples::ONE_BLOCK;
 use crate::fakes::{Sink, Source};
 use crate::pair_reports::HELD_UNREAD;
 use crate::pairs::PAIRS;
 use crate::samples::{Part, core_of};
+use crate::searches::run_over;
 use leak_elf::ElfError;
 use leak_find::{FindError, Options, ReadFault, RunFault, Skip, run};
 use leak_index::Reading;
@@ -61,19 +63,10 @@ fn each_pair_gives_its_report_and_status(rt: HostRuntime) -> Result<(), Fail> {
             core2.as_slice(),
             pair.log2.as_bytes(),
         )?;
-        let mut out = Vec::new(rt.alloc());
-        let mut warned: Vec<u8> = Vec::new(rt.alloc());
-        let status = run(
-            &rt,
-            rt.alloc(),
-            &mut readers,
-            &options,
-            &mut out,
-            &mut warned,
-        )?;
+        let ran = run_over(&rt, rt.alloc(), &mut readers, &options);
         let name = pair.name;
-        assert_eq!(rt; out.as_slice(), pair.report.as_bytes(), "{name}");
-        assert_eq!(rt; status, u8::from(pair.leaked > 0), "{name}");
+        same_in(&rt, &name, ran.out.as_slice(), pair.report.as_bytes());
+        same_in(&rt, &name, ran.answer, Ok(u8::from(pair.leaked > 0)));
     }
     Ok(())
 }
@@ -97,24 +90,15 @@ fn a_reader_over_its_limit_is_refused(rt: HostRuntime) -> Result<(), Fail> {
     ];
     for (reader, [core1, log1, core2, log2], left) in cases {
         let mut readers = sources(rt.alloc(), core1, log1, core2, log2)?;
-        let mut out = Vec::new(rt.alloc());
-        let mut warned: Vec<u8> = Vec::new(rt.alloc());
-        let result = run(
+        let ran = run_over(&rt, rt.alloc(), &mut readers, &options);
+        same(
             &rt,
-            rt.alloc(),
-            &mut readers,
-            &options,
-            &mut out,
-            &mut warned,
+            ran.answer,
+            Err(RunFault::Read(reader, ReadFault::TooLong)),
         );
-        assert_eq!(rt; result, Err(RunFault::Read(reader, ReadFault::TooLong)));
-        assert!(rt; out.is_empty() && warned.is_empty(), "reader {reader}");
+        assert!(rt; ran.is_silent(), "reader {reader}");
         // One byte more than the limit was taken, and nothing of the later readers.
-        assert_eq!(rt;
-            readers.each_ref().map(|r| r.left()),
-            left,
-            "reader {reader}"
-        );
+        same_in(&rt, &reader, readers.each_ref().map(|r| r.left()), left);
     }
     Ok(())
 }
@@ -136,23 +120,14 @@ fn a_reader_that_fails_leaves_the_later_ones_unread(rt: HostRuntime) -> Result<(
         if let Some(reader) = readers.get_mut(usize::from(failing).saturating_sub(1)) {
             reader.fail();
         }
-        let mut out = Vec::new(rt.alloc());
-        let mut warned: Vec<u8> = Vec::new(rt.alloc());
-        let result = run(
+        let ran = run_over(&rt, rt.alloc(), &mut readers, &options);
+        same(
             &rt,
-            rt.alloc(),
-            &mut readers,
-            &options,
-            &mut out,
-            &mut warned,
+            ran.answer,
+            Err(RunFault::Read(failing, ReadFault::Device)),
         );
-        assert_eq!(rt; result, Err(RunFault::Read(failing, ReadFault::Device)));
-        assert!(rt; out.is_empty() && warned.is_empty(), "reader {failing}");
-        assert_eq!(rt;
-            readers.each_ref().map(|r| r.left()),
-            left,
-            "reader {failing}"
-        );
+        assert!(rt; ran.is_silent(), "reader {failing}");
+        same_in(&rt, &failing, readers.each_ref().map(|r| r.left()), left);
     }
     Ok(())
 }
@@ -167,18 +142,10 @@ fn readers_that_give_a_byte_at_a_time_change_nothing(rt: HostRuntime) -> Result<
         Source::slow(rt.alloc(), core2.as_slice(), 1)?,
         Source::slow(rt.alloc(), ONE_BLOCK.as_bytes(), 1)?,
     ];
-    let mut out = Vec::new(rt.alloc());
-    let mut warned: Vec<u8> = Vec::new(rt.alloc());
-    let status = run(
-        &rt,
-        rt.alloc(),
-        &mut readers,
-        &options(8192, 36)?,
-        &mut out,
-        &mut warned,
-    )?;
-    assert_eq!(rt; out.as_slice(), HELD_UNREAD.as_bytes());
-    assert_eq!(rt; status, 0);
+    let options = options(8192, 36)?;
+    let ran = run_over(&rt, rt.alloc(), &mut readers, &options);
+    same(&rt, ran.out.as_slice(), HELD_UNREAD.as_bytes());
+    same(&rt, ran.answer, Ok(0));
     Ok(())
 }
 
@@ -199,20 +166,11 @@ fn inputs_that_are_refused_leave_nothing_written(rt: HostRuntime) -> Result<(), 
     ];
     for ([core1, log1, core2, log2], refusal) in cases {
         let mut readers = sources(rt.alloc(), core1, log1, core2, log2)?;
-        let mut out = Vec::new(rt.alloc());
-        let mut warned: Vec<u8> = Vec::new(rt.alloc());
-        let result = run(
-            &rt,
-            rt.alloc(),
-            &mut readers,
-            &options,
-            &mut out,
-            &mut warned,
-        );
-        assert_eq!(rt; result, Err(RunFault::Find(refusal)));
-        assert!(rt; out.is_empty() && warned.is_empty());
+        let ran = run_over(&rt, rt.alloc(), &mut readers, &options);
+        same(&rt, ran.answer, Err(RunFault::Find(refusal)));
+        assert!(rt; ran.is_silent());
         // All was read before the search was made.
-        assert_eq!(rt; readers.each_ref().map(|r| r.left()), [0; 4]);
+        same(&rt, readers.each_ref().map(|r| r.left()), [0; 4]);
     }
     Ok(())
 }
@@ -239,12 +197,8 @@ fn a_writer_that_fails_holds_what_the_fault_tells(rt: HostRuntime) -> Result<(),
         let fault = WriteFault {
             written: room as u64,
         };
-        assert_eq!(rt; result, Err(RunFault::Write(fault)));
-        assert_eq!(rt;
-            Some(out.held.as_slice()),
-            report.get(..room),
-            "room for {room} bytes"
-        );
+        same(&rt, result, Err(RunFault::Write(fault)));
+        same_in(&rt, &room, Some(out.held.as_slice()), report.get(..room));
     }
     Ok(())
 }

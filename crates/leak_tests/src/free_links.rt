@@ -1,10 +1,11 @@
 //! Reports of searches that leave out malloc's links to free chunks.
 
+use crate::comparisons::{same, same_in};
 use crate::plans::few_plans;
 use crate::samples::{Part, core_of};
-use leak_find::{Found, Skip, find_alone, find_one, find_two};
-use leak_index::Reading;
-use leak_pool::{Open, Plan};
+use crate::searches::{Way, alone, by_plan, of_two};
+use leak_find::{Found, Skip};
+use leak_pool::Plan;
 use std::alloc::Global;
 use std::test::Fail;
 use std::thread::Threads;
@@ -215,15 +216,8 @@ fn links_to_free_chunks_hold_nothing(rt: HostRuntime) -> Result<(), Fail> {
             (BOTH, case.leaked),
             (Skip::none(), case.leaked_with_links),
         ] {
-            let found = find_alone(
-                rt.alloc(),
-                core.as_slice(),
-                log,
-                Reading::interior(),
-                skip,
-                false,
-            )?;
-            assert_eq!(rt; found.leaked, leaked, "{name} without {skip:?}");
+            let found = alone(rt.alloc(), core.as_slice(), log, Way::skipping(skip))?;
+            same_in(&rt, &(name, skip), found.leaked, leaked);
         }
     }
     Ok(())
@@ -235,32 +229,23 @@ fn workers_leave_out_links(rt: HostRuntime) -> Result<(), Fail> {
     for case in &CASES {
         let core = core_of(rt.alloc(), case.core)?;
         let log = case.log.as_bytes();
-        let alone = find_alone(
-            rt.alloc(),
-            core.as_slice(),
-            log,
-            Reading::interior(),
-            LINKS,
-            false,
-        )?;
+        let alone = alone(rt.alloc(), core.as_slice(), log, Way::skipping(LINKS))?;
         let name = case.name;
         for plan in plans.as_slice() {
-            let found = find_one(
+            let found = by_plan(
                 &rt,
                 rt.alloc(),
                 core.as_slice(),
                 log,
-                Reading::interior(),
-                LINKS,
-                false,
+                Way::skipping(LINKS),
                 *plan,
-                &Open,
             )?;
-            assert_eq!(rt; found.leaked, case.leaked, "{name} by {plan:?}");
-            assert_eq!(rt;
+            same_in(&rt, &(name, plan), found.leaked, case.leaked);
+            same_in(
+                &rt,
+                &(name, plan),
                 found.report.as_slice(),
                 alone.report.as_slice(),
-                "{name} by {plan:?}"
             );
         }
     }
@@ -271,15 +256,9 @@ fn workers_leave_out_links(rt: HostRuntime) -> Result<(), Fail> {
 fn the_report_without_links(rt: HostRuntime) -> Result<(), Fail> {
     let core = core_of(rt.alloc(), &[SIZE, HEAD, BACK])?;
     let log = BLOCK.as_bytes();
-    let found = find_alone(
-        rt.alloc(),
-        core.as_slice(),
-        log,
-        Reading::interior(),
-        LINKS,
-        false,
-    )?;
-    assert_eq!(rt;
+    let found = alone(rt.alloc(), core.as_slice(), log, Way::skipping(LINKS))?;
+    same(
+        &rt,
         found.report.as_slice(),
         b"blocks 1 bytes 32\n\
         undumped 0\n\
@@ -289,7 +268,7 @@ fn the_report_without_links(rt: HostRuntime) -> Result<(), Fail> {
         heads 1\n\
         caller 1 32 1 ?\n\
         leak 0x10100 32 1 head ?\n"
-            .as_slice()
+            .as_slice(),
     );
     Ok(())
 }
@@ -315,17 +294,10 @@ fn links_and_freed_memory_are_left_out_apart(rt: HostRuntime) -> Result<(), Fail
     ];
     for (freed, links, line) in cases {
         let skip = Skip { freed, links };
-        let found = find_alone(
-            rt.alloc(),
-            core.as_slice(),
-            log,
-            Reading::interior(),
-            skip,
-            false,
-        )?;
+        let found = alone(rt.alloc(), core.as_slice(), log, Way::skipping(skip))?;
         let report = found.report.as_slice();
         assert!(rt; has_line(report, line), "{skip:?}");
-        assert_eq!(rt; has_line(report, b"freed 2"), freed, "{skip:?}");
+        same_in(&rt, &skip, has_line(report, b"freed 2"), freed);
     }
     Ok(())
 }
@@ -339,18 +311,13 @@ fn found_in_two<R: Threads + Sync>(
     plan: Plan,
 ) -> Result<Found, Fail> {
     let core = core_of(alloc, &[SIZE, HEAD, BACK])?;
-    Ok(find_two(
+    Ok(of_two(
         rt,
         alloc,
-        core.as_slice(),
-        BLOCK.as_bytes(),
-        core.as_slice(),
-        later.as_bytes(),
-        Reading::interior(),
-        skip,
-        false,
+        (core.as_slice(), BLOCK.as_bytes()),
+        (core.as_slice(), later.as_bytes()),
+        Way::skipping(skip),
         plan,
-        &Open,
     )?)
 }
 
@@ -367,10 +334,10 @@ fn two_cores_without_links(rt: HostRuntime) -> Result<(), Fail> {
         for plan in plans.as_slice() {
             for skip in [LINKS, BOTH] {
                 let found = found_in_two(&rt, rt.alloc(), later, skip, *plan)?;
-                assert_eq!(rt; found.leaked, leaked, "{later} by {plan:?}");
+                same_in(&rt, &(later, plan), found.leaked, leaked);
             }
             let found = found_in_two(&rt, rt.alloc(), later, Skip::none(), *plan)?;
-            assert_eq!(rt; found.leaked, 0, "{later} by {plan:?}");
+            same_in(&rt, &(later, plan), found.leaked, 0);
         }
     }
     Ok(())

@@ -1,10 +1,10 @@
 //! Reports of searches that leave out the words of freed memory.
 
+use crate::comparisons::same_in;
 use crate::plans::few_plans;
 use crate::samples::{Part, core_of};
-use leak_find::{Skip, find_alone, find_one, find_two};
-use leak_index::Reading;
-use leak_pool::Open;
+use crate::searches::{Way, alone, by_plan, of_two, reports};
+use leak_find::Skip;
 use std::test::Fail;
 
 /// A core and a log by name, and the report of a search that leaves out freed memory. Without that every block is marked.
@@ -108,18 +108,21 @@ fn words_of_freed_memory_hold_nothing(rt: HostRuntime) -> Result<(), Fail> {
         let core = core_of(rt.alloc(), case.core)?;
         let log = case.log.as_bytes();
         let name = case.name;
-        let found = find_alone(
-            rt.alloc(),
-            core.as_slice(),
-            log,
-            Reading::interior(),
-            FREED,
-            false,
-        )?;
-        assert_eq!(rt; found.report.as_slice(), case.report.as_bytes(), "{name}");
-        assert_eq!(rt; found.leaked, case.leaked, "{name}");
+        let found = alone(rt.alloc(), core.as_slice(), log, Way::skipping(FREED))?;
+        reports(&rt, &name, &found, case.report);
+        same_in(&rt, &name, found.leaked, case.leaked);
     }
     Ok(())
+}
+
+/// Whether the report ends with no leaked block and no head.
+fn ends_without_leaks(report: &[u8]) -> bool {
+    report.ends_with(b"leaked 0 bytes 0\nheads 0\n")
+}
+
+/// Whether a line of the report is of freed memory.
+fn tells_freed(report: &[u8]) -> bool {
+    report.windows(6).any(|part| part == b"freed ".as_slice())
 }
 
 #[test]
@@ -128,21 +131,11 @@ fn all_blocks_are_marked_with_freed_memory(rt: HostRuntime) -> Result<(), Fail> 
         let core = core_of(rt.alloc(), case.core)?;
         let log = case.log.as_bytes();
         let name = case.name;
-        let found = find_alone(
-            rt.alloc(),
-            core.as_slice(),
-            log,
-            Reading::interior(),
-            Skip::none(),
-            false,
-        )?;
+        let found = alone(rt.alloc(), core.as_slice(), log, Way::plain())?;
         let report = found.report.as_slice();
-        assert_eq!(rt; found.leaked, 0, "{name}");
-        assert!(rt; report.ends_with(b"leaked 0 bytes 0\nheads 0\n"), "{name}");
-        assert!(rt;
-            !report.windows(6).any(|part| part == b"freed ".as_slice()),
-            "{name}"
-        );
+        same_in(&rt, &name, found.leaked, 0);
+        same_in(&rt, &name, ends_without_leaks(report), true);
+        same_in(&rt, &name, tells_freed(report), false);
     }
     Ok(())
 }
@@ -155,22 +148,15 @@ fn workers_leave_out_freed_memory(rt: HostRuntime) -> Result<(), Fail> {
         let log = case.log.as_bytes();
         let name = case.name;
         for plan in plans.as_slice() {
-            let found = find_one(
+            let found = by_plan(
                 &rt,
                 rt.alloc(),
                 core.as_slice(),
                 log,
-                Reading::interior(),
-                FREED,
-                false,
+                Way::skipping(FREED),
                 *plan,
-                &Open,
             )?;
-            assert_eq!(rt;
-                found.report.as_slice(),
-                case.report.as_bytes(),
-                "{name} by {plan:?}"
-            );
+            reports(&rt, &(name, plan), &found, case.report);
         }
     }
     Ok(())
@@ -214,24 +200,15 @@ fn two_cores_without_freed_memory(rt: HostRuntime) -> Result<(), Fail> {
         let core2 = core_of(rt.alloc(), pair.core2)?;
         let name = pair.name;
         for plan in plans.as_slice() {
-            let found = find_two(
+            let found = of_two(
                 &rt,
                 rt.alloc(),
-                core1.as_slice(),
-                pair.log1.as_bytes(),
-                core2.as_slice(),
-                pair.log2.as_bytes(),
-                Reading::interior(),
-                FREED,
-                false,
+                (core1.as_slice(), pair.log1.as_bytes()),
+                (core2.as_slice(), pair.log2.as_bytes()),
+                Way::skipping(FREED),
                 *plan,
-                &Open,
             )?;
-            assert_eq!(rt;
-                found.report.as_slice(),
-                pair.report.as_bytes(),
-                "{name} by {plan:?}"
-            );
+            reports(&rt, &(name, plan), &found, pair.report);
         }
     }
     Ok(())

@@ -1,5 +1,6 @@
 //! Gates that many workers pass, and how often.
 
+use crate::comparisons::{same, same_in};
 use crate::hundreds::star;
 use crate::marking::{LONG_ROOTS, by_plan, long_chain, marked_count};
 use leak_pool::{Gate, Plan};
@@ -52,22 +53,14 @@ fn each_of_eight_workers_passes_once_for_each_item(rt: HostRuntime) -> Result<()
         // One word is one piece. The blocks pass no gate: the caller scans those that wait, alone in their rounds.
         let plan = Plan::new(8, 1, stack)?;
         let marked = by_plan(&rt, rt.alloc(), &sample, plan, &gate)?;
-        assert_eq!(rt; marked_count(&marked), 1200);
+        same(&rt, marked_count(&marked), 1200);
         let counts = gate.passes.iter().zip(gate.steps.iter());
         for (k, (passes, steps)) in counts.enumerate() {
             let k = k as u64;
             let items = (k + 1) * LONG_ROOTS / 8 - k * LONG_ROOTS / 8;
-            assert_eq!(rt;
-                passes.load(Ordering::SeqCst),
-                items,
-                "worker {k}, stack {stack}"
-            );
+            same_in(&rt, &(k, stack), passes.load(Ordering::SeqCst), items);
             let sum = items * (items - 1) / 2;
-            assert_eq!(rt;
-                steps.load(Ordering::SeqCst),
-                sum,
-                "worker {k}, stack {stack}"
-            );
+            same_in(&rt, &(k, stack), steps.load(Ordering::SeqCst), sum);
         }
     }
     Ok(())
@@ -132,11 +125,11 @@ fn four_workers_pass_at_the_same_time(rt: HostRuntime) -> Result<(), Fail> {
             };
             let plan = Plan::new(4, 1, stack)?;
             let marked = by_plan(&rt, rt.alloc(), &sample, plan, &gate)?;
-            assert_eq!(rt; gate.late.load(Ordering::SeqCst), 0);
+            same(&rt, gate.late.load(Ordering::SeqCst), 0);
             for come in gate.come.iter() {
-                assert_eq!(rt; come.load(Ordering::SeqCst), 1);
+                same(&rt, come.load(Ordering::SeqCst), 1);
             }
-            assert_eq!(rt; marked_count(&marked), 101);
+            same(&rt, marked_count(&marked), 101);
         }
     }
     Ok(())

@@ -1,11 +1,11 @@
 //! Which leaked blocks are heads, in one core and in two.
 
+use crate::comparisons::{same, same_in};
 use crate::pair_reports::TWO_BLOCKS;
 use crate::plans::plans;
 use crate::samples::{Part, core_of};
-use leak_find::{Skip, find_alone, find_one, find_two};
+use crate::searches::{Way, alone, by_plan, of_two, reports};
 use leak_index::Reading;
-use leak_pool::Open;
 use std::test::Fail;
 
 /// The first block leads to the second and to itself, and the third stands alone.
@@ -53,31 +53,13 @@ fn reports_of_one_core_tell_heads(rt: HostRuntime) -> Result<(), Fail> {
         let core = core_of(rt.alloc(), parts)?;
         let core = core.as_slice();
         let log = log.as_bytes();
-        let alone = find_alone(
-            rt.alloc(),
-            core,
-            log,
-            Reading::interior(),
-            Skip::none(),
-            false,
-        )?;
-        assert_eq!(rt; alone.report.as_slice(), report.as_bytes());
+        let alone = alone(rt.alloc(), core, log, Way::plain())?;
+        reports(&rt, &"alone", &alone, report);
         assert!(rt; alone.leaked > 0);
         for plan in plans.as_slice() {
-            let reading = Reading::interior();
-            let found = find_one(
-                &rt,
-                rt.alloc(),
-                core,
-                log,
-                reading,
-                Skip::none(),
-                false,
-                *plan,
-                &Open,
-            )?;
-            assert_eq!(rt; found.report.as_slice(), report.as_bytes(), "by {plan:?}");
-            assert_eq!(rt; found.leaked, alone.leaked, "by {plan:?}");
+            let found = by_plan(&rt, rt.alloc(), core, log, Way::plain(), *plan)?;
+            reports(&rt, &plan, &found, report);
+            same_in(&rt, &plan, found.leaked, alone.leaked);
         }
     }
     Ok(())
@@ -88,14 +70,7 @@ fn heads_are_those_of_the_reading(rt: HostRuntime) -> Result<(), Fail> {
     let core = core_of(rt.alloc(), &PAST_THE_END)?;
     let reading = Reading::displaced(&[8])?;
     let log = TWO_BLOCKS.as_bytes();
-    let found = find_alone(
-        rt.alloc(),
-        core.as_slice(),
-        log,
-        reading,
-        Skip::none(),
-        false,
-    )?;
+    let found = alone(rt.alloc(), core.as_slice(), log, Way::reading(reading))?;
     let wanted = "blocks 2 bytes 48\n\
                   undumped 0\n\
                   unknown 0 displaced 0 torn 0\n\
@@ -105,7 +80,7 @@ fn heads_are_those_of_the_reading(rt: HostRuntime) -> Result<(), Fail> {
                   caller 2 48 2 ?\n\
                   leak 0x10100 32 1 head ?\n\
                   leak 0x10200 16 2 head ?\n";
-    assert_eq!(rt; found.report.as_slice(), wanted.as_bytes());
+    reports(&rt, &"displaced", &found, wanted);
     Ok(())
 }
 
@@ -132,23 +107,18 @@ fn heads_of_two_cores_are_those_of_the_later(rt: HostRuntime) -> Result<(), Fail
     let log = TWO_BLOCKS.as_bytes();
     for (first, second, wanted) in cases {
         for plan in plans.as_slice() {
-            let found = find_two(
+            let found = of_two(
                 &rt,
                 rt.alloc(),
-                first.as_slice(),
-                log,
-                second.as_slice(),
-                log,
-                Reading::interior(),
-                Skip::none(),
-                false,
+                (first.as_slice(), log),
+                (second.as_slice(), log),
+                Way::plain(),
                 *plan,
-                &Open,
             )?;
             let report = found.report.as_slice();
             assert!(rt; report.starts_with(FRONT.as_bytes()), "by {plan:?}");
             assert!(rt; report.ends_with(wanted.as_bytes()), "by {plan:?}");
-            assert_eq!(rt; report.len(), FRONT.len() + wanted.len(), "by {plan:?}");
+            same_in(&rt, &plan, report.len(), FRONT.len() + wanted.len());
         }
     }
     Ok(())

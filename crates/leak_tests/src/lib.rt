@@ -3,9 +3,17 @@
 //! A sample is named for what it is about, and docs/EXAMPLES.md has its input and its report, worked out by hand.
 #![tactic(auto)]
 
+// Comparisons that end a test.
+#[cfg(test)]
+mod comparisons;
+
 // Cores and logs from named parts.
 #[cfg(test)]
 mod samples;
+
+// Searches and runs in few words.
+#[cfg(test)]
+mod searches;
 
 // The table of examples: a core, a log and the report that they give.
 #[cfg(test)]

@@ -1,6 +1,7 @@
 //! Marking by links, with room for all of them, for fewer, and for none: the same marks, claims and rounds.
 
 use crate::claims::hold_each_once;
+use crate::comparisons::{same, same_in};
 use crate::hundreds::{Sample, chain, star};
 use crate::marking::{by_links, marked_count};
 use crate::samples::core_of;
@@ -15,14 +16,14 @@ fn links_of_a_chain(rt: HostRuntime) -> Result<(), Fail> {
         for (workers, stack, rounds) in [(1, 0, 101), (1, 1, 1), (3, 0, 101), (64, 65_536, 1)] {
             let plan = Plan::new(workers, 1, stack)?;
             let marked = by_links(&rt, rt.alloc(), &sample, plan, room)?;
-            assert_eq!(rt; marked_count(&marked), 100, "{room} by {plan:?}");
-            assert_eq!(rt; marked.claims.len(), workers as usize, "{room} by {plan:?}");
+            same_in(&rt, &(room, plan), marked_count(&marked), 100);
+            same_in(&rt, &(room, plan), marked.claims.len(), workers as usize);
             let claims = marked.claims.as_slice();
             assert!(rt;
                 hold_each_once(rt.alloc(), claims, 100)?,
                 "{room} by {plan:?}"
             );
-            assert_eq!(rt; marked.rounds, rounds, "{room} by {plan:?}");
+            same_in(&rt, &(room, plan), marked.rounds, rounds);
         }
     }
     Ok(())
@@ -36,13 +37,13 @@ fn links_of_a_star(rt: HostRuntime) -> Result<(), Fail> {
         for (workers, stack, rounds) in [(1, 0, 4), (1, 1, 3), (3, 1, 3), (64, 65_536, 1)] {
             let plan = Plan::new(workers, 65_536, stack)?;
             let marked = by_links(&rt, rt.alloc(), &sample, plan, room)?;
-            assert_eq!(rt; marked_count(&marked), 101, "{room} by {plan:?}");
+            same_in(&rt, &(room, plan), marked_count(&marked), 101);
             let claims = marked.claims.as_slice();
             assert!(rt;
                 hold_each_once(rt.alloc(), claims, 101)?,
                 "{room} by {plan:?}"
             );
-            assert_eq!(rt; marked.rounds, rounds, "{room} by {plan:?}");
+            same_in(&rt, &(room, plan), marked.rounds, rounds);
         }
     }
     Ok(())
@@ -58,8 +59,8 @@ fn links_of_no_block(rt: HostRuntime) -> Result<(), Fail> {
         let plan = Plan::new(workers, 512, 1024)?;
         let marked = by_links(&rt, rt.alloc(), &sample, plan, 1000)?;
         assert!(rt; marked.set.is_empty());
-        assert_eq!(rt; marked.claims.len(), workers as usize);
-        assert_eq!(rt; marked.rounds, 0);
+        same(&rt, marked.claims.len(), workers as usize);
+        same(&rt, marked.rounds, 0);
     }
     Ok(())
 }

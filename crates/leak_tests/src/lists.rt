@@ -1,14 +1,9 @@
 //! Lists of claims are those of the workers that claimed: no list is dealt out afterwards.
 
-use crate::samples::{Part, core_of};
-use leak_blocks::{SmallSpans, replay};
-use leak_elf::Image;
-use leak_find::{Skip, find_one, find_two};
+use crate::samples::{Part, Scene, core_of, scene_of};
+use crate::searches::{Way, by_plan, of_two};
 use leak_index::{Reading, Sorted};
-use leak_mtrace::Log;
-use leak_notes::Threads;
 use leak_pool::{Open, Plan, mark};
-use leak_roots::Roots;
 use std::test::Fail;
 
 /// A word in the first half of the roots leads to the first block, and the last word of all to the second.
@@ -32,25 +27,17 @@ fn a_search_of_one_core_has_the_lists_of_marking(rt: HostRuntime) -> Result<(), 
     let alloc = rt.alloc();
     let core = core_of(alloc, &APART)?;
     let plan = Plan::new(2, 1, 0)?;
-    let image = Image::read(alloc, core.as_slice())?;
-    let threads = Threads::read(alloc, &image)?;
-    let log = Log::read(alloc, BLOCKS.as_bytes())?;
-    let live = replay(alloc, &log)?;
-    let small = SmallSpans::none(alloc);
-    let roots = Roots::find(alloc, &image, &threads, &live, &small)?;
+    let Scene { image, live, roots } = scene_of(alloc, core.as_slice(), BLOCKS)?;
     let lookup = Sorted::new(&live, Reading::interior());
     let marked = mark(&rt, alloc, &image, &lookup, &roots, &live, plan, &Open)?;
     assert!(rt; are_apart(marked.claims.as_slice()));
-    let found = find_one(
+    let found = by_plan(
         &rt,
         alloc,
         core.as_slice(),
         BLOCKS.as_bytes(),
-        Reading::interior(),
-        Skip::none(),
-        false,
+        Way::plain(),
         plan,
-        &Open,
     )?;
     assert!(rt; are_apart(found.claims.as_slice()));
     Ok(())
@@ -61,18 +48,13 @@ fn a_search_of_two_cores_has_the_lists_of_the_second_marking(rt: HostRuntime) ->
     let alloc = rt.alloc();
     let earlier = core_of(alloc, &[])?;
     let later = core_of(alloc, &APART)?;
-    let found = find_two(
+    let found = of_two(
         &rt,
         alloc,
-        earlier.as_slice(),
-        BLOCKS.as_bytes(),
-        later.as_slice(),
-        BLOCKS.as_bytes(),
-        Reading::interior(),
-        Skip::none(),
-        false,
+        (earlier.as_slice(), BLOCKS.as_bytes()),
+        (later.as_slice(), BLOCKS.as_bytes()),
+        Way::plain(),
         Plan::new(2, 1, 0)?,
-        &Open,
     )?;
     assert!(rt; are_apart(found.claims.as_slice()));
     Ok(())

@@ -1,25 +1,19 @@
 //! Marking without a report: the marked blocks, the lists of claims and the rounds.
 
 use crate::hundreds::Sample;
-use crate::samples::{core_of, set, set_word};
-use leak_blocks::{SmallSpans, replay};
-use leak_elf::Image;
+use crate::samples::{Scene, core_of, scene_of, set, set_word};
 use leak_index::{Reading, Sorted};
-use leak_mtrace::Log;
-use leak_notes::Threads;
 use leak_pool::{Gate, Marked, Open, Plan, mark, mark_alone, mark_by_links};
-use leak_roots::Roots;
 use std::alloc::Global;
 use std::test::Fail;
 
 /// Marks a sample on the caller's thread.
 pub fn alone(alloc: Global, sample: &Sample) -> Result<Marked, Fail> {
-    let image = Image::read(alloc, sample.core.as_slice())?;
-    let threads = Threads::read(alloc, &image)?;
-    let log = Log::read(alloc, sample.log.as_bytes())?;
-    let live = replay(alloc, &log)?;
-    let small = SmallSpans::none(alloc);
-    let roots = Roots::find(alloc, &image, &threads, &live, &small)?;
+    let Scene { image, live, roots } = scene_of(
+        alloc,
+        sample.core.as_slice(),
+        sample.log.as_str(),
+    )?;
     let lookup = Sorted::new(&live, Reading::interior());
     Ok(mark_alone(alloc, &image, &lookup, &roots, &live)?)
 }
@@ -32,12 +26,11 @@ pub fn by_plan<R: std::thread::Threads + Sync, G: Gate + Sync>(
     plan: Plan,
     gate: &G,
 ) -> Result<Marked, Fail> {
-    let image = Image::read(alloc, sample.core.as_slice())?;
-    let threads = Threads::read(alloc, &image)?;
-    let log = Log::read(alloc, sample.log.as_bytes())?;
-    let live = replay(alloc, &log)?;
-    let small = SmallSpans::none(alloc);
-    let roots = Roots::find(alloc, &image, &threads, &live, &small)?;
+    let Scene { image, live, roots } = scene_of(
+        alloc,
+        sample.core.as_slice(),
+        sample.log.as_str(),
+    )?;
     let lookup = Sorted::new(&live, Reading::interior());
     Ok(mark(rt, alloc, &image, &lookup, &roots, &live, plan, gate)?)
 }
@@ -50,12 +43,11 @@ pub fn by_links<R: std::thread::Threads + Sync>(
     plan: Plan,
     room: usize,
 ) -> Result<Marked, Fail> {
-    let image = Image::read(alloc, sample.core.as_slice())?;
-    let threads = Threads::read(alloc, &image)?;
-    let log = Log::read(alloc, sample.log.as_bytes())?;
-    let live = replay(alloc, &log)?;
-    let small = SmallSpans::none(alloc);
-    let roots = Roots::find(alloc, &image, &threads, &live, &small)?;
+    let Scene { image, live, roots } = scene_of(
+        alloc,
+        sample.core.as_slice(),
+        sample.log.as_str(),
+    )?;
     let lookup = Sorted::new(&live, Reading::interior());
     Ok(mark_by_links(rt, alloc, &image, &lookup, &roots, &live, plan, &Open, room)?)
 }

@@ -2,9 +2,7 @@
 
 use crate::plans::few_plans;
 use crate::samples::{Part, core_of};
-use leak_find::{Skip, find_alone, find_one, find_two};
-use leak_index::Reading;
-use leak_pool::Open;
+use crate::searches::{Way, alone, by_plan, of_two, reports};
 use std::alloc::Global;
 use std::test::Fail;
 
@@ -188,21 +186,15 @@ fn a_block_without_a_chunk_is_a_misfit(rt: HostRuntime) -> Result<(), Fail> {
     for case in &CASES {
         let core = core_of(rt.alloc(), case.core)?;
         for check in [false, true] {
-            let found = find_alone(
+            let found = alone(
                 rt.alloc(),
                 core.as_slice(),
                 case.log.as_bytes(),
-                Reading::interior(),
-                Skip::none(),
-                check,
+                Way::checking(check),
             )?;
             let wanted = report_of(rt.alloc(), case, check)?;
             let name = case.name;
-            assert_eq!(rt;
-                found.report.as_slice(),
-                wanted.as_str().as_bytes(),
-                "{name}"
-            );
+            reports(&rt, &name, &found, wanted.as_str());
         }
     }
     Ok(())
@@ -239,18 +231,15 @@ fn workers_tell_misfits(rt: HostRuntime) -> Result<(), Fail> {
         ],
     )?;
     for plan in few_plans(rt.alloc())?.as_slice() {
-        let found = find_one(
+        let found = by_plan(
             &rt,
             rt.alloc(),
             core.as_slice(),
             THREE_BLOCKS.as_bytes(),
-            Reading::interior(),
-            Skip::none(),
-            true,
+            Way::checking(true),
             *plan,
-            &Open,
         )?;
-        assert_eq!(rt; found.report.as_slice(), TWO_MISFITS.as_bytes(), "{plan:?}");
+        reports(&rt, &plan, &found, TWO_MISFITS);
     }
     Ok(())
 }
@@ -274,21 +263,15 @@ fn two_cores_tell_misfits_of_the_second(rt: HostRuntime) -> Result<(), Fail> {
     let core1 = core_of(rt.alloc(), &[])?;
     let core2 = core_of(rt.alloc(), &CHUNK)?;
     for plan in few_plans(rt.alloc())?.as_slice() {
-        let found = find_two(
+        let found = of_two(
             &rt,
             rt.alloc(),
-            core1.as_slice(),
-            b"+ 0x10100 0x20\n",
-            core2.as_slice(),
-            b"+ 0x10100 0x20\n+ 0x10200 0x10\n",
-            Reading::interior(),
-            Skip::none(),
-            true,
+            (core1.as_slice(), b"+ 0x10100 0x20\n"),
+            (core2.as_slice(), b"+ 0x10100 0x20\n+ 0x10200 0x10\n"),
+            Way::checking(true),
             *plan,
-            &Open,
         )?;
-        let wanted = MISFIT_OF_THE_SECOND.as_bytes();
-        assert_eq!(rt; found.report.as_slice(), wanted, "{plan:?}");
+        reports(&rt, &plan, &found, MISFIT_OF_THE_SECOND);
     }
     Ok(())
 }

@@ -1,5 +1,6 @@
 //! Reading an input to its end, from readers that are long, fail or are interrupted.
 
+use crate::comparisons::{same, same_in};
 use crate::examples::ONE_BLOCK;
 use crate::fakes::{Endless, Source};
 use leak_find::{ReadFault, read_all};
@@ -9,10 +10,10 @@ use std::test::Fail;
 fn as_many_bytes_as_the_limit_are_read(rt: HostRuntime) -> Result<(), Fail> {
     let mut five: &[u8] = b"abcde";
     let read = read_all(rt.alloc(), &mut five, 5)?;
-    assert_eq!(rt; read.as_slice(), b"abcde".as_slice());
+    same(&rt, read.as_slice(), b"abcde".as_slice());
     let mut none: &[u8] = b"";
     let read = read_all(rt.alloc(), &mut none, 0)?;
-    assert_eq!(rt; read.as_slice(), b"".as_slice());
+    same(&rt, read.as_slice(), b"".as_slice());
     Ok(())
 }
 
@@ -20,12 +21,12 @@ fn as_many_bytes_as_the_limit_are_read(rt: HostRuntime) -> Result<(), Fail> {
 fn one_byte_over_the_limit_is_taken_and_no_more(rt: HostRuntime) -> Result<(), Fail> {
     let mut five: &[u8] = b"abcde";
     let result = read_all(rt.alloc(), &mut five, 4);
-    assert_eq!(rt; result.err(), Some(ReadFault::TooLong));
-    assert_eq!(rt; five, b"".as_slice());
+    same(&rt, result.err(), Some(ReadFault::TooLong));
+    same(&rt, five, b"".as_slice());
     let mut endless = Endless { taken: 0 };
     let result = read_all(rt.alloc(), &mut endless, 5);
-    assert_eq!(rt; result.err(), Some(ReadFault::TooLong));
-    assert_eq!(rt; endless.taken, 6);
+    same(&rt, result.err(), Some(ReadFault::TooLong));
+    same(&rt, endless.taken, 6);
     Ok(())
 }
 
@@ -36,16 +37,12 @@ fn a_read_that_fails_is_a_fault_of_the_device(rt: HostRuntime) -> Result<(), Fai
         let source = Source::slow(rt.alloc(), ONE_BLOCK.as_bytes(), 12)?;
         let mut source = source.failing_after(reads);
         let result = read_all(rt.alloc(), &mut source, 36);
-        assert_eq!(rt;
-            result.err(),
-            Some(ReadFault::Device),
-            "after {reads} reads"
-        );
+        same_in(&rt, &reads, result.err(), Some(ReadFault::Device));
     }
     let source = Source::slow(rt.alloc(), ONE_BLOCK.as_bytes(), 12)?;
     let mut source = source.failing_after(4);
     let read = read_all(rt.alloc(), &mut source, 36)?;
-    assert_eq!(rt; read.as_slice(), ONE_BLOCK.as_bytes());
+    same(&rt, read.as_slice(), ONE_BLOCK.as_bytes());
     Ok(())
 }
 
@@ -53,10 +50,10 @@ fn a_read_that_fails_is_a_fault_of_the_device(rt: HostRuntime) -> Result<(), Fai
 fn interrupted_reads_are_counted(rt: HostRuntime) -> Result<(), Fail> {
     let mut patient = Source::of(rt.alloc(), b"abcde")?.interrupted(999_999);
     let read = read_all(rt.alloc(), &mut patient, 5)?;
-    assert_eq!(rt; read.as_slice(), b"abcde".as_slice());
+    same(&rt, read.as_slice(), b"abcde".as_slice());
     let mut restless = Source::of(rt.alloc(), b"abcde")?.interrupted(1_000_000);
     let result = read_all(rt.alloc(), &mut restless, 5);
-    assert_eq!(rt; result.err(), Some(ReadFault::TooManyTurns));
-    assert_eq!(rt; restless.left(), 5);
+    same(&rt, result.err(), Some(ReadFault::TooManyTurns));
+    same(&rt, restless.left(), 5);
     Ok(())
 }

@@ -1,10 +1,11 @@
 //! Cores and logs that are refused, and which refusal comes first.
 
+use crate::comparisons::{same, same_in};
 use crate::examples::{NOTHING, ONE_BLOCK};
 use crate::samples::{Part, core_of, set};
+use crate::searches::{Way, alone, reports};
 use leak_elf::ElfError;
-use leak_find::{FindError, Skip, find_alone};
-use leak_index::Reading;
+use leak_find::FindError;
 use leak_mtrace::LogError;
 use leak_notes::NoteError;
 use std::alloc::Global;
@@ -15,15 +16,7 @@ const BAD_LINE: &str = "+ 0x10100\n";
 
 /// Why the core and the log give no report.
 fn refusal(alloc: Global, core: &[u8], log: &str) -> Option<FindError> {
-    find_alone(
-        alloc,
-        core,
-        log.as_bytes(),
-        Reading::interior(),
-        Skip::none(),
-        false,
-    )
-    .err()
+    alone(alloc, core, log.as_bytes(), Way::plain()).err()
 }
 
 /// Why the sample core with the parts and the log give no report.
@@ -48,10 +41,11 @@ fn a_core_that_is_cut_short_is_refused(rt: HostRuntime) -> Result<(), Fail> {
     for len in (0..8192).rev() {
         core.truncate(len);
         let wanted = Some(FindError::Core(1, fault_of_first(len)));
-        assert_eq!(rt;
+        same_in(
+            &rt,
+            &len,
             refusal(rt.alloc(), core.as_slice(), ONE_BLOCK),
             wanted,
-            "of {len} bytes"
         );
     }
     Ok(())
@@ -67,11 +61,7 @@ fn notes_that_are_cut_short_are_refused(rt: HostRuntime) -> Result<(), Fail> {
             _ => Some(NoteError::Cut(532)),
         };
         let refused = refusal_with(rt.alloc(), &[Part::Notes(len)], ONE_BLOCK)?;
-        assert_eq!(rt;
-            refused,
-            wanted.map(|e| FindError::Notes(1, e)),
-            "of {len} bytes"
-        );
+        same_in(&rt, &len, refused, wanted.map(|e| FindError::Notes(1, e)));
     }
     Ok(())
 }
@@ -88,21 +78,10 @@ fn a_log_that_is_cut_short_is_torn(rt: HostRuntime) -> Result<(), Fail> {
     let mut log = Vec::from_slice(rt.alloc(), ONE_BLOCK.as_bytes())?;
     for len in (0..ONE_BLOCK.len()).rev() {
         log.truncate(len);
-        let found = find_alone(
-            rt.alloc(),
-            core.as_slice(),
-            log.as_slice(),
-            Reading::interior(),
-            Skip::none(),
-            false,
-        )?;
+        let found = alone(rt.alloc(), core.as_slice(), log.as_slice(), Way::plain())?;
         let wanted = if len == 0 { NOTHING } else { torn };
-        assert_eq!(rt;
-            found.report.as_slice(),
-            wanted.as_bytes(),
-            "of {len} bytes"
-        );
-        assert_eq!(rt; found.leaked, 0, "of {len} bytes");
+        reports(&rt, &len, &found, wanted);
+        same_in(&rt, &len, found.leaked, 0);
     }
     Ok(())
 }
@@ -113,20 +92,20 @@ fn the_first_fault_is_answered(rt: HostRuntime) -> Result<(), Fail> {
     let mut core = core_of(rt.alloc(), &[Part::OtherNote])?;
     set(&mut core, 0, &[0]);
     let refused = refusal(rt.alloc(), core.as_slice(), BAD_LINE);
-    assert_eq!(rt; refused, Some(FindError::Core(1, ElfError::Magic)));
+    same(&rt, refused, Some(FindError::Core(1, ElfError::Magic)));
     // The notes and the log are.
     let refused = refusal_with(rt.alloc(), &[Part::OtherNote], BAD_LINE)?;
-    assert_eq!(rt; refused, Some(FindError::Notes(1, NoteError::NoThread)));
+    same(&rt, refused, Some(FindError::Notes(1, NoteError::NoThread)));
     // The log is, at two lines.
     let log = "+ 0x10100 0x20\n- 0x10100 \n+ 0xfffffffffffffff0 0x10\n";
     let refused = refusal_with(rt.alloc(), &[], log)?;
-    assert_eq!(rt; refused, Some(FindError::Log(1, LogError::BadLine(2))));
+    same(&rt, refused, Some(FindError::Log(1, LogError::BadLine(2))));
     Ok(())
 }
 
 #[test]
 fn a_block_past_the_top_of_memory_is_refused(rt: HostRuntime) -> Result<(), Fail> {
     let refused = refusal_with(rt.alloc(), &[], "+ 0xfffffffffffffff0 0x10\n")?;
-    assert_eq!(rt; refused, Some(FindError::Log(1, LogError::Extent(1))));
+    same(&rt, refused, Some(FindError::Log(1, LogError::Extent(1))));
     Ok(())
 }

@@ -1,13 +1,15 @@
 //! Two cores and their logs that are refused, and which refusal comes first.
 
+use crate::comparisons::same_in;
 use crate::examples::ONE_BLOCK;
 use crate::samples::{Part, core_of, set};
+use crate::searches::{Way, of_two};
 use leak_elf::ElfError;
-use leak_find::{FindError, Skip, find_two};
+use leak_find::FindError;
 use leak_index::Reading;
 use leak_mtrace::LogError;
 use leak_notes::NoteError;
-use leak_pool::{Open, Plan};
+use leak_pool::Plan;
 use std::alloc::Global;
 use std::test::Fail;
 use std::thread::Threads;
@@ -38,18 +40,13 @@ fn refusal<R: Threads + Sync>(
     let (core2, log2) = second;
     let reading = Reading::interior();
     let plan = Plan::new(workers, 512, 1024)?;
-    let result = find_two(
+    let result = of_two(
         rt,
         alloc,
-        core1,
-        log1,
-        core2,
-        log2,
-        reading,
-        Skip::none(),
-        false,
+        (core1, log1),
+        (core2, log2),
+        Way::reading(reading),
         plan,
-        &Open,
     );
     Ok(result.err())
 }
@@ -98,7 +95,7 @@ fn the_first_fault_is_answered(rt: HostRuntime) -> Result<(), Fail> {
         let wanted = FAULTS.get(faults.trailing_zeros() as usize).copied();
         for workers in WORKERS {
             let refused = refusal(&rt, rt.alloc(), first, second, workers)?;
-            assert_eq!(rt; refused, wanted, "of {faults:b} by {workers} workers");
+            same_in(&rt, &(faults, workers), refused, wanted);
         }
     }
     Ok(())
@@ -143,7 +140,7 @@ fn either_input_is_refused(rt: HostRuntime) -> Result<(), Fail> {
                     1 => refusal(&rt, rt.alloc(), bad, good, workers)?,
                     _ => refusal(&rt, rt.alloc(), good, bad, workers)?,
                 };
-                assert_eq!(rt; refused, Some(wanted), "by {workers} workers");
+                same_in(&rt, &workers, refused, Some(wanted));
             }
         }
     }
@@ -173,11 +170,7 @@ fn a_log_that_does_not_begin_the_other_is_refused(rt: HostRuntime) -> Result<(),
         let second = (core, log2.as_bytes());
         for workers in WORKERS {
             let refused = refusal(&rt, rt.alloc(), first, second, workers)?;
-            assert_eq!(rt;
-                refused,
-                Some(FindError::NotPrefix),
-                "{log1} by {workers} workers"
-            );
+            same_in(&rt, &(log1, workers), refused, Some(FindError::NotPrefix));
         }
     }
     Ok(())

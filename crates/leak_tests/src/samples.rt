@@ -1,6 +1,10 @@
 //! Cores and logs from named parts.
 
-use leak_elf::core_k;
+use leak_blocks::{Live, SmallSpans, replay};
+use leak_elf::{Image, core_k};
+use leak_mtrace::Log;
+use leak_notes::Threads;
+use leak_roots::Roots;
 use std::alloc::Global;
 use std::test::Fail;
 
@@ -67,4 +71,23 @@ fn set_part(core: &mut Vec<u8>, part: Part) {
         Part::OtherNote => set(core, 184, &[6]),
         Part::Cut => core.truncate(8191),
     }
+}
+
+/// What marking asks of a core and a log.
+#[derive(Drop)]
+pub struct Scene<'a> {
+    pub image: Image<'a>,
+    pub live: Live,
+    pub roots: Roots,
+}
+
+/// Reads a core and a log, with all root words.
+pub fn scene_of<'a>(alloc: Global, core: &'a [u8], log: &str) -> Result<Scene<'a>, Fail> {
+    let image = Image::read(alloc, core)?;
+    let threads = Threads::read(alloc, &image)?;
+    let log = Log::read(alloc, log.as_bytes())?;
+    let live = replay(alloc, &log)?;
+    let small = SmallSpans::none(alloc);
+    let roots = Roots::find(alloc, &image, &threads, &live, &small)?;
+    Ok(Scene { image, live, roots })
 }

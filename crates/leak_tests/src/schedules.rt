@@ -1,8 +1,10 @@
 //! Schedules that a gate forces on the workers.
 
 use crate::claims::hold_each_once;
+use crate::comparisons::same_in;
 use crate::hundreds::{CHAIN, chain};
 use crate::samples::core_of;
+use crate::searches::reports;
 use crate::two_cores::with_lines;
 use leak_find::{Skip, find_one, find_two};
 use leak_index::Reading;
@@ -72,21 +74,9 @@ fn either_of_two_workers_may_begin(rt: HostRuntime) -> Result<(), Fail> {
             plan,
             &gate,
         )?;
-        assert_eq!(rt;
-            gate.passed.load(Ordering::SeqCst),
-            1,
-            "worker {held} is held"
-        );
-        assert_eq!(rt;
-            gate.late.load(Ordering::SeqCst),
-            0,
-            "worker {held} is held"
-        );
-        assert_eq!(rt;
-            found.report.as_slice(),
-            CHAIN.as_bytes(),
-            "worker {held} is held"
-        );
+        same_in(&rt, &held, gate.passed.load(Ordering::SeqCst), 1);
+        same_in(&rt, &held, gate.late.load(Ordering::SeqCst), 0);
+        reports(&rt, &held, &found, CHAIN);
         assert!(rt; hold_each_once(rt.alloc(), found.claims.as_slice(), 100)?);
     }
     Ok(())
@@ -118,13 +108,9 @@ fn either_of_two_workers_may_begin_in_two_cores(rt: HostRuntime) -> Result<(), F
             plan,
             &gate,
         )?;
-        assert_eq!(rt; gate.passed.load(Ordering::SeqCst), 1, "{held}");
-        assert_eq!(rt; gate.late.load(Ordering::SeqCst), 0, "{held}");
-        assert_eq!(rt;
-            found.report.as_slice(),
-            wanted.as_bytes(),
-            "worker {held} is held"
-        );
+        same_in(&rt, &held, gate.passed.load(Ordering::SeqCst), 1);
+        same_in(&rt, &held, gate.late.load(Ordering::SeqCst), 0);
+        reports(&rt, &held, &found, wanted.as_str());
         assert!(rt; hold_each_once(alloc, found.claims.as_slice(), 100)?);
     }
     Ok(())

@@ -2,9 +2,11 @@
 
 ghost use Rattle.std.specs.Prelude.{◌≡◌, IfOk};
 
+use crate::comparisons::{same, same_in};
 use crate::examples::{LOST, ONE_BLOCK};
 use crate::fakes::{Sink, Taker, Turn};
 use crate::samples::{Part, core_of};
+use crate::searches::run_over;
 use leak_find::{Options, RunFault, Skip, run};
 use leak_index::Reading;
 use leak_pool::Plan;
@@ -122,24 +124,15 @@ fn each_sign_is_warned_of(rt: HostRuntime) -> Result<(), Fail> {
                 case.warnings
             };
             let mut readers = [core.as_slice(), case.log.as_bytes()];
-            let mut out: Vec<u8> = Vec::new(rt.alloc());
-            let mut warned: Vec<u8> = Vec::new(rt.alloc());
-            let status = run(
-                &rt,
-                rt.alloc(),
-                &mut readers,
-                &options,
-                &mut out,
-                &mut warned,
-            )?;
+            let ran = run_over(&rt, rt.alloc(), &mut readers, &options);
             let log = case.log;
-            assert_eq!(rt; warned.as_slice(), wanted.as_bytes(), "{log}");
+            same_in(&rt, &log, ran.warned.as_slice(), wanted.as_bytes());
             let as_wanted = if strict && !wanted.is_empty() {
                 3
             } else {
                 case.status
             };
-            assert_eq!(rt; status, as_wanted, "{log}");
+            same_in(&rt, &log, ran.answer, Ok(as_wanted));
         }
     }
     Ok(())
@@ -149,20 +142,11 @@ fn each_sign_is_warned_of(rt: HostRuntime) -> Result<(), Fail> {
 fn the_report_is_the_same_with_warnings(rt: HostRuntime) -> Result<(), Fail> {
     let core = core_of(rt.alloc(), &[])?;
     let mut readers = [core.as_slice(), ONE_BLOCK.as_bytes()];
-    let mut out: Vec<u8> = Vec::new(rt.alloc());
-    let mut warned: Vec<u8> = Vec::new(rt.alloc());
     let options = options(false, false, true)?;
-    let status = run(
-        &rt,
-        rt.alloc(),
-        &mut readers,
-        &options,
-        &mut out,
-        &mut warned,
-    )?;
-    assert_eq!(rt; out.as_slice(), LOST.as_bytes());
-    assert_eq!(rt; warned.as_slice(), MISFIT.as_bytes());
-    assert_eq!(rt; status, 3);
+    let ran = run_over(&rt, rt.alloc(), &mut readers, &options);
+    same(&rt, ran.out.as_slice(), LOST.as_bytes());
+    same(&rt, ran.warned.as_slice(), MISFIT.as_bytes());
+    same(&rt, ran.answer, Ok(3));
     Ok(())
 }
 
@@ -182,20 +166,12 @@ fn each_of_two_inputs_has_its_warnings(rt: HostRuntime) -> Result<(), Fail> {
     for (core1, core2, first, second) in cases {
         let log = ONE_BLOCK.as_bytes();
         let mut readers = [core1.as_slice(), log, core2.as_slice(), log];
-        let mut out: Vec<u8> = Vec::new(rt.alloc());
-        let mut warned: Vec<u8> = Vec::new(rt.alloc());
         let options = options(true, false, false)?;
-        run(
-            &rt,
-            rt.alloc(),
-            &mut readers,
-            &options,
-            &mut out,
-            &mut warned,
-        )?;
+        let ran = run_over(&rt, rt.alloc(), &mut readers, &options);
         let mut wanted = Vec::from_slice(rt.alloc(), first.as_bytes())?;
         wanted.extend_from_slice(second.as_bytes())?;
-        assert_eq!(rt; warned.as_slice(), wanted.as_slice());
+        same(&rt, ran.warned.as_slice(), wanted.as_slice());
+        same(&rt, ran.answer, Ok(1));
     }
     Ok(())
 }
@@ -216,9 +192,9 @@ fn a_writer_that_takes_no_warning_loses_no_report(rt: HostRuntime) -> Result<(),
             &mut out,
             &mut warned,
         )?;
-        assert_eq!(rt; out.as_slice(), LOST.as_bytes());
-        assert_eq!(rt; status, 3);
-        assert_eq!(rt; warned.held.len(), room);
+        same(&rt, out.as_slice(), LOST.as_bytes());
+        same(&rt, status, 3);
+        same(&rt, warned.held.len(), room);
         assert!(rt; MISFIT.as_bytes().starts_with(warned.held.as_slice()));
     }
     Ok(())

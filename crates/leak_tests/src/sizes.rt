@@ -1,13 +1,12 @@
 //! Inputs larger than the samples: a call that has memory does not answer that it wants some.
 
-use crate::samples::{core_of, set};
-use leak_blocks::{Live, SmallSpans, replay};
-use leak_elf::Image;
+use crate::comparisons::same;
+use crate::samples::{core_of, scene_of, set};
+use leak_blocks::{Live, replay};
 use leak_index::{Hits, Lookup, Paged, Reading};
 use leak_marks::{Claims, Marks};
 use leak_mtrace::Log;
-use leak_notes::Threads;
-use leak_roots::{Piece, Roots};
+use leak_roots::Piece;
 use std::alloc::Global;
 use std::test::Fail;
 
@@ -44,14 +43,11 @@ fn live_of(alloc: Global, log: &str) -> Result<Live, Fail> {
 fn four_thousand_ranges_of_roots_are_cut(rt: HostRuntime) -> Result<(), Fail> {
     let alloc = rt.alloc();
     let core = wide_core(alloc)?;
-    let image = Image::read(alloc, core.as_slice())?;
-    let threads = Threads::read(alloc, &image)?;
-    let live = live_of(alloc, row_of_blocks(alloc, 4096, 8, 16)?.as_str())?;
-    let small = SmallSpans::none(alloc);
-    let roots = Roots::find(alloc, &image, &threads, &live, &small)?;
-    assert_eq!(rt; roots.memory().len(), 4096);
+    let log = row_of_blocks(alloc, 4096, 8, 16)?;
+    let roots = scene_of(alloc, core.as_slice(), log.as_str())?.roots;
+    same(&rt, roots.memory().len(), 4096);
     let pieces = roots.cut(alloc, 1)?;
-    assert_eq!(rt; pieces.len(), 4123);
+    same(&rt, pieces.len(), 4123);
     assert!(rt; matches!(pieces.last(), Some(Piece::Memory(0x1fff8, 0x20000))));
     Ok(())
 }
@@ -63,8 +59,8 @@ fn five_thousand_pages_are_listed(rt: HostRuntime) -> Result<(), Fail> {
     let lookup = Paged::new(alloc, &live, Reading::interior())?;
     for block in 0..5000usize {
         let start = 0x10000u64.wrapping_add((block as u64).wrapping_mul(8192));
-        assert_eq!(rt; lookup.hits(start), Hits::One(block));
-        assert_eq!(rt; lookup.hits(start.wrapping_add(17)), Hits::Zero);
+        same(&rt, lookup.hits(start), Hits::One(block));
+        same(&rt, lookup.hits(start.wrapping_add(17)), Hits::Zero);
     }
     Ok(())
 }
@@ -75,7 +71,7 @@ fn claims_of_up_to_a_hundred_workers(rt: HostRuntime) -> Result<(), Fail> {
         let mut claims = Claims::new(rt.alloc(), 1000, workers)?;
         assert!(rt; claims.attempt(workers - 1, 999));
         assert!(rt; !claims.attempt(0, 999));
-        assert_eq!(rt; claims.claims(workers - 1), [999u32].as_slice());
+        same(&rt, claims.claims(workers - 1), [999u32].as_slice());
     }
     Ok(())
 }
@@ -85,7 +81,7 @@ fn marks_of_a_hundred_million_blocks(rt: HostRuntime) -> Result<(), Fail> {
     let (marks, mut seat) = Marks::new(rt.alloc(), 100_000_000)?;
     assert!(rt; marks.claim(&mut seat, 99_999_999));
     let words = marks.close(rt.alloc(), seat)?;
-    assert_eq!(rt; words.len(), 1_562_500);
-    assert_eq!(rt; words.last(), Some(&(1 << 63)));
+    same(&rt, words.len(), 1_562_500);
+    same(&rt, words.last(), Some(&(1 << 63)));
     Ok(())
 }

@@ -1,6 +1,7 @@
 //! Rounds of marking, by the number of entries in a worker's stack.
 
 use crate::claims::hold_each_once;
+use crate::comparisons::{same, same_in};
 use crate::hundreds::{chain, star};
 use crate::marking::{LONG, alone, by_plan, long_chain, marked_count};
 use leak_pool::{Open, Plan};
@@ -9,18 +10,18 @@ use std::test::Fail;
 #[test]
 fn one_thread_makes_a_round_for_each_block_of_a_chain(rt: HostRuntime) -> Result<(), Fail> {
     let marked = alone(rt.alloc(), &chain(rt.alloc())?)?;
-    assert_eq!(rt; marked.set.len(), 100);
-    assert_eq!(rt; marked_count(&marked), 100);
+    same(&rt, marked.set.len(), 100);
+    same(&rt, marked_count(&marked), 100);
     assert!(rt; hold_each_once(rt.alloc(), marked.claims.as_slice(), 100)?);
-    assert_eq!(rt; marked.rounds, 101);
+    same(&rt, marked.rounds, 101);
     Ok(())
 }
 
 #[test]
 fn one_thread_makes_four_rounds_of_a_star(rt: HostRuntime) -> Result<(), Fail> {
     let marked = alone(rt.alloc(), &star(rt.alloc())?)?;
-    assert_eq!(rt; marked_count(&marked), 101);
-    assert_eq!(rt; marked.rounds, 4);
+    same(&rt, marked_count(&marked), 101);
+    same(&rt, marked.rounds, 4);
     Ok(())
 }
 
@@ -32,11 +33,11 @@ fn a_stack_follows_a_chain_in_the_first_round(rt: HostRuntime) -> Result<(), Fai
             for (stack, rounds) in [(0, 101), (1, 1), (65_536, 1)] {
                 let plan = Plan::new(workers, piece, stack)?;
                 let marked = by_plan(&rt, rt.alloc(), &sample, plan, &Open)?;
-                assert_eq!(rt; marked_count(&marked), 100, "by {plan:?}");
-                assert_eq!(rt; marked.claims.len(), workers as usize, "by {plan:?}");
+                same_in(&rt, &plan, marked_count(&marked), 100);
+                same_in(&rt, &plan, marked.claims.len(), workers as usize);
                 let claims = marked.claims.as_slice();
                 assert!(rt; hold_each_once(rt.alloc(), claims, 100)?, "by {plan:?}");
-                assert_eq!(rt; marked.rounds, rounds, "by {plan:?}");
+                same_in(&rt, &plan, marked.rounds, rounds);
             }
         }
     }
@@ -53,10 +54,10 @@ fn a_stack_follows_a_star_as_far_as_it_has_room(rt: HostRuntime) -> Result<(), F
             for (stack, rounds) in [(0, 4), (1, 3), (65_536, 1)] {
                 let plan = Plan::new(workers, piece, stack)?;
                 let marked = by_plan(&rt, rt.alloc(), &sample, plan, &Open)?;
-                assert_eq!(rt; marked_count(&marked), 101, "by {plan:?}");
+                same_in(&rt, &plan, marked_count(&marked), 101);
                 let claims = marked.claims.as_slice();
                 assert!(rt; hold_each_once(rt.alloc(), claims, 101)?, "by {plan:?}");
-                assert_eq!(rt; marked.rounds, rounds, "by {plan:?}");
+                same_in(&rt, &plan, marked.rounds, rounds);
             }
         }
     }
@@ -79,8 +80,8 @@ fn whoever_scans_the_root_of_a_star_claims_all_of_it(rt: HostRuntime) -> Result<
                     _ => {}
                 }
             }
-            assert_eq!(rt; whole, 1, "by {plan:?}");
-            assert_eq!(rt; empty, workers - 1, "by {plan:?}");
+            same_in(&rt, &plan, whole, 1);
+            same_in(&rt, &plan, empty, workers - 1);
         }
     }
     Ok(())
@@ -90,13 +91,13 @@ fn whoever_scans_the_root_of_a_star_claims_all_of_it(rt: HostRuntime) -> Result<
 fn a_chain_of_over_a_thousand_blocks(rt: HostRuntime) -> Result<(), Fail> {
     let sample = long_chain(rt.alloc())?;
     let marked = alone(rt.alloc(), &sample)?;
-    assert_eq!(rt; marked_count(&marked), LONG as usize);
-    assert_eq!(rt; marked.rounds, LONG + 1);
+    same(&rt, marked_count(&marked), LONG as usize);
+    same(&rt, marked.rounds, LONG + 1);
     for (workers, stack, rounds) in [(1, 0, LONG + 1), (4, 0, LONG + 1), (1, 1, 1), (4, 1, 1)] {
         let plan = Plan::new(workers, 512, stack)?;
         let marked = by_plan(&rt, rt.alloc(), &sample, plan, &Open)?;
-        assert_eq!(rt; marked_count(&marked), LONG as usize, "by {plan:?}");
-        assert_eq!(rt; marked.rounds, rounds, "by {plan:?}");
+        same_in(&rt, &plan, marked_count(&marked), LONG as usize);
+        same_in(&rt, &plan, marked.rounds, rounds);
     }
     Ok(())
 }

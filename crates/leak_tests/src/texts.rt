@@ -1,5 +1,6 @@
 //! What a refusal prints.
 
+use crate::comparisons::same;
 use leak_elf::ElfError;
 use leak_find::{FindError, ReadFault, RunFault};
 use leak_mtrace::LogError;
@@ -44,7 +45,7 @@ fn texts_of_refused_inputs(rt: HostRuntime) -> Result<(), Fail> {
         (FindError::NoMemory, "out of memory"),
     ];
     for (error, text) in rows {
-        assert_eq!(rt; error.to_string(rt.alloc())?.as_str(), text);
+        same(&rt, error.to_string(rt.alloc())?.as_str(), text);
     }
     Ok(())
 }
@@ -61,7 +62,7 @@ fn a_run_tells_the_text_of_its_search(rt: HostRuntime) -> Result<(), Fail> {
     ];
     for (error, text) in rows {
         let fault = RunFault::Find(error);
-        assert_eq!(rt; fault.to_string(rt.alloc())?.as_str(), text);
+        same(&rt, fault.to_string(rt.alloc())?.as_str(), text);
     }
     Ok(())
 }
@@ -83,13 +84,13 @@ fn texts_of_devices(rt: HostRuntime) -> Result<(), Fail> {
         ),
     ];
     for (fault, alone, in_a_run) in rows {
-        assert_eq!(rt; fault.to_string(rt.alloc())?.as_str(), alone);
+        same(&rt, fault.to_string(rt.alloc())?.as_str(), alone);
         let fault = RunFault::Read(1, fault);
-        assert_eq!(rt; fault.to_string(rt.alloc())?.as_str(), in_a_run);
+        same(&rt, fault.to_string(rt.alloc())?.as_str(), in_a_run);
     }
     let fault = RunFault::Write(WriteFault { written: 10 });
     let text = fault.to_string(rt.alloc())?;
-    assert_eq!(rt; text.as_str(), "write failed after 10 bytes");
+    same(&rt, text.as_str(), "write failed after 10 bytes");
     Ok(())
 }
 
@@ -101,14 +102,14 @@ fn texts_of_plans_and_pools(rt: HostRuntime) -> Result<(), Fail> {
         (PlanError::Stack, "stack must be 0 to 65536"),
     ];
     for (error, text) in plans {
-        assert_eq!(rt; error.to_string(rt.alloc())?.as_str(), text);
+        same(&rt, error.to_string(rt.alloc())?.as_str(), text);
     }
     let pools = [
         (PoolError::TooMany, "too many blocks"),
         (PoolError::NoMemory, "out of memory"),
     ];
     for (error, text) in pools {
-        assert_eq!(rt; error.to_string(rt.alloc())?.as_str(), text);
+        same(&rt, error.to_string(rt.alloc())?.as_str(), text);
     }
     Ok(())
 }

@@ -1,5 +1,6 @@
 //! Readers and writers that are interrupted, fail or end between their bytes, and would then go on.
 
+use crate::comparisons::{same, same_in};
 use crate::examples::NOTHING;
 use crate::fakes::{Giver, Source, Taker, Turn};
 use leak_find::{ReadFault, read_all};
@@ -14,8 +15,8 @@ fn a_read_that_fails_is_not_tried_again(rt: HostRuntime) -> Result<(), Fail> {
     let turns = [Turn::Bytes(2), Turn::Fails];
     let mut source = Giver::of(rt.alloc(), b"abcde", &turns)?;
     let result = read_all(rt.alloc(), &mut source, 5);
-    assert_eq!(rt; result.err(), Some(ReadFault::Device));
-    assert_eq!(rt; (source.left(), source.reads), (3, 2));
+    same(&rt, result.err(), Some(ReadFault::Device));
+    same(&rt, (source.left(), source.reads), (3, 2));
     Ok(())
 }
 
@@ -24,8 +25,8 @@ fn a_read_without_bytes_is_the_end(rt: HostRuntime) -> Result<(), Fail> {
     let turns = [Turn::Bytes(2), Turn::Bytes(0)];
     let mut source = Giver::of(rt.alloc(), b"abcde", &turns)?;
     let read = read_all(rt.alloc(), &mut source, 5)?;
-    assert_eq!(rt; read.as_slice(), b"ab".as_slice());
-    assert_eq!(rt; (source.left(), source.reads), (3, 2));
+    same(&rt, read.as_slice(), b"ab".as_slice());
+    same(&rt, (source.left(), source.reads), (3, 2));
     Ok(())
 }
 
@@ -40,9 +41,9 @@ fn interruptions_between_reads_lose_no_byte(rt: HostRuntime) -> Result<(), Fail>
     ];
     let mut source = Giver::of(rt.alloc(), b"abcde", &turns)?;
     let read = read_all(rt.alloc(), &mut source, 5)?;
-    assert_eq!(rt; read.as_slice(), b"abcde".as_slice());
+    same(&rt, read.as_slice(), b"abcde".as_slice());
     // Four reads were not interrupted, and the last of them found the end.
-    assert_eq!(rt; source.reads, 1_000_003);
+    same(&rt, source.reads, 1_000_003);
     Ok(())
 }
 
@@ -55,8 +56,8 @@ fn interrupted_reads_are_counted_over_the_whole_input(rt: HostRuntime) -> Result
     ];
     let mut source = Giver::of(rt.alloc(), b"abcde", &turns)?;
     let result = read_all(rt.alloc(), &mut source, 5);
-    assert_eq!(rt; result.err(), Some(ReadFault::TooManyTurns));
-    assert_eq!(rt; (source.left(), source.reads), (3, 1_000_001));
+    same(&rt, result.err(), Some(ReadFault::TooManyTurns));
+    same(&rt, (source.left(), source.reads), (3, 1_000_001));
     Ok(())
 }
 
@@ -66,14 +67,14 @@ fn an_input_over_its_limit_is_too_long_at_any_pace(rt: HostRuntime) -> Result<()
     for step in 1..8 {
         let mut source = Source::slow(rt.alloc(), b"abcdefgh", step)?;
         let result = read_all(rt.alloc(), &mut source, 5);
-        assert_eq!(rt; result.err(), Some(ReadFault::TooLong), "{step}");
-        assert_eq!(rt; source.left(), 2, "{step}");
+        same_in(&rt, &step, result.err(), Some(ReadFault::TooLong));
+        same_in(&rt, &step, source.left(), 2);
     }
     let turns = [Turn::Bytes(3), Turn::Interrupted(2), Turn::Bytes(2)];
     let mut source = Giver::of(rt.alloc(), b"abcdefgh", &turns)?;
     let result = read_all(rt.alloc(), &mut source, 5);
-    assert_eq!(rt; result.err(), Some(ReadFault::TooLong));
-    assert_eq!(rt; (source.left(), source.reads), (2, 5));
+    same(&rt, result.err(), Some(ReadFault::TooLong));
+    same(&rt, (source.left(), source.reads), (2, 5));
     Ok(())
 }
 
@@ -81,9 +82,9 @@ fn an_input_over_its_limit_is_too_long_at_any_pace(rt: HostRuntime) -> Result<()
 fn a_write_that_fails_is_not_tried_again(rt: HostRuntime) -> Result<(), Fail> {
     let mut out = Taker::of(rt.alloc(), &[Turn::Bytes(10), Turn::Fails])?;
     let result = write(NOTHING.as_bytes(), &mut out);
-    assert_eq!(rt; result, Err(WriteFault { written: 10 }));
-    assert_eq!(rt; out.held.as_slice(), b"blocks 0 b".as_slice());
-    assert_eq!(rt; out.writes, 2);
+    same(&rt, result, Err(WriteFault { written: 10 }));
+    same(&rt, out.held.as_slice(), b"blocks 0 b".as_slice());
+    same(&rt, out.writes, 2);
     Ok(())
 }
 
@@ -99,9 +100,9 @@ fn a_write_without_bytes_is_not_tried_again(rt: HostRuntime) -> Result<(), Fail>
         let fault = WriteFault {
             written: held.len() as u64,
         };
-        assert_eq!(rt; result, Err(fault));
-        assert_eq!(rt; out.held.as_slice(), held);
-        assert_eq!(rt; out.writes, writes);
+        same(&rt, result, Err(fault));
+        same(&rt, out.held.as_slice(), held);
+        same(&rt, out.writes, writes);
     }
     Ok(())
 }
@@ -117,8 +118,8 @@ fn interruptions_between_writes_write_nothing_twice(rt: HostRuntime) -> Result<(
     ];
     let mut out = Taker::of(rt.alloc(), &turns)?;
     write(NOTHING.as_bytes(), &mut out)?;
-    assert_eq!(rt; out.held.as_slice(), NOTHING.as_bytes());
-    assert_eq!(rt; out.writes, 1_000_002);
+    same(&rt, out.held.as_slice(), NOTHING.as_bytes());
+    same(&rt, out.writes, 1_000_002);
     Ok(())
 }
 
@@ -131,9 +132,9 @@ fn interrupted_writes_are_counted_over_the_whole_text(rt: HostRuntime) -> Result
     ];
     let mut out = Taker::of(rt.alloc(), &turns)?;
     let result = write(b"leaked", &mut out);
-    assert_eq!(rt; result, Err(WriteFault { written: 4 }));
-    assert_eq!(rt; out.held.as_slice(), b"leak".as_slice());
-    assert_eq!(rt; out.writes, 1_000_001);
+    same(&rt, result, Err(WriteFault { written: 4 }));
+    same(&rt, out.held.as_slice(), b"leak".as_slice());
+    same(&rt, out.writes, 1_000_001);
     Ok(())
 }
 
@@ -141,8 +142,8 @@ fn interrupted_writes_are_counted_over_the_whole_text(rt: HostRuntime) -> Result
 fn a_writer_that_is_always_interrupted_is_given_up(rt: HostRuntime) -> Result<(), Fail> {
     let mut out = Taker::of(rt.alloc(), &[Turn::Interrupted(u64::MAX)])?;
     let result = write(b"leaked", &mut out);
-    assert_eq!(rt; result, Err(WriteFault { written: 0 }));
-    assert_eq!(rt; out.writes, 1_000_000);
+    same(&rt, result, Err(WriteFault { written: 0 }));
+    same(&rt, out.writes, 1_000_000);
     Ok(())
 }
 
@@ -156,6 +157,6 @@ fn a_long_text_is_written_whole(rt: HostRuntime) -> Result<(), Fail> {
     let mut out = Taker::of(rt.alloc(), &turns)?;
     write(long.as_slice(), &mut out)?;
     assert!(rt; out.held == long);
-    assert_eq!(rt; out.writes, 6);
+    same(&rt, out.writes, 6);
     Ok(())
 }

@@ -6,38 +6,10 @@ use crate::hundreds::{CHAIN, STAR, chain, star};
 use crate::pairs::PAIRS;
 use crate::plans::few_plans;
 use crate::samples::{Part, core_of};
-use leak_find::{FindError, Found, Skip, find_two};
+use crate::searches::{Way, gives, of_two, reports};
 use leak_index::Reading;
-use leak_pool::{Open, Plan};
 use std::alloc::Global;
 use std::test::Fail;
-use std::thread::Threads;
-
-/// Searches two cores, each with its log.
-fn search<R: Threads + Sync>(
-    rt: &R,
-    alloc: Global,
-    first: (&[u8], &[u8]),
-    second: (&[u8], &[u8]),
-    reading: Reading,
-    plan: Plan,
-) -> Result<Found, FindError> {
-    let (core1, log1) = first;
-    let (core2, log2) = second;
-    find_two(
-        rt,
-        alloc,
-        core1,
-        log1,
-        core2,
-        log2,
-        reading,
-        Skip::none(),
-        false,
-        plan,
-        &Open,
-    )
-}
 
 /// A report of one core with the lines that one of two cores has in addition.
 pub fn with_lines(alloc: Global, report: &str, lines: &str) -> Result<String, Fail> {
@@ -58,15 +30,17 @@ fn each_pair_gives_its_report(rt: HostRuntime) -> Result<(), Fail> {
         let second = (core2.as_slice(), pair.log2.as_bytes());
         let name = pair.name;
         for plan in plans.as_slice() {
-            let found = search(&rt, rt.alloc(), first, second, Reading::interior(), *plan)?;
-            assert_eq!(rt;
-                found.report.as_slice(),
-                pair.report.as_bytes(),
-                "{name} by {plan:?}"
+            let found = of_two(&rt, rt.alloc(), first, second, Way::plain(), *plan)?;
+            let workers = plan.workers() as usize;
+            gives(
+                &rt,
+                &(name, plan),
+                &found,
+                pair.report,
+                pair.leaked,
+                workers,
             );
-            assert_eq!(rt; found.leaked, pair.leaked, "{name} by {plan:?}");
             let claims = found.claims.as_slice();
-            assert_eq!(rt; claims.len(), plan.workers() as usize, "{name} by {plan:?}");
             assert!(rt;
                 hold(rt.alloc(), claims, pair.claimed)?,
                 "{name} by {plan:?}"
@@ -87,16 +61,18 @@ fn an_input_and_itself_give_the_report_of_one(rt: HostRuntime) -> Result<(), Fai
         let wanted = with_lines(rt.alloc(), example.report, "new 0 bytes 0\nreread 0\n")?;
         let name = example.name;
         for plan in plans.as_slice() {
-            let found = search(&rt, rt.alloc(), input, input, Reading::interior(), *plan)?;
-            assert_eq!(rt;
-                found.report.as_slice(),
-                wanted.as_bytes(),
-                "{name} by {plan:?}"
+            let found = of_two(&rt, rt.alloc(), input, input, Way::plain(), *plan)?;
+            let workers = plan.workers() as usize;
+            gives(
+                &rt,
+                &(name, plan),
+                &found,
+                wanted.as_str(),
+                example.leaked,
+                workers,
             );
-            assert_eq!(rt; found.leaked, example.leaked, "{name} by {plan:?}");
             // All that is marked was marked before.
             let claims = found.claims.as_slice();
-            assert_eq!(rt; claims.len(), plan.workers() as usize, "{name} by {plan:?}");
             assert!(rt; hold(rt.alloc(), claims, &[])?, "{name} by {plan:?}");
         }
     }
@@ -114,6 +90,7 @@ fn displacements_alone_keep_a_block_of_either_core(rt: HostRuntime) -> Result<()
     ];
     let plans = few_plans(rt.alloc())?;
     let log = ONE_BLOCK.as_bytes();
+    let way = Way::reading(Reading::displaced(&[8])?);
     for (word1, word2, report, reread) in cases {
         let core1 = core_of(rt.alloc(), &[Part::Word(0x10008, word1)])?;
         let core2 = core_of(rt.alloc(), &[Part::Word(0x10008, word2)])?;
@@ -122,13 +99,8 @@ fn displacements_alone_keep_a_block_of_either_core(rt: HostRuntime) -> Result<()
         let lines = format!(in rt.alloc(); "new 0 bytes 0\nreread {reread}\n")?;
         let wanted = with_lines(rt.alloc(), report, lines.as_str())?;
         for plan in plans.as_slice() {
-            let reading = Reading::displaced(&[8])?;
-            let found = search(&rt, rt.alloc(), first, second, reading, *plan)?;
-            assert_eq!(rt;
-                found.report.as_slice(),
-                wanted.as_bytes(),
-                "{word1} and {word2} by {plan:?}"
-            );
+            let found = of_two(&rt, rt.alloc(), first, second, way, *plan)?;
+            reports(&rt, &(word1, word2, plan), &found, wanted.as_str());
         }
     }
     Ok(())
@@ -151,11 +123,10 @@ fn chains_and_stars_of_the_later_core_are_followed(rt: HostRuntime) -> Result<()
         for (earlier, claimed) in [(zeros.as_slice(), *blocks), (core, 0)] {
             let first = (earlier, log);
             for plan in plans.as_slice() {
-                let found = search(&rt, rt.alloc(), first, second, Reading::interior(), *plan)?;
-                assert_eq!(rt; found.report.as_slice(), wanted.as_bytes(), "by {plan:?}");
-                assert_eq!(rt; found.leaked, 0, "by {plan:?}");
+                let found = of_two(&rt, rt.alloc(), first, second, Way::plain(), *plan)?;
+                let workers = plan.workers() as usize;
+                gives(&rt, &plan, &found, wanted.as_str(), 0, workers);
                 let claims = found.claims.as_slice();
-                assert_eq!(rt; claims.len(), plan.workers() as usize, "by {plan:?}");
                 assert!(rt; hold_each_once(rt.alloc(), claims, claimed)?, "by {plan:?}");
             }
         }
@@ -172,8 +143,8 @@ fn a_chain_that_is_new_is_claimed_by_no_worker(rt: HostRuntime) -> Result<(), Fa
     let first = (core, b"".as_slice());
     let second = (core, sample.log.as_bytes());
     for plan in few_plans(rt.alloc())?.as_slice() {
-        let found = search(&rt, rt.alloc(), first, second, Reading::interior(), *plan)?;
-        assert_eq!(rt; found.report.as_slice(), wanted.as_bytes(), "by {plan:?}");
+        let found = of_two(&rt, rt.alloc(), first, second, Way::plain(), *plan)?;
+        reports(&rt, &plan, &found, wanted.as_str());
         assert!(rt;
             hold(rt.alloc(), found.claims.as_slice(), &[])?,
             "by {plan:?}"

@@ -1,17 +1,15 @@
 //! Cores with vector registers: xmm0 to xmm15 hold blocks, and nothing else of their entry does.
 
+use crate::comparisons::same;
 use crate::examples::{HELD, LOST, ONE_BLOCK};
 use crate::pair_reports::HELD_UNREAD;
 use crate::plans::{few_plans, plans};
-use crate::samples::{Part, core_of, set};
-use leak_blocks::{SmallSpans, replay};
+use crate::samples::{Part, core_of, scene_of, set};
+use crate::searches::{Way, alone, by_plan, of_two, reports};
 use leak_elf::Image;
-use leak_find::{FindError, Found, Skip, find_alone, find_one, find_two};
-use leak_index::Reading;
-use leak_mtrace::Log;
+use leak_find::{FindError, Found};
 use leak_notes::{NoteError, Threads};
-use leak_pool::{Open, Plan};
-use leak_roots::Roots;
+use leak_pool::Plan;
 use std::alloc::Global;
 use std::test::Fail;
 
@@ -39,14 +37,7 @@ fn with_word(alloc: Global, at: u64) -> Result<Vec<u8>, Fail> {
 
 /// What a search of the core on the caller's thread gives, with the log of one block.
 fn search(alloc: Global, core: &[u8]) -> Result<Found, FindError> {
-    find_alone(
-        alloc,
-        core,
-        ONE_BLOCK.as_bytes(),
-        Reading::interior(),
-        Skip::none(),
-        false,
-    )
+    alone(alloc, core, ONE_BLOCK.as_bytes(), Way::plain())
 }
 
 /// Cores whose notes are refused, and why.
@@ -68,17 +59,14 @@ fn vector_registers_are_root_words(rt: HostRuntime) -> Result<(), Fail> {
     let core = with_vectors(rt.alloc(), &[], (1056, 0))?;
     let image = Image::read(rt.alloc(), core.as_slice())?;
     let threads = Threads::read(rt.alloc(), &image)?;
-    assert_eq!(rt; threads.count(), 1);
-    assert_eq!(rt; threads.registers(), [0u64; 59].as_slice());
-    let log = Log::read(rt.alloc(), b"")?;
-    let live = replay(rt.alloc(), &log)?;
-    let small = SmallSpans::none(rt.alloc());
-    let roots = Roots::find(rt.alloc(), &image, &threads, &live, &small)?;
+    same(&rt, threads.count(), 1);
+    same(&rt, threads.registers(), [0u64; 59].as_slice());
+    let roots = scene_of(rt.alloc(), core.as_slice(), "")?.roots;
     let mut words = roots.registers().len() as u64;
     for (from, to) in roots.memory() {
         words = words.saturating_add(to.saturating_sub(*from) / 8);
     }
-    assert_eq!(rt; words, 571);
+    same(&rt, words, 571);
     Ok(())
 }
 
@@ -99,24 +87,17 @@ fn a_pointer_in_a_vector_register_alone_holds_a_block(rt: HostRuntime) -> Result
         let core = with_word(rt.alloc(), at)?;
         let core = core.as_slice();
         let found = search(rt.alloc(), core)?;
-        assert_eq!(rt; found.report.as_slice(), report.as_bytes(), "at {at}");
+        reports(&rt, &at, &found, report);
         for plan in plans.as_slice() {
-            let found = find_one(
+            let found = by_plan(
                 &rt,
                 rt.alloc(),
                 core,
                 ONE_BLOCK.as_bytes(),
-                Reading::interior(),
-                Skip::none(),
-                false,
+                Way::plain(),
                 *plan,
-                &Open,
             )?;
-            assert_eq!(rt;
-                found.report.as_slice(),
-                report.as_bytes(),
-                "at {at} by {plan:?}"
-            );
+            reports(&rt, &(at, plan), &found, report);
         }
     }
     Ok(())
@@ -132,25 +113,15 @@ fn a_vector_register_of_either_core_holds_a_block(rt: HostRuntime) -> Result<(),
     let held = held.as_slice();
     for plan in plans.as_slice() {
         for (core1, core2) in [(lost, held), (held, lost)] {
-            let reading = Reading::interior();
-            let found = find_two(
+            let found = of_two(
                 &rt,
                 rt.alloc(),
-                core1,
-                log,
-                core2,
-                log,
-                reading,
-                Skip::none(),
-                false,
+                (core1, log),
+                (core2, log),
+                Way::plain(),
                 *plan,
-                &Open,
             )?;
-            assert_eq!(rt;
-                found.report.as_slice(),
-                HELD_UNREAD.as_bytes(),
-                "by {plan:?}"
-            );
+            reports(&rt, &plan, &found, HELD_UNREAD);
         }
     }
     Ok(())
@@ -164,36 +135,19 @@ fn vector_entries_are_refused_as_notes_are(rt: HostRuntime) -> Result<(), Fail> 
     for (core, error) in refused(rt.alloc())?.as_slice() {
         let core = core.as_slice();
         let first = Some(FindError::Notes(1, *error));
-        assert_eq!(rt; search(rt.alloc(), core).err(), first);
-        let reading = Reading::interior();
-        let refusal = find_one(
+        same(&rt, search(rt.alloc(), core).err(), first);
+        let refusal = by_plan(&rt, rt.alloc(), core, log, Way::plain(), plan).err();
+        same(&rt, refusal, first);
+        let refusal = of_two(
             &rt,
             rt.alloc(),
-            core,
-            log,
-            reading,
-            Skip::none(),
-            false,
+            (sample.as_slice(), log),
+            (core, log),
+            Way::plain(),
             plan,
-            &Open,
         )
         .err();
-        assert_eq!(rt; refusal, first);
-        let refusal = find_two(
-            &rt,
-            rt.alloc(),
-            sample.as_slice(),
-            log,
-            core,
-            log,
-            Reading::interior(),
-            Skip::none(),
-            false,
-            plan,
-            &Open,
-        )
-        .err();
-        assert_eq!(rt; refusal, Some(FindError::Notes(2, *error)));
+        same(&rt, refusal, Some(FindError::Notes(2, *error)));
     }
     Ok(())
 }

@@ -1,16 +1,17 @@
 //! The reports of one core by worker threads: they are those of the caller's thread.
 
 use crate::claims::hold_each_once;
+use crate::comparisons::same_in;
 use crate::examples::{EXAMPLES, HELD, LOST, ONE_BLOCK};
 use crate::hundreds::{CHAIN, STAR, chain, star};
 use crate::plans::plans;
 use crate::samples::{Part, core_of};
+use crate::searches::{Way, by_plan, gives, reports};
 use leak_elf::ElfError;
-use leak_find::{FindError, Skip, find_one};
+use leak_find::FindError;
 use leak_index::Reading;
 use leak_mtrace::LogError;
 use leak_notes::NoteError;
-use leak_pool::Open;
 use std::alloc::Global;
 use std::process::Abort;
 use std::test::Fail;
@@ -25,27 +26,15 @@ fn each_example_gives_its_report(rt: HostRuntime) -> Result<(), Fail> {
         let log = example.log.as_bytes();
         let name = example.name;
         for plan in plans.as_slice() {
-            let found = find_one(
+            let found = by_plan(&rt, rt.alloc(), core, log, Way::plain(), *plan)?;
+            let workers = plan.workers() as usize;
+            gives(
                 &rt,
-                rt.alloc(),
-                core,
-                log,
-                Reading::interior(),
-                Skip::none(),
-                false,
-                *plan,
-                &Open,
-            )?;
-            assert_eq!(rt;
-                found.report.as_slice(),
-                example.report.as_bytes(),
-                "{name} by {plan:?}"
-            );
-            assert_eq!(rt; found.leaked, example.leaked, "{name} by {plan:?}");
-            assert_eq!(rt;
-                found.claims.len(),
-                plan.workers() as usize,
-                "{name} by {plan:?}"
+                &(name, plan),
+                &found,
+                example.report,
+                example.leaked,
+                workers,
             );
         }
     }
@@ -62,27 +51,13 @@ fn displacements_alone_keep_a_block(rt: HostRuntime) -> Result<(), Fail> {
     ];
     let plans = plans(rt.alloc())?;
     let log = ONE_BLOCK.as_bytes();
+    let way = Way::reading(Reading::displaced(&[8])?);
     for (word, report) in cases {
         let core = core_of(rt.alloc(), &[Part::Word(0x10008, word)])?;
         let core = core.as_slice();
         for plan in plans.as_slice() {
-            let reading = Reading::displaced(&[8])?;
-            let found = find_one(
-                &rt,
-                rt.alloc(),
-                core,
-                log,
-                reading,
-                Skip::none(),
-                false,
-                *plan,
-                &Open,
-            )?;
-            assert_eq!(rt;
-                found.report.as_slice(),
-                report.as_bytes(),
-                "{word} by {plan:?}"
-            );
+            let found = by_plan(&rt, rt.alloc(), core, log, way, *plan)?;
+            reports(&rt, &(word, plan), &found, report);
         }
     }
     Ok(())
@@ -99,20 +74,8 @@ fn chains_and_stars_are_followed_to_their_ends(rt: HostRuntime) -> Result<(), Fa
         let core = sample.core.as_slice();
         let log = sample.log.as_bytes();
         for plan in plans.as_slice() {
-            let found = find_one(
-                &rt,
-                rt.alloc(),
-                core,
-                log,
-                Reading::interior(),
-                Skip::none(),
-                false,
-                *plan,
-                &Open,
-            )?;
-            assert_eq!(rt; found.report.as_slice(), report.as_bytes(), "by {plan:?}");
-            assert_eq!(rt; found.leaked, 0, "by {plan:?}");
-            assert_eq!(rt; found.claims.len(), plan.workers() as usize, "by {plan:?}");
+            let found = by_plan(&rt, rt.alloc(), core, log, Way::plain(), *plan)?;
+            gives(&rt, &plan, &found, report, 0, plan.workers() as usize);
             let claims = found.claims.as_slice();
             assert!(rt; hold_each_once(rt.alloc(), claims, *blocks)?, "by {plan:?}");
         }
@@ -130,18 +93,15 @@ fn refuse_alike<R: Threads + Sync + Abort>(
 ) -> Result<(), Fail> {
     let core = core_of(alloc, parts)?;
     for plan in plans(alloc)? {
-        let result = find_one(
+        let result = by_plan(
             rt,
             alloc,
             core.as_slice(),
             log.as_bytes(),
-            Reading::interior(),
-            Skip::none(),
-            false,
+            Way::plain(),
             plan,
-            &Open,
         );
-        assert_eq!(rt; result.err(), Some(refusal), "by {plan:?}");
+        same_in(rt, &plan, result.err(), Some(refusal));
     }
     Ok(())
 }

@@ -1,3 +1,4 @@
+use crate::comparisons::{same, same_in};
 use leak_index::{Reading, ReadingError};
 use leak_pool::Plan;
 use leak_request::{DisplaceFault, Options, Request, UsageFault, request};
@@ -61,7 +62,7 @@ fn takes<R: Abort + AllocGlobal>(
 ) -> Result<(), Fail> {
     let request = asked(rt, line)??;
     let want = format!(in rt.alloc(); "{options:?} None {paths}")?;
-    assert_eq!(rt; shown(rt, &request)?.as_str(), want.as_str(), "{line}");
+    same_in(rt, &line, shown(rt, &request)?.as_str(), want.as_str());
     Ok(())
 }
 
@@ -75,7 +76,7 @@ fn asks<R: Abort + AllocGlobal>(
 ) -> Result<(), Fail> {
     let request = asked(rt, line)??;
     let want = format!(in rt.alloc(); "{options:?} {:?} {paths}", Some(address))?;
-    assert_eq!(rt; shown(rt, &request)?.as_str(), want.as_str(), "{line}");
+    same_in(rt, &line, shown(rt, &request)?.as_str(), want.as_str());
     Ok(())
 }
 
@@ -83,43 +84,41 @@ fn asks<R: Abort + AllocGlobal>(
 fn requests_of_one_core(rt: HostRuntime) -> Result<(), Fail> {
     let interior = Reading::interior();
     let listed = Reading::displaced([8, 16].as_slice())?;
-    let usual = options(false, interior, Plan::new(4, 512, 1024)?);
-    takes(&rt, "one core.1 trace.log", usual, "core.1 trace.log")?;
-    takes(
-        &rt,
-        "one core.1 trace.log --workers 2 --displace 8,16",
-        options(false, listed, Plan::new(2, 512, 1024)?),
-        "core.1 trace.log",
-    )?;
-    takes(
-        &rt,
-        "one a b --piece 1 --stack 0",
-        options(false, interior, Plan::new(4, 1, 0)?),
-        "a b",
-    )?;
-    takes(
-        &rt,
-        "one --workers=64 --piece=65536 --stack=65536 -- -a -b",
-        options(false, interior, Plan::new(64, 65536, 65536)?),
-        "-a -b",
-    )
+    let cases = [
+        (
+            "one core.1 trace.log",
+            interior,
+            (4, 512, 1024),
+            "core.1 trace.log",
+        ),
+        (
+            "one core.1 trace.log --workers 2 --displace 8,16",
+            listed,
+            (2, 512, 1024),
+            "core.1 trace.log",
+        ),
+        ("one a b --piece 1 --stack 0", interior, (4, 1, 0), "a b"),
+        (
+            "one --workers=64 --piece=65536 --stack=65536 -- -a -b",
+            interior,
+            (64, 65536, 65536),
+            "-a -b",
+        ),
+    ];
+    for (line, reading, (workers, piece, stack), paths) in cases {
+        let plan = Plan::new(workers, piece, stack)?;
+        takes(&rt, line, options(false, reading, plan), paths)?;
+    }
+    Ok(())
 }
 
 #[test]
 fn requests_with_flags(rt: HostRuntime) -> Result<(), Fail> {
     let usual = options(false, Reading::interior(), Plan::new(4, 512, 1024)?);
-    let freed = skipping(usual, true, false);
-    let links = skipping(usual, false, true);
-    let neither = skipping(usual, true, true);
-    takes(&rt, "one a b --skip-freed", freed, "a b")?;
-    takes(&rt, "one --skip-freed a b", freed, "a b")?;
-    takes(&rt, "one a b --skip-links", links, "a b")?;
-    takes(&rt, "one --skip-links a --skip-freed b", neither, "a b")?;
     let check = Options {
         check: true,
         ..usual
     };
-    takes(&rt, "one a b --check", check, "a b")?;
     let strict = Options {
         strict: true,
         ..usual
@@ -132,38 +131,55 @@ fn requests_with_flags(rt: HostRuntime) -> Result<(), Fail> {
         strict: true,
         ..other
     };
-    takes(&rt, "one a b --strict", strict, "a b")?;
-    takes(&rt, "one --other-heap a b", other, "a b")?;
-    takes(&rt, "one a --strict b --other-heap", both, "a b")
+    let cases = [
+        ("one a b --skip-freed", skipping(usual, true, false)),
+        ("one --skip-freed a b", skipping(usual, true, false)),
+        ("one a b --skip-links", skipping(usual, false, true)),
+        (
+            "one --skip-links a --skip-freed b",
+            skipping(usual, true, true),
+        ),
+        ("one a b --check", check),
+        ("one a b --strict", strict),
+        ("one --other-heap a b", other),
+        ("one a --strict b --other-heap", both),
+    ];
+    for (line, wanted) in cases {
+        takes(&rt, line, wanted, "a b")?;
+    }
+    Ok(())
 }
 
 #[test]
 fn requests_of_two_cores(rt: HostRuntime) -> Result<(), Fail> {
     let listed = Reading::displaced([8, 16].as_slice())?;
-    takes(
-        &rt,
-        "two a b c d --piece 1 --stack 0",
-        options(true, Reading::interior(), Plan::new(4, 1, 0)?),
-        "a b c d",
-    )?;
-    takes(
-        &rt,
-        "two --workers 2 a b --displace 8,16 c d",
-        options(true, listed, Plan::new(2, 512, 1024)?),
-        "a b c d",
-    )?;
     let usual = options(true, Reading::interior(), Plan::new(4, 512, 1024)?);
+    let short = Options {
+        plan: Plan::new(4, 1, 0)?,
+        ..usual
+    };
+    let narrow = Options {
+        reading: listed,
+        plan: Plan::new(2, 512, 1024)?,
+        ..usual
+    };
     let all = Options {
         check: true,
         strict: true,
         ..skipping(usual, true, true)
     };
-    takes(
-        &rt,
-        "two --skip-links --check a b --skip-freed c d --strict",
-        all,
-        "a b c d",
-    )
+    let cases = [
+        ("two a b c d --piece 1 --stack 0", short),
+        ("two --workers 2 a b --displace 8,16 c d", narrow),
+        (
+            "two --skip-links --check a b --skip-freed c d --strict",
+            all,
+        ),
+    ];
+    for (line, wanted) in cases {
+        takes(&rt, line, wanted, "a b c d")?;
+    }
+    Ok(())
 }
 
 #[test]
@@ -171,24 +187,24 @@ fn requests_for_a_block(rt: HostRuntime) -> Result<(), Fail> {
     let listed = Reading::displaced([8, 16].as_slice())?;
     let usual = options(false, Reading::interior(), Plan::new(1, 1, 0)?);
     let narrow = options(false, listed, Plan::new(1, 1, 0)?);
-    asks(
-        &rt,
-        "why core.1 trace.log 0x10100",
-        usual,
-        0x10100,
-        "core.1 trace.log",
-    )?;
-    asks(&rt, "why a b 0xAbCdEf", usual, 0xABCDEF, "a b")?;
-    asks(&rt, "why a b 0xffffffffffffffff", usual, u64::MAX, "a b")?;
-    asks(&rt, "why a b 0x0000000000000001", usual, 1, "a b")?;
-    asks(
-        &rt,
-        "why --skip-links a b --skip-freed 0x0",
-        skipping(usual, true, true),
-        0,
-        "a b",
-    )?;
-    asks(&rt, "why a b 0x10 --displace 8,16", narrow, 16, "a b")
+    let neither = skipping(usual, true, true);
+    let cases = [
+        (
+            "why core.1 trace.log 0x10100",
+            usual,
+            0x10100,
+            "core.1 trace.log",
+        ),
+        ("why a b 0xAbCdEf", usual, 0xABCDEF, "a b"),
+        ("why a b 0xffffffffffffffff", usual, u64::MAX, "a b"),
+        ("why a b 0x0000000000000001", usual, 1, "a b"),
+        ("why --skip-links a b --skip-freed 0x0", neither, 0, "a b"),
+        ("why a b 0x10 --displace 8,16", narrow, 16, "a b"),
+    ];
+    for (line, wanted, address, paths) in cases {
+        asks(&rt, line, wanted, address, paths)?;
+    }
+    Ok(())
 }
 
 #[test]
@@ -328,23 +344,27 @@ fn another_heap_is_not_checked(rt: HostRuntime) -> Result<(), Fail> {
 fn texts_of_faults(rt: HostRuntime) -> Result<(), Fail> {
     let alloc = rt.alloc();
     let words = UsageFault::Words("what clap says\n".to_string(alloc)?);
-    assert_eq!(rt; words.to_string(alloc)?.as_str(), "what clap says\n");
+    same(&rt, words.to_string(alloc)?.as_str(), "what clap says\n");
     let list = UsageFault::Displace(DisplaceFault::Number(1));
-    assert_eq!(rt;
+    same(
+        &rt,
         list.to_string(alloc)?.as_str(),
-        "--displace: item 1 is not a number"
+        "--displace: item 1 is not a number",
     );
-    assert_eq!(rt;
+    same(
+        &rt,
         UsageFault::Check.to_string(alloc)?.as_str(),
-        "--check: not with --other-heap"
+        "--check: not with --other-heap",
     );
-    assert_eq!(rt;
+    same(
+        &rt,
         UsageFault::Address.to_string(alloc)?.as_str(),
-        "bad address"
+        "bad address",
     );
-    assert_eq!(rt;
+    same(
+        &rt,
         UsageFault::NoMemory.to_string(alloc)?.as_str(),
-        "out of memory"
+        "out of memory",
     );
     Ok(())
 }

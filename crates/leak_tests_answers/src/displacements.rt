@@ -1,3 +1,4 @@
+use crate::comparisons::same;
 use leak_index::ReadingError;
 use leak_request::{DisplaceFault, read_displace};
 use std::test::*;
@@ -54,7 +55,7 @@ fn texts_of_faults(rt: HostRuntime) -> Result<(), Fail> {
         ),
     ];
     for (fault, text) in cases {
-        assert_eq!(rt; fault.to_string(rt.alloc())?.as_str(), text);
+        same(&rt, fault.to_string(rt.alloc())?.as_str(), text);
     }
     Ok(())
 }

@@ -1,5 +1,6 @@
 ghost use Rattle.std.specs.Prelude.{IfOk, false, ◌≡◌};
 
+use crate::comparisons::{same, same_in};
 use leak_elf::core_k;
 use leak_find::{
     Options, Plan, ReadFault, Reading, RunFault, Skip, find_alone, read_all, run_sized,
@@ -14,7 +15,7 @@ const ONE_BLOCK: &[u8; 36] = b"@ ./a.out:[0x401136] + 0x10100 0x20\n";
 fn all_bytes_up_to_the_limit(rt: HostRuntime) -> Result<(), Fail> {
     let mut five: &[u8] = b"abcde";
     let read = read_all(rt.alloc(), &mut five, 5)?;
-    assert_eq!(rt; read.as_slice(), b"abcde".as_slice());
+    same(&rt, read.as_slice(), b"abcde".as_slice());
     Ok(())
 }
 
@@ -79,8 +80,8 @@ fn a_run_with_sizes_gives_the_report_without(rt: HostRuntime) -> Result<(), Fail
                 &mut out,
                 &mut warned,
             )?;
-            assert_eq!(rt; status, 1, "{sizes:?} {log_limit}");
-            assert_eq!(rt; out.as_slice(), LEAKED.as_bytes(), "{sizes:?} {log_limit}");
+            same_in(&rt, &(sizes, log_limit), status, 1);
+            same_in(&rt, &(sizes, log_limit), out.as_slice(), LEAKED.as_bytes());
             assert!(rt; warned.is_empty());
         }
     }
@@ -106,8 +107,8 @@ fn a_run_with_sizes_refuses_by_the_limit(rt: HostRuntime) -> Result<(), Fail> {
             &mut warned,
         );
         let wanted = Err(RunFault::Read(2, ReadFault::TooLong));
-        assert_eq!(rt; answer, wanted, "{sizes:?}");
-        assert_eq!(rt; readers[1].len(), 5, "{sizes:?}");
+        same_in(&rt, &sizes, answer, wanted);
+        same_in(&rt, &sizes, readers[1].len(), 5);
         assert!(rt; out.is_empty());
     }
     Ok(())
@@ -122,9 +123,9 @@ fn a_question_with_sizes_gives_the_answer_without(rt: HostRuntime) -> Result<(),
         let mut out: Vec<u8> = Vec::new(alloc);
         let options = options(36)?;
         let status = run_why_sized(alloc, &mut readers, sizes, &options, 0x1011F, &mut out)?;
-        assert_eq!(rt; status, 1, "{sizes:?}");
+        same_in(&rt, &sizes, status, 1);
         let wanted = b"asked 0x10100 32 1 ./a.out:[0x401136]\nleaked\n";
-        assert_eq!(rt; out.as_slice(), wanted.as_slice(), "{sizes:?}");
+        same_in(&rt, &sizes, out.as_slice(), wanted.as_slice());
     }
     Ok(())
 }
@@ -141,6 +142,6 @@ fn the_example_of_the_front_page(rt: HostRuntime) -> Result<(), Fail> {
         Skip::none(),
         false,
     )?;
-    assert_eq!(rt; found.leaked, 1);
+    same(&rt, found.leaked, 1);
     Ok(())
 }

@@ -1,3 +1,4 @@
+use crate::comparisons::same;
 use leak_find::{DisplaceFault, FindError, ReadFault, RunFault, UsageFault};
 use leak_program::{Failure, answer};
 use std::alloc::AllocError;
@@ -19,7 +20,8 @@ fn no_word_searches_the_sample(rt: HostRuntime) -> Result<(), Fail> {
     let mut warned: Vec<u8> = Vec::new(rt.alloc());
     let status = answer(&rt, words.as_slice(), &mut written, &mut warned);
     assert!(rt; matches!(status, Ok(0)));
-    assert_eq!(rt;
+    same(
+        &rt,
         written.as_slice(),
         b"blocks 1 bytes 32\n\
           undumped 0\n\
@@ -27,7 +29,7 @@ fn no_word_searches_the_sample(rt: HostRuntime) -> Result<(), Fail> {
           marked 1 bytes 32\n\
           leaked 0 bytes 0\n\
           heads 0\n"
-            .as_slice()
+            .as_slice(),
     );
     assert!(rt; warned.is_empty());
     Ok(())
@@ -43,7 +45,7 @@ fn a_file_that_is_not_there_is_named(rt: HostRuntime) -> Result<(), Fail> {
         assert!(rt; false, "the core is not there");
         return Ok(());
     };
-    assert_eq!(rt; path.as_str(), "no/such.core");
+    same(&rt, path.as_str(), "no/such.core");
     assert!(rt; written.is_empty());
     assert!(rt; warned.is_empty());
     Ok(())
@@ -83,7 +85,7 @@ fn a_file_that_is_to_be_asked_is_named(rt: HostRuntime) -> Result<(), Fail> {
         assert!(rt; false, "the core is not there");
         return Ok(());
     };
-    assert_eq!(rt; path.as_str(), "no/such.core");
+    same(&rt, path.as_str(), "no/such.core");
     assert!(rt; written.is_empty());
     Ok(())
 }
@@ -117,7 +119,7 @@ fn texts_of_failures(rt: HostRuntime) -> Result<(), Fail> {
         (Failure::NoMemory, "out of memory"),
     ];
     for (failure, text) in &cases {
-        assert_eq!(rt; failure.to_string(alloc)?.as_str(), *text);
+        same(&rt, failure.to_string(alloc)?.as_str(), *text);
     }
     Ok(())
 }

@@ -1,3 +1,4 @@
+use crate::comparisons::same;
 use leak_elf::{ElfError, core_k};
 use leak_index::Reading;
 use leak_roots::Skip;
@@ -11,7 +12,7 @@ fn the_example_of_the_front_page(rt: HostRuntime) -> Result<(), Fail> {
     let core = core_k(alloc, &[])?;
     let log = b"@ ./a.out:[0x401136] + 0x10100 0x20\n";
     let found = find_alone(alloc, &core, log, Reading::interior(), Skip::none(), false)?;
-    assert_eq!(rt; found.leaked, 1);
+    same(&rt, found.leaked, 1);
     Ok(())
 }
 
@@ -28,18 +29,20 @@ fn why_a_block_is_held(rt: HostRuntime) -> Result<(), Fail> {
     // an address inside the block
     let held = told(alloc, &core, Reading::interior(), 0x10108)?;
     assert!(rt; held.held);
-    assert_eq!(rt;
+    same(
+        &rt,
         held.text.as_slice(),
         b"asked 0x10100 32 1 ./a.out:[0x401136]\n\
           root 0x10008 holds 0x10110\n\
           block 0x10100 32 1 ./a.out:[0x401136]\n"
-            .as_slice()
+            .as_slice(),
     );
     let leaked = told(alloc, &core, Reading::interior(), 0x10200)?;
     assert!(rt; !leaked.held);
-    assert_eq!(rt;
+    same(
+        &rt,
         leaked.text.as_slice(),
-        b"asked 0x10200 16 2 ?\nleaked\n".as_slice()
+        b"asked 0x10200 16 2 ?\nleaked\n".as_slice(),
     );
     // by starts alone
     let leaked = told(alloc, &core, Reading::displaced(&[])?, 0x10100)?;
@@ -61,9 +64,9 @@ fn an_address_that_no_block_holds_is_refused(rt: HostRuntime) -> Result<(), Fail
         0x10120,
     )
     .err();
-    assert_eq!(rt; past, Some(WhyError::NoBlock(0x10120)));
+    same(&rt, past, Some(WhyError::NoBlock(0x10120)));
     let text = format!(in alloc; "{}", WhyError::NoBlock(0xabcdef))?;
-    assert_eq!(rt; text.as_str(), "no live block holds 0xabcdef");
+    same(&rt, text.as_str(), "no live block holds 0xabcdef");
     // what is wrong with the inputs comes first
     let short = find_why(
         alloc,
@@ -74,9 +77,10 @@ fn an_address_that_no_block_holds_is_refused(rt: HostRuntime) -> Result<(), Fail
         0x10120,
     )
     .err();
-    assert_eq!(rt;
+    same(
+        &rt,
         short,
-        Some(WhyError::Find(FindError::Core(1, ElfError::Short)))
+        Some(WhyError::Find(FindError::Core(1, ElfError::Short))),
     );
     Ok(())
 }

@@ -1,4 +1,4 @@
-use crate::samples::same;
+use crate::comparisons::same;
 use leak_blocks::{Live, replay};
 use leak_dirty::{carry, differing};
 use leak_elf::{Image, core_k};

@@ -1,7 +1,8 @@
 ghost use Rattle.leak_elf.specs.Words.{word_of};
 ghost use Rattle.leak_elf.specs.Aligned.{aligned_words};
 
-use crate::samples::{Scene, same, scene_of};
+use crate::comparisons::same;
+use crate::samples::{Scene, scene_of};
 use leak_dirty::{carry, differing, retrace};
 use leak_elf::{Image, Words, core_k};
 use leak_index::{Reading, Sorted};

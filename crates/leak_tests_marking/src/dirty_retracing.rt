@@ -1,7 +1,8 @@
 ghost use Rattle.leak_elf.specs.Words.{word_of};
 ghost use Rattle.leak_elf.specs.Aligned.{aligned_words};
 
-use crate::samples::{core_of, same, scene_of};
+use crate::comparisons::same;
+use crate::samples::{core_of, scene_of};
 use leak_dirty::{Retraced, carry, differing, retrace};
 use leak_elf::{Image, Words};
 use leak_index::{Reading, Sorted};

@@ -1,4 +1,5 @@
-use crate::samples::{lives, same, same_in};
+use crate::comparisons::{same, same_in};
+use crate::samples::lives;
 use leak_index::{Hits, Lookup, Paged, Reading, ReadingError, Sorted};
 use std::alloc::{AllocError, Global};
 use std::process::Abort;

@@ -1,5 +1,6 @@
 //! Lookups where blocks start at multiples of 16, and where they don't.
-use crate::samples::{lives, same, same_in};
+use crate::comparisons::{same, same_in};
+use crate::samples::lives;
 use leak_blocks::{Block, Live};
 use leak_index::{Hits, Lookup, Paged, Reading, Sorted};
 use std::alloc::{AllocError, Global};

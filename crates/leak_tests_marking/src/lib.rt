@@ -3,6 +3,10 @@
 //! They stand beside those crates, so that the crates are proved once, without their tests.
 #![tactic(auto)]
 
+// Comparisons that end a test.
+#[cfg(test)]
+mod comparisons;
+
 // Live blocks of a log.
 #[cfg(test)]
 mod samples;

@@ -1,4 +1,4 @@
-use crate::samples::{same, same_in};
+use crate::comparisons::{same, same_in};
 use leak_blocks::{Live, SmallSpans, replay};
 use leak_elf::{Image, core_k};
 use leak_mtrace::Log;

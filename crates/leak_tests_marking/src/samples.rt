@@ -6,8 +6,6 @@ use leak_mtrace::Log;
 use leak_notes::Threads;
 use leak_roots::Roots;
 use std::alloc::Global;
-use std::fmt::Debug;
-use std::process::Abort;
 use std::test::Fail;
 
 /// The live blocks of a log.
@@ -46,19 +44,4 @@ pub fn scene_of<'a>(alloc: Global, core: &'a [u8], log: &str) -> Result<Scene<'a
     let small = SmallSpans::none(alloc);
     let roots = Roots::find(alloc, &image, &threads, &live, &small)?;
     Ok(Scene { image, live, roots })
-}
-
-/// Ends the test where the two differ. (A comparison that is written out in a test takes three to five times the steps of a call to prove.)
-pub fn same<T: Copy + PartialEq + Debug>(rt: &impl Abort, found: T, wanted: T) {
-    assert_eq!(rt; found, wanted);
-}
-
-/// Ends the test where the two differ, and names the case.
-pub fn same_in<C: Debug, T: Copy + PartialEq + Debug>(
-    rt: &impl Abort,
-    case: &C,
-    found: T,
-    wanted: T,
-) {
-    assert_eq!(rt; found, wanted, "{case:?}");
 }

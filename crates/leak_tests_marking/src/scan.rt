@@ -1,7 +1,8 @@
 ghost use Rattle.std.specs.Prelude.{◌≡◌, IfOk, length};
 ghost use Rattle.leak_scan.specs.Targets.{targets_of, block_words};
 
-use crate::samples::{lives, same, same_in};
+use crate::comparisons::{same, same_in};
+use crate::samples::lives;
 use crate::scan_counted::Counted;
 use leak_blocks::Block;
 use leak_elf::{Image, Words, core_k};

@@ -3,7 +3,8 @@ ghost use Rattle.std.specs.Prelude.{◌≡◌, ℕ, List, Option};
 ghost use Rattle.leak_elf.specs.Words.{word_of};
 ghost use Rattle.leak_elf.specs.Aligned.{aligned_words};
 
-use crate::samples::{lives, same, same_in};
+use crate::comparisons::{same, same_in};
+use crate::samples::lives;
 use crate::scan::{block, listed};
 use leak_elf::{Image, Words, core_k};
 use leak_index::{Reading, Sorted};

@@ -1,6 +1,7 @@
 //! Root words with links to free chunks, and without them.
 
-use crate::samples::{lives, same};
+use crate::comparisons::same;
+use crate::samples::lives;
 use crate::scan::listed;
 use crate::scan_counted::Counted;
 use leak_elf::{Image, core_k};

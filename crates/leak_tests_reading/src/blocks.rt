@@ -1,3 +1,4 @@
+use crate::comparisons::{same, same_in};
 use leak_blocks::{Live, SmallSpans, Span, replay, replay_bytes, replay_with_spans, small_spans};
 use leak_mtrace::{Log, LogError};
 use std::alloc::Global;
@@ -22,9 +23,9 @@ fn outcome(rt: &impl Abort, alloc: Global, text: &str) -> Result<Outcome, Fail> 
     let by_lines = outcome_of(alloc, &replay(alloc, &log)?, log.torn())?;
     let replayed = replay_bytes(alloc, text.as_bytes())?;
     let by_bytes = outcome_of(alloc, &replayed.live, replayed.torn)?;
-    assert_eq!(rt; by_bytes.0.as_slice(), by_lines.0.as_slice(), "{text}");
-    assert_eq!(rt; by_bytes.1, by_lines.1, "{text}");
-    assert_eq!(rt; replayed.whole_len, log.whole_len(), "{text}");
+    same_in(rt, &text, by_bytes.0.as_slice(), by_lines.0.as_slice());
+    same_in(rt, &text, by_bytes.1, by_lines.1);
+    same_in(rt, &text, replayed.whole_len, log.whole_len());
     Ok(by_lines)
 }
 
@@ -34,8 +35,8 @@ type Case<'a> = (&'a str, &'a [(u64, u64, usize)], (u64, u64, u64));
 fn replays(rt: &impl Abort, alloc: Global, cases: &[Case]) -> Result<(), Fail> {
     for (text, blocks, counts) in cases {
         let found = outcome(rt, alloc, text)?;
-        assert_eq!(rt; found.0.as_slice(), *blocks, "{text}");
-        assert_eq!(rt; found.1, *counts, "{text}");
+        same_in(rt, &text, found.0.as_slice(), *blocks);
+        same_in(rt, &text, found.1, *counts);
     }
     Ok(())
 }
@@ -115,11 +116,11 @@ fn logs_that_are_refused(rt: HostRuntime) -> Result<(), Fail> {
     for (text, want) in cases {
         match replay_bytes(rt.alloc(), text.as_bytes()) {
             Ok(_) => panic!(rt; "{text}"),
-            Err(error) => assert_eq!(rt; error, want, "{text}"),
+            Err(error) => same_in(&rt, &text, error, want),
         }
         match replay_with_spans(rt.alloc(), text.as_bytes()) {
             Ok(_) => panic!(rt; "{text}"),
-            Err(error) => assert_eq!(rt; error, want, "{text}"),
+            Err(error) => same_in(&rt, &text, error, want),
         }
     }
     Ok(())
@@ -130,12 +131,12 @@ fn sizes_and_callers(rt: HostRuntime) -> Result<(), Fail> {
     let text = "+ 0x10200 0x10\n@ ./a.out:[0x401136] + 0x10100 0x20\n";
     let log = Log::read(rt.alloc(), text.as_bytes())?;
     let live = replay(rt.alloc(), &log)?;
-    assert_eq!(rt; live.bytes(), 48);
-    assert_eq!(rt; live.unknown(), 0);
-    assert_eq!(rt; live.displaced(), 0);
+    same(&rt, live.bytes(), 48);
+    same(&rt, live.unknown(), 0);
+    same(&rt, live.displaced(), 0);
     let callers = ["./a.out:[0x401136]", ""];
     for (block, caller) in live.blocks().iter().zip(callers) {
-        assert_eq!(rt; text.get(block.caller.0..block.caller.1), Some(caller));
+        same(&rt, text.get(block.caller.0..block.caller.1), Some(caller));
     }
     Ok(())
 }
@@ -170,8 +171,8 @@ fn nodes_made_over_and_over(rt: HostRuntime) -> Result<(), Fail> {
     }
     write!(text, "- 0x10\n+ 0x1008 0x10\n")?;
     let (blocks, counts) = outcome(&rt, rt.alloc(), text.as_str())?;
-    assert_eq!(rt; blocks.len(), 600 + 16 * 7);
-    assert_eq!(rt; counts, (2, 1, 0));
+    same(&rt, blocks.len(), 600 + 16 * 7);
+    same(&rt, counts, (2, 1, 0));
     Ok(())
 }
 
@@ -180,8 +181,8 @@ fn ranges_of(rt: &impl Abort, alloc: Global, text: &str) -> Result<Vec<(u64, u64
     let log = Log::read(alloc, text.as_bytes())?;
     let by_lines = small_spans(alloc, &log)?;
     let (replayed, by_bytes) = replay_with_spans(alloc, text.as_bytes())?;
-    assert_eq!(rt; by_bytes.ranges(), by_lines.ranges(), "{text}");
-    assert_eq!(rt; replayed.whole_len, text.len(), "{text}");
+    same_in(rt, &text, by_bytes.ranges(), by_lines.ranges());
+    same_in(rt, &text, replayed.whole_len, text.len());
     let mut ranges = Vec::new(alloc);
     for range in by_lines.ranges() {
         ranges.push((range.first, range.last))?;
@@ -222,7 +223,7 @@ fn small_allocations_as_ranges(rt: HostRuntime) -> Result<(), Fail> {
     ];
     for (text, ranges) in cases {
         let found = ranges_of(&rt, rt.alloc(), text)?;
-        assert_eq!(rt; found.as_slice(), ranges, "{text}");
+        same_in(&rt, &text, found.as_slice(), ranges);
     }
     Ok(())
 }
@@ -236,9 +237,9 @@ fn logs_without_a_small_allocation(rt: HostRuntime) -> Result<(), Fail> {
         "+ (nil) 0x20\n",
     ];
     for text in logs {
-        assert_eq!(rt; ranges_of(&rt, rt.alloc(), text)?.len(), 0, "{text}");
+        same_in(&rt, &text, ranges_of(&rt, rt.alloc(), text)?.len(), 0);
     }
-    assert_eq!(rt; SmallSpans::none(rt.alloc()).ranges().len(), 0);
+    same(&rt, SmallSpans::none(rt.alloc()).ranges().len(), 0);
     Ok(())
 }
 
@@ -338,7 +339,7 @@ fn runs_one_after_another(rt: HostRuntime) -> Result<(), Fail> {
         write!(text, "+ {:#x} 0x40\n- {:#x}\n", base + 0x60, base + 0x40)?;
     }
     let (blocks, counts) = outcome(&rt, rt.alloc(), text.as_str())?;
-    assert_eq!(rt; blocks.len(), 20 * 19);
-    assert_eq!(rt; counts, (20, 40, 0));
+    same(&rt, blocks.len(), 20 * 19);
+    same(&rt, counts, (20, 40, 0));
     Ok(())
 }

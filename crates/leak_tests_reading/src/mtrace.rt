@@ -1,3 +1,4 @@
+use crate::comparisons::{same, same_in};
 use leak_mtrace::{Kind, Line, Log, LogError, Reader, parse_line};
 use std::alloc::Global;
 use std::fmt::Write;
@@ -41,7 +42,7 @@ fn lines_without_a_place(rt: HostRuntime) {
         ),
     ];
     for (text, want) in cases {
-        assert_eq!(rt; parse_line(text.as_bytes()), want, "{text}");
+        same_in(&rt, &text, parse_line(text.as_bytes()), want);
     }
 }
 
@@ -82,7 +83,7 @@ fn lines_with_a_place(rt: HostRuntime) {
         ),
     ];
     for (text, want) in cases {
-        assert_eq!(rt; parse_line(text.as_bytes()), want, "{text}");
+        same_in(&rt, &text, parse_line(text.as_bytes()), want);
     }
 }
 
@@ -111,7 +112,7 @@ fn lines_that_mtrace_does_not_write(rt: HostRuntime) {
         "@ ./a.out = Start",
     ];
     for text in cases {
-        assert_eq!(rt; parse_line(text.as_bytes()), None, "{text}");
+        same_in(&rt, &text, parse_line(text.as_bytes()), None);
     }
 }
 
@@ -120,20 +121,21 @@ fn a_log_with_its_remarks(rt: HostRuntime) -> Result<(), Fail> {
     let text = "= Start\n\n@ ./a.out:[0x401136] + 0x1c502a0 0x48\n= End\n";
     let log = Log::read(rt.alloc(), text.as_bytes())?;
     let want = [Kind::Remark, Kind::Remark, Kind::Alloc, Kind::Remark];
-    assert_eq!(rt; log.lines().len(), want.len());
+    same(&rt, log.lines().len(), want.len());
     for (line, kind) in log.lines().iter().zip(want) {
-        assert_eq!(rt; line.kind, kind);
+        same(&rt, line.kind, kind);
         if kind == Kind::Alloc {
-            assert_eq!(rt;
+            same(
+                &rt,
                 text.get(line.caller.0..line.caller.1),
-                Some("./a.out:[0x401136]")
+                Some("./a.out:[0x401136]"),
             );
         } else {
-            assert_eq!(rt; line.caller, (0, 0));
+            same(&rt, line.caller, (0, 0));
         }
     }
-    assert_eq!(rt; log.torn(), 0);
-    assert_eq!(rt; log.whole_len(), text.len());
+    same(&rt, log.torn(), 0);
+    same(&rt, log.whole_len(), text.len());
     Ok(())
 }
 
@@ -168,20 +170,20 @@ fn logs_and_refusals(rt: HostRuntime) {
         ("+ (nil) 0xffffffffffffffff\n", Ok((1, 0, 27))),
     ];
     for (text, want) in cases {
-        assert_eq!(rt; outcome(rt.alloc(), text), want, "{text}");
+        same_in(&rt, &text, outcome(rt.alloc(), text), want);
     }
 }
 
 #[test]
 fn a_reader_counts_its_lines(rt: HostRuntime) -> Result<(), Fail> {
     let mut reader = Reader::new(b"- 0x1\n\n+ 0x10 0x20\n- 0x");
-    assert_eq!(rt; reader.count(), 0);
+    same(&rt, reader.count(), 0);
     for want in 1..=3usize {
-        assert_eq!(rt; reader.next_line()?.is_some(), true);
-        assert_eq!(rt; reader.count(), want);
+        same(&rt, reader.next_line()?.is_some(), true);
+        same(&rt, reader.count(), want);
     }
-    assert_eq!(rt; reader.next_line()?.is_some(), false);
-    assert_eq!(rt; reader.count(), 3);
+    same(&rt, reader.next_line()?.is_some(), false);
+    same(&rt, reader.count(), 3);
     Ok(())
 }
 
@@ -198,7 +200,7 @@ fn refusals_in_words(rt: HostRuntime) -> Result<(), Fail> {
     for (error, want) in cases {
         let mut text = String::new(rt.alloc());
         write!(text, "{error}")?;
-        assert_eq!(rt; text.as_str(), want);
+        same(&rt, text.as_str(), want);
     }
     Ok(())
 }

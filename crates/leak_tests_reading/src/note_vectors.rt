@@ -1,3 +1,4 @@
+use crate::comparisons::{same, same_in};
 use crate::cores::set;
 use leak_elf::{Image, core_k};
 use leak_notes::{NoteError, RegisterSet, Threads, register_sets};
@@ -42,8 +43,8 @@ fn a_vector_entry_has_32_words_and_is_no_thread(rt: HostRuntime) -> Result<(), F
     let core = with_vectors(rt.alloc())?;
     let image = Image::read(rt.alloc(), core.as_slice())?;
     let threads = Threads::read(rt.alloc(), &image)?;
-    assert_eq!(rt; threads.count(), 1);
-    assert_eq!(rt; threads.registers(), [0u64; 59].as_slice());
+    same(&rt, threads.count(), 1);
+    same(&rt, threads.registers(), [0u64; 59].as_slice());
     Ok(())
 }
 
@@ -61,12 +62,12 @@ fn the_words_are_those_of_xmm0_to_xmm15(rt: HostRuntime) -> Result<(), Fail> {
         let mut wanted = [0u64; 59];
         wanted[number] = 0x10100;
         let registers = registers_with(rt.alloc(), at, 0x10100)?;
-        assert_eq!(rt; registers.as_slice(), wanted.as_slice(), "at {at}");
+        same_in(&rt, &at, registers.as_slice(), wanted.as_slice());
     }
     // The control words, the x87 registers, and what follows xmm15.
     for at in [552, 584, 704, 968, 1056] {
         let registers = registers_with(rt.alloc(), at, 0x10100)?;
-        assert_eq!(rt; registers.as_slice(), [0u64; 59].as_slice(), "at {at}");
+        same_in(&rt, &at, registers.as_slice(), [0u64; 59].as_slice());
     }
     Ok(())
 }
@@ -85,48 +86,48 @@ fn the_words_stand_in_the_order_of_the_entries(rt: HostRuntime) -> Result<(), Fa
     set(&mut core, 1064 + 20 + 112, &3u64.to_le_bytes());
     let image = Image::read(rt.alloc(), core.as_slice())?;
     let threads = Threads::read(rt.alloc(), &image)?;
-    assert_eq!(rt; threads.count(), 2);
+    same(&rt, threads.count(), 2);
     let mut wanted = [0u64; 86];
     wanted[0] = 1;
     wanted[32] = 2;
     wanted[59] = 3;
-    assert_eq!(rt; threads.registers(), wanted.as_slice());
+    same(&rt, threads.registers(), wanted.as_slice());
     Ok(())
 }
 
 #[test]
 fn a_vector_entry_of_another_size_is_refused(rt: HostRuntime) -> Result<(), Fail> {
-    let wrong = Some(NoteError::VectorSize(532));
-    assert_eq!(rt; refusal_with(rt.alloc(), &[(96, 884), (536, 508)])?, wrong);
-    assert_eq!(rt; refusal_with(rt.alloc(), &[(96, 892), (536, 516)])?, wrong);
-    assert_eq!(rt; refusal_with(rt.alloc(), &[(96, 376), (536, 0)])?, wrong);
-    // Before that there is no thread status, and after a status of another size.
-    assert_eq!(rt;
-        refusal_with(rt.alloc(), &[(96, 884), (536, 508), (184, 6)])?,
-        wrong
-    );
-    assert_eq!(rt;
-        refusal_with(rt.alloc(), &[(96, 884), (536, 508), (180, 333)])?,
-        Some(NoteError::StatusSize(176))
-    );
-    // One that is cut off is that first.
-    assert_eq!(rt;
-        refusal_with(rt.alloc(), &[(96, 887), (536, 516)])?,
-        Some(NoteError::Cut(532))
-    );
+    let wrong = NoteError::VectorSize(532);
+    let cases: [(&[(usize, u32)], NoteError); 6] = [
+        (&[(96, 884), (536, 508)], wrong),
+        (&[(96, 892), (536, 516)], wrong),
+        (&[(96, 376), (536, 0)], wrong),
+        // Before that there is no thread status, and after a status of another size.
+        (&[(96, 884), (536, 508), (184, 6)], wrong),
+        (
+            &[(96, 884), (536, 508), (180, 333)],
+            NoteError::StatusSize(176),
+        ),
+        // One that is cut off is that first.
+        (&[(96, 887), (536, 516)], NoteError::Cut(532)),
+    ];
+    for (changes, wanted) in cases {
+        let refused = refusal_with(rt.alloc(), changes)?;
+        same_in(&rt, &changes, refused, Some(wanted));
+    }
     Ok(())
 }
 
 #[test]
 fn vector_entries_alone_are_no_thread(rt: HostRuntime) -> Result<(), Fail> {
     let none = Some(NoteError::NoThread);
-    assert_eq!(rt; refusal_with(rt.alloc(), &[(184, 6)])?, none);
+    same(&rt, refusal_with(rt.alloc(), &[(184, 6)])?, none);
     // A thread status whose type is that of a vector entry.
     let mut core = core_k(rt.alloc(), &[])?;
     set(&mut core, 184, &[2]);
     let image = Image::read(rt.alloc(), core.as_slice())?;
     let refusal = Threads::read(rt.alloc(), &image).err();
-    assert_eq!(rt; refusal, Some(NoteError::VectorSize(176)));
+    same(&rt, refusal, Some(NoteError::VectorSize(176)));
     Ok(())
 }
 
@@ -138,7 +139,7 @@ fn an_entry_of_another_name_is_skipped(rt: HostRuntime) -> Result<(), Fail> {
     set(&mut core, 720, &0x10100u64.to_le_bytes());
     let image = Image::read(rt.alloc(), core.as_slice())?;
     let threads = Threads::read(rt.alloc(), &image)?;
-    assert_eq!(rt; threads.registers(), [0u64; 27].as_slice());
+    same(&rt, threads.registers(), [0u64; 27].as_slice());
     Ok(())
 }
 
@@ -148,6 +149,6 @@ fn sets_are_in_the_order_of_the_entries(rt: HostRuntime) -> Result<(), Fail> {
     let image = Image::read(rt.alloc(), core.as_slice())?;
     let sets = register_sets(rt.alloc(), &image)?;
     let both = [RegisterSet::Status, RegisterSet::Vector];
-    assert_eq!(rt; sets.as_slice(), both.as_slice());
+    same(&rt, sets.as_slice(), both.as_slice());
     Ok(())
 }

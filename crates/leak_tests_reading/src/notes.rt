@@ -1,3 +1,4 @@
+use crate::comparisons::{same, same_in};
 use crate::cores::set;
 use leak_elf::{Image, core_k};
 use leak_notes::{NoteError, Threads};
@@ -34,24 +35,23 @@ fn the_sample_has_one_thread_of_zero_registers(rt: HostRuntime) -> Result<(), Fa
     let core = core_k(rt.alloc(), &[])?;
     let image = Image::read(rt.alloc(), core.as_slice())?;
     let threads = Threads::read(rt.alloc(), &image)?;
-    assert_eq!(rt; threads.count(), 1);
-    assert_eq!(rt; threads.registers(), [0u64; 27].as_slice());
+    same(&rt, threads.count(), 1);
+    same(&rt, threads.registers(), [0u64; 27].as_slice());
     Ok(())
 }
 
 #[test]
 fn an_entry_that_passes_the_end_of_its_part_is_cut_off(rt: HostRuntime) -> Result<(), Fail> {
-    assert_eq!(rt;
-        refusal_of(rt.alloc(), 300, 0, &[])?,
-        Some(NoteError::Cut(176))
-    );
-    // Four bytes are left after the first entry.
-    assert_eq!(rt;
-        refusal_of(rt.alloc(), 360, 0, &[])?,
-        Some(NoteError::Cut(532))
-    );
-    // Twelve zero bytes are an entry, of another type.
-    assert_eq!(rt; refusal_of(rt.alloc(), 368, 0, &[])?, None);
+    let cases = [
+        (300, Some(NoteError::Cut(176))),
+        // Four bytes are left after the first entry.
+        (360, Some(NoteError::Cut(532))),
+        // Twelve zero bytes are an entry, of another type.
+        (368, None),
+    ];
+    for (size, wanted) in cases {
+        same_in(&rt, &size, refusal_of(rt.alloc(), size, 0, &[])?, wanted);
+    }
     Ok(())
 }
 
@@ -59,42 +59,42 @@ fn an_entry_that_passes_the_end_of_its_part_is_cut_off(rt: HostRuntime) -> Resul
 fn the_padding_of_the_last_descriptor_may_be_missing(rt: HostRuntime) -> Result<(), Fail> {
     // A second entry, of another type, whose descriptor has one byte.
     let entry = [0u8, 0, 0, 0, 1, 0, 0, 0, 9, 0, 0, 0, 7];
-    assert_eq!(rt; refusal_of(rt.alloc(), 356 + 13, 532, &entry)?, None);
-    assert_eq!(rt; refusal_of(rt.alloc(), 356 + 15, 532, &entry)?, None);
-    assert_eq!(rt; refusal_of(rt.alloc(), 356 + 16, 532, &entry)?, None);
-    assert_eq!(rt;
-        refusal_of(rt.alloc(), 356 + 17, 532, &entry)?,
-        Some(NoteError::Cut(548))
-    );
     // That of a name may not, even where no descriptor follows.
     let named = [1u8, 0, 0, 0, 0, 0, 0, 0, 9, 0, 0, 0, 65];
-    assert_eq!(rt;
-        refusal_of(rt.alloc(), 356 + 13, 532, &named)?,
-        Some(NoteError::Cut(532))
-    );
-    assert_eq!(rt; refusal_of(rt.alloc(), 356 + 16, 532, &named)?, None);
+    let cases = [
+        (entry, 13, None),
+        (entry, 15, None),
+        (entry, 16, None),
+        (entry, 17, Some(NoteError::Cut(548))),
+        (named, 13, Some(NoteError::Cut(532))),
+        (named, 16, None),
+    ];
+    for (bytes, more, wanted) in cases {
+        let refused = refusal_of(rt.alloc(), 356 + more, 532, &bytes)?;
+        same_in(&rt, &(bytes[0], more), refused, wanted);
+    }
     Ok(())
 }
 
 #[test]
 fn a_thread_status_of_another_size_is_refused(rt: HostRuntime) -> Result<(), Fail> {
     let refusal = refusal_of(rt.alloc(), 352, 180, &332u32.to_le_bytes())?;
-    assert_eq!(rt; refusal, Some(NoteError::StatusSize(176)));
+    same(&rt, refusal, Some(NoteError::StatusSize(176)));
     Ok(())
 }
 
 #[test]
 fn other_entries_are_skipped(rt: HostRuntime) -> Result<(), Fail> {
     let none = Some(NoteError::NoThread);
-    assert_eq!(rt; refusal_of(rt.alloc(), 356, 184, &[6])?, none);
+    same(&rt, refusal_of(rt.alloc(), 356, 184, &[6])?, none);
     // The name of another entry, with its size.
     let mut core = core_k(rt.alloc(), &[])?;
     set(&mut core, 176, &[6]);
     set(&mut core, 188, b"LINUX\0");
-    assert_eq!(rt; refusal(rt.alloc(), core.as_slice())?, none);
-    assert_eq!(rt; refusal_of(rt.alloc(), 0, 0, &[])?, none);
+    same(&rt, refusal(rt.alloc(), core.as_slice())?, none);
+    same(&rt, refusal_of(rt.alloc(), 0, 0, &[])?, none);
     // The header of the part is of another type.
-    assert_eq!(rt; refusal_of(rt.alloc(), 356, 64, &[0])?, none);
+    same(&rt, refusal_of(rt.alloc(), 356, 64, &[0])?, none);
     Ok(())
 }
 
@@ -111,12 +111,12 @@ fn the_registers_of_each_thread_stand_in_order(rt: HostRuntime) -> Result<(), Fa
     set(&mut core, 704, &0x10300u64.to_le_bytes());
     let image = Image::read(rt.alloc(), core.as_slice())?;
     let threads = Threads::read(rt.alloc(), &image)?;
-    assert_eq!(rt; threads.count(), 2);
+    same(&rt, threads.count(), 2);
     let mut registers = [0u64; 54];
     registers[5] = 0x10100;
     registers[27] = 0x10200;
     registers[32] = 0x10300;
-    assert_eq!(rt; threads.registers(), registers.as_slice());
+    same(&rt, threads.registers(), registers.as_slice());
     Ok(())
 }
 
@@ -140,9 +140,9 @@ fn the_parts_are_read_in_the_order_of_the_headers(rt: HostRuntime) -> Result<(),
     }
     let image = Image::read(rt.alloc(), core.as_slice())?;
     let threads = Threads::read(rt.alloc(), &image)?;
-    assert_eq!(rt; threads.count(), 2);
-    assert_eq!(rt; threads.registers().first().copied(), Some(1000));
-    assert_eq!(rt; threads.registers().get(27).copied(), Some(600));
+    same(&rt, threads.count(), 2);
+    same(&rt, threads.registers().first().copied(), Some(1000));
+    same(&rt, threads.registers().get(27).copied(), Some(600));
     Ok(())
 }
 
@@ -161,8 +161,8 @@ fn a_core_of_many_threads_is_read(rt: HostRuntime) -> Result<(), Fail> {
     }
     let image = Image::read(rt.alloc(), core.as_slice())?;
     let threads = Threads::read(rt.alloc(), &image)?;
-    assert_eq!(rt; threads.count(), 5_000);
-    assert_eq!(rt; threads.registers().len(), 135_000);
+    same(&rt, threads.count(), 5_000);
+    same(&rt, threads.registers().len(), 135_000);
     Ok(())
 }
 
@@ -182,7 +182,7 @@ fn each_reason_has_its_text(rt: HostRuntime) -> Result<(), Fail> {
         (NoteError::NoMemory, "out of memory"),
     ];
     for (error, text) in texts {
-        assert_eq!(rt; format!(in rt.alloc(); "{error}")?.as_str(), text);
+        same(&rt, format!(in rt.alloc(); "{error}")?.as_str(), text);
     }
     Ok(())
 }

@@ -1,5 +1,6 @@
 //! What writers take of a text.
 
+use crate::comparisons::same;
 use crate::report::samples::{NOTHING_ODD, report};
 use leak_report::{WriteFault, write};
 use std::alloc::Global;
@@ -54,8 +55,8 @@ fn a_fault_tells_what_was_taken(rt: HostRuntime) -> Result<(), Fail> {
     for fails in [true, false] {
         let mut full = sink(rt.alloc(), 4, 10, fails, 3);
         let result = write(text.as_slice(), &mut full);
-        assert_eq!(rt; result, Err(WriteFault { written: 10 }));
-        assert_eq!(rt; full.held.as_slice(), b"blocks 0 b".as_slice());
+        same(&rt, result, Err(WriteFault { written: 10 }));
+        same(&rt, full.held.as_slice(), b"blocks 0 b".as_slice());
     }
     Ok(())
 }
@@ -63,22 +64,23 @@ fn a_fault_tells_what_was_taken(rt: HostRuntime) -> Result<(), Fail> {
 #[test]
 fn interruptions_are_counted(rt: HostRuntime) -> Result<(), Fail> {
     let mut patient = sink(rt.alloc(), 2, 100, true, 999_999);
-    assert_eq!(rt; write(b"leaked", &mut patient), Ok(()));
-    assert_eq!(rt; patient.held.as_slice(), b"leaked".as_slice());
+    same(&rt, write(b"leaked", &mut patient), Ok(()));
+    same(&rt, patient.held.as_slice(), b"leaked".as_slice());
     let mut endless = sink(rt.alloc(), 2, 100, true, 1_000_000);
-    assert_eq!(rt;
+    same(
+        &rt,
         write(b"leaked", &mut endless),
-        Err(WriteFault { written: 0 })
+        Err(WriteFault { written: 0 }),
     );
-    assert_eq!(rt; endless.held.as_slice(), b"".as_slice());
+    same(&rt, endless.held.as_slice(), b"".as_slice());
     Ok(())
 }
 
 #[test]
 fn a_vec_takes_the_text(rt: HostRuntime) -> Result<(), Fail> {
     let mut out = Vec::from_slice(rt.alloc(), b"torn ")?;
-    assert_eq!(rt; write(b"1\n", &mut out), Ok(()));
-    assert_eq!(rt; out.as_slice(), b"torn 1\n".as_slice());
+    same(&rt, write(b"1\n", &mut out), Ok(()));
+    same(&rt, out.as_slice(), b"torn 1\n".as_slice());
     Ok(())
 }
 
@@ -86,6 +88,6 @@ fn a_vec_takes_the_text(rt: HostRuntime) -> Result<(), Fail> {
 fn fault_text(rt: HostRuntime) -> Result<(), Fail> {
     let fault = WriteFault { written: 10 };
     let text = format!(in rt.alloc(); "{fault}")?;
-    assert_eq!(rt; text.as_str(), "write failed after 10 bytes");
+    same(&rt, text.as_str(), "write failed after 10 bytes");
     Ok(())
 }

@@ -2,6 +2,7 @@
 
 ghost use Rattle.std.specs.Prelude.{length};
 
+use crate::comparisons::same;
 use crate::report::samples::have_callers_in;
 use leak_blocks::replay;
 use leak_mtrace::Log;
@@ -19,13 +20,14 @@ fn totals_of_leaked_blocks(rt: HostRuntime) -> Result<(), Fail> {
     assert!(rt; live.blocks().len() == heads.len());
     assert!(rt; have_callers_in(live.blocks(), log.as_bytes()));
     let totals = Totals::of(rt.alloc(), &live, &set, &heads, log.as_bytes())?;
-    assert_eq!(rt; (totals.blocks, totals.bytes, totals.heads), (3, 16, 1));
+    same(&rt, (totals.blocks, totals.bytes, totals.heads), (3, 16, 1));
     let rows = [(1, 8, 0, (18, 19)), (2, 8, 1, (2, 3))];
-    assert_eq!(rt; totals.rows.len(), rows.len());
+    same(&rt, totals.rows.len(), rows.len());
     for (row, (blocks, bytes, heads, caller)) in totals.rows.iter().zip(rows) {
-        assert_eq!(rt;
+        same(
+            &rt,
             (row.blocks, row.bytes, row.heads, row.caller),
-            (blocks, bytes, heads, caller)
+            (blocks, bytes, heads, caller),
         );
     }
     Ok(())

@@ -1,5 +1,6 @@
 //! The warnings of what is odd about the inputs.
 
+use crate::comparisons::same;
 use leak_report::{Signs, warnings};
 use std::test::Fail;
 
@@ -63,7 +64,7 @@ fn each_sign_has_its_warning(rt: HostRuntime) -> Result<(), Fail> {
     ];
     for (signs, wanted) in cases {
         let found = warnings(rt.alloc(), &[signs])?;
-        assert_eq!(rt; found.as_str(), wanted);
+        same(&rt, found.as_str(), wanted);
     }
     Ok(())
 }
@@ -94,6 +95,6 @@ fn warnings_go_by_input(rt: HostRuntime) -> Result<(), Fail> {
         of order",
     ];
     assert!(rt; found.as_str().lines().eq(wanted.iter().copied()));
-    assert_eq!(rt; warnings(rt.alloc(), &[])?.as_str(), "");
+    same(&rt, warnings(rt.alloc(), &[])?.as_str(), "");
     Ok(())
 }

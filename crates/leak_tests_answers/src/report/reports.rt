@@ -2,6 +2,7 @@
 
 ghost use Rattle.std.specs.Prelude.{length};
 
+use crate::comparisons::same;
 use crate::report::samples::{Case, NOTHING_ODD, have_callers_in, have_reports, report};
 use leak_blocks::replay;
 use leak_mtrace::Log;
@@ -124,7 +125,7 @@ fn first_lines_of_two_cores(rt: HostRuntime) -> Result<(), Fail> {
         marked 2 bytes 48\n\
         leaked 0 bytes 0\n\
         heads 0\n";
-    assert_eq!(rt; found.as_slice(), wanted.as_bytes());
+    same(&rt, found.as_slice(), wanted.as_bytes());
     Ok(())
 }
 
@@ -172,7 +173,7 @@ fn misfits_are_listed_where_asked(rt: HostRuntime) -> Result<(), Fail> {
             log,
         )?;
         let wanted = format!(in rt.alloc(); "{ABOVE}{number}{leaks}{misfits}")?;
-        assert_eq!(rt; found.as_slice(), wanted.as_str().as_bytes());
+        same(&rt, found.as_slice(), wanted.as_str().as_bytes());
     }
     Ok(())
 }

@@ -3,6 +3,7 @@
 ghost use Rattle.std.specs.Prelude.{length, IsTrue};
 ghost use Rattle.leak_report.specs.Totals.{HaveCallersIn};
 
+use crate::comparisons::same_in;
 use leak_blocks::{Block, replay};
 use leak_mtrace::Log;
 use leak_report::{Head, text};
@@ -52,7 +53,7 @@ pub(crate) fn have_reports<R: Abort + AllocGlobal>(rt: &R, cases: &[Case]) -> Re
     for case in cases {
         let (log, marked, heads, wanted) = *case;
         let found = report(rt, rt.alloc(), &NOTHING_ODD, log, marked, heads)?;
-        assert_eq!(rt; found.as_slice(), wanted.as_bytes(), "{log}");
+        same_in(rt, &log, found.as_slice(), wanted.as_bytes());
     }
     Ok(())
 }

@@ -1,7 +1,7 @@
 //! What passes a gate, and when.
 
+use crate::comparisons::same;
 use crate::pool::samples::{TURNS, by_workers, lead_of_the_second, marked_count, two_apart};
-use crate::samples::same;
 use leak_pool::{Gate, Plan};
 use std::sync::atomic::{AtomicU64, Ordering};
 use std::test::Fail;

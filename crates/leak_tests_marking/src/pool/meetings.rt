@@ -3,8 +3,9 @@ ghost use Rattle.std.specs.Prelude.{◌≡◌, []};
 ghost use Rattle.leak_elf.specs.Words.{word_of};
 ghost use Rattle.leak_elf.specs.Aligned.{aligned_words};
 
+use crate::comparisons::same;
 use crate::pool::samples::{TURNS, two_apart};
-use crate::samples::{Scene, core_of, same, scene_of};
+use crate::samples::{Scene, core_of, scene_of};
 use leak_elf::{Image, Words};
 use leak_index::{Reading, Sorted};
 use leak_pool::{Marked, Open, Plan, Start, mark, mark_from};

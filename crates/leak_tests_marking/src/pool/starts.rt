@@ -1,8 +1,9 @@
 //! Marking from a start, and of nothing.
 ghost use Rattle.std.specs.Prelude.{◌<◌, length};
 
+use crate::comparisons::same;
 use crate::pool::samples::{Sample, alone, by_workers, claim_count};
-use crate::samples::{same, scene_of};
+use crate::samples::scene_of;
 use leak_blocks::Live;
 use leak_elf::{Image, core_k};
 use leak_index::{Reading, Sorted};

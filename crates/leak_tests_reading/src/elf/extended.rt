@@ -1,5 +1,6 @@
 //! The number of program headers in section header 0.
 
+use crate::comparisons::{same, same_in};
 use crate::cores::{push_header, refusal, set};
 use leak_elf::{ElfError, Image, NotePart, Segment, Words, core_k};
 use std::alloc::Global;
@@ -47,9 +48,10 @@ fn the_number_stands_in_section_header_0(rt: HostRuntime) -> Result<(), Fail> {
     let core = numbered(rt.alloc(), 600, 0xffff, 2)?;
     assert!(rt; is_read_as_the_sample(rt.alloc(), core.as_slice())?);
     let core = numbered(rt.alloc(), 600, 0xffff, 200)?;
-    assert_eq!(rt;
+    same(
+        &rt,
         refusal(rt.alloc(), core.as_slice()),
-        Some(ElfError::TableCut)
+        Some(ElfError::TableCut),
     );
     // The last 64 bytes of the file are a section header of zeros.
     let core = numbered(rt.alloc(), 8128, 0xffff, 0)?;
@@ -71,10 +73,11 @@ fn a_section_header_that_is_missing_or_cut_is_refused(rt: HostRuntime) -> Result
         u64::MAX,
     ] {
         let core = numbered(rt.alloc(), e_shoff, 0xffff, 2)?;
-        assert_eq!(rt;
+        same_in(
+            &rt,
+            &e_shoff,
             refusal(rt.alloc(), core.as_slice()),
             Some(ElfError::Extended),
-            "at {e_shoff}"
         );
     }
     Ok(())
@@ -99,13 +102,14 @@ fn seventy_thousand_headers_are_read(rt: HostRuntime) -> Result<(), Fail> {
     push_header(&mut core, 4, 176, 0, 356, 0)?;
     push_header(&mut core, 1, 4096, 0x10000, 4096, 4096)?;
     core.resize(8192 + 56 * 70_000, 0)?;
-    assert_eq!(rt; core.len(), 3_928_192);
+    same(&rt, core.len(), 3_928_192);
     assert!(rt; is_read_as_the_sample(rt.alloc(), core.as_slice())?);
     // Without its last byte the table is cut.
     core.truncate(3_928_191);
-    assert_eq!(rt;
+    same(
+        &rt,
         refusal(rt.alloc(), core.as_slice()),
-        Some(ElfError::TableCut)
+        Some(ElfError::TableCut),
     );
     Ok(())
 }
@@ -119,18 +123,20 @@ fn four_thousand_million_claimed_headers_cost_nothing(rt: HostRuntime) -> Result
     for sh_info in [4_000_000_000, u32::MAX] {
         let core = numbered(rt.alloc(), 600, 0xffff, sh_info)?;
         for _ in 0..READS {
-            assert_eq!(rt;
+            same(
+                &rt,
                 refusal(rt.alloc(), core.as_slice()),
-                Some(ElfError::TableCut)
+                Some(ElfError::TableCut),
             );
         }
     }
     // Where the table would end past 2^64, nothing wraps.
     let mut core = numbered(rt.alloc(), 600, 0xffff, u32::MAX)?;
     set(&mut core, 32, &u64::MAX.to_le_bytes());
-    assert_eq!(rt;
+    same(
+        &rt,
         refusal(rt.alloc(), core.as_slice()),
-        Some(ElfError::TableCut)
+        Some(ElfError::TableCut),
     );
     Ok(())
 }

@@ -1,5 +1,6 @@
 //! Cores of many segments: time must not grow with the square of their number.
 
+use crate::comparisons::{same, same_in};
 use crate::cores::{begun, begun_with_section, push_header, refusal};
 use leak_elf::{ElfError, Image, Words};
 use std::alloc::Global;
@@ -31,8 +32,8 @@ fn many_segments_are_read_in_any_order(rt: HostRuntime) -> Result<(), Fail> {
     for order in [Order::Ascending, Order::Descending] {
         let core = many_segments(rt.alloc(), 140_000, order)?;
         let image = Image::read(rt.alloc(), core.as_slice())?;
-        assert_eq!(rt; image.segments().len(), 140_000);
-        assert_eq!(rt; image.undumped(), 4096 * 140_000);
+        same(&rt, image.segments().len(), 140_000);
+        same(&rt, image.undumped(), 4096 * 140_000);
     }
     Ok(())
 }
@@ -42,9 +43,10 @@ fn the_last_of_many_segments_may_overlap(rt: HostRuntime) -> Result<(), Fail> {
     for order in [Order::Ascending, Order::Descending] {
         let mut core = many_segments(rt.alloc(), 140_001, order)?;
         push_header(&mut core, 1, 0, 4096 * 70_000, 0, 4096)?;
-        assert_eq!(rt;
+        same(
+            &rt,
             refusal(rt.alloc(), core.as_slice()),
-            Some(ElfError::Overlap(140_000))
+            Some(ElfError::Overlap(140_000)),
         );
     }
     Ok(())
@@ -65,11 +67,11 @@ fn next_skips_a_row_of_undumped_segments(rt: HostRuntime) -> Result<(), Fail> {
     let image = Image::read(rt.alloc(), core.as_slice())?;
     for _ in 0..ROUNDS {
         for i in 0..0xfffe_u64 {
-            assert_eq!(rt; image.next(4096 * i), Some(last), "at page {i}");
+            same_in(&rt, &i, image.next(4096 * i), Some(last));
         }
     }
     // The word is the first of the file.
-    assert_eq!(rt; image.word(last), Some(0x0001_0102_464c_457f));
-    assert_eq!(rt; image.next(last + 1), None);
+    same(&rt, image.word(last), Some(0x0001_0102_464c_457f));
+    same(&rt, image.next(last + 1), None);
     Ok(())
 }

@@ -1,5 +1,6 @@
 //! What a refusal prints.
 
+use crate::comparisons::same;
 use leak_elf::ElfError;
 use std::test::Fail;
 
@@ -29,7 +30,7 @@ fn texts_of_errors(rt: HostRuntime) -> Result<(), Fail> {
         (ElfError::NoMemory, "out of memory"),
     ];
     for (error, text) in rows {
-        assert_eq!(rt; error.to_string(rt.alloc())?.as_str(), text);
+        same(&rt, error.to_string(rt.alloc())?.as_str(), text);
     }
     Ok(())
 }

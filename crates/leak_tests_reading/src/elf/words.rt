@@ -1,5 +1,6 @@
 //! Segments, notes and words of an accepted core.
 
+use crate::comparisons::{same, same_in};
 use crate::cores::{begun, changed, push_header};
 use leak_elf::{Image, NotePart, Segment, Words, core_k};
 use std::test::Fail;
@@ -15,24 +16,25 @@ fn the_parts_of_the_sample(rt: HostRuntime) -> Result<(), Fail> {
         filesz: 4096,
         writable: true,
     };
-    assert_eq!(rt; image.segments(), [segment].as_slice());
+    same(&rt, image.segments(), [segment].as_slice());
     assert!(rt; 0 < image.segments().len());
     let bytes = image.bytes_of(0);
-    assert_eq!(rt; bytes.len(), 4096);
+    same(&rt, bytes.len(), 4096);
     assert!(rt; bytes.starts_with(&[8, 7, 6, 5, 4, 3, 2, 1, 0]));
-    assert_eq!(rt;
+    same(
+        &rt,
         image.note_parts(),
         [NotePart {
             offset: 176,
-            filesz: 356
+            filesz: 356,
         }]
-        .as_slice()
+        .as_slice(),
     );
     assert!(rt; 0 < image.note_parts().len());
     let notes = image.note_bytes(0);
-    assert_eq!(rt; notes.len(), 356);
+    same(&rt, notes.len(), 356);
     assert!(rt; notes.starts_with(b"\x05\0\0\0\x50\x01\0\0\x01\0\0\0CORE\0\0\0\0\0"));
-    assert_eq!(rt; image.undumped(), 0);
+    same(&rt, image.undumped(), 0);
     Ok(())
 }
 
@@ -43,16 +45,16 @@ fn words_of_the_sample(rt: HostRuntime) -> Result<(), Fail> {
         &[(0x10008, 0x10100), (0x10010, 7), (0x10008, 0x10200)],
     )?;
     let image = Image::read(rt.alloc(), core.as_slice())?;
-    assert_eq!(rt; image.word(0x10008), Some(0x10200));
-    assert_eq!(rt; image.word(0x10010), Some(7));
-    assert_eq!(rt; image.word(0x10ff8), Some(0));
+    same(&rt, image.word(0x10008), Some(0x10200));
+    same(&rt, image.word(0x10010), Some(7));
+    same(&rt, image.word(0x10ff8), Some(0));
     for addr in [0x11000, 0xfff8, 0x10004] {
-        assert_eq!(rt; image.word(addr), None, "at {addr}");
+        same_in(&rt, &addr, image.word(addr), None);
     }
-    assert_eq!(rt; image.next(0), Some(0x10000));
-    assert_eq!(rt; image.next(0x10001), Some(0x10008));
-    assert_eq!(rt; image.next(0x10ff9), None);
-    assert_eq!(rt; image.run(0x10008).len(), 0xff8);
+    same(&rt, image.next(0), Some(0x10000));
+    same(&rt, image.next(0x10001), Some(0x10008));
+    same(&rt, image.next(0x10ff9), None);
+    same(&rt, image.run(0x10008).len(), 0xff8);
     assert!(rt; image.run(0x10008).starts_with(&[0, 2, 1, 0, 0, 0, 0, 0, 7]));
     Ok(())
 }
@@ -61,10 +63,10 @@ fn words_of_the_sample(rt: HostRuntime) -> Result<(), Fail> {
 fn bytes_past_the_file_size_are_no_words(rt: HostRuntime) -> Result<(), Fail> {
     let core = changed(rt.alloc(), 152, &0x7fc_u64.to_le_bytes())?;
     let image = Image::read(rt.alloc(), core.as_slice())?;
-    assert_eq!(rt; image.word(0x107f0), Some(0));
-    assert_eq!(rt; image.word(0x107f8), None);
-    assert_eq!(rt; image.next(0x107f1), None);
-    assert_eq!(rt; image.undumped(), 2052);
+    same(&rt, image.word(0x107f0), Some(0));
+    same(&rt, image.word(0x107f8), None);
+    same(&rt, image.next(0x107f1), None);
+    same(&rt, image.undumped(), 2052);
     Ok(())
 }
 
@@ -92,7 +94,7 @@ fn next_skips_segments_of_too_few_bytes(rt: HostRuntime) -> Result<(), Fail> {
         (0x4009, None),
         (0x5000, None),
     ] {
-        assert_eq!(rt; image.next(from), next, "from {from}");
+        same_in(&rt, &from, image.next(from), next);
     }
     Ok(())
 }

@@ -1,0 +1,166 @@
+//! Searches and runs in few words: what most tests have in common stands here once.
+
+ghost use Rattle.std.specs.Prelude.{◌≡◌, length};
+ghost use Rattle.leak_request.specs.Requests.{file_count};
+
+use crate::comparisons::same_in;
+use leak_find::{FindError, Found, Options, RunFault, Skip, find_alone, find_one, find_two, run};
+use leak_index::Reading;
+use leak_pool::{Open, Plan};
+use std::alloc::Global;
+use std::fmt::Debug;
+use std::io::Read;
+use std::process::Abort;
+use std::thread::Threads;
+
+/// How a search reads words, what it leaves out, and whether it tells misfits.
+#[derive(Clone, Copy)]
+pub struct Way {
+    pub reading: Reading,
+    pub skip: Skip,
+    pub check: bool,
+}
+
+impl Way {
+    /// Interior pointers, all words, and no misfits.
+    pub fn plain() -> Way {
+        Way {
+            reading: Reading::interior(),
+            skip: Skip::none(),
+            check: false,
+        }
+    }
+
+    /// The same by another reading.
+    pub fn reading(reading: Reading) -> Way {
+        Way {
+            reading,
+            skip: Skip::none(),
+            check: false,
+        }
+    }
+
+    /// The same without some words.
+    pub fn skipping(skip: Skip) -> Way {
+        Way {
+            reading: Reading::interior(),
+            skip,
+            check: false,
+        }
+    }
+
+    /// The same with misfits told, or not.
+    pub fn checking(check: bool) -> Way {
+        Way {
+            reading: Reading::interior(),
+            skip: Skip::none(),
+            check,
+        }
+    }
+}
+
+/// What the caller's thread finds in a core and its log.
+pub fn alone(alloc: Global, core: &[u8], log: &[u8], way: Way) -> Result<Found, FindError> {
+    find_alone(alloc, core, log, way.reading, way.skip, way.check)
+}
+
+/// What the workers of the plan find in a core and its log.
+pub fn by_plan<R: Threads + Sync>(
+    rt: &R,
+    alloc: Global,
+    core: &[u8],
+    log: &[u8],
+    way: Way,
+    plan: Plan,
+) -> Result<Found, FindError> {
+    find_one(
+        rt,
+        alloc,
+        core,
+        log,
+        way.reading,
+        way.skip,
+        way.check,
+        plan,
+        &Open,
+    )
+}
+
+/// What they find in two cores, each with its log.
+pub fn of_two<R: Threads + Sync>(
+    rt: &R,
+    alloc: Global,
+    first: (&[u8], &[u8]),
+    second: (&[u8], &[u8]),
+    way: Way,
+    plan: Plan,
+) -> Result<Found, FindError> {
+    let (core1, log1) = first;
+    let (core2, log2) = second;
+    find_two(
+        rt,
+        alloc,
+        core1,
+        log1,
+        core2,
+        log2,
+        way.reading,
+        way.skip,
+        way.check,
+        plan,
+        &Open,
+    )
+}
+
+/// Ends the test where the report is another.
+pub fn reports<C: Debug>(rt: &impl Abort, case: &C, found: &Found, report: &str) {
+    same_in(rt, case, found.report.as_slice(), report.as_bytes());
+}
+
+/// Ends the test where the report is another, or the number of leaked blocks or of lists of claims.
+pub fn gives<C: Debug>(
+    rt: &impl Abort,
+    case: &C,
+    found: &Found,
+    report: &str,
+    leaked: u64,
+    workers: usize,
+) {
+    reports(rt, case, found, report);
+    same_in(rt, case, found.leaked, leaked);
+    same_in(rt, case, found.claims.len(), workers);
+}
+
+/// What a run answers, and what its writers hold then.
+#[derive(Drop)]
+pub struct Ran {
+    pub answer: Result<u8, RunFault>,
+    pub out: Vec<u8>,
+    pub warned: Vec<u8>,
+}
+
+impl Ran {
+    /// Whether nothing was written.
+    pub fn is_silent(&self) -> bool {
+        self.out.is_empty() && self.warned.is_empty()
+    }
+}
+
+/// Runs over the readers.
+pub fn run_over<T: Threads + Sync, R: Read>(
+    rt: &T,
+    alloc: Global,
+    readers: &mut [R],
+    options: &Options,
+) -> Ran
+    requires { length readers.old ≡ file_count options.now.two }
+{
+    let mut out = Vec::new(alloc);
+    let mut warned: Vec<u8> = Vec::new(alloc);
+    let answer = run(rt, alloc, readers, options, &mut out, &mut warned);
+    Ran {
+        answer,
+        out,
+        warned,
+    }
+}
