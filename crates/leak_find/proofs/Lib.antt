@@ -1,2 +1,1 @@
-pub mod Consumed
 pub mod RunLemmas

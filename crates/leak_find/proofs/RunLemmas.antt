@@ -8,15 +8,15 @@ use Rattle.std.specs.Result.{OnOk}
 use Rattle.std.proofs.Math.Seq.{take-length}
 use Rattle.leak_report.specs.declared.output.WriteFault.{WriteFault}
 use Rattle.leak_index.specs.Readings.{listed_by}
-use Rattle.leak_search.specs.declared.error.FindError.{FindError}
-use Rattle.leak_search.specs.declared.error.FindError.TheVariants.{NoMemory}
-use Rattle.leak_find.specs.declared.fault.ReadFault.{ReadFault}
+use Rattle.leak_input.specs.declared.error.FindError.{FindError}
+use Rattle.leak_input.specs.declared.error.FindError.TheVariants.{NoMemory}
+use Rattle.leak_readers.specs.declared.fault.ReadFault.{ReadFault}
 use Rattle.leak_find.specs.declared.fault.RunFault.{RunFault}
 use Rattle.leak_find.specs.declared.fault.RunFault.TheVariants.{Read, Find, NoBlock, Write}
-use Rattle.leak_search.specs.declared.found.Found.{Found}
+use Rattle.leak_input.specs.declared.found.Found.{Found}
 use Rattle.leak_request.specs.declared.options.Options.{Options}
-use Rattle.leak_search.specs.Inputs.{IsFaultOfOne, IsFaultOfTwo}
-use Rattle.leak_find.specs.Reading.{IsWholeInput, IsStopped}
+use Rattle.leak_input.specs.Inputs.{IsFaultOfOne, IsFaultOfTwo}
+use Rattle.leak_readers.specs.Reading.{IsWholeInput, IsStopped}
 use Rattle.leak_request.specs.Requests.{file_count}
 use Rattle.leak_find.specs.Run.{left_in, input_at, limit_at, AreInputs, Finds, IsFaultOf, HasFound, IsReaderFault, IsFindFault, IsSearchFault}
 use Rattle.leak_search.specs.Holding.{IsWhyFault, TellsWhy}
@@ -25,7 +25,7 @@ use Rattle.leak_search.specs.declared.holding.WhyError.{WhyError}
 use Rattle.leak_search.specs.declared.holding.WhyError.TheVariants.{Find as Refused, NoBlock as Missing}
 use Rattle.leak_find.specs.Why.{HasTold, IsAskFault, IsHoldingFault, at_asking}
 use Rattle.leak_search.specs.Search.{FindsOne}
-use Rattle.leak_search.specs.Signs.{AreSigns}
+use Rattle.leak_input.specs.Signs.{AreSigns}
 use Rattle.leak_search.specs.SearchTwo.{FindsTwo}
 
 -- ---- readers by their number

@@ -1,4 +1,2 @@
-pub mod Reading
-pub mod Reads
 pub mod Run
 pub mod Why

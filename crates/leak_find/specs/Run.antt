@@ -1,23 +1,21 @@
 -- What a run does to its readers and its writer, where these tell their bytes.
-use Rattle.std.specs.Prelude.{◌≡◌, ◌≢◌, ℕ, ◌+◌, ◌<◌, ◌≤◌, ◌%◌, ◌==◌, Bool, true, false, ◌&&◌}
-use Rattle.std.specs.Prelude.{List, [], length, map, Option, None, slice_index_or, take, nat_lt}
-use Rattle.std.specs.Prelude.{if◌then◌else◌}
+use Rattle.std.specs.Prelude.{◌≡◌, ◌≢◌, ℕ, ◌+◌, ◌<◌, ◌≤◌, ◌%◌, ◌==◌, Bool, true, false, ◌&&◌, List, [], length, map, Option, None, slice_index_or, take, nat_lt, if◌then◌else◌}
 use Rattle.std.specs.Io.KnownBytes.{Appends, Keeps}
 use Rattle.leak_index.specs.Readings.{listed_by}
 use Rattle.leak_report.specs.declared.output.WriteFault.{WriteFault}
-use Rattle.leak_search.specs.declared.error.FindError.{FindError}
-use Rattle.leak_search.specs.declared.error.FindError.TheVariants.{NoMemory}
-use Rattle.leak_search.specs.declared.found.Found.{Found}
-use Rattle.leak_find.specs.declared.fault.ReadFault.{ReadFault}
+use Rattle.leak_input.specs.declared.error.FindError.{FindError}
+use Rattle.leak_input.specs.declared.error.FindError.TheVariants.{NoMemory}
+use Rattle.leak_input.specs.declared.found.Found.{Found}
+use Rattle.leak_readers.specs.declared.fault.ReadFault.{ReadFault}
 use Rattle.leak_find.specs.declared.fault.RunFault.{RunFault}
 use Rattle.leak_find.specs.declared.fault.RunFault.TheVariants.{Read, Find, NoBlock, Write}
 use Rattle.leak_request.specs.declared.options.Options.{Options}
-use Rattle.leak_search.specs.Inputs.{IsFaultOfOne, IsFaultOfTwo}
-use Rattle.leak_find.specs.Reading.{IsWholeInput, IsStopped}
+use Rattle.leak_input.specs.Inputs.{IsFaultOfOne, IsFaultOfTwo}
+use Rattle.leak_readers.specs.Reading.{IsWholeInput, IsStopped}
 use Rattle.leak_request.specs.Requests.{file_count}
 use Rattle.leak_search.specs.Search.{FindsOne}
 use Rattle.leak_search.specs.SearchTwo.{FindsTwo}
-use Rattle.leak_search.specs.Signs.{AreSigns}
+use Rattle.leak_input.specs.Signs.{AreSigns}
 use Rattle.leak_report.specs.declared.signs.Signs.{Signs}
 use Rattle.leak_report.specs.Warnings.{warnings_of}
 

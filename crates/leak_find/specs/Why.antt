@@ -4,7 +4,7 @@ use Rattle.std.specs.Io.KnownBytes.{Appends, Keeps}
 use Rattle.leak_index.specs.Readings.{listed_by}
 use Rattle.leak_report.specs.declared.output.WriteFault.{WriteFault}
 use Rattle.leak_request.specs.declared.options.Options.{Options}
-use Rattle.leak_search.specs.declared.error.FindError.TheVariants.{NoMemory}
+use Rattle.leak_input.specs.declared.error.FindError.TheVariants.{NoMemory}
 use Rattle.leak_search.specs.declared.holding.Why.{Why}
 use Rattle.leak_search.specs.declared.holding.WhyError.{WhyError}
 use Rattle.leak_search.specs.declared.holding.WhyError.TheVariants.{Find as Refused, NoBlock as Missing}

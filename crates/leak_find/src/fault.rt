@@ -1,37 +1,9 @@
 //! Why the program ends without a report.
 
-ghost use Rattle.std.specs.Prelude.{◌≡◌};
-ghost use Rattle.leak_find.specs.declared.fault.ReadFault.TheVariants.{NoMemory};
-
+use leak_readers::ReadFault;
 use leak_report::WriteFault;
 use leak_search::FindError;
-use std::alloc::AllocError;
 use thiserror::Error;
-
-/// Why an input was not read to its end.
-#[derive(Clone, Copy, Debug, PartialEq, Eq, Error)]
-pub enum ReadFault {
-    /// The input has more bytes than its limit. One byte more than the limit was taken.
-    #[error("too long")]
-    TooLong,
-    /// A read failed, other than by an interruption.
-    #[error("read failed")]
-    Device,
-    /// Reads were interrupted 1,000,000 times.
-    #[error("too many interrupted reads")]
-    TooManyTurns,
-    /// An allocation failed.
-    #[error("out of memory")]
-    NoMemory,
-}
-
-impl From<AllocError> for ReadFault {
-    ghost from_gives = { λ _ e. e ≡ NoMemory };
-
-    fn from(_e: AllocError) -> ReadFault {
-        ReadFault::NoMemory
-    }
-}
 
 /// Why a run gives no status, in the order in which the reasons are tried. Only where a block is asked for can it be missing.
 #[derive(Clone, Copy, Debug, PartialEq, Eq, Error)]

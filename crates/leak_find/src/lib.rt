@@ -8,7 +8,7 @@
 //! [`find_alone`] searches one core on the caller's thread, [`find_one`] by worker threads, under the same promise, and
 //! [`find_two`] searches a later core from what an earlier one says. [`find_why`] tells why a block is held. These stand
 //! in `leak_search`, where it is also said what a leak, a root and a chain are. [`run`] and [`run_why`] do
-//! the same from readers to writers: how inputs are read, and what a run comes to, is said in `specs/Reads.antt`,
+//! the same from readers to writers: how inputs are read is said in `leak_readers`, and what a run comes to in
 //! `specs/Run.antt` and `specs/Why.antt`. [`run_sized`] and [`run_why_sized`] are told how many bytes the readers have.
 //!
 //! An allocation of 32 bytes, and a core in which no word leads to it:
@@ -29,13 +29,13 @@
 
 mod asking;
 mod fault;
-mod readers;
 mod running;
 
 pub use asking::{run_why, run_why_sized};
-pub use fault::{ReadFault, RunFault};
+pub use fault::RunFault;
 pub use leak_index::{Reading, ReadingError};
 pub use leak_pool::{Gate, Open, Plan, PlanError};
+pub use leak_readers::{ReadFault, read_all};
 pub use leak_report::{Signs, WriteFault, warnings, write};
 pub use leak_request::{
     CORE_LIMIT, DisplaceFault, LOG_LIMIT, Options, Request, UsageFault, read_displace, request,
@@ -44,5 +44,4 @@ pub use leak_roots::Skip;
 pub use leak_search::{
     FindError, Found, Why, WhyError, find_alone, find_one, find_two, find_why, leaked_stay_leaked,
 };
-pub use readers::read_all;
 pub use running::{run, run_sized};

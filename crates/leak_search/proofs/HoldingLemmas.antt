@@ -1,10 +1,9 @@
 -- From what was read and found to why a block is held.
-use Rattle.std.proofs.Common.{◌≡◌, ◌↔◌, ℕ, List, [], length, Option, Some, None, IsSome, ap, subst, sym, refl, ◌∙◌}
+use Rattle.std.proofs.Common.{◌≡◌, ◌↔◌, ℕ, List, length, Option, IsSome, ap, subst, refl, ◌∙◌}
 use Rattle.std.specs.Prelude.{is_some}
 use Rattle.leak_elf.specs.Words.{word_of}
 use Rattle.leak_notes.specs.Threads.{entries}
 use Rattle.leak_notes.specs.Sets.{sets_of}
-use Rattle.leak_mtrace.specs.declared.line.Line.{Line}
 use Rattle.leak_blocks.specs.declared.block.Block.{Block}
 use Rattle.leak_blocks.specs.Live.{live_of}
 use Rattle.leak_index.specs.Hits.{Index}
@@ -17,14 +16,13 @@ use Rattle.leak_why.specs.declared.chain.Chain.{Chain}
 use Rattle.leak_why.specs.Asked.{IsAsked, AreNotAsked}
 use Rattle.leak_why.specs.Chains.{IsWhy, search_graph}
 use Rattle.leak_why.specs.Text.{text_of}
-use Rattle.leak_search.specs.declared.error.FindError.{FindError}
 use Rattle.leak_search.specs.declared.holding.Why.{Why}
 use Rattle.leak_search.specs.declared.holding.WhyError.TheVariants.{NoBlock}
-use Rattle.leak_search.specs.declared.inputs.Input.{Input}
-use Rattle.leak_search.specs.Inputs.{AreRootsFor, IsRead}
-use Rattle.leak_search.specs.Search.{graph_of_one, index_of}
+use Rattle.leak_input.specs.declared.inputs.Input.{Input}
+use Rattle.leak_input.specs.Inputs.{AreRootsFor, IsRead}
 use Rattle.leak_search.specs.Holding.{TellsWhy, IsWhyFault}
-use Rattle.leak_search.proofs.SearchLemmas.{input_blocks, index_is, marked_graph}
+use Rattle.leak_input.proofs.InputLemmas.{input_blocks}
+use Rattle.leak_search.proofs.SearchLemmas.{index_is, marked_graph}
 
 pub tells_why : (core log : List ℕ) (reading : Option (List ℕ)) (skip : Skip) (address : ℕ) (input : Input) (index : Index) (places : Places) (block : ℕ) (chain : Option Chain) (found : Why)
     → (read : IsRead core log input) → index ≡ record { blocks = input.live.blocks; reading = reading } → input.skip ≡ skip → AreRootsFor read.0 input places

@@ -1,23 +1,17 @@
 -- From what was read and marked to what a search comes to.
-use Rattle.std.proofs.Common.{◌≡◌, ℕ, ◌-◌, ◌≤◌, ◌<◌, ◌^◌, List, [], ◌∷◌, length, Bool, true, false, not, Option, Some, None, Result, Ok, Err, IfOk, refl, ap, subst, sym, ◌∙◌, zero-add, arith, inr, Vec, Global, IfSome, option_map}
-use Rattle.std.specs.Prelude.{cond, if◌then◌else◌}
+use Rattle.std.proofs.Common.{◌≡◌, ℕ, ◌-◌, ◌≤◌, ◌<◌, ◌^◌, List, [], length, Bool, true, false, Option, Some, None, Result, Ok, Err, IfOk, refl, ap, subst, sym, ◌∙◌, arith, inr}
+use Rattle.std.specs.Prelude.{if◌then◌else◌}
 use Rattle.leak_elf.specs.Segments.{undumped_of}
 use Rattle.leak_mtrace.specs.Log.{torn_of}
 use Rattle.leak_report.specs.declared.head.Two.{Two}
-use Rattle.std.proofs.lemmas.List.{length-map}
-use Rattle.std.proofs.lemmas.List.Sums.{sum_by-cons}
 use Rattle.std.specs.Result.{IsErrOf}
-use Rattle.std.specs.List.{count_by}
 use Rattle.leak_elf.specs.Words.{word_of}
 use Rattle.leak_mtrace.specs.declared.line.Line.{Line}
 use Rattle.leak_blocks.specs.declared.block.Block.{Block}
 use Rattle.leak_blocks.specs.declared.small.Span.{Span}
 use Rattle.leak_blocks.specs.Small.{small_spans_of}
-use Rattle.leak_blocks.specs.Live.{Replay, live_of, replay_of}
-use Rattle.leak_blocks.proofs.LineLemmas.{live_of_lines}
+use Rattle.leak_blocks.specs.Live.{live_of, replay_of}
 use Rattle.leak_index.specs.Hits.{Index}
-use Rattle.leak_notes.specs.Threads.{threads_of}
-use Rattle.leak_fit.specs.Fit.{fits_core, fits_of}
 use Rattle.leak_scan.specs.Heads.{heads_of}
 use Rattle.leak_notes.specs.Threads.{registers_of}
 use Rattle.leak_roots.specs.Places.{Places}
@@ -29,31 +23,19 @@ use Rattle.leak_marks.specs.Partition.{Partitions}
 use Rattle.leak_pool.specs.declared.marked.Marked.{Marked}
 use Rattle.leak_pool.specs.Marking.{IsSet, Marks, graph_of, led_by_roots, led_from, lists_of}
 use Rattle.leak_report.specs.declared.head.Head.{Head}
-use Rattle.leak_report.specs.Totals.{HaveCallersIn, leaked_in}
-use Rattle.leak_report.proofs.Callers.{have_callers}
+use Rattle.leak_report.specs.Totals.{leaked_in}
 use Rattle.leak_report.specs.Report.{text_of}
-use Rattle.leak_search.specs.declared.error.FindError.{FindError}
-use Rattle.leak_search.specs.declared.error.FindError.TheVariants.{TooMany, NoMemory}
+use Rattle.leak_input.specs.declared.error.FindError.{FindError}
+use Rattle.leak_input.specs.declared.error.FindError.TheVariants.{TooMany, NoMemory}
 use Rattle.leak_pool.specs.declared.error.PoolError.{PoolError}
 use Rattle.leak_pool.specs.declared.error.PoolError.TheVariants.{TooMany as TooManyForPool, NoMemory as NoMemoryForPool}
-use Rattle.leak_search.specs.declared.found.Found.{Found}
-use Rattle.leak_search.specs.declared.inputs.Input.{Input}
-use Rattle.leak_search.specs.Inputs.{AreRootsFor, IsInput, IsReadOf, IsRead, IsFaultOfOne, at_marking}
-use Rattle.leak_search.specs.Search.{FindsOne, graph_of_one, head_with, index_of, text_with}
-use Rattle.leak_search.specs.Signs.{fits_told, fits_with}
-
--- the blocks of a replay are the live ones
-pub blocks_are : (lines : List Line) → (replay_of lines).blocks ≡ live_of lines
-unfolding replay_of
-blocks_are lines = refl
-
-pub input_blocks : (core log : List ℕ) (lines : List Line) (input : Input) → IsReadOf core log lines input → input.live.blocks ≡ live_of lines
-input_blocks core log lines input read = ap (λ (r : Replay). r.blocks) read.live ∙ blocks_are lines
-
-pub input_callers : (core log : List ℕ) (input : Input) → IsRead core log input → HaveCallersIn log input.live.blocks
-input_callers core log input read =
-    subst (λ (bs : List Block). HaveCallersIn log bs) (sym (input_blocks core log read.0 input read.1))
-    (have_callers live_of_lines log read.0 read.1.callers)
+use Rattle.leak_input.specs.declared.found.Found.{Found}
+use Rattle.leak_input.specs.declared.inputs.Input.{Input}
+use Rattle.leak_input.specs.Inputs.{AreRootsFor, IsReadOf, IsRead, at_marking, IsFaultOfOne}
+use Rattle.leak_input.specs.Report.{head_with, text_with}
+use Rattle.leak_input.proofs.InputLemmas.{fits_are, input_blocks}
+use Rattle.leak_search.specs.Search.{FindsOne, graph_of_one, index_of}
+use Rattle.leak_input.specs.Signs.{fits_told, fits_with}
 
 -- too many blocks is a fault of an input that was read
 pub too_many : (core log : List ℕ) (input : Input) → IsRead core log input → 2 ^ 32 - 1 < length input.live.blocks → IsFaultOfOne core log TooMany
@@ -61,39 +43,10 @@ too_many core log input read many =
     let e = input_blocks core log read.0 input read.1 in
     inr (refl, read.1.accepted, (read.0, read.1.is_log, subst (λ (bs : List Block). 2 ^ 32 ≤ length bs) e (omega (arith, many))))
 
--- an input that was read
-abbrev pub as_input : (core log : List ℕ) (lines : List Line) (input : Input) → IsReadOf core log lines input → IsInput lines input
-as_input core log lines input read = record { log = log; read = subst (λ (file : List ℕ). IsReadOf file log lines input) (sym read.image) read }
-
--- the places found are those of the input's root words
-pub roots_found : (lines : List Line) (input : Input) (found places : Places) → AreRootsOf input.image input.live.blocks (spans_of input.skip lines) found
-    → places ≡ record found { skips_links = input.skip.links } → AreRootsFor lines input places
-roots_found lines input found places roots is = subst (λ (p : Places). AreRootsFor lines input p) (sym is) (record {
-  roots = record { registers = roots.registers; memory = roots.memory; ranges = roots.ranges; freed = roots.freed };
-  links = refl;
-})
-
--- the blocks outside a set, counted in the set
-pub leaked_count : (set : List Bool) (blocks : List Block) → length set ≡ length blocks → length (leaked_in set blocks) ≡ count_by not set
-leaked_count [] blocks same = refl
-leaked_count (s ∷ set) [] same = absurd (omega arith)
-leaked_count (true ∷ set) (b ∷ blocks) same =
-    let rest = leaked_count set blocks (omega (arith, same)) in
-    let one = sum_by-cons (λ (x : Bool). cond (not x) 1 0) true set in
-    rw (one, rest) (sym (zero-add (count_by not set)))
-leaked_count (false ∷ set) (b ∷ blocks) same =
-    let rest = leaked_count set blocks (omega (arith, same)) in
-    let one = sum_by-cons (λ (x : Bool). cond (not x) 1 0) false set in
-    rw (one, ← rest) (omega arith)
-
 -- what the words at the places found lead to is what the root words lead to
 pub found_first : (core : List ℕ) (index : Index) (blocks : List Block) (spans : List Span) (links : Bool) (places : Places) → AreRootsOf core blocks spans places → places.skips_links ≡ links
     → led_by_roots (word_of core) index places ≡ led_from links (word_of core) index (registers_of core) (root_places core blocks spans)
 found_first core index blocks spans links places roots same = rw (roots.registers, roots.memory, same) refl
-
--- the threads that were read are those of the core that was read
-pub threads_read : (core log : List ℕ) (input : Input) → IsRead core log input → input.threads ≡ threads_of input.image
-threads_read core log input read = read.1.threads ∙ ap threads_of (sym read.1.image)
 
 -- the graph that was marked is that of the core and the lines
 pub marked_graph : (core : List ℕ) (reading : Option (List ℕ)) (skip : Skip) (lines : List Line) (blocks : List Block) (index : Index) (places : Places)
@@ -121,19 +74,6 @@ head_is core log lines input places two read roots =
 
 pub index_is : (reading : Option (List ℕ)) (lines : List Line) (blocks : List Block) (index : Index) → blocks ≡ live_of lines → index ≡ record { blocks = blocks; reading = reading } → index ≡ index_of reading lines
 index_is reading lines blocks index are is = rw (is, are) refl
-
--- which blocks of the input fit, as the report tells it
-pub fits_are : (check : Bool) (core log : List ℕ) (lines : List Line) (input : Input) → IsReadOf core log lines input → fits_with check input ≡ fits_told check core lines
-fits_are check core log lines input read = rw (read.image, input_blocks core log lines input read) refl
-
--- there is an entry for each block
-pub fits_each : (fits : Option (Vec Bool Global)) (check : Bool) (input : Input) → option_map (λ (v : Vec Bool Global). v.items) fits ≡ fits_with check input
-    → IfSome fits (λ v. length v.items ≡ length input.live.blocks)
-fits_each None check input is = tt
-fits_each (Some v) false input is = cc
-fits_each (Some v) true input is =
-    let same : v.items ≡ fits_of (word_of input.image) input.live.blocks = cc in
-    ap length same ∙ length-map input.live.blocks (fits_core (word_of input.image))
 
 -- a search that read, found roots and marked
 pub finds_one : (core log : List ℕ) (reading : Option (List ℕ)) (check : Bool) (workers : ℕ) (input : Input) (index : Index) (places : Places) (head : Head) (fits : Option (List Bool)) (marked : Marked) (found : Found)

@@ -1,9 +1,8 @@
 -- From two inputs that were read, marked and compared to what a search of two cores comes to.
-use Rattle.std.proofs.Common.{◌≡◌, ◌≢◌, ℕ, ◌≤◌, ◌<◌, ◌-◌, ◌^◌, ◌++◌, ◌⊎◌, List, length, Bool, true, false, Result, Ok, Err, IfErr, IsTrue, IsFalse, Option, Some, slice_get, refl, ap, subst, sym, ◌∙◌, arith, inl, inr}
+use Rattle.std.proofs.Common.{◌≡◌, ◌≢◌, ℕ, ◌<◌, ◌-◌, ◌^◌, ◌++◌, List, length, Bool, true, false, Result, Ok, Err, IfErr, IsTrue, IsFalse, Option, Some, slice_get, refl, ap, subst, sym, ◌∙◌, arith}
 use Rattle.leak_elf.specs.Words.{word_of}
 use Rattle.leak_mtrace.specs.declared.line.Line.{Line}
 use Rattle.leak_mtrace.specs.Log.{is_continued_by}
-use Rattle.leak_mtrace.proofs.SameLogLemmas.{logs_continue}
 use Rattle.leak_blocks.specs.declared.block.Block.{Block}
 use Rattle.leak_blocks.specs.Live.{live_of}
 use Rattle.leak_index.specs.Hits.{Index}
@@ -29,72 +28,27 @@ use Rattle.leak_dirty.specs.Retrace.{IsRetrace, OthersLeadWithin, SameWordsLeadW
 use Rattle.leak_report.specs.declared.head.Head.{Head}
 use Rattle.leak_report.specs.Totals.{leaked_in}
 use Rattle.leak_report.specs.Report.{text_of}
-use Rattle.leak_search.specs.declared.error.FindError.{FindError}
-use Rattle.leak_search.specs.declared.error.FindError.TheVariants.{NotPrefix, TooMany, NoMemory}
-use Rattle.leak_search.specs.declared.found.Found.{Found}
-use Rattle.leak_search.specs.declared.inputs.Input.{Input}
+use Rattle.leak_input.specs.declared.error.FindError.{FindError}
+use Rattle.leak_input.specs.declared.error.FindError.TheVariants.{NoMemory}
+use Rattle.leak_input.specs.declared.found.Found.{Found}
+use Rattle.leak_input.specs.declared.inputs.Input.{Input}
 use Rattle.leak_search.specs.declared.two_cores.Between.{Between}
-use Rattle.leak_search.specs.declared.two_cores.Inputs.{Inputs}
-use Rattle.leak_search.specs.Inputs.{AreRootsFor, IsReadOf, IsRead, IsInput, IsInputFault, IsFaultless, IsFaultOfTwo, IsTooMany, Continues, ArePaired, AreReadTwo, at_marking}
-use Rattle.leak_search.specs.Search.{first_of, graph_of_one, head_with, index_of, text_with}
+use Rattle.leak_input.specs.declared.pairs.Inputs.{Inputs}
+use Rattle.leak_input.specs.Inputs.{AreRootsFor, IsReadOf, IsInput, at_marking, Continues, AreReadTwo}
+use Rattle.leak_input.specs.Report.{head_with, text_with}
+use Rattle.leak_search.specs.Search.{first_of, graph_of_one, index_of}
 use Rattle.leak_search.specs.SearchTwo.{IsMarkedEarlier, IsBetween, FindsLater, FindsTwo, graph_of_later, head_of_two, kept_blocks, new_blocks, numbers_of_two, size_of}
-use Rattle.leak_search.specs.Signs.{fits_told, fits_with}
-use Rattle.leak_search.proofs.SearchLemmas.{as_input, fits_are, found_first, head_is, index_is, input_blocks, marked_graph}
+use Rattle.leak_input.specs.Signs.{fits_with}
+use Rattle.leak_input.proofs.PairLemmas.{faultless, paired}
+use Rattle.leak_input.proofs.InputLemmas.{fits_are, input_blocks}
+use Rattle.leak_search.proofs.SearchLemmas.{found_first, head_is, index_is, marked_graph}
 
 -- ---- refusals
-
-abbrev pub faultless : (core log : List ℕ) (lines : List Line) (input : Input) → IsReadOf core log lines input → IsFaultless core log
-faultless core log lines input read = record { core_is = read.accepted; lines = lines; log_is = read.is_log }
-
--- the inputs, as they were read
-abbrev pub paired : (core1 log1 core2 log2 : List ℕ) (inputs : Inputs) (read : AreReadTwo core1 log1 core2 log2 inputs) → ArePaired read.before read.now inputs
-paired core1 log1 core2 log2 inputs read = record {
-  first = as_input core1 log1 read.before inputs.first read.first;
-  second = as_input core2 log2 read.now inputs.second read.second;
-  continued = read.lines;
-}
-
-pub has_too_many : (core log : List ℕ) (input : Input) → IsRead core log input → 2 ^ 32 - 1 < length input.live.blocks → IsTooMany log
-has_too_many core log input read many =
-    (read.0, read.1.is_log, subst (λ (bs : List Block). 2 ^ 32 ≤ length bs) (input_blocks core log read.0 input read.1) (omega (arith, many)))
-
-pub fault_of_first : (core1 log1 core2 log2 : List ℕ) (e : FindError) → IsInputFault 1 core1 log1 e → IsFaultOfTwo core1 log1 core2 log2 e
-fault_of_first core1 log1 core2 log2 e fault = inl fault
-
-pub fault_of_second : (core1 log1 core2 log2 : List ℕ) (first : Input) (e : FindError) → IsRead core1 log1 first → IsInputFault 2 core2 log2 e → IsFaultOfTwo core1 log1 core2 log2 e
-fault_of_second core1 log1 core2 log2 first e read fault = inr (inl (faultless core1 log1 read.0 first read.1, fault))
-
-pub no_prefix : (core1 log1 core2 log2 : List ℕ) (first second : Input) → IsRead core1 log1 first → IsRead core2 log2 second → IsFalse (is_continued_by log1 log2) → IsFaultOfTwo core1 log1 core2 log2 NotPrefix
-no_prefix core1 log1 core2 log2 first second read1 read2 other = inr (inr (faultless core1 log1 read1.0 first read1.1, faultless core2 log2 read2.0 second read2.1, other))
-
-pub too_many_of_two : (core1 log1 core2 log2 : List ℕ) (first second : Input) → IsRead core1 log1 first → IsRead core2 log2 second → IsTrue (is_continued_by log1 log2)
-    → (2 ^ 32 - 1 < length first.live.blocks) ⊎ (2 ^ 32 - 1 < length second.live.blocks) → IsFaultOfTwo core1 log1 core2 log2 TooMany
-too_many_of_two core1 log1 core2 log2 first second read1 read2 continued (inl many) =
-    inr (inr (faultless core1 log1 read1.0 first read1.1, faultless core2 log2 read2.0 second read2.1, (continued, inl (has_too_many core1 log1 first read1 many))))
-too_many_of_two core1 log1 core2 log2 first second read1 read2 continued (inr many) =
-    inr (inr (faultless core1 log1 read1.0 first read1.1, faultless core2 log2 read2.0 second read2.1, (continued, inr (has_too_many core2 log2 second read2 many))))
 
 -- marking of blocks that can be numbered is refused for want of memory alone
 pub only_memory : (n : ℕ) (e : PoolError) (f : FindError) → f ≡ at_marking e → (e ≡ TooManyForPool → 2 ^ 32 - 1 < n) → n < 2 ^ 32 → f ≡ NoMemory
 only_memory n TooManyForPool f is many few = absurd (let m = many refl in omega (arith, m, few))
 only_memory n NoMemoryForPool f is many few = is
-
-pub are_read : (core1 log1 core2 log2 : List ℕ) (inputs : Inputs) → IsRead core1 log1 inputs.first → IsRead core2 log2 inputs.second → IsTrue (is_continued_by log1 log2)
-    → length inputs.first.live.blocks < 2 ^ 32 → length inputs.second.live.blocks < 2 ^ 32 → AreReadTwo core1 log1 core2 log2 inputs
-are_read core1 log1 core2 log2 inputs read1 read2 continued few1 few2 = record {
-  before = read1.0;
-  now = read2.0;
-  first = read1.1;
-  second = read2.1;
-  few_before = few1;
-  few_now = few2;
-  continued = continued;
-  lines = logs_continue log1 log2 read1.0 read2.0 continued read1.1.is_log read2.1.is_log;
-}
-
--- a test that says so
-pub is_true : (answer test : Bool) → answer ≡ test → answer ≡ true → IsTrue test
-is_true answer test same says = sym same ∙ says
 
 -- ---- the earlier core
 

@@ -15,11 +15,10 @@ use Rattle.leak_why.specs.declared.chain.Chain.{Chain}
 use Rattle.leak_why.specs.Asked.{IsAsked, AreNotAsked}
 use Rattle.leak_why.specs.Chains.{IsWhy}
 use Rattle.leak_why.specs.Text.{text_of}
-use Rattle.leak_search.specs.declared.error.FindError.{FindError}
 use Rattle.leak_search.specs.declared.holding.Why.{Why}
 use Rattle.leak_search.specs.declared.holding.WhyError.{WhyError}
 use Rattle.leak_search.specs.declared.holding.WhyError.TheVariants.{Find, NoBlock}
-use Rattle.leak_search.specs.Inputs.{IsCore, IsInputFault}
+use Rattle.leak_input.specs.Inputs.{IsCore, IsInputFault}
 use Rattle.leak_search.specs.Search.{index_of, graph_of_one}
 
 -- Core and log are free of faults, and the address asks for the block. The chain to it from the places of the core's root

@@ -1,5 +1,5 @@
 -- What a search of one core comes to: the live blocks to which no chain of words leads from the roots.
-use Rattle.std.specs.Prelude.{◌≡◌, ℕ, ◌^◌, ◌<◌, Bool, List, [], map, length, Option, Some, None, if◌then◌else◌}
+use Rattle.std.specs.Prelude.{◌≡◌, ℕ, ◌^◌, ◌<◌, Bool, List, [], map, length, Option, None}
 use Rattle.leak_elf.specs.Segments.{undumped_of}
 use Rattle.leak_elf.specs.Words.{word_of}
 use Rattle.leak_mtrace.specs.declared.line.Line.{Line}
@@ -7,7 +7,6 @@ use Rattle.leak_mtrace.specs.Log.{IsLog, torn_of}
 use Rattle.leak_blocks.specs.Live.{live_of, replay_of}
 use Rattle.leak_index.specs.Hits.{Index}
 use Rattle.leak_roots.specs.declared.skip.Skip.{Skip}
-use Rattle.leak_roots.specs.Places.{Places}
 use Rattle.leak_notes.specs.Threads.{registers_of}
 use Rattle.leak_roots.specs.Roots.{root_places}
 use Rattle.leak_roots.specs.Skipped.{spans_of, freed_of}
@@ -16,13 +15,11 @@ use Rattle.leak_marks.specs.Reach.{Graph, Reach}
 use Rattle.leak_marks.specs.Partition.{Partitions}
 use Rattle.leak_pool.specs.Marking.{IsSet, graph_of, led_from}
 use Rattle.leak_report.specs.declared.head.Head.{Head}
-use Rattle.leak_report.specs.declared.head.Two.{Two}
 use Rattle.leak_report.specs.Totals.{leaked_in}
 use Rattle.leak_report.specs.Report.{text_of}
-use Rattle.leak_search.specs.declared.inputs.Input.{Input}
-use Rattle.leak_search.specs.declared.found.Found.{Found}
-use Rattle.leak_search.specs.Inputs.{IsCore}
-use Rattle.leak_search.specs.Signs.{fits_told}
+use Rattle.leak_input.specs.declared.found.Found.{Found}
+use Rattle.leak_input.specs.Inputs.{IsCore}
+use Rattle.leak_input.specs.Signs.{fits_told}
 
 -- the live blocks of the lines, and the reading
 abbrev pub index_of : Option (List ℕ) → List Line → Index
@@ -50,23 +47,6 @@ head_of_one core log skip lines = record {
   freed = freed_of skip core (live_of lines) lines;
   two = None;
 }
-
--- the same for an input that was read, and its root words
-abbrev pub head_with : Input → Places → Option Two → Head
-head_with input places two = record {
-  undumped = undumped_of input.image;
-  unknown = input.live.unknown;
-  displaced = input.live.displaced;
-  torn = input.torn;
-  freed = if input.skip.freed then Some places.freed else None;
-  two = two;
-}
-
--- the report of an input that was read, with the blocks that are marked and, where misfits are told, those that fit; the
--- heads are those of its core
-abbrev pub text_with : Head → Input → Index → List Bool → Option (List Bool) → List ℕ → List ℕ
-text_with head input index set fits log =
-    text_of head input.live.blocks set (heads_of (word_of input.image) index set) fits log
 
 -- the lists of claims, worker by worker
 abbrev pub claims_of : Found → List (List ℕ)

@@ -23,10 +23,10 @@ use Rattle.leak_report.specs.declared.head.Head.{Head}
 use Rattle.leak_report.specs.declared.head.Two.{Two}
 use Rattle.leak_report.specs.Totals.{leaked_in}
 use Rattle.leak_report.specs.Report.{text_of}
-use Rattle.leak_search.specs.declared.found.Found.{Found}
+use Rattle.leak_input.specs.declared.found.Found.{Found}
 use Rattle.leak_search.specs.declared.two_cores.Between.{Between}
-use Rattle.leak_search.specs.Inputs.{IsFaultless}
-use Rattle.leak_search.specs.Signs.{fits_told}
+use Rattle.leak_input.specs.Inputs.{IsFaultless}
+use Rattle.leak_input.specs.Signs.{fits_told}
 use Rattle.leak_search.specs.Search.{first_of, index_of, graph_of_one, claims_of}
 
 -- the blocks that chains of the earlier core reach, as tests for the live blocks of its log

@@ -2,16 +2,14 @@
 
 ghost use Rattle.std.specs.Prelude.{◌≢◌, [], ◌∷◌, IfOk, IfErr};
 ghost use Rattle.leak_index.specs.Readings.{listed_by};
-ghost use Rattle.leak_search.specs.Inputs.{IsFaultOfOne};
+ghost use Rattle.leak_input.specs.Inputs.{IsFaultOfOne};
 ghost use Rattle.leak_search.specs.Search.{FindsOne};
-ghost use Rattle.leak_search.specs.Signs.{AreSigns};
+ghost use Rattle.leak_input.specs.Signs.{AreSigns};
 
-use crate::error::FindError;
-use crate::found::Found;
-use crate::inputs::{find_roots, read_input};
-use crate::reporting::{Aside, head_of, report_of};
-use crate::signing::oddities_of_one;
 use leak_index::{Reading, Sorted};
+use leak_input::{
+    Aside, FindError, Found, find_roots, head_of, oddities_of_one, read_input, report_of,
+};
 use leak_pool::mark_alone;
 use leak_roots::Skip;
 use std::alloc::Global;

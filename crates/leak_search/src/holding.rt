@@ -2,13 +2,12 @@
 
 ghost use Rattle.std.specs.Prelude.{◌≡◌, ◌≢◌, IfOk, IfErr};
 ghost use Rattle.leak_index.specs.Readings.{listed_by};
-ghost use Rattle.leak_search.specs.declared.error.FindError.TheVariants.{NoMemory};
+ghost use Rattle.leak_input.specs.declared.error.FindError.TheVariants.{NoMemory};
 ghost use Rattle.leak_search.specs.declared.holding.WhyError.TheVariants.{Find};
 ghost use Rattle.leak_search.specs.Holding.{IsWhyFault, TellsWhy};
 
-use crate::error::FindError;
-use crate::inputs::{find_roots, read_input};
 use leak_index::{Reading, Sorted};
+use leak_input::{FindError, find_roots, read_input};
 use leak_notes::register_sets;
 use leak_roots::Skip;
 use leak_why::{block_at, text, why};

@@ -28,21 +28,14 @@
 #![tactic(auto)]
 
 mod alone;
-mod error;
-mod found;
 mod holding;
-mod inputs;
 mod laws;
 mod one_core;
-mod reporting;
-mod searching;
-mod signing;
 mod two_cores;
 
 pub use alone::find_alone;
-pub use error::FindError;
-pub use found::Found;
 pub use holding::{Why, WhyError, find_why};
 pub use laws::leaked_stay_leaked;
+pub use leak_input::{FindError, Found};
 pub use one_core::find_one;
 pub use two_cores::find_two;

@@ -2,17 +2,15 @@
 
 ghost use Rattle.std.specs.Prelude.{◌≢◌, [], ◌∷◌, IfOk, IfErr};
 ghost use Rattle.leak_index.specs.Readings.{listed_by};
-ghost use Rattle.leak_search.specs.Inputs.{IsFaultOfOne};
+ghost use Rattle.leak_input.specs.Inputs.{IsFaultOfOne};
 ghost use Rattle.leak_search.specs.Search.{FindsOne};
-ghost use Rattle.leak_search.specs.Signs.{AreSigns};
+ghost use Rattle.leak_input.specs.Signs.{AreSigns};
 
-use crate::error::FindError;
-use crate::found::Found;
-use crate::inputs::read_input;
-use crate::reporting::{Aside, head_of, report_of};
-use crate::searching::{Workers, ground_of, mark_input};
-use crate::signing::oddities_of_one;
 use leak_index::Reading;
+use leak_input::{
+    Aside, FindError, Found, Workers, ground_of, head_of, mark_input, oddities_of_one, read_input,
+    report_of,
+};
 use leak_pool::{Gate, Plan};
 use leak_roots::Skip;
 use std::alloc::Global;

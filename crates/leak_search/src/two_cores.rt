@@ -4,79 +4,31 @@ ghost use Rattle.std.specs.Prelude.{◌≡◌, ◌≢◌, ◌<◌, ◌^◌, ℕ,
 ghost use Rattle.std.specs.List.Sorted.{IsStrictlyIncreasing};
 ghost use Rattle.leak_marks.specs.Lists.{Has};
 ghost use Rattle.leak_mtrace.specs.declared.line.Line.{Line};
-ghost use Rattle.leak_mtrace.specs.Log.{is_continued_by, whole_len_of};
 ghost use Rattle.leak_blocks.specs.Live.{live_of};
 ghost use Rattle.leak_blocks.specs.Span.{AreAddressed, AreDisjoint};
 ghost use Rattle.leak_elf.specs.Words.{word_of};
 ghost use Rattle.leak_index.specs.Readings.{listed_by};
 ghost use Rattle.leak_dirty.specs.Kept.{IsCarry};
 ghost use Rattle.leak_dirty.specs.Retrace.{IsRetrace};
-ghost use Rattle.leak_search.specs.Inputs.{IsInput, ArePaired, AreReadTwo, IsFaultOfTwo};
-ghost use Rattle.leak_search.specs.Signs.{AreSigns};
+ghost use Rattle.leak_input.specs.Inputs.{IsInput, ArePaired, AreReadTwo, IsFaultOfTwo};
+ghost use Rattle.leak_input.specs.Signs.{AreSigns};
 ghost use Rattle.leak_search.specs.SearchTwo.{IsMarkedEarlier, IsBetween, FindsTwo, size_of};
 
-use crate::error::FindError;
-use crate::found::Found;
-use crate::inputs::{Input, read_input};
-use crate::reporting::{Aside, head_of, report_of};
-use crate::searching::{Ground, Workers, ground_of, mark_input};
-use crate::signing::oddities_of_two;
 use leak_blocks::Block;
 use leak_dirty::{
     Carry, Retraced, absent_are_fresh, carry, differing, retrace, same_words_lead_within,
 };
 use leak_index::Reading;
+use leak_input::{
+    Aside, FindError, Found, Ground, Input, Inputs, Workers, ground_of, head_of, mark_input,
+    oddities_of_two, read_two, report_of,
+};
 use leak_pool::{Gate, Marked, Plan};
 use leak_report::Two;
 use leak_roots::Skip;
 use leak_scan::Pages;
 use std::alloc::Global;
 use std::thread::Threads;
-
-/// Two inputs of one process.
-#[derive(Drop)]
-struct Inputs<'a, 'b> {
-    first: Input<'a>,
-    second: Input<'b>,
-}
-
-/// Whether the log's complete lines, which take so many of its bytes, begin the later log.
-fn is_continued(log: &[u8], whole_len: usize, later: &[u8]) -> bool
-    requires { whole_len ≡ whole_len_of log.now }
-    ensures { result ≡ is_continued_by log.now later.now }
-{
-    later.starts_with(&log[..whole_len])
-}
-
-/// Reads two inputs, or gives their first fault: those of the first, then those of the second, then that the first
-/// log's complete lines don't begin the second log, then that there are too many blocks.
-fn read_two<'a, 'b>(
-    alloc: Global,
-    skip: Skip,
-    core1: &'a [u8],
-    log1: &[u8],
-    core2: &'b [u8],
-    log2: &[u8],
-) -> Result<Inputs<'a, 'b>, FindError>
-    ensures read { IfOk result (AreReadTwo core1.now log1.now core2.now log2.now) }
-    ensures skip { IfOk result (λ inputs.
-        (inputs.first.skip ≡ skip) × (inputs.second.skip ≡ skip)) }
-    ensures refused { IfErr result (λ e. e ≢ FindError.NoMemory
-        → IsFaultOfTwo core1.now log1.now core2.now log2.now e) }
-{
-    let first = read_input(alloc, 1, skip, core1, log1)?;
-    let second = read_input(alloc, 2, skip, core2, log2)?;
-    if !is_continued(log1, first.whole_len, log2) {
-        return Err(FindError::NotPrefix);
-    }
-    if first.live.blocks().len() > u32::MAX as usize {
-        return Err(FindError::TooMany);
-    }
-    if second.live.blocks().len() > u32::MAX as usize {
-        return Err(FindError::TooMany);
-    }
-    Ok(Inputs { first, second })
-}
 
 /// What marking in the later core begins with.
 #[derive(Drop)]

@@ -23,6 +23,10 @@ mod arguments;
 #[cfg(test)]
 mod displacements;
 
+// An input that is read.
+#[cfg(test)]
+mod input;
+
 // Searches of cores in memory.
 #[cfg(test)]
 mod search;

@@ -1,9 +1,10 @@
-use Rattle.std.proofs.Common.{◌≡◌, ap, ◌∙◌, Err, List, [], ◌∷◌}
+use Rattle.std.proofs.Common.{◌≡◌, ap, ◌∙◌, Err, [], ◌∷◌}
 use Rattle.std.proofs.lemmas.Result.{err_from_is_err_and}
-use Rattle.leak_search.specs.declared.found.Found.{Found}
-use Rattle.leak_search.specs.Signs.{AreSigns}
+use Rattle.leak_input.specs.declared.found.Found.{Found}
+use Rattle.leak_input.specs.Signs.{AreSigns}
 use Rattle.leak_search.proofs.SignLemmas.{are_of_one}
-use Rattle.leak_search.proofs.SearchLemmas.{as_input, at_ok, finds_read, fits_each, input_callers, marking_refused, ok_by}
+use Rattle.leak_input.proofs.InputLemmas.{as_input, fits_each, input_callers}
+use Rattle.leak_search.proofs.SearchLemmas.{at_ok, finds_read, marking_refused, ok_by}
 use Rattle.leak_search.proofs.alone.find_alone.Goals as goal
 
 pub returns-in_err-marked-clause-refused : goal.returns-in_err-marked-clause-refused

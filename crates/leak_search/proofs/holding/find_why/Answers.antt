@@ -1,7 +1,7 @@
-use Rattle.std.proofs.Common.{◌≡◌, ◌∙◌, ℕ, List, ap}
+use Rattle.std.proofs.Common.{◌∙◌, List, ap}
 use Rattle.leak_notes.specs.declared.sets.RegisterSet.{RegisterSet}
 use Rattle.leak_why.specs.Text.{text_of}
-use Rattle.leak_search.proofs.SearchLemmas.{as_input, input_callers}
+use Rattle.leak_input.proofs.InputLemmas.{as_input, input_callers}
 use Rattle.leak_search.proofs.HoldingLemmas.{tells_why, no_block}
 use Rattle.leak_search.proofs.holding.find_why.Goals as goal
 

@@ -1,11 +1,13 @@
-use Rattle.std.proofs.Common.{◌≡◌, ◌∙◌, ap, List, [], ◌∷◌, Some, refl}
+use Rattle.std.proofs.Common.{◌≡◌, ◌∙◌, ap, [], ◌∷◌, Some, refl}
 use Rattle.leak_report.specs.declared.head.Two.{Two}
-use Rattle.leak_search.specs.Search.{head_with}
-use Rattle.leak_search.proofs.SearchLemmas.{as_input, at_ok, fits_each, input_callers, ok_by}
-use Rattle.leak_search.specs.declared.found.Found.{Found}
-use Rattle.leak_search.specs.Signs.{AreSigns}
+use Rattle.leak_input.specs.Report.{head_with}
+use Rattle.leak_input.proofs.InputLemmas.{as_input, fits_each, input_callers}
+use Rattle.leak_search.proofs.SearchLemmas.{at_ok, ok_by}
+use Rattle.leak_input.specs.declared.found.Found.{Found}
+use Rattle.leak_input.specs.Signs.{AreSigns}
 use Rattle.leak_search.proofs.SignLemmas.{are_of_two}
-use Rattle.leak_search.proofs.TwoLemmas.{carried, finds_two, for_memory, paired}
+use Rattle.leak_input.proofs.PairLemmas.{paired}
+use Rattle.leak_search.proofs.TwoLemmas.{carried, finds_two, for_memory}
 use Rattle.leak_search.proofs.two_cores.find_two.Goals as goal
 
 pub compare-requires-clause-paired : goal.compare-requires-clause-paired

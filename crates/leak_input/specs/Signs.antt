@@ -1,0 +1,45 @@
+-- The signs that a core and its log don't belong together, by the inputs of a search.
+use Rattle.std.specs.Prelude.{◌≡◌, ℕ, Bool, not, List, [], ◌∷◌, length, count_by, Option, Some, None, if◌then◌else◌}
+use Rattle.leak_elf.specs.Words.{word_of}
+use Rattle.leak_mtrace.specs.declared.line.Line.{Line}
+use Rattle.leak_mtrace.specs.Log.{IsLog, torn_of}
+use Rattle.leak_blocks.specs.Live.{live_of, replay_of}
+use Rattle.leak_fit.specs.Fit.{fits_of}
+use Rattle.leak_report.specs.declared.signs.Signs.{Signs}
+use Rattle.leak_input.specs.declared.inputs.Input.{Input}
+
+-- those of a core and a log that has these lines: its misfits are the live blocks that don't fit the core
+abbrev pub signs_of : List ℕ → List ℕ → List Line → Signs
+signs_of core log lines = record {
+  live = length (live_of lines);
+  torn = torn_of log;
+  unknown = (replay_of lines).unknown;
+  displaced = (replay_of lines).displaced;
+  misfits = count_by not (fits_of (word_of core) (live_of lines));
+}
+
+-- the same for an input that was read
+abbrev pub signs_with : Input → Signs
+signs_with input = record {
+  live = length input.live.blocks;
+  torn = input.torn;
+  unknown = input.live.unknown;
+  displaced = input.live.displaced;
+  misfits = count_by not (fits_of (word_of input.image) input.live.blocks);
+}
+
+-- for each live block of the lines, whether it fits the core, where a report is to tell the misfits
+abbrev pub fits_told : Bool → List ℕ → List Line → Option (List Bool)
+fits_told check core lines = if check then Some (fits_of (word_of core) (live_of lines)) else None
+
+-- the same for an input that was read
+abbrev pub fits_with : Bool → Input → Option (List Bool)
+fits_with check input = if check then Some (fits_of (word_of input.image) input.live.blocks) else None
+
+-- of cores and logs that take turns, the signs of each core and its log, in order
+abbrev pub AreSigns : List (List ℕ) → List Signs → Type 0
+AreSigns [] signs = signs ≡ []
+AreSigns (core ∷ []) signs = ⊥
+AreSigns (core ∷ log ∷ inputs) [] = ⊥
+AreSigns (core ∷ log ∷ inputs) (s ∷ signs) =
+    ((lines : List Line) × IsLog log lines × (s ≡ signs_of core log lines)) × AreSigns inputs signs

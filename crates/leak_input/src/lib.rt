@@ -1,0 +1,40 @@
+//! An input of a search, from its bytes to its report.
+//!
+//! An input is a core and the log of its allocations. [`read_input`] reads it or gives its first fault, and [`read_two`]
+//! reads two of one process. [`find_roots`] finds root words, [`ground_of`] makes what marking asks besides, and
+//! [`mark_input`] marks blocks by workers. [`oddities_of_one`] and [`oddities_of_two`] tell what is odd about inputs,
+//! [`head_of`] the numbers of a report's first lines, and [`report_of`] makes the report of what is marked.
+//!
+//! What an accepted input is, and which of its faults comes first, is said in `specs/Inputs.antt`.
+//!
+//! A core and a log, read, and what its report begins with:
+//!
+//! ```text
+//! use leak_elf::core_k;
+//! use leak_input::{find_roots, head_of, read_input};
+//! use leak_roots::Skip;
+//!
+//! let core = core_k(alloc, &[])?;
+//! let input = read_input(alloc, 1, Skip::none(), &core, b"+ 0x10100 0x20\n")?;
+//! let roots = find_roots(alloc, &input)?;
+//! assert_eq!(rt; head_of(&input, &roots, None).undumped, 0);
+//! ```
+//!
+//! The contracts don't say which blocks leak: that is what the searches of leak_search promise, which stand on this crate.
+#![tactic(auto)]
+
+mod error;
+mod found;
+mod inputs;
+mod marking;
+mod pairs;
+mod reporting;
+mod signing;
+
+pub use error::FindError;
+pub use found::Found;
+pub use inputs::{Input, find_roots, read_input};
+pub use marking::{Ground, Workers, ground_of, mark_input};
+pub use pairs::{Inputs, read_two};
+pub use reporting::{Aside, head_of, report_of};
+pub use signing::{Oddities, oddities_of_one, oddities_of_two};

@@ -1,0 +1,75 @@
+//! From an input to its marked blocks, by workers.
+
+ghost use Rattle.std.specs.Prelude.{◌≡◌, ◌↔◌, ◌<◌, ◌-◌, ◌^◌, List, IfOk, IsErrOf, length};
+ghost use Rattle.leak_mtrace.specs.declared.line.Line.{Line};
+ghost use Rattle.leak_elf.specs.Words.{word_of};
+ghost use Rattle.leak_index.specs.Readings.{listed_by};
+ghost use Rattle.leak_pool.specs.Marking.{Marks};
+ghost use Rattle.leak_input.specs.Inputs.{AreRootsFor, IsInput};
+
+use crate::inputs::{Input, find_roots};
+use leak_index::{Paged, Reading};
+use leak_pool::{Gate, Marked, Plan, PoolError, mark_by_links};
+use leak_roots::Roots;
+use std::alloc::{AllocError, Global};
+use std::thread::Threads;
+
+/// What blocks lead to is listed where that takes an eighth of the core at most, at four bytes a target. Own rule: lists of
+/// a core that is all addresses would take half of it.
+const LINK_SHARE: usize = 32;
+
+/// The threads of a search, and how they share its work.
+#[derive(Drop)]
+pub struct Workers<'a, R: Threads + Sync, G: Gate + Sync> {
+    pub rt: &'a R,
+    pub plan: Plan,
+    pub gate: &'a G,
+}
+
+/// What chains of an input begin with, and what tells where a word of it leads to.
+#[derive(Drop)]
+pub struct Ground<'a> {
+    pub roots: Roots,
+    pub lookup: Paged<'a>,
+}
+
+/// Finds the root words of an input, and makes the lookup among its blocks.
+pub fn ground_of<'a>(
+    alloc: Global,
+    input: &'a Input<'_>,
+    reading: Reading,
+) -> Result<Ground<'a>, AllocError>
+    ensures roots { (lines : List Line) → IsInput lines input.now
+        → IfOk result (λ ground. AreRootsFor lines input.now ground.roots) }
+    ensures lookup { IfOk result (λ ground. ground.lookup
+        ≡ record { blocks = input.now.live.blocks; reading = listed_by reading }) }
+{
+    let roots = find_roots(alloc, input)?;
+    let lookup = Paged::new(alloc, &input.live, reading)?;
+    Ok(Ground { roots, lookup })
+}
+
+/// Marks the blocks of an input that chains of its words reach.
+pub fn mark_input<R: Threads + Sync, G: Gate + Sync>(
+    workers: &Workers<'_, R, G>,
+    alloc: Global,
+    input: &Input,
+    ground: &Ground,
+) -> Result<Marked, PoolError>
+    requires same_blocks { ground.now.lookup.blocks ≡ input.now.live.blocks }
+    ensures many { IsErrOf result PoolError.TooMany ↔ (2 ^ 32 - 1 < length input.now.live.blocks) }
+    ensures marks { IfOk result (Marks (word_of input.now.image) ground.now.lookup
+        ground.now.roots workers.now.plan.workers) }
+{
+    mark_by_links(
+        workers.rt,
+        alloc,
+        &input.image,
+        &ground.lookup,
+        &ground.roots,
+        &input.live,
+        workers.plan,
+        workers.gate,
+        input.core_len / LINK_SHARE,
+    )
+}

@@ -1,7 +1,0 @@
-use Rattle.leak_roots.specs.Skipped.{spans_of}
-use Rattle.leak_search.proofs.SearchLemmas.{roots_found, threads_read}
-use Rattle.leak_search.proofs.inputs.find_roots.Goals as goal
-
-pub returns : goal.returns
-returns c = λ lines read.
-    roots_found lines c.args.input.now c.in_ok-roots.roots _ (c.in_ok-roots.ensures.of_core (spans_of c.args.input.now.skip lines) read.read.small (threads_read _ _ _ (lines, read.read))) c.skip_links.ensures
