@@ -43,7 +43,11 @@ fn read_log(alloc: Global, skip: Skip, log: &[u8]) -> Result<(Replayed, SmallSpa
     }
 }
 
-/// Reads the input with the number, or gives its first fault: the core's, then its notes', then the log's.
+/// Reads the input with the number, from 1, or gives its first fault: the core's, then its notes', then the log's.
+///
+/// # Errors
+///
+/// `Core`, `Notes`, `Log`, in this order, with the number. `NoMemory` can come at any time.
 pub fn read_input<'a>(
     alloc: Global,
     number: u8,

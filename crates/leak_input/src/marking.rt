@@ -50,6 +50,10 @@ pub fn ground_of<'a>(
 }
 
 /// Marks the blocks of an input that chains of its words reach.
+///
+/// # Errors
+///
+/// `TooMany` where it has more than 2^32 - 1 live blocks. `NoMemory` can come at any time.
 pub fn mark_input<R: Threads + Sync, G: Gate + Sync>(
     workers: &Workers<'_, R, G>,
     alloc: Global,

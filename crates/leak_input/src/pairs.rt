@@ -26,6 +26,11 @@ fn is_continued(log: &[u8], whole_len: usize, later: &[u8]) -> bool
 
 /// Reads two inputs, or gives their first fault: those of the first, then those of the second, then that the first
 /// log's complete lines don't begin the second log, then that there are too many blocks.
+///
+/// # Errors
+///
+/// `Core`, `Notes`, `Log` with number 1, then the same with number 2, then `NotPrefix`, then `TooMany` where a log has more
+/// than 2^32 - 1 live blocks. `NoMemory` can come at any time.
 pub fn read_two<'a, 'b>(
     alloc: Global,
     skip: Skip,
