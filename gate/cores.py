@@ -1,0 +1,169 @@
+"""Sample cores and logs for the cases, from named parts. docs/EXAMPLES.md lays the sample core out.
+
+A part is a function that changes the bytes of a core. The later part wins.
+"""
+
+import struct
+
+SIZE = 8192          # bytes of the sample core
+SEGMENT = 0x1000     # where its segment stands in the file
+START = 0x10000      # the address of the segment
+NOTES = 176          # where its part of notes stands
+HEADERS = 64         # where its program headers stand
+ONE_BLOCK = "@ ./a.out:[0x401136] + 0x10100 0x20\n"
+TWO_BLOCKS = "+ 0x10100 0x20\n+ 0x10200 0x10\n"
+
+
+def little(value, size=8):
+    """The number in so many bytes, the least first."""
+    return value.to_bytes(size, "little")
+
+
+def header(kind, flags, offset, vaddr, filesz, memsz):
+    """A program header of 56 bytes."""
+    return struct.pack("<IIQQQQQQ", kind, flags, offset, vaddr, 0, filesz, memsz, 4)
+
+
+def status_entry():
+    """The entry of notes of one thread, whose registers are 0."""
+    return little(5, 4) + little(336, 4) + little(1, 4) + b"CORE\0\0\0\0" + bytes(336)
+
+
+def file_header(count):
+    """The header of a core with so many program headers."""
+    start = b"\x7fELF\x02\x01\x01" + bytes(9) + little(4, 2) + little(62, 2) + little(1, 4)
+    return start + bytes(8) + little(HEADERS) + bytes(12) + little(64, 2) + little(56, 2) + little(count, 2) + bytes(6)
+
+
+def core(*parts):
+    """The sample core with the parts set."""
+    image = bytearray(SIZE)
+    image[0:64] = file_header(2)
+    image[64:120] = header(4, 0, NOTES, 0, 356, 0)
+    image[120:176] = header(1, 6, SEGMENT, START, SEGMENT, SEGMENT)
+    image[NOTES:NOTES + 356] = status_entry()
+    return changed(image, parts)
+
+
+def core_of_three(third, *parts):
+    """The sample core with a third program header, before the notes, which then stand at 232."""
+    image = bytearray(SIZE)
+    image[0:64] = file_header(3)
+    image[64:120] = header(4, 0, 232, 0, 356, 0)
+    image[120:176] = header(1, 6, SEGMENT, START, SEGMENT, SEGMENT)
+    image[176:232] = third
+    image[232:232 + 356] = status_entry()
+    return changed(image, parts)
+
+
+def changed(image, parts):
+    """The bytes after each part."""
+    for part in parts:
+        part(image)
+    return bytes(image)
+
+
+def at(offset, content):
+    """Bytes in the place of others, from the file offset on."""
+    def change(image):
+        image[offset:offset + len(content)] = content
+    return change
+
+
+def field(offset, value, size):
+    """A number of so many bytes at the file offset."""
+    return at(offset, little(value, size))
+
+
+def word(address, value):
+    """The word at an address of the segment."""
+    return at(address - START + SEGMENT, little(value))
+
+
+def words(*pairs):
+    """Several words of the segment, each an address and a value."""
+    def change(image):
+        for address, value in pairs:
+            word(address, value)(image)
+    return change
+
+
+def raw(address, content):
+    """Bytes from an address of the segment on."""
+    return at(address - START + SEGMENT, content)
+
+
+def rbx(value):
+    """The register rbx of the thread."""
+    return at(348, little(value))
+
+
+def read_only():
+    """The segment is not writable: its p_flags are 4."""
+    return field(124, 4, 4)
+
+
+def dumped(count):
+    """So many bytes of the segment are in the file: its p_filesz."""
+    return field(152, count, 8)
+
+
+def notes(count):
+    """The part of notes has so many bytes: its p_filesz."""
+    return field(96, count, 8)
+
+
+def other_note():
+    """The entry of notes is of type 6, no thread status."""
+    return field(184, 6, 4)
+
+
+def first(count):
+    """Only so many bytes are left of the file."""
+    def change(image):
+        del image[count:]
+    return change
+
+
+def second_thread(r15):
+    """A second thread status at 532, with its first register."""
+    def change(image):
+        notes(712)(image)
+        image[532:532 + 356] = status_entry()
+        image[664:672] = little(r15)
+    return change
+
+
+def vectors():
+    """A vector entry (type 2, 512 bytes) at 532: its xmm0 stands at 712, and xmm15 ends at 968."""
+    def change(image):
+        notes(888)(image)
+        image[532:552] = little(5, 4) + little(512, 4) + little(2, 4) + b"CORE\0\0\0\0"
+    return change
+
+
+def section_count(offset, count):
+    """The number of program headers stands in section header 0, which begins at the offset."""
+    def change(image):
+        image[40:48] = little(offset)
+        image[56:58] = b"\xff\xff"
+        image[offset + 44:offset + 48] = little(count, 4)
+    return change
+
+
+def chain():
+    """A core and a log of a hundred blocks of 16 bytes, each but the last holding the start of the next."""
+    starts = [0x10200 + 0x20 * i for i in range(100)]
+    links = [word(start, start + 0x20) for start in starts[:-1]]
+    log = "".join(f"+ {start:#x} 0x10\n" for start in starts)
+    return core(word(0x10008, 0x10200), *links), log
+
+
+def star():
+    """A core and a log: one block of 400 bytes leads to 50 of 16, and each of these to one of 8."""
+    parts, log = [word(0x10008, 0x10200)], "+ 0x10200 0x190\n"
+    for i in range(50):
+        near, far = 0x10400 + 0x20 * i, 0x10b00 + 0x10 * i
+        parts += [word(0x10200 + 8 * i, near), word(near, far)]
+        log += f"+ {near:#x} 0x10\n+ {far:#x} 0x8\n"
+    return core(*parts), log

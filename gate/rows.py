@@ -1,0 +1,19 @@
+"""All cases."""
+
+import rows_fit
+import rows_freed
+import rows_links
+import rows_one
+import rows_pairs
+import rows_places
+import rows_refused
+import rows_two
+import rows_why
+import rows_words
+
+
+def all_cases():
+    """The cases of each file of rows."""
+    tables = (rows_one, rows_two, rows_freed, rows_links, rows_fit, rows_refused, rows_pairs, rows_why,
+              rows_words, rows_places)
+    return [case for table in tables for case in table.cases()]

@@ -1,0 +1,139 @@
+"""Command lines: what is taken, what is refused, and help.
+
+The texts of a refused command line and of help are those of clap, the library that reads it. They are pinned as it writes them
+(those of help in help/); which words are refused is the table in docs/USING.md, section 5. No file is there: the words come first.
+"""
+
+from pathlib import Path
+
+from case import case, one, refused
+from cores import ONE_BLOCK, core, word
+from texts import held, lost, misfits
+
+HELP = Path(__file__).parent / "help"
+PROGRAM = "leak_find <COMMAND>"
+USAGE = {"one": "<CORE> <LOG>", "two": "<CORE1> <LOG1> <CORE2> <LOG2>", "why": "<CORE> <LOG> <ADDRESS>"}
+ONE = "one core.k trace.log "
+
+
+def clap(error, usage="", tip=""):
+    """The text of a refused command line."""
+    parts = [f"error: {error}", f"  tip: {tip}" if tip else "", f"Usage: {usage}" if usage else "", "For more information, try '--help'."]
+    return "\n\n".join(part for part in parts if part) + "\n"
+
+
+def usage_of(command, options=" [OPTIONS]"):
+    """How a subcommand is used."""
+    return f"leak_find {command}{options} {USAGE[command]}"
+
+
+def bad(name, line, error, usage="", tip=""):
+    """A command line that is refused, with status 2."""
+    return case(f"words: {name}", "clap refuses the words", line, {}, "", clap(error, usage, tip), 2)
+
+
+def of_help():
+    """Help goes to standard error, with status 2: it is no request."""
+    rows = [("--help", "program"), ("-h", "program"), ("help", "program"), ("one --help", "one"), ("two -h", "two"), ("why --help", "why"),
+            ("help one", "one"), ("help two", "two"), ("help why", "why"), ("one core.k trace.log --help", "one"), ("one --help --nonsense", "one")]
+    return [case(f"help: {line}", "help is no request", line, {}, "", (HELP / f"{name}.txt").read_bytes(), 2) for line, name in rows]
+
+
+def of_sample():
+    """Without a word the sample is searched, whose one block is held."""
+    return [case("no word", "the sample is the held block, and its heap is not glibc's", "", {}, held())]
+
+
+def of_subcommands():
+    """A subcommand is wanted, and no option comes before it."""
+    return [
+        bad("another subcommand", "three a b", "unrecognized subcommand 'three'", PROGRAM),
+        bad("an empty word", [""], "unrecognized subcommand ''", PROGRAM),
+        bad("a version", "--version", "unexpected argument '--version' found", PROGRAM),
+        bad("a short version", "-V", "unexpected argument '-V' found", PROGRAM),
+        bad("an option before", "--workers 2 " + ONE, "unexpected argument '--workers' found", PROGRAM, "'one --workers' exists"),
+    ]
+
+
+def of_paths():
+    """Two paths, four, or two and an address."""
+    missing = "the following required arguments were not provided:"
+    return [
+        bad("one without paths", "one", f"{missing}\n  <CORE>\n  <LOG>", usage_of("one", "")),
+        bad("one without a log", "one core.k", f"{missing}\n  <LOG>", usage_of("one", "")),
+        bad("one path more", ONE + "c", "unexpected argument 'c' found", usage_of("one")),
+        bad("two without paths", "two", f"{missing}\n  <CORE1>\n  <LOG1>\n  <CORE2>\n  <LOG2>", usage_of("two", "")),
+        bad("two without the second core", "two a b", f"{missing}\n  <CORE2>\n  <LOG2>", usage_of("two", "")),
+        bad("two without the second log", "two a b c", f"{missing}\n  <LOG2>", usage_of("two", "")),
+        bad("five paths", "two a b c d e", "unexpected argument 'e' found", usage_of("two")),
+        bad("why without an address", "why a b", f"{missing}\n  <ADDRESS>", usage_of("why", "")),
+        bad("two addresses", "why a b 0x1 c", "unexpected argument 'c' found", usage_of("why")),
+    ]
+
+
+def of_numbers():
+    """Numbers of options, one below and one above their bounds, and no number."""
+    bounds = {"workers": (1, 64), "piece": (1, 65536), "stack": (0, 65536)}
+    found = []
+    for option, (least, most) in bounds.items():
+        shown, valued = f"for '--{option} <N>'", "invalid value '{}' for '--" + option + " <N>': "
+        outside = [most + 1, 1 << 32, 99999999999999999999] + ([0] if least else [])
+        for number in outside[:2] + outside[3:]:
+            found.append(bad(f"{option} of {number}", f"{ONE}--{option} {number}", valued.format(number) + f"{number} is not in {least}..={most}"))
+        found.append(bad(f"{option} of x", f"{ONE}--{option} x", valued.format("x") + "invalid digit found in string"))
+        found.append(bad(f"{option} of nothing", f"{ONE}--{option}", f"a value is required {shown} but none was supplied"))
+        found.append(bad(f"{option} twice", f"{ONE}--{option} 1 --{option} 2", f"the argument '--{option} <N>' cannot be used multiple times", usage_of("one")))
+    negative = bad("workers of -1", ONE + "--workers=-1", "invalid value '-1' for '--workers <N>': -1 is not in 1..=64")
+    return [*found, negative, bad("two by 65 workers", "two a b c d --workers 65", "invalid value '65' for '--workers <N>': 65 is not in 1..=64")]
+
+
+def of_flags():
+    """Flags are given once, and without a value; `why` has not all of them."""
+    found = []
+    for flag in ("--skip-freed", "--skip-links", "--check", "--strict", "--other-heap"):
+        found.append(bad(f"{flag} twice", f"{ONE}{flag} {flag}", f"the argument '{flag}' cannot be used multiple times", usage_of("one")))
+        found.append(bad(f"{flag} with a value", f"{ONE}{flag}=true", f"unexpected value 'true' for '{flag}' found; no more were expected",
+                         usage_of("one", f" {flag}")))
+    for option in ("--workers", "--strict", "--check", "--other-heap"):
+        found.append(bad(f"why with {option}", f"why a b 0x1 {option}", f"unexpected argument '{option}' found", usage_of("why", ""),
+                         f"to pass '{option}' as a value, use '-- {option}'"))
+    twice = bad("check twice with another heap", ONE + "--check --check --other-heap", "the argument '--check' cannot be used multiple times", usage_of("one"))
+    return [*found, twice, bad("another option", ONE + "--no", "unexpected argument '--no' found", usage_of("one", ""), "to pass '--no' as a value, use '-- --no'")]
+
+
+def of_lists():
+    """Lists of displacements: the first item at fault is told, from 0, and a bad list before what follows it."""
+    seventeen = ",".join(str(number) for number in range(1, 18))
+    rows = [
+        ("", "item 0 is not a number"), ("8,,16", "item 1 is not a number"), ("8,", "item 1 is not a number"), ("+8", "item 0 is not a number"),
+        ("-1", "item 0 is not a number"), ("0x8", "item 0 is not a number"), ("8 ", "item 0 is not a number"), ("8,x", "item 1 is not a number"),
+        ("000000000000000000008", "item 0 is not a number"), ("18446744073709551616", "item 0 is not a number"), ("65536,x", "item 1 is not a number"),
+        ("65536", "item 0 is over 65535"), ("8,18446744073709551615", "item 1 is over 65535"), (seventeen, "more than 16 values"),
+        (seventeen + ",x", "item 17 is not a number"), (seventeen + ",65536", "more than 16 values"),
+    ]
+    found = [refused(f"list: {listed or 'empty'}", "1 to 16 decimal numbers of 1 to 20 digits, up to 65535", [*ONE.split(), f"--displace={listed}"], {},
+                     f"--displace: {text}") for listed, text in rows]
+    both = "--check: not with --other-heap"
+    return [*found, bad("no list", ONE + "--displace", "a value is required for '--displace <LIST>' but none was supplied"),
+            bad("two lists", ONE + "--displace 8 --displace 16", "the argument '--displace <LIST>' cannot be used multiple times", usage_of("one")),
+            refused("list: of two cores", "as of one", "two a b c d --displace x", {}, "--displace: item 0 is not a number"),
+            refused("list: before the heap", "the list is refused first", ONE + "--check --other-heap --displace x", {}, "--displace: item 0 is not a number"),
+            refused("check with another heap", "nothing could be compared", ONE + "--check --other-heap", {}, both),
+            refused("check with another heap, two cores", "nothing could be compared", "two a b c d --other-heap --check --strict", {}, both)]
+
+
+def of_taken_words():
+    """Where options stand, and words that begin with a dash."""
+    files, warned = {"-a": core(word(0x10008, 0x10110)), "-b": ONE_BLOCK}, misfits(1, 1)
+    image = core(word(0x10008, 0x10110))
+    lines = ["one --workers=64 --piece=65536 --stack=65536 -- -a -b", "one --workers 1 --piece=1 --stack 0 -- -a -b"]
+    found = [case(f"words: {line}", "paths that begin with a dash come after two", line, files, held(), warned) for line in lines]
+    between = case("words: options between paths", "options follow the subcommand anywhere", "one --strict core.k --displace 8 trace.log --check",
+                   {"core.k": image, "trace.log": ONE_BLOCK}, lost(misfits=1) + "misfit 0x10100 32 1 ./a.out:[0x401136]\n", warned, 3)
+    return [*found, between, one("words: displaced by two workers", "16 bytes in, and by 8 alone", image, ONE_BLOCK, lost(), "--displace 8 --workers 2", warned)]
+
+
+def cases():
+    """All command lines."""
+    tables = (of_help, of_sample, of_subcommands, of_paths, of_numbers, of_flags, of_lists, of_taken_words)
+    return [each for table in tables for each in table()]
