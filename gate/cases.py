@@ -86,8 +86,9 @@ def difference(title, wanted, got):
 
 
 def lines_of(content):
-    """The lines of bytes, so that each byte can be seen."""
-    return [repr(line)[2:-1] for line in content.splitlines(keepends=True)]
+    """The lines of bytes, so that each byte can be seen. What follows the last line feed is a line where it is not empty."""
+    *whole, rest = content.split(b"\n")
+    return [repr(line + b"\n")[2:-1] for line in whole] + ([repr(rest)[2:-1]] if rest else [])
 
 
 def faults(case, program, seconds):

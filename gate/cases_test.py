@@ -20,7 +20,7 @@ from case import case
 
 GOOD = 'read line < in.txt; echo "$line, $1"; echo warned >&2; exit 3'
 WANTED = case("greeting", "the script says so", "you", {"in.txt": "hello\n"}, "hello, you\n", "warned\n", 3)
-SECONDS = 0.5
+SHORT = 0.5  # seconds for a script that does not end
 
 
 def script(folder, name, body, mode=0o755):
@@ -32,11 +32,11 @@ def script(folder, name, body, mode=0o755):
     return path
 
 
-def counted(given, programs):
+def counted(given, programs, seconds=cases.SECONDS):
     """The passed and failed runs, and what was printed."""
     printed = io.StringIO()
     with contextlib.redirect_stdout(printed):
-        numbers = cases.run_all(given, programs, SECONDS)
+        numbers = cases.run_all(given, programs, seconds)
     return numbers, printed.getvalue()
 
 
@@ -61,7 +61,8 @@ def bodies():
 def wrong_runs(folder):
     """Each of these scripts fails its case, and the failure is told with the case's name and words."""
     for name, body, told in bodies():
-        numbers, printed = counted([WANTED], [script(folder, "wrong", body)])
+        seconds = SHORT if told == "did not end" else cases.SECONDS
+        numbers, printed = counted([WANTED], [script(folder, "wrong", body)], seconds)
         named = "FAILED: greeting" in printed and "words: you" in printed
         yield name, numbers == (0, 1) and told in printed and named
 
@@ -101,7 +102,8 @@ def surroundings(folder):
 def whole_runs(folder):
     """The statuses of cases.py, and names that are there twice."""
     bad = script(folder, "bad", "exit 9")
-    for name, programs, status in (("no program", [], 2), ("a program that is bad", [bad], 1), ("a program that is missing", ["none"], 1)):
+    for name, programs, status in (("no program", [], 2), ("a program that is bad", [bad], 1),
+                                   ("a program that is missing", ["none"], 1)):
         printed = io.StringIO()
         with contextlib.redirect_stdout(printed), contextlib.redirect_stderr(io.StringIO()):
             told = with_cases([WANTED], lambda: cases.main(programs))

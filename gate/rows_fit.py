@@ -15,7 +15,8 @@ OF_32 = (0x10100, 32)
 def chunks():
     """Words of the core, the block, whether it fits, and why."""
     return [
-        ("a chunk in use", [(0x100F8, 0x31), (0x10128, 0x21)], OF_32, True, "its size is the least, and the next says that it is in use"),
+        ("a chunk in use", [(0x100F8, 0x31), (0x10128, 0x21)], OF_32, True,
+         "its size is the least, and the next says that it is in use"),
         ("16 bytes more", [(0x100F8, 0x41), (0x10138, 1)], OF_32, True, "a chunk may have 16 bytes more"),
         ("32 bytes more", [(0x100F8, 0x51), (0x10148, 1)], OF_32, True, "or 32"),
         ("48 bytes more", [(0x100F8, 0x61), (0x10158, 1)], OF_32, False, "malloc would have cut it"),
@@ -45,7 +46,8 @@ def of_chunks():
         totals = ((1, size), (0, 0), (1, size), 1)
         warnings = "" if fits else misfits(1, 1)
         found.append(one(f"fit: {name}", reason, image, log, report(*totals, *lines), "", warnings))
-        found.append(one(f"fit, listed: {name}", reason, image, log, report(*totals, *lines, *listed, misfits=len(listed)), "--check", warnings))
+        found.append(one(f"fit, listed: {name}", reason, image, log, report(*totals, *lines, *listed, misfits=len(listed)),
+                         "--check", warnings))
         found.append(one(f"fit, another heap: {name}", "its heap is not compared", image, log, report(*totals, *lines)))
     return found
 
@@ -54,14 +56,16 @@ def of_lists():
     """Lists of misfits, of blocks that leak and of blocks that are held."""
     three = "@ a:[0x1] + 0x10300 0x18\n@ b:[0x2] + 0x10100 0x20\n@ c:[0x3] + 0x10200 0x10\n"
     image = core(CHUNK, words((0x102F8, 0x21), (0x10318, 0x20)), rbx(0x10200))
-    lines = ("caller 1 32 1 b:[0x2]", "caller 1 24 1 a:[0x1]", "leak 0x10100 32 2 head b:[0x2]", "leak 0x10300 24 1 head a:[0x1]")
+    lines = ("caller 1 32 1 b:[0x2]", "caller 1 24 1 a:[0x1]", "leak 0x10100 32 2 head b:[0x2]",
+             "leak 0x10300 24 1 head a:[0x1]")
     listed = ("misfit 0x10200 16 3 c:[0x3]", "misfit 0x10300 24 1 a:[0x1]")
     first = report((2, 48), (1, 16), (1, 32), 1, "caller 1 32 1 ?", "leak 0x10100 32 1 head ?", "misfit 0x10200 16 2 ?",
                    new=(1, 16), reread=0, misfits=1)
     return [
         one("a misfit that is held", "the chunk of 0x10300 is free, and 0x10200 has none", image, three,
             report((3, 72), (1, 16), (2, 56), 2, *lines, *listed, misfits=2), "--check", misfits(2, 3)),
-        two("misfits of two cores", "only those of the second core are listed; both are warned of", (core(), "+ 0x10100 0x20\n"),
+        two("misfits of two cores", "only those of the second core are listed; both are warned of",
+            (core(), "+ 0x10100 0x20\n"),
             (core(CHUNK), TWO_BLOCKS), first, "--check", misfits(1, 1) + misfits(1, 2, 2)),
     ]
 
@@ -76,11 +80,14 @@ def of_warnings():
         ("a misfit that does not leak", core(word(0x10008, 0x10100)), ONE_BLOCK, held(), misfits(1, 1), ""),
         ("no live block", core(), "", report((0, 0), (0, 0), (0, 0), 0), no_block(), no_block()),
         ("a torn log", core(CHUNK), "+ 0x10100 0x20\n- 0x101", lost_here.replace("torn 0", "torn 1"), torn(), torn()),
-        ("a give-back of nothing", core(CHUNK), "- 0x10300\n+ 0x10100 0x20\n", late.replace("unknown 0", "unknown 1"), unknown(1), unknown(1)),
-        ("an allocation over a block", core(CHUNK), "+ 0x100f0 0x20\n+ 0x10100 0x20\n", over.replace("displaced 0", "displaced 1"),
+        ("a give-back of nothing", core(CHUNK), "- 0x10300\n+ 0x10100 0x20\n", late.replace("unknown 0", "unknown 1"),
+         unknown(1), unknown(1)),
+        ("an allocation over a block", core(CHUNK), "+ 0x100f0 0x20\n+ 0x10100 0x20\n",
+         over.replace("displaced 0", "displaced 1"),
          displaced(1), displaced(1)),
         ("all but no live block", core(), "- 0x1\n- 0x2\n- 0x3\n+ 0x100f0 0x20\n+ 0x10100 0x20\n+", lost_here.replace(
-            "leak 0x10100 32 1 head", "leak 0x10100 32 5 head").replace("unknown 0 displaced 0 torn 0", "unknown 3 displaced 1 torn 1"),
+            "leak 0x10100 32 1 head", "leak 0x10100 32 5 head").replace("unknown 0 displaced 0 torn 0",
+                                                                        "unknown 3 displaced 1 torn 1"),
          torn() + unknown(3) + displaced(1) + misfits(1, 1), torn() + unknown(3) + displaced(1)),
         ("all but misfits", core(), "- 0x1\n+ 0x100f0 0x20\n+ 0x10100 0x20\n- 0x10100\n+", report(
             (0, 0), (0, 0), (0, 0), 0, signs=(1, 1, 1)), *[no_block() + torn() + unknown(1) + displaced(1)] * 2),
@@ -103,14 +110,16 @@ def warned(name, image, log, answer, warnings, others):
 def of_two_inputs():
     """Each of two inputs has its own warnings, those of the first before those of the second."""
     fitting, empty = core(CHUNK), core()
-    rows = [("neither", fitting, fitting, ""), ("the first", empty, fitting, misfits(1, 1)), ("the second", fitting, empty, misfits(1, 1, 2)),
+    rows = [("neither", fitting, fitting, ""), ("the first", empty, fitting, misfits(1, 1)),
+            ("the second", fitting, empty, misfits(1, 1, 2)),
             ("both", empty, empty, misfits(1, 1) + misfits(1, 1, 2))]
     found = []
     for name, first, second, warnings in rows:
         answer, reason = lost(new=(0, 0), reread=0), "nothing led to the block in either core"
         inputs = ((first, ONE_BLOCK), (second, ONE_BLOCK))
         found.append(two(f"warned of two inputs: {name}", reason, *inputs, answer, "", warnings))
-        found.append(two(f"warned of two inputs, strict: {name}", reason, *inputs, answer, "--strict", warnings, 3 if warnings else None))
+        found.append(two(f"warned of two inputs, strict: {name}", reason, *inputs, answer, "--strict", warnings,
+                         3 if warnings else None))
         found.append(two(f"two inputs, another heap, strict: {name}", reason, *inputs, answer, "--other-heap --strict"))
     signs = "- 0x1\n+ 0x10100 0x20\n"
     image = core(CHUNK, word(0x10008, 0x10100))
@@ -122,7 +131,8 @@ def of_two_inputs():
 def of_strict_and_check():
     """Both flags, as a script would give them."""
     answer = held(misfits=1) + "misfit 0x10100 32 1 ./a.out:[0x401136]\n"
-    return [one("strict and check", "the block is held and has no chunk: 3, though nothing leaked", core(word(0x10008, 0x10110)), ONE_BLOCK,
+    return [one("strict and check", "the block is held and has no chunk: 3, though nothing leaked",
+                core(word(0x10008, 0x10110)), ONE_BLOCK,
                 answer, "--strict --check", misfits(1, 1), 3)]
 
 

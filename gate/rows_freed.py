@@ -1,7 +1,7 @@
 """Searches with --skip-freed: words of memory that was in a small block, and is in none, are no roots."""
 
 from case import by_plans, one, two
-from cores import TWO_BLOCKS, core, rbx, word, words
+from cores import TWO_BLOCKS, core, rbx, word
 from texts import all_marked, displaced, report, unknown
 
 GIVEN_BACK = TWO_BLOCKS + "- 0x10100\n"
@@ -24,13 +24,16 @@ def rows():
     smaller = "+ 0x10100 0x20\n- 0x10100\n+ 0x10100 0x10\n+ 0x10200 0x10\n"
     moved = "+ 0x10200 0x10\n< 0x10300\n> 0x10100 0x20\n- 0x10100\n"
     far = core(word(0x10100, 0x40000))
-    two_lost = report((2, 32), (0, 0), (2, 32), 1, "caller 2 32 1 ?", "leak 0x10100 16 3 head ?", "leak 0x10200 16 4 held ?", freed=2)
+    two_lost = report((2, 32), (0, 0), (2, 32), 1, "caller 2 32 1 ?", "leak 0x10100 16 3 head ?", "leak 0x10200 16 4 held ?",
+                      freed=2)
     return [
         ("a word in a block that was given back", "its 32 bytes are 4 words", core(STALE), GIVEN_BACK, leaked(2, 4), ""),
         ("a word that is half outside", "of 12 bytes only one word is whole", core(STALE),
          "+ 0x10100 0xc\n+ 0x10200 0x10\n- 0x10100\n", all_marked(1, 16, freed=1), ""),
-        ("a word in two blocks that were given back", "two of 4 bytes that touch are one word", core(AT_START), twice, leaked(5, 1), ""),
-        ("a block that is mapped by itself", "131072 bytes are not small", far, mapped.format(SMALL + 1), all_marked(1, 16, freed=0), ""),
+        ("a word in two blocks that were given back", "two of 4 bytes that touch are one word", core(AT_START), twice,
+         leaked(5, 1), ""),
+        ("a block that is mapped by itself", "131072 bytes are not small", far, mapped.format(SMALL + 1),
+         all_marked(1, 16, freed=0), ""),
         ("the largest block that is not", "480 whole words of it are in the segment", far, mapped.format(SMALL),
          leaked(3, 480, 0x40000), ""),
         ("a word in a displaced block", "it ended where the other began: 16 bytes are left of it", core(word(0x10100, 0x10110)),
@@ -64,7 +67,8 @@ def of_two_cores():
     return [
         two("freed: in both cores", "nothing leads to the second block, and the third is new", (core(STALE), GIVEN_BACK),
             (core(STALE), GIVEN_BACK + "+ 0x10300 0x8\n"), lost, FREED),
-        two("freed: held when the first core was taken", "it was marked then, and so is kept", (core(STALE, rbx(0x10100)), TWO_BLOCKS),
+        two("freed: held when the first core was taken", "it was marked then, and so is kept",
+            (core(STALE, rbx(0x10100)), TWO_BLOCKS),
             (core(STALE), GIVEN_BACK), all_marked(1, 16, freed=4, new=(0, 0), reread=0), FREED),
     ]
 

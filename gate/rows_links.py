@@ -41,11 +41,14 @@ def counted():
     in_block = words((0x10008, 0x10200), (0x10200, 0x10120), (0x10138, 0x101F0))
     odd = core(words((0x10100, 0x31), (0x10008, 0x10128), (0x10140, 0xFFF8)))
     return [
-        ("a size word after a free chunk", "a top's size word says that the chunk before is in use", core(SIZE, HEAD, word(0x10128, 0xEE0)), BLOCK, 1, 32),
+        ("a size word after a free chunk", "a top's size word says that the chunk before is in use",
+         core(SIZE, HEAD, word(0x10128, 0xEE0)), BLOCK, 1, 32),
         ("a size word of a mapping", "a top is no mapping", core(SIZE, HEAD, word(0x10128, 0xEE3)), BLOCK, 1, 32),
-        ("a chunk that ends within a page", "a top ends at the end of a page", core(SIZE, HEAD, word(0x10128, 0xED1)), BLOCK, 1, 32),
+        ("a chunk that ends within a page", "a top ends at the end of a page", core(SIZE, HEAD, word(0x10128, 0xED1)), BLOCK, 1,
+         32),
         ("a chunk that does not lead back", "nothing says that the word is malloc's", core(SIZE, HEAD), BLOCK, 1, 32),
-        ("a chunk that leads back to another place", "the word stands at 0x10010", core(SIZE, word(0x10010, 0x10120), BACK), BLOCK, 1, 32),
+        ("a chunk that leads back to another place", "the word stands at 0x10010", core(SIZE, word(0x10010, 0x10120), BACK),
+         BLOCK, 1, 32),
         ("a pointer to the start", "a link leads to the next header", core(SIZE, word(0x10008, 0x10100), BACK), BLOCK, 1, 32),
         ("a register beside a link", "registers are no links", core(at_end, rbx(0x10110)), "+ 0x10100 0x18\n", 1, 24),
         ("a block that is mapped by itself", "it has no next chunk", core(word(0x100F8, 0x33), HEAD, BACK), BLOCK, 1, 32),
@@ -64,7 +67,8 @@ def beside_others():
     next_block = BLOCK + "+ 0x10130 0x10\n"
     why = "the chunk is not free, so the word counts"
     return [
-        one("links: the start of another block", "of the second block the word is a pointer", image, BLOCK + "+ 0x10120 0x8\n", touching, LINKS),
+        one("links: the start of another block", "of the second block the word is a pointer", image, BLOCK + "+ 0x10120 0x8\n",
+            touching, LINKS),
         one("links: a live block in the next chunk", why, image, next_block, chunk, LINKS),
         one("links counted: a live block in the next chunk", why, image, next_block, chunk),
     ]
@@ -77,10 +81,17 @@ def of_two_cores():
     freed = new.replace("new ", "freed 0\nnew ")
     return [
         two("links: two cores", "only the new block is marked", (image, BLOCK), (image, BLOCK + "+ 0x10300 0x8\n"), new, LINKS),
-        two("links and freed memory: two cores", "only the new block is marked", (image, BLOCK), (image, BLOCK + "+ 0x10300 0x8\n"), freed, BOTH),
+        two("links and freed memory: two cores", "only the new block is marked", (image, BLOCK),
+            (image, BLOCK + "+ 0x10300 0x8\n"), freed, BOTH),
         two("links: a new block in the next chunk", "the second core's chunk is in use, so its word counts", (image, BLOCK),
             (image, BLOCK + "+ 0x10130 0x8\n"), all_marked(2, 40, new=(1, 8), reread=0), LINKS),
-        two("links counted: two cores", "without the option the word counts", (image, BLOCK), (image, BLOCK + "+ 0x10300 0x8\n"),
+        two("links and freed memory: a new block in the next chunk", "as without freed memory: nothing was given back",
+            (image, BLOCK),
+            (image, BLOCK + "+ 0x10130 0x8\n"), all_marked(2, 40, freed=0, new=(1, 8), reread=0), BOTH),
+        two("links counted: a new block in the next chunk", "without the option the word counts", (image, BLOCK),
+            (image, BLOCK + "+ 0x10130 0x8\n"), all_marked(2, 40, new=(1, 8), reread=0)),
+        two("links counted: two cores", "without the option the word counts", (image, BLOCK),
+            (image, BLOCK + "+ 0x10300 0x8\n"),
             all_marked(2, 40, new=(1, 8), reread=0)),
     ]
 

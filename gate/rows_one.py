@@ -4,7 +4,7 @@ They are run with --other-heap, since the sample has no heap of glibc's: so ther
 """
 
 from case import by_plans, one
-from cores import (ONE_BLOCK, TWO_BLOCKS, chain, core, core_of_three, dumped, header, other_note, raw, rbx, read_only,
+from cores import (ONE_BLOCK, TWO_BLOCKS, chain, core, core_of_three, dumped, header, raw, rbx, read_only,
                    second_thread, section_count, star, vectors, at, little, word, words)
 from texts import all_marked, displaced, held, lost, no_block, report, torn, unknown
 
@@ -63,6 +63,12 @@ def of_other_logs():
         one("word that sticks out", "the word at 0x10108 is half outside the first block, and so neither root nor its word",
             core(words((0x10008, 0x10100), (0x10108, 0x10200))), "+ 0x10100 0xc\n+ 0x10200 0x10\n",
             report((2, 28), (1, 12), (1, 16), 1, "caller 1 16 1 ?", second.format("head"))),
+    ]
+
+
+def of_odd_logs():
+    """Examples whose log is odd, has blocks at the top of memory, or has many blocks or callers."""
+    return [
         one("odd log", "the second allocation ends the first; two give-backs have no block; the last line is no line",
             core(), "+ 0x10100 0x20\n+ 0x10110 0x20\n- 0x10300\n- 0x10118\n- 0x10110",
             report((1, 32), (0, 0), (1, 32), 1, "caller 1 32 1 ?", "leak 0x10110 32 2 head ?", signs=(2, 1, 1)),
@@ -114,14 +120,18 @@ def of_headers():
     behind = core_of_three(header(1, 6, 1_000_000, 0x11000, 0, 0x1000))
     empty = core_of_three(header(1, 6, 4096, 0x10800, 0, 0))
     return [
-        one("two headers that a section counts", "0xffff says that section header 0 has the number, 2", plain, ONE_BLOCK, lost()),
+        one("two headers that a section counts", "0xffff says that section header 0 has the number, 2", plain, ONE_BLOCK,
+            lost()),
         one("a section header that is not looked at", "the file header has the number", ignored, ONE_BLOCK, lost()),
         one("a segment that is not dumped", "its offset past the end does not matter; its bytes are counted", behind,
             ONE_BLOCK, lost(undumped=4096)),
         one("a segment of no byte", "it overlaps nothing", empty, ONE_BLOCK, lost()),
         one("a segment near the top", "its end is an address, so it is accepted; the word holds the block",
             core(word(0x10008, 0x10100), at(136, little(0xFFFFFFFFFFFFE000))), ONE_BLOCK, held()),
-        one("seventy thousand headers", "all but the sample's two are zeros, which are skipped", many_headers(), ONE_BLOCK, held()),
+        one("seventy thousand headers", "all but the sample's two are zeros, which are skipped", many_headers(), ONE_BLOCK,
+            held()),
+        one("the last of seventy thousand segments", "its one word holds the block", many_segments(0x10100), ONE_BLOCK, held()),
+        one("seventy thousand segments of zeros", "no word leads to the block", many_segments(0), ONE_BLOCK, lost()),
     ]
 
 
@@ -129,6 +139,13 @@ def many_headers():
     """The sample with a root word and 70,000 program headers behind it."""
     sample = core(word(0x10008, 0x10100), section_count(600, 70_000), at(32, little(8192)))
     return sample + core()[64:176] + bytes(56 * 69_998)
+
+
+def many_segments(value):
+    """The sample with 70,000 segments more of one word each, all at file offset 4096, where it is 0, but the last at 1000."""
+    sample = core(section_count(600, 70_002), at(32, little(8192)), at(1000, little(value)))
+    places = [4096] * 69_999 + [1000]
+    return sample + core()[64:176] + b"".join(header(1, 6, place, 0x1000000 + 4096 * i, 8, 8) for i, place in enumerate(places))
 
 
 def of_options():
@@ -140,7 +157,8 @@ def of_options():
     lost_second = report((2, 48), (1, 32), (1, 16), 1, "caller 1 16 1 ?", second, freed=2)
     lost_both = report((2, 48), (0, 0), (2, 48), 2, "caller 2 48 2 ?", first, second, freed=2)
     why = "a link leads to the first block, and a word of freed memory to the second"
-    rows = [("neither", "", all_marked(2, 48)), ("links", "--skip-links", lost_first), ("freed memory", "--skip-freed", lost_second),
+    rows = [("neither", "", all_marked(2, 48)), ("links", "--skip-links", lost_first),
+            ("freed memory", "--skip-freed", lost_second),
             ("both", "--skip-freed --skip-links", lost_both)]
     return [one(f"left out: {name}", why, block, log, answer, f"--other-heap {options}") for name, options, answer in rows]
 
@@ -149,16 +167,18 @@ def of_displacements():
     """With --displace a word keeps a block at its start and at the listed offsets alone."""
     rows = [(0x10108, "8", held()), (0x10100, "8", held()), (0x10110, "8", lost()), (0x10120, "8", lost()),
             (0x10110, "8,16", held()), (0x10120, "32", held()), (0x10108, "0", lost()), (0x10100, "0", held()),
-            (0x10108, "00000000000000000008", held()), (0x10108, "1,2,3,4,5,6,7,9,10,11,12,13,14,15,65535,8", held())]
+            (0x10108, "00000000000000000008", held()), (0x10108, "8,8", held()),
+            (0x10120, "65535", lost()), (0x10108, "1,2,3,4,5,6,7,9,10,11,12,13,14,15,65535,8", held())]
     given = [one(f"displaced: {place:#x} by {listed}", "its offset is in the list, or not", core(word(0x10008, place)),
                  ONE_BLOCK, answer, f"--other-heap --displace {listed}") for place, listed, answer in rows]
     both = report((2, 48), (0, 0), (2, 48), 2, "caller 2 48 2 ?", "leak 0x10100 32 1 head ?", "leak 0x10200 16 2 head ?")
-    heads = one("heads by displacements", "by 8 alone the word one past the end leads to no block", core(word(0x10200, 0x10120)),
+    heads = one("heads by displacements", "by 8 alone the word one past the end leads to no block",
+                core(word(0x10200, 0x10120)),
                 TWO_BLOCKS, both, "--other-heap --displace 8")
     return [*given, heads]
 
 
 def cases():
     """All searches of one core, each by several plans."""
-    tables = (of_the_one_block, of_other_logs, of_callers, of_vectors, of_headers, of_options, of_displacements)
+    tables = (of_the_one_block, of_other_logs, of_odd_logs, of_callers, of_vectors, of_headers, of_options, of_displacements)
     return by_plans(case for table in tables for case in table())

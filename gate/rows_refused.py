@@ -1,8 +1,9 @@
 """Cores, notes and logs that are refused: the first reason by the order, with the input's number, and no report."""
 
 from case import one, refused
-from cores import (ONE_BLOCK, TWO_BLOCKS, at, core, core_of_three, field, first, header, little, notes, other_note, section_count,
-                   vectors, word)
+from cores import (ONE_BLOCK, at, core, core_of_three, field, first, header, little, notes, other_note,
+                   section_count,
+                   vectors)
 from texts import report
 
 LINE = "one core.k trace.log"
@@ -13,7 +14,8 @@ BAD = "+ 0x10100\n"
 
 def of_core(name, image, text):
     """A core that is refused with a good log."""
-    return refused(f"core: {name}", "the first reason by the order", LINE, {"core.k": image, "trace.log": ONE_BLOCK}, f"input 1: core: {text}")
+    return refused(f"core: {name}", "the first reason by the order", LINE, {"core.k": image, "trace.log": ONE_BLOCK},
+                   f"input 1: core: {text}")
 
 
 def of_file_headers():
@@ -86,21 +88,25 @@ def of_notes():
         ("vectors without a status", core(vectors(), other_note()), "no thread status"),
         ("a status as a vector entry", core(field(184, 2, 4)), "vector registers at 176 have a wrong size"),
     ]
-    return [refused(f"notes: {name}", "the first entry at fault, or no status in the end", LINE, {"core.k": image, "trace.log": ONE_BLOCK},
+    return [refused(f"notes: {name}", "the first entry at fault, or no status in the end", LINE,
+                    {"core.k": image, "trace.log": ONE_BLOCK},
                     f"input 1: notes: {text}") for name, image, text in rows]
 
 
 def of_lines():
     """Lines that mtrace does not write: to skip one could invent leaks."""
     rows = [
-        ("no size", "+ 0x10100"), ("a size without 0x", "+ 0x10100 20"), ("two spaces", "+  0x10100 0x20"), ("0X", "+ 0X10100 0x20"),
+        ("no size", "+ 0x10100"), ("a size without 0x", "+ 0x10100 20"), ("two spaces", "+  0x10100 0x20"),
+        ("0X", "+ 0X10100 0x20"),
         ("17 digits", "+ 0x10000000000000000 0x1"), ("a space at the end", "- 0x10100 "), ("another sign", "* 0x10100"),
         ("no digit", "- 0x"), ("upper case", "- 0xABC"), ("a size after a free", "- 0x10100 0x20"), ("no address", "+"),
-        ("a caller alone", "@ ./a.out:[0x401136]"), ("an empty caller", "@  + 0x10100 0x20"), ("a carriage return", "+ 0x10100 0x20\r"),
+        ("a caller alone", "@ ./a.out:[0x401136]"), ("an empty caller", "@  + 0x10100 0x20"),
+        ("a carriage return", "+ 0x10100 0x20\r"),
         ("a space at the start", " + 0x10100 0x20"), ("a NUL", "+ 0x10100 0x20\0"), ("text", "Memory not freed:"),
         ("a failed realloc without a size", "! 0x10100"), ("a size of (nil)", "+ 0x10100 (nil)"),
     ]
-    return [refused(f"log: {name}", "no line of the grammar", LINE, {"core.k": core(), "trace.log": f"{ONE_BLOCK}{line}\n{ONE_BLOCK}"},
+    return [refused(f"log: {name}", "no line of the grammar", LINE,
+                    {"core.k": core(), "trace.log": f"{ONE_BLOCK}{line}\n{ONE_BLOCK}"},
                     "input 1: log: line 2 is not an mtrace line") for name, line in rows]
 
 
@@ -115,10 +121,12 @@ def of_logs():
         ("two faults, a block first", f"{high}nonsense\n", f"line 1: {past}"),
         ("a bad line 1000", "= \n" * 999 + BAD, "line 1000 is not an mtrace line"),
     ]
-    found = [refused(f"log: {name}", "the first faulty line", LINE, {"core.k": core(), "trace.log": log}, f"input 1: log: {text}")
+    found = [refused(f"log: {name}", "the first faulty line", LINE, {"core.k": core(), "trace.log": log},
+                     f"input 1: log: {text}")
              for name, log, text in rows]
     top = report((1, 0), (0, 0), (1, 0), 1, "caller 1 0 1 ?", "leak 0xffffffffffffffff 0 1 head ?")
-    return [*found, one("an empty block at the last address", "its end is that address", core(), "+ 0xffffffffffffffff 0\n", top)]
+    return [*found,
+            one("an empty block at the last address", "its end is that address", core(), "+ 0xffffffffffffffff 0\n", top)]
 
 
 def of_order():
@@ -128,7 +136,8 @@ def of_order():
         ("notes and log", core(other_note()), "notes: no thread status"),
         ("log", core(), "log: line 1 is not an mtrace line"),
     ]
-    return [refused(f"order: {name}", "core, notes, log", LINE, {"core.k": image, "trace.log": BAD}, f"input 1: {text}") for name, image, text in rows]
+    return [refused(f"order: {name}", "core, notes, log", LINE, {"core.k": image, "trace.log": BAD},
+                    f"input 1: {text}") for name, image, text in rows]
 
 
 def cases():

@@ -1,5 +1,6 @@
 """Searches of two cores of one process, each with its log: the pairs of docs/EXAMPLES.md, and some more."""
 
+import rows_one
 from case import by_plans, two
 from cores import ONE_BLOCK, TWO_BLOCKS, at, chain, core, dumped, little, rbx, star, vectors, word, words
 from texts import all_marked, displaced, held, lost, no_block, report, torn, unknown
@@ -61,11 +62,19 @@ def of_new_blocks():
         two("empty first log", "all of the second log is new", (core(), ""), (core(), ONE_BLOCK), one_new, warnings=no_block()),
         two("lost, held and new block", "only the first is neither new nor led to", (core(word(0x10008, 0x10200)), callers),
             (core(word(0x10008, 0x10200)), callers + "@ c:[0x3] + 0x10300 0x18\n"),
-            report((3, 72), (2, 40), (1, 32), 1, "caller 1 32 1 a:[0x1]", "leak 0x10100 32 1 head a:[0x1]", new=(1, 24), reread=0)),
+            report((3, 72), (2, 40), (1, 32), 1, "caller 1 32 1 a:[0x1]", "leak 0x10100 32 1 head a:[0x1]", new=(1, 24),
+                   reread=0)),
         two("odd later log", "the report and its signs are of the second core and log", (core(HELD), "+ 0x10100 0x20\n"),
             (core(dumped(0x800)), odd), all_marked(1, 32, undumped=2048, signs=(2, 1, 1), new=(1, 32), reread=0),
             warnings=torn(2) + unknown(2, 2) + displaced(1, 2)),
     ]
+
+
+def of_exchanged_cores():
+    """A pair, and the same with the cores exchanged."""
+    linked, later = core(HELD, word(0x10100, 0x10200)), TWO_BLOCKS + "- 0x10100\n"
+    return [two("the cores exchanged", "a word of freed memory of the second core leads to the block; nothing was kept",
+                (core(), TWO_BLOCKS), (linked, later), all_marked(1, 16, new=(0, 0), reread=0))]
 
 
 def of_many_blocks():
@@ -87,11 +96,24 @@ def of_many_blocks():
     ]
 
 
+def of_the_same_twice():
+    """Each example of one core, and the same core and log again: all that is marked was marked before, and no page differs."""
+    found = []
+    for given in [*rows_one.of_the_one_block(), *rows_one.of_other_logs(), *rows_one.of_odd_logs()]:
+        both = (given.files["core.k"], given.files["trace.log"])
+        answer = given.stdout.decode().replace("marked ", "new 0 bytes 0\nreread 0\nmarked ", 1)
+        warnings = given.stderr.decode()
+        found.append(two(f"twice: {given.name}", given.reason, both, both, answer,
+                         warnings=warnings + warnings.replace("input 1", "input 2")))
+    return found
+
+
 def of_heads():
     """Heads are those of the second core."""
     linked = core(word(0x10100, 0x10200))
     first = "leak 0x10100 32 1 head ?"
-    lines = {"held": ("caller 2 48 1 ?", first, "leak 0x10200 16 2 held ?"), "head": ("caller 2 48 2 ?", first, "leak 0x10200 16 2 head ?")}
+    lines = {"held": ("caller 2 48 1 ?", first, "leak 0x10200 16 2 held ?"),
+             "head": ("caller 2 48 2 ?", first, "leak 0x10200 16 2 head ?")}
     rows = [("now held", core(), linked, 1, "held"), ("held before", linked, core(), 2, "head")]
     return [two(f"heads of two cores: {name}", "only words of the second core hold", (earlier, TWO_BLOCKS), (later, TWO_BLOCKS),
                 report((2, 48), (0, 0), (2, 48), heads, *lines[kind], new=(0, 0), reread=0))
@@ -100,18 +122,22 @@ def of_heads():
 
 def of_options():
     """What the options do to a search of two cores."""
-    rows = [("earlier, in the list", 0x10108, 0, held(new=(0, 0), reread=4)), ("earlier, not in it", 0x10110, 0, lost(new=(0, 0), reread=0)),
-            ("later, in the list", 0, 0x10108, held(new=(0, 0), reread=0)), ("later, not in it", 0, 0x10110, lost(new=(0, 0), reread=0))]
+    rows = [("earlier, in the list", 0x10108, 0, held(new=(0, 0), reread=4)),
+            ("earlier, not in it", 0x10110, 0, lost(new=(0, 0), reread=0)),
+            ("later, in the list", 0, 0x10108, held(new=(0, 0), reread=0)),
+            ("later, not in it", 0, 0x10110, lost(new=(0, 0), reread=0))]
     displacements = [two(f"displaced by eight: {name}", "a word keeps the block at its start and 8 bytes on",
                          (core(word(0x10008, earlier)), ONE_BLOCK), (core(word(0x10008, later)), ONE_BLOCK), answer,
                          "--other-heap --displace 8") for name, earlier, later, answer in rows]
     beside, inside = core(vectors(), at(552, little(0x10100))), core(vectors(), at(720, little(0x10100)))
-    registers = [two(f"a vector register of the {name} core", "no word of memory differs", (earlier, ONE_BLOCK), (later, ONE_BLOCK),
-                     held(new=(0, 0), reread=0)) for name, earlier, later in (("later", beside, inside), ("earlier", inside, beside))]
+    registers = [two(f"a vector register of the {name} core", "no word of memory differs", (earlier, ONE_BLOCK),
+                     (later, ONE_BLOCK),
+                     held(new=(0, 0), reread=0)) for name, earlier,
+                     later in (("later", beside, inside), ("earlier", inside, beside))]
     return [*displacements, *registers]
 
 
 def cases():
     """All searches of two cores, each by several plans."""
-    tables = (of_kept_blocks, of_new_blocks, of_many_blocks, of_heads, of_options)
+    tables = (of_kept_blocks, of_new_blocks, of_exchanged_cores, of_many_blocks, of_the_same_twice, of_heads, of_options)
     return by_plans(case for table in tables for case in table())

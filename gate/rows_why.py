@@ -33,31 +33,39 @@ def of_addresses():
         ("16 digits", inside, ONE_BLOCK, "0x0000000000010100", directly(ONE, "0x10008", 0x10110)),
         ("a block of no byte", core(), touching, "0x10120", told("0x10120 0 2 ?", "leaked")),
         ("the block after it", core(), touching, "0x10121", told("0x10121 1 3 ?", "leaked")),
-        ("the last address", core(), "+ 0xffffffffffffffff 0\n", "0xffffffffffffffff", told("0xffffffffffffffff 0 1 ?", "leaked")),
+        ("the last address", core(), "+ 0xffffffffffffffff 0\n", "0xffffffffffffffff",
+         told("0xffffffffffffffff 0 1 ?", "leaked")),
     ]
     return [why(f"why: {name}", "the block that the address is in, or begins", *row) for name, *row in rows]
 
 
 def of_chains():
     """Chains of words: no chain from a root is shorter."""
-    both = told("0x10200 16 2 ?", "root rbx of thread 1 holds 0x10100", "block 0x10100 32 1 ?", "word 0x10118 holds 0x10200", "block 0x10200 16 2 ?")
+    both = told("0x10200 16 2 ?", "root rbx of thread 1 holds 0x10100", "block 0x10100 32 1 ?", "word 0x10118 holds 0x10200",
+                "block 0x10200 16 2 ?")
     roots = words((0x10008, 0x10100), (0x10108, 0x10210), (0x10FF8, 0x10200))
     ways = words((0x10008, 0x10100), (0x10010, 0x10408), (0x10100, 0x10200), (0x10200, 0x10300), (0x10410, 0x10300))
-    short = told("0x10300 32 3 ?", "root 0x10010 holds 0x10408", "block 0x10400 32 4 ?", "word 0x10410 holds 0x10300", "block 0x10300 32 3 ?")
+    short = told("0x10300 32 3 ?", "root 0x10010 holds 0x10408", "block 0x10400 32 4 ?", "word 0x10410 holds 0x10300",
+                 "block 0x10300 32 3 ?")
     ring = core(words((0x10100, 0x10200), (0x10200, 0x10100)))
     image, log = chain()
     steps = [f"block {0x10200 + 0x20 * i:#x} 16 {i + 1} ?" for i in range(100)]
     holds = [f"word {0x10200 + 0x20 * i:#x} holds {0x10220 + 0x20 * i:#x}" for i in range(99)]
     links = [line for pair in zip(steps, holds) for line in pair] + steps[-1:]
     return [
-        why("why: register and block", "rbx leads to the one, and its fourth word to the other", core(rbx(0x10100), word(0x10118, 0x10200)),
+        why("why: register and block", "rbx leads to the one, and its fourth word to the other",
+            core(rbx(0x10100), word(0x10118, 0x10200)),
             TWO_BLOCKS, "0x10200", both),
-        why("why: two roots", "the one leads to it directly", core(roots), FOUR, "0x10200", directly("0x10200 32 2 ?", "0x10ff8", 0x10200)),
+        why("why: two roots", "the one leads to it directly", core(roots), FOUR, "0x10200",
+            directly("0x10200 32 2 ?", "0x10ff8", 0x10200)),
         why("why: two ways", "by one other block, not by two", core(ways), FOUR, "0x10300", short),
         why("why: ring of two", "no root leads to it", ring, TWO_BLOCKS, "0x10100", told("0x10100 32 1 ?", "leaked")),
-        why("why: lost", "a root leads to another address", core(word(0x10008, 0x10200)), ONE_BLOCK, "0x10100", told(ONE, "leaked")),
-        why("why: chain of a hundred", "each holds the next: 200 lines", image, log, "0x10e60", told("0x10e60 16 100 ?", "root 0x10008 holds 0x10200", *links)),
-        why("why: read-only segment", "its words are no roots, but those of blocks are words", core(field(124, 4, 4), rbx(0x10100), word(0x10118, 0x10200)),
+        why("why: lost", "a root leads to another address", core(word(0x10008, 0x10200)), ONE_BLOCK, "0x10100",
+            told(ONE, "leaked")),
+        why("why: chain of a hundred", "each holds the next: 200 lines", image, log, "0x10e60",
+            told("0x10e60 16 100 ?", "root 0x10008 holds 0x10200", *links)),
+        why("why: read-only segment", "its words are no roots, but those of blocks are words",
+            core(field(124, 4, 4), rbx(0x10100), word(0x10118, 0x10200)),
             TWO_BLOCKS, "0x10200", both),
     ]
 
@@ -67,12 +75,15 @@ def of_registers():
     found = []
     for number, name in enumerate(STATUS_NAMES):
         image = core(at(308 + 8 * number, little(0x10100)))
-        found.append(why(f"why: register {name}", "its place in a thread status", image, ONE_BLOCK, "0x10100", directly(ONE, f"{name} of thread 1", 0x10100)))
+        found.append(why(f"why: register {name}", "its place in a thread status", image, ONE_BLOCK, "0x10100",
+                         directly(ONE, f"{name} of thread 1", 0x10100)))
     for number in range(32):
         name = f"xmm{number // 2} {'high' if number % 2 else 'low'}"
         image = core(vectors(), at(712 + 8 * number, little(0x10100)))
-        found.append(why(f"why: register {name}", "its place in a vector entry", image, ONE_BLOCK, "0x10100", directly(ONE, f"{name} of thread 1", 0x10100)))
-    second = why("why: register of a second thread", "the second status is that of thread 2", core(second_thread(0x10100)), ONE_BLOCK, "0x10100",
+        found.append(why(f"why: register {name}", "its place in a vector entry", image, ONE_BLOCK, "0x10100",
+                         directly(ONE, f"{name} of thread 1", 0x10100)))
+    second = why("why: register of a second thread", "the second status is that of thread 2", core(second_thread(0x10100)),
+                 ONE_BLOCK, "0x10100",
                  directly(ONE, "r15 of thread 2", 0x10100))
     return [*found, second]
 
@@ -84,7 +95,8 @@ def of_options():
     later = core(words((0x100F8, 0x31), (0x10008, 0x10120), (0x10138, 0xFFF8), (0x10FF8, 0x10120)))
     freed, block = TWO_BLOCKS + "- 0x10100\n", "+ 0x10100 0x20\n"
     held_by_word = core(words((0x10008, 0x10100), (0x10100, 0x10200)))
-    by_block = told("0x10200 16 2 ?", "root 0x10008 holds 0x10100", f"block {ONE}", "word 0x10100 holds 0x10200", "block 0x10200 16 2 ?")
+    by_block = told("0x10200 16 2 ?", "root 0x10008 holds 0x10100", f"block {ONE}", "word 0x10100 holds 0x10200",
+                    "block 0x10200 16 2 ?")
     rows = [
         ("displaced, in the list", inside, ONE_BLOCK, "0x10100", directly(ONE, "0x10008", 0x10110), "--displace 8,16"),
         ("displaced, not in it", inside, ONE_BLOCK, "0x10100", told(ONE, "leaked"), "--displace 0"),
@@ -92,9 +104,11 @@ def of_options():
         ("without freed memory", stale, freed, "0x10200", told("0x10200 16 2 ?", "leaked"), "--skip-freed"),
         ("a link", link, block, "0x10100", directly("0x10100 32 1 ?", "0x10008", 0x10120), ""),
         ("without links", link, block, "0x10100", told("0x10100 32 1 ?", "leaked"), "--skip-links"),
-        ("a later word that is no link", later, block, "0x10100", directly("0x10100 32 1 ?", "0x10ff8", 0x10120), "--skip-links"),
+        ("a later word that is no link", later, block, "0x10100", directly("0x10100 32 1 ?", "0x10ff8", 0x10120),
+         "--skip-links"),
         ("without both", later, block, "0x10100", directly("0x10100 32 1 ?", "0x10ff8", 0x10120), "--skip-links --skip-freed"),
-        ("by a live block, without freed memory", held_by_word, ONE_BLOCK + "+ 0x10200 0x10\n", "0x1020F", by_block, "--skip-freed"),
+        ("by a live block, without freed memory", held_by_word, ONE_BLOCK + "+ 0x10200 0x10\n", "0x1020F", by_block,
+         "--skip-freed"),
     ]
     return [why(f"why: {name}", "the words that count are those of the options", *row) for name, *row in rows]
 
@@ -102,21 +116,28 @@ def of_options():
 def of_refusals():
     """Addresses that no live block holds, and what comes before them."""
     files = {"core.k": core(), "trace.log": ONE_BLOCK}
-    found = [refused(f"why: none at {address}", "no live block has a byte there", LINE + address, files, f"no live block holds {shown}")
-             for address, shown in (("0x10120", "0x10120"), ("0x100FF", "0x100ff"), ("0x0", "0x0"), ("0x0000", "0x0"), ("0xffffffffffffffff", "0xffffffffffffffff"))]
+    found = [refused(f"why: none at {address}", "no live block has a byte there", LINE + address, files,
+                     f"no live block holds {shown}")
+             for address, shown in (("0x10120", "0x10120"), ("0x100FF", "0x100ff"), ("0x0", "0x0"), ("0x0000", "0x0"),
+                                    ("0xffffffffffffffff", "0xffffffffffffffff"))]
     gone = {"core.k": core(), "trace.log": ONE_BLOCK + "- 0x10100\n"}
-    found.append(refused("why: of a block that was given back", "it is not live", LINE + "0x10100", gone, "no live block holds 0x10100"))
+    found.append(refused("why: of a block that was given back", "it is not live", LINE + "0x10100", gone,
+                         "no live block holds 0x10100"))
     rows = [("the core", core(first(8191)), ONE_BLOCK, "input 1: core: header 1: contents are cut off"),
-            ("the notes", core(field(64, 0, 4)), "+\n", "input 1: notes: no thread status"), ("the log", core(), "+\n", "input 1: log: line 1 is not an mtrace line")]
-    return found + [refused(f"why: {name} first", "inputs are refused before the address", LINE + "0x0", {"core.k": image, "trace.log": log}, text)
+            ("the notes", core(field(64, 0, 4)), "+\n", "input 1: notes: no thread status"),
+            ("the log", core(), "+\n", "input 1: log: line 1 is not an mtrace line")]
+    return found + [refused(f"why: {name} first", "inputs are refused before the address", LINE + "0x0",
+                            {"core.k": image, "trace.log": log}, text)
                     for name, image, log, text in rows]
 
 
 def of_words():
     """Addresses that are none are refused before a file is opened: there is none here."""
     rows = ["10100", "0x", "0X10100", "0x00000000000010100", "0xg", "0x+1", "x", "-- -0x1", "0x10100."]
-    found = [refused(f"why: address {word}", "0x and 1 to 16 hexadecimal digits", LINE + word, {}, "bad address") for word in rows]
-    listed = refused("why: a list before an address", "the list is refused first", LINE + "x --displace x", {}, "--displace: item 0 is not a number")
+    found = [refused(f"why: address {word}", "0x and 1 to 16 hexadecimal digits", LINE + word, {},
+                     "bad address") for word in rows]
+    listed = refused("why: a list before an address", "the list is refused first", LINE + "x --displace x", {},
+                     "--displace: item 0 is not a number")
     return [*found, listed]
 
 

@@ -18,7 +18,8 @@ ONE = "one core.k trace.log "
 
 def clap(error, usage="", tip=""):
     """The text of a refused command line."""
-    parts = [f"error: {error}", f"  tip: {tip}" if tip else "", f"Usage: {usage}" if usage else "", "For more information, try '--help'."]
+    parts = [f"error: {error}", f"  tip: {tip}" if tip else "", f"Usage: {usage}" if usage else "",
+             "For more information, try '--help'."]
     return "\n\n".join(part for part in parts if part) + "\n"
 
 
@@ -34,9 +35,12 @@ def bad(name, line, error, usage="", tip=""):
 
 def of_help():
     """Help goes to standard error, with status 2: it is no request."""
-    rows = [("--help", "program"), ("-h", "program"), ("help", "program"), ("one --help", "one"), ("two -h", "two"), ("why --help", "why"),
-            ("help one", "one"), ("help two", "two"), ("help why", "why"), ("one core.k trace.log --help", "one"), ("one --help --nonsense", "one")]
-    return [case(f"help: {line}", "help is no request", line, {}, "", (HELP / f"{name}.txt").read_bytes(), 2) for line, name in rows]
+    rows = [("--help", "program"), ("-h", "program"), ("help", "program"), ("one --help", "one"), ("two -h", "two"),
+            ("why --help", "why"),
+            ("help one", "one"), ("help two", "two"), ("help why", "why"), ("one core.k trace.log --help", "one"),
+            ("one --help --nonsense", "one")]
+    return [case(f"help: {line}", "help is no request", line, {}, "", (HELP / f"{name}.txt").read_bytes(), 2) for line,
+            name in rows]
 
 
 def of_sample():
@@ -51,7 +55,8 @@ def of_subcommands():
         bad("an empty word", [""], "unrecognized subcommand ''", PROGRAM),
         bad("a version", "--version", "unexpected argument '--version' found", PROGRAM),
         bad("a short version", "-V", "unexpected argument '-V' found", PROGRAM),
-        bad("an option before", "--workers 2 " + ONE, "unexpected argument '--workers' found", PROGRAM, "'one --workers' exists"),
+        bad("an option before", "--workers 2 " + ONE, "unexpected argument '--workers' found", PROGRAM,
+            "'one --workers' exists"),
     ]
 
 
@@ -79,47 +84,66 @@ def of_numbers():
         shown, valued = f"for '--{option} <N>'", "invalid value '{}' for '--" + option + " <N>': "
         outside = [most + 1, 1 << 32, 99999999999999999999] + ([0] if least else [])
         for number in outside[:2] + outside[3:]:
-            found.append(bad(f"{option} of {number}", f"{ONE}--{option} {number}", valued.format(number) + f"{number} is not in {least}..={most}"))
+            found.append(bad(f"{option} of {number}", f"{ONE}--{option} {number}",
+                             valued.format(number) + f"{number} is not in {least}..={most}"))
         found.append(bad(f"{option} of x", f"{ONE}--{option} x", valued.format("x") + "invalid digit found in string"))
         found.append(bad(f"{option} of nothing", f"{ONE}--{option}", f"a value is required {shown} but none was supplied"))
-        found.append(bad(f"{option} twice", f"{ONE}--{option} 1 --{option} 2", f"the argument '--{option} <N>' cannot be used multiple times", usage_of("one")))
+        found.append(bad(f"{option} twice", f"{ONE}--{option} 1 --{option} 2",
+                         f"the argument '--{option} <N>' cannot be used multiple times", usage_of("one")))
     negative = bad("workers of -1", ONE + "--workers=-1", "invalid value '-1' for '--workers <N>': -1 is not in 1..=64")
-    return [*found, negative, bad("two by 65 workers", "two a b c d --workers 65", "invalid value '65' for '--workers <N>': 65 is not in 1..=64")]
+    return [*found, negative,
+            bad("two by 65 workers", "two a b c d --workers 65", "invalid value '65' for '--workers <N>': 65 is not in 1..=64")]
 
 
 def of_flags():
     """Flags are given once, and without a value; `why` has not all of them."""
     found = []
     for flag in ("--skip-freed", "--skip-links", "--check", "--strict", "--other-heap"):
-        found.append(bad(f"{flag} twice", f"{ONE}{flag} {flag}", f"the argument '{flag}' cannot be used multiple times", usage_of("one")))
-        found.append(bad(f"{flag} with a value", f"{ONE}{flag}=true", f"unexpected value 'true' for '{flag}' found; no more were expected",
+        found.append(bad(f"{flag} twice", f"{ONE}{flag} {flag}", f"the argument '{flag}' cannot be used multiple times",
+                         usage_of("one")))
+        found.append(bad(f"{flag} with a value", f"{ONE}{flag}=true",
+                         f"unexpected value 'true' for '{flag}' found; no more were expected",
                          usage_of("one", f" {flag}")))
     for option in ("--workers", "--strict", "--check", "--other-heap"):
-        found.append(bad(f"why with {option}", f"why a b 0x1 {option}", f"unexpected argument '{option}' found", usage_of("why", ""),
+        found.append(bad(f"why with {option}", f"why a b 0x1 {option}", f"unexpected argument '{option}' found",
+                         usage_of("why", ""),
                          f"to pass '{option}' as a value, use '-- {option}'"))
-    twice = bad("check twice with another heap", ONE + "--check --check --other-heap", "the argument '--check' cannot be used multiple times", usage_of("one"))
-    return [*found, twice, bad("another option", ONE + "--no", "unexpected argument '--no' found", usage_of("one", ""), "to pass '--no' as a value, use '-- --no'")]
+    found.append(bad("why with --skip-freed twice", "why a b 0x1 --skip-freed --skip-freed",
+                     "the argument '--skip-freed' cannot be used multiple times",
+                     usage_of("why")))
+    twice = bad("check twice with another heap", ONE + "--check --check --other-heap",
+                "the argument '--check' cannot be used multiple times", usage_of("one"))
+    return [*found, twice, bad("another option", ONE + "--no", "unexpected argument '--no' found", usage_of("one", ""),
+                               "to pass '--no' as a value, use '-- --no'")]
 
 
 def of_lists():
     """Lists of displacements: the first item at fault is told, from 0, and a bad list before what follows it."""
     seventeen = ",".join(str(number) for number in range(1, 18))
     rows = [
-        ("", "item 0 is not a number"), ("8,,16", "item 1 is not a number"), ("8,", "item 1 is not a number"), ("+8", "item 0 is not a number"),
-        ("-1", "item 0 is not a number"), ("0x8", "item 0 is not a number"), ("8 ", "item 0 is not a number"), ("8,x", "item 1 is not a number"),
-        ("000000000000000000008", "item 0 is not a number"), ("18446744073709551616", "item 0 is not a number"), ("65536,x", "item 1 is not a number"),
-        ("65536", "item 0 is over 65535"), ("8,18446744073709551615", "item 1 is over 65535"), (seventeen, "more than 16 values"),
+        ("", "item 0 is not a number"), ("8,,16", "item 1 is not a number"), ("8,", "item 1 is not a number"),
+        ("+8", "item 0 is not a number"),
+        ("-1", "item 0 is not a number"), ("0x8", "item 0 is not a number"), ("8 ", "item 0 is not a number"),
+        ("8,x", "item 1 is not a number"),
+        ("000000000000000000008", "item 0 is not a number"), ("18446744073709551616", "item 0 is not a number"),
+        ("65536,x", "item 1 is not a number"),
+        ("65536", "item 0 is over 65535"), ("8,18446744073709551615", "item 1 is over 65535"),
+        (seventeen, "more than 16 values"),
         (seventeen + ",x", "item 17 is not a number"), (seventeen + ",65536", "more than 16 values"),
     ]
-    found = [refused(f"list: {listed or 'empty'}", "1 to 16 decimal numbers of 1 to 20 digits, up to 65535", [*ONE.split(), f"--displace={listed}"], {},
+    found = [refused(f"list: {listed or 'empty'}", "1 to 16 decimal numbers of 1 to 20 digits, up to 65535",
+                     [*ONE.split(), f"--displace={listed}"], {},
                      f"--displace: {text}") for listed, text in rows]
     both = "--check: not with --other-heap"
     return [*found, bad("no list", ONE + "--displace", "a value is required for '--displace <LIST>' but none was supplied"),
-            bad("two lists", ONE + "--displace 8 --displace 16", "the argument '--displace <LIST>' cannot be used multiple times", usage_of("one")),
+            bad("two lists", ONE + "--displace 8 --displace 16",
+                "the argument '--displace <LIST>' cannot be used multiple times", usage_of("one")),
             refused("list: of two cores", "as of one", "two a b c d --displace x", {}, "--displace: item 0 is not a number"),
-            refused("list: before the heap", "the list is refused first", ONE + "--check --other-heap --displace x", {}, "--displace: item 0 is not a number"),
+            refused("list: before the heap", "the list is refused first", ONE + "--check --other-heap --displace x", {},
+                    "--displace: item 0 is not a number"),
             refused("check with another heap", "nothing could be compared", ONE + "--check --other-heap", {}, both),
-            refused("check with another heap, two cores", "nothing could be compared", "two a b c d --other-heap --check --strict", {}, both)]
+            refused("check with another heap, two cores", "nothing could be compared",
+                    "two a b c d --other-heap --check --strict", {}, both)]
 
 
 def of_taken_words():
@@ -127,10 +151,14 @@ def of_taken_words():
     files, warned = {"-a": core(word(0x10008, 0x10110)), "-b": ONE_BLOCK}, misfits(1, 1)
     image = core(word(0x10008, 0x10110))
     lines = ["one --workers=64 --piece=65536 --stack=65536 -- -a -b", "one --workers 1 --piece=1 --stack 0 -- -a -b"]
-    found = [case(f"words: {line}", "paths that begin with a dash come after two", line, files, held(), warned) for line in lines]
-    between = case("words: options between paths", "options follow the subcommand anywhere", "one --strict core.k --displace 8 trace.log --check",
-                   {"core.k": image, "trace.log": ONE_BLOCK}, lost(misfits=1) + "misfit 0x10100 32 1 ./a.out:[0x401136]\n", warned, 3)
-    return [*found, between, one("words: displaced by two workers", "16 bytes in, and by 8 alone", image, ONE_BLOCK, lost(), "--displace 8 --workers 2", warned)]
+    found = [case(f"words: {line}", "paths that begin with a dash come after two", line, files, held(),
+                  warned) for line in lines]
+    between = case("words: options between paths", "options follow the subcommand anywhere",
+                   "one --strict core.k --displace 8 trace.log --check",
+                   {"core.k": image, "trace.log": ONE_BLOCK}, lost(misfits=1) + "misfit 0x10100 32 1 ./a.out:[0x401136]\n",
+                   warned, 3)
+    return [*found, between, one("words: displaced by two workers", "16 bytes in, and by 8 alone", image, ONE_BLOCK, lost(),
+                                 "--displace 8 --workers 2", warned)]
 
 
 def cases():

@@ -5,7 +5,7 @@ ghost use Rattle.std.specs.Prelude.{IfOk, false, ◌≡◌};
 use crate::comparisons::same;
 use crate::examples::ONE_BLOCK;
 use crate::fakes::{Sink, Source};
-use crate::samples::{Part, core_of};
+use crate::samples::core_of;
 use leak_find::{FindError, Options, ReadFault, RunFault, Skip, WriteFault, run_why};
 use leak_index::Reading;
 use leak_mtrace::LogError;
@@ -28,43 +28,6 @@ fn options(core_limit: u64, log_limit: u64) -> Result<Options, Fail>
         core_limit,
         log_limit,
     })
-}
-
-/// The answer for the one block, where a root word leads to it.
-const HELD: &str = "asked 0x10100 32 1 ./a.out:[0x401136]\n\
-                    root 0x10008 holds 0x10100\n\
-                    block 0x10100 32 1 ./a.out:[0x401136]\n";
-
-/// The same where none does.
-const LEAKED: &str = "asked 0x10100 32 1 ./a.out:[0x401136]\nleaked\n";
-
-#[test]
-fn a_block_is_held_or_leaked(rt: HostRuntime) -> Result<(), Fail> {
-    let cases = [(0x10100, HELD, 0), (0x10200, LEAKED, 1)];
-    for (word, text, wanted) in cases {
-        let core = core_of(rt.alloc(), &[Part::Word(0x10008, word)])?;
-        let mut readers = [core.as_slice(), ONE_BLOCK.as_bytes()];
-        let mut out: Vec<u8> = Vec::new(rt.alloc());
-        let options = options(8192, 36)?;
-        let status = run_why(rt.alloc(), &mut readers, &options, 0x1011F, &mut out)?;
-        same(&rt, out.as_slice(), text.as_bytes());
-        same(&rt, status, wanted);
-    }
-    Ok(())
-}
-
-#[test]
-fn no_block_holds_the_address(rt: HostRuntime) -> Result<(), Fail> {
-    let core = core_of(rt.alloc(), &[])?;
-    for address in [0x10120, 0x100FF, 0, u64::MAX] {
-        let mut readers = [core.as_slice(), ONE_BLOCK.as_bytes()];
-        let mut out: Vec<u8> = Vec::new(rt.alloc());
-        let options = options(8192, 36)?;
-        let answer = run_why(rt.alloc(), &mut readers, &options, address, &mut out);
-        same(&rt, answer, Err(RunFault::NoBlock(address)));
-        assert!(rt; out.is_empty());
-    }
-    Ok(())
 }
 
 /// What a run that asks for address 0 answers, and whether it wrote nothing.

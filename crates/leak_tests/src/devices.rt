@@ -3,7 +3,7 @@
 ghost use Rattle.std.specs.Prelude.{IfOk, IsFalse};
 
 use crate::comparisons::{same, same_in};
-use crate::examples::{EXAMPLES, HELD, LOST, ONE_BLOCK};
+use crate::examples::{HELD, LOST, ONE_BLOCK};
 use crate::fakes::{Giver, Sink, Source, Taker, Turn};
 use crate::samples::{Part, core_of};
 use crate::searches::run_over;
@@ -29,20 +29,6 @@ fn options(core_limit: u64, log_limit: u64) -> Result<Options, Fail>
         core_limit,
         log_limit,
     })
-}
-
-#[test]
-fn each_example_gives_its_report_and_status(rt: HostRuntime) -> Result<(), Fail> {
-    let options = options(8192, 1000)?;
-    for example in &EXAMPLES {
-        let core = core_of(rt.alloc(), example.core)?;
-        let mut readers = [core.as_slice(), example.log.as_bytes()];
-        let ran = run_over(&rt, rt.alloc(), &mut readers, &options);
-        let name = example.name;
-        same_in(&rt, &name, ran.out.as_slice(), example.report.as_bytes());
-        same_in(&rt, &name, ran.answer, Ok(u8::from(example.leaked > 0)));
-    }
-    Ok(())
 }
 
 #[test]

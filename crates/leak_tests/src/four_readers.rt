@@ -5,8 +5,6 @@ ghost use Rattle.std.specs.Prelude.{IfOk, IsTrue};
 use crate::comparisons::{same, same_in};
 use crate::examples::ONE_BLOCK;
 use crate::fakes::{Sink, Source};
-use crate::pair_reports::HELD_UNREAD;
-use crate::pairs::PAIRS;
 use crate::samples::{Part, core_of};
 use crate::searches::run_over;
 use leak_elf::ElfError;
@@ -34,6 +32,16 @@ fn options(core_limit: u64, log_limit: u64) -> Result<Options, Fail>
     })
 }
 
+/// The report where the one block is marked, and is not read again.
+const HELD_UNREAD: &str = "blocks 1 bytes 32\n\
+                           undumped 0\n\
+                           unknown 0 displaced 0 torn 0\n\
+                           new 0 bytes 0\n\
+                           reread 0\n\
+                           marked 1 bytes 32\n\
+                           leaked 0 bytes 0\n\
+                           heads 0\n";
+
 /// Readers of core 1, log 1, core 2 and log 2.
 fn sources(
     alloc: Global,
@@ -48,27 +56,6 @@ fn sources(
         Source::of(alloc, core2)?,
         Source::of(alloc, log2)?,
     ])
-}
-
-#[test]
-fn each_pair_gives_its_report_and_status(rt: HostRuntime) -> Result<(), Fail> {
-    let options = options(8192, 1000)?;
-    for pair in &PAIRS {
-        let core1 = core_of(rt.alloc(), pair.core1)?;
-        let core2 = core_of(rt.alloc(), pair.core2)?;
-        let mut readers = sources(
-            rt.alloc(),
-            core1.as_slice(),
-            pair.log1.as_bytes(),
-            core2.as_slice(),
-            pair.log2.as_bytes(),
-        )?;
-        let ran = run_over(&rt, rt.alloc(), &mut readers, &options);
-        let name = pair.name;
-        same_in(&rt, &name, ran.out.as_slice(), pair.report.as_bytes());
-        same_in(&rt, &name, ran.answer, Ok(u8::from(pair.leaked > 0)));
-    }
-    Ok(())
 }
 
 #[test]

@@ -1,6 +1,7 @@
-//! Tests that cross the crates: from the bytes of a core and of a log to the bytes of a report.
+//! Tests that cross the crates, of what no run of the program shows: claims and rounds by any plan, gates and schedules, readers and
+//! writers that fail, limits, and inputs of every length.
 //!
-//! A sample is named for what it is about, and docs/EXAMPLES.md has its input and its report, worked out by hand.
+//! A sample is named for what it is about, and docs/EXAMPLES.md has its input. The reports of the examples are cases of gate/.
 #![tactic(auto)]
 
 // Comparisons that end a test.
@@ -15,17 +16,13 @@ mod samples;
 #[cfg(test)]
 mod searches;
 
-// The table of examples: a core, a log and the report that they give.
+// The log of the one block, and its reports.
 #[cfg(test)]
 mod examples;
 
 // Examples of a hundred blocks, which loops write.
 #[cfg(test)]
 mod hundreds;
-
-// Logs and reports that stand in more than one of the examples of two cores.
-#[cfg(test)]
-mod pair_reports;
 
 // The table of examples of two cores.
 #[cfg(test)]
@@ -39,27 +36,19 @@ mod plans;
 #[cfg(test)]
 mod claims;
 
-// Whole reports of one core, on the caller's thread.
+// Claims of one core, on the caller's thread.
 #[cfg(test)]
 mod one_core;
 
-// The same reports by worker threads.
+// The same by worker threads.
 #[cfg(test)]
 mod workers;
 
-// Whole reports of two cores.
+// Claims of two cores.
 #[cfg(test)]
 mod two_cores;
 
-// Reports that leave out the words of freed memory.
-#[cfg(test)]
-mod freed;
-
-// Reports that leave out malloc's links to free chunks.
-#[cfg(test)]
-mod free_links;
-
-// Cores with vector registers.
+// A core with vector registers.
 #[cfg(test)]
 mod vectors;
 
@@ -71,25 +60,13 @@ mod lists;
 #[cfg(test)]
 mod asking;
 
-// Which leaked blocks are heads, in one core and in two.
-#[cfg(test)]
-mod heads;
-
 // Schedules that a gate forces on the workers.
 #[cfg(test)]
 mod schedules;
 
-// Cores and logs that are refused, and which refusal comes first.
+// Cores, notes and logs that are cut short.
 #[cfg(test)]
 mod refusals;
-
-// Cores of more program headers than the file header can number.
-#[cfg(test)]
-mod extended;
-
-// Two cores that are refused, and which refusal comes first.
-#[cfg(test)]
-mod refusals_of_two;
 
 // Whole runs over readers and a writer, some of which fail.
 #[cfg(test)]
@@ -99,13 +76,9 @@ mod devices;
 #[cfg(test)]
 mod four_readers;
 
-// Warnings, and the status that they have.
+// Warnings, where a writer fails.
 #[cfg(test)]
 mod signs;
-
-// Reports that tell misfits.
-#[cfg(test)]
-mod misfits;
 
 // Reading an input to its end.
 #[cfg(test)]
@@ -123,7 +96,7 @@ mod fakes;
 #[cfg(test)]
 mod sizes;
 
-// What a refusal prints.
+// What a refusal prints, where no case can have it.
 #[cfg(test)]
 mod texts;
 

@@ -1,7 +1,7 @@
 //! Lists of claims are those of the workers that claimed: no list is dealt out afterwards.
 
 use crate::samples::{Part, Scene, core_of, scene_of};
-use crate::searches::{Way, by_plan, of_two};
+use crate::searches::{by_plan, of_two};
 use leak_index::{Reading, Sorted};
 use leak_pool::{Open, Plan, mark};
 use std::test::Fail;
@@ -31,14 +31,7 @@ fn a_search_of_one_core_has_the_lists_of_marking(rt: HostRuntime) -> Result<(), 
     let lookup = Sorted::new(&live, Reading::interior());
     let marked = mark(&rt, alloc, &image, &lookup, &roots, &live, plan, &Open)?;
     assert!(rt; are_apart(marked.claims.as_slice()));
-    let found = by_plan(
-        &rt,
-        alloc,
-        core.as_slice(),
-        BLOCKS.as_bytes(),
-        Way::plain(),
-        plan,
-    )?;
+    let found = by_plan(&rt, alloc, core.as_slice(), BLOCKS.as_bytes(), plan)?;
     assert!(rt; are_apart(found.claims.as_slice()));
     Ok(())
 }
@@ -53,7 +46,6 @@ fn a_search_of_two_cores_has_the_lists_of_the_second_marking(rt: HostRuntime) ->
         alloc,
         (earlier.as_slice(), BLOCKS.as_bytes()),
         (later.as_slice(), BLOCKS.as_bytes()),
-        Way::plain(),
         Plan::new(2, 1, 0)?,
     )?;
     assert!(rt; are_apart(found.claims.as_slice()));

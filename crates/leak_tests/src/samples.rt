@@ -16,20 +16,12 @@ const SHIFT: u64 = 0xf000;
 pub enum Part {
     /// The word at an address of the segment.
     Word(u64, u64),
-    /// Bytes from an address of the segment on.
-    Bytes(u64, &'static [u8]),
     /// The register rbx of the thread.
     Rbx(u64),
-    /// The register r15 of a second thread.
-    SecondR15(u64),
-    /// The segment is not writable.
-    ReadOnly,
     /// So many bytes of the segment are dumped.
     Dumped(u64),
     /// The part of notes has so many bytes.
     Notes(u64),
-    /// The note is of another type than a thread status.
-    OtherNote,
     /// The last byte is missing.
     Cut,
 }
@@ -58,17 +50,9 @@ pub fn set_word(core: &mut Vec<u8>, addr: u64, word: u64) {
 fn set_part(core: &mut Vec<u8>, part: Part) {
     match part {
         Part::Word(addr, word) => set_word(core, addr, word),
-        Part::Bytes(addr, bytes) => set(core, addr.saturating_sub(SHIFT), bytes),
         Part::Rbx(word) => set(core, 348, &word.to_le_bytes()),
-        Part::SecondR15(word) => {
-            set(core, 96, &712u64.to_le_bytes());
-            set(core, 532, b"\x05\0\0\0\x50\x01\0\0\x01\0\0\0CORE\0\0\0\0");
-            set(core, 664, &word.to_le_bytes());
-        }
-        Part::ReadOnly => set(core, 124, &4u32.to_le_bytes()),
         Part::Dumped(count) => set(core, 152, &count.to_le_bytes()),
         Part::Notes(count) => set(core, 96, &count.to_le_bytes()),
-        Part::OtherNote => set(core, 184, &[6]),
         Part::Cut => core.truncate(8191),
     }
 }

@@ -13,55 +13,9 @@ use std::io::Read;
 use std::process::Abort;
 use std::thread::Threads;
 
-/// How a search reads words, what it leaves out, and whether it tells misfits.
-#[derive(Clone, Copy)]
-pub struct Way {
-    pub reading: Reading,
-    pub skip: Skip,
-    pub check: bool,
-}
-
-impl Way {
-    /// Interior pointers, all words, and no misfits.
-    pub fn plain() -> Way {
-        Way {
-            reading: Reading::interior(),
-            skip: Skip::none(),
-            check: false,
-        }
-    }
-
-    /// The same by another reading.
-    pub fn reading(reading: Reading) -> Way {
-        Way {
-            reading,
-            skip: Skip::none(),
-            check: false,
-        }
-    }
-
-    /// The same without some words.
-    pub fn skipping(skip: Skip) -> Way {
-        Way {
-            reading: Reading::interior(),
-            skip,
-            check: false,
-        }
-    }
-
-    /// The same with misfits told, or not.
-    pub fn checking(check: bool) -> Way {
-        Way {
-            reading: Reading::interior(),
-            skip: Skip::none(),
-            check,
-        }
-    }
-}
-
 /// What the caller's thread finds in a core and its log.
-pub fn alone(alloc: Global, core: &[u8], log: &[u8], way: Way) -> Result<Found, FindError> {
-    find_alone(alloc, core, log, way.reading, way.skip, way.check)
+pub fn alone(alloc: Global, core: &[u8], log: &[u8]) -> Result<Found, FindError> {
+    find_alone(alloc, core, log, Reading::interior(), Skip::none(), false)
 }
 
 /// What the workers of the plan find in a core and its log.
@@ -70,7 +24,6 @@ pub fn by_plan<R: Threads + Sync>(
     alloc: Global,
     core: &[u8],
     log: &[u8],
-    way: Way,
     plan: Plan,
 ) -> Result<Found, FindError> {
     find_one(
@@ -78,9 +31,9 @@ pub fn by_plan<R: Threads + Sync>(
         alloc,
         core,
         log,
-        way.reading,
-        way.skip,
-        way.check,
+        Reading::interior(),
+        Skip::none(),
+        false,
         plan,
         &Open,
     )
@@ -92,7 +45,6 @@ pub fn of_two<R: Threads + Sync>(
     alloc: Global,
     first: (&[u8], &[u8]),
     second: (&[u8], &[u8]),
-    way: Way,
     plan: Plan,
 ) -> Result<Found, FindError> {
     let (core1, log1) = first;
@@ -104,9 +56,9 @@ pub fn of_two<R: Threads + Sync>(
         log1,
         core2,
         log2,
-        way.reading,
-        way.skip,
-        way.check,
+        Reading::interior(),
+        Skip::none(),
+        false,
         plan,
         &Open,
     )

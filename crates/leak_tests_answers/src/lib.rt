@@ -1,6 +1,6 @@
 //! Tests of the crates that make reports and answers and read the command line, crate by crate.
 //!
-//! They stand beside those crates, so that the crates are proved once, without their tests.
+//! They stand beside those crates, so that the crates are proved once, without their tests. What a run of the program shows is a case of gate/.
 #![tactic(auto)]
 
 // Comparisons that end a test.
@@ -11,17 +11,13 @@ mod comparisons;
 #[cfg(test)]
 mod report;
 
-// Chains of words that hold a block.
+// Names of registers in a chain that holds a block.
 #[cfg(test)]
 mod why;
 
 // Words of the command line.
 #[cfg(test)]
 mod arguments;
-
-// Lists of displacements.
-#[cfg(test)]
-mod displacements;
 
 // An input that is read.
 #[cfg(test)]
@@ -35,6 +31,6 @@ mod search;
 #[cfg(test)]
 mod find;
 
-// The answer of the program.
+// What a failure of the program prints, where no case can have it.
 #[cfg(test)]
 mod program;

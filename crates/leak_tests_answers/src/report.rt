@@ -1,6 +1,5 @@
 //! Reports, by subject.
 
-mod callers;
 mod devices;
 mod leaked;
 mod odd;

@@ -15,60 +15,6 @@ fn signs(live: u64) -> Signs {
     }
 }
 
-const NO_BLOCK: &str =
-    "leak_find: warning: input 1: no live block: the log shows no allocation that was kept\n";
-
-const TORN: &str =
-    "leak_find: warning: input 1: the log ends inside a line: its last calls are missing\n";
-
-const UNKNOWN: &str =
-    "leak_find: warning: input 1: 2 give-backs of blocks that were not live: tracing began late, \
-    or lines are missing\n";
-
-const DISPLACED: &str =
-    "leak_find: warning: input 1: 3 allocations over a live block: lines are missing or out of \
-    order\n";
-
-const MISFITS: &str =
-    "leak_find: warning: input 1: 4 of 5 live blocks have no chunk of their size in use in the \
-    core: the log is of another moment, or of another process\n";
-
-#[test]
-fn each_sign_has_its_warning(rt: HostRuntime) -> Result<(), Fail> {
-    let (torn, unknown, displaced, misfits) = (1, 2, 3, 4);
-    let cases = [
-        (signs(1), ""),
-        (signs(0), NO_BLOCK),
-        (Signs { torn, ..signs(1) }, TORN),
-        (
-            Signs {
-                unknown,
-                ..signs(1)
-            },
-            UNKNOWN,
-        ),
-        (
-            Signs {
-                displaced,
-                ..signs(1)
-            },
-            DISPLACED,
-        ),
-        (
-            Signs {
-                misfits,
-                ..signs(5)
-            },
-            MISFITS,
-        ),
-    ];
-    for (signs, wanted) in cases {
-        let found = warnings(rt.alloc(), &[signs])?;
-        same(&rt, found.as_str(), wanted);
-    }
-    Ok(())
-}
-
 #[test]
 fn warnings_go_by_input(rt: HostRuntime) -> Result<(), Fail> {
     let (torn, unknown, displaced, misfits) = (1, 1, 1, 18_446_744_073_709_551_615);

@@ -3,7 +3,6 @@
 ghost use Rattle.std.specs.Prelude.{length, IsTrue};
 ghost use Rattle.leak_report.specs.Totals.{HaveCallersIn};
 
-use crate::comparisons::same_in;
 use leak_blocks::{Block, replay};
 use leak_mtrace::Log;
 use leak_report::{Head, text};
@@ -43,17 +42,4 @@ pub(crate) fn report(
     assert!(rt; have_callers_in(live.blocks(), log.as_bytes()));
     let log = log.as_bytes();
     Ok(text(alloc, head, &live, marked, heads, None, log)?)
-}
-
-/// A log, which of its blocks are marked, which are heads, and the report.
-pub(crate) type Case = (&'static str, &'static [bool], &'static [bool], &'static str);
-
-/// Checks that the logs have these reports.
-pub(crate) fn have_reports<R: Abort + AllocGlobal>(rt: &R, cases: &[Case]) -> Result<(), Fail> {
-    for case in cases {
-        let (log, marked, heads, wanted) = *case;
-        let found = report(rt, rt.alloc(), &NOTHING_ODD, log, marked, heads)?;
-        same_in(rt, &log, found.as_slice(), wanted.as_bytes());
-    }
-    Ok(())
 }
