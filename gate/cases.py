@@ -1,6 +1,8 @@
 #!/usr/bin/env python3
 """Runs each program over each case, and compares standard output, standard error and exit status byte by byte.
 
+A run that changes a file of its folder, or leaves another there, fails too.
+
     python3 gate/cases.py PROGRAM [PROGRAM ..]
 
 Each run has a folder of its own, with the files of the case, an environment of PATH and LANG alone, and ten seconds. A
@@ -40,6 +42,18 @@ def lay_out(folder, files):
 def closings(case):
     """What closes the streams of a case, in a shell."""
     return " ".join(CLOSED[stream] for stream, place in case.places.items() if place == "closed")
+
+
+def changes(folder, files):
+    """What a run has changed in its folder, as lines."""
+    place = os.fsencode(folder)
+    wanted, got = sorted(os.fsencode(name) for name in files), sorted(os.listdir(place))
+    found = [f"  files: wanted {wanted}, got {got}"] if wanted != got else []
+    for name, content in files.items():
+        path = os.path.join(place, os.fsencode(name))
+        if content is not None and os.path.isfile(path) and Path(os.fsdecode(path)).read_bytes() != content:
+            found.append(f"  file {name!r} was changed")
+    return found
 
 
 def command_of(case, program):
@@ -100,9 +114,9 @@ def faults(case, program, seconds):
         except OSError as error:
             return [f"  cannot be started: {error}"]
         written = ended(process, seconds)
+        found = changes(folder, case.files)
     if written is None:
         return [f"  did not end within {seconds} seconds"]
-    found = []
     for title, wanted, got in zip(("stdout", "stderr"), (case.stdout, case.stderr), written):
         if wanted != (got or b""):
             found += difference(title, wanted, got or b"")

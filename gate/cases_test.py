@@ -51,6 +51,9 @@ def bodies():
         ("another error", GOOD.replace("warned", "warns"), "stderr:"),
         ("no error", GOOD.replace("echo warned >&2", ":"), "-warned"),
         ("another status", GOOD.replace("exit 3", "exit 2"), "status: wanted 3, got 2"),
+        ("a file more", GOOD.replace("exit", "echo x > more; exit"), "files: wanted"),
+        ("a file less", GOOD.replace("exit", "rm in.txt; exit"), "files: wanted"),
+        ("another file", GOOD.replace("exit", "echo x > in.txt; exit"), "file 'in.txt' was changed"),
         ("a signal", GOOD.replace("exit 3", "kill -9 $$"), "status: wanted 3, got -9"),
         ("no end", "exec sleep 60", "did not end"),
         ("a child without an end", "sleep 60 & wait", "did not end"),
@@ -89,9 +92,9 @@ def surroundings(folder):
     seen = "b\nin.txt\nLANG=C.UTF-8\nPATH=/usr/bin:/bin\n"
     quiet = case("surroundings", "nothing else is there", "", {"in.txt": "", "b": None}, seen)
     yield "a fresh folder and few variables", counted([quiet], [listing])[0] == (1, 0)
-    writing = script(folder, "writing", "echo x > left; ls | wc -l")
-    once = case("once", "the folder of another run is another", "", {}, "1\n")
-    yield "a folder for each run", counted([once, replace(once, name="again")], [writing, writing])[0] == (4, 0)
+    closing = script(folder, "closing", "mkdir held && sleep 0.2 && rmdir held")
+    alone = case("alone", "the folder of another run is another", "", {})
+    yield "a folder for each run", counted([alone, replace(alone, name="again")], [closing, closing])[0] == (4, 0)
     echoing = script(folder, "echoing", "echo x 2>&- && exit 0; exit 7")
     for place in ("/dev/full", "closed"):
         taken = case("taken", "the write fails", "", {}, "", "", 7, {"stdout": place})
