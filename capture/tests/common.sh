@@ -1,30 +1,75 @@
 # What the test scripts share. LEAK_FIND names leak_find; without it the one that is installed or built is taken.
+# The last line of a script is `capture: N passed, M failed`, also where it ends before its end, which is one failure.
 kit=$(readlink -f "$(dirname "${BASH_SOURCE[0]}")/..")
 work=$(mktemp -d)
+passed=0
 failed=0
-started=
+left_out=0
+complete=
+declare -A started
 export LEAK_TRACE=$work/table.%p
-trap 'kill -9 $started 2> /dev/null; cd /; rm -rf "$work"' EXIT
-trap 'exit 1' INT TERM
 ulimit -c unlimited
+
+# stop PID..: kills processes that were started here, and waits for them.
+stop() {
+    local pid
+    for pid in "$@"; do
+        { kill -9 "$pid" && wait "$pid"; } 2> /dev/null
+        unset "started[$pid]"
+    done
+}
+
+finish() {
+    local status=$?
+    stop "${!started[@]}"
+    cd /
+    rm -rf "$work"
+    [ "$complete" ] || { echo "FAIL the tests ended before their end, with status $status"; failed=$((failed + 1)); }
+    [ $left_out = 0 ] || echo "$left_out left out, which can't be tried here"
+    echo "capture: $passed passed, $failed failed"
+    [ $failed = 0 ]
+    exit
+}
+trap finish EXIT
+trap 'exit 1' INT TERM HUP
+
+# section TEXT: a headline, with the seconds since the start.
+section() { echo "== $* (at $SECONDS s)"; }
+
+# leave_out TEXT: says what can't be tried here.
+leave_out() {
+    echo "left out: $*"
+    left_out=$((left_out + 1))
+}
+
+# limited SECONDS COMMAND..: ends it where it takes longer.
+limited() { timeout -k 5 "$@" < /dev/null; }
 
 built=$kit/../crates/leak_cli/out/leak_cli
 finder=${LEAK_FIND:-$(command -v leak_find || readlink -e "$built")}
 [ -x "$finder" ] || { echo "no leak_find: install it, name it by LEAK_FIND, or run 'rt run' in crates/leak_cli" >&2; exit 2; }
+[ -x "$kit/leak_log" ] && [ -e "$kit/leak_trace.so" ] || { echo "capture is not built: run make in $kit" >&2; exit 2; }
+
+# find_leaks WORD..: leak_find.
+find_leaks() { limited 120 "$finder" "$@"; }
 
 # verdict NAME WANTED FOUND
 verdict() {
     if [ "$2" = "$3" ]; then
         echo "ok   $1"
+        passed=$((passed + 1))
     else
         echo "FAIL $1: wanted '$2', found '$3'"
-        failed=1
+        failed=$((failed + 1))
     fi
 }
 
 # The sizes that a source says are lost, and those that a report names.
 expected() { sed -n 's/.*expect: \([0-9 ]*\).*/\1/p' "$1" | tr ' ' '\n' | grep . | sort -n | tr '\n' ' '; }
-named() { awk '$1 == "leak" { print $3 }' "$1" | sort -n | tr '\n' ' '; }
+named() {
+    grep -qs '^leaked ' "$1" || printf 'no-report '
+    awk '$1 == "leak" { print $3 }' "$1" | sort -n | tr '\n' ' '
+}
 
 # build SOURCE [OPTION..]
 build() {
@@ -34,25 +79,36 @@ build() {
         { cat "$work/cc" >&2; exit 1; }
 }
 
-# settle PID: waits until the process rests in read() or poll(), for half a second, or ten seconds in all.
+# until_true SECONDS COMMAND..: waits until the command succeeds, for so many seconds at most.
+until_true() {
+    local end=$((SECONDS + $1))
+    shift
+    until "$@"; do
+        [ $SECONDS -lt $end ] || return 1
+        sleep 0.05
+    done
+}
+
+# settle PID: waits until the process rests in read() or poll(), for three tenths of a second, or a minute in all.
 settle() {
-    local still=0
-    for _ in $(seq 100); do
+    local still=0 end=$((SECONDS + 60))
+    while [ $SECONDS -lt $end ]; do
         case $(cut -d ' ' -f 1 "/proc/$1/syscall" 2> /dev/null) in
         0 | 7) still=$((still + 1)) ;;
         *) still=0 ;;
         esac
-        [ $still -lt 5 ] || return 0
+        [ $still -lt 4 ] || return 0
         sleep 0.1
     done
     echo "process $1 does not come to rest" >&2
 }
 
-# start PROGRAM ARGS..: runs it traced in the background, gives its id in `process`, and waits until it rests.
+# start PROGRAM ARGS..: runs it traced in the background, gives its id in `process`, and waits until it rests, or so many
+# seconds as `wait` says.
 start() {
     (cd "$work" && exec "$kit/leak_trace" $options "$@") &
     process=$!
-    started="$started $process"
+    started[$process]=1
     if [ "${wait-}" ]; then sleep "$wait"; else settle $process; fi
 }
 
@@ -60,51 +116,63 @@ start() {
 kernel_core() { ls core core.* 2> /dev/null | head -n 1; }
 
 # May gdb attach to a process of ours, and does the kernel write a core where a process dies?
-sleep 60 & started=$!
-disown
-gdb -nx --batch -p $started -ex detach > "$work/gdb" 2>&1
+sleep 60 &
+started[$!]=1
+limited 60 gdb -nx --batch -p $! -ex detach > "$work/gdb" 2>&1
 grep -q 'Inferior 1.*detached' "$work/gdb" && attaches=1 || attaches=
+{ stop $!; } 2> /dev/null
 cd "$work" || exit 1
 (sleep 60 & sleep 0.2; kill -ABRT $!; wait $!) > /dev/null 2>&1
 dumps_core=$(kernel_core)
 rm -f core core.*
-if [ ! "$attaches$dumps_core" ]; then
-    echo "neither may gdb attach to a process here, nor does the kernel write a core into its folder" >&2
-    exit 3
-fi
 [ "$attaches" ] || echo "gdb may not attach to a process here: the kernel's cores of killed processes stand in"
+dumps=$attaches$dumps_core
+[ "$dumps_core" ] || echo "the kernel writes no core here: $(cat /proc/sys/kernel/core_pattern) takes it elsewhere"
 
-# dump [--after NAME1] PID NAME: by leak_dump, or where gdb may not attach by killing the process.
+# dump_killed PID NAME: kills the process and takes the kernel's core of it.
+dump_killed() {
+    local table
+    table=$(sed -n 's/^[^ ]* rw-s [^/]*//p' "/proc/$1/maps" | grep "^$work/table" | head -n 1)
+    rm -f core core.*
+    { kill -ABRT "$1" && wait "$1"; } 2> /dev/null # a daemon is no child of ours:
+    until_true 60 is_dead "$1" && mv "$(kernel_core)" "$2.kernel"
+    "$kit/leak_dump" --core "$2.kernel" "$table" "$2" 2> /dev/null
+}
+is_dead() { ! grep -qs '^State:.*[^ZX] (' "/proc/$1/status"; }
+
+# dump [--after NAME1] PID NAME: by leak_dump, or where gdb may not attach by killing the process. Where the library takes
+# more of the disk than its tables and 4 GB, a core has what it should not have.
 dump() {
+    local name=${!#} largest
+    rm -f "$name.core" "$name.log"
+    largest=$(stat -c %s "$work"/table.* | sort -n | tail -n 1)
     if [ "$attaches" ]; then
-        (ulimit -f 4000000; "$kit/leak_dump" "$@") # a core that fills the disk is of no use
+        (ulimit -f $((largest / 1024 + 4000000)); limited 120 "$kit/leak_dump" "$@")
     else
-        local table
-        table=$(sed -n 's/^[^ ]* rw-s [^/]*//p' "/proc/$1/maps" | grep "^$work/table" | head -n 1)
-        rm -f core core.*
-        { kill -ABRT "$1" && wait "$1"; } 2> /dev/null # a daemon is no child of ours:
-        while grep -qs '^State:.*[^ZX] (' "/proc/$1/status"; do sleep 0.05; done
-        mv "$(kernel_core)" "$2.kernel"
-        "$kit/leak_dump" --core "$2.kernel" "$table" "$2" 2> /dev/null
+        dump_killed "$@"
     fi
+    [ -s "$name.log" ] && return
+    verdict "dump $name" 'a log' 'none'
+    return 1
 }
 
 # search NAME: of NAME.core and NAME.log, the report.
-search() { "$finder" one "$work/$1.core" "$work/$1.log" > "$work/$1.report" 2>&1; }
+search() { find_leaks one "$work/$1.core" "$work/$1.log" > "$work/$1.report" 2>&1; }
 
 # look SOURCE [PID]: dumps, searches, ends the process, and compares what is named with what the source says.
 look() {
     local name=${1%.*} pid=${2:-$process}
+    rm -f "$work/$name.report"
     dump "$pid" "$work/$name" && search "$name"
-    { kill -9 "$pid" && wait "$pid"; } 2> /dev/null
+    stop "$pid"
     verdict "$name${options:+ $options}" "$(expected "$kit/tests/$1")" "$(named "$work/$name.report")"
     rm -f "$work/$name.core" "$work/$name.kernel"
 }
 
 # fetch PORT: asks the server of that port a hundred times for a file.
 fetch() {
-    python3 -c 'import sys, time, urllib.request
+    limited 60 python3 -c 'import sys, time, urllib.request
 for _ in range(100):
-    try: urllib.request.urlopen("http://127.0.0.1:%s/x" % sys.argv[1]).read()
+    try: urllib.request.urlopen("http://127.0.0.1:%s/x" % sys.argv[1], timeout=5).read()
     except OSError: time.sleep(0.05) # it is not there yet' "$1"
 }

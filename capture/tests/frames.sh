@@ -1,27 +1,28 @@
 # The callers that library/frames.c finds, against those of libgcc's unwinder, which the same library built
 # with no_rules.c takes for each block: of real programs, run twice.
-echo "== deep callers against libgcc's unwinder"
+section "deep callers against libgcc's unwinder"
 mkdir -p ours them && cp "$kit/leak_trace" ours && cp "$kit/leak_trace" them && cp "$kit/leak_trace.so" ours
 (cd "$kit" && gcc -std=gnu11 -O2 -fPIC -fvisibility=hidden -ftls-model=initial-exec -shared -static-libgcc \
     -Wl,-z,initfirst -o "$work/them/leak_trace.so" $(ls library/*.c | grep -v -e frames -e rows) tests/no_rules.c -lgcc_eh)
+
+# runs_as PROGRAM: whether the last process is it already, and no longer a script or a shell before it.
+runs_as() { [ "/proc/$process/exe" -ef "$1" ]; }
 
 # callers_of KIT PROGRAM..: the callers and sizes of the blocks of a program that waits for its input.
 callers_of() {
     local by=$1
     shift
-    rm -f input && mkfifo input
+    rm -f input output "$by.callers" && mkfifo input
     (exec 3<> input; exec setarch -R env -i PATH="$PATH" LEAK_TRACE="$LEAK_TRACE" PERL_HASH_SEED=0 \
         "$work/$by/leak_trace" -d 12 "$@" <&3 > output 2>&1 3>&-) &
     process=$!
-    started="$started $process"
-    sleep 0.5
-    for _ in $(seq 100); do # gdb rests for long too while it reads what its child iconv says
-        [ "${prompt-}" ] && ! grep -qsF "$prompt" output || break
-        sleep 0.1
-    done
+    started[$process]=1
+    # gdb rests for long too while it reads what its child iconv says
+    [ "${prompt-}" ] && until_true 60 grep -qsF "$prompt" output
+    until_true 10 runs_as "$1"
     settle $process
     dump $process "$work/$by" && grep '^@' "$by.log" | sed 's/ + 0x[0-9a-f]* / + /' | sort > "$by.callers"
-    { kill -9 $process && wait $process; } 2> /dev/null
+    stop $process
     rm -f "$by.core" "$by.kernel"
 }
 
@@ -31,7 +32,8 @@ deep() {
     shift
     callers_of ours "$@"
     callers_of them "$@"
-    verdict "$name, $(wc -l < ours.callers) blocks" '0 differ' "$(diff ours.callers them.callers | grep -c '^[<>]') differ"
+    verdict "$name, $(wc -l < ours.callers) blocks" '0 differ' \
+        "$([ -s ours.callers ] && echo "$(diff ours.callers them.callers | grep -c '^[<>]') differ")"
 }
 [ -x /usr/bin/perl ] && deep perl /usr/bin/perl -e '$|=1; my %h; $h{$_} = [1..5, "x" x $_] for 1..2000; $x = join ",", sort { $a <=> $b } map { s/7/8/gr } keys %h; <STDIN>'
 [ -x /usr/bin/gawk ] && deep gawk /usr/bin/gawk 'BEGIN { for (i = 0; i < 3000; i++) a[i "x"] = i * 2 "y"; n = asorti(a, b); getline x }'

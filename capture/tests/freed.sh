@@ -1,12 +1,12 @@
 # Freed memory: what the log says of it, what leak_find names without it and with it.
-echo "== freed memory"
+section freed memory
 build freed.c
 build stale.c
 
 # skipped NAME: what is named of the last dump with --skip-freed, after what is named without.
 skipped() {
-    "$finder" one "$work/$1.core" "$work/$1.log" > "$1.report" 2>&1
-    "$finder" one --skip-freed "$work/$1.core" "$work/$1.log" > "$1.skipped" 2>&1
+    find_leaks one "$work/$1.core" "$work/$1.log" > "$1.report" 2>&1
+    find_leaks one --skip-freed "$work/$1.core" "$work/$1.log" > "$1.skipped" 2>&1
     echo "$(named "$1.report")and $(named "$1.skipped")"
 }
 
@@ -15,7 +15,7 @@ skipped() {
 whole() {
     awk '/^\+ / { getline; next } { print }' "$1.log" > "$1.bare.log"
     diff <(sed 's/^\(leak [^ ]* [^ ]*\) [0-9]*/\1/' "$1.report") \
-        <("$finder" one "$work/$1.core" "$1.bare.log" 2>&1 | sed 's/^\(leak [^ ]* [^ ]*\) [0-9]*/\1/') > /dev/null && echo same
+        <(find_leaks one "$work/$1.core" "$1.bare.log" 2>&1 | sed 's/^\(leak [^ ]* [^ ]*\) [0-9]*/\1/') > /dev/null && echo same
 }
 
 # freed NAME SOURCE PID: dumps the process, and looks.
@@ -27,31 +27,33 @@ freed() {
 }
 start ./stale
 freed stale stale.c $process
-{ kill -9 $process && wait $process; } 2> /dev/null
+stop $process
 if [ "$attaches" ]; then
     start ./freed
     freed freed1 freed.c $process
     dump --after "$work/freed1" $process "$work/freed2"
     verdict 'a second dump: spans' 'over no live block' "$(python3 "$kit/tests/spans.py" freed2.log | sed 's/.*, //')"
     verdict 'a second dump: named without and with' "and $(expected "$kit/tests/freed.c")" "$(skipped freed2)"
-    "$finder" two --skip-freed freed1.{core,log} freed2.{core,log} > two.report 2>&1
+    find_leaks two --skip-freed freed1.{core,log} freed2.{core,log} > two.report 2>&1
     verdict 'a pair of dumps' "$(expected "$kit/tests/freed.c")" "$(named two.report)"
     verdict 'a pair of dumps: blocks' "$(awk '/^blocks|^freed/' freed2.skipped)" "$(awk '/^blocks|^freed/' two.report)"
-    { kill -9 $process && wait $process; } 2> /dev/null
+    stop $process
+else
+    leave_out 'two dumps of one process: gdb may not attach'
 fi
 start ./freed child
 child=$(pgrep -P $process)
-started="$started $child"
+started[$child]=1
 settle "$child"
 freed freed-child freed.c "$child"
-{ kill -9 $process $child && wait $process; } 2> /dev/null
+stop $process $child
 
 # Where a block is just being moved, or one found no place in the table, no memory is said to be free.
 if [ "$attaches" ]; then
     build moving.c
     gcc -O1 -shared -fPIC "$kit/tests/stopped.c" -o stopped.so
     LD_PRELOAD=$work/stopped.so start ./moving
-    "$kit/leak_dump" $process "$work/moving" 2> said
+    limited 120 "$kit/leak_dump" $process "$work/moving" 2> said
     verdict 'while realloc moves a block' '0 spans, 0 bytes' "$(python3 "$kit/tests/spans.py" moving.log | sed 's/, over.*//')"
     verdict 'it is said' 1 "$(grep -c 'just being moved by realloc' said)"
 fi

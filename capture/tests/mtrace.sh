@@ -1,6 +1,6 @@
 # Real programs, run with the table and with mtrace at once, stopped while idle: both must know the same blocks,
 # but those from before mtrace() was called. Programs that are not installed are left out.
-echo "== against mtrace, in the same run"
+section against mtrace, in the same run
 gcc -shared -fPIC -O1 -o mtrace_on.so "$kit/tests/mtrace_on.c"
 
 # both NAME PROGRAM..: in the background, with both. Its standard input is kept open by a pipe.
@@ -11,7 +11,7 @@ both() {
     (exec 3<> "$name.in"; exec env MALLOC_TRACE="$work/$name.mlog" \
         LD_PRELOAD="$kit/leak_trace.so $work/mtrace_on.so libc_malloc_debug.so.0" "$@" <&3 > "$name.out" 2>&1 3>&-) &
     process=$!
-    started="$started $process"
+    started[$process]=1
     sleep 1
 }
 
@@ -19,13 +19,13 @@ both() {
 compare() {
     local name=$1 table=$work/table.$process said
     sleep 1
-    gdb -nx --batch -p $process -ex 'call (void)muntrace()' -ex "generate-core-file $name.core" \
+    limited 120 gdb -nx --batch -p $process -ex 'call (void)muntrace()' -ex "generate-core-file $name.core" \
         -ex "shell cp --sparse=always $table $name.table; cp $name.mlog $name.mcopy" -ex detach > "$name.gdb" 2>&1
     "$kit/leak_log" "$name.core" "$name.table" > "$name.log"
     said=$(python3 "$kit/tests/same.py" "$name.log" "$name.mcopy" | head -n 1)
     verdict "$name" "same, ${2:-0} more" "$(echo "$said" | awk '{ print $NF == 0 && $(NF - 4) + 0 <= '"${2:-0}"' ? "same, '"${2:-0}"' more" : $0 }' )"
     echo "     $said"
-    { kill -9 $process && wait $process; } 2> /dev/null
+    stop $process
     rm -f "$name.core"
 }
 say() { printf '%s\n' "$2" > "$1.in"; }
@@ -53,7 +53,7 @@ if have perl; then
 fi
 if have memcached; then
     both memcached memcached -u root -p 21211 -l 127.0.0.1 -t 4
-    python3 - <<'P'
+    timeout 60 python3 - <<'P'
 import socket
 s = [socket.create_connection(("127.0.0.1", 21211)) for _ in range(20)]
 for i in range(3000):
@@ -64,7 +64,7 @@ fi
 if have redis-server; then
     # Its own jemalloc is what mtrace can't follow: glibc's malloc comes first.
     both redis redis-server --port 26379 --bind 127.0.0.1 --save '' --appendonly no
-    redis-benchmark -p 26379 -n 5000 -q > /dev/null 2>&1
+    limited 120 redis-benchmark -p 26379 -n 5000 -q > /dev/null 2>&1
     compare redis 8
 fi
 if have lighttpd; then

@@ -1,5 +1,5 @@
 # A crash, and the tables that dead processes leave behind.
-echo "== a crash, and the tables of dead processes"
+section a crash, and the tables of dead processes
 rm -f table.*
 build crash.c
 if [ "$dumps_core" ]; then
@@ -20,7 +20,7 @@ if [ "$dumps_core" ]; then
     mv "table.$(cat pid)" crash.table && cp crash.table "table.$(cat pid)"
     rm -f core core.*
 else
-    echo "     no core by the kernel: $(cat /proc/sys/kernel/core_pattern) takes it elsewhere"
+    leave_out "a crash: $(cat /proc/sys/kernel/core_pattern) takes the kernel's core elsewhere"
     start ./plain; kill -9 $process; wait $process 2> /dev/null; echo $process > pid
 fi
 start ./plain
@@ -40,7 +40,7 @@ if [ -e crash.core ]; then
     "$kit/leak_log" crash.core "table.$process" > /dev/null 2> said
     verdict 'a table of another process' "is not of this core's process" "$(sed 's/.*the table //' said)"
 fi
-{ kill $process && wait $process; } 2> /dev/null
+stop $process
 verdict 'a killed process leaves its table' 1 "$(ls table.* | wc -l)"
 "$kit/leak_trace" --remove > /dev/null
 "$kit/leak_trace" true

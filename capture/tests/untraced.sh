@@ -1,14 +1,14 @@
 # Where no table can be had the program runs on, with one line at most.
-echo "== limits"
+section limits
 build hello.c
 untraced() {
     local name=$1 text
     shift
-    text=$("$@" 2>&1)
+    text=$(limited 60 "$@" 2>&1)
     verdict "$name: runs" hello "$(echo "$text" | grep -v '^leak_trace: .*not traced$')"
     verdict "$name: lines" 1 "$(echo "$text" | grep -c '^leak_trace')"
 }
-runs() { verdict "$1: runs" hello "$("${@:2}" 2>&1)"; }
+runs() { verdict "$1: runs" hello "$(limited 60 "${@:2}" 2>&1)"; }
 untraced 'no directory' "$kit/leak_trace" -o /nonexistent/x ./hello
 untraced 'file size 0' bash -c 'ulimit -f 0; "$@"' - "$kit/leak_trace" ./hello
 runs 'memory limit' bash -c 'ulimit -v 2000000; "$@"' - "$kit/leak_trace" ./hello
@@ -23,14 +23,14 @@ if mkdir small && mount -t tmpfs -o size=512k tmpfs small 2> /dev/null; then
     untraced 'disk full from the start' "$kit/leak_trace" -o "$work/small/t.%p" ./hello
     umount small
 else
-    echo "     no small disk: mount is refused"
+    leave_out 'a full disk: mount is refused'
 fi
 
-echo "== the output of commands"
+section the output of commands
 head -c 3000000 "$finder" > sample
 same() {
-    command -v "$1" > /dev/null || { echo "     no $1 here: left out"; return; }
-    verdict "$*" "$("$@" 2>&1 | md5sum)" "$("$kit/leak_trace" $options "$@" 2>&1 | md5sum)"
+    command -v "$1" > /dev/null || { leave_out "the output of $1, which is not installed"; return; }
+    verdict "$*" "$(limited 60 "$@" 2>&1 | md5sum)" "$(limited 60 "$kit/leak_trace" $options "$@" 2>&1 | md5sum)"
 }
 for options in '' '-d 8' '-w'; do
     same perl -e 'my %h = map { $_ => $_ ** 2 } 1 .. 999; print join ",", map { $h{$_} } sort keys %h'

@@ -1,0 +1,178 @@
+"""phases.py [PART [WORD..]]: passes everything, phase by phase, or one part alone, and counts it all together.
+
+A phase is a row of shell commands. One that counts must end its standard output with `NAME: N passed, M failed`, with the NAME
+that is its own; of the others only the status counts, and only where it is not 0. A phase has a time limit, so that a hang says
+where it is. The words after PART go to the last command of the part.
+
+The last line is `N passed, M failed`, the sum. The status is 0 where nothing failed, 1 where something did, and 2 where PART
+names no phase.
+"""
+import glob
+import os
+import re
+import shlex
+import signal
+import subprocess
+import sys
+import threading
+import time
+from typing import NamedTuple
+
+ROOT = os.path.dirname(os.path.dirname(os.path.abspath(__file__)))
+OUT = "crates/leak_cli/out"
+
+
+class Step(NamedTuple):
+    """A shell command, and the words that stand before its count; None where it counts nothing, and must end with status 0."""
+    command: str
+    count: str | None = None
+
+
+class Phase(NamedTuple):
+    """A part: its time limit in minutes, the files that it stands on as patterns, and its steps."""
+    name: str
+    minutes: float
+    stands_on: tuple
+    steps: tuple
+
+
+PHASES = (
+    Phase("proofs", 100, (), (Step("rt ci", ""),)),
+    Phase("wrong", 60, ("crates/*/out/rlib",), (
+        Step("python3 gate/wrong_bodies_test.py"),
+        Step("python3 gate/wrong_bodies.py", "wrong bodies: "))),
+    Phase("cases", 5, (f"{OUT}/leak_cli", f"{OUT}/leak_cli.by-rattle"), (
+        Step("python3 gate/phases_test.py"),
+        Step("python3 gate/cases_test.py"),
+        Step(f"python3 gate/cases.py {OUT}/leak_cli {OUT}/leak_cli.by-rattle", "cases: "))),
+    Phase("capture", 12, (f"{OUT}/leak_cli",), (
+        Step("make -C capture"),
+        Step(f"MOMENTS=10 LEAK_FIND=$PWD/{OUT}/leak_cli capture/tests/run.sh", "capture: "),
+        Step(f"examples/run.sh $PWD/{OUT}/leak_cli", "examples: "))),
+)
+
+
+class Result(NamedTuple):
+    """What a phase or a step passed and failed, and why it failed where the count does not say so."""
+    passed: int = 0
+    failed: int = 0
+    faults: tuple = ()
+
+    def __add__(self, other):
+        return Result(self.passed + other.passed, self.failed + other.failed, self.faults + other.faults)
+
+    def __str__(self):
+        return "; ".join((f"{self.passed} passed, {self.failed} failed", *self.faults))
+
+
+def fault(text):
+    """One failure that no count tells."""
+    return Result(0, 1, (text,))
+
+
+def say(text):
+    """Writes a line at once, so that it stands where it belongs among those of the commands."""
+    print(text, flush=True)
+
+
+def copy_lines(source, lines):
+    """Copies what a command writes, and leaves its last line that is not blank in `lines`."""
+    with source:
+        for line in source:
+            sys.stdout.buffer.write(line)
+            sys.stdout.buffer.flush()
+            if line.strip():
+                lines[:] = [line.decode(errors="replace").rstrip()]
+
+
+def stop_group(process):
+    """Ends the process and what it left running in its group: asks, gives the process ten seconds, and kills."""
+    for number in (signal.SIGTERM, signal.SIGKILL):
+        try:
+            os.killpg(process.pid, number)
+            process.wait(timeout=10)
+        except ProcessLookupError:
+            return
+        except subprocess.TimeoutExpired:
+            pass
+
+
+def run(command, seconds):
+    """Runs a shell command in the top folder. Gives its status, or None where the time was up, and its last line."""
+    process = subprocess.Popen(["sh", "-c", command], cwd=ROOT, stdin=subprocess.DEVNULL, stdout=subprocess.PIPE,
+                               start_new_session=True)
+    lines = []
+    reader = threading.Thread(target=copy_lines, args=(process.stdout, lines), daemon=True)
+    reader.start()
+    try:
+        status = process.wait(timeout=seconds)
+    except subprocess.TimeoutExpired:
+        status = None
+    finally:
+        stop_group(process)
+    reader.join(timeout=10)  # a program in another session may hold the pipe for ever
+    return status, "".join(lines)
+
+
+def judge(step, status, last):
+    """The result of a step that ended with the status and the last line."""
+    if step.count is None:
+        return Result() if status == 0 else fault(f"'{step.command}' ended with status {status}")
+    count = re.fullmatch(re.escape(step.count) + r"(\d+) passed, (\d+) failed", last)
+    if not count:
+        return fault(f"'{step.command}' did not end with a count, and with status {status}")
+    result = Result(int(count[1]), int(count[2]))
+    if status != 0 and result.failed == 0:
+        return result + fault(f"'{step.command}' ended with status {status}")
+    if result.passed + result.failed == 0:
+        return fault(f"'{step.command}' tried nothing")
+    return result
+
+
+def pass_phase(phase, words):
+    """Runs the steps of a phase one after the other, also after one that failed, until its time is up."""
+    lacking = [it for it in phase.stands_on if not glob.glob(os.path.join(ROOT, it))]
+    if lacking:
+        return fault(f"left out: there is no {' and no '.join(lacking)}")
+    until, result = time.monotonic() + 60 * phase.minutes, Result()
+    for step in phase.steps:
+        command = shlex.join(words) if step is phase.steps[-1] else ""
+        status, last = run(f"{step.command} {command}".rstrip(), max(until - time.monotonic(), 0))
+        if status is None:
+            return result + fault(f"'{step.command}' was ended: the phase has {phase.minutes:g} minutes")
+        result += judge(step, status, last)
+    return result
+
+
+def pass_all(phases, words=()):
+    """Passes the phases in order, prints a table and the sum of all, and gives the exit status."""
+    rows, whole = [], Result()
+    for phase in phases:
+        say(f"== {phase.name}: at most {phase.minutes:g} minutes")
+        begin = time.monotonic()
+        result = pass_phase(phase, words)
+        minutes = f"{(time.monotonic() - begin) / 60:.1f}"
+        say(f"== {phase.name}: {minutes} minutes: {result}")
+        rows.append((phase.name, minutes, result))
+        whole += result
+    say(f"\n{'phase':<10}{'minutes':>7}  result")
+    for name, minutes, result in rows:
+        say(f"{name:<10}{minutes:>7}  {result}")
+    say(f"{whole.passed} passed, {whole.failed} failed")
+    return 1 if whole.failed else 0
+
+
+def main(part="", *words):
+    """Passes all phases, or the one that is named with its words."""
+    for number in (signal.SIGTERM, signal.SIGHUP):
+        signal.signal(number, lambda *_: sys.exit(1))
+    phases = [phase for phase in PHASES if part in ("", phase.name)]
+    if not phases:
+        say(f"check: no part {part}: there are {', '.join(phase.name for phase in PHASES)}")
+        say("0 passed, 1 failed")
+        return 2
+    return pass_all(phases, words)
+
+
+if __name__ == "__main__":
+    sys.exit(main(*sys.argv[1:]))

@@ -1,0 +1,112 @@
+"""Tries phases.py with commands that stand in for real ones: what it counts, and how it says what failed."""
+import contextlib
+import io
+import os
+import sys
+import time
+import unittest
+
+sys.path.insert(0, os.path.dirname(os.path.abspath(__file__)))
+import phases
+from phases import Phase, Step
+
+
+def lines_of(*all_phases, words=()):
+    """What the phases print besides the output of their commands, and the exit status."""
+    printed = io.TextIOWrapper(io.BytesIO(), write_through=True)
+    with contextlib.redirect_stdout(printed):
+        status = phases.pass_all(all_phases, words)
+    return printed.buffer.getvalue().decode().splitlines(), status
+
+
+def phase(*steps, name="one", minutes=1.0, stands_on=()):
+    """A phase of these steps."""
+    return Phase(name, minutes, stands_on, steps)
+
+
+class Counting(unittest.TestCase):
+    """The last line and the exit status."""
+
+    def check(self, wanted, *steps, status=1, minutes=1.0):
+        lines, found = lines_of(phase(*steps, minutes=minutes))
+        self.assertEqual((lines[-1], found), (wanted, status), "\n".join(lines))
+        return lines[-2]
+
+    def test_counts_of_phases_are_added(self):
+        lines, status = lines_of(phase(Step("echo 3 passed, 0 failed", "")),
+                                 phase(Step("echo two: 40 passed, 0 failed", "two: "), name="two"))
+        self.assertEqual((lines[-1], status), ("43 passed, 0 failed", 0))
+        self.assertEqual(lines[-4], "phase     minutes  result")
+        self.assertRegex(lines[-3], r"^one +0\.\d  3 passed, 0 failed$")
+        self.assertRegex(lines[-2], r"^two +0\.\d  40 passed, 0 failed$")
+
+    def test_later_phases_run_after_one_that_failed(self):
+        lines, status = lines_of(phase(Step("echo 3 passed, 2 failed; exit 1", "")), phase(Step("echo 4 passed, 0 failed", "")))
+        self.assertEqual((lines[-1], status), ("7 passed, 2 failed", 1))
+
+    def test_a_count_of_failures_counts_at_status_0(self):
+        self.check("3 passed, 2 failed", Step("echo 3 passed, 2 failed", ""))
+
+    def test_no_count_is_one_failure(self):
+        self.check("0 passed, 1 failed", Step("echo fine", ""))
+
+    def test_a_count_that_is_not_last_is_none(self):
+        self.check("0 passed, 1 failed", Step("echo 3 passed, 0 failed; echo more", ""))
+
+    def test_the_count_of_another_is_none(self):
+        self.check("0 passed, 1 failed", Step("echo two: 3 passed, 0 failed", "one: "))
+
+    def test_a_count_of_nothing_is_one_failure(self):
+        self.check("0 passed, 1 failed", Step("echo 0 passed, 0 failed", ""))
+
+    def test_a_status_with_no_failure_is_one(self):
+        self.check("3 passed, 1 failed", Step("echo 3 passed, 0 failed; exit 4", ""))
+
+    def test_a_killed_command_is_one_failure(self):
+        self.check("3 passed, 1 failed", Step("echo 3 passed, 0 failed; kill -KILL $$", ""))
+
+    def test_what_counts_nothing_fails_by_its_status(self):
+        self.check("3 passed, 0 failed", Step("true"), Step("echo 3 passed, 0 failed", ""), status=0)
+        row = self.check("3 passed, 1 failed", Step("exit 5"), Step("echo 3 passed, 0 failed", ""))
+        self.assertIn("'exit 5' ended with status 5", row)
+
+    def test_blank_lines_and_standard_error_come_after_a_count(self):
+        self.check("3 passed, 0 failed", Step("echo 3 passed, 0 failed; echo; echo noise >&2", ""), status=0)
+
+
+class Ending(unittest.TestCase):
+    """Time limits, and what is missing."""
+
+    def test_a_phase_ends_at_its_limit(self):
+        begin = time.monotonic()
+        lines, status = lines_of(phase(Step("echo 3 passed, 0 failed", ""), Step("sleep 60 | cat"), Step("echo never; exit 1"), minutes=0.01),
+                                 phase(Step("echo 4 passed, 0 failed", "")))
+        self.assertEqual((lines[-1], status), ("7 passed, 1 failed", 1))
+        self.assertIn("'sleep 60 | cat' was ended: the phase has 0.01 minutes", lines[-3])
+        self.assertNotIn("never", lines)
+        self.assertLess(time.monotonic() - begin, 30)
+
+    def test_what_is_left_running_is_ended_and_not_waited_for(self):
+        begin = time.monotonic()
+        lines, status = lines_of(phase(Step("sleep 61 & sleep 62 & echo 3 passed, 0 failed", "")))
+        self.assertEqual((lines[-1], status), ("3 passed, 0 failed", 0))
+        self.assertLess(time.monotonic() - begin, 30)
+
+    def test_a_phase_whose_ground_is_missing_fails(self):
+        lines, status = lines_of(phase(Step("echo 3 passed, 0 failed", ""), stands_on=("gate/phases.py", "gate/no_such_*")))
+        self.assertEqual((lines[-1], status), ("0 passed, 1 failed", 1))
+        self.assertIn("left out: there is no gate/no_such_*", lines[-2])
+
+    def test_words_go_to_the_last_command(self):
+        lines, _ = lines_of(phase(Step("echo first"), Step("echo 3 passed, 0 failed:", "")), words=("a b", "c"))
+        self.assertIn("3 passed, 0 failed: a b c", lines)
+
+    def test_a_part_that_is_none_is_refused(self):
+        printed = io.StringIO()
+        with contextlib.redirect_stdout(printed):
+            self.assertEqual(phases.main("no_such_part"), 2)
+        self.assertEqual(printed.getvalue().splitlines()[-1], "0 passed, 1 failed")
+
+
+if __name__ == "__main__":
+    unittest.main()
