@@ -1,345 +1,424 @@
-use crate::comparisons::{same, same_in};
-use leak_blocks::{Live, SmallSpans, Span, replay, replay_bytes, replay_with_spans, small_spans};
+use crate::comparisons::same_in;
+use leak_blocks::{
+    Block, Live, Replayed, SmallSpans, Span, replay, replay_bytes, replay_with_spans, small_spans,
+};
 use leak_mtrace::{Log, LogError};
 use std::alloc::Global;
 use std::fmt::Write;
 use std::process::Abort;
 use std::test::Fail;
 
-/// The live blocks of a log, as start, size and line, and how many of its lines are unknown, displaced and torn.
-type Outcome = (Vec<(u64, u64, usize)>, (u64, u64, u64));
-
-fn outcome_of(alloc: Global, live: &Live, torn: u64) -> Result<Outcome, Fail> {
-    let mut blocks = Vec::new(alloc);
-    for block in live.blocks() {
-        blocks.push((block.start, block.size, block.line))?;
-    }
-    Ok((blocks, (live.unknown(), live.displaced(), torn)))
-}
-
-/// What the log comes to, by its lines, and by its bytes too.
-fn outcome(rt: &impl Abort, alloc: Global, text: &str) -> Result<Outcome, Fail> {
-    let log = Log::read(alloc, text.as_bytes())?;
-    let by_lines = outcome_of(alloc, &replay(alloc, &log)?, log.torn())?;
-    let replayed = replay_bytes(alloc, text.as_bytes())?;
-    let by_bytes = outcome_of(alloc, &replayed.live, replayed.torn)?;
-    same_in(rt, &text, by_bytes.0.as_slice(), by_lines.0.as_slice());
-    same_in(rt, &text, by_bytes.1, by_lines.1);
-    same_in(rt, &text, replayed.whole_len, log.whole_len());
-    Ok(by_lines)
-}
-
 /// A log, its live blocks as start, size and line, and how many of its lines are unknown, displaced and torn.
-type Case<'a> = (&'a str, &'a [(u64, u64, usize)], (u64, u64, u64));
+type Case = (&'static str, &'static [(u64, u64, usize)], Counts);
 
+/// How many lines are unknown, displaced and torn.
+type Counts = (u64, u64, u64);
+
+fn counts_of(live: &Live, torn: u64) -> Counts {
+    (live.unknown(), live.displaced(), torn)
+}
+
+/// Ends the test where the log comes to something else by its lines.
+fn agrees(rt: &impl Abort, alloc: Global, text: &str, found: &Replayed) -> Result<(), Fail> {
+    let log = Log::read(alloc, text.as_bytes())?;
+    let live = replay(alloc, &log)?;
+    let counts = counts_of(&found.live, found.torn);
+    same_in(rt, text, live.blocks(), found.live.blocks());
+    same_in(rt, text, counts_of(&live, log.torn()), counts);
+    same_in(rt, text, log.whole_len(), found.whole_len);
+    Ok(())
+}
+
+/// Ends the test where these are other blocks.
+fn are(rt: &impl Abort, text: &str, blocks: &[Block], wanted: &[(u64, u64, usize)]) {
+    same_in(rt, text, blocks.len(), wanted.len());
+    for (block, row) in blocks.iter().zip(wanted) {
+        same_in(rt, text, (block.start, block.size, block.line), *row);
+    }
+}
+
+/// Ends the test where the log comes to other live blocks or counts, by its bytes or by its lines.
+fn comes_to(rt: &impl Abort, alloc: Global, case: &Case) -> Result<(), Fail> {
+    let (text, blocks, counts) = *case;
+    let found = replay_bytes(alloc, text.as_bytes())?;
+    are(rt, text, found.live.blocks(), blocks);
+    same_in(rt, text, counts_of(&found.live, found.torn), counts);
+    agrees(rt, alloc, text, &found)
+}
+
+/// Ends the test where one of the logs comes to something else.
 fn replays(rt: &impl Abort, alloc: Global, cases: &[Case]) -> Result<(), Fail> {
-    for (text, blocks, counts) in cases {
-        let found = outcome(rt, alloc, text)?;
-        same_in(rt, &text, found.0.as_slice(), *blocks);
-        same_in(rt, &text, found.1, *counts);
+    for case in cases {
+        comes_to(rt, alloc, case)?;
     }
     Ok(())
 }
+
+/// Allocations that touch or overlap others.
+static MEETINGS: [Case; 6] = [
+    (
+        "+ 0x100 0x10\n+ 0x110 0x10\n",
+        &[(0x100, 16, 1), (0x110, 16, 2)],
+        (0, 0, 0),
+    ),
+    ("+ 0x100 0\n+ 0x100 0\n", &[(0x100, 0, 2)], (0, 1, 0)),
+    (
+        "+ 0x100 0x10\n+ 0x120 0x10\n+ 0x108 0x20\n",
+        &[(0x108, 32, 3)],
+        (0, 2, 0),
+    ),
+    (
+        "+ 0x100 0x10\n+ 0x108 0x10\n- 0x100\n",
+        &[(0x108, 16, 2)],
+        (1, 1, 0),
+    ),
+    // a block may end with the last address
+    (
+        "+ 0xffffffffffffffff 0\n+ 0xfffffffffffffff0 0xf\n",
+        &[
+            (0xffff_ffff_ffff_fff0, 15, 2),
+            (0xffff_ffff_ffff_ffff, 0, 1),
+        ],
+        (0, 0, 0),
+    ),
+    // one allocation ends many
+    (
+        "+ 0x100 0x1\n+ 0x101 0x1\n+ 0x102 0\n+ 0x103 0x1\n+ 0x101 0x2\n",
+        &[(0x100, 1, 1), (0x101, 2, 5), (0x103, 1, 4)],
+        (0, 2, 0),
+    ),
+];
 
 #[test]
 fn allocations_that_meet_others(rt: HostRuntime) -> Result<(), Fail> {
-    let cases: [Case; 6] = [
-        (
-            "+ 0x100 0x10\n+ 0x110 0x10\n",
-            &[(0x100, 16, 1), (0x110, 16, 2)],
-            (0, 0, 0),
-        ),
-        ("+ 0x100 0\n+ 0x100 0\n", &[(0x100, 0, 2)], (0, 1, 0)),
-        (
-            "+ 0x100 0x10\n+ 0x120 0x10\n+ 0x108 0x20\n",
-            &[(0x108, 32, 3)],
-            (0, 2, 0),
-        ),
-        (
-            "+ 0x100 0x10\n+ 0x108 0x10\n- 0x100\n",
-            &[(0x108, 16, 2)],
-            (1, 1, 0),
-        ),
-        // a block may end with the last address
-        (
-            "+ 0xffffffffffffffff 0\n+ 0xfffffffffffffff0 0xf\n",
-            &[
-                (0xffff_ffff_ffff_fff0, 15, 2),
-                (0xffff_ffff_ffff_ffff, 0, 1),
-            ],
-            (0, 0, 0),
-        ),
-        // one allocation ends many
-        (
-            "+ 0x100 0x1\n+ 0x101 0x1\n+ 0x102 0\n+ 0x103 0x1\n+ 0x101 0x2\n",
-            &[(0x100, 1, 1), (0x101, 2, 5), (0x103, 1, 4)],
-            (0, 2, 0),
-        ),
-    ];
-    replays(&rt, rt.alloc(), &cases)
+    replays(&rt, rt.alloc(), &MEETINGS)
 }
+
+/// Give-backs, moves and lines that allocate nothing.
+static ENDS: [Case; 6] = [
+    ("+ 0x100 0x10\n- 0x100\n- 0x100\n", &[], (1, 0, 0)),
+    (
+        "+ 0x100 0x10\n< 0x100\n> 0x200 0x20\n",
+        &[(0x200, 32, 3)],
+        (0, 0, 0),
+    ),
+    ("+ 0x100 0x10\n! 0x100 0x20\n", &[(0x100, 16, 1)], (0, 0, 0)),
+    // a give-back inside a block, or of nothing, ends none; the torn line is no line
+    (
+        "+ 0x10100 0x20\n+ 0x10110 0x20\n- 0x10300\n- 0x10118\n- 0x10110",
+        &[(0x10110, 32, 2)],
+        (2, 1, 1),
+    ),
+    (
+        "+ 0x10100 0x20\n+ 0x10200 0x10\n- 0x10100\n",
+        &[(0x10200, 16, 2)],
+        (0, 0, 0),
+    ),
+    // nothing is allocated or given back at address 0
+    ("+ (nil) 0x10\n- (nil)\n", &[], (0, 0, 0)),
+];
 
 #[test]
 fn lines_that_end_blocks_or_none(rt: HostRuntime) -> Result<(), Fail> {
-    let cases: [Case; 6] = [
-        ("+ 0x100 0x10\n- 0x100\n- 0x100\n", &[], (1, 0, 0)),
-        (
-            "+ 0x100 0x10\n< 0x100\n> 0x200 0x20\n",
-            &[(0x200, 32, 3)],
-            (0, 0, 0),
-        ),
-        ("+ 0x100 0x10\n! 0x100 0x20\n", &[(0x100, 16, 1)], (0, 0, 0)),
-        // a give-back inside a block, or of nothing, ends none; the torn line is no line
-        (
-            "+ 0x10100 0x20\n+ 0x10110 0x20\n- 0x10300\n- 0x10118\n- 0x10110",
-            &[(0x10110, 32, 2)],
-            (2, 1, 1),
-        ),
-        (
-            "+ 0x10100 0x20\n+ 0x10200 0x10\n- 0x10100\n",
-            &[(0x10200, 16, 2)],
-            (0, 0, 0),
-        ),
-        // nothing is allocated or given back at address 0
-        ("+ (nil) 0x10\n- (nil)\n", &[], (0, 0, 0)),
-    ];
-    replays(&rt, rt.alloc(), &cases)
+    replays(&rt, rt.alloc(), &ENDS)
+}
+
+static REFUSED: [(&str, LogError); 3] = [
+    ("+ 0x100 0x20\n+ 0x100\n", LogError::BadLine(2)),
+    ("+ 0x100\n+ 0xffffffffffffffff 0x1\n", LogError::BadLine(1)),
+    ("+ 0xffffffffffffffff 0x1\n+ 0x100\n", LogError::Extent(1)),
+];
+
+/// Why the log is refused, without its small allocations and with them.
+fn refusals(alloc: Global, text: &str) -> [Option<LogError>; 2] {
+    let without = replay_bytes(alloc, text.as_bytes()).err();
+    [without, replay_with_spans(alloc, text.as_bytes()).err()]
 }
 
 #[test]
-fn logs_that_are_refused(rt: HostRuntime) -> Result<(), Fail> {
-    let cases = [
-        ("+ 0x100 0x20\n+ 0x100\n", LogError::BadLine(2)),
-        ("+ 0x100\n+ 0xffffffffffffffff 0x1\n", LogError::BadLine(1)),
-        ("+ 0xffffffffffffffff 0x1\n+ 0x100\n", LogError::Extent(1)),
-    ];
-    for (text, want) in cases {
-        match replay_bytes(rt.alloc(), text.as_bytes()) {
-            Ok(_) => panic!(rt; "{text}"),
-            Err(error) => same_in(&rt, &text, error, want),
-        }
-        match replay_with_spans(rt.alloc(), text.as_bytes()) {
-            Ok(_) => panic!(rt; "{text}"),
-            Err(error) => same_in(&rt, &text, error, want),
-        }
+fn logs_that_are_refused(rt: HostRuntime) {
+    for &(text, wanted) in &REFUSED {
+        let found = refusals(rt.alloc(), text);
+        same_in(&rt, text, found, [Some(wanted), Some(wanted)]);
     }
-    Ok(())
+}
+
+/// A log of two blocks, and the callers in the order of their addresses.
+const TWO: &str = "+ 0x10200 0x10\n@ ./a.out:[0x401136] + 0x10100 0x20\n";
+
+static CALLERS: [&str; 2] = ["./a.out:[0x401136]", ""];
+
+/// The live blocks of a log.
+fn lives(alloc: Global, text: &str) -> Result<Live, Fail> {
+    let log = Log::read(alloc, text.as_bytes())?;
+    Ok(replay(alloc, &log)?)
+}
+
+/// Ends the test where the blocks of the log have other callers.
+fn have_callers(rt: &impl Abort, blocks: &[Block]) {
+    for (block, caller) in blocks.iter().zip(&CALLERS) {
+        let found = TWO.get(block.caller.0..block.caller.1);
+        same_in(rt, block.start, found, Some(*caller));
+    }
 }
 
 #[test]
 fn sizes_and_callers(rt: HostRuntime) -> Result<(), Fail> {
-    let text = "+ 0x10200 0x10\n@ ./a.out:[0x401136] + 0x10100 0x20\n";
-    let log = Log::read(rt.alloc(), text.as_bytes())?;
-    let live = replay(rt.alloc(), &log)?;
-    same(&rt, live.bytes(), 48);
-    same(&rt, live.unknown(), 0);
-    same(&rt, live.displaced(), 0);
-    let callers = ["./a.out:[0x401136]", ""];
-    for (block, caller) in live.blocks().iter().zip(callers) {
-        same(&rt, text.get(block.caller.0..block.caller.1), Some(caller));
+    let live = lives(rt.alloc(), TWO)?;
+    same_in(
+        &rt,
+        TWO,
+        (live.bytes(), counts_of(&live, 0)),
+        (48, (0, 0, 0)),
+    );
+    have_callers(&rt, live.blocks());
+    Ok(())
+}
+
+/// Appends allocations of the size, at so many addresses, each the step after the one before it.
+fn allocate(text: &mut String, from: u64, step: u64, count: u64, size: u64) -> Result<(), Fail> {
+    for i in 0..count {
+        let addr = from.wrapping_add(step.wrapping_mul(i));
+        write!(text, "+ {addr:#x} {size:#x}\n")?;
     }
     Ok(())
+}
+
+/// Appends give-backs at so many addresses, each the step after the one before it.
+fn give_back(text: &mut String, from: u64, step: u64, count: u64) -> Result<(), Fail> {
+    for i in 0..count {
+        let addr = from.wrapping_add(step.wrapping_mul(i));
+        write!(text, "- {addr:#x}\n")?;
+    }
+    Ok(())
+}
+
+/// Ends the test where the log has another number of live blocks, or other counts, by its bytes or by its lines.
+fn has_counts(
+    rt: &impl Abort,
+    alloc: Global,
+    text: &str,
+    blocks: usize,
+    counts: Counts,
+) -> Result<(), Fail> {
+    let found = replay_bytes(alloc, text.as_bytes())?;
+    let has = (
+        found.live.blocks().len(),
+        counts_of(&found.live, found.torn),
+    );
+    same_in(rt, "long log", has, (blocks, counts));
+    agrees(rt, alloc, text, &found)
+}
+
+/// A log whose nodes are split and merged again and again.
+fn over_and_over(text: &mut String) -> Result<(), Fail> {
+    give_back(text, 0x10, 0, 1)?;
+    allocate(text, 0x1000, 0x1000, 600, 0x10)?;
+    for place in 1..=16u64 {
+        allocate(text, place * 0x8000 + 0x20, 0x20, 7, 0x10)?;
+    }
+    for _ in 0..100u64 {
+        for place in 1..=16u64 {
+            allocate(text, place * 0x8000 + 0x100, 0x20, 2, 0x10)?;
+        }
+        for place in 1..=16u64 {
+            give_back(text, place * 0x8000 + 0x100, 0x20, 2)?;
+        }
+    }
+    give_back(text, 0x10, 0, 1)?;
+    allocate(text, 0x1008, 0, 1, 0x10)
 }
 
 /// Arenas of the replay are used up, since nodes are split and merged again and again.
 #[test]
 fn nodes_made_over_and_over(rt: HostRuntime) -> Result<(), Fail> {
     let mut text = String::new(rt.alloc());
-    write!(text, "- 0x10\n")?;
-    for place in 1..=600u64 {
-        write!(text, "+ {:#x} 0x10\n", place * 0x1000)?;
-    }
-    for place in 1..=16u64 {
-        for inner in 1..=7u64 {
-            write!(text, "+ {:#x} 0x10\n", place * 0x8000 + inner * 0x20)?;
-        }
-    }
-    for _ in 0..100u64 {
-        for place in 1..=16u64 {
-            let addr = place * 0x8000;
-            write!(
-                text,
-                "+ {:#x} 0x10\n+ {:#x} 0x10\n",
-                addr + 0x100,
-                addr + 0x120
-            )?;
-        }
-        for place in 1..=16u64 {
-            let addr = place * 0x8000;
-            write!(text, "- {:#x}\n- {:#x}\n", addr + 0x100, addr + 0x120)?;
-        }
-    }
-    write!(text, "- 0x10\n+ 0x1008 0x10\n")?;
-    let (blocks, counts) = outcome(&rt, rt.alloc(), text.as_str())?;
-    same(&rt, blocks.len(), 600 + 16 * 7);
-    same(&rt, counts, (2, 1, 0));
-    Ok(())
+    over_and_over(&mut text)?;
+    has_counts(&rt, rt.alloc(), text.as_str(), 600 + 16 * 7, (2, 1, 0))
 }
 
-/// The ranges of the log's small allocations, by its lines, and by its bytes too.
-fn ranges_of(rt: &impl Abort, alloc: Global, text: &str) -> Result<Vec<(u64, u64)>, Fail> {
-    let log = Log::read(alloc, text.as_bytes())?;
-    let by_lines = small_spans(alloc, &log)?;
-    let (replayed, by_bytes) = replay_with_spans(alloc, text.as_bytes())?;
-    same_in(rt, &text, by_bytes.ranges(), by_lines.ranges());
-    same_in(rt, &text, replayed.whole_len, text.len());
-    let mut ranges = Vec::new(alloc);
-    for range in by_lines.ranges() {
-        ranges.push((range.first, range.last))?;
+/// Ends the test where these are other ranges.
+fn are_ranges(rt: &impl Abort, text: &str, ranges: &[Span], wanted: &[(u64, u64)]) {
+    same_in(rt, text, ranges.len(), wanted.len());
+    for (range, row) in ranges.iter().zip(wanted) {
+        same_in(rt, text, (range.first, range.last), *row);
     }
-    Ok(ranges)
 }
 
 /// A log, and the ranges of its small allocations, as the first and the last address of each.
-type Ranges<'a> = (&'a str, &'a [(u64, u64)]);
+type Ranges = (&'static str, &'static [(u64, u64)]);
+
+/// Ends the test where the small allocations have other ranges, by the lines of the log.
+fn have_ranges_by_lines(rt: &impl Abort, alloc: Global, case: &Ranges) -> Result<(), Fail> {
+    let log = Log::read(alloc, case.0.as_bytes())?;
+    let spans = small_spans(alloc, &log)?;
+    are_ranges(rt, case.0, spans.ranges(), case.1);
+    Ok(())
+}
+
+/// Ends the test where the small allocations have other ranges, by the bytes of the log.
+fn have_ranges_by_bytes(rt: &impl Abort, alloc: Global, case: &Ranges) -> Result<(), Fail> {
+    let (replayed, spans) = replay_with_spans(alloc, case.0.as_bytes())?;
+    are_ranges(rt, case.0, spans.ranges(), case.1);
+    same_in(rt, case.0, replayed.whole_len, case.0.len());
+    Ok(())
+}
+
+/// Ends the test where the small allocations of a log have other ranges, by its lines or by its bytes.
+fn have_ranges(rt: &impl Abort, alloc: Global, cases: &[Ranges]) -> Result<(), Fail> {
+    for case in cases {
+        have_ranges_by_lines(rt, alloc, case)?;
+        have_ranges_by_bytes(rt, alloc, case)?;
+    }
+    Ok(())
+}
+
+static SMALL: [Ranges; 8] = [
+    ("+ 0x100 0x20\n- 0x100\n", &[(0x100, 0x11f)]),
+    // live blocks and displaced ones are taken as well
+    ("+ 0x100 0x20\n+ 0x110 0x8\n", &[(0x100, 0x11f)]),
+    // those that touch are one range, whatever their order
+    ("+ 0x120 0x10\n+ 0x100 0x20\n", &[(0x100, 0x12f)]),
+    (
+        "+ 0x121 0x10\n+ 0x100 0x20\n",
+        &[(0x100, 0x11f), (0x121, 0x130)],
+    ),
+    // an allocation of no bytes has its first address
+    ("+ 0x100 0\n+ 0x102 0\n", &[(0x100, 0x100), (0x102, 0x102)]),
+    ("+ 0x1000 0x1ffff\n", &[(0x1000, 0x20ffe)]),
+    // a move allocates, and a failed one does not
+    (
+        "+ 0x100 0x8\n< 0x100\n> 0x200 0x8\n",
+        &[(0x100, 0x107), (0x200, 0x207)],
+    ),
+    (
+        "+ 0xffffffffffffffff 0\n+ 0xfffffffffffffff0 0xe\n",
+        &[
+            (0xffff_ffff_ffff_fff0, 0xffff_ffff_ffff_fffd),
+            (0xffff_ffff_ffff_ffff, 0xffff_ffff_ffff_ffff),
+        ],
+    ),
+];
 
 #[test]
 fn small_allocations_as_ranges(rt: HostRuntime) -> Result<(), Fail> {
-    let cases: [Ranges; 8] = [
-        ("+ 0x100 0x20\n- 0x100\n", &[(0x100, 0x11f)]),
-        // live blocks and displaced ones are taken as well
-        ("+ 0x100 0x20\n+ 0x110 0x8\n", &[(0x100, 0x11f)]),
-        // those that touch are one range, whatever their order
-        ("+ 0x120 0x10\n+ 0x100 0x20\n", &[(0x100, 0x12f)]),
-        (
-            "+ 0x121 0x10\n+ 0x100 0x20\n",
-            &[(0x100, 0x11f), (0x121, 0x130)],
-        ),
-        // an allocation of no bytes has its first address
-        ("+ 0x100 0\n+ 0x102 0\n", &[(0x100, 0x100), (0x102, 0x102)]),
-        ("+ 0x1000 0x1ffff\n", &[(0x1000, 0x20ffe)]),
-        // a move allocates, and a failed one does not
-        (
-            "+ 0x100 0x8\n< 0x100\n> 0x200 0x8\n",
-            &[(0x100, 0x107), (0x200, 0x207)],
-        ),
-        (
-            "+ 0xffffffffffffffff 0\n+ 0xfffffffffffffff0 0xe\n",
-            &[
-                (0xffff_ffff_ffff_fff0, 0xffff_ffff_ffff_fffd),
-                (0xffff_ffff_ffff_ffff, 0xffff_ffff_ffff_ffff),
-            ],
-        ),
-    ];
-    for (text, ranges) in cases {
-        let found = ranges_of(&rt, rt.alloc(), text)?;
-        same_in(&rt, &text, found.as_slice(), ranges);
-    }
-    Ok(())
+    have_ranges(&rt, rt.alloc(), &SMALL)
 }
+
+static NONE_SMALL: [Ranges; 4] = [
+    ("", &[]),
+    ("+ 0x1000 0x20000\n", &[]),
+    ("! 0x100 0x20\n- 0x300\n", &[]),
+    ("+ (nil) 0x20\n", &[]),
+];
 
 #[test]
 fn logs_without_a_small_allocation(rt: HostRuntime) -> Result<(), Fail> {
-    let logs = [
-        "",
-        "+ 0x1000 0x20000\n",
-        "! 0x100 0x20\n- 0x300\n",
-        "+ (nil) 0x20\n",
-    ];
-    for text in logs {
-        same_in(&rt, &text, ranges_of(&rt, rt.alloc(), text)?.len(), 0);
-    }
-    same(&rt, SmallSpans::none(rt.alloc()).ranges().len(), 0);
-    Ok(())
+    assert!(rt; SmallSpans::none(rt.alloc()).ranges().is_empty());
+    have_ranges(&rt, rt.alloc(), &NONE_SMALL)
 }
+
+/// Runs of blocks at ascending addresses.
+static ASCENDING: [Case; 5] = [
+    // blocks in the middle of the run, its last one and others are given back
+    (
+        "+ 0x100 0x10\n+ 0x110 0x10\n+ 0x120 0x10\n- 0x110\n",
+        &[(0x100, 16, 1), (0x120, 16, 3)],
+        (0, 0, 0),
+    ),
+    (
+        "+ 0x100 0x10\n+ 0x110 0x10\n- 0x110\n+ 0x110 0x40\n- 0x100\n",
+        &[(0x110, 64, 4)],
+        (0, 0, 0),
+    ),
+    (
+        "+ 0x100 0x10\n+ 0x110 0x10\n- 0x118\n- 0x90\n- 0x300\n",
+        &[(0x100, 16, 1), (0x110, 16, 2)],
+        (3, 0, 0),
+    ),
+    // a run that grows up to the block above it, and into that
+    (
+        "+ 0x1000 0x10\n+ 0x100 0x10\n+ 0x110 0x10\n+ 0x120 0xee0\n",
+        &[
+            (0x100, 16, 2),
+            (0x110, 16, 3),
+            (0x120, 0xee0, 4),
+            (0x1000, 16, 1),
+        ],
+        (0, 0, 0),
+    ),
+    (
+        "+ 0x1000 0x10\n+ 0x100 0x10\n+ 0x110 0x10\n+ 0x120 0xee1\n",
+        &[(0x100, 16, 2), (0x110, 16, 3), (0x120, 0xee1, 4)],
+        (0, 1, 0),
+    ),
+];
 
 #[test]
 fn allocations_at_ascending_addresses(rt: HostRuntime) -> Result<(), Fail> {
-    let cases: [Case; 5] = [
-        // blocks in the middle of the run, its last one and others are given back
-        (
-            "+ 0x100 0x10\n+ 0x110 0x10\n+ 0x120 0x10\n- 0x110\n",
-            &[(0x100, 16, 1), (0x120, 16, 3)],
-            (0, 0, 0),
-        ),
-        (
-            "+ 0x100 0x10\n+ 0x110 0x10\n- 0x110\n+ 0x110 0x40\n- 0x100\n",
-            &[(0x110, 64, 4)],
-            (0, 0, 0),
-        ),
-        (
-            "+ 0x100 0x10\n+ 0x110 0x10\n- 0x118\n- 0x90\n- 0x300\n",
-            &[(0x100, 16, 1), (0x110, 16, 2)],
-            (3, 0, 0),
-        ),
-        // a run that grows up to the block above it, and into that
-        (
-            "+ 0x1000 0x10\n+ 0x100 0x10\n+ 0x110 0x10\n+ 0x120 0xee0\n",
-            &[
-                (0x100, 16, 2),
-                (0x110, 16, 3),
-                (0x120, 0xee0, 4),
-                (0x1000, 16, 1),
-            ],
-            (0, 0, 0),
-        ),
-        (
-            "+ 0x1000 0x10\n+ 0x100 0x10\n+ 0x110 0x10\n+ 0x120 0xee1\n",
-            &[(0x100, 16, 2), (0x110, 16, 3), (0x120, 0xee1, 4)],
-            (0, 1, 0),
-        ),
-    ];
-    replays(&rt, rt.alloc(), &cases)
+    replays(&rt, rt.alloc(), &ASCENDING)
 }
+
+/// Allocations over blocks of a run and beside one.
+static BESIDE_A_RUN: [Case; 4] = [
+    // all are live, and the first two lie the other way round
+    (
+        "+ 0x200 0x10\n+ 0x100 0x10\n+ 0x300 0x10\n+ 0x310 0x8\n",
+        &[
+            (0x100, 16, 2),
+            (0x200, 16, 1),
+            (0x300, 16, 3),
+            (0x310, 8, 4),
+        ],
+        (0, 0, 0),
+    ),
+    // an allocation over two blocks of the run
+    (
+        "+ 0x100 0x10\n+ 0x110 0x10\n+ 0x120 0x10\n+ 0x108 0x10\n- 0x100\n",
+        &[(0x108, 16, 4), (0x120, 16, 3)],
+        (1, 2, 0),
+    ),
+    // moves out of the run, above it, and back
+    (
+        "+ 0x100 0x10\n+ 0x110 0x10\n< 0x100\n> 0x200 0x20\n< 0x200\n> 0x120 0x40\n",
+        &[(0x110, 16, 2), (0x120, 64, 6)],
+        (0, 0, 0),
+    ),
+    // a run between two blocks
+    (
+        "+ 0x100 0x10\n+ 0x900 0x10\n+ 0x500 0x10\n+ 0x510 0x10\n",
+        &[
+            (0x100, 16, 1),
+            (0x500, 16, 3),
+            (0x510, 16, 4),
+            (0x900, 16, 2),
+        ],
+        (0, 0, 0),
+    ),
+];
 
 #[test]
 fn allocations_over_and_beside_a_run(rt: HostRuntime) -> Result<(), Fail> {
-    let cases: [Case; 4] = [
-        // all are live, and the first two lie the other way round
-        (
-            "+ 0x200 0x10\n+ 0x100 0x10\n+ 0x300 0x10\n+ 0x310 0x8\n",
-            &[
-                (0x100, 16, 2),
-                (0x200, 16, 1),
-                (0x300, 16, 3),
-                (0x310, 8, 4),
-            ],
-            (0, 0, 0),
-        ),
-        // an allocation over two blocks of the run
-        (
-            "+ 0x100 0x10\n+ 0x110 0x10\n+ 0x120 0x10\n+ 0x108 0x10\n- 0x100\n",
-            &[(0x108, 16, 4), (0x120, 16, 3)],
-            (1, 2, 0),
-        ),
-        // moves out of the run, above it, and back
-        (
-            "+ 0x100 0x10\n+ 0x110 0x10\n< 0x100\n> 0x200 0x20\n< 0x200\n> 0x120 0x40\n",
-            &[(0x110, 16, 2), (0x120, 64, 6)],
-            (0, 0, 0),
-        ),
-        // a run between two blocks
-        (
-            "+ 0x100 0x10\n+ 0x900 0x10\n+ 0x500 0x10\n+ 0x510 0x10\n",
-            &[
-                (0x100, 16, 1),
-                (0x500, 16, 3),
-                (0x510, 16, 4),
-                (0x900, 16, 2),
-            ],
-            (0, 0, 0),
-        ),
-    ];
-    replays(&rt, rt.alloc(), &cases)
+    replays(&rt, rt.alloc(), &BESIDE_A_RUN)
+}
+
+/// A log of runs in twenty regions, from the highest down.
+fn in_regions(text: &mut String) -> Result<(), Fail> {
+    for turn in 1..=20u64 {
+        let base = (21 - turn) * 0x10000;
+        allocate(text, base + 0x40, 0x40, 30, 0x40)?;
+        give_back(text, base + 0xc0, 0xc0, 10)?;
+        // over the first two of the region, and a give-back of one of them
+        allocate(text, base + 0x60, 0, 1, 0x40)?;
+        give_back(text, base + 0x40, 0, 1)?;
+    }
+    Ok(())
 }
 
 /// Runs in twenty regions, from the highest down: each is put in the map when the next begins.
 #[test]
 fn runs_one_after_another(rt: HostRuntime) -> Result<(), Fail> {
     let mut text = String::new(rt.alloc());
-    for turn in 1..=20u64 {
-        let base = (21 - turn) * 0x10000;
-        for place in 1..=30u64 {
-            write!(text, "+ {:#x} 0x40\n", base + place * 0x40)?;
-        }
-        for place in 1..=10u64 {
-            write!(text, "- {:#x}\n", base + place * 0xc0)?;
-        }
-        // over the first two of the region, and a give-back of one of them
-        write!(text, "+ {:#x} 0x40\n- {:#x}\n", base + 0x60, base + 0x40)?;
-    }
-    let (blocks, counts) = outcome(&rt, rt.alloc(), text.as_str())?;
-    same(&rt, blocks.len(), 20 * 19);
-    same(&rt, counts, (20, 40, 0));
-    Ok(())
+    in_regions(&mut text)?;
+    has_counts(&rt, rt.alloc(), text.as_str(), 20 * 19, (20, 40, 0))
 }

@@ -1,8 +1,24 @@
 //! Cores that differ from the sample in a named way.
 
+use crate::comparisons::same_in;
 use leak_elf::{ElfError, Image, core_k};
 use std::alloc::Global;
+use std::process::Abort;
 use std::test::Fail;
+
+/// How many bytes the sample core has.
+pub const SAMPLE: usize = 8192;
+
+/// The first word of a program header of a segment, and of one of a part of notes: its type and its flags.
+pub const LOAD: u64 = 0x6_0000_0001;
+
+pub const NOTES: u64 = 0x6_0000_0004;
+
+/// Words of a core, each with its file offset.
+pub type WordsAt<'a> = &'a [(usize, u64)];
+
+/// Bytes of a core, each row with its file offset.
+pub type BytesAt<'a> = &'a [(usize, &'a [u8])];
 
 /// Replaces the bytes from the file offset on, as many as the core has there.
 pub fn set(core: &mut Vec<u8>, at: usize, bytes: &[u8]) {
@@ -11,62 +27,54 @@ pub fn set(core: &mut Vec<u8>, at: usize, bytes: &[u8]) {
     }
 }
 
-/// The sample core with the bytes replaced from the file offset on.
-pub fn changed(alloc: Global, at: usize, bytes: &[u8]) -> Result<Vec<u8>, Fail> {
+/// Replaces words and then bytes.
+fn set_all(core: &mut Vec<u8>, words: WordsAt, bytes: BytesAt) {
+    for (at, word) in words {
+        set(core, *at, &word.to_le_bytes());
+    }
+    for (at, bytes) in bytes {
+        set(core, *at, bytes);
+    }
+}
+
+/// The first bytes of the sample core, zeros after them up to the length, and then words and bytes replaced.
+pub fn made(
+    alloc: Global,
+    first: usize,
+    len: usize,
+    words: WordsAt,
+    bytes: BytesAt,
+) -> Result<Vec<u8>, Fail> {
     let mut core = core_k(alloc, &[])?;
-    set(&mut core, at, bytes);
+    core.truncate(first);
+    core.resize(len, 0)?;
+    set_all(&mut core, words, bytes);
     Ok(core)
 }
 
-/// A program header whose alignment and physical address are 0.
+/// The sample core with words and bytes replaced.
+pub fn changed(alloc: Global, words: WordsAt, bytes: BytesAt) -> Result<Vec<u8>, Fail> {
+    made(alloc, SAMPLE, SAMPLE, words, bytes)
+}
+
+/// Appends a program header whose alignment and physical address are 0. Its first word is its type and its flags.
 pub fn push_header(
     core: &mut Vec<u8>,
-    kind: u32,
+    kind: u64,
     offset: u64,
     vaddr: u64,
     filesz: u64,
     memsz: u64,
 ) -> Result<(), Fail> {
-    core.extend_from_slice(&kind.to_le_bytes())?;
-    core.extend_from_slice(&6u32.to_le_bytes())?;
-    for field in [offset, vaddr, 0, filesz, memsz, 0] {
+    for field in &[kind, offset, vaddr, 0, filesz, memsz, 0] {
         core.extend_from_slice(&field.to_le_bytes())?;
     }
     Ok(())
 }
 
 /// A core that begins with the sample's file header, with another number of program headers.
-pub fn begun(alloc: Global, headers: u16) -> Result<Vec<u8>, Fail> {
-    let mut core = changed(alloc, 56, &headers.to_le_bytes())?;
-    core.truncate(64);
-    Ok(core)
-}
-
-/// A core that begins with the sample's file header and has section header 0 after it, with the
-/// number of program headers there.
-pub fn begun_with_section(alloc: Global, headers: u32) -> Result<Vec<u8>, Fail> {
-    let mut core = begun(alloc, 0xffff)?;
-    set(&mut core, 32, &128u64.to_le_bytes());
-    set(&mut core, 40, &64u64.to_le_bytes());
-    core.resize(128, 0)?;
-    set(&mut core, 64 + 44, &headers.to_le_bytes());
-    Ok(core)
-}
-
-/// A core of a part of notes, the sample's segment, and a third PT_LOAD header.
-pub fn three(
-    alloc: Global,
-    offset: u64,
-    vaddr: u64,
-    filesz: u64,
-    memsz: u64,
-) -> Result<Vec<u8>, Fail> {
-    let mut core = begun(alloc, 3)?;
-    push_header(&mut core, 4, 232, 0, 356, 0)?;
-    push_header(&mut core, 1, 4096, 0x10000, 4096, 4096)?;
-    push_header(&mut core, 1, offset, vaddr, filesz, memsz)?;
-    core.resize(8192, 0)?;
-    Ok(core)
+pub fn begun(alloc: Global, headers: u64) -> Result<Vec<u8>, Fail> {
+    made(alloc, 64, 64, &[(56, headers)], &[])
 }
 
 /// Why the core is refused.
@@ -74,15 +82,25 @@ pub fn refusal(alloc: Global, core: &[u8]) -> Option<ElfError> {
     Image::read(alloc, core).err()
 }
 
-/// Why the sample is refused once the bytes from the file offset on are replaced.
-pub fn refusal_of(alloc: Global, at: usize, bytes: &[u8]) -> Result<Option<ElfError>, Fail> {
-    let core = changed(alloc, at, bytes)?;
+/// A core that is [`made`] so, and why it is refused.
+pub type Refusal = (
+    usize,
+    usize,
+    WordsAt<'static>,
+    BytesAt<'static>,
+    Option<ElfError>,
+);
+
+/// Why the core that is [`made`] so is refused.
+fn refusal_of(alloc: Global, row: &Refusal) -> Result<Option<ElfError>, Fail> {
+    let core = made(alloc, row.0, row.1, row.2, row.3)?;
     Ok(refusal(alloc, core.as_slice()))
 }
 
-/// Why the first bytes of the sample are refused.
-pub fn refusal_of_first(alloc: Global, len: usize) -> Result<Option<ElfError>, Fail> {
-    let mut core = core_k(alloc, &[])?;
-    core.truncate(len);
-    Ok(refusal(alloc, core.as_slice()))
+/// Ends the test where one of the cores is refused for another reason, and prints its number.
+pub fn are_refused(rt: &impl Abort, alloc: Global, rows: &[Refusal]) -> Result<(), Fail> {
+    for (i, row) in rows.iter().enumerate() {
+        same_in(rt, i, refusal_of(alloc, row)?, row.4);
+    }
+    Ok(())
 }

@@ -1,5 +1,8 @@
 //! Cores, by subject.
 
+// Facts of an accepted core.
+mod facts;
+
 // Refusals of the file header.
 mod file_header;
 

@@ -1,154 +1,137 @@
-use crate::comparisons::{same, same_in};
-use crate::cores::set;
-use leak_elf::{Image, core_k};
-use leak_notes::{NoteError, RegisterSet, Threads, register_sets};
+use crate::comparisons::same;
+use crate::cores::changed;
+use crate::notes::{Refusal, STATUS, are_refused, has_registers};
+use leak_elf::Image;
+use leak_notes::{NoteError, RegisterSet, register_sets};
 use std::alloc::Global;
 use std::test::Fail;
-
-/// The fields and the name of a thread status.
-const STATUS: &[u8] = b"\x05\0\0\0\x50\x01\0\0\x01\0\0\0CORE\0\0\0\0";
 
 /// The fields and the name of a vector entry.
 const VECTOR: &[u8] = b"\x05\0\0\0\0\x02\0\0\x02\0\0\0CORE\0\0\0\0";
 
-/// The sample core with a vector entry after its thread status: xmm0 to xmm15 stand from 712 to 968.
-fn with_vectors(alloc: Global) -> Result<Vec<u8>, Fail> {
-    let mut core = core_k(alloc, &[])?;
-    set(&mut core, 96, &888u64.to_le_bytes());
-    set(&mut core, 532, VECTOR);
-    Ok(core)
-}
+/// The size of a part of notes of a thread status and a vector entry.
+const BOTH: (usize, u64) = (96, 888);
 
-/// The registers of the sample core with a vector entry, and with a word at the file offset.
-fn registers_with(alloc: Global, at: usize, word: u64) -> Result<Vec<u64>, Fail> {
-    let mut core = with_vectors(alloc)?;
-    set(&mut core, at, &word.to_le_bytes());
-    let image = Image::read(alloc, core.as_slice())?;
-    let threads = Threads::read(alloc, &image)?;
-    Ok(threads.registers().to_vec(alloc)?)
-}
-
-/// Why the notes of the sample core with a vector entry are refused once bytes of it are replaced.
-fn refusal_with(alloc: Global, changes: &[(usize, u32)]) -> Result<Option<NoteError>, Fail> {
-    let mut core = with_vectors(alloc)?;
-    for (at, number) in changes {
-        set(&mut core, *at, &number.to_le_bytes());
-    }
-    let image = Image::read(alloc, core.as_slice())?;
-    Ok(Threads::read(alloc, &image).err())
-}
+/// A vector entry after the thread status of the sample: xmm0 to xmm15 stand from 712 to 968.
+const SECOND: (usize, &[u8]) = (532, VECTOR);
 
 #[test]
 fn a_vector_entry_has_32_words_and_is_no_thread(rt: HostRuntime) -> Result<(), Fail> {
-    let core = with_vectors(rt.alloc())?;
-    let image = Image::read(rt.alloc(), core.as_slice())?;
-    let threads = Threads::read(rt.alloc(), &image)?;
-    same(&rt, threads.count(), 1);
-    same(&rt, threads.registers(), [0u64; 59].as_slice());
-    Ok(())
+    has_registers(&rt, rt.alloc(), &[BOTH], &[SECOND], 1, &[0; 59])
 }
+
+/// File offsets of words in a vector entry, and the numbers of the registers that have them: 59 where none has.
+static HALVES: [(usize, usize); 11] = [
+    // The lower and the upper half of xmm0, those of xmm1 and xmm15.
+    (712, 27),
+    (720, 28),
+    (728, 29),
+    (736, 30),
+    (952, 57),
+    (960, 58),
+    // The control words, the x87 registers, and what follows xmm15.
+    (552, 59),
+    (584, 59),
+    (704, 59),
+    (968, 59),
+    (1056, 59),
+];
 
 #[test]
 fn the_words_are_those_of_xmm0_to_xmm15(rt: HostRuntime) -> Result<(), Fail> {
-    // The lower and the upper half of xmm0, those of xmm1 and xmm15.
-    for (at, number) in [
-        (712, 27),
-        (720, 28),
-        (728, 29),
-        (736, 30),
-        (952, 57),
-        (960, 58),
-    ] {
+    for &(at, number) in &HALVES {
         let mut wanted = [0u64; 59];
-        wanted[number] = 0x10100;
-        let registers = registers_with(rt.alloc(), at, 0x10100)?;
-        same_in(&rt, &at, registers.as_slice(), wanted.as_slice());
-    }
-    // The control words, the x87 registers, and what follows xmm15.
-    for at in [552, 584, 704, 968, 1056] {
-        let registers = registers_with(rt.alloc(), at, 0x10100)?;
-        same_in(&rt, &at, registers.as_slice(), [0u64; 59].as_slice());
+        if let Some(place) = wanted.get_mut(number) {
+            *place = 0x10100;
+        }
+        let words = [BOTH, (at, 0x10100)];
+        has_registers(&rt, rt.alloc(), &words, &[SECOND], 1, &wanted)?;
     }
     Ok(())
 }
 
 #[test]
 fn the_words_stand_in_the_order_of_the_entries(rt: HostRuntime) -> Result<(), Fail> {
-    let mut core = with_vectors(rt.alloc())?;
     // The vector entry at 176, its status after it at 708; then a second status at 1064.
-    set(&mut core, 96, &(532 + 356 + 356u64).to_le_bytes());
-    set(&mut core, 176, VECTOR);
-    set(&mut core, 532, &[0; 20]);
-    set(&mut core, 708, STATUS);
-    set(&mut core, 1064, STATUS);
-    set(&mut core, 176 + 20 + 160, &1u64.to_le_bytes());
-    set(&mut core, 708 + 20 + 112, &2u64.to_le_bytes());
-    set(&mut core, 1064 + 20 + 112, &3u64.to_le_bytes());
-    let image = Image::read(rt.alloc(), core.as_slice())?;
-    let threads = Threads::read(rt.alloc(), &image)?;
-    same(&rt, threads.count(), 2);
+    let words = [
+        (96, 532 + 356 + 356),
+        (176 + 20 + 160, 1),
+        (708 + 20 + 112, 2),
+        (1064 + 20 + 112, 3),
+    ];
+    let entries: [(usize, &[u8]); 4] = [
+        (176, VECTOR),
+        (532, &[0; 20]),
+        (708, STATUS),
+        (1064, STATUS),
+    ];
     let mut wanted = [0u64; 86];
     wanted[0] = 1;
     wanted[32] = 2;
     wanted[59] = 3;
-    same(&rt, threads.registers(), wanted.as_slice());
-    Ok(())
+    has_registers(&rt, rt.alloc(), &words, &entries, 2, &wanted)
 }
+
+const VECTOR_SIZE: Option<NoteError> = Some(NoteError::VectorSize(532));
+
+/// Vector entries of another size, which stands at 536.
+static WRONG: [Refusal; 6] = [
+    (&[(96, 884)], &[SECOND, (536, &[0xfc, 1])], VECTOR_SIZE),
+    (&[(96, 892)], &[SECOND, (536, &[4, 2])], VECTOR_SIZE),
+    (&[(96, 376)], &[SECOND, (536, &[0, 0])], VECTOR_SIZE),
+    // Before that there is no thread status, and after a status of another size.
+    (
+        &[(96, 884)],
+        &[SECOND, (536, &[0xfc, 1]), (184, &[6])],
+        VECTOR_SIZE,
+    ),
+    (
+        &[(96, 884)],
+        &[SECOND, (536, &[0xfc, 1]), (180, &[0x4d, 1])],
+        Some(NoteError::StatusSize(176)),
+    ),
+    // One that is cut off is that first.
+    (
+        &[(96, 887)],
+        &[SECOND, (536, &[4, 2])],
+        Some(NoteError::Cut(532)),
+    ),
+];
 
 #[test]
 fn a_vector_entry_of_another_size_is_refused(rt: HostRuntime) -> Result<(), Fail> {
-    let wrong = NoteError::VectorSize(532);
-    let cases: [(&[(usize, u32)], NoteError); 6] = [
-        (&[(96, 884), (536, 508)], wrong),
-        (&[(96, 892), (536, 516)], wrong),
-        (&[(96, 376), (536, 0)], wrong),
-        // Before that there is no thread status, and after a status of another size.
-        (&[(96, 884), (536, 508), (184, 6)], wrong),
-        (
-            &[(96, 884), (536, 508), (180, 333)],
-            NoteError::StatusSize(176),
-        ),
-        // One that is cut off is that first.
-        (&[(96, 887), (536, 516)], NoteError::Cut(532)),
-    ];
-    for (changes, wanted) in cases {
-        let refused = refusal_with(rt.alloc(), changes)?;
-        same_in(&rt, &changes, refused, Some(wanted));
-    }
-    Ok(())
+    are_refused(&rt, rt.alloc(), &WRONG)
 }
+
+static ALONE: [Refusal; 2] = [
+    (&[BOTH], &[SECOND, (184, &[6])], Some(NoteError::NoThread)),
+    // A thread status whose type is that of a vector entry.
+    (&[], &[(184, &[2])], Some(NoteError::VectorSize(176))),
+];
 
 #[test]
 fn vector_entries_alone_are_no_thread(rt: HostRuntime) -> Result<(), Fail> {
-    let none = Some(NoteError::NoThread);
-    same(&rt, refusal_with(rt.alloc(), &[(184, 6)])?, none);
-    // A thread status whose type is that of a vector entry.
-    let mut core = core_k(rt.alloc(), &[])?;
-    set(&mut core, 184, &[2]);
-    let image = Image::read(rt.alloc(), core.as_slice())?;
-    let refusal = Threads::read(rt.alloc(), &image).err();
-    same(&rt, refusal, Some(NoteError::VectorSize(176)));
-    Ok(())
+    are_refused(&rt, rt.alloc(), &ALONE)
 }
 
 #[test]
 fn an_entry_of_another_name_is_skipped(rt: HostRuntime) -> Result<(), Fail> {
-    let mut core = with_vectors(rt.alloc())?;
-    set(&mut core, 532, &[6]);
-    set(&mut core, 544, b"LINUX\0");
-    set(&mut core, 720, &0x10100u64.to_le_bytes());
-    let image = Image::read(rt.alloc(), core.as_slice())?;
-    let threads = Threads::read(rt.alloc(), &image)?;
-    same(&rt, threads.registers(), [0u64; 27].as_slice());
-    Ok(())
+    let words = [BOTH, (720, 0x10100)];
+    let bytes: [(usize, &[u8]); 3] = [SECOND, (532, &[6]), (544, b"LINUX\0")];
+    has_registers(&rt, rt.alloc(), &words, &bytes, 1, &[0; 27])
+}
+
+/// The kinds of the entries of the sample core with a vector entry.
+fn sets(alloc: Global) -> Result<Vec<RegisterSet>, Fail> {
+    let core = changed(alloc, &[BOTH], &[SECOND])?;
+    let image = Image::read(alloc, core.as_slice())?;
+    Ok(register_sets(alloc, &image)?)
 }
 
 #[test]
 fn sets_are_in_the_order_of_the_entries(rt: HostRuntime) -> Result<(), Fail> {
-    let core = with_vectors(rt.alloc())?;
-    let image = Image::read(rt.alloc(), core.as_slice())?;
-    let sets = register_sets(rt.alloc(), &image)?;
+    let found = sets(rt.alloc())?;
     let both = [RegisterSet::Status, RegisterSet::Vector];
-    same(&rt, sets.as_slice(), both.as_slice());
+    same(&rt, found.as_slice(), both.as_slice());
     Ok(())
 }

@@ -1,142 +1,210 @@
 //! The number of program headers in section header 0.
 
-use crate::comparisons::{same, same_in};
-use crate::cores::{push_header, refusal, set};
-use leak_elf::{ElfError, Image, NotePart, Segment, Words, core_k};
-use std::alloc::Global;
+use crate::comparisons::same;
+use crate::cores::{LOAD, NOTES, Refusal, SAMPLE, are_refused};
+use crate::elf::facts::{Accepted, Facts, PART, SEGMENT, are_accepted};
+use leak_elf::ElfError;
 use std::test::Fail;
 
-/// The sample core with `e_shoff`, with `e_phnum`, and with a number at `sh_info` of section header 0.
-fn numbered(alloc: Global, e_shoff: u64, e_phnum: u16, sh_info: u32) -> Result<Vec<u8>, Fail> {
-    let mut core = core_k(alloc, &[])?;
-    set(&mut core, 40, &e_shoff.to_le_bytes());
-    set(&mut core, 56, &e_phnum.to_le_bytes());
-    if e_shoff > 0 {
-        set(
-            &mut core,
-            e_shoff.saturating_add(44) as usize,
-            &sh_info.to_le_bytes(),
-        );
-    }
-    Ok(core)
-}
+/// The facts of the sample core.
+const AS_THE_SAMPLE: Facts = Facts {
+    segments: &[SEGMENT],
+    parts: &[PART],
+    undumped: 0,
+    words: &[(0x10ff8, Some(0))],
+    nexts: &[(0, Some(0x10000))],
+};
 
-/// Whether the core is accepted with the segment and the part of notes of the sample.
-fn is_read_as_the_sample(alloc: Global, core: &[u8]) -> Result<bool, Fail> {
-    let image = Image::read(alloc, core)?;
-    let segment = Segment {
-        vaddr: 0x10000,
-        memsz: 4096,
-        offset: 4096,
-        filesz: 4096,
-        writable: true,
-    };
-    let part = NotePart {
-        offset: 176,
-        filesz: 356,
-    };
-    let has_words = image.word(0x10ff8) == Some(0) && image.next(0) == Some(0x10000);
-    Ok(
-        has_words
-            && image.segments() == [segment].as_slice()
-            && image.note_parts() == [part].as_slice(),
-    )
-}
+/// The facts of a core of no program header.
+const NO_HEADER: Facts = Facts {
+    segments: &[],
+    parts: &[],
+    undumped: 0,
+    words: &[],
+    nexts: &[],
+};
+
+/// Cores with `e_shoff`, with 0xffff in `e_phnum`, and with a number at `sh_info` of section header 0. The last 64 bytes
+/// of the second are a section header of zeros.
+static NUMBERS: [Accepted; 2] = [
+    (
+        SAMPLE,
+        SAMPLE,
+        &[(40, 600), (56, 0xffff), (644, 2)],
+        AS_THE_SAMPLE,
+    ),
+    (
+        SAMPLE,
+        SAMPLE,
+        &[(40, 8128), (56, 0xffff), (8172, 0)],
+        NO_HEADER,
+    ),
+];
+
+/// One that is too large.
+static TOO_MANY: [Refusal; 1] = [(
+    SAMPLE,
+    SAMPLE,
+    &[(40, 600), (56, 0xffff), (644, 200)],
+    &[],
+    Some(ElfError::TableCut),
+)];
 
 #[test]
 fn the_number_stands_in_section_header_0(rt: HostRuntime) -> Result<(), Fail> {
-    let core = numbered(rt.alloc(), 600, 0xffff, 2)?;
-    assert!(rt; is_read_as_the_sample(rt.alloc(), core.as_slice())?);
-    let core = numbered(rt.alloc(), 600, 0xffff, 200)?;
-    same(
-        &rt,
-        refusal(rt.alloc(), core.as_slice()),
-        Some(ElfError::TableCut),
-    );
-    // The last 64 bytes of the file are a section header of zeros.
-    let core = numbered(rt.alloc(), 8128, 0xffff, 0)?;
-    let image = Image::read(rt.alloc(), core.as_slice())?;
-    assert!(rt; image.segments().is_empty() && image.note_parts().is_empty());
-    Ok(())
+    are_refused(&rt, rt.alloc(), &TOO_MANY)?;
+    are_accepted(&rt, rt.alloc(), &NUMBERS)
 }
+
+const REFUSED: Option<ElfError> = Some(ElfError::Extended);
+
+/// Places of section header 0 at which it is missing or cut off. The last four and 64 bytes make at
+/// least 2^64, which must not wrap.
+static NO_SECTION: [Refusal; 7] = [
+    (SAMPLE, SAMPLE, &[(40, 0), (56, 0xffff)], &[], REFUSED),
+    (
+        SAMPLE,
+        SAMPLE,
+        &[(40, 8129), (56, 0xffff), (8173, 2)],
+        &[],
+        REFUSED,
+    ),
+    (
+        SAMPLE,
+        SAMPLE,
+        &[(40, 8192), (56, 0xffff), (8236, 2)],
+        &[],
+        REFUSED,
+    ),
+    (
+        SAMPLE,
+        SAMPLE,
+        &[(40, u64::MAX - 63), (56, 0xffff)],
+        &[],
+        REFUSED,
+    ),
+    (
+        SAMPLE,
+        SAMPLE,
+        &[(40, u64::MAX - 62), (56, 0xffff)],
+        &[],
+        REFUSED,
+    ),
+    (
+        SAMPLE,
+        SAMPLE,
+        &[(40, u64::MAX - 43), (56, 0xffff)],
+        &[],
+        REFUSED,
+    ),
+    (
+        SAMPLE,
+        SAMPLE,
+        &[(40, u64::MAX), (56, 0xffff)],
+        &[],
+        REFUSED,
+    ),
+];
 
 #[test]
 fn a_section_header_that_is_missing_or_cut_is_refused(rt: HostRuntime) -> Result<(), Fail> {
-    // The last four offsets and 64 bytes make at least 2^64, which must not wrap.
-    for e_shoff in [
-        0,
-        8129,
-        8192,
-        u64::MAX - 63,
-        u64::MAX - 62,
-        u64::MAX - 43,
-        u64::MAX,
-    ] {
-        let core = numbered(rt.alloc(), e_shoff, 0xffff, 2)?;
-        same_in(
-            &rt,
-            &e_shoff,
-            refusal(rt.alloc(), core.as_slice()),
-            Some(ElfError::Extended),
-        );
-    }
-    Ok(())
+    are_refused(&rt, rt.alloc(), &NO_SECTION)
 }
+
+/// Places of section header 0 in cores whose `e_phnum` is the number.
+static UNREAD: [Accepted; 3] = [
+    (
+        SAMPLE,
+        SAMPLE,
+        &[(40, 600), (56, 2), (644, 1)],
+        AS_THE_SAMPLE,
+    ),
+    (
+        SAMPLE,
+        SAMPLE,
+        &[(40, 8129), (56, 2), (8173, 1)],
+        AS_THE_SAMPLE,
+    ),
+    (SAMPLE, SAMPLE, &[(40, u64::MAX), (56, 2)], AS_THE_SAMPLE),
+];
 
 #[test]
 fn section_headers_of_other_cores_are_not_looked_at(rt: HostRuntime) -> Result<(), Fail> {
-    for e_shoff in [600, 8129, u64::MAX] {
-        let core = numbered(rt.alloc(), e_shoff, 2, 1)?;
-        assert!(rt;
-            is_read_as_the_sample(rt.alloc(), core.as_slice())?,
-            "at {e_shoff}"
-        );
-    }
-    Ok(())
+    are_accepted(&rt, rt.alloc(), &UNREAD)
 }
+
+/// Words of a core of seventy thousand program headers, which stand after the sample. The first two are those of the sample.
+const SEVENTY_THOUSAND: [(usize, u64); 12] = [
+    (32, 8192),
+    (40, 600),
+    (56, 0xffff),
+    (644, 70_000),
+    (8192, NOTES),
+    (8200, 176),
+    (8224, 356),
+    (8248, LOAD),
+    (8256, 4096),
+    (8264, 0x10000),
+    (8280, 4096),
+    (8288, 4096),
+];
+
+/// How many bytes it has.
+const LEN: usize = 8192 + 56 * 70_000;
+
+static WITH_ALL: [Accepted; 1] = [(SAMPLE, LEN, &SEVENTY_THOUSAND, AS_THE_SAMPLE)];
+
+/// Without its last byte the table is cut.
+static WITHOUT_THE_LAST: [Refusal; 1] = [(
+    SAMPLE,
+    LEN - 1,
+    &SEVENTY_THOUSAND,
+    &[],
+    Some(ElfError::TableCut),
+)];
 
 #[test]
 fn seventy_thousand_headers_are_read(rt: HostRuntime) -> Result<(), Fail> {
-    let mut core = numbered(rt.alloc(), 600, 0xffff, 70_000)?;
-    set(&mut core, 32, &8192u64.to_le_bytes());
-    push_header(&mut core, 4, 176, 0, 356, 0)?;
-    push_header(&mut core, 1, 4096, 0x10000, 4096, 4096)?;
-    core.resize(8192 + 56 * 70_000, 0)?;
-    same(&rt, core.len(), 3_928_192);
-    assert!(rt; is_read_as_the_sample(rt.alloc(), core.as_slice())?);
-    // Without its last byte the table is cut.
-    core.truncate(3_928_191);
-    same(
-        &rt,
-        refusal(rt.alloc(), core.as_slice()),
-        Some(ElfError::TableCut),
-    );
-    Ok(())
+    same(&rt, LEN, 3_928_192);
+    are_refused(&rt, rt.alloc(), &WITHOUT_THE_LAST)?;
+    are_accepted(&rt, rt.alloc(), &WITH_ALL)
 }
 
 /// How often a core that claims more headers than it has is read. If each claimed header cost a
 /// nanosecond, the test would run past the minute that it has.
 const READS: usize = 100;
 
+const CUT: Option<ElfError> = Some(ElfError::TableCut);
+
+/// The last table would end past 2^64, which must not wrap.
+static CLAIMS: [Refusal; 3] = [
+    (
+        SAMPLE,
+        SAMPLE,
+        &[(32, 64), (40, 600), (56, 0xffff), (644, 4_000_000_000)],
+        &[],
+        CUT,
+    ),
+    (
+        SAMPLE,
+        SAMPLE,
+        &[(32, 64), (40, 600), (56, 0xffff), (644, 0xffff_ffff)],
+        &[],
+        CUT,
+    ),
+    (
+        SAMPLE,
+        SAMPLE,
+        &[(32, u64::MAX), (40, 600), (56, 0xffff), (644, 0xffff_ffff)],
+        &[],
+        CUT,
+    ),
+];
+
 #[test]
 fn four_thousand_million_claimed_headers_cost_nothing(rt: HostRuntime) -> Result<(), Fail> {
-    for sh_info in [4_000_000_000, u32::MAX] {
-        let core = numbered(rt.alloc(), 600, 0xffff, sh_info)?;
-        for _ in 0..READS {
-            same(
-                &rt,
-                refusal(rt.alloc(), core.as_slice()),
-                Some(ElfError::TableCut),
-            );
-        }
+    for _ in 0..READS {
+        are_refused(&rt, rt.alloc(), &CLAIMS)?;
     }
-    // Where the table would end past 2^64, nothing wraps.
-    let mut core = numbered(rt.alloc(), 600, 0xffff, u32::MAX)?;
-    set(&mut core, 32, &u64::MAX.to_le_bytes());
-    same(
-        &rt,
-        refusal(rt.alloc(), core.as_slice()),
-        Some(ElfError::TableCut),
-    );
     Ok(())
 }

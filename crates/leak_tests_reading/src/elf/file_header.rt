@@ -1,32 +1,51 @@
 //! Refusals of the file header.
 
-use crate::comparisons::{same, same_in};
-use crate::cores::{refusal, refusal_of, refusal_of_first};
-use leak_elf::{ElfError, core_k};
+use crate::cores::{Refusal, SAMPLE, are_refused};
+use leak_elf::ElfError;
 use std::test::Fail;
+
+/// The sample, the sample cut off, and with bytes replaced.
+static FAULTS: [Refusal; 12] = [
+    (SAMPLE, SAMPLE, &[], &[(0, &[])], None),
+    (63, 63, &[], &[(0, &[])], Some(ElfError::Short)),
+    (SAMPLE, SAMPLE, &[], &[(0, &[0])], Some(ElfError::Magic)),
+    (SAMPLE, SAMPLE, &[], &[(4, &[1])], Some(ElfError::Class)),
+    (SAMPLE, SAMPLE, &[], &[(5, &[2])], Some(ElfError::Data)),
+    (SAMPLE, SAMPLE, &[], &[(6, &[0])], Some(ElfError::Version)),
+    (SAMPLE, SAMPLE, &[], &[(16, &[2, 0])], Some(ElfError::Kind)),
+    (
+        SAMPLE,
+        SAMPLE,
+        &[],
+        &[(18, &[3, 0])],
+        Some(ElfError::Machine),
+    ),
+    (
+        SAMPLE,
+        SAMPLE,
+        &[],
+        &[(54, &[32, 0])],
+        Some(ElfError::EntrySize),
+    ),
+    (
+        SAMPLE,
+        SAMPLE,
+        &[],
+        &[(56, &[0xff, 0xff])],
+        Some(ElfError::Extended),
+    ),
+    (
+        SAMPLE,
+        SAMPLE,
+        &[],
+        &[(56, &[200, 0])],
+        Some(ElfError::TableCut),
+    ),
+    // Of two faults the first by the order is answered.
+    (SAMPLE, SAMPLE, &[], &[(4, &[1, 2])], Some(ElfError::Class)),
+];
 
 #[test]
 fn each_fault_of_the_file_header_is_refused(rt: HostRuntime) -> Result<(), Fail> {
-    let sample = core_k(rt.alloc(), &[])?;
-    same(&rt, refusal(rt.alloc(), sample.as_slice()), None);
-    let short = refusal_of_first(rt.alloc(), 63)?;
-    same(&rt, short, Some(ElfError::Short));
-    let cases: [(usize, &[u8], ElfError); 10] = [
-        (0, &[0], ElfError::Magic),
-        (4, &[1], ElfError::Class),
-        (5, &[2], ElfError::Data),
-        (6, &[0], ElfError::Version),
-        (16, &[2, 0], ElfError::Kind),
-        (18, &[3, 0], ElfError::Machine),
-        (54, &[32, 0], ElfError::EntrySize),
-        (56, &[0xff, 0xff], ElfError::Extended),
-        (56, &[200, 0], ElfError::TableCut),
-        // Of two faults the first by the order is answered.
-        (4, &[1, 2], ElfError::Class),
-    ];
-    for (at, bytes, wanted) in cases {
-        let refused = refusal_of(rt.alloc(), at, bytes)?;
-        same_in(&rt, &(at, bytes), refused, Some(wanted));
-    }
-    Ok(())
+    are_refused(&rt, rt.alloc(), &FAULTS)
 }
