@@ -92,7 +92,8 @@ static int begins(const char *at, const char *stop, const char *with)
 /* What an earlier log of leak_log leaves live: of each start the last line, where it allocates. */
 struct blocks read_log(struct file file)
 {
-    static const char head[] = "= leak_log moment 0x", base[] = " table 0x", came[] = "] + 0x", went[] = "- 0x", freed[] = "+ 0x";
+    static const char head[] = "= leak_log moment 0x", base[] = " table 0x", came[] = "] + 0x", went[] = "- 0x", freed[] = "+ 0x",
+                      allocator[] = "= leak_log allocator ";
     const char *at = (const char *)file.bytes, *end = at + file.size, *stop;
     struct blocks blocks = { 0 };
     int is_ours = 0;
@@ -101,6 +102,8 @@ struct blocks read_log(struct file file)
         if (!(stop = memchr(at, '\n', end - at)))
             fail(file.path, "the log ends in the middle of a line");
         const char *where = memrchr(at, ']', stop - at), *start = where ? where + strlen(came) : at + strlen(went);
+        if (begins(at, stop, allocator))
+            continue;
         if (begins(at, stop, head)) {
             char *rest;
             blocks.moment = strtoull(at + strlen(head), &rest, 16);

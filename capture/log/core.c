@@ -90,3 +90,25 @@ void tell_undumped(const struct core *core, const struct table_head *head)
                 "%llu are the program's\n", (unsigned long long)all, (unsigned long long)own,
                 (unsigned long long)(all - own));
 }
+
+/* The file's name without its folders. */
+static const char *base_of(const char *path)
+{
+    const char *slash = strrchr(path, '/');
+
+    return slash ? slash + 1 : path;
+}
+
+/* The name of the library that allocates in place of glibc's malloc, where a known one was mapped; else null. */
+const char *other_allocator(const struct core *core)
+{
+    static const char *const known[] = { "libjemalloc", "libtcmalloc", "libmimalloc" };
+
+    for (size_t i = 0; i < core->part_count; i++) {
+        const char *name = base_of(core->parts[i].path);
+        for (size_t k = 0; k < sizeof known / sizeof *known; k++)
+            if (!strncmp(name, known[k], strlen(known[k])))
+                return name;
+    }
+    return NULL;
+}

@@ -71,6 +71,17 @@ static struct blocks write_ends(const struct blocks *old, const struct blocks *b
     return fresh;
 }
 
+/* Says by a remark of the log, and to the user, that the heap is not glibc's. */
+static void tell_allocator(const struct core *core)
+{
+    const char *name = other_allocator(core);
+
+    if (!name)
+        return;
+    printf("= leak_log allocator %s\n", name);
+    fprintf(stderr, "leak_log: the allocator is %s: search with --other-heap --skip-ends\n", name);
+}
+
 int main(int count, char **arguments)
 {
     int is_later = count == 5 && !strcmp(arguments[3], "--after");
@@ -94,6 +105,7 @@ int main(int count, char **arguments)
     }
     printf("= leak_log moment 0x%llx table 0x%llx\n", (unsigned long long)fresh.moment,
            (unsigned long long)fresh.base);
+    tell_allocator(&core);
     if (blocks.knows_freed)
         write_freed(table, &blocks);
     if (fresh.count)

@@ -50,6 +50,7 @@ struct file open_file(const char *path);
 
 /* core.c */
 struct core read_core(struct file file);
+const char *other_allocator(const struct core *core);
 void tell_undumped(const struct core *core, const struct table_head *head);
 
 /* place.c */
