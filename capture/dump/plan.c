@@ -1,0 +1,87 @@
+/* The segments of the core: of what is mapped, the pages that are there.
+ *
+ * Each run of pages is a segment of its own, with all of its bytes. What is in no segment is known without the core: memory that
+ * was never touched is zero, and a page of a file that was not written is as in the file, where a debugger finds it by the note
+ * NT_FILE. So leak_find, which counts as `undumped` what a writable segment lists without having it, counts just what is
+ * missing: files that are mapped shared, devices, and pages that can't be read. The kernel's core differs in two points. It lists
+ * whole mappings, so memory of a kind that it leaves out counts, touched or not. And it has a file's writable mapping whole where
+ * a page of it was written, and else lists it; here it is the written pages. Text is not writable, and counts in neither core.
+ *
+ * No gap between two runs is filled, since a page costs as much as 73 headers. */
+#include <elf.h>
+#include <string.h>
+
+#include "dump.h"
+
+static const uint64_t MOST_OF_VDSO = 16 * PAGE;
+
+/* Adds to the last segment where it goes on there alike. */
+void add_segment(struct plan *plan, struct segment segment)
+{
+    struct segment *last = plan->count ? plan->segments + plan->count - 1 : NULL;
+
+    plan->bytes += segment.is_missing ? 0 : segment.end - segment.start;
+    if (last && last->end == segment.start && last->flags == segment.flags && last->is_missing == segment.is_missing
+        && (segment.is_missing || last->at + (last->end - last->start) == segment.at)) {
+        last->end = segment.end;
+        return;
+    }
+    plan->segments = grown(plan->segments, plan->count, sizeof *plan->segments);
+    plan->segments[plan->count++] = segment;
+}
+
+static void add_run(struct plan *plan, const struct mapping *mapping, uint64_t start, uint64_t end)
+{
+    add_segment(plan, (struct segment){ start, end, plan->bytes, mapping->flags, false });
+}
+
+static bool is_elf(pid_t witness, uint64_t address)
+{
+    char magic[SELFMAG];
+
+    return read_memory(witness, address, magic, SELFMAG) == SELFMAG && !memcmp(magic, ELFMAG, SELFMAG);
+}
+
+/* The part of a region that lies in the mapping. Of a file's pages that were not written the first is taken where it is the head
+ * of an ELF file: debuggers read there which build of a file it is. */
+static void add_pages(struct plan *plan, pid_t witness, const struct mapping *mapping, const struct region *region)
+{
+    uint64_t start = region->start > mapping->start ? region->start : mapping->start;
+    uint64_t end = region->end < mapping->end ? region->end : mapping->end;
+
+    if (mapping->kind != PRIVATE_FILE || !region->is_file)
+        add_run(plan, mapping, start, end);
+    else if (start == mapping->start && !mapping->offset && is_elf(witness, start))
+        add_run(plan, mapping, start, start + PAGE);
+}
+
+/* A mapping whose pages are not asked for one by one. */
+static void add_whole(struct plan *plan, const struct mapping *mapping)
+{
+    if (mapping->kind == KERNEL_CODE && mapping->end - mapping->start <= MOST_OF_VDSO)
+        add_run(plan, mapping, mapping->start, mapping->end);
+    if (mapping->kind == SHARED_FILE && mapping->flags & PF_W)
+        add_segment(plan, (struct segment){ mapping->start, mapping->end, 0, mapping->flags, true });
+}
+
+struct plan make_plan(pid_t witness, const struct maps *maps, const struct regions *regions)
+{
+    struct plan plan = { 0 };
+    const struct region *region = regions->list, *end = region + regions->count;
+
+    for (const struct mapping *m = maps->list; m < maps->list + maps->count; m++) {
+        bool by_pages = m->kind == ANONYMOUS || m->kind == PRIVATE_FILE || m->kind == SHARED_MEMORY;
+        if (is_hidden(maps, m->start))
+            continue;
+        if (!by_pages) {
+            add_whole(&plan, m);
+            continue;
+        }
+        while (region < end && region->end <= m->start)
+            region++;
+        for (const struct region *r = region; r < end && r->start < m->end; r++)
+            add_pages(&plan, witness, m, r);
+    }
+    step("the segments are planned");
+    return plan;
+}
