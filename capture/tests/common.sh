@@ -48,7 +48,7 @@ limited() { timeout -k 5 "$@" < /dev/null; }
 built=$kit/../crates/leak_cli/out/leak_cli
 finder=${LEAK_FIND:-$(command -v leak_find || readlink -e "$built")}
 [ -x "$finder" ] || { echo "no leak_find: install it, name it by LEAK_FIND, or run 'rt run' in crates/leak_cli" >&2; exit 2; }
-[ -x "$kit/leak_log" ] && [ -e "$kit/leak_trace.so" ] || { echo "capture is not built: run make in $kit" >&2; exit 2; }
+[ -x "$kit/leak_log" ] && [ -x "$kit/leak_core" ] && [ -e "$kit/leak_trace.so" ] || { echo "capture is not built: run make in $kit" >&2; exit 2; }
 
 # find_leaks WORD..: leak_find.
 find_leaks() { limited 120 "$finder" "$@"; }
@@ -115,17 +115,16 @@ start() {
 # The kernel's core in the working folder, by whatever name.
 kernel_core() { ls core core.* 2> /dev/null | head -n 1; }
 
-# May gdb attach to a process of ours, and does the kernel write a core where a process dies?
+# May a process of ours be stopped, and does the kernel write a core where a process dies?
 sleep 60 &
 started[$!]=1
-limited 60 gdb -nx --batch -p $! -ex detach > "$work/gdb" 2>&1
-grep -q 'Inferior 1.*detached' "$work/gdb" && attaches=1 || attaches=
+limited 60 "$kit/leak_core" --size $! > "$work/size" && attaches=1 || attaches=
 { stop $!; } 2> /dev/null
 cd "$work" || exit 1
 (sleep 60 & sleep 0.2; kill -ABRT $!; wait $!) > /dev/null 2>&1
 dumps_core=$(kernel_core)
 rm -f core core.*
-[ "$attaches" ] || echo "gdb may not attach to a process here: the kernel's cores of killed processes stand in"
+[ "$attaches" ] || echo "no process may be stopped here: the kernel's cores of killed processes stand in"
 dumps=$attaches$dumps_core
 [ "$dumps_core" ] || echo "the kernel writes no core here: $(cat /proc/sys/kernel/core_pattern) takes it elsewhere"
 
@@ -140,7 +139,7 @@ dump_killed() {
 }
 is_dead() { ! grep -qs '^State:.*[^ZX] (' "/proc/$1/status"; }
 
-# dump [--after NAME1] PID NAME: by leak_dump, or where gdb may not attach by killing the process. Where the library takes
+# dump [--after NAME1] PID NAME: by leak_dump, or where it may not stop it by killing the process. Where the library takes
 # more of the disk than its tables and 4 GB, a core has what it should not have.
 dump() {
     local name=${!#} largest

@@ -39,7 +39,7 @@ if [ "$attaches" ]; then
     verdict 'a pair of dumps: blocks' "$(awk '/^blocks|^freed/' freed2.skipped)" "$(awk '/^blocks|^freed/' two.report)"
     stop $process
 else
-    leave_out 'two dumps of one process: gdb may not attach'
+    leave_out 'two dumps of one process: none may be stopped'
 fi
 start ./freed child
 child=$(pgrep -P $process)

@@ -3,7 +3,7 @@
 # stops at each instruction, threads, two dumps, crashes, and what keeps a program from being traced. `run.sh --quick`
 # leaves out what takes long. LEAK_FIND names leak_find. The last line is `capture: N passed, M failed`.
 #
-# Dumps are taken by gdb, which must be allowed to attach to a process of ours. Where it is not (a container without
+# Dumps are taken by leak_core, which must be allowed to stop a process of ours. Where it is not (a container without
 # SYS_PTRACE, kernel.yama.ptrace_scope above 0), the tests kill each program and take the kernel's core, and leave out
 # what needs a process that goes on living. Where the kernel writes no core into the working folder either, all that
 # needs a dump is left out.
@@ -20,6 +20,7 @@ part() {
     fi
 }
 
+part dump "$attaches"
 part known "$dumps"
 part lines
 part stops
