@@ -1,0 +1,176 @@
+/* leak_walk [--partial] [--quiet] [--after LOG] CORE: walks the heap of glibc's malloc inside a core, and writes a log in mtrace's format for
+ * leak_find: which blocks were in use, and which memory was free. It needs no symbols and no version; the process needs no preparation.
+ * With --after it writes LOG first, which it made of an earlier core of the same process, and then what came and went since. */
+#include <stdarg.h>
+#include <stdio.h>
+#include <stdlib.h>
+#include <string.h>
+
+#include "walk.h"
+
+enum { COMPLETE = 0, PARTIAL = 1, REFUSED = 2 };
+
+static int may_be_partial, is_partial;
+
+static void say(const char *form, va_list list)
+{
+    fputs("leak_walk: ", stderr);
+    vfprintf(stderr, form, list);
+    fputc('\n', stderr);
+}
+
+void warn(const char *form, ...)
+{
+    va_list list;
+
+    va_start(list, form);
+    say(form, list);
+    va_end(list);
+}
+
+void fail(const char *form, ...)
+{
+    va_list list;
+
+    va_start(list, form);
+    say(form, list);
+    va_end(list);
+    exit(REFUSED);
+}
+
+/* Says what can't be read, and ends, or with --partial goes on. */
+void damaged(const char *form, ...)
+{
+    va_list list;
+
+    va_start(list, form);
+    say(form, list);
+    va_end(list);
+    if (!may_be_partial)
+        exit(REFUSED);
+    is_partial = 1;
+}
+
+/* The list, with room for one more. */
+void *grown(void *list, size_t count, size_t each)
+{
+    if (count & (count - 1))
+        return list;
+    list = realloc(list, (count ? 2 * count : 1) * each);
+    if (!list)
+        fail("out of memory");
+    return list;
+}
+
+/* Counts steps that a right heap needs few of. */
+void take_steps(struct heap *heap, uint64_t count, uint64_t near)
+{
+    if (count > heap->steps_left)
+        fail("%s: damaged: too many chains that lead nowhere, the last near 0x%llx", heap->core->path, (unsigned long long)near);
+    heap->steps_left -= count;
+}
+
+/* As many steps as there can be chunks, and as many again for what only looks like one. */
+static void set_steps(struct heap *heap)
+{
+    enum { LEAST_CHUNK = 32, TRIES = 1 << 20 };
+    uint64_t bytes = 0;
+
+    for (size_t i = 0; i < heap->core->segment_count; i++)
+        if (heap->core->segments[i].is_writable)
+            bytes += heap->core->segments[i].size;
+    heap->steps_left = 2 * (bytes / LEAST_CHUNK) + TRIES;
+}
+
+/* Finds all chunks, and which are in use. */
+static void walk(struct heap *heap)
+{
+    set_steps(heap);
+    find_arenas(heap);
+    for (size_t i = 0; i < heap->arena_count; i++)
+        if (!heap->arenas[i].first_heap)
+            find_main_heap(heap, heap->arenas + i);
+    find_thread_heaps(heap);
+    find_used(heap);
+    take_fast_bins(heap);
+    find_mapped(heap);
+    take_caches(heap);
+    if (!heap->region_count && !heap->mapping_count)
+        fail("%s: no chunk in glibc's heap: another allocator (jemalloc, tcmalloc, musl's), or malloc was never called; start the "
+             "program by leak_trace", heap->core->path);
+}
+
+/* Names another allocator, of which the log has nothing. */
+static void tell_others(const struct core *core)
+{
+    static const char *const names[] = { "libjemalloc", "libtcmalloc", "libmimalloc" };
+
+    for (size_t i = 0; i < core->part_count * 3; i++) {
+        const struct part *part = core->parts + i / 3;
+        if (strstr(part->path, names[i % 3]) && !part->offset) {
+            warn("%s: its blocks are not in the log", part->path);
+            return;
+        }
+    }
+}
+
+static void tell(const struct heap *heap)
+{
+    if (heap->odd_chunks.count)
+        warn("%llu free chunks have no size behind them, the first at 0x%llx: stopped inside malloc, or damaged",
+             (unsigned long long)heap->odd_chunks.count, (unsigned long long)heap->odd_chunks.first);
+    if (heap->odd_lists.count)
+        warn("%llu lists of free chunks lead nowhere, the first at 0x%llx: stopped inside malloc, or damaged",
+             (unsigned long long)heap->odd_lists.count, (unsigned long long)heap->odd_lists.first);
+    if (is_partial)
+        warn("the log is not complete: %llu bytes of the heap are left out", (unsigned long long)heap->left_out);
+}
+
+/* Reads the options, and gives the core's path, or NULL. */
+static const char *read_arguments(int count, char **words, int *is_quiet, const char **earlier)
+{
+    int i = 1;
+
+    for (; i < count && words[i][0] == '-'; i++)
+        if (!strcmp(words[i], "--partial"))
+            may_be_partial = 1;
+        else if (!strcmp(words[i], "--quiet"))
+            *is_quiet = 1;
+        else if (!strcmp(words[i], "--after") && i + 1 < count)
+            *earlier = words[++i];
+        else
+            return NULL;
+    return i + 1 == count ? words[i] : NULL;
+}
+
+int main(int count, char **words)
+{
+    int is_quiet = 0;
+    const char *earlier = NULL, *path = read_arguments(count, words, &is_quiet, &earlier);
+    struct old_log old = { 0 };
+
+    if (!path) {
+        fputs("usage: leak_walk [--partial] [--quiet] [--after LOG] CORE\n", stderr);
+        return REFUSED;
+    }
+    struct core core = read_core(path);
+    struct heap heap = { .core = &core };
+    walk(&heap);
+    if (earlier) {
+        old = read_old_log(earlier);
+        if (old.arena != heap.arenas[0].start)
+            fail("%s: the earlier log is of another process", earlier);
+        write_old_log(&heap, &old);
+    } else {
+        put_text("= Start\n");
+    }
+    struct totals totals = write_log(&heap, &old);
+    put_end();
+    if (!is_quiet)
+        warn("%llu blocks of %llu bytes in use; %zu arenas; %llu free chunks of %llu bytes", (unsigned long long)totals.blocks,
+             (unsigned long long)totals.bytes, heap.arena_count, (unsigned long long)totals.free_count,
+             (unsigned long long)totals.free_bytes);
+    tell_others(&core);
+    tell(&heap);
+    return is_partial ? PARTIAL : COMPLETE;
+}

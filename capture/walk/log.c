@@ -1,0 +1,76 @@
+/* The log, in mtrace's format (glibc, malloc/mtrace.c): blocks in use as `@ TEXT + 0xADDR 0xSIZE`, and what is free or malloc's own as a block
+ * that comes and goes at once, which is how capture's logs say so. */
+#include "walk.h"
+
+/* leak_find --skip-freed goes by allocations of less than 128 KiB. */
+enum { MOST_PIECE = (128 << 10) - 16 };
+
+struct writer {
+    struct visitor visitor;     /* comes first */
+    struct heap *heap;
+    const struct old_log *old;
+    size_t next;                /* the first old block that is not below those that were visited */
+    struct totals totals;
+};
+
+/* By its first word, where that is an address in a mapped file: of a C++ object its class's table, of others what tells their kind. An
+ * address of code is written one further, as a caller's return address would be: so leak_lines tells the right function. */
+static void put_what(struct heap *heap, uint64_t start, uint64_t size)
+{
+    uint64_t first;
+    const struct part *part = word(heap->core, start, &first) ? part_of(heap->core, first) : NULL;
+    const struct segment *s = part ? segment_at(heap->core, first) : NULL;
+
+    if (part) {
+        put_text(part->path);
+        put_hex(":[0x", first + part->bias + (s && s->is_code));
+        put_text("]");
+    } else {
+        put_text("size ");
+        put_number(size);
+    }
+}
+
+static void put_block(struct visitor *visitor, uint64_t start, uint64_t size)
+{
+    struct writer *w = (struct writer *)visitor;
+
+    w->totals.blocks++;
+    w->totals.bytes += size;
+    while (w->next < w->old->count && w->old->list[w->next].start < start)
+        w->next++;
+    if (w->next < w->old->count && w->old->list[w->next].start == start && w->old->list[w->next].is_same)
+        return;
+    put_text("@ ");
+    put_what(w->heap, start, size);
+    put_hex(" + 0x", start);
+    put_hex(" 0x", size);
+    put_text("\n");
+}
+
+static void put_unused(struct visitor *visitor, uint64_t from, uint64_t to)
+{
+    struct writer *w = (struct writer *)visitor;
+    uint64_t size;
+
+    w->totals.free_count += from < to;
+    w->totals.free_bytes += to - from;
+    for (; from < to; from += size) {
+        size = to - from < MOST_PIECE ? to - from : MOST_PIECE;
+        put_hex("+ 0x", from);
+        put_hex(" 0x", size);
+        put_hex("\n- 0x", from);
+        put_text("\n");
+    }
+}
+
+/* Writes what is in use and what is free; of blocks that the old log has too, nothing. */
+struct totals write_log(struct heap *heap, const struct old_log *old)
+{
+    struct writer w = { .visitor = { put_block, put_unused }, .heap = heap, .old = old };
+
+    put_hex("= leak_walk arena 0x", heap->arenas[0].start);
+    put_text("\n");
+    visit(heap, &w.visitor);
+    return w.totals;
+}

@@ -1,0 +1,53 @@
+/* Heaps of threads' arenas (glibc, malloc/arena.c, heap_info): they begin at multiples of HEAP_MAX_SIZE with the address of their arena. */
+#include "walk.h"
+
+enum { TO_SIZE = 16, ALIGNMENT = 16 };
+
+/* Up to the first chunk, or in the first heap up to the arena. */
+uint64_t head_bytes(const struct arena *arena)
+{
+    return arena->start - arena->first_heap;
+}
+
+static void add_heap(struct heap *heap, uint64_t base, const struct arena *arena)
+{
+    uint64_t size, start = base == arena->first_heap ? (end_of(arena) + ALIGNMENT - 1) & -(uint64_t)ALIGNMENT : base + head_bytes(arena);
+    uint64_t top = (arena->top & -HEAP_BYTES) == base ? arena->top : 0;
+    struct region region = { .start = start, .top = top, .arena = arena };
+
+    if (!word(heap->core, base + TO_SIZE, &size) || size % PAGE || size > HEAP_BYTES || size < start - base || top > base + size) {
+        damaged("%s: damaged: the heap at 0x%llx has no right size", heap->core->path, (unsigned long long)base);
+        return;
+    }
+    struct chain chain = run_chain(heap, (struct chain){ .at = start, .top = top, .limit = base + size, .is_thread = 1,
+                                                         .heap_end = top ? 0 : base + size });
+    region.end = chain.at;
+    region.limit = base + size;
+    if (chain.stop == AT_MARKER)
+        region.end = chain.before; /* the last chunk before the marker is a fence, or what was left of the top */
+    if (chain.stop == BROKEN) {
+        tell_break(heap, "a thread's heap", start, &chain);
+        region.end = chain.before ? chain.before : start;
+        heap->left_out += (top ? top : base + size) - region.end;
+    }
+    add_region(heap, region);
+}
+
+static void find_heaps_in(struct heap *heap, const struct segment *s)
+{
+    for (uint64_t base = (s->start + HEAP_BYTES - 1) & -HEAP_BYTES; base >= s->start && base - s->start < s->size; base += HEAP_BYTES) {
+        uint64_t start;
+        const struct arena *arena = word(heap->core, base, &start) ? arena_at(heap, start) : NULL;
+        if (arena && arena->first_heap)
+            add_heap(heap, base, arena);
+        if (base > UINT64_MAX - HEAP_BYTES)
+            return;
+    }
+}
+
+void find_thread_heaps(struct heap *heap)
+{
+    for (size_t i = 0; i < heap->core->segment_count; i++)
+        if (heap->core->segments[i].is_writable)
+            find_heaps_in(heap, heap->core->segments + i);
+}

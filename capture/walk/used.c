@@ -1,0 +1,85 @@
+/* Which chunks are in use: a bit for each, set by the next chunk's size word, and cleared where a list of free chunks has it. */
+#include <stdlib.h>
+
+#include "walk.h"
+
+enum { CHUNK_HEAD = 8, FLAGS = 7, PIECE = 16, BYTE_OF_PIECES = 8 * PIECE };
+
+/* The chunks of a region, all well known. */
+struct chain chunks_of(const struct region *region)
+{
+    return (struct chain){ .at = region->start, .top = region->end, .limit = region->limit, .is_thread = region->arena->first_heap != 0 };
+}
+
+static uint8_t *bits_of(const struct region *r, uint64_t at)
+{
+    return r->used + (at - r->start) / BYTE_OF_PIECES;
+}
+
+/* A free chunk's size stands behind it too. */
+static void find_used_in(struct heap *heap, struct region *r)
+{
+    struct chain chain = chunks_of(r);
+    struct chunk chunk;
+
+    r->used = calloc((r->end - r->start) / BYTE_OF_PIECES + 1, 1);
+    if (!r->used)
+        fail("out of memory");
+    while (next_chunk(heap->core, &chain, &chunk))
+        if (chunk.is_used)
+            *bits_of(r, chunk.at) |= 1 << (chunk.at - r->start) / PIECE % 8;
+        else if (!is_word(heap->core, chunk.at + chunk.size, chunk.size) && !heap->odd_chunks.count++)
+            heap->odd_chunks.first = chunk.at;
+}
+
+/* Sorts the regions, and reads which of their chunks are in use. */
+void find_used(struct heap *heap)
+{
+    if (heap->region_count)
+        qsort(heap->regions, heap->region_count, sizeof *heap->regions, by_start);
+    for (size_t i = 0; i < heap->region_count; i++) {
+        struct region *r = heap->regions + i;
+        if ((i && r->start < r[-1].limit) || r->limit < r->end)
+            fail("%s: damaged: parts of the heap overlap at 0x%llx", heap->core->path, (unsigned long long)r->start);
+        find_used_in(heap, r);
+    }
+}
+
+static const struct region *region_of(const struct heap *heap, uint64_t at)
+{
+    size_t low = 0, high = heap->region_count;
+
+    while (low < high) {
+        size_t middle = low + (high - low) / 2;
+        if (heap->regions[middle].start <= at)
+            low = middle + 1;
+        else
+            high = middle;
+    }
+    return low && at < heap->regions[low - 1].end ? heap->regions + low - 1 : NULL;
+}
+
+/* Whether a chunk in use begins there. */
+int is_used(struct heap *heap, uint64_t at)
+{
+    const struct region *r = at % PIECE ? NULL : region_of(heap, at);
+
+    return r && *bits_of(r, at) >> (at - r->start) / PIECE % 8 & 1;
+}
+
+/* Sets it of a chunk. */
+void set_used(struct heap *heap, uint64_t at, int used)
+{
+    const struct region *r = region_of(heap, at);
+    uint8_t bit = 1 << (at - r->start) / PIECE % 8;
+
+    *bits_of(r, at) = used ? *bits_of(r, at) | bit : *bits_of(r, at) & ~bit;
+}
+
+uint64_t size_at(struct heap *heap, uint64_t at)
+{
+    uint64_t head = 0;
+
+    word(heap->core, at + CHUNK_HEAD, &head);
+    return head & ~(uint64_t)FLAGS;
+}

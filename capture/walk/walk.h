@@ -1,0 +1,183 @@
+/* What the files of leak_walk share. */
+#ifndef LEAK_WALK_H
+#define LEAK_WALK_H
+
+#include <stddef.h>
+#include <stdint.h>
+
+enum { PAGE = 4096 };
+
+#define HEAP_BYTES ((uint64_t)64 << 20) /* glibc, malloc/arena.c, HEAP_MAX_SIZE */
+
+/* A segment of the core (gABI, Program Header, PT_LOAD): the bytes from start on are dumped, the rest up to the end is not. */
+struct segment {
+    uint64_t start, size, end;
+    uint64_t run_start, run_end; /* of the writable memory without a gap that it is a part of; equal where it isn't writable */
+    const uint8_t *bytes;
+    int is_writable, is_code;
+};
+
+/* A part of a file that the process had mapped. An address in it is at `address + bias` in the ELF file. */
+struct part {
+    uint64_t start, end, offset, bias;
+    const char *path;
+    int is_known;
+};
+
+struct core {
+    const char *path;
+    struct segment *segments;   /* by ascending start */
+    size_t segment_count, last;
+    struct part *parts;         /* by ascending start */
+    size_t part_count;
+};
+
+/* glibc, malloc/malloc.c, struct malloc_state: one arena. */
+struct arena {
+    uint64_t start;
+    uint64_t top_at;            /* where its word `top` stands */
+    uint64_t top, system_mem;
+    uint64_t first_heap;        /* of a thread's arena (malloc/arena.c, heap_info); 0 of a main arena */
+    int is_contiguous;
+};
+
+/* Chunks in a row. Those of a main arena reach to its top, or to fences where the memory goes on elsewhere; a thread's
+ * arena has one region for each of its heaps. */
+struct region {
+    uint64_t start, end;        /* of the chunks */
+    uint64_t top;               /* the chunk at the end that is yet unused, or 0 */
+    uint64_t limit;             /* the end of the memory */
+    const struct arena *arena;
+    uint8_t *used;              /* a bit for each 16 bytes: does a chunk in use begin here? */
+};
+
+/* A block with a mapping of its own (malloc/malloc.c, IS_MMAPPED). */
+struct mapping {
+    uint64_t start, end, block;
+};
+
+struct tally {
+    uint64_t count, first;      /* how many, and where the first is */
+};
+
+struct heap {
+    struct core *core;
+    struct arena *arenas;       /* by ascending start */
+    size_t arena_count;
+    int has_fast_bins;
+    struct region *regions;     /* by ascending start, once found */
+    size_t region_count;
+    struct mapping *mappings;   /* by ascending start */
+    size_t mapping_count;
+    uint64_t steps_left;        /* more than a right heap needs; a damaged one may lead in circles */
+    uint64_t left_out;          /* bytes of no known chunk */
+    struct tally odd_chunks, odd_lists; /* free chunks without their size behind them; lists that lead nowhere */
+};
+
+/* Where a chain of chunks stops: at the top chunk; inside a chunk that is just being cut from the top; at the end of a heap that
+ * is full, by its marker or without; at the fences of a main arena; or where no chunk can be. */
+enum stop { AT_TOP, OVER_TOP, AT_MARKER, AT_HEAP_END, AT_FENCES, BROKEN };
+
+struct chain {
+    uint64_t at, before, count; /* the next chunk, the one before, and how many there were */
+    uint64_t top, limit;        /* where it may end (top 0: nowhere), and what no chunk crosses */
+    uint64_t heap_end;          /* of a thread's heap without the top, else 0 */
+    int is_thread;              /* of a thread's arena */
+    enum stop stop;
+};
+
+struct chunk {
+    uint64_t at, size;
+    int is_used;                /* by the next chunk's bit */
+};
+
+/* Called for each block in use and each stretch of free memory, or of malloc's own. */
+struct visitor {
+    void (*block)(struct visitor *visitor, uint64_t start, uint64_t size);
+    void (*unused)(struct visitor *visitor, uint64_t from, uint64_t to);
+};
+
+/* leak_walk.c */
+__attribute__((noreturn, format(printf, 1, 2))) void fail(const char *form, ...);
+__attribute__((format(printf, 1, 2))) void warn(const char *form, ...);
+__attribute__((format(printf, 1, 2))) void damaged(const char *form, ...);
+void *grown(void *list, size_t count, size_t each);
+void take_steps(struct heap *heap, uint64_t count, uint64_t near);
+
+/* core.c */
+struct core read_core(const char *path);
+const struct segment *segment_at(struct core *core, uint64_t address);
+int word(struct core *core, uint64_t address, uint64_t *value);
+int is_word(struct core *core, uint64_t address, uint64_t wanted);
+const uint8_t *map_file(const char *path, uint64_t *size);
+int by_start(const void *a, const void *b);
+
+/* parts.c */
+void read_notes(struct core *core, const uint8_t *notes, uint64_t size);
+const struct part *part_of(struct core *core, uint64_t address);
+
+/* arenas.c */
+void find_arenas(struct heap *heap);
+const struct arena *arena_at(const struct heap *heap, uint64_t start);
+uint64_t end_of(const struct arena *arena);
+
+/* chain.c */
+int next_chunk(struct core *core, struct chain *chain, struct chunk *chunk);
+struct chain run_chain(struct heap *heap, struct chain chain);
+uint64_t find_chain(struct heap *heap, uint64_t from, uint64_t to, uint64_t top, struct chain *found);
+void tell_break(struct heap *heap, const char *what, uint64_t start, const struct chain *chain);
+
+/* main_heap.c, thread_heaps.c */
+void add_region(struct heap *heap, struct region region);
+void find_main_heap(struct heap *heap, const struct arena *arena);
+uint64_t head_bytes(const struct arena *arena);
+void find_thread_heaps(struct heap *heap);
+
+/* used.c */
+void find_used(struct heap *heap);
+struct chain chunks_of(const struct region *region);
+int is_used(struct heap *heap, uint64_t at);
+void set_used(struct heap *heap, uint64_t at, int used);
+uint64_t size_at(struct heap *heap, uint64_t at);
+
+/* lists.c, caches.c */
+uint64_t revealed(uint64_t place, uint64_t link, int is_safe);
+void take_fast_bins(struct heap *heap);
+void take_caches(struct heap *heap);
+
+/* mapped.c */
+void find_mapped(struct heap *heap);
+
+/* visit.c */
+void visit(struct heap *heap, struct visitor *visitor);
+
+/* output.c */
+void put_text(const char *text);
+void put_bytes(const uint8_t *bytes, uint64_t size);
+void put_number(uint64_t value);
+void put_hex(const char *before, uint64_t value);
+void put_end(void);
+
+/* log.c, after.c */
+struct old_block {
+    uint64_t start, size, line; /* size 0: it ends here */
+    int is_same;
+};
+
+struct old_log {
+    const uint8_t *bytes;
+    uint64_t size;
+    uint64_t arena;             /* the first arena of its process */
+    struct old_block *list;     /* live blocks by ascending start */
+    size_t count;
+};
+
+struct totals {
+    uint64_t blocks, bytes, free_count, free_bytes;
+};
+
+struct old_log read_old_log(const char *path);
+void write_old_log(struct heap *heap, struct old_log *old);
+struct totals write_log(struct heap *heap, const struct old_log *old);
+
+#endif
