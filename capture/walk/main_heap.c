@@ -100,7 +100,9 @@ void find_main_heap(struct heap *heap, const struct arena *arena)
         return;
     }
     size = head & ~(uint64_t)FLAGS;
-    limit = (head & FLAGS) == PREV_INUSE && size >= LEAST && size <= s->run_end - arena->top ? arena->top + size : s->run_end;
+    /* Pages that were never touched may be missing in a core, so the memory may go on behind the segment. */
+    limit = (head & FLAGS) == PREV_INUSE && size >= LEAST && size <= arena->system_mem && (arena->top + size) % ALIGNMENT == 0
+        ? arena->top + size : s->run_end;
     if (arena->is_contiguous)
         find_contiguous(heap, arena, limit, s->run_start);
     else
