@@ -25,11 +25,13 @@ void end_if_asked(void);
 /* The list, with room for one more: it grows where its count is a power of two. */
 void *grown(void *list, size_t count, size_t each);
 
-/* The place of a step at which a test's build makes it fail or wait (see fault.c). */
+/* The places at which a test's build makes it fail or wait, and whether it acts as on Linux before 6.7 (see fault.c). */
 #ifdef FAULT
 void step(const char *what);
+bool acts_old(void);
 #else
 static inline void step(const char *what) { (void)what; }
+static inline bool acts_old(void) { return false; }
 #endif
 
 /* ---- stop.c: the threads ---- */
@@ -152,6 +154,7 @@ void add_process_notes(struct notes *notes, const struct process *process, const
 /* ---- memory.c ---- */
 
 size_t read_memory(pid_t witness, uint64_t address, void *to, size_t size);
+bool read_pieces(pid_t witness, const struct segment *pieces, size_t count, void *to, size_t size);
 
 /* ---- output.c: the files ---- */
 
@@ -165,6 +168,22 @@ void open_output(struct output *output, const char *path, uint64_t bytes);
 void put_bytes(const struct output *output, const void *bytes, size_t size, uint64_t at);
 void finish_output(struct output *output);
 void remove_output(struct output *output);
+
+/* ---- queue.c: what is to be written ---- */
+
+enum { CHUNK = 4 << 20 };
+
+struct chunk {
+    char *bytes;            /* room for CHUNK */
+    size_t filled;
+    const struct output *output;
+    uint64_t at;            /* where in the file they will stand */
+};
+
+void open_queue(void);
+struct chunk *take_chunk(const struct output *output, uint64_t at);
+void give_chunk(void);
+void close_queue(void);
 
 /* ---- write.c ---- */
 

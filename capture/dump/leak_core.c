@@ -94,40 +94,54 @@ static struct request read_request(int count, char **words)
     return request;
 }
 
-static void tell_standstill(struct timespec since, bool is_dumped)
-{
-    if (is_dumped)
-        fprintf(stderr, "leak_core: process %d stood still for %.0f ms\n", process.id, milliseconds_since(since));
-}
+/* What is known of a process that stands still. */
+struct state {
+    struct regions regions;
+    struct plan plan;
+    struct notes notes;
+    uint64_t bytes;             /* of its core */
+};
 
-/* Where it was asked for, all is written whose moment matters while the process stands still; then it goes on. */
-static void dump(const struct request *request)
+static struct state look(void)
 {
+    struct state state;
     stop_all(&process);
     struct maps maps = read_maps(process.witness);
-    struct regions regions = find_pages(process.witness, &maps);
-    struct plan plan = make_plan(process.witness, &maps, &regions), written;
-    struct notes notes = make_notes(&process, &maps);
-    uint64_t bytes = core_bytes(&plan, &notes);
 
-    if (!request->asks_size) {
-        open_output(&core, request->core, bytes + (request->from ? bytes_on_disk(request->from) : 0));
-        written = write_memory(process.witness, &plan, &notes, &core);
-        if (request->from) {
-            open_output(&copy, request->to, bytes_on_disk(request->from));
-            copy_file(request->from, &copy);
-        }
+    state.regions = find_pages(process.witness, &maps);
+    state.plan = make_plan(process.witness, &maps, &state.regions);
+    state.notes = make_notes(&process, &maps);
+    state.bytes = core_bytes(&state.plan, &state.notes);
+    return state;
+}
+
+static void tell_size(void)
+{
+    struct state state = look();
+
+    let_go(&process);
+    printf("%llu\n", (unsigned long long)state.bytes);
+}
+
+/* The process goes on as soon as all is read whose moment matters. */
+static void dump(const struct request *request)
+{
+    struct state state = look();
+    uint64_t table = request->from ? bytes_on_disk(request->from) : 0;
+
+    open_output(&core, request->core, state.bytes + table);
+    struct plan written = write_memory(process.witness, &state.plan, &state.notes, &core);
+    if (request->from) {
+        open_output(&copy, request->to, 0);
+        copy_file(request->from, &copy);
     }
     let_go(&process);
-    tell_standstill(process.since, !request->asks_size);
-    if (regions.unknown)
+    fprintf(stderr, "leak_core: process %d stood still for %.0f ms\n", process.id, milliseconds_since(process.since));
+    if (state.regions.unknown)
         fprintf(stderr, "leak_core: of %llu bytes of shared memory only the pages are written that the process has itself: root "
-                "can get the others\n", (unsigned long long)regions.unknown);
-    if (request->asks_size) {
-        printf("%llu\n", (unsigned long long)bytes);
-        return;
-    }
-    write_headers(&written, &notes, &core);
+                "can get the others\n", (unsigned long long)state.regions.unknown);
+    write_headers(&written, &state.notes, &core);
+    close_queue();
     end_if_asked();
     finish_output(&copy);
     finish_output(&core);
@@ -139,6 +153,11 @@ int main(int count, char **words)
 
     process.id = request.process;
     set_signals();
-    dump(&request);
+    if (request.asks_size) {
+        tell_size();
+    } else {
+        open_queue();
+        dump(&request);
+    }
     return fflush(stdout) ? REFUSED : 0;
 }

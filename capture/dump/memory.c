@@ -1,6 +1,7 @@
 /* The memory of a stopped process. */
 #define _GNU_SOURCE
 #include <fcntl.h>
+#include <limits.h>
 #include <stdio.h>
 #include <sys/uio.h>
 #include <unistd.h>
@@ -34,4 +35,16 @@ size_t read_memory(pid_t witness, uint64_t address, void *to, size_t size)
     if (got == (ssize_t)size)
         return size;
     return read_anyway(witness, address, to, size);
+}
+
+/* Reads several pieces, one after the other; `size` is what they have in all. Gives whether all of it could be read. */
+bool read_pieces(pid_t witness, const struct segment *pieces, size_t count, void *to, size_t size)
+{
+    struct iovec here = { to, size }, there[IOV_MAX];
+    size_t parts = 0;
+
+    for (size_t i = 0; i < count; i++)
+        if (!pieces[i].is_missing)
+            there[parts++] = (struct iovec){ (void *)pieces[i].start, pieces[i].end - pieces[i].start };
+    return !parts || process_vm_readv(witness, &here, 1, there, parts, 0) == (ssize_t)size;
 }

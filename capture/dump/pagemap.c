@@ -15,7 +15,7 @@
 #define IS_FILE (1ull << 61)
 #define IS_MAPPED_ONCE (1ull << 56)
 
-enum { CHUNK = 1 << 16 };
+enum { ENTRIES = 1 << 16 };
 
 /* So much of address space takes about a second. */
 static const uint64_t MOST_PAGES = 1ull << 28;
@@ -48,11 +48,11 @@ static bool is_there(const struct reader *reader, uint64_t entry, uint64_t addre
 /* The pages of a mapping, until as many are found as smaps counts. */
 static void read_mapping(struct reader *reader, uint64_t start, uint64_t end, uint64_t wanted)
 {
-    static uint64_t entries[CHUNK];
+    static uint64_t entries[ENTRIES];
     uint64_t found = 0;
 
     for (uint64_t at = start; at < end && found < wanted;) {
-        uint64_t pages = (end - at) / PAGE < CHUNK ? (end - at) / PAGE : CHUNK;
+        uint64_t pages = (end - at) / PAGE < ENTRIES ? (end - at) / PAGE : ENTRIES;
         ssize_t got = pread(reader->pagemap, entries, pages * sizeof *entries, at / PAGE * sizeof *entries);
         end_if_asked();
         if (got < (ssize_t)sizeof *entries)

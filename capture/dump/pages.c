@@ -40,7 +40,8 @@ void add_region(struct regions *regions, uint64_t start, uint64_t end, bool is_f
 }
 
 /* The pages from `start` to `end`. The page of zeros that the kernel shows where memory was only read is none. Gives
- * whether the kernel can say. */
+ * whether the kernel can say. It goes on behind the last page found, for `walk_end` may lie before that (Linux 6.18: where more
+ * than one of the kernel's own buffers was filled). */
 static bool scan(int pagemap, uint64_t start, uint64_t end, struct regions *regions)
 {
     static struct page_region found[REGIONS];
@@ -48,17 +49,15 @@ static bool scan(int pagemap, uint64_t start, uint64_t end, struct regions *regi
                                .category_inverted = PAGE_IS_PFNZERO, .category_mask = PAGE_IS_PFNZERO,
                                .category_anyof_mask = PAGE_IS_PRESENT | PAGE_IS_SWAPPED, .return_mask = PAGE_IS_FILE };
 
-    for (; ask.start < end; ask.start = ask.walk_end) {
-        int count = ioctl(pagemap, PAGEMAP_SCAN, &ask);
-        if (count < 0 && errno == EINTR) {
-            end_if_asked();
-            ask.walk_end = ask.start;
-            continue;
-        }
-        if (count < 0)
+    for (int count = 1; count && ask.start < end;) {
+        count = ioctl(pagemap, PAGEMAP_SCAN, &ask);
+        end_if_asked();
+        if (count < 0 && errno != EINTR)
             return false;
         for (int i = 0; i < count; i++)
             add_region(regions, found[i].start, found[i].end, found[i].categories & PAGE_IS_FILE);
+        if (count > 0)
+            ask.start = found[count - 1].end;
     }
     return true;
 }
@@ -70,26 +69,43 @@ static int by_start(const void *a, const void *b)
     return (x->start > y->start) - (x->start < y->start);
 }
 
-/* Shared memory that another process wrote is seen by this one too, though no page of its own shows it. */
-static void add_all_shared(pid_t witness, const struct maps *maps, struct regions *regions)
+/* Of the bytes from `start` to `end` those that lie in no region. */
+static uint64_t bytes_absent(const struct regions *regions, size_t count, uint64_t start, uint64_t end)
 {
-    size_t before = regions->count, left = 0;
+    uint64_t absent = end - start;
 
-    for (size_t i = 0; i < maps->count; i++)
-        if (maps->list[i].kind == SHARED_MEMORY && !is_hidden(maps, maps->list[i].start))
-            add_shared(witness, maps->list + i, regions);
-    if (regions->count == before)
-        return;
+    for (const struct region *r = regions->list; r < regions->list + count; r++)
+        if (r->end > start && r->start < end)
+            absent -= (r->end < end ? r->end : end) - (r->start > start ? r->start : start);
+    return absent;
+}
+
+/* Sorts, and joins what overlaps. */
+static void join_regions(struct regions *regions)
+{
+    size_t left = 0;
+
     qsort(regions->list, regions->count, sizeof *regions->list, by_start);
     for (size_t i = 0; i < regions->count; i++) {
         struct region next = regions->list[i], *last = regions->list + left - 1;
-        if (left && next.start < last->end) {
-            last->end = next.end > last->end ? next.end : last->end;
-            continue;
-        }
-        regions->list[left++] = next;
+        if (!left || next.start >= last->end)
+            regions->list[left++] = next;
+        else if (next.end > last->end)
+            last->end = next.end;
     }
     regions->count = left;
+}
+
+/* Shared memory that another process wrote is seen by this one too, though no page of its own shows it. */
+static void add_all_shared(pid_t witness, const struct maps *maps, struct regions *regions)
+{
+    size_t own = regions->count;
+
+    for (const struct mapping *m = maps->list; m < maps->list + maps->count; m++)
+        if (m->kind == SHARED_MEMORY && !is_hidden(maps, m->start) && !add_shared(witness, m, regions))
+            regions->unknown += bytes_absent(regions, own, m->start, m->end);
+    if (regions->count > own)
+        join_regions(regions);
 }
 
 struct regions find_pages(pid_t witness, const struct maps *maps)
@@ -104,7 +120,7 @@ struct regions find_pages(pid_t witness, const struct maps *maps)
         fail("%s: %s", path, strerror(errno));
     while (last > maps->list && last->kind == NOT_MEMORY)
         last--;                 /* [vsyscall] lies above all that may be asked for */
-    if (!scan(pagemap, maps->list->start, last->end, &regions)) {
+    if (acts_old() || !scan(pagemap, maps->list->start, last->end, &regions)) {
         regions.count = 0;
         read_pagemap(witness, maps, pagemap, &regions);
     }

@@ -11,12 +11,14 @@
 #include <stdlib.h>
 #include <string.h>
 #include <sys/ptrace.h>
+#include <sys/resource.h>
 #include <sys/wait.h>
 #include <unistd.h>
 
 #include "dump.h"
 
-enum { STOP_LIMIT_MS = 4000, POLL_NS = 50000, GONE_CHECK_POLLS = 20 };
+enum { STOP_LIMIT_MS = 4000, POLL_NS = 50000, GONE_CHECK_POLLS = 20,
+       MOST_URGENT = -20 /* setpriority(2) */ };
 
 double milliseconds_since(struct timespec since)
 {
@@ -146,10 +148,21 @@ static void drop_ended(struct process *process)
     process->count = left;
 }
 
+/* While a process stands still, nothing is as urgent as this program. Only root may say so, and else nothing changes. */
+static void hurry(bool is_urgent)
+{
+    static int usual;
+
+    if (is_urgent)
+        usual = getpriority(PRIO_PROCESS, 0);
+    setpriority(PRIO_PROCESS, 0, is_urgent ? MOST_URGENT : usual);
+}
+
 /* A thread that runs may start others, so the list of threads is read again until all that it has are stopped. It is read
  * once more then: it may miss one while others end. */
 void stop_all(struct process *process)
 {
+    hurry(true);
     clock_gettime(CLOCK_MONOTONIC, &process->since);
     for (int quiet = 0; quiet < 2;) {
         quiet = seize_new(process) ? 0 : quiet + 1;
@@ -173,5 +186,7 @@ void let_go(struct process *process)
     for (size_t i = 0; i < process->count; i++)
         if (process->threads[i].is_stopped)
             ptrace(PTRACE_DETACH, process->threads[i].id, NULL, (void *)(long)process->threads[i].signal);
+    if (process->count)
+        hurry(false);
     process->count = 0;
 }

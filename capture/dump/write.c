@@ -1,22 +1,26 @@
 /* The core: ELF header, notes, memory, and at the end the program headers (System V gABI; elf(5)). They are last because only
  * then it is known which pages can be read. */
+#define _GNU_SOURCE
 #include <elf.h>
+#include <limits.h>
 #include <stdio.h>
 #include <stdlib.h>
 #include <string.h>
-#include <sys/mman.h>
 
 #include "dump.h"
 
-enum { BUFFER = 4 << 20 };
+enum { MOST_PIECES = IOV_MAX };
 
 struct writer {
     pid_t witness;
     const struct output *output;
+    struct chunk *chunk;
+    uint64_t at;            /* where in the core the chunk will stand */
+    const struct segment *next, *end;
+    uint64_t address;       /* where the next segment goes on, or 0 for its start */
+    struct segment pieces[MOST_PIECES];
+    size_t count;
     struct plan written;
-    uint64_t at;            /* where in the core the buffer will stand */
-    char *buffer;
-    size_t filled;
 };
 
 static uint64_t memory_starts(const struct notes *notes)
@@ -37,51 +41,83 @@ uint64_t core_bytes(const struct plan *plan, const struct notes *notes)
     return memory_starts(notes) + plan->bytes + headers * sizeof(Elf64_Phdr) + section_headers(headers) * sizeof(Elf64_Shdr);
 }
 
-static void flush(struct writer *writer)
+/* Goes on with a new chunk where this one is full, or in any case at the end. */
+static void give_full(struct writer *writer, bool is_end)
 {
-    put_bytes(writer->output, writer->buffer, writer->filled, writer->at);
-    writer->at += writer->filled;
-    writer->filled = 0;
+    if (!is_end && writer->chunk->filled < CHUNK)
+        return;
+    writer->at += writer->chunk->filled;
+    give_chunk();
+    if (!is_end)
+        writer->chunk = take_chunk(writer->output, writer->at);
 }
 
-/* Reads up to `end` as far as the buffer goes. A page that can't be read is listed without contents. Gives where it goes on. */
-static uint64_t read_piece(struct writer *writer, const struct segment *segment, uint64_t address)
+/* Cuts the pieces that the chunk has room for, and gives how many bytes they have. */
+static size_t cut_pieces(struct writer *writer)
 {
-    uint64_t size = segment->end - address, room = BUFFER - writer->filled;
-    struct segment piece = *segment;
+    size_t room = CHUNK - writer->chunk->filled, bytes = 0;
 
-    size = size < room ? size : room;
-    size_t got = read_memory(writer->witness, address, writer->buffer + writer->filled, size) & ~(size_t)(PAGE - 1);
-    piece.is_missing = !got;
-    piece.start = address;
-    piece.end = address + (got ? got : PAGE);
-    piece.at = writer->at + writer->filled;
-    writer->filled += got;
-    if (!got && !stands_still(writer->witness))
-        fail("the process was killed meanwhile");
-    add_segment(&writer->written, piece);
-    return piece.end;
+    for (writer->count = 0; writer->count < MOST_PIECES && writer->next < writer->end && bytes < room;) {
+        struct segment piece = *writer->next;
+        piece.start = writer->address ? writer->address : piece.start;
+        if (!piece.is_missing && piece.end - piece.start > room - bytes)
+            piece.end = piece.start + (room - bytes);
+        piece.at = writer->at + writer->chunk->filled + bytes;
+        bytes += piece.is_missing ? 0 : piece.end - piece.start;
+        bool is_whole = piece.end == writer->next->end;
+        writer->address = is_whole ? 0 : piece.end;
+        writer->next += is_whole;
+        writer->pieces[writer->count++] = piece;
+    }
+    return bytes;
 }
 
-/* Writes the contents of the segments, and gives these as they stand in the core. */
+/* Reads a piece that has pages which can't be read: these are listed without contents. */
+static void read_what_can_be(struct writer *writer, struct segment piece)
+{
+    uint64_t end = piece.end;
+
+    for (; piece.start < end; piece.start = piece.end) {
+        char *to = writer->chunk->bytes + writer->chunk->filled;
+        size_t got = read_memory(writer->witness, piece.start, to, end - piece.start) & ~(size_t)(PAGE - 1);
+        if (!got && !stands_still(writer->witness))
+            fail("the process was killed meanwhile");
+        piece.is_missing = !got;
+        piece.end = piece.start + (got ? got : PAGE);
+        piece.at = writer->at + writer->chunk->filled;
+        writer->chunk->filled += got;
+        add_segment(&writer->written, piece);
+    }
+}
+
+static void read_next(struct writer *writer)
+{
+    size_t bytes = cut_pieces(writer);
+    char *to = writer->chunk->bytes + writer->chunk->filled;
+    bool is_read = read_pieces(writer->witness, writer->pieces, writer->count, to, bytes);
+
+    for (const struct segment *piece = writer->pieces; piece < writer->pieces + writer->count; piece++)
+        if (is_read || piece->is_missing)
+            add_segment(&writer->written, *piece);
+        else
+            read_what_can_be(writer, *piece);
+    if (is_read)
+        writer->chunk->filled += bytes;
+}
+
+/* Reads the contents of the segments, and gives these as they will stand in the core. */
 struct plan write_memory(pid_t witness, const struct plan *plan, const struct notes *notes, const struct output *output)
 {
-    struct writer writer = { .witness = witness, .output = output, .at = memory_starts(notes) };
+    static struct writer writer;
 
-    writer.buffer = mmap(NULL, BUFFER, PROT_READ | PROT_WRITE, MAP_PRIVATE | MAP_ANONYMOUS | MAP_POPULATE, -1, 0);
-    if (writer.buffer == MAP_FAILED)
-        fail("no memory for a buffer");
-    for (const struct segment *s = plan->segments; s < plan->segments + plan->count; s++) {
-        if (s->is_missing)
-            add_segment(&writer.written, *s);
-        for (uint64_t address = s->start; !s->is_missing && address < s->end;) {
-            if (writer.filled == BUFFER)
-                flush(&writer);
-            address = read_piece(&writer, s, address);
-        }
+    writer.witness = witness, writer.output = output, writer.at = memory_starts(notes);
+    writer.next = plan->segments, writer.end = plan->segments + plan->count;
+    writer.chunk = take_chunk(output, writer.at);
+    while (writer.next < writer.end) {
+        read_next(&writer);
+        give_full(&writer, false);
     }
-    flush(&writer);
-    munmap(writer.buffer, BUFFER);
+    give_full(&writer, true);
     if (writer.written.bytes < plan->bytes)
         fprintf(stderr, "leak_core: %llu bytes could not be read: the core lists them without contents\n",
                 (unsigned long long)(plan->bytes - writer.written.bytes));
