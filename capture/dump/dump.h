@@ -76,6 +76,7 @@ enum kind {
     PRIVATE_FILE,   /* a file, whose pages are private copies once they are written */
     SHARED_MEMORY,  /* shared, of a file without a name: only processes hold what is in it */
     SHARED_FILE,    /* shared, of a file with a name, or of a device */
+    KERNEL_OBJECT,  /* shared with the kernel: the rings of io_uring, whose entries have pointers, or of perf */
     KERNEL_CODE,    /* [vdso], which the kernel maps */
     NOT_MEMORY      /* [vvar] and [vsyscall], whose words are the kernel's */
 };

@@ -45,6 +45,8 @@ static enum kind kind_of(const struct mapping *mapping, bool is_shared)
         return KERNEL_CODE;
     if (begins(path, "[vvar") || begins(path, "[vsyscall"))
         return NOT_MEMORY;
+    if (is_shared && begins(path, "anon_inode:"))
+        return KERNEL_OBJECT;
     if (is_shared)
         return ends(path, " (deleted)") || begins(path, "[anon_shmem:") ? SHARED_MEMORY : SHARED_FILE;
     return mapping->is_file ? PRIVATE_FILE : ANONYMOUS;

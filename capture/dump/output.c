@@ -21,7 +21,7 @@ void open_output(struct output *output, const char *path, uint64_t bytes)
     unlink(output->part);
     output->file = open(output->part, O_RDWR | O_CREAT | O_EXCL | O_NOFOLLOW | O_CLOEXEC, 0600);
     if (output->file < 0)
-        fail("%s: %s", output->part, strerror(errno));
+        fail("%s: %s", path, strerror(errno));
     if (!fstatvfs(output->file, &disk) && disk.f_bavail < bytes / disk.f_frsize + 1)
         fail("%s: no room: %llu bytes are needed, and %llu free", path, (unsigned long long)bytes,
              (unsigned long long)disk.f_bavail * disk.f_frsize);
@@ -39,7 +39,7 @@ void put_bytes(const struct output *output, const void *bytes, size_t size, uint
             put = 0;
         end_if_asked();
         if (put < 0)
-            fail("%s: %s", output->part, strerror(errno));
+            fail("%s: %s", output->path, strerror(errno));
     }
     step("bytes are written");
 }

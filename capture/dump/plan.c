@@ -55,13 +55,32 @@ static void add_pages(struct plan *plan, pid_t witness, const struct mapping *ma
         add_run(plan, mapping, start, start + PAGE);
 }
 
-/* A mapping whose pages are not asked for one by one. */
-static void add_whole(struct plan *plan, const struct mapping *mapping)
+static void add_missing(struct plan *plan, const struct mapping *mapping)
 {
-    if (mapping->kind == KERNEL_CODE && mapping->end - mapping->start <= MOST_OF_VDSO)
-        add_run(plan, mapping, mapping->start, mapping->end);
-    if (mapping->kind == SHARED_FILE && mapping->flags & PF_W)
+    if (mapping->flags & PF_W)
         add_segment(plan, (struct segment){ mapping->start, mapping->end, 0, mapping->flags, true });
+}
+
+/* Adds what the core has of a mapping, whose regions begin with `first`. */
+static void add_mapping(struct plan *plan, pid_t witness, const struct mapping *mapping, const struct region *first,
+                        const struct region *end)
+{
+    bool has_pages = first < end && first->start < mapping->end;
+
+    if (mapping->kind == NOT_MEMORY)
+        return;
+    if (mapping->kind == KERNEL_CODE) {
+        if (mapping->end - mapping->start <= MOST_OF_VDSO)
+            add_run(plan, mapping, mapping->start, mapping->end);
+        return;
+    }
+    /* What the kernel shares is all there, but an older one shows no page of it. */
+    if (mapping->kind == SHARED_FILE || (mapping->kind == KERNEL_OBJECT && !has_pages)) {
+        add_missing(plan, mapping);
+        return;
+    }
+    for (const struct region *r = first; r < end && r->start < mapping->end; r++)
+        add_pages(plan, witness, mapping, r);
 }
 
 struct plan make_plan(pid_t witness, const struct maps *maps, const struct regions *regions)
@@ -70,17 +89,10 @@ struct plan make_plan(pid_t witness, const struct maps *maps, const struct regio
     const struct region *region = regions->list, *end = region + regions->count;
 
     for (const struct mapping *m = maps->list; m < maps->list + maps->count; m++) {
-        bool by_pages = m->kind == ANONYMOUS || m->kind == PRIVATE_FILE || m->kind == SHARED_MEMORY;
-        if (is_hidden(maps, m->start))
-            continue;
-        if (!by_pages) {
-            add_whole(&plan, m);
-            continue;
-        }
         while (region < end && region->end <= m->start)
             region++;
-        for (const struct region *r = region; r < end && r->start < m->end; r++)
-            add_pages(&plan, witness, m, r);
+        if (!is_hidden(maps, m->start))
+            add_mapping(&plan, witness, m, region, end);
     }
     step("the segments are planned");
     return plan;
