@@ -78,6 +78,16 @@ const struct arena *arena_at(const struct heap *heap, uint64_t start)
     return heap->arena_count ? by_top(heap, start + (heap->arenas[0].top_at - heap->arenas[0].start)) : NULL;
 }
 
+/* The arena that tells one process from another: the main arena of the C library that was mapped first, which is at the highest address. */
+const struct arena *main_arena(const struct heap *heap)
+{
+    size_t i = heap->arena_count - 1;
+
+    while (i && heap->arenas[i].first_heap)
+        i--;
+    return heap->arenas + i;
+}
+
 /* Behind the arena's own words. */
 uint64_t end_of(const struct arena *arena)
 {

@@ -158,7 +158,7 @@ int main(int count, char **words)
     walk(&heap);
     if (earlier) {
         old = read_old_log(earlier);
-        if (old.arena != heap.arenas[0].start)
+        if (!arena_at(&heap, old.arena) || arena_at(&heap, old.arena)->first_heap)
             fail("%s: the earlier log is of another process", earlier);
         write_old_log(&heap, &old);
     } else {

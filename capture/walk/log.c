@@ -69,7 +69,7 @@ struct totals write_log(struct heap *heap, const struct old_log *old)
 {
     struct writer w = { .visitor = { put_block, put_unused }, .heap = heap, .old = old };
 
-    put_hex("= leak_walk arena 0x", heap->arenas[0].start);
+    put_hex("= leak_walk arena 0x", main_arena(heap)->start);
     put_text("\n");
     visit(heap, &w.visitor);
     return w.totals;

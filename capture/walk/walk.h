@@ -119,6 +119,7 @@ const struct part *part_of(struct core *core, uint64_t address);
 /* arenas.c */
 void find_arenas(struct heap *heap);
 const struct arena *arena_at(const struct heap *heap, uint64_t start);
+const struct arena *main_arena(const struct heap *heap);
 uint64_t end_of(const struct arena *arena);
 
 /* chain.c */
@@ -167,7 +168,7 @@ struct old_block {
 struct old_log {
     const uint8_t *bytes;
     uint64_t size;
-    uint64_t arena;             /* the first arena of its process */
+    uint64_t arena;             /* the main arena of its process */
     struct old_block *list;     /* live blocks by ascending start */
     size_t count;
 };

@@ -1,0 +1,199 @@
+# leak_walk: known and real programs, each dumped once under leak_trace, whose table must have the same blocks as the heap; programs stopped at
+# any moment; damaged heaps; what is refused; and leaks of programs that nobody prepared.
+section the heap itself
+build walk_leaks.c
+build walk_storm.c
+build walk_types.cc
+build walk_none.c
+walk=$kit/leak_walk
+
+# walked NAME [MORE]: the log of the heap of NAME.core against the table's log. So many blocks may be in the heap alone.
+walked() {
+    local said
+    limited 60 "$walk" "$1.core" > "$1.walk" 2> "$1.said"
+    verdict "$1: the heap is walked" 0 $?
+    said=$(python3 "$kit/tests/walk.py" "$1.log" "$1.walk" "${2:-0}")
+    verdict "$1: blocks of table and heap" 0 $?
+    echo "     $said"
+    verdict "$1: misfits" 'misfits 0' "$(find_leaks one --check "$1.core" "$1.walk" 2>&1 | grep '^misfits')"
+}
+
+# traced NAME PROGRAM..: runs it under leak_trace, with standard input held open, and compares.
+traced() {
+    local name=$1
+    shift
+    command -v "$1" > /dev/null || { leave_out "$1, which is not installed"; return; }
+    rm -f "$name.in" && mkfifo "$name.in"
+    (exec 3<> "$name.in"; exec "$kit/leak_trace" "$@" <&3 > "$name.out" 2>&1 3>&-) &
+    process=$!
+    started[$process]=1
+    settle $process
+    dump $process "$work/$name" && walked "$name"
+    stop $process
+    rm -f "$name.core" "$name.kernel"
+}
+
+if [ "$dumps" ]; then
+    [ -x plain ] || build plain.c
+    traced plain ./plain
+    traced walk_types ./walk_types
+    traced walk_leaks ./walk_leaks
+    traced perl perl -e 'my %h; $h{$_} = [1..5, "x" x $_] for 1..3000; for (1..3000) { delete $h{$_} if $_ % 3 } <STDIN>'
+    PYTHONMALLOC=malloc traced python /usr/bin/python3 -c 'import json, sys
+x = [json.loads(json.dumps({"a": [i] * 5})) for i in range(3000)]
+sys.stdin.readline()'
+    traced bash bash -c 'x=$(seq 10000); for i in 1 2 3; do y=${x//1/aa}; done; read z'
+    traced gawk gawk 'BEGIN { for (i = 0; i < 9999; i++) a[i "x"] = i * 2 "y"; n = asorti(a, b); getline x }'
+    traced gdb gdb -nx -q "$kit/leak_trace.so"
+fi
+
+# The kernel's core of a process that is killed, as it stands: NAME.core, and by its table NAME.log.
+section eight busy threads, killed at any moment
+storms=${STORMS:-10}
+[ "$dumps_core" ] || { leave_out 'cores of any moment: the kernel writes none here'; storms=0; }
+bad=0
+for _ in $(seq "$storms"); do
+    wait=0.$((RANDOM % 90 + 10)) start ./walk_storm 8
+    sleep 0.$((RANDOM % 90 + 10))
+    dump_killed $process "$work/busy"
+    limited 60 "$walk" --quiet busy.core > busy.walk 2> busy.said || { cat busy.said; bad=$((bad + 1)); }
+    # a thread has at most the block that malloc gave it, and the one that realloc or free is taking
+    python3 "$kit/tests/walk.py" busy.log busy.walk 16 > busy.compared || { cat busy.compared; bad=$((bad + 1)); }
+    sed -n 's/^both.*only in the walk \([0-9]*\).*/\1/p' busy.compared >> busy.more
+    find_leaks one --check busy.core busy.walk 2> busy.warned | awk '$1 == "misfits" && $2 > 0' >> busy.misfits
+    unset "started[$process]"
+done
+verdict "walks at $storms moments, with what the table has" 0 $bad
+[ -s busy.more ] && echo "     blocks in hand: $(sort -n busy.more | tr '\n' ' ')"
+verdict 'blocks that do not fit their core' '' "$(cat busy.misfits 2> /dev/null)"
+rm -f busy.core busy.kernel
+
+# unprepared PROGRAM..: runs it as it is, and gives its id in `process`.
+unprepared() {
+    rm -f in && mkfifo in
+    (exec 3<> in; exec "$@" <&3 > /dev/null 2>&1 3>&-) &
+    process=$!
+    started[$process]=1
+    settle $process
+}
+
+# core_of PID NAME: a core, by gdb or by killing the process.
+core_of() {
+    rm -f "$2.core" core core.*
+    if [ "$attaches" ]; then
+        limited 120 gdb -nx --batch -iex 'set auto-solib-add off' -iex 'set debuginfod enabled off' -p "$1" -ex "generate-core-file $2.core" -ex detach > "$2.gdb" 2>&1
+    else
+        { kill -ABRT "$1" && wait "$1"; } 2> /dev/null
+        mv "$(kernel_core)" "$2.core"
+    fi
+    [ -s "$2.core" ] || { verdict "dump $2" 'a core' none; return 1; }
+}
+
+# in_steps: sizes that are named, without the 16 bytes that malloc may leave at a block.
+in_steps() { tr ' ' '\n' | awk 'NF { print $1 % 32 == 8 ? $1 - 16 : $1 }' | sort -n | tr '\n' ' '; }
+
+section leaks of programs that nobody prepared
+if [ "$dumps" ]; then
+    unprepared ./walk_leaks
+    core_of $process leaks
+    stop $process
+    "$walk" leaks.core > leaks.log 2> leaks.said
+    verdict 'what is said' 1 "$(grep -cE '^leak_walk: [0-9]+ blocks of [0-9]+ bytes in use; [0-9]+ arenas; [0-9]+ free chunks of [0-9]+ bytes$' leaks.said)"
+    verdict 'nothing more is said' 1 "$(wc -l < leaks.said)"
+    verdict 'with --quiet nothing' '' "$("$walk" --quiet leaks.core 2>&1 > quiet.log)"
+    verdict 'the same log' "$(md5sum < leaks.log)" "$(md5sum < quiet.log)"
+    find_leaks one --check --skip-freed --skip-links leaks.core leaks.log > leaks.report 2>&1
+    verdict 'named of four threads' "$(expected "$kit/tests/walk_leaks.c")" "$(named leaks.report | in_steps)"
+    verdict 'their heads' 'heads 4' "$(grep '^heads' leaks.report)"
+    verdict 'misfits' 'misfits 0' "$(grep '^misfits' leaks.report)"
+
+    unprepared ./walk_types
+    core_of $process types
+    stop $process
+    "$walk" --quiet types.core > types.log
+    find_leaks one --skip-freed --skip-links types.core types.log > types.report 2>&1
+    verdict 'objects that are lost' "$(expected "$kit/tests/walk_types.cc")" "$(named types.report)"
+    "$kit/leak_lines" types.report > types.lines
+    verdict 'their classes' 'shapes::many<long> shapes::square' "$(awk '/walk_types:\[/ && !/^leak/ { print $4 }' types.lines | sort | tr '\n' ' ' | sed 's/ $//')"
+
+    gcc -O1 -g -pthread -static "$kit/tests/walk_leaks.c" -o static_leaks 2> static.cc && unprepared ./static_leaks && core_of $process static
+    stop $process
+    "$walk" --quiet static.core > static.log
+    verdict 'a static program: walked' 0 $?
+    find_leaks one --check --skip-freed --skip-links static.core static.log > static.report 2>&1
+    verdict 'a static program: named' "$(expected "$kit/tests/walk_leaks.c")" "$(named static.report | in_steps)"
+    rm -f static.core types.core
+fi
+
+section two moments of one process
+if [ "$attaches" ]; then
+    unprepared ./walk_leaks later
+    core_of $process first
+    "$walk" --quiet first.core > first.log
+    echo > in
+    settle $process
+    core_of $process second
+    stop $process
+    "$walk" --quiet --after first.log second.core > second.log
+    verdict 'the later log' 0 $?
+    verdict 'begins with the earlier one' same "$(cmp -n "$(stat -c %s first.log)" first.log second.log && echo same)"
+    "$walk" --quiet second.core > alone.log
+    verdict 'has the blocks of the later core' "$(find_leaks one second.core alone.log 2>&1 | head -n 1)" "$(find_leaks one second.core second.log 2>&1 | head -n 1)"
+    find_leaks one --check --skip-freed --skip-links second.core second.log > later.report 2>&1
+    verdict 'named of the later core' "$(expected "$kit/tests/walk_leaks.c")312 344 376 408 " "$(named later.report | in_steps)"
+    verdict 'give-backs of no block, and blocks over others' 'unknown 0 displaced 0 torn 0' "$(grep '^unknown' later.report)"
+    find_leaks two --skip-freed --skip-links first.core first.log second.core second.log > pair.report 2>&1
+    verdict 'named of the pair' "$(expected "$kit/tests/walk_leaks.c")" "$(named pair.report | in_steps)"
+    "$walk" --after leaks.log second.core 2>&1 > stranger.log | grep -q 'leaks.log: the earlier log is of another process$'
+    verdict 'the log of another process' '0 0' "${PIPESTATUS[1]} $(wc -c < stranger.log)"
+    head -c 1000 first.log > cut.log
+    verdict 'a log that is cut off' 'leak_walk: cut.log: the log ends in the middle of a line' "$("$walk" --after cut.log second.core 2>&1)"
+    rm -f second.core
+else
+    leave_out 'two dumps of one process: gdb may not attach'
+fi
+
+# refused NAME WHY WORD..: leak_walk ends with 2, one line that has WHY, and no output.
+refused() {
+    local name=$1 why=$2 status
+    shift 2
+    limited 60 "$walk" "$@" > refused.out 2> refused.said
+    status=$?
+    verdict "refused: $name" "2, 0 bytes, 1 line: $why" "$status, $(wc -c < refused.out) bytes, $(wc -l < refused.said) line: $(grep -oF -- "$why" refused.said | head -n 1)"
+}
+
+section what is refused
+refused 'no core' 'not a core file of x86-64' "$kit/README.md"
+refused 'no file' 'No such file or directory' none.core
+refused 'a folder' 'No such device' .
+refused 'no argument' 'usage: leak_walk'
+refused 'two arguments' 'usage: leak_walk' a b
+refused 'no option' 'usage: leak_walk' --other a
+if [ "$dumps" ]; then
+    unprepared ./walk_none
+    core_of $process none
+    stop $process
+    refused 'a program that never calls malloc' 'malloc was never called; start the program by leak_trace' none.core
+    head -c $(($(stat -c %s leaks.core) / 2)) leaks.core > cut.core
+    refused 'a core that is cut off' 'the core is cut off' cut.core
+    refused 'no log of leak_walk' 'not a log of leak_walk' --after "$kit/README.md" leaks.core
+    "$walk" --quiet leaks.core > /dev/full 2> full.said
+    verdict 'a full disk' '2 leak_walk: standard output: No space left on device' "$? $(cat full.said)"
+
+    section damaged heaps
+    while read -r what why; do
+        read -r chunk < <(python3 "$kit/tests/walk_damage.py" leaks.core leaks.log damaged.core $what)
+        refused "damaged: $what" "$why" damaged.core
+        verdict "damaged: $what: it says where" 1 "$(grep -c "$chunk" refused.said)"
+        limited 60 "$walk" --partial damaged.core > partial.log 2> partial.said
+        verdict "damaged: $what: partial" 1 $?
+        verdict "damaged: $what: what is left out" 1 "$(grep -c 'the log is not complete: [1-9][0-9]* bytes of the heap are left out$' partial.said)"
+        python3 "$kit/tests/walk.py" partial.log leaks.log 99999 > partial.compared
+        verdict "damaged: $what: no block but right ones" 'only in the table 0, odd sizes 0, freed over live 0' "$(sed -n 's/^both [0-9]*, //; s/only in the walk [0-9]*, //p' partial.compared)"
+        verdict "damaged: $what: the right log has misfits" yes "$(find_leaks one --check damaged.core leaks.log 2> damaged.warned | awk '$1 == "misfits" { print ($2 > 0 ? "yes" : "no") }')"
+    done << 'END'
+main breaks after
+thread breaks after
+END
+    rm -f damaged.core cut.core leaks.core first.core
+fi

@@ -1,0 +1,3 @@
+/* Never calls malloc. */
+#include "lose.h"
+int main(void) { rest(); }
