@@ -1,6 +1,6 @@
 -- The note entries of a part (elf(5), Linux cores): three numbers of 32 bits, then the name and the descriptor,
 -- each padded to a multiple of 4 bytes counted from its own start. Which of them have register words, and which words.
-use Rattle.std.specs.Prelude.{ℕ, zero, suc, ◌+◌, ◌*◌, ◌/◌, min, Bool, not, ◌&&◌, ◌||◌, List, [], ◌∷◌, length, drop, map, ◌==◌, nat_lt, if◌then◌else◌, bytes_eq, slice_range}
+use Rattle.std.specs.Prelude.{ℕ, zero, suc, ◌+◌, ◌-◌, ◌*◌, ◌/◌, min, Bool, not, ◌&&◌, ◌||◌, List, [], ◌∷◌, length, drop, map, ◌==◌, nat_lt, if◌then◌else◌, bytes_eq, slice_range}
 use Rattle.std.specs.Int.{w32, w64}
 use Rattle.std.specs.List.{range_with_len}
 use Rattle.leak_elf.specs.Fields.{number_at}
@@ -45,7 +45,7 @@ following e = record { offset = e.offset + entry_size e; bytes = drop (entry_siz
 abbrev pub is_cut : Entry → Bool
 is_cut e = nat_lt (length e.bytes) 12 || nat_lt (length e.bytes) (desc_at e + desc_size e)
 
--- the name of Linux's register sets: `CORE` with a zero byte after it
+-- the name of Linux's first register sets: `CORE` with a zero byte after it
 abbrev pub is_core : Entry → Bool
 is_core e = bytes_eq (name e) (0x43 ∷ 0x4f ∷ 0x52 ∷ 0x45 ∷ 0 ∷ [])
 
@@ -53,9 +53,17 @@ is_core e = bytes_eq (name e) (0x43 ∷ 0x4f ∷ 0x52 ∷ 0x45 ∷ 0 ∷ [])
 abbrev pub is_status : Entry → Bool
 is_status e = (kind e == 1) && is_core e
 
+-- the name of register sets that Linux added later: `LINUX` with a zero byte after it
+abbrev pub is_linux : Entry → Bool
+is_linux e = bytes_eq (name e) (0x4c ∷ 0x49 ∷ 0x4e ∷ 0x55 ∷ 0x58 ∷ 0 ∷ [])
+
 -- a vector entry: type NT_FPREGSET
 abbrev pub is_vector : Entry → Bool
 is_vector e = (kind e == 2) && is_core e
+
+-- a state entry: type NT_X86_XSTATE
+abbrev pub is_state : Entry → Bool
+is_state e = (kind e == 0x202) && is_linux e
 
 -- Linux's struct elf_prstatus has 336 bytes
 abbrev pub has_other_status_size : Entry → Bool
@@ -73,13 +81,25 @@ words_from bytes at count = map (λ i. number_at w64 bytes (at + 8 * i)) (range_
 abbrev pub words_of_status : List ℕ → List ℕ
 words_of_status status = words_from status 112 27
 
--- xmm0 to xmm15 in the FXSAVE area (Intel SDM): 16 bytes each from byte 160 on, the lower half first
+-- the registers in the FXSAVE area (Intel SDM): the eight of x87 and MMX from byte 32 on and then xmm0 to xmm15, 16 bytes each,
+-- the lower half first
 abbrev pub words_of_vector : List ℕ → List ℕ
-words_of_vector vector = words_from vector 160 32
+words_of_vector vector = words_from vector 32 48
+
+-- how many words of 8 bytes stand whole in a state entry of that size, from byte 576 on
+abbrev pub state_words : ℕ → ℕ
+state_words size = (size - 576) / 8
+
+-- the XSAVE area in its standard form (Intel SDM volume 1, chapter 13) behind its header, which ends at byte 576: the upper halves
+-- of ymm0 to ymm15, then what the processor has more. Below 512 it repeats the FXSAVE area
+abbrev pub words_of_state : List ℕ → List ℕ
+words_of_state state = words_from state 576 (state_words (length state))
 
 -- the register words of an entry
 abbrev pub words_of_entry : Entry → List ℕ
-words_of_entry e = if is_status e then words_of_status (desc e) else (if is_vector e then words_of_vector (desc e) else [])
+words_of_entry e =
+    if is_status e then words_of_status (desc e)
+    else (if is_vector e then words_of_vector (desc e) else (if is_state e then words_of_state (desc e) else []))
 
 -- The entries from one on, up to the part's end or to an entry that is cut off, which is the last. An entry that
 -- is not cut off has at least 12 bytes, so there are no more entries than bytes: `most` need not be larger.

@@ -1,5 +1,5 @@
 -- Worked answers: each changes the sample core in one way.
-use Rattle.std.specs.Prelude.{◌≡◌, ℕ, List, [], ◌∷◌, replicate, Some, None, slice_index}
+use Rattle.std.specs.Prelude.{◌≡◌, ℕ, ◌+◌, List, [], ◌∷◌, ◌++◌, replicate, Some, None, slice_index}
 use Rattle.std.specs.Int.{w32, w64, to_le_bytes}
 use Rattle.leak_elf.specs.Sample.{sample, patched}
 use Rattle.leak_notes.specs.declared.error.NoteError.TheVariants.{Cut, StatusSize, VectorSize, NoThread}
@@ -10,6 +10,16 @@ abbrev pub with_vectors : List ℕ
 with_vectors =
     patched (patched sample 96 (to_le_bytes w64 888)) 532
     (5 ∷ 0 ∷ 0 ∷ 0 ∷ 0 ∷ 2 ∷ 0 ∷ 0 ∷ 2 ∷ 0 ∷ 0 ∷ 0 ∷ 0x43 ∷ 0x4f ∷ 0x52 ∷ 0x45 ∷ [])
+
+-- the sample with a state entry of that size after its thread status: its descriptor begins at 552
+abbrev pub with_state : ℕ → List ℕ
+with_state size =
+    patched (patched (patched sample 96 (to_le_bytes w64 (376 + size))) 532 (6 ∷ 0 ∷ 0 ∷ 0 ∷ [])) 536
+    (to_le_bytes w32 size ++ (2 ∷ 2 ∷ 0 ∷ 0 ∷ 0x4c ∷ 0x49 ∷ 0x4e ∷ 0x55 ∷ 0x58 ∷ 0 ∷ []))
+
+-- with the address of a block at the place in the descriptor
+abbrev pub with_state_word : ℕ → ℕ → List ℕ
+with_state_word size at = patched (with_state size) (552 + at) (to_le_bytes w64 0x10100)
 
 pub record AreAnswers : Type 0 where
   pub accepted : note_fault_of sample ≡ None
@@ -24,11 +34,22 @@ pub record AreAnswers : Type 0 where
   pub zero : registers_of sample ≡ replicate 27 0
   pub rbx : slice_index (registers_of (patched sample 348 (to_le_bytes w64 0x10100))) 5 ≡ 0x10100
   pub vectors_accepted : note_fault_of with_vectors ≡ None
-  pub vectors : threads_of with_vectors ≡ record { registers = replicate 59 0; threads = 1 }
-  pub first_high : slice_index (registers_of (patched with_vectors 720 (to_le_bytes w64 0x10100))) 28 ≡ 0x10100
-  pub last_high : slice_index (registers_of (patched with_vectors 960 (to_le_bytes w64 0x10100))) 58 ≡ 0x10100
-  pub before_the_first : registers_of (patched with_vectors 552 (to_le_bytes w64 0x10100)) ≡ replicate 59 0
-  pub behind_the_last : registers_of (patched with_vectors 968 (to_le_bytes w64 0x10100)) ≡ replicate 59 0
+  pub vectors : threads_of with_vectors ≡ record { registers = replicate 75 0; threads = 1 }
+  pub first_low : slice_index (registers_of (patched with_vectors 584 (to_le_bytes w64 0x10100))) 27 ≡ 0x10100
+  pub first_high : slice_index (registers_of (patched with_vectors 720 (to_le_bytes w64 0x10100))) 44 ≡ 0x10100
+  pub last_high : slice_index (registers_of (patched with_vectors 960 (to_le_bytes w64 0x10100))) 74 ≡ 0x10100
+  pub before_the_first : registers_of (patched with_vectors 576 (to_le_bytes w64 0x10100)) ≡ replicate 75 0
+  pub behind_the_last : registers_of (patched with_vectors 968 (to_le_bytes w64 0x10100)) ≡ replicate 75 0
   pub vector_size : note_fault_of (patched (patched with_vectors 96 (to_le_bytes w64 884)) 536 (to_le_bytes w32 508)) ≡ Some (VectorSize 532)
   pub vectors_alone : note_fault_of (patched with_vectors 184 (6 ∷ [])) ≡ Some NoThread
   pub status_as_vectors : note_fault_of (patched sample 184 (2 ∷ [])) ≡ Some (VectorSize 176)
+  pub state : threads_of (with_state 590) ≡ record { registers = replicate 28 0; threads = 1 }
+  pub state_without_words : threads_of (with_state 580) ≡ record { registers = replicate 27 0; threads = 1 }
+  pub short_state_accepted : note_fault_of (with_state 0) ≡ None
+  pub state_header : registers_of (with_state_word 590 568) ≡ replicate 28 0
+  pub state_first : slice_index (registers_of (with_state_word 584 576)) 27 ≡ 0x10100
+  pub state_last : slice_index (registers_of (with_state_word 608 600)) 30 ≡ 0x10100
+  pub state_last_of_many : slice_index (registers_of (with_state_word 2696 2688)) 291 ≡ 0x10100
+  pub state_partial : registers_of (with_state_word 590 582) ≡ replicate 27 0 ++ (0x0100000000000000 ∷ [])
+  pub state_of_another_name :
+      registers_of (patched (patched (with_state_word 590 576) 532 (5 ∷ [])) 544 (0x43 ∷ 0x4f ∷ 0x52 ∷ 0x45 ∷ 0 ∷ 0 ∷ [])) ≡ replicate 27 0

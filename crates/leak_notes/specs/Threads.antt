@@ -1,5 +1,5 @@
--- The register words of a core, of its thread statuses (Linux's struct elf_prstatus) and of its vector entries
--- (Linux's NT_FPREGSET), and the first reason against its notes.
+-- The register words of a core, of its thread statuses (Linux's struct elf_prstatus), its vector entries (Linux's
+-- NT_FPREGSET) and its state entries (Linux's NT_X86_XSTATE), and the first reason against its notes.
 use Rattle.std.specs.Prelude.{◌≡◌, ℕ, Bool, ◌+◌, List, [], ◌∷◌, ◌++◌, length, filter, ◌==◌, Option, None, flat_map}
 use Rattle.leak_elf.specs.declared.segment.NotePart.{NotePart}
 use Rattle.leak_elf.specs.Refusals.{first_fault}
@@ -25,7 +25,7 @@ entries_of_parts file parts = flat_map (λ part. entries_from (first_entry file 
 abbrev pub entries : List ℕ → List Entry
 entries file = entries_of_parts file (note_parts_of file)
 
--- the register words of the thread statuses and of the vector entries among entries, in the order of the entries
+-- the register words of the thread statuses, vector entries and state entries among entries, in the order of the entries
 abbrev pub words_of_entries : List Entry → List ℕ
 words_of_entries es = flat_map words_of_entry es
 

@@ -3,7 +3,7 @@
 ghost use Rattle.std.specs.Prelude.{◌≡◌, ◌+◌, ◌<◌, ◌≤◌, ◌^◌, length, IsTrue, IsFalse, ◌↔◌, []};
 ghost use Rattle.std.specs.Int.{w32};
 ghost use Rattle.leak_elf.specs.Fields.{number_at};
-ghost use Rattle.leak_notes.specs.Entry.{name_size, desc_size, kind, padded, name, desc_at, desc, entry_size, following, is_cut, is_core, is_status, is_vector};
+ghost use Rattle.leak_notes.specs.Entry.{name_size, desc_size, kind, padded, name, desc_at, desc, entry_size, following, is_cut, is_core, is_linux, is_status, is_vector, is_state};
 
 use byteorder::{ByteOrder, LittleEndian};
 use std::marker::Model;
@@ -17,8 +17,14 @@ const NT_PRSTATUS: u32 = 1;
 /// The type of a vector entry.
 const NT_FPREGSET: u32 = 2;
 
+/// The type of a state entry.
+const NT_X86_XSTATE: u32 = 0x202;
+
 /// The name of a thread status and of a vector entry.
 const CORE: &[u8] = b"CORE\0";
+
+/// The name of a state entry.
+const LINUX: &[u8] = b"LINUX\0";
 
 /// The size with its padding to a multiple of 4 bytes.
 fn pad(size: usize) -> usize
@@ -120,12 +126,20 @@ impl<'a> Entry<'a> {
         u32_at(self.bytes, 8)
     }
 
-    /// If it has the name of Linux's register sets.
+    /// If it has the name of Linux's first register sets.
     fn is_core(&self) -> bool
         requires { IsFalse (is_cut self.now) }
         ensures { result ≡ is_core self.now }
     {
         &self.bytes[FIELDS_SIZE..FIELDS_SIZE + self.name_size()] == CORE
+    }
+
+    /// If it has the name of register sets that Linux added later.
+    fn is_linux(&self) -> bool
+        requires { IsFalse (is_cut self.now) }
+        ensures { result ≡ is_linux self.now }
+    {
+        &self.bytes[FIELDS_SIZE..FIELDS_SIZE + self.name_size()] == LINUX
     }
 
     /// If it is a thread status.
@@ -142,6 +156,14 @@ impl<'a> Entry<'a> {
         ensures { result ≡ is_vector self.now }
     {
         self.kind() == NT_FPREGSET && self.is_core()
+    }
+
+    /// If it is a state entry.
+    pub(crate) fn is_state(&self) -> bool
+        requires { IsFalse (is_cut self.now) }
+        ensures { result ≡ is_state self.now }
+    {
+        self.kind() == NT_X86_XSTATE && self.is_linux()
     }
 
     /// Its descriptor.

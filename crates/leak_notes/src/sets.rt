@@ -5,6 +5,7 @@ ghost use Rattle.leak_notes.specs.Threads.{entries};
 ghost use Rattle.leak_notes.specs.Sets.{set_of, sets_of};
 
 use crate::entry::Entry;
+use crate::state::state_words;
 use leak_elf::Image;
 use std::alloc::{AllocError, Global};
 
@@ -13,8 +14,11 @@ use std::alloc::{AllocError, Global};
 pub enum RegisterSet {
     /// The 27 of a thread status, r15 the first.
     Status,
-    /// The 32 halves of xmm0 to xmm15 of a vector entry, of each the lower half first.
+    /// The 48 halves of a vector entry: those of the eight x87 or MMX registers, then those of xmm0 to xmm15, of each the lower
+    /// half first.
     Vector,
+    /// So many words of a state entry, the one at byte 576 of its descriptor the first.
+    State(u32),
 }
 
 /// The sets that the register words of a core are of, in the order of [`Threads::registers`](crate::Threads::registers).
@@ -57,6 +61,8 @@ fn set_of(entry: &Entry) -> Option<RegisterSet>
         Some(RegisterSet::Status)
     } else if entry.is_vector() {
         Some(RegisterSet::Vector)
+    } else if entry.is_state() {
+        Some(RegisterSet::State(state_words(entry.desc_size()) as u32))
     } else {
         None
     }

@@ -6,6 +6,7 @@ ghost use Rattle.leak_notes.specs.Threads.{Registers, TakesUp, first_fault_among
 
 use crate::entry::Entry;
 use crate::error::NoteError;
+use crate::state::push_state;
 use crate::status::{STATUS_SIZE, push_registers};
 use crate::vector::{VECTOR_SIZE, push_vectors};
 use leak_elf::Image;
@@ -49,6 +50,8 @@ impl Threads {
                 return Err(NoteError::VectorSize(entry.offset()));
             }
             push_vectors(&mut self.words, entry.desc())?;
+        } else if entry.is_state() {
+            push_state(&mut self.words, entry.desc())?;
         }
         Ok(())
     }
@@ -98,7 +101,8 @@ impl Threads {
         self.count
     }
 
-    /// The register words: 27 a thread status and 32 a vector entry, in the order of the notes.
+    /// The register words: 27 a thread status, 48 a vector entry, and of a state entry those from byte 576 on, in the order of the
+    /// notes.
     pub fn registers(&self) -> &[u64]
         ensures { result.now ≡ self.now.registers }
     {

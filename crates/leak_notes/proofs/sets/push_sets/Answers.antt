@@ -1,7 +1,4 @@
-use Rattle.std.proofs.Common.{◌≡◌, ◌++◌, ◌∷◌, [], List, Some, None, ap, sym, ◌∙◌, append-nil}
-use Rattle.leak_notes.specs.declared.sets.RegisterSet.{RegisterSet}
-use Rattle.leak_notes.specs.Entry.{entries_from}
-use Rattle.leak_notes.specs.Sets.{sets_of, set_of}
+use Rattle.std.proofs.Common.{◌++◌, ap, sym, ◌∙◌, append-nil}
 use Rattle.leak_notes.proofs.SetLemmas.{added, entry_more, entry_end, entry_cut}
 use Rattle.leak_notes.proofs.sets.push_sets.Goals as goal
 use Rattle.leak_notes.proofs.sets.push_sets.Goals.{in-Some+in_ok-push, in_default}

@@ -1,7 +1,6 @@
-use Rattle.std.proofs.Common.{◌≡◌, ◌<◌, ◌++◌, List, length, ap, ◌∙◌}
+use Rattle.std.proofs.Common.{◌<◌, ◌++◌, List, length, ap, ◌∙◌}
 use Rattle.leak_elf.specs.declared.segment.NotePart.{NotePart}
 use Rattle.leak_elf.specs.Segments.{note_parts_of}
-use Rattle.leak_notes.specs.declared.sets.RegisterSet.{RegisterSet}
 use Rattle.leak_notes.specs.Entry.{Entry}
 use Rattle.leak_notes.specs.Sets.{sets_of}
 use Rattle.leak_notes.proofs.Parts.{part_read}
