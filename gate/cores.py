@@ -135,11 +135,40 @@ def second_thread(r15):
 
 
 def vectors():
-    """A vector entry (type 2, 512 bytes) at 532: its xmm0 stands at 712, and xmm15 ends at 968."""
+    """A vector entry (type 2, 512 bytes) at 532: its st0 stands at 584, its xmm0 at 712, and xmm15 ends at 968."""
     def change(image):
         notes(888)(image)
-        image[532:552] = little(5, 4) + little(512, 4) + little(2, 4) + b"CORE\0\0\0\0"
+        image[532:552] = fields(b"CORE", 512, 2)
     return change
+
+
+def fields(name, size, kind):
+    """The fields and the name of an entry of notes. The name has 4 to 7 bytes, a NUL after them and its padding."""
+    return little(len(name) + 1, 4) + little(size, 4) + little(kind, 4) + name.ljust(8, b"\0")
+
+
+def state(size, name=b"LINUX", kind=0x202):
+    """A state entry of so many bytes at 532: its descriptor begins at 552."""
+    def change(image):
+        notes(376 + size)(image)
+        image[532:552] = fields(name, size, kind)
+    return change
+
+
+def threads(count, size):
+    """So many threads, each with a status, a vector entry and a state entry of so many bytes, in a part behind the segment."""
+    def change(image):
+        zeros = status_entry() + fields(b"CORE", 512, 2) + bytes(512) + fields(b"LINUX", size, 0x202) + bytes(size)
+        image[72:80] = little(SIZE)
+        notes(count * len(zeros))(image)
+        image[SIZE:] = count * zeros
+    return change
+
+
+def in_thread(number, size, kind, offset):
+    """Where a byte of a descriptor stands, with `threads`: of the thread with the number from 1, by the kind of its entry."""
+    begins = {"status": 20, "vector": 376, "state": 908}[kind]
+    return SIZE + (number - 1) * (908 + size) + begins + offset
 
 
 def section_count(offset, count):

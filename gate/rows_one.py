@@ -5,7 +5,7 @@ They are run with --other-heap, since the sample has no heap of glibc's: so ther
 
 from case import by_plans, one
 from cores import (ONE_BLOCK, TWO_BLOCKS, chain, core, core_of_three, dumped, header, raw, rbx, read_only,
-                   second_thread, section_count, star, vectors, at, little, word, words)
+                   second_thread, section_count, star, state, vectors, at, little, word, words)
 from texts import all_marked, displaced, held, lost, no_block, report, torn, unknown
 
 NOTHING = report((0, 0), (0, 0), (0, 0), 0)
@@ -105,12 +105,25 @@ def of_callers():
 
 
 def of_vectors():
-    """A word in the vector entry, beside its registers and in them: xmm0 stands at 712, and xmm15 ends at 968."""
-    rows = [("low half of xmm0", 712, held()), ("high half of xmm0", 720, held()), ("low half of xmm15", 952, held()),
-            ("high half of xmm15", 960, held()), ("before xmm0", 704, lost()), ("after xmm15", 968, lost()),
-            ("first word of the entry", 552, lost())]
-    return [one(f"vector registers: {name}", "only xmm0 to xmm15 are roots",
+    """A word in the vector entry, beside its registers and in them: st0 stands at 584, xmm0 at 712, and xmm15 ends at 968."""
+    rows = [("low half of st0", 584, held()), ("high half of st7", 704, held()), ("low half of xmm0", 712, held()),
+            ("high half of xmm0", 720, held()), ("low half of xmm15", 952, held()), ("high half of xmm15", 960, held()),
+            ("before st0", 576, lost()), ("after xmm15", 968, lost()), ("first word of the entry", 552, lost())]
+    return [one(f"vector registers: {name}", "only st0 to st7 and xmm0 to xmm15 are roots",
                 core(vectors(), at(place, little(0x10100))), ONE_BLOCK, answer) for name, place, answer in rows]
+
+
+def of_states():
+    """A word in the state entry, of several sizes: its header ends at 576, and a word counts where it stands whole."""
+    rows = [("first upper half of ymm0", state(2696), 576, held()), ("last upper half of ymm15", state(2696), 824, held()),
+            ("a word of AVX-512", state(2696), 1152, held()), ("the last word", state(2696), 2688, held()),
+            ("last word of the header", state(2696), 568, lost()), ("what it repeats of xmm0", state(2696), 160, lost()),
+            ("one word", state(584), 576, held()), ("one word and a part", state(590), 576, held()),
+            ("a part of a word", state(590), 584, lost()), ("no whole word", state(580), 576, lost()),
+            ("no byte", state(0), 576, lost()), ("another name", state(2696, name=b"CORE"), 576, lost()),
+            ("another type", state(2696, kind=0x203), 576, lost())]
+    return [one(f"state entry: {name}", "words from 576 on are roots", core(part, at(552 + offset, little(0x10100))),
+                ONE_BLOCK, answer) for name, part, offset, answer in rows]
 
 
 def of_headers():
@@ -180,5 +193,5 @@ def of_displacements():
 
 def cases():
     """All searches of one core, each by several plans."""
-    tables = (of_the_one_block, of_other_logs, of_odd_logs, of_callers, of_vectors, of_headers, of_options, of_displacements)
+    tables = (of_the_one_block, of_other_logs, of_odd_logs, of_callers, of_vectors, of_states, of_headers, of_options, of_displacements)
     return by_plans(case for table in tables for case in table())

@@ -1,7 +1,8 @@
 """Questions what holds a block: the examples of docs/EXAMPLES.md, their roots by name, and what is refused."""
 
 from case import refused, why
-from cores import ONE_BLOCK, TWO_BLOCKS, at, chain, core, field, first, little, rbx, second_thread, vectors, word, words
+from cores import (ONE_BLOCK, TWO_BLOCKS, at, chain, core, field, first, in_thread, little, rbx, second_thread, state, threads,
+                   vectors, word, words)
 
 ONE = "0x10100 32 1 ./a.out:[0x401136]"
 FOUR = "+ 0x10100 0x20\n+ 0x10200 0x20\n+ 0x10300 0x20\n+ 0x10400 0x20\n"
@@ -77,15 +78,31 @@ def of_registers():
         image = core(at(308 + 8 * number, little(0x10100)))
         found.append(why(f"why: register {name}", "its place in a thread status", image, ONE_BLOCK, "0x10100",
                          directly(ONE, f"{name} of thread 1", 0x10100)))
-    for number in range(32):
-        name = f"xmm{number // 2} {'high' if number % 2 else 'low'}"
-        image = core(vectors(), at(712 + 8 * number, little(0x10100)))
+    halves = [f"{kind}{number} {half}" for kind, count in (("st", 8), ("xmm", 16)) for number in range(count)
+              for half in ("low", "high")]
+    for number, name in enumerate(halves):
+        image = core(vectors(), at(584 + 8 * number, little(0x10100)))
         found.append(why(f"why: register {name}", "its place in a vector entry", image, ONE_BLOCK, "0x10100",
                          directly(ONE, f"{name} of thread 1", 0x10100)))
+    for offset in (576, 704, 824, 1152, 2688):
+        image = core(state(2696), at(552 + offset, little(0x10100)))
+        found.append(why(f"why: word {offset} of a state entry", "it has no other name", image, ONE_BLOCK, "0x10100",
+                         directly(ONE, f"state {offset} of thread 1", 0x10100)))
+    found += of_threads()
     second = why("why: register of a second thread", "the second status is that of thread 2", core(second_thread(0x10100)),
                  ONE_BLOCK, "0x10100",
                  directly(ONE, "r15 of thread 2", 0x10100))
     return [*found, second]
+
+
+def of_threads():
+    """Words of three threads that have all kinds of entries: they are of the thread whose status came last."""
+    rows = [("status", 112, "r15"), ("status", 320, "gs"), ("vector", 32, "st0 low"), ("vector", 408, "xmm15 high"),
+            ("state", 576, "state 576"), ("state", 832, "state 832")]
+    return [why(f"why: {name} of thread {number} of three", "entries stand in the order of the threads",
+                core(threads(3, 840), at(in_thread(number, 840, kind, offset), little(0x10100))), ONE_BLOCK, "0x10100",
+                directly(ONE, f"{name} of thread {number}", 0x10100))
+            for number in (1, 2, 3) for kind, offset, name in rows]
 
 
 def of_options():
