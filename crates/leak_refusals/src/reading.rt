@@ -48,7 +48,7 @@ pub(crate) fn vectors(alloc: Global) -> Option<Answer> {
     let core = vector_core(alloc)?;
     let image = Image::read(alloc, core.as_slice()).ok()?;
     match Threads::read(alloc, &image) {
-        Ok(threads) => Some(Answer::of(threads.count() == 1 && threads.registers().len() == 59)),
+        Ok(threads) => Some(Answer::of(threads.count() == 1 && threads.registers().len() == 75)),
         Err(error) => Some(Answer::of_refusal(error == NoteError::NoMemory)),
     }
 }

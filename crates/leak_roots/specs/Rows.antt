@@ -16,7 +16,7 @@ span first last = record { first = first; last = last }
 pub record AreAnswers : Type 0 where
   pub without_blocks : length (root_words sample [] []) ≡ 539
   pub with_a_block : length (root_words sample (block 0x10100 0x20 ∷ []) []) ≡ 535
-  pub with_vector_registers : length (root_words with_vectors [] []) ≡ 571
+  pub with_vector_registers : length (root_words with_vectors [] []) ≡ 587
   pub within_a_span : is_freed (span 0x10100 0x1010b ∷ []) 0x10100 ≡ true
   pub half_within_a_span : is_freed (span 0x10100 0x1010b ∷ []) 0x10108 ≡ false
   pub within_two_spans : is_freed (span 0x10104 0x10107 ∷ span 0x10100 0x10103 ∷ []) 0x10100 ≡ true

@@ -17,12 +17,12 @@ fn vector_registers_are_root_words(rt: HostRuntime) -> Result<(), Fail> {
     let image = Image::read(rt.alloc(), core.as_slice())?;
     let threads = Threads::read(rt.alloc(), &image)?;
     same(&rt, threads.count(), 1);
-    same(&rt, threads.registers(), [0u64; 59].as_slice());
+    same(&rt, threads.registers(), [0u64; 75].as_slice());
     let roots = scene_of(rt.alloc(), core.as_slice(), "")?.roots;
     let mut words = roots.registers().len() as u64;
     for (from, to) in roots.memory() {
         words = words.saturating_add(to.saturating_sub(*from) / 8);
     }
-    same(&rt, words, 571);
+    same(&rt, words, 587);
     Ok(())
 }

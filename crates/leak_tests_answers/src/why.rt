@@ -32,15 +32,19 @@ fn told(
 }
 
 #[test]
-fn registers_of_a_second_thread_have_names(rt: HostRuntime) -> Result<(), Fail> {
+fn registers_of_two_threads_have_names(rt: HostRuntime) -> Result<(), Fail> {
     let sets = [
         RegisterSet::Status,
         RegisterSet::Vector,
+        RegisterSet::State(3),
         RegisterSet::Status,
     ];
     let cases = [
-        (RootPlace::Register(78), "rsp of thread 2"),
-        (RootPlace::Register(86), "? of thread 2"),
+        (RootPlace::Register(42), "st7 high of thread 1"),
+        (RootPlace::Register(43), "xmm0 low of thread 1"),
+        (RootPlace::Register(77), "state 592 of thread 1"),
+        (RootPlace::Register(97), "rsp of thread 2"),
+        (RootPlace::Register(105), "? of thread 2"),
     ];
     for (place, name) in cases {
         let root = RootWord {

@@ -71,11 +71,12 @@ fn vector_registers_are_roots(rt: HostRuntime) -> Result<(), Fail> {
         }
     }
     let all = roots(rt.alloc(), core.as_slice(), b"")?;
-    same(&rt, count(&all), 571);
-    same(&rt, all.registers().get(58).copied(), Some(7));
+    same(&rt, count(&all), 587);
+    same(&rt, all.registers().get(74).copied(), Some(7));
     let pieces = all.cut(rt.alloc(), 32)?;
     same(&rt, pieces.get(0).copied(), Some(Piece::Registers(0, 32)));
-    same(&rt, pieces.get(1).copied(), Some(Piece::Registers(32, 59)));
+    same(&rt, pieces.get(1).copied(), Some(Piece::Registers(32, 64)));
+    same(&rt, pieces.get(2).copied(), Some(Piece::Registers(64, 75)));
     Ok(())
 }
 

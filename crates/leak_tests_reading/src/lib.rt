@@ -23,6 +23,10 @@ mod notes;
 #[cfg(test)]
 mod note_vectors;
 
+// State entries.
+#[cfg(test)]
+mod note_states;
+
 // Lines of a log.
 #[cfg(test)]
 mod mtrace;

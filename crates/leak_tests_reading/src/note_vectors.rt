@@ -12,35 +12,37 @@ const VECTOR: &[u8] = b"\x05\0\0\0\0\x02\0\0\x02\0\0\0CORE\0\0\0\0";
 /// The size of a part of notes of a thread status and a vector entry.
 const BOTH: (usize, u64) = (96, 888);
 
-/// A vector entry after the thread status of the sample: xmm0 to xmm15 stand from 712 to 968.
+/// A vector entry after the thread status of the sample: st0 to st7 and xmm0 to xmm15 stand from 584 to 968.
 const SECOND: (usize, &[u8]) = (532, VECTOR);
 
 #[test]
-fn a_vector_entry_has_32_words_and_is_no_thread(rt: HostRuntime) -> Result<(), Fail> {
-    has_registers(&rt, rt.alloc(), &[BOTH], &[SECOND], 1, &[0; 59])
+fn a_vector_entry_has_48_words_and_is_no_thread(rt: HostRuntime) -> Result<(), Fail> {
+    has_registers(&rt, rt.alloc(), &[BOTH], &[SECOND], 1, &[0; 75])
 }
 
-/// File offsets of words in a vector entry, and the numbers of the registers that have them: 59 where none has.
-static HALVES: [(usize, usize); 11] = [
+/// File offsets of words in a vector entry, and the numbers of the registers that have them: 75 where none has.
+static HALVES: [(usize, usize); 12] = [
+    // The lower and the upper half of st0, and the upper one of st7.
+    (584, 27),
+    (592, 28),
+    (704, 42),
     // The lower and the upper half of xmm0, those of xmm1 and xmm15.
-    (712, 27),
-    (720, 28),
-    (728, 29),
-    (736, 30),
-    (952, 57),
-    (960, 58),
-    // The control words, the x87 registers, and what follows xmm15.
-    (552, 59),
-    (584, 59),
-    (704, 59),
-    (968, 59),
-    (1056, 59),
+    (712, 43),
+    (720, 44),
+    (728, 45),
+    (736, 46),
+    (952, 73),
+    (960, 74),
+    // The control words, and what follows xmm15.
+    (576, 75),
+    (968, 75),
+    (1056, 75),
 ];
 
 #[test]
-fn the_words_are_those_of_xmm0_to_xmm15(rt: HostRuntime) -> Result<(), Fail> {
+fn the_words_are_those_of_st0_to_st7_and_xmm0_to_xmm15(rt: HostRuntime) -> Result<(), Fail> {
     for &(at, number) in &HALVES {
-        let mut wanted = [0u64; 59];
+        let mut wanted = [0u64; 75];
         if let Some(place) = wanted.get_mut(number) {
             *place = 0x10100;
         }
@@ -65,10 +67,10 @@ fn the_words_stand_in_the_order_of_the_entries(rt: HostRuntime) -> Result<(), Fa
         (708, STATUS),
         (1064, STATUS),
     ];
-    let mut wanted = [0u64; 86];
-    wanted[0] = 1;
-    wanted[32] = 2;
-    wanted[59] = 3;
+    let mut wanted = [0u64; 102];
+    wanted[16] = 1;
+    wanted[48] = 2;
+    wanted[75] = 3;
     has_registers(&rt, rt.alloc(), &words, &entries, 2, &wanted)
 }
 

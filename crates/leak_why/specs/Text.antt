@@ -1,10 +1,10 @@
 -- The text of why a block is held (own rule). Numbers are decimal, an address or a word is 0x and lower-case hexadecimal
 -- digits.
-use Rattle.std.specs.Prelude.{ℕ, ◌+◌, ◌-◌, ◌/◌, ◌%◌, List, [], ◌∷◌, ◌++◌, codes, decimal, nat_lt, ◌==◌, if◌then◌else◌, Option, Some, None, slice_get, slice_index_or}
+use Rattle.std.specs.Prelude.{ℕ, ◌+◌, ◌-◌, ◌*◌, ◌/◌, ◌%◌, List, [], ◌∷◌, ◌++◌, codes, decimal, nat_lt, ◌==◌, if◌then◌else◌, Option, Some, None, slice_get, slice_index_or}
 use Rattle.std.specs.Option.{option_map_or}
 use Rattle.leak_blocks.specs.declared.block.Block.{Block}
 use Rattle.leak_notes.specs.declared.sets.RegisterSet.{RegisterSet}
-use Rattle.leak_notes.specs.declared.sets.RegisterSet.TheVariants.{Status, Vector}
+use Rattle.leak_notes.specs.declared.sets.RegisterSet.TheVariants.{Status, Vector, State}
 use Rattle.leak_report.specs.Lines.{newline, hexadecimal}
 use Rattle.leak_report.specs.Totals.{text_at}
 use Rattle.leak_why.specs.declared.chain.RootPlace.{RootPlace}
@@ -23,24 +23,38 @@ status_names =
 abbrev pub status_name : ℕ → List ℕ
 status_name i = slice_index_or status_names i (codes "?")
 
--- the halves of xmm0 to xmm15, of each the lower first
+-- of each register of a vector entry the lower half first
 abbrev pub half_name : ℕ → List ℕ
 half_name i = if i % 2 == 0 then codes "low" else codes "high"
 
+-- the eight x87 or MMX registers come before xmm0 to xmm15
+abbrev pub vector_kind : ℕ → List ℕ
+vector_kind i = if nat_lt i 16 then codes "st" else codes "xmm"
+
+-- the number among the registers of its kind
+abbrev pub vector_number : ℕ → ℕ
+vector_number i = if nat_lt i 16 then i / 2 else (i - 16) / 2
+
 abbrev pub vector_name : ℕ → List ℕ
-vector_name i = codes "xmm" ++ (decimal (i / 2) ++ (codes " " ++ half_name i))
+vector_name i = vector_kind i ++ (decimal (vector_number i) ++ (codes " " ++ half_name i))
+
+-- a word of a state entry by its offset in the descriptor: the first stands at 576
+abbrev pub state_name : ℕ → List ℕ
+state_name i = codes "state " ++ decimal (576 + 8 * i)
 
 abbrev pub of_thread : ℕ → List ℕ
 of_thread thread = codes " of thread " ++ decimal thread
 
 -- The register word with the number, where so many threads stand before these sets. Threads count from 1 in the order of
--- their statuses, and a vector register is of the thread whose status came last.
+-- their statuses, and a word of a vector entry or a state entry is of the thread whose status came last.
 abbrev pub register_text : ℕ → List RegisterSet → ℕ → List ℕ
 register_text threads [] i = codes "?" ++ of_thread threads
 register_text threads (Status ∷ sets) i =
     if nat_lt i 27 then status_name i ++ of_thread (threads + 1) else register_text (threads + 1) sets (i - 27)
 register_text threads (Vector ∷ sets) i =
-    if nat_lt i 32 then vector_name i ++ of_thread threads else register_text threads sets (i - 32)
+    if nat_lt i 48 then vector_name i ++ of_thread threads else register_text threads sets (i - 48)
+register_text threads (State words ∷ sets) i =
+    if nat_lt i words then state_name i ++ of_thread threads else register_text threads sets (i - words)
 
 -- a block's line, up to the text of its caller
 abbrev pub block_front : List ℕ → Block → List ℕ

@@ -1,7 +1,7 @@
 //! The text of why a block is held.
 ghost use Rattle.std.specs.Prelude.{◌≡◌, ◌++◌, ◌<◌, codes, string_bytes, IfOk, OnOk};
 ghost use Rattle.leak_report.specs.Totals.{IsIn, HaveCallersIn};
-ghost use Rattle.leak_why.specs.Text.{block_line, half_name, links_text, numbered_line, place_text, register_text, root_line, status_name, text_of, word_line};
+ghost use Rattle.leak_why.specs.Text.{block_line, half_name, links_text, numbered_line, place_text, register_text, root_line, status_name, text_of, vector_kind, vector_number, word_line};
 
 use crate::chain::{Chain, Link, RootPlace, RootWord};
 use leak_blocks::{Block, Live};
@@ -12,8 +12,17 @@ use std::alloc::{AllocError, Global};
 /// How many registers a thread status has.
 const STATUS_REGISTERS: usize = 27;
 
-/// How many halves of vector registers a vector entry has.
-const VECTOR_HALVES: usize = 32;
+/// How many halves of registers a vector entry has.
+const VECTOR_HALVES: usize = 48;
+
+/// How many of them, the first, are of the eight x87 or MMX registers.
+const X87_HALVES: usize = 16;
+
+/// Where the first word of a state entry stands in its descriptor, in bytes.
+const STATE_AT: usize = 576;
+
+/// The size in bytes of a word.
+const WORD_SIZE: usize = 8;
 
 /// Tells the block with the number, and then that it leaked where there is no chain, and otherwise the chain from its
 /// root on: a line for the root word, then by turns one for a block and one for its word that leads on, the block itself
@@ -93,17 +102,45 @@ fn push_register(buffer: &mut String, sets: &[RegisterSet], number: usize) -> Re
             }
             RegisterSet::Vector => {
                 if left < VECTOR_HALVES {
+                    let kind = vector_kind(left);
+                    let register = vector_number(left);
                     let half = half_name(left);
-                    return write!(buffer, "xmm{} {half} of thread {threads}", left / 2);
+                    return write!(buffer, "{kind}{register} {half} of thread {threads}");
                 }
                 left -= VECTOR_HALVES;
+            }
+            RegisterSet::State(words) => {
+                let words = *words as usize;
+                if left < words {
+                    let at = STATE_AT + WORD_SIZE * left;
+                    return write!(buffer, "state {at} of thread {threads}");
+                }
+                left -= words;
             }
         }
     }
     write!(buffer, "? of thread {threads}")
 }
 
-/// The name of the half of a vector register.
+/// The kind of the register of a vector entry that the half is of.
+fn vector_kind(half: usize) -> &'static str
+    ensures { result.now ≡ vector_kind half }
+{
+    if half < X87_HALVES { "st" } else { "xmm" }
+}
+
+/// The number of the register of a vector entry that the half is of, among those of its kind.
+fn vector_number(half: usize) -> usize
+    ensures { result ≡ vector_number half }
+{
+    if half < X87_HALVES {
+        half / 2
+    } else {
+        (half - X87_HALVES) / 2
+    }
+}
+
+/// The name of the half of a register of a vector entry.
 fn half_name(half: usize) -> &'static str
     ensures { result.now ≡ half_name half }
 {
