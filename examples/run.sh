@@ -1,13 +1,15 @@
 #!/bin/sh
-# Builds leaky.c, in_vector.c, hidden.c, in_flight.c, mixed.c and stale.c, runs them under mtrace and then with capture, takes cores of them, searches the
-# cores, and compares each report with what the program's construction says: which sizes leaked, and that nothing else did. Then
-# it searches cores with logs that are theirs and with logs that aren't, and compares the warnings and the misfits that --check
-# lists. At last it asks what holds a block that only a stale word holds.
+# Builds leaky.c, in_vector.c, hidden.c, in_flight.c, mixed.c, stale.c and side_by_side.c, runs them under mtrace and then with capture, takes
+# cores of them, searches the cores, and compares each report with what the program's construction says: which sizes leaked, and that nothing
+# else did. Then it searches cores with logs that are theirs and with logs that aren't, and compares the warnings and the misfits that --check
+# lists. It asks what holds a block that only a stale word holds. At last it searches a program under jemalloc, whose blocks stand side by side,
+# with their ends and without.
 #
 #     examples/run.sh LEAK_FIND
 #
 # LEAK_FIND is the installed program. Needs gcc, gdb and addr2line, and permission to attach to a process of one's own; without it
-# only cores by the kernel are searched. The last line is `examples: N passed, M failed`; a script that ends early has one failure.
+# only cores by the kernel are searched. The last part needs libjemalloc.so.2 too (Debian's package libjemalloc2), and is left out without it.
+# The last line is `examples: N passed, M failed`; a script that ends early has one failure.
 set -eu
 leak_find=${1:?usage: run.sh LEAK_FIND}
 here=$(cd "$(dirname "$0")" && pwd)
@@ -50,8 +52,9 @@ gcc -g -O0 -Wno-unused-result -o "$work/in_vector" "$here/in_vector.c"
 gcc -g -O0 -Wno-unused-result -o "$work/hidden" "$here/hidden.c"
 gcc -g -O0 -pthread -o "$work/mixed" "$here/mixed.c"
 gcc -g -O0 -o "$work/stale" "$here/stale.c"
+gcc -g -O0 -o "$work/side_by_side" "$here/side_by_side.c"
 cd "$work"
-judge "programs that are built" 6 "$(ls | wc -l)"
+judge "programs that are built" 7 "$(ls | wc -l)"
 
 # check NAME LINES SIZES HEADS SUBCOMMAND FILE..: searches, shows the report, and compares its first lines, those that speak of
 # live and of new blocks, the sizes of the leaked blocks, and those of the heads among them.
@@ -307,4 +310,32 @@ judge "the root is in the stack, $stack" 1 "$((root >= 0x${stack%-*} && root < 0
 status=0
 limited "$leak_find" why stale.core.1 stale.copy.1 0x10 2> warned || status=$?
 judge "an address that no block holds" "2 leak_find: no live block holds 0x10" "$status $(cat warned)"
+
+# side_by_side.c: 24 blocks are lost under jemalloc. At the ends of 12 of them a held block begins, so only --skip-ends names these.
+jemalloc=$(/sbin/ldconfig -p | awk '$1 == "libjemalloc.so.2" { print $NF; exit }')
+if [ -z "$jemalloc" ]; then
+    echo "left out: blocks side by side, since the package libjemalloc2 is missing"
+    complete=1
+    exit
+fi
+export LD_PRELOAD="$jemalloc"
+start_traced side_by_side
+unset LD_PRELOAD
+capture side_by_side 1
+judge "jemalloc is the program's allocator" some "$(grep -q "$(readlink -f "$jemalloc")" "/proc/$process/maps" && echo some)"
+stop
+
+# count_by_size NAME WANTED OPTION..: searches its core, shows the report, and compares how many blocks of each size leaked.
+count_by_size() {
+    name=$1 wanted=$2
+    shift 2
+    status=0
+    limited "$leak_find" one --other-heap "$@" side_by_side.traced.1.core side_by_side.traced.1.log > report 2> warned || status=$?
+    echo "== $name"
+    cat report
+    found=$(awk '$1 == "leak" { leaked[$3]++ } END { for (size in leaked) print leaked[size] " of " size }' report | sort | tr '\n' ' ')
+    judge "$name" "status 1, $wanted, warned: " "status $status, ${found% }, warned: $(cat warned)"
+}
+count_by_size "side by side: with ends" "12 of 100"
+count_by_size "side by side: without" "12 of 100 12 of 64" --skip-ends
 complete=1

@@ -1,6 +1,7 @@
 """All cases."""
 
 import rows_callers
+import rows_ends
 import rows_fit
 import rows_freed
 import rows_links
@@ -15,6 +16,6 @@ import rows_words
 
 def all_cases():
     """The cases of each file of rows."""
-    tables = (rows_one, rows_two, rows_freed, rows_links, rows_fit, rows_refused, rows_pairs, rows_why,
+    tables = (rows_one, rows_two, rows_freed, rows_links, rows_ends, rows_fit, rows_refused, rows_pairs, rows_why,
               rows_words, rows_places, rows_callers)
     return [case for table in tables for case in table.cases()]
