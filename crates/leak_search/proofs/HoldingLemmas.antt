@@ -6,6 +6,7 @@ use Rattle.leak_notes.specs.Threads.{entries}
 use Rattle.leak_notes.specs.Sets.{sets_of}
 use Rattle.leak_blocks.specs.declared.block.Block.{Block}
 use Rattle.leak_blocks.specs.Live.{live_of}
+use Rattle.leak_index.specs.Leads.{Distances}
 use Rattle.leak_index.specs.Hits.{Index}
 use Rattle.leak_roots.specs.Places.{Places}
 use Rattle.leak_roots.specs.Roots.{AreRootsOf}
@@ -24,7 +25,7 @@ use Rattle.leak_search.specs.Holding.{TellsWhy, IsWhyFault}
 use Rattle.leak_input.proofs.InputLemmas.{input_blocks}
 use Rattle.leak_search.proofs.SearchLemmas.{index_is, marked_graph}
 
-pub tells_why : (core log : List ℕ) (reading : Option (List ℕ)) (skip : Skip) (address : ℕ) (input : Input) (index : Index) (places : Places) (block : ℕ) (chain : Option Chain) (found : Why)
+pub tells_why : (core log : List ℕ) (reading : Distances) (skip : Skip) (address : ℕ) (input : Input) (index : Index) (places : Places) (block : ℕ) (chain : Option Chain) (found : Why)
     → (read : IsRead core log input) → index ≡ record { blocks = input.live.blocks; reading = reading } → input.skip ≡ skip → AreRootsFor read.0 input places
     → IsAsked input.live.blocks address block → IsWhy (word_of input.image) index places block chain
     → (IsSome chain ↔ Reach (search_graph (word_of input.image) index places) block)

@@ -8,6 +8,7 @@ use Rattle.leak_mtrace.specs.declared.line.Line.{Line}
 use Rattle.leak_notes.specs.Threads.{registers_of}
 use Rattle.leak_blocks.specs.declared.block.Block.{Block}
 use Rattle.leak_blocks.specs.Live.{live_of}
+use Rattle.leak_index.specs.Leads.{Distances}
 use Rattle.leak_index.specs.Hits.{Index, hits_of}
 use Rattle.leak_roots.specs.declared.skip.Skip.{Skip}
 use Rattle.leak_roots.specs.Roots.{is_freed, outside_places, root_places}
@@ -72,7 +73,7 @@ fewer_led true w index places x = fewer_held w index places x
 
 -- ---- without freed places too
 
-pub first_within : (core : List ℕ) (reading : Option (List ℕ)) (skip : Skip) (lines : List Line) → Within (first_of core (index_of reading lines) skip lines) (first_of core (index_of reading lines) nothing lines)
+pub first_within : (core : List ℕ) (reading : Distances) (skip : Skip) (lines : List Line) → Within (first_of core (index_of reading lines) skip lines) (first_of core (index_of reading lines) nothing lines)
 unfolding targets_of root_places
 first_within core reading skip lines x has =
     let f = hits_of (index_of reading lines) in
@@ -87,14 +88,14 @@ first_within core reading skip lines x has =
     ap (λ (places : List ℕ). times x (registers ++ flat_map f (filter_map w places))) (sym (none_left_out [] outside refl)) ∙ times-append x registers (flat_map f (filter_map w outside)) in
     omega (arith, few, held, left, right, has)
 
-pub marked_without : (core : List ℕ) (reading : Option (List ℕ)) (skip : Skip) (lines : List Line) (i : ℕ) → Reach (graph_of_one core reading skip lines) i → Reach (graph_of_one core reading nothing lines) i
+pub marked_without : (core : List ℕ) (reading : Distances) (skip : Skip) (lines : List Line) (i : ℕ) → Reach (graph_of_one core reading skip lines) i → Reach (graph_of_one core reading nothing lines) i
 unfolding graph_of
 marked_without core reading skip lines i reached =
     reach_within (graph_of_one core reading skip lines) (graph_of_one core reading nothing lines) (first_within core reading skip lines) (λ b. (λ h. h, λ h. h)) refl i reached
 
 -- ---- fewer blocks are kept
 
-fewer_numbers : (p q : Block → Bool) (n : ℕ) (blocks : List Block) (x : ℕ) → ((b : Block) → p b ≡ true → q b ≡ true) → times x (numbers_from n p blocks) ≤ times x (numbers_from n q blocks)
+pub fewer_numbers : (p q : Block → Bool) (n : ℕ) (blocks : List Block) (x : ℕ) → ((b : Block) → p b ≡ true → q b ≡ true) → times x (numbers_from n p blocks) ≤ times x (numbers_from n q blocks)
 fewer_numbers p q n [] x h = omega arith
 fewer_numbers p q n (b ∷ blocks) x h = go (p b) (q b) (h b) (fewer_numbers p q (n + 1) blocks x h)
   where
@@ -105,7 +106,7 @@ fewer_numbers p q n (b ∷ blocks) x h = go (p b) (q b) (h b) (fewer_numbers p q
     go false true i le = omega arith
     go false false i le = le
 
-marked_line : (part whole : List Bool) (blocks : List Block) (line : ℕ) → length part ≡ length blocks → length whole ≡ length blocks
+pub marked_line : (part whole : List Bool) (blocks : List Block) (line : ℕ) → length part ≡ length blocks → length whole ≡ length blocks
     → ((i : ℕ) → i < length blocks → slice_get part i ≡ Some true → slice_get whole i ≡ Some true) → has_marked_line part blocks line ≡ true → has_marked_line whole blocks line ≡ true
 marked_line [] whole blocks line m n each h = absurd cc
 marked_line (s ∷ part) whole [] line m n each h = absurd cc
@@ -124,7 +125,7 @@ marked_line (s ∷ part) (t ∷ whole) (b ∷ blocks) line m n each h =
     go false true false i later h = later h
     go false false false i later h = later h
 
-begins : (few many fresh roots all : List ℕ) (x : ℕ) → times x few ≤ times x many → (Has roots x → Has all x) → Has (few ++ fresh ++ roots) x → Has (many ++ fresh ++ all) x
+pub begins : (few many fresh roots all : List ℕ) (x : ℕ) → times x few ≤ times x many → (Has roots x → Has all x) → Has (few ++ fresh ++ roots) x → Has (many ++ fresh ++ all) x
 begins few many fresh roots all x le more h =
     elim (of_append (few ++ fresh) roots x h) [
       | inr t ↦ has_back (many ++ fresh) all x (more t)
@@ -135,19 +136,19 @@ begins few many fresh roots all x le more h =
           ])
     ]
 
-kept_fewer : (core : List ℕ) (reading : Option (List ℕ)) (skip : Skip) (before now : List Line) (part whole : List Bool) (x : ℕ)
+kept_fewer : (core : List ℕ) (reading : Distances) (skip : Skip) (before now : List Line) (part whole : List Bool) (x : ℕ)
     → IsMarkedEarlier core reading skip before part → IsMarkedEarlier core reading nothing before whole → times x (kept_blocks before part now) ≤ times x (kept_blocks before whole now)
 unfolding kept_of
 kept_fewer core reading skip before now part whole x few all =
     fewer_numbers (λ b. has_marked_line part (live_of before) b.line) (λ b. has_marked_line whole (live_of before) b.line) 0 (live_of now) x
     (λ b h. marked_line part whole (live_of before) b.line few.len all.len (λ j inside is. (all.each j inside).1 (marked_without core reading skip before j ((few.each j inside).0 is))) h)
 
-same_targets : (core : List ℕ) (reading : Option (List ℕ)) (skip other : Skip) (few many fresh : List ℕ) (now : List Line)
+same_targets : (core : List ℕ) (reading : Distances) (skip other : Skip) (few many fresh : List ℕ) (now : List Line)
     → (graph_of_later core reading skip few fresh now).targets ≡ (graph_of_later core reading other many fresh now).targets
 unfolding graph_of
 same_targets core reading skip other few many fresh now = refl
 
-pub marked_in_two_without : (core1 core2 : List ℕ) (reading : Option (List ℕ)) (skip : Skip) (before now : List Line) (part whole : List Bool) (i : ℕ)
+pub marked_in_two_without : (core1 core2 : List ℕ) (reading : Distances) (skip : Skip) (before now : List Line) (part whole : List Bool) (i : ℕ)
     → IsMarkedEarlier core1 reading skip before part → IsMarkedEarlier core1 reading nothing before whole
     → Reach (graph_of_later core2 reading skip (kept_blocks before part now) (new_blocks before now) now) i
     → Reach (graph_of_later core2 reading nothing (kept_blocks before whole now) (new_blocks before now) now) i

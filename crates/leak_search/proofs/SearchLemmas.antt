@@ -11,6 +11,7 @@ use Rattle.leak_blocks.specs.declared.block.Block.{Block}
 use Rattle.leak_blocks.specs.declared.small.Span.{Span}
 use Rattle.leak_blocks.specs.Small.{small_spans_of}
 use Rattle.leak_blocks.specs.Live.{live_of, replay_of}
+use Rattle.leak_index.specs.Leads.{Distances}
 use Rattle.leak_index.specs.Hits.{Index}
 use Rattle.leak_scan.specs.Heads.{heads_of}
 use Rattle.leak_notes.specs.Threads.{registers_of}
@@ -49,7 +50,7 @@ pub found_first : (core : List ℕ) (index : Index) (blocks : List Block) (spans
 found_first core index blocks spans links places roots same = rw (roots.registers, roots.memory, same) refl
 
 -- the graph that was marked is that of the core and the lines
-pub marked_graph : (core : List ℕ) (reading : Option (List ℕ)) (skip : Skip) (lines : List Line) (blocks : List Block) (index : Index) (places : Places)
+pub marked_graph : (core : List ℕ) (reading : Distances) (skip : Skip) (lines : List Line) (blocks : List Block) (index : Index) (places : Places)
     → blocks ≡ live_of lines → index ≡ record { blocks = blocks; reading = reading } → AreRootsOf core blocks (spans_of skip lines) places → places.skips_links ≡ skip.links
     → graph_of (word_of core) index (led_by_roots (word_of core) index places) [] ≡ graph_of_one core reading skip lines
 marked_graph core reading skip lines blocks index places are is roots links =
@@ -72,11 +73,11 @@ head_is core log lines input places two read roots =
     let f = subst (λ (bs : List Block). (if input.skip.freed then Some places.freed else None) ≡ freed_of input.skip core bs lines) (input_blocks core log lines input read) (freed_is input.skip core input.live.blocks lines places roots) in
     rw (f, read.image, read.live, read.torn) refl
 
-pub index_is : (reading : Option (List ℕ)) (lines : List Line) (blocks : List Block) (index : Index) → blocks ≡ live_of lines → index ≡ record { blocks = blocks; reading = reading } → index ≡ index_of reading lines
+pub index_is : (reading : Distances) (lines : List Line) (blocks : List Block) (index : Index) → blocks ≡ live_of lines → index ≡ record { blocks = blocks; reading = reading } → index ≡ index_of reading lines
 index_is reading lines blocks index are is = rw (is, are) refl
 
 -- a search that read, found roots and marked
-pub finds_one : (core log : List ℕ) (reading : Option (List ℕ)) (check : Bool) (workers : ℕ) (input : Input) (index : Index) (places : Places) (head : Head) (fits : Option (List Bool)) (marked : Marked) (found : Found)
+pub finds_one : (core log : List ℕ) (reading : Distances) (check : Bool) (workers : ℕ) (input : Input) (index : Index) (places : Places) (head : Head) (fits : Option (List Bool)) (marked : Marked) (found : Found)
     → (read : IsRead core log input) → length input.live.blocks < 2 ^ 32 → index ≡ record { blocks = input.live.blocks; reading = reading }
     → AreRootsOf core input.live.blocks (spans_of input.skip read.0) places → places.skips_links ≡ input.skip.links → Marks (word_of core) index places workers marked → head ≡ head_with input places None
     → fits ≡ fits_with check input
@@ -128,7 +129,7 @@ few_blocks : (n : ℕ) → (2 ^ 32 - 1 < n → ⊥) → n < 2 ^ 32
 few_blocks n not_many = omega (arith, not_many)
 
 -- the same of an input as it was read
-pub finds_read : (core log : List ℕ) (reading : Option (List ℕ)) (skip : Skip) (check : Bool) (workers : ℕ) (input : Input) (index : Index) (places : Places) (head : Head) (fits : Option (List Bool)) (marked : Marked) (found : Found)
+pub finds_read : (core log : List ℕ) (reading : Distances) (skip : Skip) (check : Bool) (workers : ℕ) (input : Input) (index : Index) (places : Places) (head : Head) (fits : Option (List Bool)) (marked : Marked) (found : Found)
     → (read : IsRead core log input) → input.skip ≡ skip → (2 ^ 32 - 1 < length input.live.blocks → IsErrOf {T = Marked} {E = PoolError} (Ok marked) TooManyForPool)
     → index ≡ record { blocks = input.live.blocks; reading = reading }
     → AreRootsFor read.0 input places → Marks (word_of input.image) index places workers marked → head ≡ head_with input places None
