@@ -66,7 +66,7 @@ pub(crate) fn alone(alloc: Global) -> Option<Answer> {
         core.as_slice(),
         ONE_BLOCK.as_bytes(),
         Reading::interior(),
-        Skip::none(),
+        Skip::usual(),
         false,
     );
     Some(answer_of(found, LOST))
@@ -80,7 +80,7 @@ pub(crate) fn vectors(alloc: Global) -> Option<Answer> {
         core.as_slice(),
         ONE_BLOCK.as_bytes(),
         Reading::interior(),
-        Skip::none(),
+        Skip::usual(),
         false,
     );
     Some(answer_of(found, HELD))
@@ -108,6 +108,7 @@ pub(crate) fn unfreed(alloc: Global) -> Option<Answer> {
         Skip {
             freed: true,
             links: false,
+            unwritable: true,
         },
         false,
     );
@@ -134,7 +135,7 @@ pub(crate) fn checked(alloc: Global) -> Option<Answer> {
         core.as_slice(),
         ONE_BLOCK.as_bytes(),
         Reading::interior(),
-        Skip::none(),
+        Skip::usual(),
         true,
     );
     Some(answer_of(found, MISFIT))
@@ -167,6 +168,7 @@ pub(crate) fn unlinked(alloc: Global) -> Option<Answer> {
         Skip {
             freed: false,
             links: true,
+            unwritable: true,
         },
         false,
     );
@@ -182,7 +184,7 @@ pub(crate) fn by_workers<R: AllocGlobal + Threads + Sync>(rt: &R) -> Option<Answ
         sample.core.as_slice(),
         sample.log.as_bytes(),
         Reading::interior(),
-        Skip::none(),
+        Skip::usual(),
         false,
         Plan::new(3, 16, 4).ok()?,
         &Open,
@@ -209,7 +211,7 @@ pub(crate) fn two_cores<R: AllocGlobal + Threads + Sync>(rt: &R) -> Option<Answe
         second.as_slice(),
         MOVED.as_bytes(),
         Reading::interior(),
-        Skip::none(),
+        Skip::usual(),
         false,
         Plan::new(3, 16, 4).ok()?,
         &Open,
@@ -242,7 +244,7 @@ fn options(two: bool, plan: Plan) -> Options
     Options {
         two,
         reading: Reading::interior(),
-        skip: Skip::none(),
+        skip: Skip::usual(),
         plan,
         other_heap: false,
         check: false,
@@ -351,7 +353,7 @@ pub(crate) fn held_by(alloc: Global) -> Option<Answer> {
         &core,
         HOLDING.as_bytes(),
         reading,
-        Skip::none(),
+        Skip::usual(),
         0x10200,
     ) {
         Ok(why) => Answer::of(why.held && why.text.as_slice() == ASKED.as_bytes()),

@@ -35,7 +35,7 @@ fn options(two: bool, reading: Reading, plan: Plan) -> Options {
     Options {
         two,
         reading,
-        skip: Skip::none(),
+        skip: Skip::usual(),
         plan,
         other_heap: false,
         check: false,

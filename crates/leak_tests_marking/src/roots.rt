@@ -13,8 +13,8 @@ fn roots(alloc: Global, core: &[u8], log: &[u8]) -> Result<Roots, Fail> {
     let threads = Threads::read(alloc, &image)?;
     let log = Log::read(alloc, log)?;
     let live = replay(alloc, &log)?;
-    let small = Skip::none().spans(alloc, &log)?;
-    Ok(Roots::find(alloc, &image, &threads, &live, &small)?)
+    let small = Skip::usual().spans(alloc, &log)?;
+    Ok(Roots::find(alloc, &image, &threads, &live, &small, true)?)
 }
 
 /// The root words of the sample core outside freed memory.
@@ -27,9 +27,10 @@ fn unfreed_roots_of(alloc: Global, log: &str) -> Result<Roots, Fail> {
     let skip = Skip {
         freed: true,
         links: false,
+        unwritable: true,
     };
     let small = skip.spans(alloc, &log)?;
-    Ok(Roots::find(alloc, &image, &threads, &live, &small)?)
+    Ok(Roots::find(alloc, &image, &threads, &live, &small, true)?)
 }
 
 /// The root words of the sample core.
@@ -92,7 +93,7 @@ fn the_registers_are_those_of_the_threads_that_are_given(rt: HostRuntime) -> Res
     let log = Log::read(rt.alloc(), b"")?;
     let live = replay(rt.alloc(), &log)?;
     let small = SmallSpans::none(rt.alloc());
-    let roots = Roots::find(rt.alloc(), &image, &threads, &live, &small)?;
+    let roots = Roots::find(rt.alloc(), &image, &threads, &live, &small, true)?;
     same(&rt, roots.registers().get(5).copied(), Some(7));
     same(&rt, roots.memory(), [(0x10000, 0x11000)].as_slice());
     Ok(())
