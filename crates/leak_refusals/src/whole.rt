@@ -107,8 +107,7 @@ pub(crate) fn unfreed(alloc: Global) -> Option<Answer> {
         Reading::interior(),
         Skip {
             freed: true,
-            links: false,
-            unwritable: true,
+            ..Skip::usual()
         },
         false,
     );
@@ -166,9 +165,8 @@ pub(crate) fn unlinked(alloc: Global) -> Option<Answer> {
         b"+ 0x10100 0x20\n+ 0x10200 0x10\n",
         Reading::interior(),
         Skip {
-            freed: false,
             links: true,
-            unwritable: true,
+            ..Skip::usual()
         },
         false,
     );

@@ -71,6 +71,7 @@ fn push_gaps(
 }
 
 /// Whether a segment has root words, where memory that can't be written is left out, or isn't.
+#[tactic(auto, unfolding(crate::specs::Roots::has_roots))]
 fn has_roots(segment: &Segment, unwritable: bool) -> bool
     ensures { result ≡ has_roots unwritable segment.now }
 {
