@@ -1,9 +1,9 @@
 #!/bin/sh
-# Builds leaky.c, in_vector.c, hidden.c, in_flight.c, mixed.c, stale.c and side_by_side.c, runs them under mtrace and then with capture, takes
-# cores of them, searches the cores, and compares each report with what the program's construction says: which sizes leaked, and that nothing
-# else did. Then it searches cores with logs that are theirs and with logs that aren't, and compares the warnings and the misfits that --check
-# lists. It asks what holds a block that only a stale word holds. At last it searches a program under jemalloc, whose blocks stand side by side,
-# with their ends and without.
+# Builds leaky.c, in_vector.c, hidden.c, protected.c, in_flight.c, mixed.c, stale.c and side_by_side.c, runs them under mtrace and then with
+# capture, takes cores of them, searches the cores, and compares each report with what the program's construction says: which sizes leaked, and
+# that nothing else did. Then it searches cores with logs that are theirs and with logs that aren't, and compares the warnings and the misfits
+# that --check lists. It asks what holds a block that only a stale word holds. At last it searches a program under jemalloc, whose blocks stand
+# side by side, with their ends and without.
 #
 #     examples/run.sh LEAK_FIND
 #
@@ -50,11 +50,12 @@ gcc -g -O0 -Wno-unused-result -o "$work/leaky" "$here/leaky.c"
 gcc -g -O0 -Wno-unused-result -o "$work/in_flight" "$here/in_flight.c"
 gcc -g -O0 -Wno-unused-result -o "$work/in_vector" "$here/in_vector.c"
 gcc -g -O0 -Wno-unused-result -o "$work/hidden" "$here/hidden.c"
+gcc -g -O0 -Wno-unused-result -o "$work/protected" "$here/protected.c"
 gcc -g -O0 -pthread -o "$work/mixed" "$here/mixed.c"
 gcc -g -O0 -o "$work/stale" "$here/stale.c"
 gcc -g -O0 -o "$work/side_by_side" "$here/side_by_side.c"
 cd "$work"
-judge "programs that are built" 7 "$(ls | wc -l)"
+judge "programs that are built" 8 "$(ls | wc -l)"
 
 # check NAME LINES SIZES HEADS SUBCOMMAND FILE..: searches, shows the report, and compares its first lines, those that speak of
 # live and of new blocks, the sizes of the leaked blocks, and those of the heads among them.
@@ -136,6 +137,22 @@ if [ -n "$dead" ]; then
     check "vector registers, by the kernel" "blocks 5 bytes 385" "45 93" "45 93" one "$dead" dead.log
 fi
 
+# protected.c: one block is held by memory that was made read-only, one by memory without rights, and one is lost. Without an
+# option all three are named, and with --all-memory the lost one alone. The kernel's cores have both pages, and so have those of
+# gdb 13.1, by which leak_dump dumps.
+# protected_by CORE LOG
+protected_by() {
+    check "protected: writable memory" "blocks 4 bytes 276" "45 61 77" "45 61 77" one "$1" "$2"
+    check "protected: --all-memory" "blocks 4 bytes 276" "45" "45" one --all-memory "$1" "$2"
+}
+rm -f core core.*
+MALLOC_TRACE=dead.log LD_PRELOAD=libc_malloc_debug.so.0 ./protected dies 2> /dev/null || true
+dead=$(ls core core.* 2> /dev/null | head -n 1)
+if [ -n "$dead" ]; then
+    protected_by "$dead" dead.log
+    name_lines protected
+fi
+
 # May gdb attach to a process of ours? All that follows needs it.
 sleep 60 &
 process=$!
@@ -173,6 +190,11 @@ dump hidden 1
 stop
 hidden_by hidden.core.1 hidden.copy.1
 name_lines hidden
+
+start protected
+dump protected 1
+stop
+protected_by protected.core.1 protected.copy.1
 
 # in_flight.c: three cores of one process, of which each but the first makes a pair with the one before.
 start in_flight
@@ -227,6 +249,12 @@ start_traced hidden
 capture hidden 1
 stop
 hidden_by hidden.traced.1.core hidden.traced.1.log
+"$capture/leak_lines" report
+
+start_traced protected
+capture protected 1
+stop
+protected_by protected.traced.1.core protected.traced.1.log
 "$capture/leak_lines" report
 
 start_traced in_flight
@@ -310,7 +338,6 @@ judge "the root is in the stack, $stack" 1 "$((root >= 0x${stack%-*} && root < 0
 status=0
 limited "$leak_find" why stale.core.1 stale.copy.1 0x10 2> warned || status=$?
 judge "an address that no block holds" "2 leak_find: no live block holds 0x10" "$status $(cat warned)"
-
 # side_by_side.c: 24 blocks are lost under jemalloc. At the ends of 12 of them a held block begins, so only --skip-ends names these.
 jemalloc=$(/sbin/ldconfig -p | awk '$1 == "libjemalloc.so.2" { print $NF; exit }')
 if [ -z "$jemalloc" ]; then

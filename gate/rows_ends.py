@@ -15,6 +15,9 @@ END = core(word(0x10008, 0x10120))
 NEIGHBORS = "+ 0x10100 0x20\n+ 0x10120 0x10\n"
 BEFORE_EMPTY = "+ 0x10100 0x20\n+ 0x10120 0\n"
 NO_BYTE = "+ 0x10200 0\n"
+NOTHING_HELD = report((1, 0), (0, 0), (1, 0), 1, "caller 1 0 1 ?", "leak 0x10200 0 1 head ?")
+TOP = "+ 0xfffffffffffffff0 0xf\n"
+TOP_LOST = report((1, 15), (0, 0), (1, 15), 1, "caller 1 15 1 ?", "leak 0xfffffffffffffff0 15 1 head ?")
 THREE_BLOCKS = "+ 0x10100 0x20\n+ 0x10120 0x10\n+ 0x10200 0x10\n"
 CHAIN = words((0x10008, 0x10200), (0x10200, 0x10120))
 
@@ -36,6 +39,10 @@ def of_one_word():
          first_lost(2, 48)),
         ("an empty block", "its start is its end, and leads to it all the same", core(word(0x10008, 0x10200)), NO_BYTE, "",
          all_marked(1, 0), all_marked(1, 0)),
+        ("one past an empty block", "it is neither its start nor its end", core(word(0x10008, 0x10201)), NO_BYTE, "",
+         NOTHING_HELD, NOTHING_HELD),
+        ("the top of memory", "the greatest word is one past the block's end", core(word(0x10008, (1 << 64) - 1)), TOP, "",
+         all_marked(1, 15), TOP_LOST),
         ("an end that is listed", "to the empty block the word leads, and not to the end of the first", END, BEFORE_EMPTY,
          "--displace 32", all_marked(2, 32), first_lost(2, 32)),
         ("a last byte that is listed", "an end is left out, and not what comes before it", last, ONE_BLOCK, "--displace 31",

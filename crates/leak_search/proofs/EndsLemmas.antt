@@ -111,7 +111,7 @@ module _ (listed : Option (List ℕ)) (lines : List Line) where
   memory_fewer true word_at x places = flat_fewer (held_from word_at few) (held_from word_at more) x (held_fewer word_at x) places
 
   first_fewer : (core : List ℕ) (skip : Skip) → Within (first_of core few skip lines) (first_of core more skip lines)
-  first_fewer core skip x has = go (root_places core (live_of lines) (spans_of skip lines)) has
+  first_fewer core skip x has = go (root_places skip.unwritable core (live_of lines) (spans_of skip lines)) has
     where
       go : (places : List ℕ) → Has (led_from skip.links (word_of core) few (registers_of core) places) x → Has (led_from skip.links (word_of core) more (registers_of core) places) x
       go places h = omega (

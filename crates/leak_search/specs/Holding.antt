@@ -31,7 +31,7 @@ pub record TellsWhy (core log : List ℕ) (reading : Distances) (skip : Skip) (a
   pub block : ℕ
   pub asked : IsAsked (live_of lines) address block
   pub places : Places
-  pub are_places : AreRootsOf core (live_of lines) (spans_of skip lines) places
+  pub are_places : AreRootsOf skip.unwritable core (live_of lines) (spans_of skip lines) places
   pub links : places.skips_links ≡ skip.links
   pub chain : Option Chain
   pub why : IsWhy (word_of core) (index_of reading lines) places block chain

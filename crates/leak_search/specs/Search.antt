@@ -30,7 +30,7 @@ index_of reading lines = record { blocks = live_of lines; reading = reading }
 abbrev pub first_of : List ℕ → Index → Skip → List Line → List ℕ
 first_of core index skip lines =
     led_from skip.links (word_of core) index (registers_of core)
-    (root_places core (live_of lines) (spans_of skip lines))
+    (root_places skip.unwritable core (live_of lines) (spans_of skip lines))
 
 -- which live block leads to which, and which of them the root words of the core lead to
 abbrev pub graph_of_one : List ℕ → Distances → Skip → List Line → Graph
