@@ -1,10 +1,13 @@
 """All cases."""
 
 import rows_callers
+import rows_ends
 import rows_fit
 import rows_freed
 import rows_links
+import rows_memory
 import rows_one
+import rows_options
 import rows_pairs
 import rows_places
 import rows_refused
@@ -15,6 +18,6 @@ import rows_words
 
 def all_cases():
     """The cases of each file of rows."""
-    tables = (rows_one, rows_two, rows_freed, rows_links, rows_fit, rows_refused, rows_pairs, rows_why,
-              rows_words, rows_places, rows_callers)
+    tables = (rows_one, rows_two, rows_freed, rows_links, rows_memory, rows_ends, rows_options, rows_fit, rows_refused, rows_pairs,
+              rows_why, rows_words, rows_places, rows_callers)
     return [case for table in tables for case in table.cases()]

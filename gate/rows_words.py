@@ -14,6 +14,7 @@ HELP = Path(__file__).parent / "help"
 PROGRAM = "leak_find <COMMAND>"
 USAGE = {"one": "<CORE> <LOG>", "two": "<CORE1> <LOG1> <CORE2> <LOG2>", "why": "<CORE> <LOG> <ADDRESS>"}
 ONE = "one core.k trace.log "
+READING = ("--skip-ends", "--all-memory", "--skip-freed", "--skip-links")  # the flags that `why` has too
 
 
 def clap(error, usage="", tip=""):
@@ -98,7 +99,7 @@ def of_numbers():
 def of_flags():
     """Flags are given once, and without a value; `why` has not all of them."""
     found = []
-    for flag in ("--skip-freed", "--skip-links", "--check", "--strict", "--other-heap"):
+    for flag in READING + ("--check", "--strict", "--other-heap"):
         found.append(bad(f"{flag} twice", f"{ONE}{flag} {flag}", f"the argument '{flag}' cannot be used multiple times",
                          usage_of("one")))
         found.append(bad(f"{flag} with a value", f"{ONE}{flag}=true",
@@ -108,9 +109,13 @@ def of_flags():
         found.append(bad(f"why with {option}", f"why a b 0x1 {option}", f"unexpected argument '{option}' found",
                          usage_of("why", ""),
                          f"to pass '{option}' as a value, use '-- {option}'"))
-    found.append(bad("why with --skip-freed twice", "why a b 0x1 --skip-freed --skip-freed",
-                     "the argument '--skip-freed' cannot be used multiple times",
-                     usage_of("why")))
+    for flag in READING:
+        for command, line in (("two", "two a b c d "), ("why", "why a b 0x1 ")):
+            found.append(bad(f"{command} with {flag} twice", f"{line}{flag} {flag}",
+                             f"the argument '{flag}' cannot be used multiple times", usage_of(command)))
+            found.append(bad(f"{command} with {flag} and a value", f"{line}{flag}=true",
+                             f"unexpected value 'true' for '{flag}' found; no more were expected",
+                             usage_of(command, f" {flag}")))
     twice = bad("check twice with another heap", ONE + "--check --check --other-heap",
                 "the argument '--check' cannot be used multiple times", usage_of("one"))
     return [*found, twice, bad("another option", ONE + "--no", "unexpected argument '--no' found", usage_of("one", ""),

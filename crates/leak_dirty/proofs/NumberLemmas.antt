@@ -3,7 +3,7 @@ use Rattle.std.proofs.Common.{◌≡◌, ℕ, zero, suc, ◌+◌, ◌<◌, ◌�
 use Rattle.std.specs.Prelude.{⊤}
 use Rattle.std.specs.List.Sorted.{IsStrictlyIncreasing}
 use Rattle.leak_blocks.specs.declared.block.Block.{Block}
-use Rattle.leak_index.specs.Leads.{leads}
+use Rattle.leak_index.specs.Leads.{Distances, leads}
 use Rattle.leak_index.specs.Hits.{hits_from}
 use Rattle.leak_marks.specs.Lists.{Has}
 use Rattle.leak_marks.proofs.BoolLemmas.{same_number}
@@ -76,7 +76,7 @@ pub numbers_more : (n : ℕ) (test : Block → Bool) (blocks : List Block) (k : 
 numbers_more n test blocks k d h = ap (λ (m : ℕ). numbers_from n test (take m blocks)) (add-one k) ∙ numbers_next n test blocks k d h
 
 -- the blocks that a word leads to are those that pass the test
-pub hits_are_numbers : (n : ℕ) (reading : Option (List ℕ)) (blocks : List Block) (w : ℕ) → hits_from n reading blocks w ≡ numbers_from n (leads reading w) blocks
+pub hits_are_numbers : (n : ℕ) (reading : Distances) (blocks : List Block) (w : ℕ) → hits_from n reading blocks w ≡ numbers_from n (leads reading w) blocks
 hits_are_numbers n reading [] w = refl
 hits_are_numbers n reading (b ∷ blocks) w = ap (λ (r : List ℕ). if leads reading w b then n ∷ r else r) (hits_are_numbers (n + 1) reading blocks w)
 

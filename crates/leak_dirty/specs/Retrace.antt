@@ -3,6 +3,7 @@ use Rattle.std.specs.Prelude.{◌≡◌, ℕ, ◌+◌, ◌≤◌, ◌⊎◌, ◌
 use Rattle.leak_mtrace.specs.declared.line.Line.{Line}
 use Rattle.leak_blocks.specs.declared.block.Block.{Block}
 use Rattle.leak_blocks.specs.Live.{live_of}
+use Rattle.leak_index.specs.Leads.{Distances}
 use Rattle.leak_index.specs.Hits.{Index, hits_of}
 use Rattle.leak_scan.specs.Targets.{page_of}
 use Rattle.leak_marks.specs.Lists.{Has}
@@ -40,11 +41,11 @@ OthersLeadWithin word_now index pages kept fresh =
     → (j : ℕ) → Has (hits_of index w) j → Has kept j ⊎ Has fresh j
 
 -- the live blocks of the lines, and a reading
-abbrev pub index_of_live : Option (List ℕ) → List Line → Index
+abbrev pub index_of_live : Distances → List Line → Index
 index_of_live reading lines = record { blocks = live_of lines; reading = reading }
 
 -- two logs, the first a beginning of the second, and what is marked in the earlier core
-pub record IsMarkedBefore (word_before : ℕ → Option ℕ) (reading : Option (List ℕ))
+pub record IsMarkedBefore (word_before : ℕ → Option ℕ) (reading : Distances)
     (first_before : List ℕ) (before after : List Line) (set : List Bool) : Type 0 where
   pub marked :
       IsSet set (length (live_of before))
@@ -53,7 +54,7 @@ pub record IsMarkedBefore (word_before : ℕ → Option ℕ) (reading : Option (
 -- a word, in the later core, of a kept block on a page that doesn't differ leads to kept and fresh blocks alone
 abbrev pub SameWordsLeadWithin : Type 0
 SameWordsLeadWithin =
-    (word_before word_now : ℕ → Option ℕ) (reading : Option (List ℕ)) (first_before : List ℕ)
+    (word_before word_now : ℕ → Option ℕ) (reading : Distances) (first_before : List ℕ)
     (before after : List Line) (set : List Bool)
     → IsMarkedBefore word_before reading first_before before after set
     → (i : ℕ) (b : Block) → slice_get (live_of (before ++ after)) i ≡ Some b

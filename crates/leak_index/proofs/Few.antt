@@ -1,36 +1,47 @@
 -- A word leads to two disjoint blocks at most.
-use Rattle.std.proofs.Common.{◌≡◌, ℕ, suc, ◌+◌, ◌-◌, ◌<◌, ◌≤◌, Bool, true, false, ◌&&◌, refl, List, [], ◌∷◌, length, arith, nat_le, leb→le, if◌then◌else◌, Option}
+use Rattle.std.proofs.Common.{◌≡◌, ℕ, suc, ◌+◌, ◌-◌, ◌<◌, ◌≤◌, Bool, true, false, ◌&&◌, refl, List, [], ◌∷◌, length, arith, nat_le, leb→le, ltb→lt, if◌then◌else◌}
 use Rattle.std.specs.Bool.{passes}
 use Rattle.std.specs.List.{AllByRecursion}
 use Rattle.leak_blocks.specs.declared.block.Block.{Block}
 use Rattle.leak_blocks.specs.Span.{AreDisjoint, span_end}
 use Rattle.leak_index.specs.Hits.{hits_from}
-use Rattle.leak_index.specs.Leads.{leads, allows}
+use Rattle.leak_index.specs.Leads.{Distances, leads, allows, is_up_to_end}
 
-and_left : (x y : Bool) → (x && y) ≡ true → x ≡ true
+pub and_left : (x y : Bool) → (x && y) ≡ true → x ≡ true
 and_left true y h = refl
 and_left false y h = h
 
-and_right : (x y : Bool) → (x && y) ≡ true → y ≡ true
+pub and_right : (x y : Bool) → (x && y) ≡ true → y ≡ true
 and_right true y h = h
 and_right false y h = elim (true≢false' h) [ ]
   where
     true≢false' : false ≡ true → ⊥
     true≢false' e = cc
 
-from_start : (r : Option (List ℕ)) (w : ℕ) (b : Block) → leads r w b ≡ true → b.start ≤ w
-from_start r w b h = leb→le _ _ (passes _ (and_left (nat_le b.start w) (nat_le w (b.start + b.size)) (and_left (nat_le b.start w && nat_le w (b.start + b.size)) (allows r (w - b.start)) h)))
+pub led_part : (r : Distances) (w : ℕ) (b : Block) → leads r w b ≡ true → (nat_le b.start w && is_up_to_end r.skips_ends w b) ≡ true
+led_part r w b h = and_left (nat_le b.start w && is_up_to_end r.skips_ends w b) (allows r.listed (w - b.start)) h
 
-to_end : (r : Option (List ℕ)) (w : ℕ) (b : Block) → leads r w b ≡ true → w ≤ span_end b
-to_end r w b h =
-    let e : w ≤ b.start + b.size = leb→le _ _ (passes _ (and_right (nat_le b.start w) (nat_le w (b.start + b.size)) (and_left (nat_le b.start w && nat_le w (b.start + b.size)) (allows r (w - b.start)) h))) in
-    omega arith
+pub from_start : (r : Distances) (w : ℕ) (b : Block) → leads r w b ≡ true → b.start ≤ w
+from_start r w b h = leb→le _ _ (passes _ (and_left (nat_le b.start w) (is_up_to_end r.skips_ends w b) (led_part r w b h)))
 
-hit_or : (P : ℕ → Type 0) (n : ℕ) (xs : List ℕ) (t : Bool) → (t ≡ true → P (suc (length xs))) → (t ≡ false → P (length xs)) → P (length (if t then n ∷ xs else xs))
+pub ended : (r : Distances) (w : ℕ) (b : Block) → leads r w b ≡ true → is_up_to_end r.skips_ends w b ≡ true
+ended r w b h = and_right (nat_le b.start w) (is_up_to_end r.skips_ends w b) (led_part r w b h)
+
+pub before_end : (w : ℕ) (b : Block) → is_up_to_end true w b ≡ true → w < span_end b
+before_end w b h = ltb→lt _ _ (passes _ h)
+
+up_to_end : (s : Bool) (w : ℕ) (b : Block) → is_up_to_end s w b ≡ true → w ≤ span_end b
+up_to_end false w b h = let e : w ≤ b.start + b.size = leb→le _ _ (passes _ h) in omega arith
+up_to_end true w b h = omega (arith, before_end w b h)
+
+to_end : (r : Distances) (w : ℕ) (b : Block) → leads r w b ≡ true → w ≤ span_end b
+to_end r w b h = up_to_end r.skips_ends w b (ended r w b h)
+
+pub hit_or : (P : ℕ → Type 0) (n : ℕ) (xs : List ℕ) (t : Bool) → (t ≡ true → P (suc (length xs))) → (t ≡ false → P (length xs)) → P (length (if t then n ∷ xs else xs))
 hit_or P n xs true led not_led = led refl
 hit_or P n xs false led not_led = not_led refl
 
-none_above : (n : ℕ) (r : Option (List ℕ)) (blocks : List Block) (w e : ℕ) → w < e → AllByRecursion (λ c. e ≤ c.start) blocks → length (hits_from n r blocks w) ≤ 0
+pub none_above : (n : ℕ) (r : Distances) (blocks : List Block) (w e : ℕ) → w < e → AllByRecursion (λ c. e ≤ c.start) blocks → length (hits_from n r blocks w) ≤ 0
 none_above n r [] w e low above = omega arith
 none_above n r (b ∷ blocks) w e low above =
     hit_or (λ k. k ≤ 0) n (hits_from (n + 1) r blocks w) (leads r w b)
@@ -41,14 +52,14 @@ weaken : (e f : ℕ) (blocks : List Block) → e ≤ f → AllByRecursion (λ c.
 weaken e f [] h above = tt
 weaken e f (b ∷ blocks) h above = (omega (arith, above.0), weaken e f blocks h above.1)
 
-one_at_start : (n : ℕ) (r : Option (List ℕ)) (blocks : List Block) (w e : ℕ) → w ≤ e → AllByRecursion (λ c. e ≤ c.start) blocks → AreDisjoint blocks → length (hits_from n r blocks w) ≤ 1
+one_at_start : (n : ℕ) (r : Distances) (blocks : List Block) (w e : ℕ) → w ≤ e → AllByRecursion (λ c. e ≤ c.start) blocks → AreDisjoint blocks → length (hits_from n r blocks w) ≤ 1
 one_at_start n r [] w e low above apart = omega arith
 one_at_start n r (b ∷ blocks) w e low above apart =
     hit_or (λ k. k ≤ 1) n (hits_from (n + 1) r blocks w) (leads r w b)
     (λ led. omega (arith, none_above (n + 1) r blocks w (span_end b) (omega (arith, from_start r w b led, above.0)) apart.0))
     (λ not_led. one_at_start (n + 1) r blocks w e low above.1 apart.1)
 
-pub two_at_most : (n : ℕ) (r : Option (List ℕ)) (blocks : List Block) (w : ℕ) → AreDisjoint blocks → length (hits_from n r blocks w) ≤ 2
+pub two_at_most : (n : ℕ) (r : Distances) (blocks : List Block) (w : ℕ) → AreDisjoint blocks → length (hits_from n r blocks w) ≤ 2
 two_at_most n r [] w apart = omega arith
 two_at_most n r (b ∷ blocks) w apart =
     hit_or (λ k. k ≤ 2) n (hits_from (n + 1) r blocks w) (leads r w b)
@@ -56,7 +67,7 @@ two_at_most n r (b ∷ blocks) w apart =
     (λ not_led. two_at_most (n + 1) r blocks w apart.1)
 
 -- the numbers are below any bound that the last block's number is below
-pub hits_below : (n m : ℕ) (r : Option (List ℕ)) (blocks : List Block) (w : ℕ) → n + length blocks ≤ m → AllByRecursion (λ i. i < m) (hits_from n r blocks w)
+pub hits_below : (n m : ℕ) (r : Distances) (blocks : List Block) (w : ℕ) → n + length blocks ≤ m → AllByRecursion (λ i. i < m) (hits_from n r blocks w)
 hits_below n m r [] w h = tt
 hits_below n m r (b ∷ blocks) w h = go (leads r w b) (hits_below (n + 1) m r blocks w (omega arith))
   where

@@ -1,3 +1,4 @@
+pub mod EndsLemmas
 pub mod Few
 pub mod Listed
 pub mod Listing

@@ -1,6 +1,6 @@
 -- Only the last two blocks that begin at a word or before it can be led to.
-use Rattle.std.proofs.Common.{◌≡◌, ℕ, zero, suc, ◌+◌, ◌-◌, ◌<◌, ◌≤◌, Bool, true, false, ◌&&◌, ◌||◌, ◌==◌, refl, ap, sym, ◌∙◌, subst, List, [], ◌∷◌, length, slice_index_or, arith, nat_le, nat_lt, ltb→lt, nltb→le, if◌then◌else◌, Option, None, Some, ◌⊎◌, inl, inr}
-use Rattle.std.proofs.lemmas.Bool.{le-leb, lt-leb}
+use Rattle.std.proofs.Common.{◌≡◌, ℕ, zero, suc, ◌+◌, ◌-◌, ◌<◌, ◌≤◌, Bool, true, false, ◌&&◌, ◌||◌, ◌==◌, refl, ap, sym, ◌∙◌, subst, max, List, [], ◌∷◌, length, slice_index_or, arith, nat_le, nat_lt, ltb→lt, nltb→le, if◌then◌else◌, Option, None, Some, ◌⊎◌, inl, inr}
+use Rattle.std.proofs.lemmas.Bool.{le-leb, le-ltb, lt-leb, lt-ltb}
 use Rattle.std.specs.Bool.{passes, fails}
 use Rattle.std.specs.List.{AllByRecursion, list_any}
 use Rattle.std.specs.List.Sorted.{IsNonDecreasingBy}
@@ -8,7 +8,7 @@ use Rattle.leak_blocks.specs.declared.block.Block.{Block}
 use Rattle.leak_blocks.specs.Span.{AreDisjoint, span_end}
 use Rattle.leak_index.specs.Bounds.{AreWithin, IsCountUpTo}
 use Rattle.leak_index.specs.Hits.{hits_from}
-use Rattle.leak_index.specs.Leads.{leads, allows}
+use Rattle.leak_index.specs.Leads.{Distances, leads, allows, is_up_to_end}
 use Rattle.leak_index.specs.Places.{IsOnlyStart}
 
 -- by which of two numbers is greater
@@ -21,26 +21,30 @@ either a b P low high = go (nat_lt a b) refl
 
 -- ---- blocks that are not led to
 
-before_start : (r : Option (List ℕ)) (w : ℕ) (b : Block) → w < b.start → leads r w b ≡ false
-before_start r w b h = ap (λ t. t && nat_le w (b.start + b.size) && allows r (w - b.start)) (lt-leb b.start w h)
+before_start : (r : Distances) (w : ℕ) (b : Block) → w < b.start → leads r w b ≡ false
+before_start r w b h = ap (λ t. t && is_up_to_end r.skips_ends w b && allows r.listed (w - b.start)) (lt-leb b.start w h)
 
 and_false : (x y : Bool) → y ≡ false → (x && y) ≡ false
 and_false true y h = h
 and_false false y h = refl
 
-behind_end : (r : Option (List ℕ)) (w : ℕ) (b : Block) → b.start + b.size < w → leads r w b ≡ false
-behind_end r w b h = ap (λ t. t && allows r (w - b.start)) (and_false (nat_le b.start w) (nat_le w (b.start + b.size)) (lt-leb w (b.start + b.size) h))
+past_end : (s : Bool) (w : ℕ) (b : Block) → b.start + b.size < w → is_up_to_end s w b ≡ false
+past_end false w b h = lt-leb w (b.start + b.size) h
+past_end true w b h = le-ltb w (b.start + max b.size 1) (omega (arith, h))
 
-skipped : (n : ℕ) (r : Option (List ℕ)) (b : Block) (bs : List Block) (w : ℕ) → leads r w b ≡ false → hits_from n r (b ∷ bs) w ≡ hits_from (n + 1) r bs w
+behind_end : (r : Distances) (w : ℕ) (b : Block) → b.start + b.size < w → leads r w b ≡ false
+behind_end r w b h = ap (λ t. t && allows r.listed (w - b.start)) (and_false (nat_le b.start w) (is_up_to_end r.skips_ends w b) (past_end r.skips_ends w b h))
+
+skipped : (n : ℕ) (r : Distances) (b : Block) (bs : List Block) (w : ℕ) → leads r w b ≡ false → hits_from n r (b ∷ bs) w ≡ hits_from (n + 1) r bs w
 skipped n r b bs w h = ap (λ t. if t then n ∷ hits_from (n + 1) r bs w else hits_from (n + 1) r bs w) h
 
 -- none of a list, where each begins after the word
-pub none_below : (n : ℕ) (r : Option (List ℕ)) (bs : List Block) (w : ℕ) → AllByRecursion (λ b. w < b.start) bs → hits_from n r bs w ≡ []
+pub none_below : (n : ℕ) (r : Distances) (bs : List Block) (w : ℕ) → AllByRecursion (λ b. w < b.start) bs → hits_from n r bs w ≡ []
 none_below n r [] w h = refl
 none_below n r (b ∷ bs) w h = skipped n r b bs w (before_start r w b h.0) ∙ none_below (n + 1) r bs w h.1
 
 -- none of a list, where each ends before the word
-pub none_above : (n : ℕ) (r : Option (List ℕ)) (bs : List Block) (w : ℕ) → AllByRecursion (λ b. b.start + b.size < w) bs → hits_from n r bs w ≡ []
+pub none_above : (n : ℕ) (r : Distances) (bs : List Block) (w : ℕ) → AllByRecursion (λ b. b.start + b.size < w) bs → hits_from n r bs w ≡ []
 none_above n r [] w h = refl
 none_above n r (b ∷ bs) w h = skipped n r b bs w (behind_end r w b h.0) ∙ none_above (n + 1) r bs w h.1
 
@@ -83,7 +87,7 @@ near true false i j = i ∷ []
 near false true i j = j ∷ []
 near false false i j = []
 
-two_of : (n : ℕ) (r : Option (List ℕ)) (b c : Block) (bs : List Block) (w : ℕ) → hits_from (n + 1 + 1) r bs w ≡ [] → hits_from n r (b ∷ c ∷ bs) w ≡ near (leads r w b) (leads r w c) n (n + 1)
+two_of : (n : ℕ) (r : Distances) (b c : Block) (bs : List Block) (w : ℕ) → hits_from (n + 1 + 1) r bs w ≡ [] → hits_from n r (b ∷ c ∷ bs) w ≡ near (leads r w b) (leads r w c) n (n + 1)
 two_of n r b c bs w h = go (leads r w b) (leads r w c) (hits_from (n + 1 + 1) r bs w) h
   where
     go : (t u : Bool) (xs : List ℕ) → xs ≡ [] → (if t then n ∷ (if u then (n + 1) ∷ xs else xs) else (if u then (n + 1) ∷ xs else xs)) ≡ near t u n (n + 1)
@@ -92,7 +96,7 @@ two_of n r b c bs w h = go (leads r w b) (leads r w c) (hits_from (n + 1 + 1) r 
     go false true xs e = ap (λ ys. (n + 1) ∷ ys) e
     go false false xs e = e
 
-near_from : (n : ℕ) (r : Option (List ℕ)) (bs : List Block) (w m q i count : ℕ) (d : Block) → AreDisjoint bs → IsCountUpTo bs w count → count ≡ m + 2 → q ≡ m + 1 → i ≡ n + m →
+near_from : (n : ℕ) (r : Distances) (bs : List Block) (w m q i count : ℕ) (d : Block) → AreDisjoint bs → IsCountUpTo bs w count → count ≡ m + 2 → q ≡ m + 1 → i ≡ n + m →
     hits_from n r bs w ≡ near (leads r w (slice_index_or bs m d)) (leads r w (slice_index_or bs q d)) i (i + 1)
 near_from n r [] w m q i count d apart up e f g = absurd (omega (arith, up.bound))
 near_from n r (b ∷ []) w m q i count d apart up e f g = absurd (omega (arith, up.bound))
@@ -117,11 +121,11 @@ near_from n r (b ∷ c ∷ x ∷ bs) w (suc m) (suc q) i count d apart up e f g 
     ∙ near_from (n + 1) r (c ∷ x ∷ bs) w m q i (count - 1) d apart.1 others (omega (arith, e)) (omega (arith, f)) (omega (arith, g))
 
 -- none begins at the word or before it
-pub found_none : (r : Option (List ℕ)) (bs : List Block) (w : ℕ) → IsCountUpTo bs w 0 → [] ≡ hits_from 0 r bs w
+pub found_none : (r : Distances) (bs : List Block) (w : ℕ) → IsCountUpTo bs w 0 → [] ≡ hits_from 0 r bs w
 found_none r bs w up = sym (none_below 0 r bs w (by_number w bs (λ k d h. up.beyond k d (omega arith) h)))
 
 -- one does
-pub found_one : (r : Option (List ℕ)) (bs : List Block) (w count : ℕ) (d : Block) (t : Bool) → IsCountUpTo bs w count → ¬ (count ≡ 0) → count - 1 ≡ 0 → t ≡ leads r w (slice_index_or bs (count - 1) d) → near false t 0 0 ≡ hits_from 0 r bs w
+pub found_one : (r : Distances) (bs : List Block) (w count : ℕ) (d : Block) (t : Bool) → IsCountUpTo bs w count → ¬ (count ≡ 0) → count - 1 ≡ 0 → t ≡ leads r w (slice_index_or bs (count - 1) d) → near false t 0 0 ≡ hits_from 0 r bs w
 found_one r [] w count d t up some one e = absurd (some (omega (arith, up.bound)))
 found_one r (b ∷ bs) w count d t up some one e =
     let led : t ≡ leads r w b = rw one at e in
@@ -133,7 +137,7 @@ found_one r (b ∷ bs) w count d t up some one e =
     go false xs h = sym h
 
 -- two or more do
-pub found_two : (r : Option (List ℕ)) (bs : List Block) (w count : ℕ) (d : Block) (t u : Bool) → AreDisjoint bs → IsCountUpTo bs w count → 2 ≤ count →
+pub found_two : (r : Distances) (bs : List Block) (w count : ℕ) (d : Block) (t u : Bool) → AreDisjoint bs → IsCountUpTo bs w count → 2 ≤ count →
     t ≡ leads r w (slice_index_or bs (count - 1 - 1) d) → u ≡ leads r w (slice_index_or bs (count - 1) d) → near t u (count - 1 - 1) (count - 1) ≡ hits_from 0 r bs w
 found_two r bs w count d t u apart up h et eu =
     let next : count - 1 - 1 + 1 ≡ count - 1 = omega arith in
@@ -147,18 +151,22 @@ allows_start : (r : Option (List ℕ)) (distance : ℕ) → distance ≡ 0 → a
 allows_start None distance is = refl
 allows_start (Some listed) distance is = ap (λ n. (n == 0) || list_any (λ d. d == distance) listed) is
 
-leads_start : (r : Option (List ℕ)) (w : ℕ) (b : Block) → b.start ≡ w → leads r w b ≡ true
+start_counts : (s : Bool) (w : ℕ) (b : Block) → b.start ≡ w → is_up_to_end s w b ≡ true
+start_counts false w b is = le-leb w (b.start + b.size) (omega (arith, is))
+start_counts true w b is = lt-ltb w (b.start + max b.size 1) (omega (arith, is))
+
+leads_start : (r : Distances) (w : ℕ) (b : Block) → b.start ≡ w → leads r w b ≡ true
 leads_start r w b is =
-    ap (λ t. t && nat_le w (b.start + b.size) && allows r (w - b.start)) (le-leb b.start w (omega (arith, is)))
-    ∙ ap (λ t. t && allows r (w - b.start)) (le-leb w (b.start + b.size) (omega (arith, is)))
-    ∙ allows_start r (w - b.start) (omega (arith, is))
+    ap (λ t. t && is_up_to_end r.skips_ends w b && allows r.listed (w - b.start)) (le-leb b.start w (omega (arith, is)))
+    ∙ ap (λ t. t && allows r.listed (w - b.start)) (start_counts r.skips_ends w b is)
+    ∙ allows_start r.listed (w - b.start) (omega (arith, is))
 
 -- the blocks after it begin after the word
 start_past : (w : ℕ) (b : Block) (bs : List Block) → b.start ≡ w → AllByRecursion (λ c. span_end b ≤ c.start) bs → AllByRecursion (λ c. w < c.start) bs
 start_past w b [] is all = tt
 start_past w b (c ∷ bs) is all = (omega (arith, is, all.0), start_past w b bs is all.1)
 
-only_from : (n : ℕ) (r : Option (List ℕ)) (bs : List Block) (w number : ℕ) → AreDisjoint bs → IsOnlyStart bs w number → hits_from n r bs w ≡ (n + number) ∷ []
+only_from : (n : ℕ) (r : Distances) (bs : List Block) (w number : ℕ) → AreDisjoint bs → IsOnlyStart bs w number → hits_from n r bs w ≡ (n + number) ∷ []
 only_from n r [] w number apart only = absurd (omega (arith, only.inside))
 only_from n r (b ∷ bs) w zero apart only =
     ap (λ t. if t then n ∷ hits_from (n + 1) r bs w else hits_from (n + 1) r bs w) (leads_start r w b (only.here b))
@@ -175,7 +183,7 @@ only_from n r (b ∷ bs) w (suc number) apart only =
     ∙ ap (λ k. k ∷ []) (omega arith)
 
 -- a word at the start of a block leads to it alone, where each block before it ends before the word
-pub found_only : (r : Option (List ℕ)) (bs : List Block) (w number : ℕ) → AreDisjoint bs → IsOnlyStart bs w number → number ∷ [] ≡ hits_from 0 r bs w
+pub found_only : (r : Distances) (bs : List Block) (w number : ℕ) → AreDisjoint bs → IsOnlyStart bs w number → number ∷ [] ≡ hits_from 0 r bs w
 found_only r bs w number apart only =
     let none : 0 + number ≡ number = omega arith in
     sym (only_from 0 r bs w number apart only ∙ ap (λ k. k ∷ []) none)

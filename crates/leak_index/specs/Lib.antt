@@ -7,3 +7,4 @@ pub mod Places
 pub mod Rows
 pub mod Ranks
 pub mod Finder
+pub mod Laws

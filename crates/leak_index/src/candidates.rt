@@ -5,7 +5,7 @@ ghost use Rattle.leak_index.specs.Bounds.{AreWithin, IsCountUpTo};
 ghost use Rattle.leak_index.specs.Hits.{Index, hits_in, hits_of};
 ghost use Rattle.leak_index.specs.Leads.{leads};
 ghost use Rattle.leak_index.specs.Places.{IsPlace};
-ghost use Rattle.leak_index.specs.Readings.{listed_by};
+ghost use Rattle.leak_index.specs.Readings.{distances_of};
 
 use crate::hits::Hits;
 use crate::place::Place;
@@ -27,7 +27,7 @@ impl<'a> Model for Candidates<'a> {
     ghost Value = { Index };
 
     ghost view = { λ candidates.
-        record { blocks = candidates.blocks.now; reading = listed_by candidates.reading } };
+        record { blocks = candidates.blocks.now; reading = distances_of candidates.reading } };
 
     ghost invariant = { λ candidates.
         AreWithin candidates.blocks.now candidates.low candidates.high };
@@ -36,7 +36,7 @@ impl<'a> Model for Candidates<'a> {
 impl<'a> Candidates<'a> {
     /// The live blocks and the reading.
     pub(crate) fn new(live: &'a Live, reading: Reading) -> Candidates<'a>
-        ensures { result ≡ record { blocks = live.now.blocks; reading = listed_by reading } }
+        ensures { result ≡ record { blocks = live.now.blocks; reading = distances_of reading } }
     {
         let blocks = live.blocks();
         if blocks.is_empty() {
@@ -110,11 +110,12 @@ impl<'a> Candidates<'a> {
 
 /// Whether the word leads to the block.
 fn leads(reading: &Reading, word: u64, block: &Block) -> bool
-    ensures { result ≡ leads (listed_by reading.now) word block.now }
+    ensures { result ≡ leads (distances_of reading.now) word block.now }
 {
     let block = *block;
     if word < block.start {
         return false;
     }
-    word - block.start <= block.size && reading.allows(word - block.start)
+    let distance = word - block.start;
+    distance <= reading.last(block.size) && reading.allows(distance)
 }

@@ -9,7 +9,8 @@
 //!
 //! The rule follows bdwgc's conservative marking with interior pointers: a word that could be an address into a block
 //! keeps it. Own rule: it counts for words of registers and stacks as for all others, the address after the last
-//! byte counts too, and both of two neighbors are kept. The contracts don't say that a word is a pointer.
+//! byte counts too, and both of two neighbors are kept; or, where a reading leaves ends out, neither counts it nor keeps
+//! the first. The contracts don't say that a word is a pointer.
 #![tactic(auto)]
 
 mod candidates;
@@ -26,7 +27,7 @@ mod sorted;
 
 pub use error::ReadingError;
 pub use hits::{Hits, Lookup};
-pub use laws::{at_most_two, hits_are_blocks, worked_words};
+pub use laws::{at_most_two, ends_left_out, hits_are_blocks, worked_words};
 pub use paged::Paged;
 pub use reading::Reading;
 pub use sorted::Sorted;

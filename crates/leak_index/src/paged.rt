@@ -2,7 +2,7 @@
 ghost use Rattle.std.specs.Prelude.{◌≡◌, IfOk};
 ghost use Rattle.leak_index.specs.Finder.{Finds};
 ghost use Rattle.leak_index.specs.Hits.{Index};
-ghost use Rattle.leak_index.specs.Readings.{listed_by};
+ghost use Rattle.leak_index.specs.Readings.{distances_of};
 
 use crate::candidates::Candidates;
 use crate::finder::Finder;
@@ -34,7 +34,7 @@ impl<'a> Paged<'a> {
     /// The lookup among the blocks by the reading.
     pub fn new(alloc: Global, live: &'a Live, reading: Reading) -> Result<Paged<'a>, AllocError>
         ensures { IfOk result (λ paged.
-            paged ≡ record { blocks = live.now.blocks; reading = listed_by reading }) }
+            paged ≡ record { blocks = live.now.blocks; reading = distances_of reading }) }
     {
         let candidates = Candidates::new(live, reading);
         let finder = Finder::new(alloc, candidates.blocks())?;

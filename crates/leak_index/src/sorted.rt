@@ -3,7 +3,7 @@ ghost use Rattle.std.specs.Prelude.{◌≡◌};
 ghost use Rattle.leak_blocks.specs.Span.{AreDisjoint};
 ghost use Rattle.leak_index.specs.Bounds.{IsCountUpTo};
 ghost use Rattle.leak_index.specs.Hits.{Index};
-ghost use Rattle.leak_index.specs.Readings.{listed_by};
+ghost use Rattle.leak_index.specs.Readings.{distances_of};
 
 use crate::candidates::Candidates;
 use crate::hits::{Hits, Lookup};
@@ -26,7 +26,7 @@ impl<'a> Model for Sorted<'a> {
 impl<'a> Sorted<'a> {
     /// The lookup among the blocks by the reading.
     pub fn new(live: &'a Live, reading: Reading) -> Sorted<'a>
-        ensures { result ≡ record { blocks = live.now.blocks; reading = listed_by reading } }
+        ensures { result ≡ record { blocks = live.now.blocks; reading = distances_of reading } }
     {
         Sorted {
             candidates: Candidates::new(live, reading),

@@ -38,7 +38,7 @@ abbrev pub as_input : (core log : List ℕ) (lines : List Line) (input : Input) 
 as_input core log lines input read = record { log = log; read = subst (λ (file : List ℕ). IsReadOf file log lines input) (sym read.image) read }
 
 -- the places found are those of the input's root words
-pub roots_found : (lines : List Line) (input : Input) (found places : Places) → AreRootsOf input.image input.live.blocks (spans_of input.skip lines) found
+pub roots_found : (lines : List Line) (input : Input) (found places : Places) → AreRootsOf input.skip.unwritable input.image input.live.blocks (spans_of input.skip lines) found
     → places ≡ record found { skips_links = input.skip.links } → AreRootsFor lines input places
 roots_found lines input found places roots is = subst (λ (p : Places). AreRootsFor lines input p) (sym is) (record {
   roots = record { registers = roots.registers; memory = roots.memory; ranges = roots.ranges; freed = roots.freed };

@@ -84,7 +84,7 @@ pub record IsInput (lines : List Line) (input : Input) : Type 0 where
 
 -- these are the places of the input's root words, without what its search leaves out
 pub record AreRootsFor (lines : List Line) (input : Input) (places : Places) : Type 0 where
-  pub roots : AreRootsOf input.image input.live.blocks (spans_of input.skip lines) places
+  pub roots : AreRootsOf input.skip.unwritable input.image input.live.blocks (spans_of input.skip lines) places
   pub links : places.skips_links ≡ input.skip.links
 
 -- more blocks than there are numbers for them

@@ -95,6 +95,7 @@ pub fn find_roots(alloc: Global, input: &Input) -> Result<Roots, AllocError>
         &input.threads,
         &input.live,
         &input.small,
+        input.skip.unwritable,
     )?;
     Ok(roots.skip_links(input.skip.links))
 }

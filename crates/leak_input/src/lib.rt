@@ -15,7 +15,7 @@
 //! use leak_roots::Skip;
 //!
 //! let core = core_k(alloc, &[])?;
-//! let input = read_input(alloc, 1, Skip::none(), &core, b"+ 0x10100 0x20\n")?;
+//! let input = read_input(alloc, 1, Skip::usual(), &core, b"+ 0x10100 0x20\n")?;
 //! let roots = find_roots(alloc, &input)?;
 //! assert_eq!(rt; head_of(&input, &roots, None).undumped, 0);
 //! ```

@@ -3,7 +3,7 @@
 ghost use Rattle.std.specs.Prelude.{◌≡◌, ◌↔◌, ◌<◌, ◌-◌, ◌^◌, List, IfOk, IsErrOf, length};
 ghost use Rattle.leak_mtrace.specs.declared.line.Line.{Line};
 ghost use Rattle.leak_elf.specs.Words.{word_of};
-ghost use Rattle.leak_index.specs.Readings.{listed_by};
+ghost use Rattle.leak_index.specs.Readings.{distances_of};
 ghost use Rattle.leak_pool.specs.Marking.{Marks};
 ghost use Rattle.leak_input.specs.Inputs.{AreRootsFor, IsInput};
 
@@ -42,7 +42,7 @@ pub fn ground_of<'a>(
     ensures roots { (lines : List Line) → IsInput lines input.now
         → IfOk result (λ ground. AreRootsFor lines input.now ground.roots) }
     ensures lookup { IfOk result (λ ground. ground.lookup
-        ≡ record { blocks = input.now.live.blocks; reading = listed_by reading }) }
+        ≡ record { blocks = input.now.live.blocks; reading = distances_of reading }) }
 {
     let roots = find_roots(alloc, input)?;
     let lookup = Paged::new(alloc, &input.live, reading)?;

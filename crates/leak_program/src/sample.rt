@@ -29,7 +29,7 @@ pub fn search_sample<R: AllocGlobal + Threads + Sync, W: Write, V: Write>(
     let options = Options {
         two: false,
         reading: Reading::interior(),
-        skip: Skip::none(),
+        skip: Skip::usual(),
         plan: Plan::new(4, 512, 1024).unwrap(),
         other_heap: true,
         check: false,

@@ -96,7 +96,7 @@ fn scene_of<'a>(alloc: Global, core: &'a [u8], log: &str) -> Option<Scene<'a>> {
     let threads = Threads::read(alloc, &image).ok()?;
     let live = live_of(alloc, log)?;
     let small = SmallSpans::none(alloc);
-    let roots = Roots::find(alloc, &image, &threads, &live, &small).ok()?;
+    let roots = Roots::find(alloc, &image, &threads, &live, &small, true).ok()?;
     Some(Scene { image, live, roots })
 }
 

@@ -31,7 +31,7 @@ pub(crate) fn roots(alloc: Global) -> Option<Answer> {
     let threads = Threads::read(alloc, &image).ok()?;
     let live = live_of(alloc, "")?;
     let small = SmallSpans::none(alloc);
-    match Roots::find(alloc, &image, &threads, &live, &small) {
+    match Roots::find(alloc, &image, &threads, &live, &small, true) {
         Ok(roots) => Some(Answer::of(
             roots.registers().len() == 27
                 && roots.memory() == [(0x10000u64, 0x11000u64)].as_slice(),
@@ -48,7 +48,7 @@ pub(crate) fn unfreed_roots(alloc: Global) -> Option<Answer> {
     let log = Log::read(alloc, b"+ 0x10100 0x20\n- 0x10100\n").ok()?;
     let live = replay(alloc, &log).ok()?;
     let small = small_spans(alloc, &log).ok()?;
-    match Roots::find(alloc, &image, &threads, &live, &small) {
+    match Roots::find(alloc, &image, &threads, &live, &small, true) {
         Ok(roots) => Some(Answer::of(
             roots.freed() == 4
                 && roots.memory() == [(0x10000u64, 0x10100u64), (0x10120, 0x11000)].as_slice(),
@@ -77,7 +77,7 @@ fn roots_outside(alloc: Global) -> Option<Roots> {
     let threads = Threads::read(alloc, &image).ok()?;
     let live = live_of(alloc, "+ 0x10100 0x20\n")?;
     let small = SmallSpans::none(alloc);
-    Roots::find(alloc, &image, &threads, &live, &small).ok()
+    Roots::find(alloc, &image, &threads, &live, &small, true).ok()
 }
 
 /// `cut` of these roots.

@@ -66,7 +66,7 @@ pub(crate) fn alone(alloc: Global) -> Option<Answer> {
         core.as_slice(),
         ONE_BLOCK.as_bytes(),
         Reading::interior(),
-        Skip::none(),
+        Skip::usual(),
         false,
     );
     Some(answer_of(found, LOST))
@@ -80,7 +80,7 @@ pub(crate) fn vectors(alloc: Global) -> Option<Answer> {
         core.as_slice(),
         ONE_BLOCK.as_bytes(),
         Reading::interior(),
-        Skip::none(),
+        Skip::usual(),
         false,
     );
     Some(answer_of(found, HELD))
@@ -107,7 +107,7 @@ pub(crate) fn unfreed(alloc: Global) -> Option<Answer> {
         Reading::interior(),
         Skip {
             freed: true,
-            links: false,
+            ..Skip::usual()
         },
         false,
     );
@@ -134,7 +134,7 @@ pub(crate) fn checked(alloc: Global) -> Option<Answer> {
         core.as_slice(),
         ONE_BLOCK.as_bytes(),
         Reading::interior(),
-        Skip::none(),
+        Skip::usual(),
         true,
     );
     Some(answer_of(found, MISFIT))
@@ -165,8 +165,8 @@ pub(crate) fn unlinked(alloc: Global) -> Option<Answer> {
         b"+ 0x10100 0x20\n+ 0x10200 0x10\n",
         Reading::interior(),
         Skip {
-            freed: false,
             links: true,
+            ..Skip::usual()
         },
         false,
     );
@@ -182,7 +182,7 @@ pub(crate) fn by_workers<R: AllocGlobal + Threads + Sync>(rt: &R) -> Option<Answ
         sample.core.as_slice(),
         sample.log.as_bytes(),
         Reading::interior(),
-        Skip::none(),
+        Skip::usual(),
         false,
         Plan::new(3, 16, 4).ok()?,
         &Open,
@@ -209,7 +209,7 @@ pub(crate) fn two_cores<R: AllocGlobal + Threads + Sync>(rt: &R) -> Option<Answe
         second.as_slice(),
         MOVED.as_bytes(),
         Reading::interior(),
-        Skip::none(),
+        Skip::usual(),
         false,
         Plan::new(3, 16, 4).ok()?,
         &Open,
@@ -242,7 +242,7 @@ fn options(two: bool, plan: Plan) -> Options
     Options {
         two,
         reading: Reading::interior(),
-        skip: Skip::none(),
+        skip: Skip::usual(),
         plan,
         other_heap: false,
         check: false,
@@ -351,7 +351,7 @@ pub(crate) fn held_by(alloc: Global) -> Option<Answer> {
         &core,
         HOLDING.as_bytes(),
         reading,
-        Skip::none(),
+        Skip::usual(),
         0x10200,
     ) {
         Ok(why) => Answer::of(why.held && why.text.as_slice() == ASKED.as_bytes()),

@@ -66,6 +66,7 @@ pub record IsSearchRequest (name : Text) (rows : List Row) (r : Request) : Type 
   pub reading : IsListedBy (list_in rows) (listed_by r.options.reading)
   pub freed : IsTrue r.options.skip.freed ↔ IsGiven rows (codes "skip-freed")
   pub links : IsTrue r.options.skip.links ↔ IsGiven rows (codes "skip-links")
+  pub unwritable : IsFalse r.options.skip.unwritable ↔ IsGiven rows (codes "all-memory")
   pub check : IsTrue r.options.check ↔ IsGiven rows (codes "check")
   pub checked : IsTrue r.options.check → IsFalse r.options.other_heap
   pub other_heap : IsTrue r.options.other_heap ↔ IsGiven rows (codes "other-heap")
@@ -87,6 +88,7 @@ pub record IsWhyRequest (rows : List Row) (r : Request) : Type 0 where
   pub reading : IsListedBy (list_in rows) (listed_by r.options.reading)
   pub freed : IsTrue r.options.skip.freed ↔ IsGiven rows (codes "skip-freed")
   pub links : IsTrue r.options.skip.links ↔ IsGiven rows (codes "skip-links")
+  pub unwritable : IsFalse r.options.skip.unwritable ↔ IsGiven rows (codes "all-memory")
   pub check : r.options.check ≡ false
   pub other_heap : r.options.other_heap ≡ false
   pub strict : r.options.strict ≡ false

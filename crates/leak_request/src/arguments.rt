@@ -1,6 +1,6 @@
 //! From a command line to what it asks for.
 
-ghost use Rattle.std.specs.Prelude.{◌≡◌, ◌≢◌, ◌<◌, ◌↔◌, IfOk, IsTrue, IfErr, IfNone, IfSome, OnOk, Bool};
+ghost use Rattle.std.specs.Prelude.{◌≡◌, ◌≢◌, ◌<◌, ◌↔◌, IfOk, IsTrue, IsFalse, IfErr, IfNone, IfSome, OnOk, Bool};
 ghost use Rattle.std.specs.Prelude.{codes, false, length, map, option_map, string_bytes};
 ghost use Rattle.clap.specs.Words.{first_of, kind_of};
 ghost use Rattle.leak_index.specs.Readings.{listed_by};
@@ -136,10 +136,13 @@ fn why_request(alloc: Global, found: &ArgMatches) -> Result<Request, UsageFault>
 fn skip(found: &ArgMatches) -> Skip
     ensures freed { IsTrue result.freed ↔ IsGiven (found_rows found.now) (codes "skip-freed") }
     ensures links { IsTrue result.links ↔ IsGiven (found_rows found.now) (codes "skip-links") }
+    ensures unwritable { IsFalse result.unwritable
+        ↔ IsGiven (found_rows found.now) (codes "all-memory") }
 {
     Skip {
         freed: is_given(found, "skip-freed"),
         links: is_given(found, "skip-links"),
+        unwritable: !is_given(found, "all-memory"),
     }
 }
 

@@ -336,13 +336,13 @@ pub filter_alike : (p q : ℕ → Bool) (xs : List ℕ) → ((a : ℕ) → p a �
 filter_alike p q [] h = refl
 filter_alike p q (x ∷ xs) h = rw (h x, filter_alike p q xs h) refl
 
-pub root_places_same : (file : List ℕ) (blocks : List Block) (spans others : List Span) → CoverSame spans others → root_places file blocks spans ≡ root_places file blocks others
+pub root_places_same : (unwritable : Bool) (file : List ℕ) (blocks : List Block) (spans others : List Span) → CoverSame spans others → root_places unwritable file blocks spans ≡ root_places unwritable file blocks others
 unfolding root_places
-root_places_same file blocks spans others same = filter_alike (λ a. not (is_freed spans a)) (λ a. not (is_freed others a)) (outside_places file blocks) (λ a. ap not (freed_same spans others a same))
+root_places_same unwritable file blocks spans others same = filter_alike (λ a. not (is_freed spans a)) (λ a. not (is_freed others a)) (outside_places unwritable file blocks) (λ a. ap not (freed_same spans others a same))
 
-pub freed_places_same : (file : List ℕ) (blocks : List Block) (spans others : List Span) → CoverSame spans others → freed_places file blocks spans ≡ freed_places file blocks others
+pub freed_places_same : (unwritable : Bool) (file : List ℕ) (blocks : List Block) (spans others : List Span) → CoverSame spans others → freed_places unwritable file blocks spans ≡ freed_places unwritable file blocks others
 unfolding freed_places
-freed_places_same file blocks spans others same = filter_alike (is_freed spans) (is_freed others) (outside_places file blocks) (λ a. freed_same spans others a same)
+freed_places_same unwritable file blocks spans others same = filter_alike (is_freed spans) (is_freed others) (outside_places unwritable file blocks) (λ a. freed_same spans others a same)
 
 -- ---- no spans
 
@@ -365,13 +365,13 @@ none_left_out spans places none = sym (filter_whole (λ a. not (is_freed spans a
 pub none_counted : (spans : List Span) (places : List ℕ) → length spans ≡ 0 → 0 ≡ length (filter (is_freed spans) places)
 none_counted spans places none = sym (ap length (filter_empty (is_freed spans) places (λ a. none_freed spans a none)))
 
-pub root_places_some : (file : List ℕ) (blocks : List Block) (spans : List Span) (places : List ℕ) → places ≡ outside_places file blocks → filter (λ a. not (is_freed spans a)) places ≡ root_places file blocks spans
+pub root_places_some : (unwritable : Bool) (file : List ℕ) (blocks : List Block) (spans : List Span) (places : List ℕ) → places ≡ outside_places unwritable file blocks → filter (λ a. not (is_freed spans a)) places ≡ root_places unwritable file blocks spans
 unfolding root_places
-root_places_some file blocks spans places e = ap (filter (λ a. not (is_freed spans a))) e
+root_places_some unwritable file blocks spans places e = ap (filter (λ a. not (is_freed spans a))) e
 
-pub freed_places_some : (file : List ℕ) (blocks : List Block) (spans : List Span) (places : List ℕ) → places ≡ outside_places file blocks → filter (is_freed spans) places ≡ freed_places file blocks spans
+pub freed_places_some : (unwritable : Bool) (file : List ℕ) (blocks : List Block) (spans : List Span) (places : List ℕ) → places ≡ outside_places unwritable file blocks → filter (is_freed spans) places ≡ freed_places unwritable file blocks spans
 unfolding freed_places
-freed_places_some file blocks spans places e = ap (filter (is_freed spans)) e
+freed_places_some unwritable file blocks spans places e = ap (filter (is_freed spans)) e
 
 unfoldable pub no_span : Span
 no_span = record { first = 0; last = 0 }

@@ -1,7 +1,7 @@
 pub mod Addresses
 pub mod Ranges
 pub mod Gaps
-pub mod Writable
+pub mod BySegment
 pub mod Cutting
 pub mod Bridges
 pub mod LeftOut

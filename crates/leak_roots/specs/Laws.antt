@@ -1,5 +1,5 @@
 -- What pieces and places say of root words.
-use Rattle.std.specs.Prelude.{◌≡◌, ℕ, List, Option, flat_map}
+use Rattle.std.specs.Prelude.{◌≡◌, ℕ, Bool, List, Option, flat_map}
 use Rattle.leak_elf.specs.Words.{word_of}
 use Rattle.leak_blocks.specs.declared.block.Block.{Block}
 use Rattle.leak_blocks.specs.declared.small.Span.{Span}
@@ -24,5 +24,5 @@ PiecesGiveAll =
 -- the words at the places of a core's root words are its root words
 abbrev pub PlacesHoldRootWords : Type 0
 PlacesHoldRootWords =
-    (file : List ℕ) (blocks : List Block) (spans : List Span) (p : Places)
-    → AreRootsOf file blocks spans p → words_at (word_of file) p ≡ root_words file blocks spans
+    (unwritable : Bool) (file : List ℕ) (blocks : List Block) (spans : List Span) (p : Places)
+    → AreRootsOf unwritable file blocks spans p → words_at (word_of file) p ≡ root_words unwritable file blocks spans

@@ -1,7 +1,8 @@
--- Worked answers: how many root words the sample core has, with no block, with one of 32 bytes, and with a vector entry,
--- and which places are freed.
-use Rattle.std.specs.Prelude.{◌≡◌, ℕ, true, false, [], ◌∷◌, length}
-use Rattle.leak_elf.specs.Sample.{sample}
+-- Worked answers: how many root words the sample core has, with no block, with one of 32 bytes, with a vector entry, and
+-- where its segment can't be written, and which places are freed.
+use Rattle.std.specs.Prelude.{◌≡◌, ◌==◌, ℕ, Bool, true, false, List, [], ◌∷◌, ◌++◌, length, filter}
+use Rattle.std.specs.Int.{w64, to_le_bytes}
+use Rattle.leak_elf.specs.Sample.{sample, file_header, program_header, note_entry}
 use Rattle.leak_notes.specs.Rows.{with_vectors}
 use Rattle.leak_blocks.specs.declared.block.Block.{Block}
 use Rattle.leak_blocks.specs.declared.small.Span.{Span}
@@ -13,10 +14,29 @@ block start size = record { start = start; size = size; line = 1; caller = (0, 0
 abbrev pub span : ℕ → ℕ → Span
 span first last = record { first = first; last = last }
 
+-- a core as the sample, but with two words alone in its segment, of which the second is the address of a block, and with
+-- these flags of the segment: 6 to read and write it, 4 to read it, 0 for neither (gABI, Program Header)
+unfoldable pub with_flags : ℕ → List ℕ
+with_flags flags =
+    file_header 2 ++ program_header 4 0 176 0 356 0 4 ++ program_header 1 flags 532 0x10000 16 16 8
+    ++ note_entry ++ to_le_bytes w64 0 ++ to_le_bytes w64 0x10100
+
+-- how many root words it has, and how many of them are the address of the block
+unfoldable pub counts : Bool → ℕ → ℕ × ℕ
+counts unwritable flags =
+    let words = root_words unwritable (with_flags flags) (block 0x10100 0x20 ∷ []) [] in
+    (length words, length (filter (λ w. w == 0x10100) words))
+
 pub record AreAnswers : Type 0 where
-  pub without_blocks : length (root_words sample [] []) ≡ 539
-  pub with_a_block : length (root_words sample (block 0x10100 0x20 ∷ []) []) ≡ 535
-  pub with_vector_registers : length (root_words with_vectors [] []) ≡ 587
+  pub without_blocks : length (root_words true sample [] []) ≡ 539
+  pub with_a_block : length (root_words true sample (block 0x10100 0x20 ∷ []) []) ≡ 535
+  pub with_vector_registers : length (root_words true with_vectors [] []) ≡ 587
+  pub writable : counts true 6 ≡ (29, 1)
+  pub writable_with_all : counts false 6 ≡ (29, 1)
+  pub read_only : counts true 4 ≡ (27, 0)
+  pub read_only_with_all : counts false 4 ≡ (29, 1)
+  pub no_rights : counts true 0 ≡ (27, 0)
+  pub no_rights_with_all : counts false 0 ≡ (29, 1)
   pub within_a_span : is_freed (span 0x10100 0x1010b ∷ []) 0x10100 ≡ true
   pub half_within_a_span : is_freed (span 0x10100 0x1010b ∷ []) 0x10108 ≡ false
   pub within_two_spans : is_freed (span 0x10104 0x10107 ∷ span 0x10100 0x10103 ∷ []) 0x10100 ≡ true

@@ -14,4 +14,4 @@ spans_of skip lines = if skip.freed then small_spans_of lines else []
 -- how many freed places a core has, where they are left out
 abbrev pub freed_of : Skip → List ℕ → List Block → List Line → Option ℕ
 freed_of skip file blocks lines =
-    if skip.freed then Some (length (freed_places file blocks (small_spans_of lines))) else None
+    if skip.freed then Some (length (freed_places skip.unwritable file blocks (small_spans_of lines))) else None

@@ -1,11 +1,11 @@
 //! Finds the root words of a core, from which marking starts, and cuts them into pieces.
 //!
-//! [`Roots::find`] takes the register words of all threads, and the words in writable segments that share no byte
-//! with a live block: globals, stacks, and what the allocator keeps between blocks. [`Roots`] holds memory as ranges
-//! of addresses, so it is small. [`Roots::cut`] makes [`Piece`]s of it, units of work of bounded size. [`Roots::pieces`]
+//! [`Roots::find`] takes the register words of all threads, and the words in writable segments, or in all, that share
+//! no byte with a live block: globals, stacks, and what the allocator keeps between blocks. [`Roots`] holds memory as
+//! ranges of addresses, so it is small. [`Roots::cut`] makes [`Piece`]s of it, units of work of bounded size. [`Roots::pieces`]
 //! tells each of them by its number instead, and lists none.
 //!
-//! Registers and writable memory as roots follow bdwgc. That freed memory and dead stack are roots too is own rule,
+//! Registers and writable memory as roots follow bdwgc, and all readable memory LeakSanitizer. That freed memory and dead stack are roots too is own rule,
 //! with that no stack limit is read from a register. Where the spans of small allocations are given, the words of freed
 //! memory are left out: those whose 8 bytes each lie in such a span. What the contracts don't say is whether a root word
 //! is a pointer.

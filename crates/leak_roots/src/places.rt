@@ -5,10 +5,10 @@ ghost use Rattle.leak_elf.specs.Words.{places};
 ghost use Rattle.leak_blocks.specs.declared.block.Block.{Block};
 ghost use Rattle.leak_blocks.specs.Span.{AreAddressed, AreDisjoint};
 ghost use Rattle.leak_roots.specs.Places.{memory_places, aligned_places, AreRanges, EndBy};
-ghost use Rattle.leak_roots.specs.Roots.{AreOrdered, is_free, outside_places};
+ghost use Rattle.leak_roots.specs.Roots.{AreOrdered, has_roots, is_free, outside_places};
 
 use leak_blocks::Block;
-use leak_elf::Image;
+use leak_elf::{Image, Segment};
 use std::alloc::{AllocError, Global};
 
 /// Adds the words whose bytes lie between two addresses, as one range after the others.
@@ -70,20 +70,29 @@ fn push_gaps(
     push_range(memory, cursor, to)
 }
 
-/// Finds the words of writable segments that share no byte with a block.
+/// Whether a segment has root words, where memory that can't be written is left out, or isn't.
+#[tactic(auto, unfolding(crate::specs::Roots::has_roots))]
+fn has_roots(segment: &Segment, unwritable: bool) -> bool
+    ensures { result ≡ has_roots unwritable segment.now }
+{
+    segment.writable || !unwritable
+}
+
+/// Finds the words that share no byte with a block: of all segments, or without memory that can't be written.
 pub(crate) fn find_ranges(
     alloc: Global,
     image: &Image,
     blocks: &[Block],
+    unwritable: bool,
 ) -> Result<Vec<(u64, u64)>, AllocError>
     requires { AreOrdered blocks.now }
     ensures places { IfOk result (λ memory.
-        memory_places memory.items ≡ outside_places image.now blocks.now) }
+        memory_places memory.items ≡ outside_places unwritable image.now blocks.now) }
     ensures ranges { IfOk result (λ memory. AreRanges memory.items) }
 {
     let mut memory = Vec::new(alloc);
     for segment in image.segments() {
-        if segment.writable {
+        if has_roots(segment, unwritable) {
             let end = segment.vaddr + segment.filesz;
             push_gaps(&mut memory, segment.vaddr, end, blocks)?;
         }

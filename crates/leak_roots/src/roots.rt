@@ -44,31 +44,33 @@ impl Model for Roots {
 
 impl Roots {
     /// Finds the root words of a core, given its threads, the live blocks of its log and the spans of small allocations
-    /// whose freed places are left out: those of the log, or none.
+    /// whose freed places are left out: those of the log, or none. `unwritable` says whether the words of memory that
+    /// can't be written are left out.
     ///
     /// They are the register words of the threads, as they are given, and the words of 8 bytes at the multiples of 8 in
-    /// writable segments that share no byte with a live block and whose bytes the core holds: registers, stacks and
-    /// static data, as Boehm's collector takes them. Only where the threads are the core's are these the core's root
-    /// words. No link to a free chunk is left out. It fails where memory is refused, and then alone.
+    /// segments that share no byte with a live block and whose bytes the core holds: registers, stacks and static data,
+    /// as Boehm's collector takes them. Only where the threads are the core's are these the core's root words. No link to
+    /// a free chunk is left out. It fails where memory is refused, and then alone.
     pub fn find(
         alloc: Global,
         image: &Image,
         threads: &Threads,
         live: &Live,
         small: &SmallSpans,
+        unwritable: bool,
     ) -> Result<Roots, AllocError>
         ensures registers { IfOk result (λ roots. roots.registers ≡ threads.now.registers) }
-        ensures memory { IfOk result (λ roots.
-            memory_places roots.memory ≡ root_places image.now live.now.blocks small.now) }
+        ensures memory { IfOk result (λ roots. memory_places roots.memory
+            ≡ root_places unwritable image.now live.now.blocks small.now) }
         ensures freed { IfOk result (λ roots.
-            roots.freed ≡ length (freed_places image.now live.now.blocks small.now)) }
+            roots.freed ≡ length (freed_places unwritable image.now live.now.blocks small.now)) }
         ensures links { IfOk result (λ roots. roots.skips_links ≡ false) }
         ensures of_core { (spans : List Span) → CoverSame small.now spans
             → threads.now ≡ threads_of image.now
-            → IfOk result (AreRootsOf image.now live.now.blocks spans) }
+            → IfOk result (AreRootsOf unwritable image.now live.now.blocks spans) }
     {
         let registers = threads.registers().to_vec(alloc)?;
-        let outside = find_ranges(alloc, image, live.blocks())?;
+        let outside = find_ranges(alloc, image, live.blocks(), unwritable)?;
         let (memory, freed) = leave_out_freed(alloc, outside, small.ranges())?;
         Ok(Roots {
             registers,

@@ -3,7 +3,8 @@
 ghost use Rattle.leak_roots.specs.Rows.{AreAnswers};
 
 /// The sample core has 539 root words: 27 registers and 512 words of its segment, 4 fewer with a block of 32 bytes. With a
-/// vector entry it has 48 more. A place is freed where spans hold each of its 8 bytes.
+/// vector entry it has 48 more. Where its segment can't be written, it has the words of the segment only if such memory is
+/// not left out. A place is freed where spans hold each of its 8 bytes.
 pub fn worked_roots()
     ensures { AreAnswers }
 {}

@@ -1,6 +1,6 @@
 //! What a search leaves out of the root words.
 
-ghost use Rattle.std.specs.Prelude.{◌≡◌, IfOk, false};
+ghost use Rattle.std.specs.Prelude.{◌≡◌, IfOk, false, true};
 ghost use Rattle.leak_blocks.specs.Small.{CoverSame};
 ghost use Rattle.leak_roots.specs.Skipped.{spans_of};
 
@@ -16,16 +16,19 @@ pub struct Skip {
     pub freed: bool,
     /// The links that malloc keeps to free chunks, and its pointers to the top of a heap.
     pub links: bool,
+    /// The words of memory that can't be written.
+    pub unwritable: bool,
 }
 
 impl Skip {
-    /// Nothing is left out.
-    pub fn none() -> Skip
-        ensures { result ≡ record { freed = false; links = false } }
+    /// What a search leaves out that is asked for nothing else: the words of memory that can't be written.
+    pub fn usual() -> Skip
+        ensures { result ≡ record { freed = false; links = false; unwritable = true } }
     {
         Skip {
             freed: false,
             links: false,
+            unwritable: true,
         }
     }
 

@@ -6,6 +6,7 @@ use Rattle.leak_notes.specs.Threads.{entries}
 use Rattle.leak_notes.specs.Sets.{sets_of}
 use Rattle.leak_blocks.specs.declared.block.Block.{Block}
 use Rattle.leak_blocks.specs.Live.{live_of}
+use Rattle.leak_index.specs.Leads.{Distances}
 use Rattle.leak_index.specs.Hits.{Index}
 use Rattle.leak_roots.specs.Places.{Places}
 use Rattle.leak_roots.specs.Roots.{AreRootsOf}
@@ -24,7 +25,7 @@ use Rattle.leak_search.specs.Holding.{TellsWhy, IsWhyFault}
 use Rattle.leak_input.proofs.InputLemmas.{input_blocks}
 use Rattle.leak_search.proofs.SearchLemmas.{index_is, marked_graph}
 
-pub tells_why : (core log : List ℕ) (reading : Option (List ℕ)) (skip : Skip) (address : ℕ) (input : Input) (index : Index) (places : Places) (block : ℕ) (chain : Option Chain) (found : Why)
+pub tells_why : (core log : List ℕ) (reading : Distances) (skip : Skip) (address : ℕ) (input : Input) (index : Index) (places : Places) (block : ℕ) (chain : Option Chain) (found : Why)
     → (read : IsRead core log input) → index ≡ record { blocks = input.live.blocks; reading = reading } → input.skip ≡ skip → AreRootsFor read.0 input places
     → IsAsked input.live.blocks address block → IsWhy (word_of input.image) index places block chain
     → (IsSome chain ↔ Reach (search_graph (word_of input.image) index places) block)
@@ -33,8 +34,8 @@ pub tells_why : (core log : List ℕ) (reading : Option (List ℕ)) (skip : Skip
 tells_why core log reading skip address input index places block chain found read is skips roots asked why reached text held =
     let e = input_blocks core log read.0 input read.1 in
     let file = read.1.image in
-    let of_core = subst (λ (f : List ℕ). AreRootsOf f input.live.blocks (spans_of skip read.0) places) file
-    (subst (λ (s : Skip). AreRootsOf input.image input.live.blocks (spans_of s read.0) places) skips roots.roots) in
+    let of_core = subst (λ (f : List ℕ). AreRootsOf skip.unwritable f input.live.blocks (spans_of skip read.0) places) file
+    (subst (λ (s : Skip). AreRootsOf s.unwritable input.image input.live.blocks (spans_of s read.0) places) skips roots.roots) in
     let links : places.skips_links ≡ skip.links = roots.links ∙ ap (λ (s : Skip). s.links) skips in
     let g = marked_graph core reading skip read.0 input.live.blocks index places e is of_core links in
     record {
@@ -44,7 +45,7 @@ tells_why core log reading skip address input index places block chain found rea
       block = block;
       asked = subst (λ (bs : List Block). IsAsked bs address block) e asked;
       places = places;
-      are_places = subst (λ (bs : List Block). AreRootsOf core bs (spans_of skip read.0) places) e of_core;
+      are_places = subst (λ (bs : List Block). AreRootsOf skip.unwritable core bs (spans_of skip read.0) places) e of_core;
       links = links;
       chain = chain;
       why =

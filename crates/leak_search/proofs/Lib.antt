@@ -4,3 +4,4 @@ pub mod TwoLemmas
 pub mod HoldingLemmas
 pub mod LawLemmas
 pub mod SignLemmas
+pub mod EndsLemmas

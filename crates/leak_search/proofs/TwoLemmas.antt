@@ -5,6 +5,7 @@ use Rattle.leak_mtrace.specs.declared.line.Line.{Line}
 use Rattle.leak_mtrace.specs.Log.{is_continued_by}
 use Rattle.leak_blocks.specs.declared.block.Block.{Block}
 use Rattle.leak_blocks.specs.Live.{live_of}
+use Rattle.leak_index.specs.Leads.{Distances}
 use Rattle.leak_index.specs.Hits.{Index}
 use Rattle.leak_scan.specs.Heads.{heads_of}
 use Rattle.leak_roots.specs.Places.{Places}
@@ -52,7 +53,7 @@ only_memory n NoMemoryForPool f is many few = is
 
 -- ---- the earlier core
 
-pub marked_earlier : (reading : Option (List ℕ)) (workers : ℕ) (lines : List Line) (input : Input) (index : Index) (places : Places) (marked : Marked)
+pub marked_earlier : (reading : Distances) (workers : ℕ) (lines : List Line) (input : Input) (index : Index) (places : Places) (marked : Marked)
     → IsInput lines input → index ≡ record { blocks = input.live.blocks; reading = reading }
     → AreRootsFor lines input places → Marks (word_of input.image) index places workers marked
     → IsMarkedEarlier input.image reading input.skip lines marked.set.items
@@ -64,7 +65,7 @@ marked_earlier reading workers lines input index places marked is_input is roots
 
 -- ---- between the cores
 
-pub is_between : (reading : Option (List ℕ)) (skip : Skip) (before now : List Line) (first second : Input) (set : List Bool) (c : Carry) (b : Between)
+pub is_between : (reading : Distances) (skip : Skip) (before now : List Line) (first second : Input) (set : List Bool) (c : Carry) (b : Between)
     → IsInput before first → IsInput now second → Continues before now → AbsentAreFresh
     → IsMarkedEarlier first.image reading skip before set
     → c.kept.items ≡ kept_of first.live.blocks set second.live.blocks → c.fresh.items ≡ absent_of first.live.blocks second.live.blocks
@@ -83,7 +84,7 @@ is_between reading skip before now first second set c b is_first is_second conti
     }
 
 -- words of kept blocks that aren't on the pages lead to kept and new blocks alone
-pub others_lead_within : (core1 core2 : List ℕ) (reading : Option (List ℕ)) (skip : Skip) (before now : List Line) (b : Between)
+pub others_lead_within : (core1 core2 : List ℕ) (reading : Distances) (skip : Skip) (before now : List Line) (b : Between)
     → IsBetween core1 core2 reading skip before now b → Continues before now → SameWordsLeadWithin
     → OthersLeadWithin (word_of core2) (index_of reading now) b.pages b.carry.kept.items b.carry.fresh.items
 others_lead_within core1 core2 reading skip before now b between continues same = rw (between.kept, between.fresh, continues.1) within
@@ -103,7 +104,7 @@ others_lead_within core1 core2 reading skip before now b between continues same 
 -- ---- the later core
 
 -- what chains of the later core reach from its roots alone is marked
-pub reached_later : (core : List ℕ) (reading : Option (List ℕ)) (skip : Skip) (lines : List Line) (kept fresh : List ℕ) (set : List Bool)
+pub reached_later : (core : List ℕ) (reading : Distances) (skip : Skip) (lines : List Line) (kept fresh : List ℕ) (set : List Bool)
     → IsSet set (length (live_of lines)) (Reach (graph_of_later core reading skip kept fresh lines))
     → (i : ℕ) → i < length (live_of lines) → Reach (graph_of_one core reading skip lines) i → slice_get set i ≡ Some true
 unfolding graph_of
@@ -113,10 +114,10 @@ reached_later core reading skip lines kept fresh set is_set i inside reached =
 
 -- ---- what calls ask
 
-pub tests_of : (reading : Option (List ℕ)) (lines : List Line) (input : Input) (set : List Bool) → IsInput lines input → IsMarkedEarlier input.image reading input.skip lines set → length set ≡ length input.live.blocks
+pub tests_of : (reading : Distances) (lines : List Line) (input : Input) (set : List Bool) → IsInput lines input → IsMarkedEarlier input.image reading input.skip lines set → length set ≡ length input.live.blocks
 tests_of reading lines input set is_input marked = marked.len ∙ ap length (sym (input_blocks input.image is_input.log lines input is_input.read))
 
-pub carried : (core1 core2 core log : List ℕ) (reading : Option (List ℕ)) (skip : Skip) (before now : List Line) (second : Input) (b : Between)
+pub carried : (core1 core2 core log : List ℕ) (reading : Distances) (skip : Skip) (before now : List Line) (second : Input) (b : Between)
     → IsReadOf core log now second → IsBetween core1 core2 reading skip before now b → IsCarry (length second.live.blocks) b.carry
 carried core1 core2 core log reading skip before now second b read between =
     subst (λ (bs : List Block). IsCarry (length bs) b.carry) (sym (input_blocks core log now second read)) between.lists
@@ -128,15 +129,15 @@ for_memory T (Err e) h = λ other. absurd (other h)
 -- ---- the whole
 
 -- the graph that was marked again is that of the later core and its lines
-later_graph : (core : List ℕ) (reading : Option (List ℕ)) (skip : Skip) (lines : List Line) (blocks : List Block) (index : Index) (places : Places) (kept fresh : List ℕ)
-    → blocks ≡ live_of lines → index ≡ record { blocks = blocks; reading = reading } → AreRootsOf core blocks (spans_of skip lines) places → places.skips_links ≡ skip.links
+later_graph : (core : List ℕ) (reading : Distances) (skip : Skip) (lines : List Line) (blocks : List Block) (index : Index) (places : Places) (kept fresh : List ℕ)
+    → blocks ≡ live_of lines → index ≡ record { blocks = blocks; reading = reading } → AreRootsOf skip.unwritable core blocks (spans_of skip lines) places → places.skips_links ≡ skip.links
     → graph_of_two (word_of core) index (led_by_roots (word_of core) index places) kept fresh ≡ graph_of_later core reading skip kept fresh lines
 later_graph core reading skip lines blocks index places kept fresh are is roots links =
-    rw (found_first core index blocks (spans_of skip lines) skip.links places roots links, is, are) refl
+    rw (found_first core index blocks (spans_of skip lines) skip.links skip.unwritable places roots links, is, are) refl
 
 -- a search of the later core that read, compared, found roots and marked again
-finds_later : (core log : List ℕ) (reading : Option (List ℕ)) (check : Bool) (workers : ℕ) (lines : List Line) (input : Input) (index : Index) (places : Places) (head : Head) (fits : Option (List Bool)) (pages : List ℕ) (c : Carry) (r : Retraced) (count bytes : ℕ) (found : Found)
-    → IsReadOf core log lines input → index ≡ record { blocks = input.live.blocks; reading = reading } → AreRootsOf core input.live.blocks (spans_of input.skip lines) places → places.skips_links ≡ input.skip.links
+finds_later : (core log : List ℕ) (reading : Distances) (check : Bool) (workers : ℕ) (lines : List Line) (input : Input) (index : Index) (places : Places) (head : Head) (fits : Option (List Bool)) (pages : List ℕ) (c : Carry) (r : Retraced) (count bytes : ℕ) (found : Found)
+    → IsReadOf core log lines input → index ≡ record { blocks = input.live.blocks; reading = reading } → AreRootsOf input.skip.unwritable core input.live.blocks (spans_of input.skip lines) places → places.skips_links ≡ input.skip.links
     → OthersLeadWithin (word_of core) (index_of reading lines) pages c.kept.items c.fresh.items
     → IsRetrace (word_of core) index places pages c workers r → count ≡ length c.fresh.items → bytes ≡ size_of input.live.blocks c.fresh.items
     → head ≡ head_with input places (Some (record { fresh = count; fresh_bytes = bytes; reread = r.reread }))
@@ -163,8 +164,8 @@ finds_later core log reading check workers lines input index places head fits pa
       claims = rw (claims) (subst (λ (h : Graph). Partitions (lists_of r.marked) (λ i. Reach h i × ¬ Has c.kept.items i × ¬ Has c.fresh.items i)) g (retrace.claims within));
     }
   where
-    text_is : (core log : List ℕ) (reading : Option (List ℕ)) (lines : List Line) (input : Input) (index : Index) (places : Places) (head : Head) (fits : Option (List Bool)) (pages : List ℕ) (c : Carry) (r : Retraced) (count bytes : ℕ)
-        → IsReadOf core log lines input → AreRootsOf core input.live.blocks (spans_of input.skip lines) places → index ≡ index_of reading lines → r.reread ≡ reread_of (word_of core) pages index.blocks c.kept.items
+    text_is : (core log : List ℕ) (reading : Distances) (lines : List Line) (input : Input) (index : Index) (places : Places) (head : Head) (fits : Option (List Bool)) (pages : List ℕ) (c : Carry) (r : Retraced) (count bytes : ℕ)
+        → IsReadOf core log lines input → AreRootsOf input.skip.unwritable core input.live.blocks (spans_of input.skip lines) places → index ≡ index_of reading lines → r.reread ≡ reread_of (word_of core) pages index.blocks c.kept.items
         → count ≡ length c.fresh.items → bytes ≡ size_of input.live.blocks c.fresh.items
         → head ≡ head_with input places (Some (record { fresh = count; fresh_bytes = bytes; reread = r.reread }))
         → text_of head input.live.blocks r.marked.set.items (heads_of (word_of core) index r.marked.set.items) fits log
@@ -175,7 +176,7 @@ finds_later core log reading check workers lines input index places head fits pa
         (head_is core log lines input places (Some (numbers_of_two core pages (live_of lines) c.kept.items c.fresh.items)) read roots))
 
 -- the same where the inputs are known by what was read
-finds_inputs : (log1 log2 : List ℕ) (reading : Option (List ℕ)) (skip : Skip) (check : Bool) (workers : ℕ) (before now : List Line) (first second : Input) (index : Index) (places : Places) (head : Head) (fits : Option (List Bool)) (b : Between) (r : Retraced) (count bytes : ℕ) (found : Found)
+finds_inputs : (log1 log2 : List ℕ) (reading : Distances) (skip : Skip) (check : Bool) (workers : ℕ) (before now : List Line) (first second : Input) (index : Index) (places : Places) (head : Head) (fits : Option (List Bool)) (b : Between) (r : Retraced) (count bytes : ℕ) (found : Found)
     → IsReadOf first.image log1 before first → IsReadOf second.image log2 now second → length first.live.blocks < 2 ^ 32 → length second.live.blocks < 2 ^ 32
     → IsTrue (is_continued_by log1 log2) → Continues before now → SameWordsLeadWithin
     → IsBetween first.image second.image reading skip before now b → second.skip ≡ skip
@@ -204,7 +205,7 @@ finds_inputs log1 log2 reading skip check workers before now first second index 
           (subst (λ (fresh : List ℕ). FindsLater second.image log2 reading skip check now b.pages b.carry.kept.items fresh workers found) between.fresh later);
     }
 
-pub finds_two : (core1 log1 core2 log2 : List ℕ) (reading : Option (List ℕ)) (skip : Skip) (check : Bool) (workers : ℕ) (inputs : Inputs) (index : Index) (places : Places) (head : Head) (fits : Option (List Bool)) (b : Between) (r : Retraced) (count bytes : ℕ) (found : Found)
+pub finds_two : (core1 log1 core2 log2 : List ℕ) (reading : Distances) (skip : Skip) (check : Bool) (workers : ℕ) (inputs : Inputs) (index : Index) (places : Places) (head : Head) (fits : Option (List Bool)) (b : Between) (r : Retraced) (count bytes : ℕ) (found : Found)
     → (read : AreReadTwo core1 log1 core2 log2 inputs) → SameWordsLeadWithin
     → IsBetween inputs.first.image inputs.second.image reading inputs.first.skip read.before read.now b → (inputs.first.skip ≡ skip) × (inputs.second.skip ≡ skip)
     → index ≡ record { blocks = inputs.second.live.blocks; reading = reading } → AreRootsFor read.now inputs.second places

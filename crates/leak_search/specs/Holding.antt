@@ -6,6 +6,7 @@ use Rattle.leak_notes.specs.Sets.{sets_of}
 use Rattle.leak_mtrace.specs.declared.line.Line.{Line}
 use Rattle.leak_mtrace.specs.Log.{IsLog}
 use Rattle.leak_blocks.specs.Live.{live_of}
+use Rattle.leak_index.specs.Leads.{Distances}
 use Rattle.leak_roots.specs.Places.{Places}
 use Rattle.leak_roots.specs.Roots.{AreRootsOf}
 use Rattle.leak_roots.specs.Skipped.{spans_of}
@@ -23,14 +24,14 @@ use Rattle.leak_search.specs.Search.{index_of, graph_of_one}
 
 -- Core and log are free of faults, and the address asks for the block. The chain to it from the places of the core's root
 -- words is a shortest one, or there is none, just where the search does not reach the block; and the text tells this.
-pub record TellsWhy (core log : List ℕ) (reading : Option (List ℕ)) (skip : Skip) (address : ℕ) (found : Why) : Type 0 where
+pub record TellsWhy (core log : List ℕ) (reading : Distances) (skip : Skip) (address : ℕ) (found : Why) : Type 0 where
   pub accepted : IsCore core
   pub lines : List Line
   pub is_log : IsLog log lines
   pub block : ℕ
   pub asked : IsAsked (live_of lines) address block
   pub places : Places
-  pub are_places : AreRootsOf core (live_of lines) (spans_of skip lines) places
+  pub are_places : AreRootsOf skip.unwritable core (live_of lines) (spans_of skip lines) places
   pub links : places.skips_links ≡ skip.links
   pub chain : Option Chain
   pub why : IsWhy (word_of core) (index_of reading lines) places block chain

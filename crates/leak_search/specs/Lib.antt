@@ -2,3 +2,4 @@ pub mod Holding
 pub mod Search
 pub mod SearchTwo
 pub mod Laws
+pub mod EndsLaw

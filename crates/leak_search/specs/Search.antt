@@ -1,10 +1,11 @@
 -- What a search of one core comes to: the live blocks to which no chain of words leads from the roots.
-use Rattle.std.specs.Prelude.{◌≡◌, ℕ, ◌^◌, ◌<◌, Bool, List, [], map, length, Option, None}
+use Rattle.std.specs.Prelude.{◌≡◌, ℕ, ◌^◌, ◌<◌, Bool, List, [], map, length, None}
 use Rattle.leak_elf.specs.Segments.{undumped_of}
 use Rattle.leak_elf.specs.Words.{word_of}
 use Rattle.leak_mtrace.specs.declared.line.Line.{Line}
 use Rattle.leak_mtrace.specs.Log.{IsLog, torn_of}
 use Rattle.leak_blocks.specs.Live.{live_of, replay_of}
+use Rattle.leak_index.specs.Leads.{Distances}
 use Rattle.leak_index.specs.Hits.{Index}
 use Rattle.leak_roots.specs.declared.skip.Skip.{Skip}
 use Rattle.leak_notes.specs.Threads.{registers_of}
@@ -22,17 +23,17 @@ use Rattle.leak_input.specs.Inputs.{IsCore}
 use Rattle.leak_input.specs.Signs.{fits_told}
 
 -- the live blocks of the lines, and the reading
-abbrev pub index_of : Option (List ℕ) → List Line → Index
+abbrev pub index_of : Distances → List Line → Index
 index_of reading lines = record { blocks = live_of lines; reading = reading }
 
 -- the live blocks that the root words of the core lead to, without what is left out
 abbrev pub first_of : List ℕ → Index → Skip → List Line → List ℕ
 first_of core index skip lines =
     led_from skip.links (word_of core) index (registers_of core)
-    (root_places core (live_of lines) (spans_of skip lines))
+    (root_places skip.unwritable core (live_of lines) (spans_of skip lines))
 
 -- which live block leads to which, and which of them the root words of the core lead to
-abbrev pub graph_of_one : List ℕ → Option (List ℕ) → Skip → List Line → Graph
+abbrev pub graph_of_one : List ℕ → Distances → Skip → List Line → Graph
 graph_of_one core reading skip lines =
     let index = index_of reading lines in
     graph_of (word_of core) index (first_of core index skip lines) []
@@ -55,7 +56,7 @@ claims_of found = map (λ v. v.items) found.claims.items
 -- Core and log are free of faults, and the blocks are few enough to be numbered. The marked blocks are those that a
 -- chain of words reaches from the roots; the report names the others, and tells which of them are heads, and misfits where
 -- that is asked for; each marked block is claimed by one worker.
-pub record FindsOne (core log : List ℕ) (reading : Option (List ℕ)) (skip : Skip) (check : Bool) (workers : ℕ) (found : Found) : Type 0 where
+pub record FindsOne (core log : List ℕ) (reading : Distances) (skip : Skip) (check : Bool) (workers : ℕ) (found : Found) : Type 0 where
   pub accepted : IsCore core
   pub lines : List Line
   pub is_log : IsLog log lines

@@ -1,7 +1,7 @@
 -- What a search of two cores of one process comes to: the live blocks of the later log to which no chain of words leads
 -- from the roots of the later core, from the blocks kept from the earlier core, or from the new blocks (after Boehm,
 -- Demers and Shenker, PLDI 1991; that new blocks count as marked is own rule).
-use Rattle.std.specs.Prelude.{◌≡◌, ℕ, ◌^◌, ◌<◌, Bool, true, List, length, Option, Some, IsTrue, slice_get, sum_by}
+use Rattle.std.specs.Prelude.{◌≡◌, ℕ, ◌^◌, ◌<◌, Bool, true, List, length, Some, IsTrue, slice_get, sum_by}
 use Rattle.std.specs.Option.{option_map_or}
 use Rattle.leak_elf.specs.Segments.{undumped_of}
 use Rattle.leak_elf.specs.Words.{word_of}
@@ -9,6 +9,7 @@ use Rattle.leak_mtrace.specs.declared.line.Line.{Line}
 use Rattle.leak_mtrace.specs.Log.{is_continued_by, torn_of}
 use Rattle.leak_blocks.specs.declared.block.Block.{Block}
 use Rattle.leak_blocks.specs.Live.{live_of, replay_of}
+use Rattle.leak_index.specs.Leads.{Distances}
 use Rattle.leak_roots.specs.declared.skip.Skip.{Skip}
 use Rattle.leak_roots.specs.Skipped.{freed_of}
 use Rattle.leak_scan.specs.Heads.{heads_of}
@@ -30,7 +31,7 @@ use Rattle.leak_input.specs.Signs.{fits_told}
 use Rattle.leak_search.specs.Search.{first_of, index_of, graph_of_one, claims_of}
 
 -- the blocks that chains of the earlier core reach, as tests for the live blocks of its log
-abbrev pub IsMarkedEarlier : List ℕ → Option (List ℕ) → Skip → List Line → List Bool → Type 0
+abbrev pub IsMarkedEarlier : List ℕ → Distances → Skip → List Line → List Bool → Type 0
 IsMarkedEarlier core reading skip lines set = IsSet set (length (live_of lines)) (Reach (graph_of_one core reading skip lines))
 
 -- the live blocks of the later log that were marked in the earlier core; a block is its line
@@ -42,7 +43,7 @@ abbrev pub new_blocks : List Line → List Line → List ℕ
 new_blocks before now = fresh_of (length before) (live_of now)
 
 -- chains of the later core begin at kept blocks, at new ones, and at those that its root words lead to
-abbrev pub graph_of_later : List ℕ → Option (List ℕ) → Skip → List ℕ → List ℕ → List Line → Graph
+abbrev pub graph_of_later : List ℕ → Distances → Skip → List ℕ → List ℕ → List Line → Graph
 graph_of_later core reading skip kept fresh lines =
     let index = index_of reading lines in
     graph_of_two (word_of core) index (first_of core index skip lines) kept fresh
@@ -71,7 +72,7 @@ head_of_two core log skip lines two = record {
 }
 
 -- what the later log has in common with the earlier input: kept and new blocks, and the pages that differ
-pub record IsBetween (core1 core2 : List ℕ) (reading : Option (List ℕ)) (skip : Skip) (before now : List Line) (b : Between) : Type 0 where
+pub record IsBetween (core1 core2 : List ℕ) (reading : Distances) (skip : Skip) (before now : List Line) (b : Between) : Type 0 where
   pub earlier : List Bool
   pub marked : IsMarkedEarlier core1 reading skip before earlier
   pub kept : b.carry.kept.items ≡ kept_blocks before earlier now
@@ -83,7 +84,7 @@ pub record IsBetween (core1 core2 : List ℕ) (reading : Option (List ℕ)) (ski
 -- reach; the report names the others, and tells which of them are heads by words of the later core, and its misfits where
 -- that is asked for; each marked block that is neither kept nor new is claimed by one worker; and a block that chains of the
 -- later core reach from its roots alone is marked.
-pub record FindsLater (core log : List ℕ) (reading : Option (List ℕ)) (skip : Skip) (check : Bool) (lines : List Line) (pages kept fresh : List ℕ) (workers : ℕ) (found : Found) : Type 0 where
+pub record FindsLater (core log : List ℕ) (reading : Distances) (skip : Skip) (check : Bool) (lines : List Line) (pages kept fresh : List ℕ) (workers : ℕ) (found : Found) : Type 0 where
   pub set : List Bool
   pub marked : IsSet set (length (live_of lines)) (Reach (graph_of_later core reading skip kept fresh lines))
   pub reached : (i : ℕ) → i < length (live_of lines) → Reach (graph_of_one core reading skip lines) i → slice_get set i ≡ Some true
@@ -96,7 +97,7 @@ pub record FindsLater (core log : List ℕ) (reading : Option (List ℕ)) (skip 
 -- Cores and logs are free of faults, the complete lines of the first log begin the second, and the blocks of each are few
 -- enough to be numbered. The search of the later core begins with what chains of the earlier core reach and with what
 -- was allocated since. The pages that differ are told by a number of the report alone.
-pub record FindsTwo (core1 log1 core2 log2 : List ℕ) (reading : Option (List ℕ)) (skip : Skip) (check : Bool) (workers : ℕ) (found : Found) : Type 0 where
+pub record FindsTwo (core1 log1 core2 log2 : List ℕ) (reading : Distances) (skip : Skip) (check : Bool) (workers : ℕ) (found : Found) : Type 0 where
   pub first : IsFaultless core1 log1
   pub second : IsFaultless core2 log2
   pub continued : IsTrue (is_continued_by log1 log2)

@@ -1,7 +1,7 @@
 //! The search of one core on the caller's thread.
 
 ghost use Rattle.std.specs.Prelude.{◌≢◌, [], ◌∷◌, IfOk, IfErr};
-ghost use Rattle.leak_index.specs.Readings.{listed_by};
+ghost use Rattle.leak_index.specs.Readings.{distances_of};
 ghost use Rattle.leak_input.specs.Inputs.{IsFaultOfOne};
 ghost use Rattle.leak_search.specs.Search.{FindsOne};
 ghost use Rattle.leak_input.specs.Signs.{AreSigns};
@@ -26,7 +26,7 @@ pub fn find_alone(
     skip: Skip,
     check: bool,
 ) -> Result<Found, FindError>
-    ensures ok { IfOk result (FindsOne core.now log.now (listed_by reading) skip check 1) }
+    ensures ok { IfOk result (FindsOne core.now log.now (distances_of reading) skip check 1) }
     ensures signs { IfOk result (λ found.
         AreSigns (core.now ∷ log.now ∷ []) found.signs.items) }
     ensures refused { IfErr result (λ e. e ≢ FindError.NoMemory

@@ -1,7 +1,7 @@
 //! Why a block is held, from the bytes of a core and of a log.
 
 ghost use Rattle.std.specs.Prelude.{◌≡◌, ◌≢◌, IfOk, IfErr};
-ghost use Rattle.leak_index.specs.Readings.{listed_by};
+ghost use Rattle.leak_index.specs.Readings.{distances_of};
 ghost use Rattle.leak_input.specs.declared.error.FindError.TheVariants.{NoMemory};
 ghost use Rattle.leak_search.specs.declared.holding.WhyError.TheVariants.{Find};
 ghost use Rattle.leak_search.specs.Holding.{IsWhyFault, TellsWhy};
@@ -59,7 +59,7 @@ pub fn find_why(
     skip: Skip,
     address: u64,
 ) -> Result<Why, WhyError>
-    ensures ok { IfOk result (TellsWhy core.now log.now (listed_by reading) skip address) }
+    ensures ok { IfOk result (TellsWhy core.now log.now (distances_of reading) skip address) }
     ensures refused { IfErr result
         (λ e. e ≢ Find NoMemory → IsWhyFault core.now log.now address e) }
 {

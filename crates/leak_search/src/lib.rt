@@ -19,7 +19,7 @@
 //!
 //! let core = core_k(alloc, &[])?;
 //! let log = b"@ ./a.out:[0x401136] + 0x10100 0x20\n";
-//! let found = find_alone(alloc, &core, log, Reading::interior(), Skip::none(), false)?;
+//! let found = find_alone(alloc, &core, log, Reading::interior(), Skip::usual(), false)?;
 //! assert_eq!(rt; found.leaked, 1);
 //! ```
 //!
@@ -35,7 +35,7 @@ mod two_cores;
 
 pub use alone::find_alone;
 pub use holding::{Why, WhyError, find_why};
-pub use laws::leaked_stay_leaked;
+pub use laws::{leaked_stay_leaked, leaked_stay_leaked_without_ends};
 pub use leak_input::{FindError, Found};
 pub use one_core::find_one;
 pub use two_cores::find_two;

@@ -7,7 +7,7 @@ ghost use Rattle.leak_mtrace.specs.declared.line.Line.{Line};
 ghost use Rattle.leak_blocks.specs.Live.{live_of};
 ghost use Rattle.leak_blocks.specs.Span.{AreAddressed, AreDisjoint};
 ghost use Rattle.leak_elf.specs.Words.{word_of};
-ghost use Rattle.leak_index.specs.Readings.{listed_by};
+ghost use Rattle.leak_index.specs.Readings.{distances_of};
 ghost use Rattle.leak_dirty.specs.Kept.{IsCarry};
 ghost use Rattle.leak_dirty.specs.Retrace.{IsRetrace};
 ghost use Rattle.leak_input.specs.Inputs.{IsInput, ArePaired, AreReadTwo, IsFaultOfTwo};
@@ -47,7 +47,7 @@ fn mark_earlier<R: Threads + Sync, G: Gate + Sync>(
     requires read { (lines : List Line) × IsInput lines input.now }
     requires few { length input.now.live.blocks < 2 ^ 32 }
     ensures marked { IfOk result (λ marked. (lines : List Line) → IsInput lines input.now
-        → IsMarkedEarlier input.now.image (listed_by reading) input.now.skip lines
+        → IsMarkedEarlier input.now.image (distances_of reading) input.now.skip lines
         marked.set.items) }
     ensures memory { IfErr result (λ e. e ≡ FindError.NoMemory) }
 {
@@ -68,7 +68,7 @@ fn compare<R: Threads + Sync, G: Gate + Sync>(
         × (length inputs.now.second.live.blocks < 2 ^ 32) }
     ensures between { IfOk result (λ between. (before now : List Line)
         → ArePaired before now inputs.now
-        → IsBetween inputs.now.first.image inputs.now.second.image (listed_by reading)
+        → IsBetween inputs.now.first.image inputs.now.second.image (distances_of reading)
         inputs.now.first.skip before now between) }
     ensures memory { IfErr result (λ e. e ≡ FindError.NoMemory) }
 {
@@ -172,7 +172,7 @@ pub fn find_two<R: Threads + Sync, G: Gate + Sync>(
     gate: &G,
 ) -> Result<Found, FindError>
     ensures ok { IfOk result (FindsTwo core1.now log1.now core2.now log2.now
-        (listed_by reading) skip check plan.workers) }
+        (distances_of reading) skip check plan.workers) }
     ensures signs { IfOk result (λ found.
         AreSigns (core1.now ∷ log1.now ∷ core2.now ∷ log2.now ∷ []) found.signs.items) }
     ensures refused { IfErr result (λ e. e ≢ FindError.NoMemory

@@ -20,7 +20,7 @@ fn options(core_limit: u64, log_limit: u64) -> Result<Options, Fail>
     Ok(Options {
         two: false,
         reading: Reading::interior(),
-        skip: Skip::none(),
+        skip: Skip::usual(),
         plan: Plan::new(1, 1, 0)?,
         other_heap: false,
         check: false,

@@ -21,7 +21,7 @@ fn options(core_limit: u64, log_limit: u64) -> Result<Options, Fail>
     Ok(Options {
         two: false,
         reading: Reading::interior(),
-        skip: Skip::none(),
+        skip: Skip::usual(),
         plan: Plan::new(2, 512, 1024)?,
         other_heap: true,
         check: false,

@@ -72,6 +72,6 @@ pub fn scene_of<'a>(alloc: Global, core: &'a [u8], log: &str) -> Result<Scene<'a
     let log = Log::read(alloc, log.as_bytes())?;
     let live = replay(alloc, &log)?;
     let small = SmallSpans::none(alloc);
-    let roots = Roots::find(alloc, &image, &threads, &live, &small)?;
+    let roots = Roots::find(alloc, &image, &threads, &live, &small, true)?;
     Ok(Scene { image, live, roots })
 }

@@ -15,7 +15,7 @@ use std::thread::Threads;
 
 /// What the caller's thread finds in a core and its log.
 pub fn alone(alloc: Global, core: &[u8], log: &[u8]) -> Result<Found, FindError> {
-    find_alone(alloc, core, log, Reading::interior(), Skip::none(), false)
+    find_alone(alloc, core, log, Reading::interior(), Skip::usual(), false)
 }
 
 /// What the workers of the plan find in a core and its log.
@@ -32,7 +32,7 @@ pub fn by_plan<R: Threads + Sync>(
         core,
         log,
         Reading::interior(),
-        Skip::none(),
+        Skip::usual(),
         false,
         plan,
         &Open,
@@ -57,7 +57,7 @@ pub fn of_two<R: Threads + Sync>(
         core2,
         log2,
         Reading::interior(),
-        Skip::none(),
+        Skip::usual(),
         false,
         plan,
         &Open,

@@ -18,7 +18,7 @@ fn options() -> Result<Options, Fail>
     Ok(Options {
         two: false,
         reading: Reading::interior(),
-        skip: Skip::none(),
+        skip: Skip::usual(),
         plan: Plan::new(2, 512, 1024)?,
         other_heap: false,
         check: false,

@@ -35,7 +35,7 @@ fn options(two: bool, reading: Reading, plan: Plan) -> Options {
     Options {
         two,
         reading,
-        skip: Skip::none(),
+        skip: Skip::usual(),
         plan,
         other_heap: false,
         check: false,
@@ -48,7 +48,22 @@ fn options(two: bool, reading: Reading, plan: Plan) -> Options {
 /// The options with freed memory or links to free chunks left out.
 fn skipping(options: Options, freed: bool, links: bool) -> Options {
     Options {
-        skip: Skip { freed, links },
+        skip: Skip {
+            freed,
+            links,
+            ..options.skip
+        },
+        ..options
+    }
+}
+
+/// The options with all memory taken.
+fn with_all_memory(options: Options) -> Options {
+    Options {
+        skip: Skip {
+            unwritable: false,
+            ..options.skip
+        },
         ..options
     }
 }
@@ -139,6 +154,11 @@ fn requests_with_flags(rt: HostRuntime) -> Result<(), Fail> {
             "one --skip-links a --skip-freed b",
             skipping(usual, true, true),
         ),
+        ("one a b --all-memory", with_all_memory(usual)),
+        (
+            "one --skip-freed a --all-memory b",
+            with_all_memory(skipping(usual, true, false)),
+        ),
         ("one a b --check", check),
         ("one a b --strict", strict),
         ("one --other-heap a b", other),
@@ -171,6 +191,7 @@ fn requests_of_two_cores(rt: HostRuntime) -> Result<(), Fail> {
     let cases = [
         ("two a b c d --piece 1 --stack 0", short),
         ("two --workers 2 a b --displace 8,16 c d", narrow),
+        ("two a --all-memory b c d", with_all_memory(usual)),
         (
             "two --skip-links --check a b --skip-freed c d --strict",
             all,
@@ -200,6 +221,12 @@ fn requests_for_a_block(rt: HostRuntime) -> Result<(), Fail> {
         ("why a b 0x0000000000000001", usual, 1, "a b"),
         ("why --skip-links a b --skip-freed 0x0", neither, 0, "a b"),
         ("why a b 0x10 --displace 8,16", narrow, 16, "a b"),
+        (
+            "why --all-memory a b 0x10",
+            with_all_memory(usual),
+            16,
+            "a b",
+        ),
     ];
     for (line, wanted, address, paths) in cases {
         asks(&rt, line, wanted, address, paths)?;

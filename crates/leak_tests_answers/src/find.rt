@@ -26,7 +26,7 @@ fn options(log_limit: u64) -> Result<Options, Fail>
     Ok(Options {
         two: false,
         reading: Reading::interior(),
-        skip: Skip::none(),
+        skip: Skip::usual(),
         plan: Plan::new(1, 1, 0)?,
         other_heap: true,
         check: false,
@@ -139,7 +139,7 @@ fn the_example_of_the_front_page(rt: HostRuntime) -> Result<(), Fail> {
         &core,
         ONE_BLOCK,
         Reading::interior(),
-        Skip::none(),
+        Skip::usual(),
         false,
     )?;
     same(&rt, found.leaked, 1);

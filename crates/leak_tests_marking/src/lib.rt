@@ -19,6 +19,10 @@ mod index;
 #[cfg(test)]
 mod index_ranks;
 
+// Words that lead to a block where ends are left out.
+#[cfg(test)]
+mod index_ends;
+
 // Blocks that fit the heap of a core.
 #[cfg(test)]
 mod fit;

@@ -7,29 +7,30 @@ use leak_roots::{CutError, Piece, Roots, Skip};
 use std::alloc::Global;
 use std::test::Fail;
 
-/// The root words of a core, with the live blocks of a log.
-fn roots(alloc: Global, core: &[u8], log: &[u8]) -> Result<Roots, Fail> {
+/// The root words of a core, with the live blocks of a log, without what is left out.
+fn roots_without(alloc: Global, core: &[u8], log: &[u8], skip: Skip) -> Result<Roots, Fail> {
     let image = Image::read(alloc, core)?;
     let threads = Threads::read(alloc, &image)?;
     let log = Log::read(alloc, log)?;
     let live = replay(alloc, &log)?;
-    let small = Skip::none().spans(alloc, &log)?;
-    Ok(Roots::find(alloc, &image, &threads, &live, &small)?)
+    let small = skip.spans(alloc, &log)?;
+    let roots = Roots::find(alloc, &image, &threads, &live, &small, skip.unwritable)?;
+    Ok(roots)
+}
+
+/// The root words of a core, with the live blocks of a log.
+fn roots(alloc: Global, core: &[u8], log: &[u8]) -> Result<Roots, Fail> {
+    roots_without(alloc, core, log, Skip::usual())
 }
 
 /// The root words of the sample core outside freed memory.
 fn unfreed_roots_of(alloc: Global, log: &str) -> Result<Roots, Fail> {
     let core = core_k(alloc, &[])?;
-    let image = Image::read(alloc, core.as_slice())?;
-    let threads = Threads::read(alloc, &image)?;
-    let log = Log::read(alloc, log.as_bytes())?;
-    let live = replay(alloc, &log)?;
     let skip = Skip {
         freed: true,
-        links: false,
+        ..Skip::usual()
     };
-    let small = skip.spans(alloc, &log)?;
-    Ok(Roots::find(alloc, &image, &threads, &live, &small)?)
+    roots_without(alloc, core.as_slice(), log.as_bytes(), skip)
 }
 
 /// The root words of the sample core.
@@ -93,7 +94,7 @@ fn the_registers_are_those_of_the_threads_that_are_given(rt: HostRuntime) -> Res
     let log = Log::read(rt.alloc(), b"")?;
     let live = replay(rt.alloc(), &log)?;
     let small = SmallSpans::none(rt.alloc());
-    let roots = Roots::find(rt.alloc(), &image, &threads, &live, &small)?;
+    let roots = Roots::find(rt.alloc(), &image, &threads, &live, &small, true)?;
     same(&rt, roots.registers().get(5).copied(), Some(7));
     same(&rt, roots.memory(), [(0x10000, 0x11000)].as_slice());
     Ok(())
@@ -170,6 +171,30 @@ fn a_segment_that_is_not_writable_has_no_roots(rt: HostRuntime) -> Result<(), Fa
     let registers = roots(rt.alloc(), core.as_slice(), b"")?;
     same(&rt, registers.registers().len(), 27);
     same(&rt, registers.memory().len(), 0);
+    Ok(())
+}
+
+#[test]
+fn a_segment_that_is_not_writable_has_roots_where_it_is_not_left_out(
+    rt: HostRuntime,
+) -> Result<(), Fail> {
+    let all = Skip {
+        unwritable: false,
+        ..Skip::usual()
+    };
+    for rights in [0, 4, 6] {
+        let mut core = core_k(rt.alloc(), &[])?;
+        for flags in core.iter_mut().skip(124).take(1) {
+            *flags = rights;
+        }
+        let roots = roots_without(rt.alloc(), core.as_slice(), b"+ 0x10100 0x20\n", all)?;
+        same(&rt, count(&roots), 535);
+        same(
+            &rt,
+            roots.memory(),
+            [(0x10000, 0x10100), (0x10120, 0x11000)].as_slice(),
+        );
+    }
     Ok(())
 }
 

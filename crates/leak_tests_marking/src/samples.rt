@@ -42,6 +42,6 @@ pub fn scene_of<'a>(alloc: Global, core: &'a [u8], log: &str) -> Result<Scene<'a
     let threads = Threads::read(alloc, &image)?;
     let live = lives(alloc, log)?;
     let small = SmallSpans::none(alloc);
-    let roots = Roots::find(alloc, &image, &threads, &live, &small)?;
+    let roots = Roots::find(alloc, &image, &threads, &live, &small, true)?;
     Ok(Scene { image, live, roots })
 }

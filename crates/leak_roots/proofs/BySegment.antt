@@ -1,4 +1,4 @@
--- The root words of writable segments, one segment after another.
+-- The root words of the segments that have some, one segment after another.
 use Rattle.std.proofs.Common.{◌≡◌, ℕ, ◌+◌, ◌-◌, ◌%◌, ◌<◌, ◌≤◌, ◌^◌, Bool, true, false, ◌&&◌, eqb, List, [], ◌∷◌, ◌++◌, length, get_or, take, filter, flat_map, None, is_some, inl, inr, refl, sym, ap, ◌∙◌, append-nil, arith}
 use Rattle.std.specs.List.{list_all}
 use Rattle.std.proofs.lemmas.Bool.{cases_eq, eq-eqb, ne_eqb}
@@ -14,7 +14,7 @@ use Rattle.leak_elf.proofs.Accepted.{accepted, no_first}
 use Rattle.leak_elf.proofs.Held.{word_some, word_odd}
 use Rattle.leak_blocks.specs.declared.block.Block.{Block}
 use Rattle.leak_roots.specs.Places.{AreRanges, EndBy, memory_places}
-use Rattle.leak_roots.specs.Roots.{is_apart, is_free, outside_places, outside_places_in}
+use Rattle.leak_roots.specs.Roots.{has_roots, is_apart, is_free, outside_places, outside_places_in}
 use Rattle.leak_roots.proofs.Addresses.{filter_same}
 use Rattle.leak_roots.proofs.Ranges.{end_later}
 
@@ -40,36 +40,36 @@ places_of_segment file bs i d kept h =
     (λ a l m. ap (λ (b : Bool). b && list_all (is_apart a) bs) (has_word file i a d kept h l (omega arith)))
 
 -- the root words of the first segments were found
-pub record AreFound (file : List ℕ) (bs : List Block) (i : ℕ) (memory : List (ℕ × ℕ)) : Type 0 where
+pub record AreFound (u : Bool) (file : List ℕ) (bs : List Block) (i : ℕ) (memory : List (ℕ × ℕ)) : Type 0 where
   pub ranges : AreRanges memory
   pub ends : (k : ℕ) (d : Segment) → i ≤ k → k < length (segments_of file) → EndBy (get_or (segments_of file) k d).vaddr memory
-  pub found : memory_places memory ≡ flat_map (outside_places_in file bs) (filter (λ s. s.writable) (take i (segments_of file)))
+  pub found : memory_places memory ≡ flat_map (outside_places_in file bs) (filter (has_roots u) (take i (segments_of file)))
 
-one_writable : (file : List ℕ) (bs : List Block) (s : Segment) → s.writable ≡ true → flat_map (outside_places_in file bs) (filter (λ s. s.writable) (s ∷ [])) ≡ outside_places_in file bs s
-one_writable file bs s w = rw w (append-nil (outside_places_in file bs s))
+one_taken : (u : Bool) (file : List ℕ) (bs : List Block) (s : Segment) → has_roots u s ≡ true → flat_map (outside_places_in file bs) (filter (has_roots u) (s ∷ [])) ≡ outside_places_in file bs s
+one_taken u file bs s w = rw w (append-nil (outside_places_in file bs s))
 
-one_other : (file : List ℕ) (bs : List Block) (s : Segment) → s.writable ≡ false → flat_map (outside_places_in file bs) (filter (λ s. s.writable) (s ∷ [])) ≡ []
-one_other file bs s w = rw w refl
+one_other : (u : Bool) (file : List ℕ) (bs : List Block) (s : Segment) → has_roots u s ≡ false → flat_map (outside_places_in file bs) (filter (has_roots u) (s ∷ [])) ≡ []
+one_other u file bs s w = rw w refl
 
-segment_more : (file : List ℕ) (bs : List Block) (i : ℕ) (d : Segment) → i < length (segments_of file)
-    → flat_map (outside_places_in file bs) (filter (λ s. s.writable) (take (i + 1) (segments_of file)))
-    ≡ flat_map (outside_places_in file bs) (filter (λ s. s.writable) (take i (segments_of file))) ++ flat_map (outside_places_in file bs) (filter (λ s. s.writable) (get_or (segments_of file) i d ∷ []))
-segment_more file bs i d h =
+segment_more : (u : Bool) (file : List ℕ) (bs : List Block) (i : ℕ) (d : Segment) → i < length (segments_of file)
+    → flat_map (outside_places_in file bs) (filter (has_roots u) (take (i + 1) (segments_of file)))
+    ≡ flat_map (outside_places_in file bs) (filter (has_roots u) (take i (segments_of file))) ++ flat_map (outside_places_in file bs) (filter (has_roots u) (get_or (segments_of file) i d ∷ []))
+segment_more u file bs i d h =
     let segs = segments_of file in
-    let w = λ (s : Segment). s.writable in
+    let w = has_roots u in
     ap (λ (xs : List Segment). flat_map (outside_places_in file bs) (filter w xs)) (take_more segs i d h)
     ∙ ap (flat_map (outside_places_in file bs)) (filter-append w (take i segs) (get_or segs i d ∷ []))
     ∙ flat_map-append (outside_places_in file bs) (filter w (take i segs)) (filter w (get_or segs i d ∷ []))
 
-pub found_more : (file : List ℕ) (bs : List Block) (i : ℕ) (d : Segment) (memory more : List (ℕ × ℕ)) → AreKept (segments_of file) → i < length (segments_of file) → (get_or (segments_of file) i d).writable ≡ true → AreFound file bs i memory
+pub found_more : (u : Bool) (file : List ℕ) (bs : List Block) (i : ℕ) (d : Segment) (memory more : List (ℕ × ℕ)) → AreKept (segments_of file) → i < length (segments_of file) → has_roots u (get_or (segments_of file) i d) ≡ true → AreFound u file bs i memory
     → memory_places more ≡ memory_places memory ++ filter (is_free bs) (places (get_or (segments_of file) i d).vaddr ((get_or (segments_of file) i d).vaddr + (get_or (segments_of file) i d).filesz)) → AreRanges more → EndBy ((get_or (segments_of file) i d).vaddr + (get_or (segments_of file) i d).filesz) more
-    → AreFound file bs (i + 1) more
-found_more file bs i d memory more kept h w found places' ranges' ends' =
+    → AreFound u file bs (i + 1) more
+found_more u file bs i d memory more kept h w found places' ranges' ends' =
     let s = get_or (segments_of file) i d in
     record {
       ranges = ranges';
       ends = λ k e l m. end_later (s.vaddr + s.filesz) (get_or (segments_of file) k e).vaddr more (behind file i k d e kept (omega arith) m) ends';
-      found = places' ∙ (rw (found.found, ← places_of_segment file bs i d kept h, segment_more file bs i d h, one_writable file bs s w) refl);
+      found = places' ∙ (rw (found.found, ← places_of_segment file bs i d kept h, segment_more u file bs i d h, one_taken u file bs s w) refl);
     }
   where
     behind : (file : List ℕ) (i k : ℕ) (d e : Segment) → AreKept (segments_of file) → i < k → k < length (segments_of file) → (get_or (segments_of file) i d).vaddr + (get_or (segments_of file) i d).filesz ≤ (get_or (segments_of file) k e).vaddr
@@ -79,34 +79,34 @@ found_more file bs i d memory more kept h w found places' ranges' ends' =
         let same = ap (λ (t : Segment). t.vaddr) (get_or_default (segments_of file) k d e m) in
         omega arith
 
-pub found_same : (file : List ℕ) (bs : List Block) (i : ℕ) (d : Segment) (memory : List (ℕ × ℕ)) → i < length (segments_of file) → (get_or (segments_of file) i d).writable ≡ false → AreFound file bs i memory → AreFound file bs (i + 1) memory
-found_same file bs i d memory h w found = record {
+pub found_same : (u : Bool) (file : List ℕ) (bs : List Block) (i : ℕ) (d : Segment) (memory : List (ℕ × ℕ)) → i < length (segments_of file) → has_roots u (get_or (segments_of file) i d) ≡ false → AreFound u file bs i memory → AreFound u file bs (i + 1) memory
+found_same u file bs i d memory h w found = record {
   ranges = found.ranges;
   ends = λ k e l m. found.ends k e (omega arith) m;
-  found = found.found ∙ (rw (segment_more file bs i d h, one_other file bs (get_or (segments_of file) i d) w) (sym (append-nil _)));
+  found = found.found ∙ (rw (segment_more u file bs i d h, one_other u file bs (get_or (segments_of file) i d) w) (sym (append-nil _)));
 }
 
-pub found_first : (file : List ℕ) (bs : List Block) → AreFound file bs 0 []
-found_first file bs = record { ranges = tt; ends = λ k d l m. tt; found = refl }
+pub found_first : (u : Bool) (file : List ℕ) (bs : List Block) → AreFound u file bs 0 []
+found_first u file bs = record { ranges = tt; ends = λ k d l m. tt; found = refl }
 
-pub found_all : (file : List ℕ) (bs : List Block) (i : ℕ) (memory : List (ℕ × ℕ)) → length (segments_of file) ≤ i → AreFound file bs i memory → memory_places memory ≡ outside_places file bs
+pub found_all : (u : Bool) (file : List ℕ) (bs : List Block) (i : ℕ) (memory : List (ℕ × ℕ)) → length (segments_of file) ≤ i → AreFound u file bs i memory → memory_places memory ≡ outside_places u file bs
 unfolding outside_places
-found_all file bs i memory h found =
+found_all u file bs i memory h found =
     let all : take i (segments_of file) ≡ segments_of file = take_all i (segments_of file) h in
     found.found ∙ (rw all refl)
 
 -- the same for the segments as they are read
-pub read_more : (file : List ℕ) (bs : List Block) (segs : List Segment) (i : ℕ) (d : Segment) (memory more : List (ℕ × ℕ)) → segs ≡ segments_of file → fault_of file ≡ None → i < length segs → (get_or segs i d).writable ≡ true → AreFound file bs i memory
+pub read_more : (u : Bool) (file : List ℕ) (bs : List Block) (segs : List Segment) (i : ℕ) (d : Segment) (memory more : List (ℕ × ℕ)) → segs ≡ segments_of file → fault_of file ≡ None → i < length segs → has_roots u (get_or segs i d) ≡ true → AreFound u file bs i memory
     → memory_places more ≡ memory_places memory ++ filter (is_free bs) (places (get_or segs i d).vaddr ((get_or segs i d).vaddr + (get_or segs i d).filesz)) → AreRanges more → EndBy ((get_or segs i d).vaddr + (get_or segs i d).filesz) more
-    → AreFound file bs (i + 1) more
-read_more file bs segs i d memory more e ok h w found places' ranges' ends' =
-    found_more file bs i d memory more (are_segments file ok).kept (rw e at h) (rw e at w) found (rw e at places') ranges' (rw e at ends')
+    → AreFound u file bs (i + 1) more
+read_more u file bs segs i d memory more e ok h w found places' ranges' ends' =
+    found_more u file bs i d memory more (are_segments file ok).kept (rw e at h) (rw e at w) found (rw e at places') ranges' (rw e at ends')
 
-pub read_same : (file : List ℕ) (bs : List Block) (segs : List Segment) (i : ℕ) (d : Segment) (memory : List (ℕ × ℕ)) → segs ≡ segments_of file → i < length segs → (get_or segs i d).writable ≡ false → AreFound file bs i memory → AreFound file bs (i + 1) memory
-read_same file bs segs i d memory e h w found = found_same file bs i d memory (rw e at h) (rw e at w) found
+pub read_same : (u : Bool) (file : List ℕ) (bs : List Block) (segs : List Segment) (i : ℕ) (d : Segment) (memory : List (ℕ × ℕ)) → segs ≡ segments_of file → i < length segs → has_roots u (get_or segs i d) ≡ false → AreFound u file bs i memory → AreFound u file bs (i + 1) memory
+read_same u file bs segs i d memory e h w found = found_same u file bs i d memory (rw e at h) (rw e at w) found
 
-pub read_all : (file : List ℕ) (bs : List Block) (segs : List Segment) (i : ℕ) (memory : List (ℕ × ℕ)) → segs ≡ segments_of file → length segs ≤ i → AreFound file bs i memory → memory_places memory ≡ outside_places file bs
-read_all file bs segs i memory e h found = found_all file bs i memory (rw e at h) found
+pub read_all : (u : Bool) (file : List ℕ) (bs : List Block) (segs : List Segment) (i : ℕ) (memory : List (ℕ × ℕ)) → segs ≡ segments_of file → length segs ≤ i → AreFound u file bs i memory → memory_places memory ≡ outside_places u file bs
+read_all u file bs segs i memory e h found = found_all u file bs i memory (rw e at h) found
 
 pub dumped_fits : (file : List ℕ) (segs : List Segment) (i : ℕ) (d : Segment) → segs ≡ segments_of file → fault_of file ≡ None → i < length segs → (get_or segs i d).vaddr + (get_or segs i d).filesz < 2 ^ 64
 dumped_fits file segs i d e ok h =
@@ -116,5 +116,5 @@ dumped_fits file segs i d e ok h =
     let u : (get_or (segments_of file) i d).vaddr + (get_or (segments_of file) i d).filesz < 2 ^ 64 = omega arith in
     rw e u
 
-pub dumped_order : (file : List ℕ) (bs : List Block) (segs : List Segment) (i : ℕ) (d : Segment) (memory : List (ℕ × ℕ)) → segs ≡ segments_of file → i < length segs → AreFound file bs i memory → EndBy (get_or segs i d).vaddr memory
-dumped_order file bs segs i d memory e h found = rw e (found.ends i d (omega arith) (rw e at h))
+pub dumped_order : (u : Bool) (file : List ℕ) (bs : List Block) (segs : List Segment) (i : ℕ) (d : Segment) (memory : List (ℕ × ℕ)) → segs ≡ segments_of file → i < length segs → AreFound u file bs i memory → EndBy (get_or segs i d).vaddr memory
+dumped_order u file bs segs i d memory e h found = rw e (found.ends i d (omega arith) (rw e at h))
