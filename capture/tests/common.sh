@@ -112,6 +112,18 @@ start() {
     if [ "${wait-}" ]; then sleep "$wait"; else settle $process; fi
 }
 
+# unprepared PROGRAM..: runs it as it is, and gives its id in `process`.
+unprepared() {
+    rm -f in && mkfifo in
+    (exec 3<> in; exec "$@" <&3 > /dev/null 2>&1 3>&-) &
+    process=$!
+    started[$process]=1
+    settle $process
+}
+
+# in_steps: sizes that are named, without the 16 bytes that malloc may leave at a block.
+in_steps() { tr ' ' '\n' | awk 'NF { print $1 % 32 == 8 ? $1 - 16 : $1 }' | sort -n | tr '\n' ' '; }
+
 # The kernel's core in the working folder, by whatever name.
 kernel_core() { ls core core.* 2> /dev/null | head -n 1; }
 

@@ -20,6 +20,7 @@ part() {
     fi
 }
 
+part walk
 part dump "$attaches"
 part known "$dumps"
 part lines
@@ -29,6 +30,7 @@ part frames "$dumps"
 part tables "$dumps"
 part moments "$attaches"
 part untraced
+part report "$dumps"
 if [ ! "$quick" ]; then
     part mtrace "$attaches"
     part servers "$attaches"

@@ -68,15 +68,6 @@ verdict "walks at $storms moments, with what the table has" 0 $bad
 verdict 'blocks that do not fit their core' '' "$(cat busy.misfits 2> /dev/null)"
 rm -f busy.core busy.kernel
 
-# unprepared PROGRAM..: runs it as it is, and gives its id in `process`.
-unprepared() {
-    rm -f in && mkfifo in
-    (exec 3<> in; exec "$@" <&3 > /dev/null 2>&1 3>&-) &
-    process=$!
-    started[$process]=1
-    settle $process
-}
-
 # core_of PID NAME: a core, by gdb or by killing the process.
 core_of() {
     rm -f "$2.core" core core.*
@@ -88,9 +79,6 @@ core_of() {
     fi
     [ -s "$2.core" ] || { verdict "dump $2" 'a core' none; return 1; }
 }
-
-# in_steps: sizes that are named, without the 16 bytes that malloc may leave at a block.
-in_steps() { tr ' ' '\n' | awk 'NF { print $1 % 32 == 8 ? $1 - 16 : $1 }' | sort -n | tr '\n' ' '; }
 
 section leaks of programs that nobody prepared
 if [ "$dumps" ]; then

@@ -1,0 +1,60 @@
+# leak_report: a process that nobody prepared, the kernel's core of one, two moments, a table where there is one, and what is refused.
+section leak_report
+[ -x walk_leaks ] || build walk_leaks.c
+[ -x plain ] || build plain.c
+export LEAK_FIND=$finder
+
+# reported NAME WORD..: what leak_report prints goes to NAME.out, what it says to NAME.said, its status to `status`.
+reported() {
+    local name=$1
+    shift
+    limited 120 "$kit/leak_report" "$@" > "$name.out" 2> "$name.said"
+    status=$?
+}
+
+# listed NAME: the sizes of the blocks that the table of NAME.out is about, each with how many there are.
+listed() { awk '$1 == "bytes" && $2 == "blocks" { in_table = 1; next } in_table && /^ *[0-9]/ { print $1 / $2 }' "$1.out" | sort -n | tr '\n' ' '; }
+
+if [ "$attaches" ]; then
+    unprepared ./walk_leaks later
+    reported living --keep first --list $process
+    verdict 'of a living process: the status' 1 $status
+    verdict 'named, by the list' "$(expected "$kit/tests/walk_leaks.c")" "$(named living.out | in_steps)"
+    verdict 'named, by the table' "$(expected "$kit/tests/walk_leaks.c")" "$(listed living | tr ' ' '\n' | in_steps)"
+    verdict 'what is kept' 'dump.core dump.log dump.report ' "$(cd first && ls dump.core dump.log dump.report | tr '\n' ' ')"
+    verdict 'the log is by the heap' 1 "$(grep -c 'by glibc.s heap in the core' living.said)"
+    verdict 'it goes on' yes "$(kill -0 $process && echo yes)"
+    echo > in
+    settle $process
+    reported pair --after first --list $process
+    verdict 'of two moments: what was lost at both' "$(expected "$kit/tests/walk_leaks.c")" "$(named pair.out | in_steps)"
+    verdict 'no file is left behind' '' "$(ls -d "${TMPDIR:-/tmp}"/leak_report.* 2> /dev/null)"
+    reported again --keep first $process
+    verdict 'a folder with a dump' '2 leak_report: first has a dump already' "$status $(cat again.said)"
+    reported later --after none $process
+    verdict 'no earlier dump' "2 leak_report: none has no dump: make it by leak_report --keep none" "$status $(cat later.said)"
+    stop $process
+
+    start ./plain
+    reported traced --list $process
+    verdict 'with a table: named' "$(expected "$kit/tests/plain.c")" "$(named traced.out)"
+    verdict 'with a table: who asked' 1 "$(grep -c 'plain\.c:' traced.out | awk '{ print ($1 > 0) }')"
+    stop $process
+fi
+if [ "$dumps_core" ]; then
+    unprepared ./walk_leaks
+    rm -f core core.*
+    { kill -ABRT $process && wait $process; } 2> /dev/null
+    reported dead --list "$(kernel_core)"
+    verdict "of the kernel's core: the status" 1 $status
+    verdict "of the kernel's core: named" "$(expected "$kit/tests/walk_leaks.c")" "$(named dead.out | in_steps)"
+    rm -f core core.*
+fi
+reported none 999999999
+verdict 'no such process' 2 $status
+reported nothing
+verdict 'no word' 'usage: leak_report [--keep DIR] [--after DIR] [--list] PID | CORE [TABLE]' "$(cat nothing.said)"
+reported odd --other 1
+verdict 'no option' 2 $status
+verdict 'no output where it refuses' '' "$(cat none.out nothing.out odd.out)"
+unset LEAK_FIND
