@@ -73,7 +73,7 @@ struct core read_core(struct file file)
 }
 
 /* Says of how much writable memory the core has no contents, and how much of that is the library's own, in
- * which no block of the program is led to. A kernel's core lists such memory, gdb's does not. */
+ * which no block of the program is led to. A kernel's core lists such memory, leak_core's does not. */
 void tell_undumped(const struct core *core, const struct table_head *head)
 {
     uint64_t all = 0, own = 0;

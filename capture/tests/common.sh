@@ -158,7 +158,8 @@ dump() {
     rm -f "$name.core" "$name.log"
     largest=$(stat -c %s "$work"/table.* | sort -n | tail -n 1)
     if [ "$attaches" ]; then
-        (ulimit -f $((largest / 1024 + 4000000)); limited 120 "$kit/leak_dump" "$@")
+        (ulimit -f $((largest / 1024 + 4000000)); limited 120 "$kit/leak_dump" "$@" 2> "$work/dump.said")
+        grep -vE 'stood still|^leak_dump: (the blocks|now search)' "$work/dump.said" >&2
     else
         dump_killed "$@"
     fi

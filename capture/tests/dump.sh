@@ -195,16 +195,16 @@ verdict 'the parent by vfork goes on' 'went on' "$(tail -n 1 vfork.out)"
 section which way leak_dump goes
 build plain.c && gcc -shared -fPIC "$kit/tests/module.c" -o libjemalloc.so.2
 start ./plain
-dump "$process" "$work/table" 2> said
+dump "$process" "$work/table"
 verdict 'a table' "leak_dump: the blocks of $work/table.log are by leak_trace's table
-leak_dump: now search: leak_find one --skip-freed --skip-links $work/table.core $work/table.log" "$(grep '^leak_dump' said)"
+leak_dump: now search: leak_find one --skip-freed --skip-links $work/table.core $work/table.log" "$(grep '^leak_dump' dump.said)"
 verdict 'sizes' "core $(stat -c %s table.core)" "$("$kit/leak_dump" --size "$process" | head -n 1)"
 verdict 'the table is not in the core, nor is the finder' yes "$(takes_no_more table.core "$process")"
 stop "$process"
 LD_PRELOAD=$work/libjemalloc.so.2 start ./plain
 dump "$process" "$work/other" 2> said
 verdict 'another allocator' "leak_dump: the process has libjemalloc.so.2 mapped: its heap is not glibc's
-leak_dump: now search: leak_find one --other-heap $work/other.core $work/other.log" "$(grep '^leak_dump' said | tail -n 2)"
+leak_dump: now search: leak_find one --other-heap $work/other.core $work/other.log" "$(grep '^leak_dump' dump.said | tail -n 2)"
 stop "$process"
 if [ -x "$kit/leak_walk" ]; then
     (exec ./plain) & process=$!
