@@ -8,6 +8,7 @@
 #include <stdio.h>
 #include <stdlib.h>
 #include <string.h>
+#include <unistd.h>
 
 #include "dump.h"
 
@@ -138,8 +139,8 @@ static void dump(const struct request *request)
     let_go(&process);
     fprintf(stderr, "leak_core: process %d stood still for %.0f ms\n", process.id, milliseconds_since(process.since));
     if (state.regions.unknown)
-        fprintf(stderr, "leak_core: of %llu bytes of shared memory only the pages are written that the process has itself: root "
-                "can get the others\n", (unsigned long long)state.regions.unknown);
+        fprintf(stderr, "leak_core: of shared memory the core lacks what the process itself did not touch, of %llu bytes%s\n",
+                (unsigned long long)state.regions.unknown, geteuid() ? ": root can get it" : "");
     write_headers(&written, &state.notes, &core);
     close_queue();
     end_if_asked();

@@ -13,6 +13,7 @@
 /* PAGEMAP_SCAN, from Linux 6.7 on (Documentation/admin-guide/mm/pagemap.rst, include/uapi/linux/fs.h): it passes over
  * terabytes without a page in no time. Older headers don't have it. */
 enum { PAGE_IS_FILE = 1 << 2, PAGE_IS_PRESENT = 1 << 3, PAGE_IS_SWAPPED = 1 << 4, PAGE_IS_PFNZERO = 1 << 5,
+       PAGE_IS_GUARD = 1 << 8, /* from Linux 6.15 on */
        REGIONS = 1 << 14 };
 
 struct page_region {
@@ -39,14 +40,13 @@ void add_region(struct regions *regions, uint64_t start, uint64_t end, bool is_f
     regions->list[regions->count++] = (struct region){ start, end, is_file };
 }
 
-/* The pages from `start` to `end`. The page of zeros that the kernel shows where memory was only read is none. Gives
- * whether the kernel can say. It goes on behind the last page found, for `walk_end` may lie before that (Linux 6.18: where more
+/* The pages from `start` to `end` but those of `no_pages`. Gives whether the kernel can say. It goes on behind the last page found, for `walk_end` may lie before that (Linux 6.18: where more
  * than one of the kernel's own buffers was filled). */
-static bool scan(int pagemap, uint64_t start, uint64_t end, struct regions *regions)
+static bool scan(int pagemap, uint64_t start, uint64_t end, uint64_t no_pages, struct regions *regions)
 {
     static struct page_region found[REGIONS];
     struct pm_scan_arg ask = { .size = sizeof ask, .start = start, .end = end, .vec = (uintptr_t)found, .vec_len = REGIONS,
-                               .category_inverted = PAGE_IS_PFNZERO, .category_mask = PAGE_IS_PFNZERO,
+                               .category_inverted = no_pages, .category_mask = no_pages,
                                .category_anyof_mask = PAGE_IS_PRESENT | PAGE_IS_SWAPPED, .return_mask = PAGE_IS_FILE };
 
     for (int count = 1; count && ask.start < end;) {
@@ -60,6 +60,14 @@ static bool scan(int pagemap, uint64_t start, uint64_t end, struct regions *regi
             ask.start = found[count - 1].end;
     }
     return true;
+}
+
+/* None is the page of zeros that the kernel shows where memory was only read, nor a guard page (MADV_GUARD_INSTALL), which has
+ * no contents. Which of them the kernel knows is tried. */
+static bool scan_known(int pagemap, uint64_t start, uint64_t end, struct regions *regions)
+{
+    return scan(pagemap, start, end, PAGE_IS_PFNZERO | PAGE_IS_GUARD, regions)
+        || (errno == EINVAL && scan(pagemap, start, end, PAGE_IS_PFNZERO, regions));
 }
 
 static int by_start(const void *a, const void *b)
@@ -120,7 +128,7 @@ struct regions find_pages(pid_t witness, const struct maps *maps)
         fail("%s: %s", path, strerror(errno));
     while (last > maps->list && last->kind == NOT_MEMORY)
         last--;                 /* [vsyscall] lies above all that may be asked for */
-    if (acts_old() || !scan(pagemap, maps->list->start, last->end, &regions)) {
+    if (acts_old() || !scan_known(pagemap, maps->list->start, last->end, &regions)) {
         regions.count = 0;
         read_pagemap(witness, maps, pagemap, &regions);
     }

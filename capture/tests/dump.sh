@@ -39,7 +39,7 @@ core_of "$kinds" kinds.core
 verdict 'a process with threads goes on' same "$(is_as_it_was "$kinds" "$before")"
 verdict '--size says the size' "$(stat -c %s kinds.core)" "$size"
 words=$(reads word kinds.core $(awk 'NF == 2 { print $2 }' kinds.out))
-verdict 'private, shared, MADV_DONTDUMP, read-only, PROT_NONE, zeros, a written page of a file' \
+verdict 'private, shared, by a child, MADV_DONTDUMP, read-only, PROT_NONE, zeros, a written page of a file' \
     "$(awk 'NF == 2 { print ($1 == "zeros" ? "absent" : "0x1122334455667788") }' kinds.out | xargs)" "$words"
 LEAK_CORE_OLD=1 ./faulty "$kinds" old.core 2> said
 verdict 'the same by page maps' "$(reads sizes kinds.core) $words" \

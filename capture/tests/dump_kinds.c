@@ -6,6 +6,7 @@
 #include <stdlib.h>
 #include <string.h>
 #include <sys/mman.h>
+#include <sys/wait.h>
 #include <unistd.h>
 
 enum { PAGE = 4096, PAGES = 8 };
@@ -20,7 +21,23 @@ static char *make(const char *name, int flags)
 
     *(uint64_t *)(memory + 2 * PAGE) = MARK;
     printf("%s %p\n", name, memory + 2 * PAGE);
+    fflush(stdout);     /* before a fork */
     return memory;
+}
+
+/* Shared memory that a child wrote, and the process did not touch: only root finds that it is there. */
+static void let_child_write(void)
+{
+    char *memory = mmap(NULL, 64 * PAGE * PAGES, PROT_READ | PROT_WRITE, MAP_SHARED | MAP_ANONYMOUS, -1, 0);
+
+    if (geteuid())
+        return;
+    if (!fork()) {
+        *(uint64_t *)(memory + 32 * PAGE * PAGES) = MARK;
+        _exit(0);
+    }
+    wait(NULL);
+    printf("others %p\n", memory + 32 * PAGE * PAGES);
 }
 
 /* ymm8 gets a value of which each half is complemented in memory, and keeps it in its upper half while the thread rests. */
@@ -57,6 +74,7 @@ int main(void)
 
     make("private", MAP_PRIVATE | MAP_ANONYMOUS);
     make("shared", MAP_SHARED | MAP_ANONYMOUS);
+    let_child_write();
     madvise(make("dontdump", MAP_PRIVATE | MAP_ANONYMOUS), PAGES * PAGE, MADV_DONTDUMP);
     mprotect(make("readonly", MAP_PRIVATE | MAP_ANONYMOUS), PAGES * PAGE, PROT_READ);
     mprotect(make("none", MAP_PRIVATE | MAP_ANONYMOUS), PAGES * PAGE, PROT_NONE);
