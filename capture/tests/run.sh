@@ -26,6 +26,7 @@ part known "$dumps"
 part lines
 part stops
 part freed "$dumps"
+part walk
 part frames "$dumps"
 part tables "$dumps"
 part moments "$attaches"

@@ -143,24 +143,39 @@ static int take_as(struct heap *heap, uint64_t block, const struct shape *shape,
     return take_lists(heap, &c);
 }
 
-static int is_cache(struct heap *heap, uint64_t block, uint64_t size, int is_first)
+/* Whether a chunk of this size may be one of the shape: a remainder of less than a chunk makes it 16 bytes larger. */
+static int has_shape(uint64_t size, const struct shape *shape)
 {
-    for (int k = 0; k < SHAPES; k++)
-        /* a remainder of less than a chunk makes it 16 bytes larger */
-        if ((size == shapes[k].size || size == shapes[k].size + STEP)
-            && (take_as(heap, block, shapes + k, 1, is_first) || (shapes[k].may_be_plain && take_as(heap, block, shapes + k, 0, is_first))))
-            return 1;
-    return 0;
+    return size == shape->size || size == shape->size + STEP;
 }
 
-static void take_caches_in(struct heap *heap, const struct region *r)
+int may_be_cache(uint64_t size)
 {
-    struct chain chain = chunks_of(r);
-    struct chunk chunk;
+    int may_be = 0;
 
-    while (next_chunk(heap->core, &chain, &chunk))
-        if (is_used(heap, chunk.at) && is_cache(heap, chunk.at + TO_BLOCK, chunk.size, chunk.at == r->start))
-            set_used(heap, chunk.at, 0);
+    for (int k = 0; k < SHAPES; k++)
+        may_be |= has_shape(size, shapes + k);
+    return may_be;
+}
+
+static int is_cache(struct heap *heap, uint64_t block, uint64_t size, int is_first)
+{
+    int found = 0;
+
+    for (int k = 0; k < SHAPES && !found; k++)
+        found = has_shape(size, shapes + k)
+            && (take_as(heap, block, shapes + k, 1, is_first) || (shapes[k].may_be_plain && take_as(heap, block, shapes + k, 0, is_first)));
+    return found;
+}
+
+/* A chunk that a cache has taken as free meanwhile is none. */
+static void take_caches_in_chunks(struct heap *heap)
+{
+    for (size_t i = 0; i < heap->maybe_cache_count; i++) {
+        uint64_t at = heap->maybe_caches[i].at;
+        if (is_used(heap, at) && is_cache(heap, at + TO_BLOCK, heap->maybe_caches[i].size, begins_region(heap, at)))
+            set_used(heap, at, 0);
+    }
 }
 
 /* A cache has a mapping of its own where M_MMAP_THRESHOLD is small. */
@@ -178,8 +193,7 @@ void take_caches(struct heap *heap)
 {
     size_t left = 0;
 
-    for (size_t i = 0; i < heap->region_count; i++)
-        take_caches_in(heap, heap->regions + i);
+    take_caches_in_chunks(heap);
     for (size_t i = 0; i < heap->mapping_count; i++)
         if (!is_mapped_cache(heap, heap->mappings + i))
             heap->mappings[left++] = heap->mappings[i];

@@ -42,7 +42,7 @@ static int is_end(struct core *core, struct chain *chain)
 /* Goes to the next chunk, and gives it; or 0 where the chain stops. */
 int next_chunk(struct core *core, struct chain *chain, struct chunk *chunk)
 {
-    uint64_t head, size, after, at = chain->at;
+    uint64_t head = 0, size, after, at = chain->at;
 
     if (is_end(core, chain))
         return 0;

@@ -125,8 +125,8 @@ const struct segment *segment_at(struct core *core, uint64_t address)
 {
     size_t low = 0, high = core->segment_count;
 
-    if (core->last < high && address - core->segments[core->last].start < core->segments[core->last].end - core->segments[core->last].start)
-        return core->segments + core->last;
+    if (core->near && address >= core->near->start && address < core->near->end)
+        return core->near;
     while (low < high) {
         size_t middle = low + (high - low) / 2;
         if (core->segments[middle].start <= address)
@@ -136,19 +136,7 @@ const struct segment *segment_at(struct core *core, uint64_t address)
     }
     if (!low || address >= core->segments[low - 1].end)
         return NULL;
-    core->last = low - 1;
-    return core->segments + core->last;
-}
-
-/* Whether the core has the eight bytes at the address, and which. */
-int word(struct core *core, uint64_t address, uint64_t *value)
-{
-    const struct segment *s = segment_at(core, address);
-
-    if (!s || s->size < sizeof *value || address - s->start > s->size - sizeof *value)
-        return 0;
-    memcpy(value, s->bytes + (address - s->start), sizeof *value);
-    return 1;
+    return core->near = core->segments + low - 1;
 }
 
 int is_word(struct core *core, uint64_t address, uint64_t wanted)

@@ -60,13 +60,14 @@ void put_number(uint64_t value)
 
 void put_hex(const char *before, uint64_t value)
 {
-    int digits = value ? (67 - __builtin_clzll(value)) / 4 : 1;
+    size_t length = strlen(before);
+    int digits = value ? (67 - __builtin_clzll(value)) / 4 : 1; /* each tells four of the 64 - clz bits */
 
-    put_text(before);
-    make_room(LONGEST);
-    for (int i = digits; i--; value >>= 4)
-        room[used + i] = "0123456789abcdef"[value & 15];
-    used += digits;
+    make_room(length + LONGEST);
+    memcpy(room + used, before, length);
+    used += length + digits;
+    for (char *at = room + used; digits--; value >>= 4)
+        *--at = "0123456789abcdef"[value & 15];
 }
 
 /* Ends the output: what is left goes out, and an error that only comes at the end is one. */

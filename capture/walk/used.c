@@ -16,7 +16,24 @@ static uint8_t *bits_of(const struct region *r, uint64_t at)
     return r->used + (at - r->start) / BYTE_OF_PIECES;
 }
 
-/* A free chunk's size stands behind it too. */
+int is_used_in(const struct region *r, uint64_t at)
+{
+    return *bits_of(r, at) >> (at - r->start) / PIECE % 8 & 1;
+}
+
+static void note(struct heap *heap, struct region *r, const struct chunk *chunk)
+{
+    if (chunk->is_used) {
+        *bits_of(r, chunk->at) |= 1 << (chunk->at - r->start) / PIECE % 8;
+        if (may_be_cache(chunk->size)) {
+            heap->maybe_caches = grown(heap->maybe_caches, heap->maybe_cache_count, sizeof *heap->maybe_caches);
+            heap->maybe_caches[heap->maybe_cache_count++] = *chunk;
+        }
+    } else if (!is_word(heap->core, chunk->at + chunk->size, chunk->size) && !heap->odd_chunks.count++) {
+        heap->odd_chunks.first = chunk->at; /* a free chunk's size stands behind it too */
+    }
+}
+
 static void find_used_in(struct heap *heap, struct region *r)
 {
     struct chain chain = chunks_of(r);
@@ -26,10 +43,7 @@ static void find_used_in(struct heap *heap, struct region *r)
     if (!r->used)
         fail("out of memory");
     while (next_chunk(heap->core, &chain, &chunk))
-        if (chunk.is_used)
-            *bits_of(r, chunk.at) |= 1 << (chunk.at - r->start) / PIECE % 8;
-        else if (!is_word(heap->core, chunk.at + chunk.size, chunk.size) && !heap->odd_chunks.count++)
-            heap->odd_chunks.first = chunk.at;
+        note(heap, r, &chunk);
 }
 
 /* Sorts the regions, and reads which of their chunks are in use. */
@@ -64,7 +78,7 @@ int is_used(struct heap *heap, uint64_t at)
 {
     const struct region *r = at % PIECE ? NULL : region_of(heap, at);
 
-    return r && *bits_of(r, at) >> (at - r->start) / PIECE % 8 & 1;
+    return r && is_used_in(r, at);
 }
 
 /* Sets it of a chunk. */
@@ -74,6 +88,14 @@ void set_used(struct heap *heap, uint64_t at, int used)
     uint8_t bit = 1 << (at - r->start) / PIECE % 8;
 
     *bits_of(r, at) = used ? *bits_of(r, at) | bit : *bits_of(r, at) & ~bit;
+}
+
+/* Whether it is the first chunk of a region. */
+int begins_region(const struct heap *heap, uint64_t at)
+{
+    const struct region *r = region_of(heap, at);
+
+    return r && r->start == at;
 }
 
 uint64_t size_at(struct heap *heap, uint64_t at)

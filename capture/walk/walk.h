@@ -4,6 +4,7 @@
 
 #include <stddef.h>
 #include <stdint.h>
+#include <string.h>
 
 enum { PAGE = 4096 };
 
@@ -27,7 +28,8 @@ struct part {
 struct core {
     const char *path;
     struct segment *segments;   /* by ascending start */
-    size_t segment_count, last;
+    size_t segment_count;
+    const struct segment *near; /* the one that was asked for last, or NULL */
     struct part *parts;         /* by ascending start */
     size_t part_count;
 };
@@ -56,6 +58,11 @@ struct mapping {
     uint64_t start, end, block;
 };
 
+struct chunk {
+    uint64_t at, size;
+    int is_used;                /* by the next chunk's bit */
+};
+
 struct tally {
     uint64_t count, first;      /* how many, and where the first is */
 };
@@ -69,6 +76,8 @@ struct heap {
     size_t region_count;
     struct mapping *mappings;   /* by ascending start */
     size_t mapping_count;
+    struct chunk *maybe_caches; /* chunks in use with the size of a thread's cache */
+    size_t maybe_cache_count;
     uint64_t steps_left;        /* more than a right heap needs; a damaged one may lead in circles */
     uint64_t left_out;          /* bytes of no known chunk */
     struct tally odd_chunks, odd_lists; /* free chunks without their size behind them; lists that lead nowhere */
@@ -84,11 +93,6 @@ struct chain {
     uint64_t heap_end;          /* of a thread's heap without the top, else 0 */
     int is_thread;              /* of a thread's arena */
     enum stop stop;
-};
-
-struct chunk {
-    uint64_t at, size;
-    int is_used;                /* by the next chunk's bit */
 };
 
 /* Called for each block in use and each stretch of free memory, or of malloc's own. */
@@ -107,7 +111,20 @@ void take_steps(struct heap *heap, uint64_t count, uint64_t near);
 /* core.c */
 struct core read_core(const char *path);
 const struct segment *segment_at(struct core *core, uint64_t address);
-int word(struct core *core, uint64_t address, uint64_t *value);
+
+/* Whether the core has the eight bytes at the address, and which. */
+static inline int word(struct core *core, uint64_t address, uint64_t *value)
+{
+    const struct segment *s = core->near;
+
+    if (!s || address < s->start || address >= s->end)
+        s = segment_at(core, address);
+    if (!s || s->size < sizeof *value || address - s->start > s->size - sizeof *value)
+        return 0;
+    memcpy(value, s->bytes + (address - s->start), sizeof *value);
+    return 1;
+}
+
 int is_word(struct core *core, uint64_t address, uint64_t wanted);
 const uint8_t *map_file(const char *path, uint64_t *size);
 int by_start(const void *a, const void *b);
@@ -137,6 +154,8 @@ void find_thread_heaps(struct heap *heap);
 /* used.c */
 void find_used(struct heap *heap);
 struct chain chunks_of(const struct region *region);
+int is_used_in(const struct region *region, uint64_t at);
+int begins_region(const struct heap *heap, uint64_t at);
 int is_used(struct heap *heap, uint64_t at);
 void set_used(struct heap *heap, uint64_t at, int used);
 uint64_t size_at(struct heap *heap, uint64_t at);
@@ -144,6 +163,7 @@ uint64_t size_at(struct heap *heap, uint64_t at);
 /* lists.c, caches.c */
 uint64_t revealed(uint64_t place, uint64_t link, int is_safe);
 void take_fast_bins(struct heap *heap);
+int may_be_cache(uint64_t size);
 void take_caches(struct heap *heap);
 
 /* mapped.c */
