@@ -1,16 +1,16 @@
 /* expect: 56 88 120 152 184 216 248 280 */
 /* Four threads that allocate and free, then lose blocks of which one holds another, and rest. Sizes are such that malloc gives no more
- * than was asked. With `later` as argument it reads a line, and loses more (312, 344, 376, 408), frees and allocates. */
+ * than was asked, and all blocks are cleared: a stale word in one might lead to what is lost. With `later` as argument it reads a line, and loses more (312, 344, 376, 408), frees and allocates. */
 #include <pthread.h>
 #include <stdio.h>
 #include "lose.h"
-enum { THREADS = 4, HELD = 5000 };
+enum { THREADS = 4, HELD = 1000 };
 static void *volatile held[THREADS][HELD];
 static pthread_barrier_t barrier;
 static void **pair(size_t size)
 {
-    void **head = malloc(size + 32);
-    *head = malloc(size);
+    void **head = calloc(1, size + 32);
+    *head = calloc(1, size);
     return head;
 }
 static void churn(long which, unsigned x)
@@ -19,7 +19,7 @@ static void churn(long which, unsigned x)
         x = x * 1664525 + 1013904223;
         void *volatile *p = held[which] + (x >> 8) % HELD;
         free(*p);
-        *p = malloc(24 + 16 * ((x >> 20) % 200));
+        *p = calloc(1, 24 + 16 * ((x >> 20) % 200));
     }
 }
 static void *work(void *which)

@@ -48,9 +48,9 @@ static void find_in(struct heap *heap, const struct segment *s)
 {
     enum { TO_LAST_BIN = BIN_BYTES * (BINS - 1) };
 
-    for (uint64_t at = -s->start % 8; s->size >= 16 && at <= s->size - 16; at += 8) {
-        const uint64_t *pair = (const uint64_t *)(s->bytes + at); /* x86-64 reads words at any address */
-        uint64_t bin = s->start + at - FD;
+    for (uint64_t at = -s->start % 8; s->size >= BIN_BYTES && at <= s->size - BIN_BYTES; at += 8) {
+        uint64_t bin = s->start + at - FD, pair[2];
+        memcpy(pair, s->bytes + at, sizeof pair);
         if (pair[0] != bin || pair[1] != bin || bin < TO_LAST_BIN || !has_bins(heap->core, bin - TO_LAST_BIN))
             continue;
         heap->arenas = grown(heap->arenas, heap->arena_count, sizeof *heap->arenas);

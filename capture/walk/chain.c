@@ -96,7 +96,7 @@ uint64_t find_chain(struct heap *heap, uint64_t from, uint64_t to, uint64_t top,
 {
     uint64_t start = UINT64_MAX;
 
-    for (size_t i = 0; i < heap->core->segment_count && start == UINT64_MAX; i++) {
+    for (size_t i = first_behind(heap->core, from); i < heap->core->segment_count && start == UINT64_MAX; i++) {
         const struct segment *s = heap->core->segments + i;
         uint64_t low = s->start < from ? from : s->start, high = s->start + s->size < to ? s->start + s->size : to;
         if (s->is_writable && low < high)

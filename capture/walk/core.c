@@ -120,23 +120,32 @@ struct core read_core(const char *path)
     return core;
 }
 
-/* The segment that has the address, or NULL. */
-const struct segment *segment_at(struct core *core, uint64_t address)
+/* The number of the first segment that ends behind the address. */
+size_t first_behind(const struct core *core, uint64_t address)
 {
     size_t low = 0, high = core->segment_count;
 
-    if (core->near && address >= core->near->start && address < core->near->end)
-        return core->near;
     while (low < high) {
         size_t middle = low + (high - low) / 2;
-        if (core->segments[middle].start <= address)
+        if (core->segments[middle].end <= address)
             low = middle + 1;
         else
             high = middle;
     }
-    if (!low || address >= core->segments[low - 1].end)
+    return low;
+}
+
+/* The segment that has the address, or NULL. */
+const struct segment *segment_at(struct core *core, uint64_t address)
+{
+    size_t i;
+
+    if (core->near && address >= core->near->start && address < core->near->end)
+        return core->near;
+    i = first_behind(core, address);
+    if (i == core->segment_count || core->segments[i].start > address)
         return NULL;
-    return core->near = core->segments + low - 1;
+    return core->near = core->segments + i;
 }
 
 int is_word(struct core *core, uint64_t address, uint64_t wanted)

@@ -39,6 +39,9 @@ static void find_used_in(struct heap *heap, struct region *r)
     struct chain chain = chunks_of(r);
     struct chunk chunk;
 
+    if (r->end - r->start > heap->dumped_left)
+        fail("%s: damaged: the core does not have all of the heap at 0x%llx", heap->core->path, (unsigned long long)r->start);
+    heap->dumped_left -= r->end - r->start;
     r->used = calloc((r->end - r->start) / BYTE_OF_PIECES + 1, 1);
     if (!r->used)
         fail("out of memory");

@@ -79,6 +79,7 @@ struct heap {
     struct chunk *maybe_caches; /* chunks in use with the size of a thread's cache */
     size_t maybe_cache_count;
     uint64_t steps_left;        /* more than a right heap needs; a damaged one may lead in circles */
+    uint64_t dumped_left;       /* bytes of writable memory that no region has yet */
     uint64_t left_out;          /* bytes of no known chunk */
     struct tally odd_chunks, odd_lists; /* free chunks without their size behind them; lists that lead nowhere */
 };
@@ -110,6 +111,7 @@ void take_steps(struct heap *heap, uint64_t count, uint64_t near);
 
 /* core.c */
 struct core read_core(const char *path);
+size_t first_behind(const struct core *core, uint64_t address);
 const struct segment *segment_at(struct core *core, uint64_t address);
 
 /* Whether the core has the eight bytes at the address, and which. */
