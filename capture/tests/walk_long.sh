@@ -1,0 +1,81 @@
+#!/bin/bash
+# What of leak_walk takes too long for the gate: many real programs, fifty killed storms, 1,000 mutations under sanitizers, ten million blocks, and
+# programs with another allocator. Programs that are not installed are left out. LEAK_FIND names leak_find, as for run.sh.
+. "$(dirname "$0")/common.sh"
+STORMS=${STORMS:-50}
+. "$kit/tests/walk.sh"
+
+section more real programs
+if [ "$dumps" ]; then
+    traced sqlite3 sqlite3 :memory: "create table t(a,b); with recursive c(x) as (select 1 union all select x+1 from c where x<9999) insert into t select x, hex(x) from c; select count(*) from t;" '.read /dev/stdin'
+    traced php php -r '$a = []; for ($i = 0; $i < 20000; $i++) $a["k$i"] = [$i, str_repeat("x", $i % 99)]; ini_set("memory_limit", -1); fgets(STDIN);'
+    USE_ZEND_ALLOC=0 traced php_malloc php -r '$a = []; for ($i = 0; $i < 20000; $i++) $a["k$i"] = [$i, str_repeat("x", $i % 99)]; fgets(STDIN);'
+    traced ruby ruby -e 'h = {}; 9999.times { |i| h["k#{i}"] = [i] * 5 }; STDIN.gets'
+    traced lua lua5.4 -e 't = {} for i = 1, 9999 do t[i] = { tostring(i), i } end io.read()'
+    traced tclsh tclsh
+    traced jq jq -n '[range(20000) | tostring] | input'
+    traced xmllint xmllint --shell "$work/big.xml"
+    traced cmake cmake -E cat /dev/stdin
+    traced bc bc -q
+    traced redis redis-server --port 28185 --bind 127.0.0.1 --save '' --appendonly no
+    traced memcached memcached -u root -p 28186 -l 127.0.0.1 -t 4
+    traced node node -e 'let a = []; for (let i = 0; i < 9999; i++) a.push({ i }); process.stdin.resume()'
+    traced sort sort -S 100M --parallel=4
+    traced gdb_of_gdb gdb -nx -q "$(command -v gdb)"
+fi
+
+section other allocators
+if [ "$dumps" ]; then
+    jemalloc=$(ls /usr/lib/x86_64-linux-gnu/libjemalloc.so.2 2> /dev/null)
+    if [ "$jemalloc" ]; then
+        LD_PRELOAD=$jemalloc unprepared ./walk_leaks
+        core_of $process jemalloc
+        stop $process
+        refused jemalloc 'another allocator (jemalloc, tcmalloc, musl' jemalloc.core
+    else
+        leave_out jemalloc
+    fi
+    if command -v musl-gcc > /dev/null; then
+        musl-gcc -O1 -static "$kit/tests/walk_leaks.c" -o musl && unprepared ./musl
+        core_of $process musl
+        stop $process
+        refused musl 'another allocator (jemalloc, tcmalloc, musl' musl.core
+    else
+        leave_out musl
+    fi
+    rm -f jemalloc.core musl.core
+fi
+
+# killed NAME PROGRAM..: the kernel's core of it, NAME.killed.
+killed() {
+    unprepared "${@:2}"
+    rm -f core core.*
+    { kill -ABRT $process && wait $process; } 2> /dev/null
+    unset "started[$process]"
+    mv "$(kernel_core)" "$1.killed"
+}
+
+section 1,000 mutations under sanitizers
+if [ "$dumps_core" ] && gcc -O1 -g -std=gnu11 -fsanitize=address,undefined -fno-sanitize-recover=undefined "$kit"/walk/*.c -o sanitized 2> sanitized.said; then
+    killed leaks ./walk_leaks
+    killed types ./walk_types
+    killed perl perl -e 'my %h; $h{$_} = "x" x $_ for 1 .. 999; <STDIN>'
+    killed bash bash -c 'x=$(seq 9999); read y'
+    killed python /usr/bin/python3 -c 'import sys; x = [str(i) for i in range(9999)]; sys.stdin.readline()'
+    python3 "$kit/tests/walk_mutate.py" "${MUTATIONS:-1000}" "$walk" ./sanitized *.killed > mutations
+    verdict 'mutations and cuts' 0 $?
+    tail -n 5 mutations
+fi
+
+section ten million blocks
+build walk_many.c
+unprepared ./walk_many 10000000
+core_of $process many
+stop $process
+start_time=$(date +%s%N)
+"$walk" many.core > many.log 2> many.said
+verdict 'ten million blocks' 0 $?
+echo "     $(((($(date +%s%N) - start_time)) / 1000000)) ms by the clock; $(cat many.said)"
+verdict 'each in the log' yes "$([ "$(grep -c '^@' many.log)" -ge 10000000 ] && echo yes)"
+rm -f many.core many.log
+complete=1
