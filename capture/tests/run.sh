@@ -20,7 +20,6 @@ part() {
     fi
 }
 
-part walk
 part dump "$attaches"
 part known "$dumps"
 part lines
