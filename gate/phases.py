@@ -37,15 +37,15 @@ class Phase(NamedTuple):
 
 
 PHASES = (
-    Phase("proofs", 100, (), (Step("rt ci", ""),)),
-    Phase("wrong", 60, ("crates/*/out/rlib",), (
+    Phase("proofs", 110, (), (Step("rt ci", ""),)),
+    Phase("wrong", 90, ("crates/*/out/rlib",), (
         Step("python3 gate/wrong_bodies_test.py"),
         Step("python3 gate/wrong_bodies.py", "wrong bodies: "))),
     Phase("cases", 5, (f"{OUT}/leak_cli", f"{OUT}/leak_cli.by-rattle"), (
         Step("python3 gate/phases_test.py"),
         Step("python3 gate/cases_test.py"),
         Step(f"python3 gate/cases.py {OUT}/leak_cli {OUT}/leak_cli.by-rattle", "cases: "))),
-    Phase("capture", 12, (f"{OUT}/leak_cli",), (
+    Phase("capture", 30, (f"{OUT}/leak_cli",), (
         Step("make -C capture"),
         Step(f"MOMENTS=10 LEAK_FIND=$PWD/{OUT}/leak_cli capture/tests/run.sh", "capture: "),
         Step(f"examples/run.sh $PWD/{OUT}/leak_cli", "examples: "))),
