@@ -3,6 +3,7 @@ use Rattle.std.specs.Prelude.{◌≡◌, ℕ, ◌%◌, true, false, List, [], �
 use Rattle.std.specs.Option.{option_map_or}
 use Rattle.leak_blocks.specs.declared.block.Block.{Block}
 use Rattle.leak_index.specs.Hits.{Index}
+use Rattle.leak_index.specs.Laws.{index_by}
 use Rattle.leak_scan.specs.Targets.{block_words, block_words_on, block_targets}
 use Rattle.leak_scan.specs.Heads.{heads_of}
 
@@ -13,8 +14,13 @@ block start size number = record { start = start; size = size; line = number; ca
 abbrev pub memory : List (ℕ × ℕ) → ℕ → Option ℕ
 memory set a = if a % 8 == 0 then Some (option_map_or (λ s. s.1) (find (λ s. s.0 == a) set) 0) else None
 
+-- the blocks by every distance, with their ends
 abbrev pub index : List Block → Index
-index blocks = record { blocks = blocks; reading = None }
+index blocks = index_by false None blocks
+
+-- and without
+abbrev pub inner : List Block → Index
+inner blocks = index_by true None blocks
 
 pub record AreWorkedTargets : Type 0 where
   pub words : block_words (memory ((0x10108, 7) ∷ [])) (block 0x10104 0x14 1) ≡ 7 ∷ 0 ∷ []
@@ -22,11 +28,15 @@ pub record AreWorkedTargets : Type 0 where
   pub paged : block_words_on (memory ((0x10ff8, 1) ∷ (0x11000, 7) ∷ [])) (17 ∷ []) (block 0x10ff8 0x10 1) ≡ 7 ∷ []
   pub targets : block_targets (memory ((0x10100, 0x10200) ∷ [])) (index (block 0x10100 0x10 1 ∷ block 0x10200 0x10 2 ∷ [])) (block 0x10100 0x10 1) ≡ 1 ∷ []
   pub both : block_targets (memory ((0x10100, 0x10110) ∷ [])) (index (block 0x10100 0x10 1 ∷ block 0x10110 0x10 2 ∷ [])) (block 0x10100 0x10 1) ≡ 0 ∷ 1 ∷ []
+  pub second : block_targets (memory ((0x10100, 0x10110) ∷ [])) (inner (block 0x10100 0x10 1 ∷ block 0x10110 0x10 2 ∷ [])) (block 0x10100 0x10 1) ≡ 1 ∷ []
+  pub end : block_targets (memory ((0x10100, 0x10210) ∷ [])) (index (block 0x10100 0x10 1 ∷ block 0x10200 0x10 2 ∷ [])) (block 0x10100 0x10 1) ≡ 1 ∷ []
+  pub left_out : block_targets (memory ((0x10100, 0x10210) ∷ [])) (inner (block 0x10100 0x10 1 ∷ block 0x10200 0x10 2 ∷ [])) (block 0x10100 0x10 1) ≡ []
 
--- the first leads to the second and to itself; a word one past the end of the first leads to it; a ring; a holder that is
--- in the set holds nothing
+-- the first leads to the second and to itself; a word one past the end of the first leads to it, but where ends are left out;
+-- a ring; a holder that is in the set holds nothing
 pub record AreWorkedHeads : Type 0 where
   pub own_word : heads_of (memory ((0x10100, 0x10200) ∷ (0x10108, 0x10100) ∷ [])) (index (block 0x10100 0x20 1 ∷ block 0x10200 0x10 2 ∷ block 0x10300 8 3 ∷ [])) (false ∷ false ∷ false ∷ []) ≡ true ∷ false ∷ true ∷ []
   pub past_the_end : heads_of (memory ((0x10200, 0x10120) ∷ [])) (index (block 0x10100 0x20 1 ∷ block 0x10200 0x10 2 ∷ [])) (false ∷ false ∷ []) ≡ false ∷ true ∷ []
+  pub left_out : heads_of (memory ((0x10200, 0x10120) ∷ [])) (inner (block 0x10100 0x20 1 ∷ block 0x10200 0x10 2 ∷ [])) (false ∷ false ∷ []) ≡ true ∷ true ∷ []
   pub ring : heads_of (memory ((0x10100, 0x10200) ∷ (0x10200, 0x10100) ∷ [])) (index (block 0x10100 0x20 1 ∷ block 0x10200 0x10 2 ∷ [])) (false ∷ false ∷ []) ≡ false ∷ false ∷ []
   pub marked : heads_of (memory ((0x10100, 0x10200) ∷ [])) (index (block 0x10100 0x20 1 ∷ block 0x10200 0x10 2 ∷ [])) (true ∷ false ∷ []) ≡ false ∷ true ∷ []

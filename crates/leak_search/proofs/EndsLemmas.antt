@@ -83,10 +83,10 @@ map_fewer f g x each (b ∷ bs) zero = each b
 map_fewer f g x each (b ∷ bs) (suc s) = map_fewer f g x each bs s
 
 module _ (listed : Option (List ℕ)) (lines : List Line) where
-  few : Index
+  abbrev few : Index
   few = index_of (inner listed) lines
 
-  more : Index
+  abbrev more : Index
   more = index_of (whole listed) lines
 
   hits_fewer : (x w : ℕ) → times x (hits_of few w) ≤ times x (hits_of more w)

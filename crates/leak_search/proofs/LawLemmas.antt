@@ -55,6 +55,7 @@ fewer_segments f p o s t (g ∷ segments) x h = go (s g) (t g) (h g) (fewer_segm
   where
     one : (more : List ℕ) → times x (flat_map f (filter p (o g ++ more))) ≡ times x (flat_map f (filter p (o g))) + times x (flat_map f (filter p more))
     one more = ap (λ (places : List ℕ). times x (flat_map f places)) (filter-append p (o g) more) ∙ ap (times x) (flat_map-append f (filter p (o g)) (filter p more)) ∙ times-append x (flat_map f (filter p (o g))) (flat_map f (filter p more))
+
     go : (u v : Bool) → (u ≡ true → v ≡ true) → times x (flat_map f (filter p (flat_map o (filter s segments)))) ≤ times x (flat_map f (filter p (flat_map o (filter t segments))))
         → times x (flat_map f (filter p (flat_map o (cond u (g ∷ filter s segments) (filter s segments))))) ≤ times x (flat_map f (filter p (flat_map o (cond v (g ∷ filter t segments) (filter t segments)))))
     go true true i le = omega (arith, one (flat_map o (filter s segments)), one (flat_map o (filter t segments)), le)

@@ -8,4 +8,4 @@ use Rattle.leak_scan.proofs.laws.worked_heads.Goals as goal
 
 pub returns : goal.returns
 unfolding hits_of words_between targets_of block_targets heads_of
-returns c = record { own_word = refl; past_the_end = refl; ring = refl; marked = refl }
+returns c = record { own_word = refl; past_the_end = refl; left_out = refl; ring = refl; marked = refl }

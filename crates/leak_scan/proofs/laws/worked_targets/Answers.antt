@@ -7,4 +7,4 @@ use Rattle.leak_scan.proofs.laws.worked_targets.Goals as goal
 
 pub returns : goal.returns
 unfolding words_between hits_of block_words_on targets_of block_targets
-returns c = record { words = refl; short = refl; paged = refl; targets = refl; both = refl }
+returns c = record { words = refl; short = refl; paged = refl; targets = refl; both = refl; second = refl; end = refl; left_out = refl }
