@@ -7,7 +7,7 @@ use Rattle.std.specs.Io.KnownBytes.{Appends}
 use Rattle.std.specs.Result.{OnOk}
 use Rattle.std.proofs.Math.Seq.{take-length}
 use Rattle.leak_report.specs.declared.output.WriteFault.{WriteFault}
-use Rattle.leak_index.specs.Readings.{listed_by}
+use Rattle.leak_index.specs.Readings.{distances_of}
 use Rattle.leak_input.specs.declared.error.FindError.{FindError}
 use Rattle.leak_input.specs.declared.error.FindError.TheVariants.{NoMemory}
 use Rattle.leak_readers.specs.declared.fault.ReadFault.{ReadFault}
@@ -132,14 +132,14 @@ of_two two n is h = subst (λ (b : Bool). n ≤ file_count b) (sym is) h
 
 pub found_one : (o : Options) (before after : List (Option (List ℕ))) (core log core_read log_read : List ℕ) (found : Found) → o.two ≡ false
     → SoFar o before after (core ∷ log ∷ []) → core_read ≡ core → log_read ≡ log
-    → FindsOne core_read log_read (listed_by o.reading) o.skip o.check o.plan.workers found → AreSigns (core_read ∷ log_read ∷ []) found.signs.items → HasFound o before after found
+    → FindsOne core_read log_read (distances_of o.reading) o.skip o.check o.plan.workers found → AreSigns (core_read ∷ log_read ∷ []) found.signs.items → HasFound o before after found
 found_one o before after core log core_read log_read found one so_far core_is log_is finds signs = record {
   inputs = core ∷ log ∷ [];
   count = rw (one) refl;
   read = so_far.read;
   finds = subst (λ (b : Bool). Finds b o (core ∷ log ∷ []) found) (sym one)
-      (subst (λ (l : List ℕ). FindsOne core l (listed_by o.reading) o.skip o.check o.plan.workers found) log_is
-      (subst (λ (c : List ℕ). FindsOne c log_read (listed_by o.reading) o.skip o.check o.plan.workers found) core_is finds));
+      (subst (λ (l : List ℕ). FindsOne core l (distances_of o.reading) o.skip o.check o.plan.workers found) log_is
+      (subst (λ (c : List ℕ). FindsOne c log_read (distances_of o.reading) o.skip o.check o.plan.workers found) core_is finds));
   signs = subst (λ (l : List ℕ). AreSigns (core ∷ l ∷ []) found.signs.items) log_is
       (subst (λ (c : List ℕ). AreSigns (c ∷ log_read ∷ []) found.signs.items) core_is signs);
 }
@@ -159,13 +159,13 @@ fault_one o before after core log core_read log_read e one so_far core_is log_is
 
 module _ (o : Options) (address : ℕ) (before after : List (Option (List ℕ))) (core log core_read log_read : List ℕ)
     (so_far : SoFar o before after (core ∷ log ∷ [])) (core_is : core_read ≡ core) (log_is : log_read ≡ log) where
-  pub has_told : (why : Why) → TellsWhy core_read log_read (listed_by o.reading) o.skip address why → HasTold o address before after why
+  pub has_told : (why : Why) → TellsWhy core_read log_read (distances_of o.reading) o.skip address why → HasTold o address before after why
   has_told why tells = record {
     inputs = core ∷ log ∷ [];
     count = refl;
     read = so_far.read;
-    tells = subst (λ (l : List ℕ). TellsWhy core l (listed_by o.reading) o.skip address why) log_is
-        (subst (λ (c : List ℕ). TellsWhy c log_read (listed_by o.reading) o.skip address why) core_is tells);
+    tells = subst (λ (l : List ℕ). TellsWhy core l (distances_of o.reading) o.skip address why) log_is
+        (subst (λ (c : List ℕ). TellsWhy c log_read (distances_of o.reading) o.skip address why) core_is tells);
   }
 
   pub holding_fault : (e : WhyError) → (e ≢ Refused NoMemory → IsWhyFault core_read log_read address e) → IsHoldingFault o address before after e
@@ -183,17 +183,17 @@ module _ (o : Options) (address : ℕ) (before after : List (Option (List ℕ)))
 
 module _ (o : Options) (before after : List (Option (List ℕ))) (core1 log1 core2 log2 core1_read log1_read core2_read log2_read : List ℕ) (two : o.two ≡ true)
     (so_far : SoFar o before after (core1 ∷ log1 ∷ core2 ∷ log2 ∷ [])) (core1_is : core1_read ≡ core1) (log1_is : log1_read ≡ log1) (core2_is : core2_read ≡ core2) (log2_is : log2_read ≡ log2) where
-  pub found_two : (found : Found) → FindsTwo core1_read log1_read core2_read log2_read (listed_by o.reading) o.skip o.check o.plan.workers found
+  pub found_two : (found : Found) → FindsTwo core1_read log1_read core2_read log2_read (distances_of o.reading) o.skip o.check o.plan.workers found
       → AreSigns (core1_read ∷ log1_read ∷ core2_read ∷ log2_read ∷ []) found.signs.items → HasFound o before after found
   found_two found finds signs = record {
     inputs = core1 ∷ log1 ∷ core2 ∷ log2 ∷ [];
     count = rw (two) refl;
     read = so_far.read;
     finds = subst (λ (b : Bool). Finds b o (core1 ∷ log1 ∷ core2 ∷ log2 ∷ []) found) (sym two)
-        (subst (λ (l : List ℕ). FindsTwo core1 log1 core2 l (listed_by o.reading) o.skip o.check o.plan.workers found) log2_is
-        (subst (λ (c : List ℕ). FindsTwo core1 log1 c log2_read (listed_by o.reading) o.skip o.check o.plan.workers found) core2_is
-        (subst (λ (l : List ℕ). FindsTwo core1 l core2_read log2_read (listed_by o.reading) o.skip o.check o.plan.workers found) log1_is
-        (subst (λ (c : List ℕ). FindsTwo c log1_read core2_read log2_read (listed_by o.reading) o.skip o.check o.plan.workers found) core1_is finds))));
+        (subst (λ (l : List ℕ). FindsTwo core1 log1 core2 l (distances_of o.reading) o.skip o.check o.plan.workers found) log2_is
+        (subst (λ (c : List ℕ). FindsTwo core1 log1 c log2_read (distances_of o.reading) o.skip o.check o.plan.workers found) core2_is
+        (subst (λ (l : List ℕ). FindsTwo core1 l core2_read log2_read (distances_of o.reading) o.skip o.check o.plan.workers found) log1_is
+        (subst (λ (c : List ℕ). FindsTwo c log1_read core2_read log2_read (distances_of o.reading) o.skip o.check o.plan.workers found) core1_is finds))));
     signs = subst (λ (l : List ℕ). AreSigns (core1 ∷ log1 ∷ core2 ∷ l ∷ []) found.signs.items) log2_is
         (subst (λ (c : List ℕ). AreSigns (core1 ∷ log1 ∷ c ∷ log2_read ∷ []) found.signs.items) core2_is
         (subst (λ (l : List ℕ). AreSigns (core1 ∷ l ∷ core2_read ∷ log2_read ∷ []) found.signs.items) log1_is

@@ -1,7 +1,7 @@
 -- What a run does to its readers and its writer, where these tell their bytes.
 use Rattle.std.specs.Prelude.{◌≡◌, ◌≢◌, ℕ, ◌+◌, ◌<◌, ◌≤◌, ◌%◌, ◌==◌, Bool, true, false, ◌&&◌, List, [], length, map, Option, None, slice_index_or, take, nat_lt, if◌then◌else◌}
 use Rattle.std.specs.Io.KnownBytes.{Appends, Keeps}
-use Rattle.leak_index.specs.Readings.{listed_by}
+use Rattle.leak_index.specs.Readings.{distances_of}
 use Rattle.leak_report.specs.declared.output.WriteFault.{WriteFault}
 use Rattle.leak_input.specs.declared.error.FindError.{FindError}
 use Rattle.leak_input.specs.declared.error.FindError.TheVariants.{NoMemory}
@@ -41,10 +41,10 @@ pub record AreInputs (o : Options) (before after : List (Option (List ℕ)))
 abbrev pub Finds : Bool → Options → List (List ℕ) → Found → Type 0
 Finds false o inputs found =
     FindsOne (input_at inputs 0) (input_at inputs 1)
-    (listed_by o.reading) o.skip o.check o.plan.workers found
+    (distances_of o.reading) o.skip o.check o.plan.workers found
 Finds true o inputs found =
     FindsTwo (input_at inputs 0) (input_at inputs 1) (input_at inputs 2) (input_at inputs 3)
-    (listed_by o.reading) o.skip o.check o.plan.workers found
+    (distances_of o.reading) o.skip o.check o.plan.workers found
 
 -- the first fault of one core and its log, or of two
 abbrev pub IsFaultOf : Bool → List (List ℕ) → FindError → Type 0

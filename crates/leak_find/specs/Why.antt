@@ -1,7 +1,7 @@
 -- What a run that asks for one block does to its readers and its writer, where these tell their bytes.
 use Rattle.std.specs.Prelude.{◌≡◌, ◌≢◌, ℕ, ◌<◌, Bool, List, length, Option, take, if◌then◌else◌}
 use Rattle.std.specs.Io.KnownBytes.{Appends, Keeps}
-use Rattle.leak_index.specs.Readings.{listed_by}
+use Rattle.leak_index.specs.Readings.{distances_of}
 use Rattle.leak_report.specs.declared.output.WriteFault.{WriteFault}
 use Rattle.leak_request.specs.declared.options.Options.{Options}
 use Rattle.leak_input.specs.declared.error.FindError.TheVariants.{NoMemory}
@@ -20,7 +20,7 @@ pub record HasTold (o : Options) (address : ℕ) (before after : List (Option (L
   pub count : length inputs ≡ 2
   pub read : AreInputs o before after inputs
   pub tells : TellsWhy (input_at inputs 0) (input_at inputs 1)
-      (listed_by o.reading) o.skip address why
+      (distances_of o.reading) o.skip address why
 
 -- both readers were read to their ends, and what they held gives no answer for this reason
 pub record IsHoldingFault (o : Options) (address : ℕ) (before after : List (Option (List ℕ)))

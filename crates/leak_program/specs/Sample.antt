@@ -1,7 +1,7 @@
 -- The search of the sample.
 use Rattle.std.specs.Prelude.{◌≡◌, ℕ, List, [], ◌∷◌, Option, None, Some, codes, false, true}
 use Rattle.leak_elf.specs.Sample.{sample_with}
-use Rattle.leak_index.specs.Readings.{listed_by}
+use Rattle.leak_index.specs.Readings.{distances_of}
 use Rattle.leak_request.specs.declared.options.Options.{Options}
 use Rattle.leak_find.specs.Run.{Runs}
 
@@ -13,13 +13,13 @@ sample_log = codes "@ ./a.out:[0x401136] + 0x10100 0x20\n"
 abbrev pub sample_inputs : List (Option (List ℕ))
 sample_inputs = Some (sample_with ((0x10008, 0x10100) ∷ [])) ∷ Some sample_log ∷ []
 
--- the sample, which has no heap, was searched as one core with an interior reading and with freed memory,
+-- the sample, which has no heap, was searched as one core with an interior reading and as without options,
 -- and the report was written
 pub record SearchesSample (held holds heard hears : Option (List ℕ)) (status : ℕ) : Type 0 where
   pub options : Options
   pub one : options.two ≡ false
-  pub interior : listed_by options.reading ≡ None
-  pub whole : options.skip.freed ≡ false
+  pub interior : distances_of options.reading ≡ record { listed = None; skips_ends = false }
+  pub usual : options.skip ≡ record { freed = false; links = false; unwritable = true }
   pub no_heap : options.other_heap ≡ true
   pub after : List (Option (List ℕ))
   pub runs : Runs options sample_inputs after held holds heard hears status

@@ -5,7 +5,7 @@ use Rattle.std.specs.Str.Parse.{IsNumeral, digits_value, without_leading_plus}
 use Rattle.clap.specs.Words.{Row, Text, first_of, found_of, one_of, rows_of, subcommand_of}
 use Rattle.clap.specs.declared.parser.matches.ArgMatches.{ArgMatches}
 use Rattle.clap.specs.Faults.{fault_of}
-use Rattle.leak_index.specs.Readings.{listed_by}
+use Rattle.leak_index.specs.Readings.{distances_of, listed_by}
 use Rattle.leak_pool.specs.Plan.{IsBetween, Numbers}
 use Rattle.leak_request.specs.Address.{IsAddress}
 use Rattle.leak_request.specs.CommandLine.{address_id, command_line, name_of, path_ids, why_name}
@@ -64,6 +64,7 @@ pub record IsSearchRequest (name : Text) (rows : List Row) (r : Request) : Type 
   pub paths : AreAt rows (path_ids r.options.two) r.paths.items
   pub numbers : AreNumbersAt rows r.options.plan.workers r.options.plan.piece r.options.plan.stack
   pub reading : IsListedBy (list_in rows) (listed_by r.options.reading)
+  pub ends : IsTrue (distances_of r.options.reading).skips_ends ↔ IsGiven rows (codes "skip-ends")
   pub freed : IsTrue r.options.skip.freed ↔ IsGiven rows (codes "skip-freed")
   pub links : IsTrue r.options.skip.links ↔ IsGiven rows (codes "skip-links")
   pub unwritable : IsFalse r.options.skip.unwritable ↔ IsGiven rows (codes "all-memory")
@@ -86,6 +87,7 @@ pub record IsWhyRequest (rows : List Row) (r : Request) : Type 0 where
   pub paths : AreAt rows (path_ids false) r.paths.items
   pub address : IsAddressAt rows r.address
   pub reading : IsListedBy (list_in rows) (listed_by r.options.reading)
+  pub ends : IsTrue (distances_of r.options.reading).skips_ends ↔ IsGiven rows (codes "skip-ends")
   pub freed : IsTrue r.options.skip.freed ↔ IsGiven rows (codes "skip-freed")
   pub links : IsTrue r.options.skip.links ↔ IsGiven rows (codes "skip-links")
   pub unwritable : IsFalse r.options.skip.unwritable ↔ IsGiven rows (codes "all-memory")

@@ -3,7 +3,7 @@
 ghost use Rattle.std.specs.Prelude.{◌≡◌, ◌≢◌, ◌<◌, ◌↔◌, IfOk, IsTrue, IsFalse, IfErr, IfNone, IfSome, OnOk, Bool};
 ghost use Rattle.std.specs.Prelude.{codes, false, length, map, option_map, string_bytes};
 ghost use Rattle.clap.specs.Words.{first_of, kind_of};
-ghost use Rattle.leak_index.specs.Readings.{listed_by};
+ghost use Rattle.leak_index.specs.Readings.{distances_of, listed_by};
 ghost use Rattle.leak_request.specs.CommandLine.{name_of, path_ids};
 ghost use Rattle.leak_request.specs.Requests.{AreAt, AreNumbersAt, IsBadBy, IsGiven, IsListFaultAt, IsListedBy};
 ghost use Rattle.leak_request.specs.Requests.{IsNumberAt, IsRefusedAt, IsSearchRefusal, IsWhyRefusal};
@@ -220,7 +220,22 @@ fn is_given(found: &ArgMatches, id: &str) -> bool
     matches!(value(found, id), Some("true"))
 }
 
+/// The distances from a block's start at which a word keeps the block.
 fn reading(found: &ArgMatches) -> Result<Reading, DisplaceFault>
+    ensures ok { IfOk result (λ reading.
+        IsListedBy (list_in (found_rows found.now)) (listed_by reading)) }
+    ensures ends { IfOk result (λ reading. IsTrue (distances_of reading).skips_ends
+        ↔ IsGiven (found_rows found.now) (codes "skip-ends")) }
+    ensures refused { IfErr result (IsListFaultAt (found_rows found.now)) }
+{
+    match listed(found) {
+        Ok(listed) => Ok(listed.skip_ends(is_given(found, "skip-ends"))),
+        Err(fault) => Err(fault),
+    }
+}
+
+/// The distances of the list, or all.
+fn listed(found: &ArgMatches) -> Result<Reading, DisplaceFault>
     ensures ok { IfOk result (λ reading.
         IsListedBy (list_in (found_rows found.now)) (listed_by reading)) }
     ensures refused { IfErr result (IsListFaultAt (found_rows found.now)) }

@@ -30,6 +30,9 @@ const SECOND_LOG: &str = "Its log when that core was taken; it begins with LOG1"
 /// What help says of an address.
 const ADDRESS: &str = "An address in the block, or its start: 0x and 1 to 16 hexadecimal digits";
 
+/// What help says of `--skip-ends`.
+const SKIP_ENDS: &str = "Leave out pointers one past the end of a block";
+
 /// What help says of `--all-memory`.
 const ALL_MEMORY: &str = "Take pointers in memory that can't be written too";
 
@@ -126,6 +129,7 @@ fn with_reading<'a>(alloc: Global, command: Command<'a>) -> Result<Command<'a>, 
 {
     command
         .arg(displace(alloc))?
+        .arg(flag(alloc, "skip-ends", SKIP_ENDS))?
         .arg(flag(alloc, "all-memory", ALL_MEMORY))?
         .arg(flag(alloc, "skip-freed", SKIP_FREED))?
         .arg(flag(alloc, "skip-links", SKIP_LINKS))

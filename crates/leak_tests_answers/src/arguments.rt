@@ -146,7 +146,16 @@ fn requests_with_flags(rt: HostRuntime) -> Result<(), Fail> {
         strict: true,
         ..other
     };
+    let without_ends = Options {
+        reading: Reading::interior().skip_ends(true),
+        ..usual
+    };
     let cases = [
+        ("one a b --skip-ends", without_ends),
+        (
+            "one --all-memory a --skip-ends b",
+            with_all_memory(without_ends),
+        ),
         ("one a b --skip-freed", skipping(usual, true, false)),
         ("one --skip-freed a b", skipping(usual, true, false)),
         ("one a b --skip-links", skipping(usual, false, true)),
@@ -191,6 +200,13 @@ fn requests_of_two_cores(rt: HostRuntime) -> Result<(), Fail> {
     let cases = [
         ("two a b c d --piece 1 --stack 0", short),
         ("two --workers 2 a b --displace 8,16 c d", narrow),
+        (
+            "two --workers 2 --skip-ends a b --displace 8,16 c d",
+            Options {
+                reading: listed.skip_ends(true),
+                ..narrow
+            },
+        ),
         ("two a --all-memory b c d", with_all_memory(usual)),
         (
             "two --skip-links --check a b --skip-freed c d --strict",
@@ -221,6 +237,16 @@ fn requests_for_a_block(rt: HostRuntime) -> Result<(), Fail> {
         ("why a b 0x0000000000000001", usual, 1, "a b"),
         ("why --skip-links a b --skip-freed 0x0", neither, 0, "a b"),
         ("why a b 0x10 --displace 8,16", narrow, 16, "a b"),
+        (
+            "why a b 0x10 --skip-ends",
+            options(
+                false,
+                Reading::interior().skip_ends(true),
+                Plan::new(1, 1, 0)?,
+            ),
+            16,
+            "a b",
+        ),
         (
             "why --all-memory a b 0x10",
             with_all_memory(usual),

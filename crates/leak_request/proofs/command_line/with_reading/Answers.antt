@@ -9,11 +9,13 @@ returns-clause-local c =
     let first = globals_more c.in_ok-arg.ensures c.displace.ensures.local refl in
     let second = globals_more c.in_ok-arg-2.ensures c.flag.ensures.local first in
     let third = globals_more c.in_ok-arg-3.ensures c.flag-2.ensures.local second in
-    IfOk-weaker c.arg-4.result _ _ (λ r added. globals_more added c.flag-3.ensures.local third) c.arg-4.ensures
+    let fourth = globals_more c.in_ok-arg-4.ensures c.flag-3.ensures.local third in
+    IfOk-weaker c.arg-5.result _ _ (λ r added. globals_more added c.flag-4.ensures.local fourth) c.arg-5.ensures
 
 pub returns-clause-line : goal.returns-clause-line
 returns-clause-line c =
     let first = line_more {line = app_of c.args.command} c.in_ok-arg.ensures c.displace.ensures.local c.displace.ensures.rule refl in
     let second = line_more c.in_ok-arg-2.ensures c.flag.ensures.local c.flag.ensures.rule first in
     let third = line_more c.in_ok-arg-3.ensures c.flag-2.ensures.local c.flag-2.ensures.rule second in
-    IfOk-weaker c.arg-4.result _ _ (λ r added. line_more added c.flag-3.ensures.local c.flag-3.ensures.rule third) c.arg-4.ensures
+    let fourth = line_more c.in_ok-arg-4.ensures c.flag-3.ensures.local c.flag-3.ensures.rule third in
+    IfOk-weaker c.arg-5.result _ _ (λ r added. line_more added c.flag-4.ensures.local c.flag-4.ensures.rule fourth) c.arg-5.ensures
