@@ -2,7 +2,7 @@
 
 import rows_one
 from case import by_plans, two
-from cores import ONE_BLOCK, TWO_BLOCKS, at, chain, core, dumped, little, rbx, star, vectors, word, words
+from cores import ONE_BLOCK, TWO_BLOCKS, at, chain, core, dumped, little, rbx, star, state, vectors, word, words
 from texts import all_marked, displaced, held, lost, no_block, report, torn, unknown
 
 THREE_BLOCKS = "+ 0x10100 0x20\n+ 0x10120 0x10\n+ 0x10200 0x10\n"
@@ -134,6 +134,10 @@ def of_options():
                      (later, ONE_BLOCK),
                      held(new=(0, 0), reread=0)) for name, earlier,
                      later in (("later", beside, inside), ("earlier", inside, beside))]
+    header, upper = core(state(2696), at(1120, little(0x10100))), core(state(2696), at(1256, little(0x10100)))
+    registers += [two(f"the upper half of ymm8 of the {name} core", "no word of memory differs", (earlier, ONE_BLOCK),
+                      (later, ONE_BLOCK), held(new=(0, 0), reread=0))
+                  for name, earlier, later in (("later", header, upper), ("earlier", upper, header))]
     return [*displacements, *registers]
 
 
