@@ -204,7 +204,7 @@ stop "$process"
 LD_PRELOAD=$work/libjemalloc.so.2 start ./plain
 dump "$process" "$work/other" 2> said
 verdict 'another allocator' "leak_dump: the process has libjemalloc.so.2 mapped: its heap is not glibc's
-leak_dump: now search: leak_find one --other-heap $work/other.core $work/other.log" "$(grep '^leak_dump' dump.said | tail -n 2)"
+leak_dump: now search: leak_find one --other-heap --skip-ends $work/other.core $work/other.log" "$(grep '^leak_dump' dump.said | tail -n 2)"
 stop "$process"
 if [ -x "$kit/leak_walk" ]; then
     (exec ./plain) & process=$!
