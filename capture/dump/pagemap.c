@@ -17,8 +17,8 @@
 
 enum { ENTRIES = 1 << 16 };
 
-/* So much of address space takes about a second. */
-static const uint64_t MOST_PAGES = 1ull << 28;
+/* 256 GiB of address space, half a gigabyte to read. */
+static const uint64_t MOST_PAGES = 1ull << 26;
 
 struct reader {
     pid_t witness;
