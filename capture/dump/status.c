@@ -9,6 +9,10 @@
 
 #include "dump.h"
 
+#define NOTE_NAME "LEAK_CORE"
+
+enum { NOTE_MEMORY = 1 };
+
 /* NT_PRPSINFO. The state's number is the place of its letter, as the kernel has it. */
 static void add_information(struct notes *notes, pid_t witness, pid_t id)
 {
@@ -75,6 +79,21 @@ static void add_files(struct notes *notes, const struct maps *maps)
     free(note);
 }
 
+/* A note of our own, by the name LEAK_CORE: start and end of each writable mapping of private memory without a file. What no segment has of
+ * it was never touched, and is zero. A reader of a heap sees from it how far a block goes whose pages are not all there. */
+static void add_memory(struct notes *notes, const struct maps *maps)
+{
+    uint64_t *ranges = malloc(2 * maps->count * sizeof *ranges), *range = ranges;
+
+    if (!ranges)
+        fail("no memory for the list of mappings");
+    for (const struct mapping *m = maps->list; m < maps->list + maps->count; m++)
+        if (m->kind == ANONYMOUS && m->flags & PF_W && !is_hidden(maps, m->start))
+            *range++ = m->start, *range++ = m->end;
+    add_note(notes, NOTE_NAME, NOTE_MEMORY, ranges, (range - ranges) * sizeof *ranges);
+    free(ranges);
+}
+
 void add_process_notes(struct notes *notes, const struct process *process, const struct maps *maps)
 {
     struct text vector = read_text("/proc/%d/auxv", process->witness);
@@ -83,5 +102,6 @@ void add_process_notes(struct notes *notes, const struct process *process, const
     add_signal(notes, process->threads);
     add_note(notes, "CORE", NT_AUXV, vector.bytes, vector.size);
     add_files(notes, maps);
+    add_memory(notes, maps);
     free(vector.bytes);
 }

@@ -1,7 +1,7 @@
 """What a core has, for dump.sh:
 dump.py word CORE ADDRESS..: the words there, `absent` where no segment has them.
 dump.py vector CORE: the upper half of ymm8 of each thread where it is not 0, and how often the core has its bytes in all.
-dump.py notes CORE: the types of the notes, in order.
+dump.py notes CORE: the types of the notes, in order; `own` is that of leak_core's own.
 dump.py sizes CORE: segments, bytes of them, writable bytes that are listed without contents."""
 import struct
 import sys
@@ -25,8 +25,9 @@ def notes(core):
         end = at + size
         while kind == PT_NOTE and at < end:
             name, content, number = struct.unpack_from('<III', core, at)
+            is_own = core[at + 12:at + 12 + name] == b'LEAK_CORE\0'
             at += 12 + (name + 3 & ~3)
-            yield number, core[at:at + content]
+            yield 0 if is_own else number, core[at:at + content]
             at += content + 3 & ~3
 
 
@@ -46,7 +47,7 @@ def main():
         uppers = [content[YMM_UPPER + 8 * 16:][:8] for number, content in notes(core) if number == NT_X86_XSTATE]
         print(*[upper[::-1].hex() + ' ' + str(core.count(upper)) for upper in uppers if any(upper)])
     elif sys.argv[1] == 'notes':
-        print(*[hex(number) for number, _ in notes(core)])
+        print(*[hex(number) if number else 'own' for number, _ in notes(core)])
     elif sys.argv[1] == 'sizes':
         loads = [header for header in headers(core) if header[0] == PT_LOAD]
         print(len(loads), sum(load[4] for load in loads), sum(load[5] - load[4] for load in loads if load[1] & PF_W))
