@@ -11,7 +11,7 @@
 
 #define NOTE_NAME "LEAK_CORE"
 
-enum { NOTE_MEMORY = 1 };
+enum { NOTE_MEMORY = 0x4d454d };
 
 /* NT_PRPSINFO. The state's number is the place of its letter, as the kernel has it. */
 static void add_information(struct notes *notes, pid_t witness, pid_t id)
@@ -79,7 +79,7 @@ static void add_files(struct notes *notes, const struct maps *maps)
     free(note);
 }
 
-/* A note of our own, by the name LEAK_CORE: start and end of each writable mapping of private memory without a file. What no segment has of
+/* A note of our own, by the name LEAK_CORE and of a type that debuggers don't know, which go by types alone: start and end of each writable mapping of private memory without a file. What no segment has of
  * it was never touched, and is zero. A reader of a heap sees from it how far a block goes whose pages are not all there. */
 static void add_memory(struct notes *notes, const struct maps *maps)
 {

@@ -113,6 +113,7 @@ struct core read_core(const char *path)
     }
     if (core.segment_count)
         qsort(core.segments, core.segment_count, sizeof *core.segments, by_start);
+    fill_gaps(&core);
     find_run_starts(&core);
     find_run_ends(&core);
     if (core.part_count)

@@ -9,6 +9,10 @@
 /* Entries of an NT_FILE note: count and page size, then start, end and page of each part, then the names. */
 enum { NOTE_HEAD = 16, NOTE_PART = 24 };
 
+/* The note that leak_core adds (dump/status.c). */
+enum { NOTE_MEMORY = 0x4d454d };
+static const char LEAK_CORE[] = "LEAK_CORE";
+
 static uint64_t get(const uint8_t *at)
 {
     uint64_t value;
@@ -46,6 +50,9 @@ void read_notes(struct core *core, const uint8_t *notes, uint64_t size)
             return;
         if (note.n_type == NT_FILE && note.n_namesz == 5 && !memcmp(notes + at + sizeof note, "CORE", 5))
             read_parts(core, notes + content, note.n_descsz);
+        if (note.n_type == NOTE_MEMORY && note.n_namesz == sizeof LEAK_CORE
+            && !memcmp(notes + at + sizeof note, LEAK_CORE, sizeof LEAK_CORE))
+            read_ranges(core, notes + content, note.n_descsz);
         at = content + ((note.n_descsz + 3ull) & ~3ull);
     }
 }

@@ -25,6 +25,10 @@ struct part {
     int is_known;
 };
 
+struct range {
+    uint64_t start, end;
+};
+
 struct core {
     const char *path;
     struct segment *segments;   /* by ascending start */
@@ -32,6 +36,8 @@ struct core {
     const struct segment *near; /* the one that was asked for last, or NULL */
     struct part *parts;         /* by ascending start */
     size_t part_count;
+    struct range *ranges;       /* whole mappings of memory without a file, by leak_core's note */
+    size_t range_count;
 };
 
 /* glibc, malloc/malloc.c, struct malloc_state: one arena. */
@@ -134,6 +140,10 @@ int by_start(const void *a, const void *b);
 /* parts.c */
 void read_notes(struct core *core, const uint8_t *notes, uint64_t size);
 const struct part *part_of(struct core *core, uint64_t address);
+
+/* gaps.c */
+void read_ranges(struct core *core, const uint8_t *note, uint64_t size);
+void fill_gaps(struct core *core);
 
 /* arenas.c */
 void find_arenas(struct heap *heap);
