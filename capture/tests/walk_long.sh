@@ -14,10 +14,10 @@ if [ "$dumps" ]; then
     traced lua lua5.4 -e 't = {} for i = 1, 9999 do t[i] = { tostring(i), i } end io.read()'
     traced tclsh tclsh
     traced jq jq -n '[range(20000) | tostring] | input'
-    traced xmllint xmllint --shell "$work/big.xml"
-    traced cmake cmake -E cat /dev/stdin
+    { echo '<a>'; seq -f '<b n="%g">text</b>' 9999; echo '</a>'; } > big.xml
+    traced xmllint xmllint --shell big.xml
+    traced cmake cmake -E sleep 600
     traced bc bc -q
-    traced redis redis-server --port 28185 --bind 127.0.0.1 --save '' --appendonly no
     traced memcached memcached -u root -p 28186 -l 127.0.0.1 -t 4
     traced node node -e 'let a = []; for (let i = 0; i < 9999; i++) a.push({ i }); process.stdin.resume()'
     traced sort sort -S 100M --parallel=4
@@ -35,6 +35,14 @@ if [ "$dumps" ]; then
     else
         leave_out jemalloc
     fi
+    if command -v redis-server > /dev/null; then # Debian's has jemalloc
+        unprepared redis-server --port 28185 --bind 127.0.0.1 --save '' --appendonly no
+        core_of $process redis
+        stop $process
+        refused redis 'another allocator (jemalloc, tcmalloc, musl' redis.core
+    else
+        leave_out redis
+    fi
     if command -v musl-gcc > /dev/null; then
         musl-gcc -O1 -static "$kit/tests/walk_leaks.c" -o musl && unprepared ./musl
         core_of $process musl
@@ -43,7 +51,7 @@ if [ "$dumps" ]; then
     else
         leave_out musl
     fi
-    rm -f jemalloc.core musl.core
+    rm -f jemalloc.core musl.core redis.core
 fi
 
 # killed NAME PROGRAM..: the kernel's core of it, NAME.killed.

@@ -1,7 +1,7 @@
 """walk_mutate.py COUNT WALK SANITIZED CORE..: so many times takes one of the cores, damages it or cuts it off at random, and runs leak_walk and its
 build with -fsanitize=address,undefined over it. Each must end within 10 seconds, with 0, 1 or 2, with no finding, without output where it is 2, and
-leak_walk with less memory than twice the core's size and 16 MiB. The first damage is by the seed SEED of the environment, or 1."""
-import os, random, resource, struct, subprocess, sys, tempfile
+leak_walk with less address space than twice the core's size and 16 MiB, which has the C library too. The first damage is by the seed SEED of the environment, or 1."""
+import os, random, struct, subprocess, sys, tempfile
 
 count, walk, sanitized, cores = int(sys.argv[1]), sys.argv[2], sys.argv[3], sys.argv[4:]
 SECONDS, FOUND, SPARE = 10, 99, 16 << 20
@@ -41,43 +41,34 @@ def mutate(data, chance):
             data[chance.randrange(64 + 56 * 200)] = chance.randrange(256)
     return data[:chance.randrange(len(data))] if kind == 5 else data
 
-def run(program, path, memory):
-    with open(path + ".out", "wb") as out:
-        child = subprocess.Popen([program] + (["--partial"] if chance.random() < 0.5 else []) + [path], stdout=out, stderr=subprocess.PIPE, env=environment)
+def run(program, path, options, limit):
+    """What was wrong, or nothing. The limit is one of addresses, since the memory that a child took is counted with its parent's."""
+    with open(path + ".out", "wb") as out, open(path + ".said", "wb") as said:
         try:
-            said = child.communicate(timeout=SECONDS)[1]
+            status = subprocess.run(["sh", "-c", f'{f"ulimit -v {limit // 1024};" if limit else ""} exec "$@"', "-", program, *options, path],
+                                    stdout=out, stderr=said, env=environment, timeout=SECONDS).returncode
         except subprocess.TimeoutExpired:
-            child.kill()
             return f"more than {SECONDS} s"
-    written = os.path.getsize(path + ".out")
-    statuses[child.returncode] = statuses.get(child.returncode, 0) + 1
-    if child.returncode not in (0, 1, 2):
-        return f"status {child.returncode}: {said[-1500:].decode(errors='replace')}"
-    if child.returncode == 2 and written:
-        return f"{written} bytes of output beside a refusal"
-    if child.returncode == 2 and not said.startswith(b"leak_walk: "):
-        return f"no reason: {said}"
-    return ""
+    text = open(path + ".said", "rb").read()
+    statuses[status] = statuses.get(status, 0) + 1
+    if status not in (0, 1, 2) or b"out of memory" in text or b"Cannot allocate" in text:
+        return f"status {status}: {text[-1500:].decode(errors='replace')}"
+    if status == 2 and os.path.getsize(path + ".out"):
+        return "output beside a refusal"
+    return "" if status != 2 or text.startswith(b"leak_walk: ") else f"no reason: {text}"
 
-statuses, bad, most = {}, 0, 0.0
+statuses, bad = {}, 0
 with tempfile.TemporaryDirectory() as folder:
     for i in range(count):
         chance = random.Random(int(os.environ.get("SEED", "1")) * 1000003 + i)
-        core = cores[i % len(cores)]
+        core, path = cores[i % len(cores)], folder + "/core"
         data = mutate(bytearray(open(core, "rb").read()), chance)
-        path = folder + "/core"
-        open(path, "wb").write(data)
-        wrong = run(sanitized, path, None)
-        limit = 2 * len(data) + SPARE
-        peak = subprocess.run(["/usr/bin/env", "python3", "-c", f"""import resource, subprocess
-subprocess.run([{walk!r}, '--partial', {path!r}], stdout=subprocess.DEVNULL, stderr=subprocess.DEVNULL, timeout={SECONDS})
-print(resource.getrusage(resource.RUSAGE_CHILDREN).ru_maxrss)"""], capture_output=True, text=True)
-        kib = int(peak.stdout or 0)
-        most = max(most, kib * 1024 / max(len(data), 1) if len(data) > 1 << 20 else 0)
-        if not peak.stdout or kib * 1024 > limit:
-            wrong = wrong or f"memory {kib} KiB for {len(data)} bytes, or no end"
+        with open(path, "wb") as copy:
+            copy.write(data)
+        options = ["--partial"] if chance.random() < 0.5 else []
+        wrong = run(sanitized, path, options, None) or run(walk, path, options, 2 * len(data) + SPARE)
         if wrong:
             bad += 1
             print(f"mutation {i} of {core}: {wrong}", flush=True)
-print(f"{count} mutations, {bad} wrong; statuses {dict(sorted(statuses.items()))}; most memory {most:.2f} times the core")
+print(f"{count} mutations, {bad} wrong; statuses of both builds {dict(sorted(statuses.items()))}")
 sys.exit(bad != 0)

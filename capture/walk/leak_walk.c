@@ -96,7 +96,7 @@ static void walk(struct heap *heap)
     take_caches(heap);
     if (!heap->region_count && !heap->mapping_count)
         fail("%s: no chunk in glibc's heap: another allocator (jemalloc, tcmalloc, musl's), or malloc was never called; start the "
-             "program by leak_trace", heap->core->path);
+             "program by leak_trace, if it is not static", heap->core->path);
 }
 
 /* Names another allocator, of which the log has nothing. */
