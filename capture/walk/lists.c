@@ -9,12 +9,14 @@ uint64_t revealed(uint64_t place, uint64_t link, int is_safe)
     return is_safe ? place >> PAGE_BITS ^ link : link;
 }
 
-/* Takes the chunks of the list as free, and gives how many; the list ends where no chunk in use of this size is. */
+/* Takes the chunks of the list as free, and gives how many; the list ends where no chunk in use of this size is. One that leads in a
+ * circle where no chunk is known ends with the steps. */
 static uint64_t take(struct heap *heap, uint64_t at, uint64_t size, int is_safe, int *ends_well)
 {
     uint64_t count = 0, link;
 
     for (; at && is_used(heap, at) && size_at(heap, at) == size && word(heap->core, at + LINK, &link); count++) {
+        take_steps(heap, 1, at);
         set_used(heap, at, 0);
         at = revealed(at + LINK, link, is_safe);
     }

@@ -27,7 +27,8 @@ static void add_broken(struct heap *heap, uint64_t start, const struct chain *ch
     uint64_t end = chain->before ? chain->before : start;
 
     tell_break(heap, "the main heap", start, chain);
-    add_region(heap, (struct region){ .start = start, .end = end, .limit = limit, .top = arena->top, .arena = arena });
+    add_region(heap, (struct region){ .start = start, .end = end, .limit = limit, .gap_end = arena->top, .top = arena->top,
+                                      .arena = arena });
     heap->left_out += arena->top - end;
 }
 

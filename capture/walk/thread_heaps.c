@@ -28,7 +28,8 @@ static void add_heap(struct heap *heap, uint64_t base, const struct arena *arena
     if (chain.stop == BROKEN) {
         tell_break(heap, "a thread's heap", start, &chain);
         region.end = chain.before ? chain.before : start;
-        heap->left_out += (top ? top : base + size) - region.end;
+        region.gap_end = top ? top : base + size;
+        heap->left_out += region.gap_end - region.end;
     }
     add_region(heap, region);
 }

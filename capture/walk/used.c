@@ -73,15 +73,17 @@ static const struct region *region_of(const struct heap *heap, uint64_t at)
         else
             high = middle;
     }
-    return low && at < heap->regions[low - 1].end ? heap->regions + low - 1 : NULL;
+    if (!low || (at >= heap->regions[low - 1].end && at >= heap->regions[low - 1].gap_end))
+        return NULL;
+    return heap->regions + low - 1;
 }
 
-/* Whether a chunk in use begins there. */
+/* Whether a chunk in use begins there. Where no chunk is known one may: a list that leads there is not wrong. */
 int is_used(struct heap *heap, uint64_t at)
 {
     const struct region *r = at % PIECE ? NULL : region_of(heap, at);
 
-    return r && is_used_in(r, at);
+    return r && (at >= r->end || is_used_in(r, at));
 }
 
 /* Sets it of a chunk. */
@@ -90,7 +92,8 @@ void set_used(struct heap *heap, uint64_t at, int used)
     const struct region *r = region_of(heap, at);
     uint8_t bit = 1 << (at - r->start) / PIECE % 8;
 
-    *bits_of(r, at) = used ? *bits_of(r, at) | bit : *bits_of(r, at) & ~bit;
+    if (at < r->end)
+        *bits_of(r, at) = used ? *bits_of(r, at) | bit : *bits_of(r, at) & ~bit;
 }
 
 /* Whether it is the first chunk of a region. */

@@ -55,6 +55,7 @@ struct region {
     uint64_t start, end;        /* of the chunks */
     uint64_t top;               /* the chunk at the end that is yet unused, or 0 */
     uint64_t limit;             /* the end of the memory */
+    uint64_t gap_end;           /* with --partial: from `end` up to here are chunks that nobody knows; else 0 */
     const struct arena *arena;
     uint8_t *used;              /* a bit for each 16 bytes: does a chunk in use begin here? */
 };
