@@ -1,6 +1,7 @@
 /* expect: 56 88 120 152 184 216 248 280 */
 /* Four threads that allocate and free, then lose blocks of which one holds another, and rest. Sizes are such that malloc gives no more
- * than was asked, and all blocks are cleared: a stale word in one might lead to what is lost. With `later` as argument it reads a line, and loses more (312, 344, 376, 408), frees and allocates. */
+ * than was asked, and all blocks are cleared: a stale word in one might lead to what is lost. With `later` as argument it reads a
+ * line, frees and allocates, and loses more: 312, 344, 376, 408. */
 #include <pthread.h>
 #include <stdio.h>
 #include "lose.h"

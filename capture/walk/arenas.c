@@ -1,5 +1,5 @@
-/* Arenas, found without symbols (glibc, malloc/malloc.c, struct malloc_state). An arena has 127 list heads, its bins, and an empty bin leads to
- * itself, a filled one to chunks that lead back. */
+/* Arenas, found without symbols (glibc, malloc/malloc.c, struct malloc_state). An arena has 127 list heads, its bins: an empty
+ * one leads to itself, a filled one to chunks that lead back. */
 #include <stdlib.h>
 
 #include "walk.h"

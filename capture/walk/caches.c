@@ -1,5 +1,5 @@
-/* Threads' caches of free chunks, which count as in use by the next chunk's bit (glibc, malloc/malloc.c, tcache_perthread_struct). A cache is
- * itself a chunk in use; it is known by its size and by its lists. */
+/* Threads' caches of free chunks, which count as in use by the next chunk's bit (glibc, malloc/malloc.c,
+ * tcache_perthread_struct). A cache is itself a chunk in use; it is known by its size and by its lists. */
 #include <string.h>
 
 #include "walk.h"
@@ -164,7 +164,8 @@ static int is_cache(struct heap *heap, uint64_t block, uint64_t size, int is_fir
 
     for (int k = 0; k < SHAPES && !found; k++)
         found = has_shape(size, shapes + k)
-            && (take_as(heap, block, shapes + k, 1, is_first) || (shapes[k].may_be_plain && take_as(heap, block, shapes + k, 0, is_first)));
+            && (take_as(heap, block, shapes + k, 1, is_first)
+                || (shapes[k].may_be_plain && take_as(heap, block, shapes + k, 0, is_first)));
     return found;
 }
 

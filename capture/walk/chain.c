@@ -7,13 +7,14 @@ enum { PREV_INUSE = 1, IS_MMAPPED = 2, NON_MAIN_ARENA = 4, FLAGS = 7 };
 /* Chunks begin at multiples of 16 with the size of the one before, and are 32 bytes at least; fences have 16 bytes. */
 enum { CHUNK_HEAD = 8, ALIGNMENT = 16, LEAST = 32, FENCE = 16 };
 
-/* Two fences end a piece of the main heap, up to the end of a page, where memory goes on elsewhere (sysmalloc). What was left of the top
- * before them may be as small as a fence. */
+/* Two fences end a piece of the main heap, up to the end of a page, where memory goes on elsewhere (sysmalloc). What was left
+ * of the top before them may be as small as a fence. */
 static int are_fences(struct core *core, const struct chain *chain)
 {
     uint64_t at = chain->at;
 
-    if (chain->is_thread || !is_word(core, at + CHUNK_HEAD, FENCE | PREV_INUSE) || !is_word(core, at + FENCE + CHUNK_HEAD, FENCE | PREV_INUSE))
+    if (chain->is_thread || !is_word(core, at + CHUNK_HEAD, FENCE | PREV_INUSE)
+        || !is_word(core, at + FENCE + CHUNK_HEAD, FENCE | PREV_INUSE))
         return 0;
     return (at + 2 * FENCE) % PAGE == 0
         || ((at + 3 * FENCE) % PAGE == 0 && is_word(core, at + 2 * FENCE + CHUNK_HEAD, FENCE | PREV_INUSE));

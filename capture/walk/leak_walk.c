@@ -1,6 +1,7 @@
-/* leak_walk [--partial] [--quiet] [--after LOG] CORE: walks the heap of glibc's malloc inside a core, and writes a log in mtrace's format for
- * leak_find: which blocks were in use, and which memory was free. It needs no symbols and no version; the process needs no preparation.
- * With --after it writes LOG first, which it made of an earlier core of the same process, and then what came and went since. */
+/* leak_walk [--partial] [--quiet] [--after LOG] CORE: walks the heap of glibc's malloc inside a core, and writes a log in mtrace's
+ * format for leak_find: which blocks were in use, and which memory was free. It needs no symbols and no version, and the process
+ * no preparation. With --after it writes LOG first, which it made of an earlier core of the same process, and then what came and
+ * went since. */
 #include <stdarg.h>
 #include <stdio.h>
 #include <stdlib.h>

@@ -1,5 +1,5 @@
-/* The log, in mtrace's format (glibc, malloc/mtrace.c): blocks in use as `@ TEXT + 0xADDR 0xSIZE`, and what is free or malloc's own as a block
- * that comes and goes at once, which is how capture's logs say so. */
+/* The log, in mtrace's format (glibc, malloc/mtrace.c): blocks in use as `@ TEXT + 0xADDR 0xSIZE`, and what is free or malloc's
+ * own as a block that comes and goes at once, which is how capture's logs say so. */
 #include "walk.h"
 
 /* leak_find --skip-freed goes by allocations of less than 128 KiB. */

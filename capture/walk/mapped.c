@@ -1,5 +1,5 @@
-/* Blocks with a mapping of their own (glibc, malloc/malloc.c, sysmalloc_mmap): a chunk at a page's start whose size word says so, up to the
- * end of a page. The chunk of an aligned block stands further on, and its first word says how far. */
+/* Blocks with a mapping of their own (glibc, malloc/malloc.c, sysmalloc_mmap): a chunk at a page's start whose size word says so,
+ * up to the end of a page. The chunk of an aligned block stands further on, and its first word says how far. */
 #include "walk.h"
 
 enum { IS_MMAPPED = 2, FLAGS = 7, CHUNK_HEAD = 8, TO_BLOCK = 16, LEAST_ALIGNMENT = 64 };
@@ -77,8 +77,8 @@ static uint64_t find_between(struct heap *heap, uint64_t from, uint64_t to, uint
 /* Looks at the dumped memory of a segment, but for regions of the heap. */
 static void find_in(struct heap *heap, const struct segment *s, size_t *region)
 {
-    uint64_t at = heap->mapping_count && heap->mappings[heap->mapping_count - 1].end > s->start ? heap->mappings[heap->mapping_count - 1].end
-                                                                                                : s->start;
+    uint64_t last_end = heap->mapping_count ? heap->mappings[heap->mapping_count - 1].end : 0;
+    uint64_t at = last_end > s->start ? last_end : s->start;
 
     while (at < s->start + s->size) {
         const struct region *r = heap->regions + *region;
