@@ -26,19 +26,19 @@ if command -v lighttpd > /dev/null; then
     printf 'server.document-root="%s/www"\nserver.port=28180\nserver.bind="127.0.0.1"\nserver.pid-file="%s/lighttpd.pid"\n' "$work" "$work" > l2.conf
     limited 60 "$kit/leak_trace" lighttpd -f l2.conf
     sleep 1
-    started="$started $(cat lighttpd.pid)"
+    started[$(cat lighttpd.pid)]=1
     daemon lighttpd "$(cat lighttpd.pid)"
 fi
 if command -v memcached > /dev/null; then
     limited 60 "$kit/leak_trace" memcached -d -u root -l 127.0.0.1 -p 28182 -P "$work/memcached.pid"
     sleep 1
-    started="$started $(cat memcached.pid)"
+    started[$(cat memcached.pid)]=1
     daemon memcached "$(cat memcached.pid)"
 fi
 if command -v redis-server > /dev/null; then
     limited 60 "$kit/leak_trace" redis-server --port 28183 --bind 127.0.0.1 --daemonize yes --dir "$work" --pidfile "$work/redis.pid" > /dev/null
     sleep 1
-    started="$started $(cat redis.pid)"
+    started[$(cat redis.pid)]=1
     limited 120 redis-benchmark -p 28183 -n 20000 -r 20000 -q -t set > /dev/null
     limited 60 redis-cli -p 28183 bgsave > /dev/null
     sleep 2
