@@ -26,7 +26,7 @@ in_release() {
 for release in "${@:-bullseye trixie}"; do for one in $release; do
     section "$one"
     folder=$work/$one
-    debootstrap --variant=minbase --include=perl,python3-minimal,gcc,libc6-dev "$one" "$folder" http://deb.debian.org/debian > "$one.said" 2>&1 || { leave_out "$one: debootstrap fails"; continue; }
+    debootstrap --variant=minbase --include=perl,python3-minimal,gcc,libc6-dev "$one" "$folder" > "$one.said" 2>&1 || { leave_out "$one: debootstrap fails"; continue; }
     echo "     $(chroot "$folder" ldd --version | head -n 1)"
     cp "$kit"/tests/walk_leaks.c "$kit"/tests/walk_storm.c "$kit"/tests/lose.h "$folder/tmp"
     chroot "$folder" sh -c 'cd /tmp && for name in walk_leaks walk_storm; do gcc -O1 -g -pthread $name.c -o $name || exit; done' || { verdict "$one: the programs are built" yes no; continue; }
