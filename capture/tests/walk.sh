@@ -65,9 +65,9 @@ for _ in $(seq "$storms"); do
     find_leaks one --check busy.core busy.walk 2> busy.warned | awk '$1 == "misfits" && $2 > 0' >> busy.misfits
     unset "started[$process]"
 done
-verdict "walks at $storms moments, with what the table has" 0 $bad
+[ "$storms" = 0 ] || verdict "walks at $storms moments, with what the table has" 0 $bad
 [ -s busy.more ] && echo "     blocks in hand: $(sort -n busy.more | tr '\n' ' ')"
-verdict 'blocks that do not fit their core' '' "$(cat busy.misfits 2> /dev/null)"
+[ "$storms" = 0 ] || verdict 'blocks that do not fit their core' '' "$(cat busy.misfits 2> /dev/null)"
 rm -f busy.core busy.kernel
 
 # core_of PID NAME: a core, by gdb or by killing the process.
