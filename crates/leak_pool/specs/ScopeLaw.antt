@@ -91,6 +91,14 @@ block_inside word_at index d b h = target_below index (block_words word_at d) b 
 no_targets : (index : Index) → Inside index []
 no_targets index b h = absurd (let z : 0 < 0 = h in omega arith)
 
+pub blocks_inside : (word_at : ℕ → Option ℕ) (index : Index) (k b : ℕ)
+    → Has (get_or (all_targets word_at index) k []) b → b < length (all_targets word_at index)
+blocks_inside word_at index k b h =
+    let l = length-map index.blocks (block_targets word_at index) in
+    let i : b < length index.blocks =
+    alone (Inside index) (block_targets word_at index) index.blocks k (no_targets index)
+    (block_inside word_at index) b h in omega arith
+
 pub scope_inside : (word_at : ℕ → Option ℕ) (index : Index) (places : Places) (pieces : List Piece)
     (pages : List ℕ) (rescan : List (ℕ × Part)) (item : Item) (b : ℕ)
     → Has (targets_of_item (root_targets word_at index places pieces pages rescan)
@@ -103,11 +111,7 @@ scope_inside word_at index places pieces pages rescan (Root k) b h =
     (map (part_targets word_at index pages) rescan) k (piece_inside word_at index places)
     (λ j. alone (Inside index) (part_targets word_at index pages) rescan j (no_targets index)
     (λ x b h. target_below index _ b h)) b h in omega arith
-scope_inside word_at index places pieces pages rescan (OfBlock k) b h =
-    let l = length-map index.blocks (block_targets word_at index) in
-    let i : b < length index.blocks =
-    alone (Inside index) (block_targets word_at index) index.blocks k (no_targets index)
-    (block_inside word_at index) b h in omega arith
+scope_inside word_at index places pieces pages rescan (OfBlock k) b h = blocks_inside word_at index k b h
 
 -- ---- facts
 

@@ -45,7 +45,7 @@ pub fn mark_alone<W: Words, L: Lookup>(
 }
 
 // Claims what the roots lead to.
-fn take_roots<W: Words, L: Lookup>(
+pub(crate) fn take_roots<W: Words, L: Lookup>(
     words: &W,
     lookup: &L,
     roots: &Roots,

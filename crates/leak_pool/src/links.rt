@@ -129,6 +129,42 @@ fn all_rows(
     Ok(Some(rows))
 }
 
+// What the blocks lead to, in rows of so many blocks each, made by as many workers. Nothing where a row has more targets than so
+// many.
+pub(crate) fn list_rows<R: Threads + Sync, W: Words + Sync, L: Lookup + Sync>(
+    rt: &R,
+    alloc: Global,
+    words: &W,
+    lookup: &L,
+    blocks: &[Block],
+    size: usize,
+    room: u32,
+) -> Result<Option<Vec<Rows>>, AllocError>
+    requires some { 0 < size }
+    requires same { (L.index lookup.now).blocks ≡ blocks.now }
+    requires few { length blocks.now < 2 ^ 32 }
+    ensures { let targets = all_targets (W.word_at words.now) (L.index lookup.now) in
+        IfOk result (λ rows. IfSome rows (λ r. AreLinks targets size r.items)) }
+{
+    let rows_of_part = move |_start: usize, part: &[Block]| -> Result<Option<Rows>, AllocError>
+        requires { length (L.index lookup.now).blocks < 2 ^ 32 }
+        ensures { let word_at = W.word_at words.entry.now in
+            let targets = map (block_targets word_at (L.index lookup.entry.now)) part.entry.now in
+            IfOk result (λ rows. IfSome rows (λ r. AreListed (targets_of_block targets)
+            (length part.entry.now) r.starts.items r.targets.items)) }
+    { rows_of(alloc, words, lookup, part, room) };
+    let parts = map_chunks(rt, alloc, blocks, size, &rows_of_part)?;
+    all_rows(alloc, parts)
+}
+
+/// How many blocks each row has where so many workers list the links of so many blocks.
+pub(crate) fn row_size(blocks: usize, workers: u32) -> usize
+    requires { 0 < workers }
+    ensures { 0 < result }
+{
+    blocks.div_ceil(workers as usize).max(1)
+}
+
 /// The links of a scope, made by so many workers, each of a share of the blocks. Nothing where one has more than its
 /// share of the room.
 pub(crate) fn links_of<'a, 'b, R: Threads + Sync, W: Words + Sync, L: Lookup + Sync>(
@@ -141,19 +177,10 @@ pub(crate) fn links_of<'a, 'b, R: Threads + Sync, W: Words + Sync, L: Lookup + S
     requires { 0 < workers }
     ensures { IfOk result (λ links. IfSome links (λ l. l.source.now ≡ scope.now)) }
 {
-    let workers = workers as usize;
-    let size = scope.blocks.len().div_ceil(workers).max(1);
-    let share = (room / workers).min(u32::MAX as usize) as u32;
+    let size = row_size(scope.blocks.len(), workers);
+    let share = (room / workers as usize).min(u32::MAX as usize) as u32;
     let (words, lookup) = (scope.words, scope.lookup);
-    let rows_of_part = move |_start: usize, part: &[Block]| -> Result<Option<Rows>, AllocError>
-        requires { length (L.index lookup.now).blocks < 2 ^ 32 }
-        ensures { let word_at = W.word_at words.entry.now in
-            let targets = map (block_targets word_at (L.index lookup.entry.now)) part.entry.now in
-            IfOk result (λ rows. IfSome rows (λ r. AreListed (targets_of_block targets)
-            (length part.entry.now) r.starts.items r.targets.items)) }
-    { rows_of(alloc, words, lookup, part, share) };
-    let parts = map_chunks(rt, alloc, scope.blocks, size, &rows_of_part)?;
-    let Some(rows) = all_rows(alloc, parts)? else {
+    let Some(rows) = list_rows(rt, alloc, words, lookup, scope.blocks, size, share)? else {
         return Ok(None);
     };
     Ok(Some(Links {
@@ -163,19 +190,18 @@ pub(crate) fn links_of<'a, 'b, R: Threads + Sync, W: Words + Sync, L: Lookup + S
     }))
 }
 
-impl<'a, S: Source> Links<'a, S> {
-    // What a block leads to.
-    fn targets(&self, block: u32) -> &[u32]
-        requires { block < length (S.targets self.now.source.now) }
-        ensures { result.now ≡ targets_of_block (S.targets self.now.source.now) block }
-    {
-        let block = block as usize;
-        let rows = &self.rows[block / self.size];
-        let place = block % self.size;
-        let start = rows.starts[place] as usize;
-        let end = rows.starts[place + 1] as usize;
-        &rows.targets[start..end]
-    }
+// What a block leads to, by the rows of so many blocks each.
+pub(crate) fn listed_targets(rows: &[Rows], size: usize, block: u32) -> &[u32]
+    requires { (targets : List (List ℕ)) × AreLinks targets size rows.now × (block < length targets) }
+    ensures { (targets : List (List ℕ)) → AreLinks targets size rows.now → block < length targets
+        → result.now ≡ targets_of_block targets block }
+{
+    let block = block as usize;
+    let row = &rows[block / size];
+    let place = block % size;
+    let start = row.starts[place] as usize;
+    let end = row.starts[place + 1] as usize;
+    &row.targets[start..end]
 }
 
 impl<'a, S: Source> Source for Links<'a, S> {
@@ -202,7 +228,9 @@ impl<'a, S: Source> Source for Links<'a, S> {
     ) -> Result<(), AllocError> {
         match item {
             Item::Root(_) => self.source.scan(marks, seat, list, item),
-            Item::Block(block) => claim_listed(self.targets(block), marks, seat, list),
+            Item::Block(block) => {
+                claim_listed(listed_targets(&self.rows, self.size, block), marks, seat, list)
+            }
         }
     }
 }
