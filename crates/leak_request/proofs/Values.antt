@@ -9,8 +9,9 @@ use Rattle.clap.specs.Words.{ReadsOne, Row, Text, first_of}
 use Rattle.leak_request.specs.declared.fault.UsageFault.{UsageFault}
 use Rattle.leak_request.specs.declared.fault.UsageFault.TheVariants as fault
 use Rattle.leak_request.specs.CommandLine.{path_ids}
-use Rattle.leak_request.specs.Requests.{AreAt, IsBadBy, IsRequest, LacksPath, Writes, file_count}
+use Rattle.leak_request.specs.Requests.{AreAt, HasFiles, IsBadBy, IsRequest, LacksOneOf, Writes, file_count}
 use Rattle.leak_request.specs.declared.options.Request.{Request}
+use Rattle.leak_request.specs.declared.options.Request.TheVariants.{Search, Why, Grow}
 
 -- a number that was read is the one that the text writes
 pub number_read : {E : Type 0} (gives : List ℕ → Result ℕ E → Type 0) (r : Option ℕ) (text row : Option (List ℕ)) → text ≡ row
@@ -29,10 +30,10 @@ no_number_read {E} gives None text None same value reads = λ n fits is. is
 no_number_read {E} gives None text (Some t) same value reads = λ n fits is. let got = value t same in reads t got.0 n fits got.1 is
 
 -- a path that isn't there is lacking
-pub path_lacks : (rows : List Row) (two : Bool) (ids : List (Bor (List ℕ))) (i : ℕ) (d : Bor (List ℕ)) → map (λ id. id.now) ids ≡ path_ids two → i < length ids
-    → None ≡ first_of (get_or ids i d).now rows → LacksPath rows two
-path_lacks rows two ids i d same low none = λ all.
-    let here = All-get_or (λ id. IsSome (first_of id rows)) (map (λ id. id.now) ids) i [] (simp length-map low) (subst (All (λ id. IsSome (first_of id rows))) (sym same) all) in
+pub path_lacks : (rows : List Row) (ids : List (Bor (List ℕ))) (i : ℕ) (d : Bor (List ℕ)) → i < length ids
+    → None ≡ first_of (get_or ids i d).now rows → LacksOneOf rows (map (λ id. id.now) ids)
+path_lacks rows ids i d low none = λ all.
+    let here = All-get_or (λ id. IsSome (first_of id rows)) (map (λ id. id.now) ids) i [] (simp length-map low) all in
     let at : get_or (map (λ (id : Bor (List ℕ)). id.now) ids) i [] ≡ (get_or ids i d).now = get_or-map _ ids i d [] low in
     let some : IsSome (first_of (get_or ids i d).now rows) = subst (λ id. IsSome (first_of id rows)) at here in
     let bad : IsSome {T = List ℕ} None = subst IsSome (sym none) some in cc
@@ -51,15 +52,7 @@ paths_of rows true paths at = sym (length-map paths _) ∙ ap length at
 paths_of rows false paths at = sym (length-map paths _) ∙ ap length at
 
 -- and so there are of any request
-pub files_of : (name : Text) (rows : List Row) (r : Request) → IsRequest name rows r → length r.paths.items ≡ file_count r.options.two
-files_of name rows r (inl why) = rw (why.1.two) (paths_of rows false r.paths.items why.1.paths)
-files_of name rows r (inr search_of) = paths_of rows r.options.two r.paths.items search_of.paths
-
--- what holds a block is asked of one core
-pub why_of_one : (name : Text) (rows : List Row) (r : Request) → IsRequest name rows r → IfSome r.address (λ _. r.options.two ≡ false)
-why_of_one name rows r (inl why) = some r.address
-  where
-    some : (o : Option ℕ) → IfSome o (λ _. r.options.two ≡ false)
-    some None = tt
-    some (Some a) = why.1.two
-why_of_one name rows r (inr search_of) = rw (search_of.address) tt
+pub files_of : (name : Text) (rows : List Row) (r : Request) → IsRequest name rows r → HasFiles r
+files_of name rows (Search r) is = paths_of rows r.options.two r.paths.items is.paths
+files_of name rows (Why r) is = (is.1.two, paths_of rows false r.paths.items is.1.paths)
+files_of name rows (Grow r) is = sym (length-map r.paths.items _) ∙ ap length is.1.paths

@@ -73,14 +73,26 @@ address_id = codes "address"
 abbrev pub why_line : App
 why_line = with_rules (with_rules (new_app why_name) (map operand_rule (path_ids false ++ address_id ∷ []))) reading_rules
 
+-- the subcommand that asks what grew
+abbrev pub grow_name : Text
+grow_name = codes "grow"
+
+-- the paths of an earlier and of a later log
+abbrev pub grow_ids : List Text
+grow_ids = codes "log1" ∷ codes "log2" ∷ []
+
+-- `leak_find grow LOG1 LOG2`
+abbrev pub grow_line : App
+grow_line = with_rules (with_rules (new_app grow_name) (map operand_rule grow_ids)) (flag_rule (codes "strict") ∷ [])
+
 -- the subcommand has to be named
 abbrev pub naming_subcommand : App → App
 naming_subcommand a = record a { top = record a.top { subcommand_required = true } }
 
 -- the whole command line
 abbrev pub command_line : App
-command_line = with_subcommand (with_subcommand (with_subcommand (naming_subcommand (new_app (codes "leak_find")))
-    (search_line false).top) (search_line true).top) why_line.top
+command_line = with_subcommand (with_subcommand (with_subcommand (with_subcommand (naming_subcommand (new_app (codes "leak_find")))
+    (search_line false).top) (search_line true).top) why_line.top) grow_line.top
 
 -- an argument of the command or of a subcommand counts in each subcommand
 abbrev pub has_globals : Command → Bool

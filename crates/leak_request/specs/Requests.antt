@@ -1,5 +1,5 @@
 -- What a command line asks for, by the subcommand that clap met and the rows that it found there. Own rule.
-use Rattle.std.specs.Prelude.{◌≡◌, ◌↔◌, ◌≤◌, ◌<◌, ◌^◌, ◌⊎◌, ℕ, Bool, false, List, [], Option, Some, None, map, codes, String, string_bytes, IfSome, IsSome, IsTrue, IsSomeAnd, IsFalse, if◌then◌else◌}
+use Rattle.std.specs.Prelude.{◌≡◌, ◌↔◌, ◌≤◌, ◌<◌, ◌^◌, ◌⊎◌, ℕ, Bool, false, List, [], ◌∷◌, Option, Some, None, length, map, codes, String, string_bytes, IfSome, IsSome, IsTrue, IsSomeAnd, IsFalse, if◌then◌else◌}
 use Rattle.std.specs.List.{All}
 use Rattle.std.specs.Str.Parse.{IsNumeral, digits_value, without_leading_plus}
 use Rattle.clap.specs.Words.{Row, Text, first_of, found_of, one_of, rows_of, subcommand_of}
@@ -8,12 +8,16 @@ use Rattle.clap.specs.Faults.{fault_of}
 use Rattle.leak_index.specs.Readings.{distances_of, listed_by}
 use Rattle.leak_pool.specs.Plan.{IsBetween, Numbers}
 use Rattle.leak_request.specs.Address.{IsAddress}
-use Rattle.leak_request.specs.CommandLine.{address_id, command_line, name_of, path_ids, why_name}
+use Rattle.leak_request.specs.CommandLine.{address_id, command_line, grow_ids, grow_name, name_of, path_ids, why_name}
 use Rattle.leak_request.specs.Displacements.{IsListed, displace_fault_of}
 use Rattle.leak_request.specs.declared.fault.DisplaceFault.{DisplaceFault}
 use Rattle.leak_request.specs.declared.fault.UsageFault.{UsageFault}
 use Rattle.leak_request.specs.declared.fault.UsageFault.TheVariants as fault
+use Rattle.leak_request.specs.declared.options.GrowRequest.{GrowRequest}
 use Rattle.leak_request.specs.declared.options.Request.{Request}
+use Rattle.leak_request.specs.declared.options.Request.TheVariants.{Search, Why, Grow}
+use Rattle.leak_request.specs.declared.options.SearchRequest.{SearchRequest}
+use Rattle.leak_request.specs.declared.options.WhyRequest.{WhyRequest}
 
 -- the rows that clap found for a subcommand
 abbrev pub found_rows : ArgMatches → List Row
@@ -59,7 +63,7 @@ abbrev pub AreAt : {A : Type 0} → List Row → List Text → List (String A) �
 AreAt rows ids texts = map (λ text. Some (string_bytes text)) texts ≡ map (λ id. first_of id rows) ids
 
 -- the request of the subcommand of a search, with the values that clap found for it
-pub record IsSearchRequest (name : Text) (rows : List Row) (r : Request) : Type 0 where
+pub record IsSearchRequest (name : Text) (rows : List Row) (r : SearchRequest) : Type 0 where
   pub two : name ≡ name_of r.options.two
   pub paths : AreAt rows (path_ids r.options.two) r.paths.items
   pub numbers : AreNumbersAt rows r.options.plan.workers r.options.plan.piece r.options.plan.stack
@@ -74,18 +78,12 @@ pub record IsSearchRequest (name : Text) (rows : List Row) (r : Request) : Type 
   pub strict : IsTrue r.options.strict ↔ IsGiven rows (codes "strict")
   pub core_limit : r.options.core_limit ≡ 68719476736
   pub log_limit : r.options.log_limit ≡ 4294967296
-  pub address : r.address ≡ None
-
--- the address that the text of the request writes
-abbrev pub IsAddressAt : List Row → Option ℕ → Type 0
-IsAddressAt rows None = ⊥
-IsAddressAt rows (Some a) = IsSomeAnd (first_of address_id rows) (λ text. IsAddress text a)
 
 -- the request for what holds a block: nothing is asked for that only a search takes
-pub record IsWhyRequest (rows : List Row) (r : Request) : Type 0 where
+pub record IsWhyRequest (rows : List Row) (r : WhyRequest) : Type 0 where
   pub two : r.options.two ≡ false
   pub paths : AreAt rows (path_ids false) r.paths.items
-  pub address : IsAddressAt rows r.address
+  pub address : IsSomeAnd (first_of address_id rows) (λ text. IsAddress text r.address)
   pub reading : IsListedBy (list_in rows) (listed_by r.options.reading)
   pub ends : IsTrue (distances_of r.options.reading).skips_ends ↔ IsGiven rows (codes "skip-ends")
   pub freed : IsTrue r.options.skip.freed ↔ IsGiven rows (codes "skip-freed")
@@ -97,13 +95,31 @@ pub record IsWhyRequest (rows : List Row) (r : Request) : Type 0 where
   pub core_limit : r.options.core_limit ≡ 68719476736
   pub log_limit : r.options.log_limit ≡ 4294967296
 
+-- the request for what grew
+pub record IsGrowRequest (rows : List Row) (r : GrowRequest) : Type 0 where
+  pub paths : AreAt rows grow_ids r.paths.items
+  pub strict : IsTrue r.options.strict ↔ IsGiven rows (codes "strict")
+  pub log_limit : r.options.log_limit ≡ 4294967296
+
 -- the request of the subcommand, with the values that clap found for it
 abbrev pub IsRequest : Text → List Row → Request → Type 0
-IsRequest name rows r = ((name ≡ why_name) × IsWhyRequest rows r) ⊎ IsSearchRequest name rows r
+IsRequest name rows (Search r) = IsSearchRequest name rows r
+IsRequest name rows (Why r) = (name ≡ why_name) × IsWhyRequest rows r
+IsRequest name rows (Grow r) = (name ≡ grow_name) × IsGrowRequest rows r
+
+-- what is asked for one core is, and each request has a path for each of its files
+abbrev pub HasFiles : Request → Type 0
+HasFiles (Search r) = length r.paths.items ≡ file_count r.options.two
+HasFiles (Why r) = (r.options.two ≡ false) × (length r.paths.items ≡ 2)
+HasFiles (Grow r) = length r.paths.items ≡ 2
+
+-- one of the ids has no value
+abbrev pub LacksOneOf : List Row → List Text → Type 0
+LacksOneOf rows ids = All (λ id. IsSome (first_of id rows)) ids → ⊥
 
 -- a path that a request of so many cores takes isn't there
 abbrev pub LacksPath : List Row → Bool → Type 0
-LacksPath rows two = All (λ id. IsSome (first_of id rows)) (path_ids two) → ⊥
+LacksPath rows two = LacksOneOf rows (path_ids two)
 
 -- no numbers within the bounds of a plan are there
 abbrev pub LacksNumber : List Row → Type 0
@@ -160,9 +176,18 @@ IsWhyRefusal rows fault.Check = ⊥
 IsWhyRefusal rows fault.Address = (WhyLacks rows → ⊥) × IsListTaken rows × IsSomeAnd (first_of address_id rows) IsBadAddress
 IsWhyRefusal rows f = IsBadBy (WhyLacks rows) f
 
+-- why what clap found doesn't ask what grew: a path isn't there
+abbrev pub IsGrowRefusal : List Row → UsageFault → Type 0
+IsGrowRefusal rows f = IsBadBy (LacksOneOf rows grow_ids) f
+
+-- the subcommand is a search, or none that is known
+abbrev pub IsNeither : Text → Type 0
+IsNeither name = (name ≡ why_name → ⊥) × (name ≡ grow_name → ⊥)
+
 -- why what clap found for the subcommand is no request
 abbrev pub IsRefusedAt : Text → List Row → UsageFault → Type 0
-IsRefusedAt name rows f = ((name ≡ why_name) × IsWhyRefusal rows f) ⊎ ((name ≡ why_name → ⊥) × IsSearchRefusal name rows f)
+IsRefusedAt name rows f =
+    ((name ≡ why_name) × IsWhyRefusal rows f) ⊎ (((name ≡ grow_name) × IsGrowRefusal rows f) ⊎ (IsNeither name × IsSearchRefusal name rows f))
 
 -- clap takes the words, and the request is that of the subcommand that they name
 pub record IsRequestOf (words : List Text) (r : Request) : Type 0 where

@@ -1,21 +1,23 @@
 //! From a command line to what it asks for.
 
 ghost use Rattle.std.specs.Prelude.{◌≡◌, ◌≢◌, ◌<◌, ◌↔◌, IfOk, IsTrue, IsFalse, IfErr, IfNone, IfSome, OnOk, Bool};
-ghost use Rattle.std.specs.Prelude.{codes, false, length, map, option_map, string_bytes};
+ghost use Rattle.std.specs.Prelude.{codes, map, option_map, string_bytes};
 ghost use Rattle.clap.specs.Words.{first_of, kind_of};
 ghost use Rattle.leak_index.specs.Readings.{distances_of, listed_by};
-ghost use Rattle.leak_request.specs.CommandLine.{name_of, path_ids};
+ghost use Rattle.leak_request.specs.CommandLine.{grow_ids, name_of, path_ids};
 ghost use Rattle.leak_request.specs.Requests.{AreAt, AreNumbersAt, IsBadBy, IsGiven, IsListFaultAt, IsListedBy};
-ghost use Rattle.leak_request.specs.Requests.{IsNumberAt, IsRefusedAt, IsSearchRefusal, IsWhyRefusal};
-ghost use Rattle.leak_request.specs.Requests.{LacksNumber, LacksNumberAt, LacksPath};
-ghost use Rattle.leak_request.specs.Requests.{IsRequest, IsRequestOf, IsSearchRequest, IsUsageFaultOf, IsWhyRequest};
-ghost use Rattle.leak_request.specs.Requests.{file_count, found_rows, list_in};
+ghost use Rattle.leak_request.specs.Requests.{IsGrowRefusal, IsNumberAt, IsRefusedAt, IsSearchRefusal, IsWhyRefusal};
+ghost use Rattle.leak_request.specs.Requests.{LacksNumber, LacksNumberAt, LacksOneOf};
+ghost use Rattle.leak_request.specs.Requests.{HasFiles, IsGrowRequest, IsRequest, IsRequestOf, IsSearchRequest};
+ghost use Rattle.leak_request.specs.Requests.{IsUsageFaultOf, IsWhyRequest, found_rows, list_in};
 
 use crate::address::address;
 use crate::command_line::command;
 use crate::displacements::read_displace;
 use crate::fault::{DisplaceFault, UsageFault};
-use crate::options::{CORE_LIMIT, LOG_LIMIT, Options, Request};
+use crate::options::{
+    CORE_LIMIT, GrowOptions, GrowRequest, LOG_LIMIT, Options, Request, SearchRequest, WhyRequest,
+};
 use clap::error::ErrorKind;
 use clap::{ArgMatches, Error};
 use leak_index::Reading;
@@ -29,6 +31,9 @@ static ONE: [&str; 2] = ["core", "log"];
 /// The ids of the paths of a search of two cores.
 static TWO: [&str; 4] = ["core1", "log1", "core2", "log2"];
 
+/// The ids of the paths of a question what grew.
+static GROW: [&str; 2] = ["log1", "log2"];
+
 /// Reads the words of a command line, which begin with the program's name.
 ///
 /// The text of a refusal, or of the help that was asked for, is clap's. A list of displacements is refused only where
@@ -37,8 +42,7 @@ static TWO: [&str; 4] = ["core1", "log1", "core2", "log2"];
 pub fn request(alloc: Global, words: &[String]) -> Result<Request, UsageFault>
     requires { 0 < length words.now }
     ensures ok { IfOk result (IsRequestOf (map string_bytes words.now)) }
-    ensures files { IfOk result (λ r. length r.paths.items ≡ file_count r.options.two) }
-    ensures why { IfOk result (λ r. IfSome r.address (λ _. r.options.two ≡ false)) }
+    ensures files { IfOk result HasFiles }
     ensures refused { IfErr result (IsUsageFaultOf (map string_bytes words.now)) }
 {
     let command = command(alloc)?;
@@ -58,20 +62,25 @@ fn request_of(alloc: Global, name: &str, found: &ArgMatches) -> Result<Request, 
     ensures refused { IfErr result (IsRefusedAt name.now (found_rows found.now)) }
 {
     match name {
-        "why" => why_request(alloc, found),
-        _ => search_request(alloc, name, found),
+        "why" => Ok(Request::Why(why_request(alloc, found)?)),
+        "grow" => Ok(Request::Grow(grow_request(alloc, found)?)),
+        _ => Ok(Request::Search(search_request(alloc, name, found)?)),
     }
 }
 
 /// The request of a search, where clap found this for the subcommand with the name.
-fn search_request(alloc: Global, name: &str, found: &ArgMatches) -> Result<Request, UsageFault>
+fn search_request(
+    alloc: Global,
+    name: &str,
+    found: &ArgMatches,
+) -> Result<SearchRequest, UsageFault>
     ensures ok { IfOk result (IsSearchRequest name.now (found_rows found.now)) }
     ensures refused { IfErr result (IsSearchRefusal name.now (found_rows found.now)) }
 {
     let Some(two) = is_two(name) else {
         return Err(bad_arguments(alloc));
     };
-    let paths = paths(alloc, found, two)?;
+    let paths = paths(alloc, found, ids_of(two))?;
     let plan = plan(alloc, found)?;
     let reading = match reading(found) {
         Ok(reading) => reading,
@@ -82,7 +91,7 @@ fn search_request(alloc: Global, name: &str, found: &ArgMatches) -> Result<Reque
     if check && other_heap {
         return Err(UsageFault::Check);
     }
-    Ok(Request {
+    Ok(SearchRequest {
         paths,
         options: Options {
             two,
@@ -95,16 +104,15 @@ fn search_request(alloc: Global, name: &str, found: &ArgMatches) -> Result<Reque
             core_limit: CORE_LIMIT,
             log_limit: LOG_LIMIT,
         },
-        address: None,
     })
 }
 
 /// The request for what holds a block, where clap found this for it.
-fn why_request(alloc: Global, found: &ArgMatches) -> Result<Request, UsageFault>
+fn why_request(alloc: Global, found: &ArgMatches) -> Result<WhyRequest, UsageFault>
     ensures ok { IfOk result (IsWhyRequest (found_rows found.now)) }
     ensures refused { IfErr result (IsWhyRefusal (found_rows found.now)) }
 {
-    let paths = paths(alloc, found, false)?;
+    let paths = paths(alloc, found, ONE.as_slice())?;
     let Some(word) = value(found, "address") else {
         return Err(bad_arguments(alloc));
     };
@@ -115,7 +123,7 @@ fn why_request(alloc: Global, found: &ArgMatches) -> Result<Request, UsageFault>
     let Some(address) = address(word.as_bytes()) else {
         return Err(UsageFault::Address);
     };
-    Ok(Request {
+    Ok(WhyRequest {
         paths,
         options: Options {
             two: false,
@@ -128,7 +136,21 @@ fn why_request(alloc: Global, found: &ArgMatches) -> Result<Request, UsageFault>
             core_limit: CORE_LIMIT,
             log_limit: LOG_LIMIT,
         },
-        address: Some(address),
+        address,
+    })
+}
+
+/// The request for what grew between two logs, where clap found this for it.
+fn grow_request(alloc: Global, found: &ArgMatches) -> Result<GrowRequest, UsageFault>
+    ensures ok { IfOk result (IsGrowRequest (found_rows found.now)) }
+    ensures refused { IfErr result (IsGrowRefusal (found_rows found.now)) }
+{
+    Ok(GrowRequest {
+        paths: paths(alloc, found, GROW.as_slice())?,
+        options: GrowOptions {
+            strict: is_given(found, "strict"),
+            log_limit: LOG_LIMIT,
+        },
     })
 }
 
@@ -165,12 +187,14 @@ fn ids_of(two: bool) -> &'static [&'static str]
     if two { TWO.as_slice() } else { ONE.as_slice() }
 }
 
-fn paths(alloc: Global, found: &ArgMatches, two: bool) -> Result<Vec<String>, UsageFault>
-    ensures ok { IfOk result (λ paths. AreAt (found_rows found.now) (path_ids two) paths.items) }
-    ensures refused { IfErr result (IsBadBy (LacksPath (found_rows found.now) two)) }
+/// The values of the arguments with the ids, in order.
+fn paths(alloc: Global, found: &ArgMatches, ids: &[&str]) -> Result<Vec<String>, UsageFault>
+    ensures ok { IfOk result (λ paths.
+        AreAt (found_rows found.now) (map (λ id. id.now) ids.now) paths.items) }
+    ensures refused { IfErr result (IsBadBy (LacksOneOf (found_rows found.now) (map (λ id. id.now) ids.now))) }
 {
     let mut paths = Vec::new(alloc);
-    for id in ids_of(two) {
+    for id in ids {
         let Some(path) = value(found, id) else {
             return Err(bad_arguments(alloc));
         };

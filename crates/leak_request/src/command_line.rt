@@ -2,7 +2,7 @@
 
 ghost use Rattle.std.specs.Prelude.{◌≡◌, IfOk, false, true, codes};
 ghost use Rattle.clap.specs.Words.{app_of, rule_of};
-ghost use Rattle.leak_request.specs.CommandLine.{command_line, flag_rule, has_globals, number_rule, operand_rule};
+ghost use Rattle.leak_request.specs.CommandLine.{command_line, flag_rule, grow_line, has_globals, number_rule, operand_rule};
 ghost use Rattle.leak_request.specs.CommandLine.{plan_rules, reading_rules, search_line, sign_rules, text_rule};
 ghost use Rattle.leak_request.specs.CommandLine.{why_line, with_options, with_rules};
 
@@ -26,6 +26,12 @@ const SECOND_CORE: &str = "A later core of the same process";
 
 /// What help says of the second log.
 const SECOND_LOG: &str = "Its log when that core was taken; it begins with LOG1";
+
+/// What help says of the first log, where there is no core.
+const EARLIER_LOG: &str = "An allocation log of the process, as glibc's mtrace writes it";
+
+/// What help says of the second log, where there is no core.
+const LATER_LOG: &str = "A later log of the same process; it begins with LOG1";
 
 /// What help says of an address.
 const ADDRESS: &str = "An address in the block, or its start: 0x and 1 to 16 hexadecimal digits";
@@ -51,7 +57,8 @@ const OTHER_HEAP: &str = "The allocator is not glibc's: don't compare its heap w
 /// What help says of `--strict`.
 const STRICT: &str = "Exit with status 3 where there is a warning";
 
-/// `leak_find`, with a subcommand for the search of one core, one for that of two, and one that asks for a block.
+/// `leak_find`, with a subcommand for the search of one core, one for that of two, one that asks for a block, and one that asks
+/// what grew.
 pub(crate) fn command<'a>(alloc: Global) -> Result<Command<'a>, AllocError>
     ensures { IfOk result (λ c. app_of c ≡ command_line) }
 {
@@ -61,7 +68,8 @@ pub(crate) fn command<'a>(alloc: Global) -> Result<Command<'a>, AllocError>
     command
         .subcommand(one(alloc)?)?
         .subcommand(two(alloc)?)?
-        .subcommand(why(alloc)?)
+        .subcommand(why(alloc)?)?
+        .subcommand(grow(alloc)?)
 }
 
 fn one<'a>(alloc: Global) -> Result<Command<'a>, AllocError>
@@ -109,6 +117,17 @@ fn why<'a>(alloc: Global) -> Result<Command<'a>, AllocError>
         .arg(operand(alloc, "log", "LOG", LOG))?
         .arg(operand(alloc, "address", "ADDRESS", ADDRESS))?;
     with_reading(alloc, command)
+}
+
+fn grow<'a>(alloc: Global) -> Result<Command<'a>, AllocError>
+    ensures line { IfOk result (λ c. app_of c ≡ grow_line) }
+    ensures local { IfOk result (λ c. has_globals c ≡ false) }
+{
+    Command::new(alloc, "grow")
+        .about("Tells which callers' blocks grew between two logs of one process")
+        .arg(operand(alloc, "log1", "LOG1", EARLIER_LOG))?
+        .arg(operand(alloc, "log2", "LOG2", LATER_LOG))?
+        .arg(flag(alloc, "strict", STRICT))
 }
 
 /// The command with the options that share out the work.

@@ -1,10 +1,10 @@
 //! What the program is asked for: from the words of a command line to a request.
 //!
 //! [`request`] reads the words, which begin with the program's name, by a command line of clap: `leak_find one CORE
-//! LOG`, `leak_find two CORE1 LOG1 CORE2 LOG2` or `leak_find why CORE LOG ADDRESS`, with options after the subcommand.
-//! It gives a [`Request`], the paths of the files, the [`Options`] of the search and the address of a block that is asked
-//! for, or says as a [`UsageFault`] why there is none. [`read_displace`] reads the list of `--displace`, and answers its
-//! first fault as a [`DisplaceFault`].
+//! LOG`, `leak_find two CORE1 LOG1 CORE2 LOG2`, `leak_find why CORE LOG ADDRESS` or `leak_find grow LOG1 LOG2`, with options
+//! after the subcommand. It gives a [`Request`], with the paths of the files and how they are searched or asked, or says as a
+//! [`UsageFault`] why there is none. [`read_displace`] reads the list of `--displace`, and answers its first fault as a
+//! [`DisplaceFault`].
 //!
 //! The command line is own rule; its definition stands in `specs/CommandLine.antt`, and what clap makes of words is
 //! defined by clap's specs. The contracts don't say how clap's texts of help and of refusals read, and nothing here opens
@@ -21,4 +21,6 @@ mod options;
 pub use arguments::request;
 pub use displacements::read_displace;
 pub use fault::{DisplaceFault, UsageFault};
-pub use options::{CORE_LIMIT, LOG_LIMIT, Options, Request};
+pub use options::{
+    CORE_LIMIT, GrowOptions, GrowRequest, LOG_LIMIT, Options, Request, SearchRequest, WhyRequest,
+};

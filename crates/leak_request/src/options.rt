@@ -33,13 +33,51 @@ pub struct Options {
     pub log_limit: u64,
 }
 
-/// What a command line asks for.
+/// A search for leaks.
 #[derive(Debug, Drop)]
-pub struct Request {
+pub struct SearchRequest {
     /// The paths of the files in order: a core and its log; with two cores, the second core and its log follow.
     pub paths: Vec<String>,
-    /// How they are searched, or how a block is asked for: then `two` is false, and the plan is not used.
+    /// How they are searched.
     pub options: Options,
-    /// The address of the live block that is asked for. Without one, the files are searched for leaks.
-    pub address: Option<u64>,
+}
+
+/// A question what holds a block.
+#[derive(Debug, Drop)]
+pub struct WhyRequest {
+    /// The paths of a core and of its log.
+    pub paths: Vec<String>,
+    /// How the block is asked for: `two` is false, and the plan is not used.
+    pub options: Options,
+    /// The address of the live block.
+    pub address: u64,
+}
+
+/// How it is told what grew.
+#[derive(Clone, Copy, Debug)]
+pub struct GrowOptions {
+    /// Whether a warning has a status of its own.
+    pub strict: bool,
+    /// The largest log that is read, in bytes.
+    pub log_limit: u64,
+}
+
+/// A question what grew between two logs.
+#[derive(Debug, Drop)]
+pub struct GrowRequest {
+    /// The paths of an earlier and of a later log of one process.
+    pub paths: Vec<String>,
+    /// How it is told.
+    pub options: GrowOptions,
+}
+
+/// What a command line asks for.
+#[derive(Debug, Drop)]
+pub enum Request {
+    /// Leaks, in one core or in two.
+    Search(SearchRequest),
+    /// What holds a block.
+    Why(WhyRequest),
+    /// What grew between two logs.
+    Grow(GrowRequest),
 }

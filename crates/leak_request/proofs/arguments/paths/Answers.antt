@@ -5,5 +5,5 @@ use Rattle.leak_request.proofs.arguments.paths.Goals as goal
 pub returns-in_default-clause-refused : goal.returns-in_default-clause-refused
 returns-in_default-clause-refused c =
     bad_by c.bad_arguments.result
-    (path_lacks (rows_of (found_of c.args.found.now)) c.args.two c.ids_of-id-items.result.now c.loop-id.id-index _ c.ids_of-id-items.ensures c.loop-id-test.true c.in_default.ensures)
+    (path_lacks (rows_of (found_of c.args.found.now)) c.args.ids.now c.loop-id.id-index _ c.loop-id-test.true c.in_default.ensures)
     c.bad_arguments.ensures

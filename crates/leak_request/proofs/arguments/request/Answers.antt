@@ -2,7 +2,7 @@ use Rattle.std.proofs.Common.{map, string_bytes}
 use Rattle.std.proofs.lemmas.Result.{IfErr-weaker, IfOk-weaker}
 use Rattle.clap.specs.Words.{app_of, found_of, rows_of}
 use Rattle.leak_request.proofs.Subcommands.{line_met, line_refused, line_taken, met_whole, refused_after}
-use Rattle.leak_request.proofs.Values.{files_of, why_of_one}
+use Rattle.leak_request.proofs.Values.{files_of}
 use Rattle.leak_request.proofs.arguments.request.Goals as goal
 
 pub returns-in-Err-clause-refused : goal.returns-in-Err-clause-refused
@@ -32,6 +32,3 @@ returns-in-Some-clause-refused c =
 
 pub returns-in-Some-clause-files : goal.returns-in-Some-clause-files
 returns-in-Some-clause-files c = IfOk-weaker c.request_of.result _ _ (files_of _ _) c.request_of.ensures.ok
-
-pub returns-in-Some-clause-why : goal.returns-in-Some-clause-why
-returns-in-Some-clause-why c = IfOk-weaker c.request_of.result _ _ (why_of_one _ _) c.request_of.ensures.ok
