@@ -1,5 +1,5 @@
-use Rattle.std.proofs.Common.{◌∙◌, ap, sym}
-use Rattle.std.proofs.lemmas.List.{get_or-map, get_or_read}
+use Rattle.std.proofs.Common.{sym}
+use Rattle.std.proofs.lemmas.List.{get_or-map}
 use Rattle.leak_pool.specs.declared.source.Item.TheVariants.{Block}
 use Rattle.leak_pool.proofs.items.block_at.Goals as goal
 

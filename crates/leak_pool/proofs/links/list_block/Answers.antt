@@ -1,5 +1,4 @@
-use Rattle.std.proofs.Common.{◌≡◌, ◌∙◌, ◌++◌, ◌^◌, ap, subst, ℕ, List, arith}
-use Rattle.leak_scan.specs.Targets.{block_words, targets_of}
+use Rattle.std.proofs.Common.{subst, ℕ, List, arith}
 use Rattle.leak_marks.specs.Lists.{Has}
 use Rattle.leak_pool.specs.ScopeLaw.{target_below}
 use Rattle.leak_pool.proofs.links.list_block.Goals as goal

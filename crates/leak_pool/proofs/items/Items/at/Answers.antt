@@ -1,4 +1,4 @@
-use Rattle.std.proofs.Common.{◌≡◌, ◌<◌, ◌∙◌, ap, sym, length, arith}
+use Rattle.std.proofs.Common.{◌≡◌, ◌∙◌, ap, sym, length, arith}
 use Rattle.std.specs.Prelude.{slice_index_or}
 use Rattle.leak_pool.specs.Items.{items_in}
 use Rattle.leak_pool.specs.declared.items.Items.{Items}
