@@ -18,7 +18,7 @@ use Rattle.leak_request.specs.declared.options.Options.{Options}
 use Rattle.leak_input.specs.Inputs.{IsFaultOfOne, IsFaultOfTwo}
 use Rattle.leak_readers.specs.Reading.{IsWholeInput, IsStopped}
 use Rattle.leak_request.specs.Requests.{file_count}
-use Rattle.leak_find.specs.Run.{left_in, input_at, limit_at, AreInputs, Finds, IsFaultOf, HasFound, IsReaderFault, IsFindFault, IsSearchFault}
+use Rattle.leak_find.specs.Run.{left_in, input_at, limit_at, AreWithin, IsReadFaultWithin, Finds, IsFaultOf, HasFound, IsReaderFault, IsFindFault, IsSearchFault}
 use Rattle.leak_search.specs.Holding.{IsWhyFault, TellsWhy}
 use Rattle.leak_search.specs.declared.holding.Why.{Why}
 use Rattle.leak_search.specs.declared.holding.WhyError.{WhyError}
@@ -61,12 +61,12 @@ is_stopped before after i limit e left right is_left is_right stopped =
 -- ---- inputs read one after the other
 
 -- these inputs were read, and the readers after theirs are as they were
-pub record SoFar (o : Options) (before after : List (Option (List ℕ))) (inputs : List (List ℕ)) : Type 0 where
-  pub read : AreInputs o before after inputs
+pub record SoFar (limit : ℕ → ℕ) (before after : List (Option (List ℕ))) (inputs : List (List ℕ)) : Type 0 where
+  pub read : AreWithin limit before after inputs
   pub later : (i : ℕ) → length inputs ≤ i → left_in after i ≡ left_in before i
 
-pub none_yet : (o : Options) (before : List (Option (List ℕ))) → SoFar o before before []
-none_yet o before = record { read = record { each = λ i h. absurd (omega (arith, h)) }; later = λ i h. refl }
+pub none_yet : (limit : ℕ → ℕ) (before : List (Option (List ℕ))) → SoFar limit before before []
+none_yet limit before = record { read = record { each = λ i h. absurd (omega (arith, h)) }; later = λ i h. refl }
 
 input_before : (inputs : List (List ℕ)) (bytes : List ℕ) (i : ℕ) → i < length inputs → input_at inputs i ≡ input_at (inputs ++ bytes ∷ []) i
 input_before [] bytes i h = absurd (omega arith)
@@ -81,40 +81,45 @@ one_longer : (inputs : List (List ℕ)) (bytes : List ℕ) → length (inputs ++
 one_longer [] bytes = refl
 one_longer (x ∷ xs) bytes = let rest = one_longer xs bytes in omega (arith, rest)
 
-pub one_more : (o : Options) (before mid after : List (Option (List ℕ))) (inputs : List (List ℕ)) (bytes : List ℕ) → SoFar o before mid inputs
-    → IsWholeInput (left_in mid (length inputs)) (left_in after (length inputs)) (limit_at o (length inputs)) bytes
-    → ((i : ℕ) → i ≢ length inputs → left_in after i ≡ left_in mid i) → SoFar o before after (inputs ++ bytes ∷ [])
-one_more o before mid after inputs bytes so_far whole others = record {
+pub one_more : (limit : ℕ → ℕ) (before mid after : List (Option (List ℕ))) (inputs : List (List ℕ)) (bytes : List ℕ) → SoFar limit before mid inputs
+    → IsWholeInput (left_in mid (length inputs)) (left_in after (length inputs)) (limit (length inputs)) bytes
+    → ((i : ℕ) → i ≢ length inputs → left_in after i ≡ left_in mid i) → SoFar limit before after (inputs ++ bytes ∷ [])
+one_more limit before mid after inputs bytes so_far whole others = record {
   read = record {
     each = λ i h. dite (ℕ_discrete i (length inputs))
-        (λ same. subst (λ (k : ℕ). IsWholeInput (left_in before k) (left_in after k) (limit_at o k) (input_at (inputs ++ bytes ∷ []) k)) (sym same)
-        (subst (λ (b : List ℕ). IsWholeInput (left_in before (length inputs)) (left_in after (length inputs)) (limit_at o (length inputs)) b) (input_last inputs bytes)
-        (subst (λ (l : Option (List ℕ)). IsWholeInput l (left_in after (length inputs)) (limit_at o (length inputs)) bytes) (so_far.later (length inputs) (omega arith)) whole)))
+        (λ same. subst (λ (k : ℕ). IsWholeInput (left_in before k) (left_in after k) (limit k) (input_at (inputs ++ bytes ∷ []) k)) (sym same)
+        (subst (λ (b : List ℕ). IsWholeInput (left_in before (length inputs)) (left_in after (length inputs)) (limit (length inputs)) b) (input_last inputs bytes)
+        (subst (λ (l : Option (List ℕ)). IsWholeInput l (left_in after (length inputs)) (limit (length inputs)) bytes) (so_far.later (length inputs) (omega arith)) whole)))
         (λ other. let n = one_longer inputs bytes in let less : i < length inputs = omega (arith, h, n, other) in
-        subst (λ (b : List ℕ). IsWholeInput (left_in before i) (left_in after i) (limit_at o i) b) (input_before inputs bytes i less)
-        (subst (λ (r : Option (List ℕ)). IsWholeInput (left_in before i) r (limit_at o i) (input_at inputs i)) (sym (others i other)) (so_far.read.each i less)));
+        subst (λ (b : List ℕ). IsWholeInput (left_in before i) (left_in after i) (limit i) b) (input_before inputs bytes i less)
+        (subst (λ (r : Option (List ℕ)). IsWholeInput (left_in before i) r (limit i) (input_at inputs i)) (sym (others i other)) (so_far.read.each i less)));
   };
   later = λ i h. let n = one_longer inputs bytes in others i (λ same. absurd (omega (arith, h, n, same))) ∙ so_far.later i (omega (arith, h, n));
 }
 
-pub stopped : (o : Options) (before mid after : List (Option (List ℕ))) (inputs : List (List ℕ)) (e : RunFault) → SoFar o before mid inputs → length inputs + 1 ≤ file_count o.two
-    → IsReaderFault mid after (length inputs) (limit_at o (length inputs)) e
-    → ((i : ℕ) → i ≢ length inputs → left_in after i ≡ left_in mid i) → IsSearchFault o before after e
-stopped o before mid after inputs (Read number e) so_far few fault others = record {
+pub stopped_within : (limit : ℕ → ℕ) (readers : ℕ) (before mid after : List (Option (List ℕ))) (inputs : List (List ℕ)) (number : ℕ) (e : ReadFault) → SoFar limit before mid inputs
+    → length inputs + 1 ≤ readers → IsReaderFault mid after (length inputs) (limit (length inputs)) (Read number e)
+    → ((i : ℕ) → i ≢ length inputs → left_in after i ≡ left_in mid i) → IsReadFaultWithin limit readers before after number e
+stopped_within limit readers before mid after inputs number e so_far few fault others = record {
   inputs = inputs;
   number_is = fault.0;
-  few = subst (λ (k : ℕ). k ≤ file_count o.two) (sym fault.0) few;
+  few = subst (λ (k : ℕ). k ≤ readers) (sym fault.0) few;
   earlier = record {
-    each = λ i h. subst (λ (r : Option (List ℕ)). IsWholeInput (left_in before i) r (limit_at o i) (input_at inputs i)) (sym (others i (λ same. absurd (omega (arith, h, same))))) (so_far.read.each i h);
+    each = λ i h. subst (λ (r : Option (List ℕ)). IsWholeInput (left_in before i) r (limit i) (input_at inputs i)) (sym (others i (λ same. absurd (omega (arith, h, same))))) (so_far.read.each i h);
   };
-  stopped = is_stopped before after (length inputs) (limit_at o (length inputs)) e (left_in mid (length inputs)) (left_in after (length inputs)) (so_far.later (length inputs) (omega arith)) refl fault.1;
+  stopped = is_stopped before after (length inputs) (limit (length inputs)) e (left_in mid (length inputs)) (left_in after (length inputs)) (so_far.later (length inputs) (omega arith)) refl fault.1;
   later = λ i h. let n = fault.0 in others i (λ same. absurd (omega (arith, h, n, same))) ∙ so_far.later i (omega (arith, h, n));
 }
+
+pub stopped : (o : Options) (before mid after : List (Option (List ℕ))) (inputs : List (List ℕ)) (e : RunFault) → SoFar (limit_at o) before mid inputs → length inputs + 1 ≤ file_count o.two
+    → IsReaderFault mid after (length inputs) (limit_at o (length inputs)) e
+    → ((i : ℕ) → i ≢ length inputs → left_in after i ≡ left_in mid i) → IsSearchFault o before after e
+stopped o before mid after inputs (Read number e) so_far few fault others = stopped_within (limit_at o) (file_count o.two) before mid after inputs number e so_far few fault others
 stopped o before mid after inputs (Find e) so_far few fault others = absurd fault
 stopped o before mid after inputs (NoBlock a) so_far few fault others = absurd fault
 stopped o before mid after inputs (Write f) so_far few fault others = absurd fault
 
-pub ask_stopped : (o : Options) (address : ℕ) (before mid after : List (Option (List ℕ))) (inputs : List (List ℕ)) (e : RunFault) → SoFar o before mid inputs
+pub ask_stopped : (o : Options) (address : ℕ) (before mid after : List (Option (List ℕ))) (inputs : List (List ℕ)) (e : RunFault) → SoFar (limit_at o) before mid inputs
     → length inputs + 1 ≤ file_count o.two → IsReaderFault mid after (length inputs) (limit_at o (length inputs)) e
     → ((i : ℕ) → i ≢ length inputs → left_in after i ≡ left_in mid i) → IsAskFault o address before after e
 ask_stopped o address before mid after inputs (Read number e) so_far few fault others = stopped o before mid after inputs (Read number e) so_far few fault others
@@ -131,7 +136,7 @@ pub of_two : (two : Bool) (n : ℕ) → two ≡ true → n ≤ 4 → n ≤ file_
 of_two two n is h = subst (λ (b : Bool). n ≤ file_count b) (sym is) h
 
 pub found_one : (o : Options) (before after : List (Option (List ℕ))) (core log core_read log_read : List ℕ) (found : Found) → o.two ≡ false
-    → SoFar o before after (core ∷ log ∷ []) → core_read ≡ core → log_read ≡ log
+    → SoFar (limit_at o) before after (core ∷ log ∷ []) → core_read ≡ core → log_read ≡ log
     → FindsOne core_read log_read (distances_of o.reading) o.skip o.check o.plan.workers found → AreSigns (core_read ∷ log_read ∷ []) found.signs.items → HasFound o before after found
 found_one o before after core log core_read log_read found one so_far core_is log_is finds signs = record {
   inputs = core ∷ log ∷ [];
@@ -145,7 +150,7 @@ found_one o before after core log core_read log_read found one so_far core_is lo
 }
 
 pub fault_one : (o : Options) (before after : List (Option (List ℕ))) (core log core_read log_read : List ℕ) (e : FindError) → o.two ≡ false
-    → SoFar o before after (core ∷ log ∷ []) → core_read ≡ core → log_read ≡ log
+    → SoFar (limit_at o) before after (core ∷ log ∷ []) → core_read ≡ core → log_read ≡ log
     → (e ≢ NoMemory → IsFaultOfOne core_read log_read e) → IsFindFault o before after e
 fault_one o before after core log core_read log_read e one so_far core_is log_is fault = record {
   inputs = core ∷ log ∷ [];
@@ -158,7 +163,7 @@ fault_one o before after core log core_read log_read e one so_far core_is log_is
 -- ---- a block that is asked for in what was read
 
 module _ (o : Options) (address : ℕ) (before after : List (Option (List ℕ))) (core log core_read log_read : List ℕ)
-    (so_far : SoFar o before after (core ∷ log ∷ [])) (core_is : core_read ≡ core) (log_is : log_read ≡ log) where
+    (so_far : SoFar (limit_at o) before after (core ∷ log ∷ [])) (core_is : core_read ≡ core) (log_is : log_read ≡ log) where
   pub has_told : (why : Why) → TellsWhy core_read log_read (distances_of o.reading) o.skip address why → HasTold o address before after why
   has_told why tells = record {
     inputs = core ∷ log ∷ [];
@@ -182,7 +187,7 @@ module _ (o : Options) (address : ℕ) (before after : List (Option (List ℕ)))
   ask_fault (Missing a) fault = holding_fault (Missing a) fault
 
 module _ (o : Options) (before after : List (Option (List ℕ))) (core1 log1 core2 log2 core1_read log1_read core2_read log2_read : List ℕ) (two : o.two ≡ true)
-    (so_far : SoFar o before after (core1 ∷ log1 ∷ core2 ∷ log2 ∷ [])) (core1_is : core1_read ≡ core1) (log1_is : log1_read ≡ log1) (core2_is : core2_read ≡ core2) (log2_is : log2_read ≡ log2) where
+    (so_far : SoFar (limit_at o) before after (core1 ∷ log1 ∷ core2 ∷ log2 ∷ [])) (core1_is : core1_read ≡ core1) (log1_is : log1_read ≡ log1) (core2_is : core2_read ≡ core2) (log2_is : log2_read ≡ log2) where
   pub found_two : (found : Found) → FindsTwo core1_read log1_read core2_read log2_read (distances_of o.reading) o.skip o.check o.plan.workers found
       → AreSigns (core1_read ∷ log1_read ∷ core2_read ∷ log2_read ∷ []) found.signs.items → HasFound o before after found
   found_two found finds signs = record {

@@ -31,11 +31,15 @@ input_at inputs i = slice_index_or inputs i []
 abbrev pub limit_at : Options → ℕ → ℕ
 limit_at o i = if i % 2 == 0 then o.core_limit else o.log_limit
 
--- the first readers held these inputs, and each was read to its end
-pub record AreInputs (o : Options) (before after : List (Option (List ℕ)))
+-- the first readers held these inputs, and each was read to its end; what each may hold, the limits tell by its number
+pub record AreWithin (limit : ℕ → ℕ) (before after : List (Option (List ℕ)))
     (inputs : List (List ℕ)) : Type 0 where
   pub each : (i : ℕ) → i < length inputs
-      → IsWholeInput (left_in before i) (left_in after i) (limit_at o i) (input_at inputs i)
+      → IsWholeInput (left_in before i) (left_in after i) (limit i) (input_at inputs i)
+
+-- the same of cores and logs
+abbrev pub AreInputs : Options → List (Option (List ℕ)) → List (Option (List ℕ)) → List (List ℕ) → Type 0
+AreInputs o before after inputs = AreWithin (limit_at o) before after inputs
 
 -- what a search of one core and its log, or of two, comes to
 abbrev pub Finds : Bool → Options → List (List ℕ) → Found → Type 0
@@ -94,16 +98,20 @@ IsReaderFault before after i limit (Find e) = ⊥
 IsReaderFault before after i limit (NoBlock a) = ⊥
 IsReaderFault before after i limit (Write f) = ⊥
 
--- The readers before the one with the number, from 1, were read to their ends, and those after it were not read
-pub record IsReadFault (o : Options) (before after : List (Option (List ℕ))) (number : ℕ)
+-- Of so many readers, those before the one with the number, from 1, were read to their ends, and those after it were not read
+pub record IsReadFaultWithin (limit : ℕ → ℕ) (readers : ℕ) (before after : List (Option (List ℕ))) (number : ℕ)
     (e : ReadFault) : Type 0 where
   pub inputs : List (List ℕ)
   pub number_is : number ≡ length inputs + 1
-  pub few : number ≤ file_count o.two
-  pub earlier : AreInputs o before after inputs
+  pub few : number ≤ readers
+  pub earlier : AreWithin limit before after inputs
   pub stopped : IsStopped (left_in before (length inputs)) (left_in after (length inputs))
-      (limit_at o (length inputs)) e
+      (limit (length inputs)) e
   pub later : (i : ℕ) → number ≤ i → left_in after i ≡ left_in before i
+
+-- the same of cores and logs
+abbrev pub IsReadFault : Options → List (Option (List ℕ)) → List (Option (List ℕ)) → ℕ → ReadFault → Type 0
+IsReadFault o before after number e = IsReadFaultWithin (limit_at o) (file_count o.two) before after number e
 
 -- all readers were read to their ends, and what they held has this fault first
 pub record IsFindFault (o : Options) (before after : List (Option (List ℕ)))

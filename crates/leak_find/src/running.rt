@@ -156,7 +156,7 @@ fn warnings_by(alloc: Global, options: &Options, signs: &[Signs]) -> Result<Stri
 }
 
 /// The exit status of a search that succeeded.
-fn status_of(strict: bool, leaked: u64, warnings: &str) -> u8
+pub(crate) fn status_of(strict: bool, leaked: u64, warnings: &str) -> u8
     ensures { result ≡ status_by strict leaked warnings.now }
 {
     if strict && !warnings.is_empty() {

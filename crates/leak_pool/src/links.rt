@@ -229,7 +229,12 @@ impl<'a, S: Source> Source for Links<'a, S> {
         match item {
             Item::Root(_) => self.source.scan(marks, seat, list, item),
             Item::Block(block) => {
-                claim_listed(listed_targets(&self.rows, self.size, block), marks, seat, list)
+                claim_listed(
+                    listed_targets(&self.rows, self.size, block),
+                    marks,
+                    seat,
+                    list,
+                )
             }
         }
     }

@@ -30,8 +30,7 @@ pub struct Listed<'a, W: Words, L: Lookup> {
     size: usize,
     rows: Vec<Rows>,
     ghost many: { blocks ≡ length (all_targets (W.word_at words.now) (L.index lookup.now)) },
-    ghost listed: { AreLinks (all_targets (W.word_at words.now) (L.index lookup.now)) size rows.items }
-        by { links_prop _ _ _ },
+    ghost listed: { AreLinks (all_targets (W.word_at words.now) (L.index lookup.now)) size rows.items } by { links_prop _ _ _ },
 }
 
 /// Lists what each live block leads to, by so many workers.

@@ -1,38 +1,45 @@
 -- What the program answers to the words of a command line, which begin with its name.
-use Rattle.std.specs.Prelude.{ℕ, List, Option, None, Some}
+use Rattle.std.specs.Prelude.{ℕ, List, Option, map, string_bytes}
 use Rattle.std.specs.Io.KnownBytes.{Keeps}
 use Rattle.leak_request.specs.declared.options.Request.{Request}
+use Rattle.leak_request.specs.declared.options.Request.TheVariants.{Search, Why, Grow}
 use Rattle.leak_request.specs.Requests.{IsRequestOf, IsUsageFaultOf}
 use Rattle.leak_program.specs.declared.failure.Failure.{Failure}
 use Rattle.leak_program.specs.declared.failure.Failure.TheVariants.{Word, Usage, Open, Run, NoMemory}
-use Rattle.leak_program.specs.Files.{AsksFiles, IsAskFailure, IsFileFault, SearchesFiles}
+use Rattle.leak_find.specs.declared.fault.RunFault.{RunFault}
+use Rattle.leak_program.specs.Files.{AsksFiles, FailsAsked, FailsFiles, FailsGrown, GrowsFiles, IsRefusalOf, SearchesFiles}
 
--- files were asked for the block of the address, and there is no warning; or, without an address, they were searched
-abbrev pub AnswersBy : Option ℕ → Request → Option (List ℕ) → Option (List ℕ)
-    → Option (List ℕ) → Option (List ℕ) → ℕ → Type 0
-AnswersBy (Some address) r held holds heard hears status =
-    AsksFiles r.options address held holds status × Keeps heard hears
-AnswersBy None r held holds heard hears status =
-    SearchesFiles r.options held holds heard hears status
+-- files were searched; or asked for the block of the address, and there is no warning; or logs were asked what grew
+abbrev pub AnswersBy : Request → Option (List ℕ) → Option (List ℕ) → Option (List ℕ) → Option (List ℕ) → ℕ → Type 0
+AnswersBy (Search r) held holds heard hears status = SearchesFiles r.options held holds heard hears status
+AnswersBy (Why r) held holds heard hears status = AsksFiles r.options r.address held holds status × Keeps heard hears
+AnswersBy (Grow r) held holds heard hears status = GrowsFiles r.options held holds heard hears status
 
--- why files are not asked for the block of the address or, without one, not searched
-abbrev pub FailsBy : Option ℕ → Request → Option (List ℕ) → Option (List ℕ) → Failure → Type 0
-FailsBy (Some address) r held holds failure = IsAskFailure r address held holds failure
-FailsBy None r held holds failure = IsFileFault r held holds failure
+-- the paths of the files of a request
+abbrev pub paths_in : Request → List (List ℕ)
+paths_in (Search r) = map string_bytes r.paths.items
+paths_in (Why r) = map string_bytes r.paths.items
+paths_in (Grow r) = map string_bytes r.paths.items
 
--- files were searched, or asked for a block, by the options of the request that the words make
+-- why the run of what the files hold has no status
+abbrev pub RunFailsBy : Request → Option (List ℕ) → Option (List ℕ) → RunFault → Type 0
+RunFailsBy (Search r) held holds fault = FailsFiles r.options held holds fault
+RunFailsBy (Why r) held holds fault = FailsAsked r.options r.address held holds fault
+RunFailsBy (Grow r) held holds fault = FailsGrown r.options held holds fault
+
+-- files were searched or asked by the options of the request that the words make
 pub record Answers (words : List (List ℕ)) (held holds heard hears : Option (List ℕ))
     (status : ℕ) : Type 0 where
   pub request : Request
   pub asked : IsRequestOf words request
-  pub answers : AnswersBy request.address request held holds heard hears status
+  pub answers : AnswersBy request held holds heard hears status
 
 -- the files of the request that the words make give no answer, for this reason
 pub record FailsRequest (words : List (List ℕ)) (held holds : Option (List ℕ))
     (failure : Failure) : Type 0 where
   pub request : Request
   pub asked : IsRequestOf words request
-  pub fails : FailsBy request.address request held holds failure
+  pub fails : IsRefusalOf (RunFailsBy request held holds) (paths_in request) held holds failure
 
 -- why there is no report: the words are no request, and nothing is written, or its files give no answer
 abbrev pub IsFailureOf : List (List ℕ) → Option (List ℕ) → Option (List ℕ) → Failure → Type 0

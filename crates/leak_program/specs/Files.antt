@@ -1,9 +1,13 @@
 -- The search of files. No contract can say what a file holds, so it is some bytes that were read and searched.
 use Rattle.std.specs.Prelude.{ℕ, List, Option, Contains, map, string_bytes}
 use Rattle.std.specs.Io.KnownBytes.{Keeps}
+use Rattle.leak_request.specs.declared.options.GrowOptions.{GrowOptions}
+use Rattle.leak_request.specs.declared.options.GrowRequest.{GrowRequest}
 use Rattle.leak_request.specs.declared.options.Options.{Options}
-use Rattle.leak_request.specs.declared.options.Request.{Request}
+use Rattle.leak_request.specs.declared.options.SearchRequest.{SearchRequest}
+use Rattle.leak_request.specs.declared.options.WhyRequest.{WhyRequest}
 use Rattle.leak_find.specs.declared.fault.RunFault.{RunFault}
+use Rattle.leak_find.specs.Grow.{IsGrowRunFault, RunsGrow}
 use Rattle.leak_find.specs.Run.{IsRunFault, Runs}
 use Rattle.leak_find.specs.Why.{IsWhyRunFault, RunsWhy}
 use Rattle.leak_program.specs.declared.failure.Failure.{Failure}
@@ -46,20 +50,35 @@ IsOpenFault paths (Open path) = Contains paths (string_bytes path)
 IsOpenFault paths (Run fault) = ⊥
 IsOpenFault paths NoMemory = Unit {0}
 
--- why files are not searched: they can't all be opened, and nothing is written, or their run has no status
-abbrev pub IsFileFault : Request → Option (List ℕ) → Option (List ℕ) → Failure → Type 0
-IsFileFault r held holds Word = ⊥
-IsFileFault r held holds (Usage fault) = ⊥
-IsFileFault r held holds (Open path) =
-    Keeps held holds × Contains (map string_bytes r.paths.items) (string_bytes path)
-IsFileFault r held holds (Run fault) = FailsFiles r.options held holds fault
-IsFileFault r held holds NoMemory = Keeps held holds
+-- some logs were read by the options, and what grew between them was written, and nothing else, and the warnings to the second
+-- writer, or a first part of them; the status is that of the warnings
+pub record GrowsFiles (o : GrowOptions) (held holds heard hears : Option (List ℕ))
+    (status : ℕ) : Type 0 where
+  pub before : List (Option (List ℕ))
+  pub after : List (Option (List ℕ))
+  pub runs : RunsGrow o before after held holds heard hears status
 
--- the same of files that are asked for the block of an address
-abbrev pub IsAskFailure : Request → ℕ → Option (List ℕ) → Option (List ℕ) → Failure → Type 0
-IsAskFailure r address held holds Word = ⊥
-IsAskFailure r address held holds (Usage fault) = ⊥
-IsAskFailure r address held holds (Open path) =
-    Keeps held holds × Contains (map string_bytes r.paths.items) (string_bytes path)
-IsAskFailure r address held holds (Run fault) = FailsAsked r.options address held holds fault
-IsAskFailure r address held holds NoMemory = Keeps held holds
+-- some logs were read by the options, and it isn't told what grew, for this reason
+pub record FailsGrown (o : GrowOptions) (held holds : Option (List ℕ)) (fault : RunFault) : Type 0 where
+  pub before : List (Option (List ℕ))
+  pub after : List (Option (List ℕ))
+  pub fails : IsGrowRunFault o before after held holds fault
+
+-- why files give no answer: they can't all be opened, and nothing is written, or their run has no status, as is said
+abbrev pub IsRefusalOf : (RunFault → Type 0) → List (List ℕ) → Option (List ℕ) → Option (List ℕ) → Failure → Type 0
+IsRefusalOf fails paths held holds Word = ⊥
+IsRefusalOf fails paths held holds (Usage fault) = ⊥
+IsRefusalOf fails paths held holds (Open path) = Keeps held holds × Contains paths (string_bytes path)
+IsRefusalOf fails paths held holds (Run fault) = fails fault
+IsRefusalOf fails paths held holds NoMemory = Keeps held holds
+
+-- so of files that are searched, that are asked for a block, and of logs
+abbrev pub IsFileFault : SearchRequest → Option (List ℕ) → Option (List ℕ) → Failure → Type 0
+IsFileFault r held holds failure = IsRefusalOf (FailsFiles r.options held holds) (map string_bytes r.paths.items) held holds failure
+
+abbrev pub IsAskFailure : WhyRequest → Option (List ℕ) → Option (List ℕ) → Failure → Type 0
+IsAskFailure r held holds failure =
+    IsRefusalOf (FailsAsked r.options r.address held holds) (map string_bytes r.paths.items) held holds failure
+
+abbrev pub IsGrowFailure : GrowRequest → Option (List ℕ) → Option (List ℕ) → Failure → Type 0
+IsGrowFailure r held holds failure = IsRefusalOf (FailsGrown r.options held holds) (map string_bytes r.paths.items) held holds failure

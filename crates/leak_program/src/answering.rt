@@ -8,8 +8,9 @@ ghost use Rattle.leak_program.specs.Sample.{SearchesSample};
 use crate::asking::ask_files;
 use crate::failure::Failure;
 use crate::files::search_files;
+use crate::growing::compare_logs;
 use crate::sample::search_sample;
-use leak_find::request;
+use leak_find::{Request, request};
 use std::io::Write;
 use std::rt::Files;
 use std::thread::Threads;
@@ -17,7 +18,8 @@ use std::thread::Threads;
 /// Searches what the words ask for, which begin with the program's name, writes the report to the first writer and then
 /// the warnings to the second, and gives the status: 0 where nothing leaked, and 1 otherwise; with `--strict`, 3 where
 /// there is a warning. Where the words ask what holds a block, the answer is written to the first writer, and the status
-/// is 0 where the block is held, and 1 where it leaked.
+/// is 0 where the block is held, and 1 where it leaked. Where they ask what grew, the answer is written to the first writer and
+/// the warnings to the second, and the status is 0, or 3 by `--strict`.
 ///
 /// Where no word follows the name, a sample is searched. After a refusal nothing is written, unless it is the writer
 /// that failed.
@@ -40,9 +42,9 @@ pub fn answer<R: Files + AllocGlobal + Threads + Sync, W: Write, V: Write>(
     if words.len() < 2 {
         return search_sample(rt, writer, warner);
     }
-    let request = request(rt.alloc(), words)?;
-    match request.address {
-        Some(address) => ask_files(rt, &request, address, writer),
-        None => search_files(rt, &request, writer, warner),
+    match request(rt.alloc(), words)? {
+        Request::Search(request) => search_files(rt, &request, writer, warner),
+        Request::Why(request) => ask_files(rt, &request, writer),
+        Request::Grow(request) => compare_logs(rt, &request, writer, warner),
     }
 }

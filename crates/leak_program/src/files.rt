@@ -6,7 +6,7 @@ ghost use Rattle.leak_request.specs.Requests.{file_count};
 ghost use Rattle.leak_program.specs.Files.{IsFileFault, IsOpenFault, SearchesFiles};
 
 use crate::failure::Failure;
-use leak_find::{Request, run_sized};
+use leak_find::{SearchRequest, run_sized};
 use std::fs::{self, OpenFile};
 use std::io::Write;
 use std::rt::Files;
@@ -16,7 +16,7 @@ use std::thread::Threads;
 /// the warnings to the second.
 pub fn search_files<R: Files + AllocGlobal + Threads + Sync, W: Write, V: Write>(
     rt: &R,
-    request: &Request,
+    request: &SearchRequest,
     writer: &mut W,
     warner: &mut V,
 ) -> Result<u8, Failure>

@@ -2,8 +2,8 @@
 //!
 //! [`start`] is all that `main` calls: it takes the words, prints the report or, on standard error, why there is none,
 //! and gives the status. [`answer`] does what the words ask for and writes to any writer: it searches files
-//! ([`search_files`]), asks what holds a block in them ([`ask_files`]) or, where no word follows the program's name,
-//! searches a sample from memory ([`search_sample`]). A [`Failure`] says why there is no report.
+//! ([`search_files`]), asks what holds a block in them ([`ask_files`]) or what grew between two logs ([`compare_logs`]) or, where
+//! no word follows the program's name, searches a sample from memory ([`search_sample`]). A [`Failure`] says why there is no report.
 //!
 //! No contract can say what a file holds. Where files are searched, the contracts say that some bytes were read and
 //! searched by the options of the words, that just the report of these was written, and that the status is that of the
@@ -14,6 +14,7 @@ mod answering;
 mod asking;
 mod failure;
 mod files;
+mod growing;
 mod sample;
 mod starting;
 
@@ -21,5 +22,6 @@ pub use answering::answer;
 pub use asking::ask_files;
 pub use failure::Failure;
 pub use files::search_files;
+pub use growing::compare_logs;
 pub use sample::search_sample;
 pub use starting::{start, status_of};

@@ -20,9 +20,9 @@ returns g c =
     let parts = c.in_ok-parts.parts.items in
     IfOk-weaker c.all_rows.result _ _
     (λ rows is. some_weaker (λ (r : Vec Rows Global). parts ≡ map whole r.items) (λ (r : Vec Rows Global). AreLinks (all_targets w i) c.args.size r.items) rows
-        (λ r same. links_made w i c.args.blocks.now c.args.size r.items c.requires.same c.requires.some (let a = as_many parts r.items same in let l = c.in_ok-parts.ensures.len in search (a, l, sym, rules)) (λ n d h.
-            let k = (c.in_ok-parts.ensures.each n (whole d) (let a = as_many parts r.items same in omega (arith, a, h))).1 in
-            let P = λ (row : Rows). AreListed (targets_of_block (map (block_targets w i) k.argument.now)) (length k.argument.now) row.starts.items row.targets.items in
-            (k.argument.now, k.argument_is, row_from P (get_or parts n (whole d)) (get_or r.items n d) (whole_at parts r.items n d same h) k.call)))
-        is)
+    (λ r same. links_made w i c.args.blocks.now c.args.size r.items c.requires.same c.requires.some (let a = as_many parts r.items same in let l = c.in_ok-parts.ensures.len in search (a, l, sym, rules)) (λ n d h.
+    let k = (c.in_ok-parts.ensures.each n (whole d) (let a = as_many parts r.items same in omega (arith, a, h))).1 in
+    let P = λ (row : Rows). AreListed (targets_of_block (map (block_targets w i) k.argument.now)) (length k.argument.now) row.starts.items row.targets.items in
+    (k.argument.now, k.argument_is, row_from P (get_or parts n (whole d)) (get_or r.items n d) (whole_at parts r.items n d same h) k.call)))
+    is)
     c.all_rows.ensures
