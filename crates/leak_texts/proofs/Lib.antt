@@ -1,0 +1,3 @@
+pub mod MeetingLemmas
+pub mod SortLemmas
+pub mod NumberLemmas

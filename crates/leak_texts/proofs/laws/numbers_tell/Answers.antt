@@ -1,0 +1,5 @@
+use Rattle.leak_texts.proofs.NumberLemmas.{numbers_tell}
+use Rattle.leak_texts.proofs.laws.numbers_tell.Goals as goal
+
+pub returns : goal.returns
+returns c = numbers_tell

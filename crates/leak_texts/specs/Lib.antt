@@ -1,0 +1,4 @@
+pub mod Numbered
+pub mod Meeting
+pub mod Laws
+pub mod Rows
