@@ -39,6 +39,15 @@ if [ "$attaches" ]; then
     reported traced --list $process
     verdict 'with a table: named' "$(expected "$kit/tests/plain.c")" "$(named traced.out)"
     verdict 'with a table: who asked' 1 "$(grep -c 'plain\.c:' traced.out | awk '{ print ($1 > 0) }')"
+    reported first_rows -n 2 $process
+    verdict 'the first two callers: the others are summed up' 1 "$(grep -c '^and [0-9]* more: [0-9]* bytes, [0-9]* blocks, [0-9]* heads$' first_rows.out)"
+    verdict 'two rows and their sum are all' "$(awk '/^leaked / { print $2, $4 }' first_rows.out)" \
+        "$(awk '/^ *[0-9]+ +[0-9]+ +[0-9]+  / { bytes += $1; blocks += $2 } /^and / { bytes += $4; blocks += $6 } END { print blocks, bytes }' first_rows.out)"
+    mkdir -p no_python && printf '#!/bin/sh\nexit 127\n' > no_python/python3 && chmod +x no_python/python3
+    PATH=$PWD/no_python:$PATH reported unnamed --list $process
+    verdict 'no python3: the report as it is' "1 $(expected "$kit/tests/plain.c") 1" \
+        "$status $(named unnamed.out) $(grep -c 'leak_lines failed' unnamed.said)"
+    verdict 'no python3: its callers' yes "$(grep -q '^caller ' unnamed.out && echo yes)"
     stop $process
 fi
 if [ "$dumps_core" ]; then
@@ -53,8 +62,12 @@ fi
 reported none 999999999
 verdict 'no such process' 2 $status
 reported nothing
-verdict 'no word' 'usage: leak_report [--keep DIR] [--after DIR] [--list] PID | CORE [TABLE]' "$(cat nothing.said)"
+verdict 'no word' 'usage: leak_report [--keep DIR] [--after DIR] [--list] [-n N] PID | CORE [TABLE]' "$(cat nothing.said)"
 reported odd --other 1
 verdict 'no option' 2 $status
-verdict 'no output where it refuses' '' "$(cat none.out nothing.out odd.out)"
+for number in '' 0 x 1x -1 1000000000000000000000; do
+    reported number -n "$number" 999999999
+    verdict "-n '$number'" "2 usage: leak_report [--keep DIR] [--after DIR] [--list] [-n N] PID | CORE [TABLE]" "$status $(cat number.said)"
+done
+verdict 'no output where it refuses' '' "$(cat none.out nothing.out odd.out number.out)"
 unset LEAK_FIND
