@@ -12,7 +12,8 @@ from texts import held, lost, misfits
 
 HELP = Path(__file__).parent / "help"
 PROGRAM = "leak_find <COMMAND>"
-USAGE = {"one": "<CORE> <LOG>", "two": "<CORE1> <LOG1> <CORE2> <LOG2>", "why": "<CORE> <LOG> <ADDRESS>"}
+USAGE = {"one": "<CORE> <LOG>", "two": "<CORE1> <LOG1> <CORE2> <LOG2>", "why": "<CORE> <LOG> <ADDRESS>",
+         "holders": "<CORE> <LOG>", "grow": "<LOG1> <LOG2>"}
 ONE = "one core.k trace.log "
 READING = ("--skip-ends", "--all-memory", "--skip-freed", "--skip-links")  # the flags that `why` has too
 
@@ -37,8 +38,8 @@ def bad(name, line, error, usage="", tip=""):
 def of_help():
     """Help goes to standard error, with status 2: it is no request."""
     rows = [("--help", "program"), ("-h", "program"), ("help", "program"), ("one --help", "one"), ("two -h", "two"),
-            ("why --help", "why"),
-            ("help one", "one"), ("help two", "two"), ("help why", "why"), ("one core.k trace.log --help", "one"),
+            ("why --help", "why"), ("holders --help", "holders"), ("grow -h", "grow"),
+            ("help one", "one"), ("help two", "two"), ("help why", "why"), ("help holders", "holders"), ("help grow", "grow"), ("one core.k trace.log --help", "one"),
             ("one --help --nonsense", "one")]
     return [case(f"help: {line}", "help is no request", line, {}, "", (HELP / f"{name}.txt").read_bytes(), 2) for line,
             name in rows]
@@ -74,6 +75,10 @@ def of_paths():
         bad("five paths", "two a b c d e", "unexpected argument 'e' found", usage_of("two")),
         bad("why without an address", "why a b", f"{missing}\n  <ADDRESS>", usage_of("why", "")),
         bad("two addresses", "why a b 0x1 c", "unexpected argument 'c' found", usage_of("why")),
+        bad("holders without a log", "holders a", f"{missing}\n  <LOG>", usage_of("holders", "")),
+        bad("holders of three files", "holders a b c", "unexpected argument 'c' found", usage_of("holders")),
+        bad("grow of one log", "grow a", f"{missing}\n  <LOG2>", usage_of("grow", "")),
+        bad("grow of three logs", "grow a b c", "unexpected argument 'c' found", usage_of("grow")),
     ]
 
 
@@ -109,8 +114,12 @@ def of_flags():
         found.append(bad(f"why with {option}", f"why a b 0x1 {option}", f"unexpected argument '{option}' found",
                          usage_of("why", ""),
                          f"to pass '{option}' as a value, use '-- {option}'"))
+    for line, option, command in (("holders a b", "--check", "holders"), ("grow a b", "--other-heap", "grow"),
+                                  ("grow a b", "--skip-freed", "grow")):
+        found.append(bad(f"{command} with {option}", f"{line} {option}", f"unexpected argument '{option}' found",
+                         usage_of(command, ""), f"to pass '{option}' as a value, use '-- {option}'"))
     for flag in READING:
-        for command, line in (("two", "two a b c d "), ("why", "why a b 0x1 ")):
+        for command, line in (("two", "two a b c d "), ("why", "why a b 0x1 "), ("holders", "holders a b ")):
             found.append(bad(f"{command} with {flag} twice", f"{line}{flag} {flag}",
                              f"the argument '{flag}' cannot be used multiple times", usage_of(command)))
             found.append(bad(f"{command} with {flag} and a value", f"{line}{flag}=true",
@@ -143,6 +152,7 @@ def of_lists():
     return [*found, bad("no list", ONE + "--displace", "a value is required for '--displace <LIST>' but none was supplied"),
             bad("two lists", ONE + "--displace 8 --displace 16",
                 "the argument '--displace <LIST>' cannot be used multiple times", usage_of("one")),
+            refused("list: of holders", "as of a search", "holders a b --displace x", {}, "--displace: item 0 is not a number"),
             refused("list: of two cores", "as of one", "two a b c d --displace x", {}, "--displace: item 0 is not a number"),
             refused("list: before the heap", "the list is refused first", ONE + "--check --other-heap --displace x", {},
                     "--displace: item 0 is not a number"),

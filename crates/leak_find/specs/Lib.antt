@@ -1,3 +1,4 @@
 pub mod Run
 pub mod Why
 pub mod Grow
+pub mod Holders

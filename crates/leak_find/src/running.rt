@@ -148,7 +148,11 @@ fn heeded(alloc: Global, other_heap: bool, signs: &[Signs]) -> Result<Vec<Signs>
 }
 
 /// The warnings of a search that found these signs.
-fn warnings_by(alloc: Global, options: &Options, signs: &[Signs]) -> Result<String, AllocError>
+pub(crate) fn warnings_by(
+    alloc: Global,
+    options: &Options,
+    signs: &[Signs],
+) -> Result<String, AllocError>
     ensures { IfOk result (λ out. string_bytes out ≡ warnings_by options.now signs.now) }
 {
     let heeded = heeded(alloc, options.other_heap, signs)?;

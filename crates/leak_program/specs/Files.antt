@@ -3,11 +3,13 @@ use Rattle.std.specs.Prelude.{ℕ, List, Option, Contains, map, string_bytes}
 use Rattle.std.specs.Io.KnownBytes.{Keeps}
 use Rattle.leak_request.specs.declared.options.GrowOptions.{GrowOptions}
 use Rattle.leak_request.specs.declared.options.GrowRequest.{GrowRequest}
+use Rattle.leak_request.specs.declared.options.HoldersRequest.{HoldersRequest}
 use Rattle.leak_request.specs.declared.options.Options.{Options}
 use Rattle.leak_request.specs.declared.options.SearchRequest.{SearchRequest}
 use Rattle.leak_request.specs.declared.options.WhyRequest.{WhyRequest}
 use Rattle.leak_find.specs.declared.fault.RunFault.{RunFault}
 use Rattle.leak_find.specs.Grow.{IsGrowRunFault, RunsGrow}
+use Rattle.leak_find.specs.Holders.{IsHoldersRunFault, RunsHolders}
 use Rattle.leak_find.specs.Run.{IsRunFault, Runs}
 use Rattle.leak_find.specs.Why.{IsWhyRunFault, RunsWhy}
 use Rattle.leak_program.specs.declared.failure.Failure.{Failure}
@@ -50,6 +52,20 @@ IsOpenFault paths (Open path) = Contains paths (string_bytes path)
 IsOpenFault paths (Run fault) = ⊥
 IsOpenFault paths NoMemory = Unit {0}
 
+-- some readers were read by the options, and who holds the memory was written, and nothing else, and the warnings to the second
+-- writer, or a first part of them; the status is that of the warnings
+pub record HoldsFiles (o : Options) (held holds heard hears : Option (List ℕ))
+    (status : ℕ) : Type 0 where
+  pub before : List (Option (List ℕ))
+  pub after : List (Option (List ℕ))
+  pub runs : RunsHolders o before after held holds heard hears status
+
+-- some readers were read by the options, and it isn't told who holds the memory, for this reason
+pub record FailsHeld (o : Options) (held holds : Option (List ℕ)) (fault : RunFault) : Type 0 where
+  pub before : List (Option (List ℕ))
+  pub after : List (Option (List ℕ))
+  pub fails : IsHoldersRunFault o before after held holds fault
+
 -- some logs were read by the options, and what grew between them was written, and nothing else, and the warnings to the second
 -- writer, or a first part of them; the status is that of the warnings
 pub record GrowsFiles (o : GrowOptions) (held holds heard hears : Option (List ℕ))
@@ -72,13 +88,16 @@ IsRefusalOf fails paths held holds (Open path) = Keeps held holds × Contains pa
 IsRefusalOf fails paths held holds (Run fault) = fails fault
 IsRefusalOf fails paths held holds NoMemory = Keeps held holds
 
--- so of files that are searched, that are asked for a block, and of logs
+-- so of files that are searched, that are asked for a block or who holds the memory, and of logs
 abbrev pub IsFileFault : SearchRequest → Option (List ℕ) → Option (List ℕ) → Failure → Type 0
 IsFileFault r held holds failure = IsRefusalOf (FailsFiles r.options held holds) (map string_bytes r.paths.items) held holds failure
 
 abbrev pub IsAskFailure : WhyRequest → Option (List ℕ) → Option (List ℕ) → Failure → Type 0
 IsAskFailure r held holds failure =
     IsRefusalOf (FailsAsked r.options r.address held holds) (map string_bytes r.paths.items) held holds failure
+
+abbrev pub IsHoldersFailure : HoldersRequest → Option (List ℕ) → Option (List ℕ) → Failure → Type 0
+IsHoldersFailure r held holds failure = IsRefusalOf (FailsHeld r.options held holds) (map string_bytes r.paths.items) held holds failure
 
 abbrev pub IsGrowFailure : GrowRequest → Option (List ℕ) → Option (List ℕ) → Failure → Type 0
 IsGrowFailure r held holds failure = IsRefusalOf (FailsGrown r.options held holds) (map string_bytes r.paths.items) held holds failure

@@ -9,6 +9,7 @@ use crate::asking::ask_files;
 use crate::failure::Failure;
 use crate::files::search_files;
 use crate::growing::compare_logs;
+use crate::holding::tell_holders;
 use crate::sample::search_sample;
 use leak_find::{Request, request};
 use std::io::Write;
@@ -18,8 +19,8 @@ use std::thread::Threads;
 /// Searches what the words ask for, which begin with the program's name, writes the report to the first writer and then
 /// the warnings to the second, and gives the status: 0 where nothing leaked, and 1 otherwise; with `--strict`, 3 where
 /// there is a warning. Where the words ask what holds a block, the answer is written to the first writer, and the status
-/// is 0 where the block is held, and 1 where it leaked. Where they ask what grew, the answer is written to the first writer and
-/// the warnings to the second, and the status is 0, or 3 by `--strict`.
+/// is 0 where the block is held, and 1 where it leaked. Where they ask who holds the memory, or what grew, the answer is
+/// written to the first writer and the warnings to the second, and the status is 0, or 3 by `--strict`.
 ///
 /// Where no word follows the name, a sample is searched. After a refusal nothing is written, unless it is the writer
 /// that failed.
@@ -45,6 +46,7 @@ pub fn answer<R: Files + AllocGlobal + Threads + Sync, W: Write, V: Write>(
     match request(rt.alloc(), words)? {
         Request::Search(request) => search_files(rt, &request, writer, warner),
         Request::Why(request) => ask_files(rt, &request, writer),
+        Request::Holders(request) => tell_holders(rt, &request, writer, warner),
         Request::Grow(request) => compare_logs(rt, &request, writer, warner),
     }
 }

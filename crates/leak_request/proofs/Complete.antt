@@ -6,7 +6,7 @@ use Rattle.std.specs.Prelude.{IsSome, String, string_bytes, unwrap_or}
 use Rattle.clap.specs.Words.{Row, Text, first_of}
 use Rattle.leak_pool.specs.Plan.{IsBetween, Numbers}
 use Rattle.leak_request.specs.CommandLine.{address_id, name_of, path_ids}
-use Rattle.leak_request.specs.Requests.{AreAt, AreNumbersAt, Lacks, WhyLacks}
+use Rattle.leak_request.specs.Requests.{AreAt, AreNumbersAt, HoldersLacks, Lacks, WhyLacks}
 
 -- texts that are the values of the ids show that each id has a value
 pub all_there : {A : Type 0} (rows : List Row) (ids : List Text) (texts : List (String A)) → AreAt rows ids texts → All (λ id. IsSome (first_of id rows)) ids
@@ -43,3 +43,9 @@ pub none_lacks_why : {A : Type 0} (rows : List Row) (paths : List (String A)) (w
     → Some word ≡ first_of address_id rows → WhyLacks rows → ⊥
 none_lacks_why rows paths word there some (inl lacks) = lacks (all_there rows (path_ids false) paths there)
 none_lacks_why rows paths word there some (inr none) = let no : Some word ≡ None = some ∙ none in cc
+
+-- nor to ask who holds the memory
+pub none_lacks_holders : {A : Type 0} (rows : List Row) (paths : List (String A)) (n : Numbers) → AreAt rows (path_ids false) paths
+    → IsBetween 1 64 n.workers → IsBetween 1 65536 n.piece → n.stack ≤ 65536 → AreNumbersAt rows n.workers n.piece n.stack → HoldersLacks rows → ⊥
+none_lacks_holders rows paths n there workers piece stack at (inl lacks) = lacks (all_there rows (path_ids false) paths there)
+none_lacks_holders rows paths n there workers piece stack at (inr lacks) = lacks n workers piece stack at

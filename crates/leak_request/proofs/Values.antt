@@ -11,7 +11,7 @@ use Rattle.leak_request.specs.declared.fault.UsageFault.TheVariants as fault
 use Rattle.leak_request.specs.CommandLine.{path_ids}
 use Rattle.leak_request.specs.Requests.{AreAt, HasFiles, IsBadBy, IsRequest, LacksOneOf, Writes, file_count}
 use Rattle.leak_request.specs.declared.options.Request.{Request}
-use Rattle.leak_request.specs.declared.options.Request.TheVariants.{Search, Why, Grow}
+use Rattle.leak_request.specs.declared.options.Request.TheVariants.{Search, Why, Holders, Grow}
 
 -- a number that was read is the one that the text writes
 pub number_read : {E : Type 0} (gives : List ℕ → Result ℕ E → Type 0) (r : Option ℕ) (text row : Option (List ℕ)) → text ≡ row
@@ -55,4 +55,5 @@ paths_of rows false paths at = sym (length-map paths _) ∙ ap length at
 pub files_of : (name : Text) (rows : List Row) (r : Request) → IsRequest name rows r → HasFiles r
 files_of name rows (Search r) is = paths_of rows r.options.two r.paths.items is.paths
 files_of name rows (Why r) is = (is.1.two, paths_of rows false r.paths.items is.1.paths)
+files_of name rows (Holders r) is = (is.1.two, paths_of rows false r.paths.items is.1.paths)
 files_of name rows (Grow r) is = sym (length-map r.paths.items _) ∙ ap length is.1.paths

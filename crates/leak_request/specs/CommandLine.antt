@@ -35,9 +35,13 @@ abbrev pub reading_rules : List Rule
 reading_rules = text_rule (codes "displace") ∷ flag_rule (codes "skip-ends") ∷ flag_rule (codes "all-memory")
     ∷ flag_rule (codes "skip-freed") ∷ flag_rule (codes "skip-links") ∷ []
 
+-- the options about warnings
+abbrev pub warning_rules : List Rule
+warning_rules = flag_rule (codes "other-heap") ∷ flag_rule (codes "strict") ∷ []
+
 -- the options about the signs that a core and its log don't belong together
 abbrev pub sign_rules : List Rule
-sign_rules = flag_rule (codes "check") ∷ flag_rule (codes "other-heap") ∷ flag_rule (codes "strict") ∷ []
+sign_rules = flag_rule (codes "check") ∷ warning_rules
 
 -- the subcommand of a search of one core, or of two
 abbrev pub name_of : Bool → Text
@@ -73,6 +77,15 @@ address_id = codes "address"
 abbrev pub why_line : App
 why_line = with_rules (with_rules (new_app why_name) (map operand_rule (path_ids false ++ address_id ∷ []))) reading_rules
 
+-- the subcommand that asks who holds the memory
+abbrev pub holders_name : Text
+holders_name = codes "holders"
+
+-- `leak_find holders CORE LOG`
+abbrev pub holders_line : App
+holders_line =
+    with_rules (with_rules (with_rules (with_rules (new_app holders_name) (map operand_rule (path_ids false))) plan_rules) reading_rules) warning_rules
+
 -- the subcommand that asks what grew
 abbrev pub grow_name : Text
 grow_name = codes "grow"
@@ -91,8 +104,9 @@ naming_subcommand a = record a { top = record a.top { subcommand_required = true
 
 -- the whole command line
 abbrev pub command_line : App
-command_line = with_subcommand (with_subcommand (with_subcommand (with_subcommand (naming_subcommand (new_app (codes "leak_find")))
-    (search_line false).top) (search_line true).top) why_line.top) grow_line.top
+command_line =
+    with_subcommand (with_subcommand (with_subcommand (with_subcommand (with_subcommand (naming_subcommand (new_app (codes "leak_find")))
+    (search_line false).top) (search_line true).top) why_line.top) holders_line.top) grow_line.top
 
 -- an argument of the command or of a subcommand counts in each subcommand
 abbrev pub has_globals : Command → Bool

@@ -8,14 +8,15 @@ use Rattle.clap.specs.Faults.{fault_of}
 use Rattle.leak_index.specs.Readings.{distances_of, listed_by}
 use Rattle.leak_pool.specs.Plan.{IsBetween, Numbers}
 use Rattle.leak_request.specs.Address.{IsAddress}
-use Rattle.leak_request.specs.CommandLine.{address_id, command_line, grow_ids, grow_name, name_of, path_ids, why_name}
+use Rattle.leak_request.specs.CommandLine.{address_id, command_line, grow_ids, grow_name, holders_name, name_of, path_ids, why_name}
 use Rattle.leak_request.specs.Displacements.{IsListed, displace_fault_of}
 use Rattle.leak_request.specs.declared.fault.DisplaceFault.{DisplaceFault}
 use Rattle.leak_request.specs.declared.fault.UsageFault.{UsageFault}
 use Rattle.leak_request.specs.declared.fault.UsageFault.TheVariants as fault
 use Rattle.leak_request.specs.declared.options.GrowRequest.{GrowRequest}
+use Rattle.leak_request.specs.declared.options.HoldersRequest.{HoldersRequest}
 use Rattle.leak_request.specs.declared.options.Request.{Request}
-use Rattle.leak_request.specs.declared.options.Request.TheVariants.{Search, Why, Grow}
+use Rattle.leak_request.specs.declared.options.Request.TheVariants.{Search, Why, Holders, Grow}
 use Rattle.leak_request.specs.declared.options.SearchRequest.{SearchRequest}
 use Rattle.leak_request.specs.declared.options.WhyRequest.{WhyRequest}
 
@@ -95,6 +96,22 @@ pub record IsWhyRequest (rows : List Row) (r : WhyRequest) : Type 0 where
   pub core_limit : r.options.core_limit ≡ 68719476736
   pub log_limit : r.options.log_limit ≡ 4294967296
 
+-- the request for who holds the memory: a search of one core that lists no misfits
+pub record IsHoldersRequest (rows : List Row) (r : HoldersRequest) : Type 0 where
+  pub two : r.options.two ≡ false
+  pub paths : AreAt rows (path_ids false) r.paths.items
+  pub numbers : AreNumbersAt rows r.options.plan.workers r.options.plan.piece r.options.plan.stack
+  pub reading : IsListedBy (list_in rows) (listed_by r.options.reading)
+  pub ends : IsTrue (distances_of r.options.reading).skips_ends ↔ IsGiven rows (codes "skip-ends")
+  pub freed : IsTrue r.options.skip.freed ↔ IsGiven rows (codes "skip-freed")
+  pub links : IsTrue r.options.skip.links ↔ IsGiven rows (codes "skip-links")
+  pub unwritable : IsFalse r.options.skip.unwritable ↔ IsGiven rows (codes "all-memory")
+  pub check : r.options.check ≡ false
+  pub other_heap : IsTrue r.options.other_heap ↔ IsGiven rows (codes "other-heap")
+  pub strict : IsTrue r.options.strict ↔ IsGiven rows (codes "strict")
+  pub core_limit : r.options.core_limit ≡ 68719476736
+  pub log_limit : r.options.log_limit ≡ 4294967296
+
 -- the request for what grew
 pub record IsGrowRequest (rows : List Row) (r : GrowRequest) : Type 0 where
   pub paths : AreAt rows grow_ids r.paths.items
@@ -105,12 +122,14 @@ pub record IsGrowRequest (rows : List Row) (r : GrowRequest) : Type 0 where
 abbrev pub IsRequest : Text → List Row → Request → Type 0
 IsRequest name rows (Search r) = IsSearchRequest name rows r
 IsRequest name rows (Why r) = (name ≡ why_name) × IsWhyRequest rows r
+IsRequest name rows (Holders r) = (name ≡ holders_name) × IsHoldersRequest rows r
 IsRequest name rows (Grow r) = (name ≡ grow_name) × IsGrowRequest rows r
 
--- what is asked for one core is, and each request has a path for each of its files
+-- one core is searched or asked unless two are, and each request has a path for each of its files
 abbrev pub HasFiles : Request → Type 0
 HasFiles (Search r) = length r.paths.items ≡ file_count r.options.two
 HasFiles (Why r) = (r.options.two ≡ false) × (length r.paths.items ≡ 2)
+HasFiles (Holders r) = (r.options.two ≡ false) × (length r.paths.items ≡ 2)
 HasFiles (Grow r) = length r.paths.items ≡ 2
 
 -- one of the ids has no value
@@ -176,18 +195,34 @@ IsWhyRefusal rows fault.Check = ⊥
 IsWhyRefusal rows fault.Address = (WhyLacks rows → ⊥) × IsListTaken rows × IsSomeAnd (first_of address_id rows) IsBadAddress
 IsWhyRefusal rows f = IsBadBy (WhyLacks rows) f
 
+-- a path or a number that the question who holds the memory takes isn't there
+abbrev pub HoldersLacks : List Row → Type 0
+HoldersLacks rows = LacksPath rows false ⊎ LacksNumber rows
+
+-- Why what clap found doesn't ask who holds the memory: something isn't there, which is answered first; or all is there and the
+-- list is refused.
+abbrev pub IsHoldersRefusal : List Row → UsageFault → Type 0
+IsHoldersRefusal rows (fault.Displace f) = (HoldersLacks rows → ⊥) × IsListFaultAt rows f
+IsHoldersRefusal rows fault.Check = ⊥
+IsHoldersRefusal rows fault.Address = ⊥
+IsHoldersRefusal rows f = IsBadBy (HoldersLacks rows) f
+
 -- why what clap found doesn't ask what grew: a path isn't there
 abbrev pub IsGrowRefusal : List Row → UsageFault → Type 0
 IsGrowRefusal rows f = IsBadBy (LacksOneOf rows grow_ids) f
 
 -- the subcommand is a search, or none that is known
-abbrev pub IsNeither : Text → Type 0
-IsNeither name = (name ≡ why_name → ⊥) × (name ≡ grow_name → ⊥)
+pub record IsOther (name : Text) : Type 0 where
+  pub why : name ≡ why_name → ⊥
+  pub holders : name ≡ holders_name → ⊥
+  pub grow : name ≡ grow_name → ⊥
 
 -- why what clap found for the subcommand is no request
 abbrev pub IsRefusedAt : Text → List Row → UsageFault → Type 0
 IsRefusedAt name rows f =
-    ((name ≡ why_name) × IsWhyRefusal rows f) ⊎ (((name ≡ grow_name) × IsGrowRefusal rows f) ⊎ (IsNeither name × IsSearchRefusal name rows f))
+    ((name ≡ why_name) × IsWhyRefusal rows f)
+    ⊎ (((name ≡ holders_name) × IsHoldersRefusal rows f)
+    ⊎ (((name ≡ grow_name) × IsGrowRefusal rows f) ⊎ (IsOther name × IsSearchRefusal name rows f)))
 
 -- clap takes the words, and the request is that of the subcommand that they name
 pub record IsRequestOf (words : List Text) (r : Request) : Type 0 where

@@ -6,9 +6,9 @@ ghost use Rattle.clap.specs.Words.{first_of, kind_of};
 ghost use Rattle.leak_index.specs.Readings.{distances_of, listed_by};
 ghost use Rattle.leak_request.specs.CommandLine.{grow_ids, name_of, path_ids};
 ghost use Rattle.leak_request.specs.Requests.{AreAt, AreNumbersAt, IsBadBy, IsGiven, IsListFaultAt, IsListedBy};
-ghost use Rattle.leak_request.specs.Requests.{IsGrowRefusal, IsNumberAt, IsRefusedAt, IsSearchRefusal, IsWhyRefusal};
+ghost use Rattle.leak_request.specs.Requests.{IsGrowRefusal, IsHoldersRefusal, IsNumberAt, IsRefusedAt, IsSearchRefusal, IsWhyRefusal};
 ghost use Rattle.leak_request.specs.Requests.{LacksNumber, LacksNumberAt, LacksOneOf};
-ghost use Rattle.leak_request.specs.Requests.{HasFiles, IsGrowRequest, IsRequest, IsRequestOf, IsSearchRequest};
+ghost use Rattle.leak_request.specs.Requests.{HasFiles, IsGrowRequest, IsHoldersRequest, IsRequest, IsRequestOf, IsSearchRequest};
 ghost use Rattle.leak_request.specs.Requests.{IsUsageFaultOf, IsWhyRequest, found_rows, list_in};
 
 use crate::address::address;
@@ -16,7 +16,8 @@ use crate::command_line::command;
 use crate::displacements::read_displace;
 use crate::fault::{DisplaceFault, UsageFault};
 use crate::options::{
-    CORE_LIMIT, GrowOptions, GrowRequest, LOG_LIMIT, Options, Request, SearchRequest, WhyRequest,
+    CORE_LIMIT, GrowOptions, GrowRequest, HoldersRequest, LOG_LIMIT, Options, Request,
+    SearchRequest, WhyRequest,
 };
 use clap::error::ErrorKind;
 use clap::{ArgMatches, Error};
@@ -63,6 +64,7 @@ fn request_of(alloc: Global, name: &str, found: &ArgMatches) -> Result<Request, 
 {
     match name {
         "why" => Ok(Request::Why(why_request(alloc, found)?)),
+        "holders" => Ok(Request::Holders(holders_request(alloc, found)?)),
         "grow" => Ok(Request::Grow(grow_request(alloc, found)?)),
         _ => Ok(Request::Search(search_request(alloc, name, found)?)),
     }
@@ -137,6 +139,33 @@ fn why_request(alloc: Global, found: &ArgMatches) -> Result<WhyRequest, UsageFau
             log_limit: LOG_LIMIT,
         },
         address,
+    })
+}
+
+/// The request for who holds the memory, where clap found this for it.
+fn holders_request(alloc: Global, found: &ArgMatches) -> Result<HoldersRequest, UsageFault>
+    ensures ok { IfOk result (IsHoldersRequest (found_rows found.now)) }
+    ensures refused { IfErr result (IsHoldersRefusal (found_rows found.now)) }
+{
+    let paths = paths(alloc, found, ONE.as_slice())?;
+    let plan = plan(alloc, found)?;
+    let reading = match reading(found) {
+        Ok(reading) => reading,
+        Err(fault) => return Err(UsageFault::Displace(fault)),
+    };
+    Ok(HoldersRequest {
+        paths,
+        options: Options {
+            two: false,
+            reading,
+            skip: skip(found),
+            plan,
+            other_heap: is_given(found, "other-heap"),
+            check: false,
+            strict: is_given(found, "strict"),
+            core_limit: CORE_LIMIT,
+            log_limit: LOG_LIMIT,
+        },
     })
 }
 

@@ -2,9 +2,9 @@
 
 ghost use Rattle.std.specs.Prelude.{◌≡◌, IfOk, false, true, codes};
 ghost use Rattle.clap.specs.Words.{app_of, rule_of};
-ghost use Rattle.leak_request.specs.CommandLine.{command_line, flag_rule, grow_line, has_globals, number_rule, operand_rule};
+ghost use Rattle.leak_request.specs.CommandLine.{command_line, flag_rule, grow_line, has_globals, holders_line, number_rule, operand_rule};
 ghost use Rattle.leak_request.specs.CommandLine.{plan_rules, reading_rules, search_line, sign_rules, text_rule};
-ghost use Rattle.leak_request.specs.CommandLine.{why_line, with_options, with_rules};
+ghost use Rattle.leak_request.specs.CommandLine.{warning_rules, why_line, with_options, with_rules};
 
 use clap::{Arg, ArgAction, Command};
 use std::alloc::{AllocError, Global};
@@ -57,8 +57,8 @@ const OTHER_HEAP: &str = "The allocator is not glibc's: don't compare its heap w
 /// What help says of `--strict`.
 const STRICT: &str = "Exit with status 3 where there is a warning";
 
-/// `leak_find`, with a subcommand for the search of one core, one for that of two, one that asks for a block, and one that asks
-/// what grew.
+/// `leak_find`, with a subcommand for the search of one core, one for that of two, one that asks for a block, one
+/// that asks who holds the memory, and one that asks what grew.
 pub(crate) fn command<'a>(alloc: Global) -> Result<Command<'a>, AllocError>
     ensures { IfOk result (λ c. app_of c ≡ command_line) }
 {
@@ -69,6 +69,7 @@ pub(crate) fn command<'a>(alloc: Global) -> Result<Command<'a>, AllocError>
         .subcommand(one(alloc)?)?
         .subcommand(two(alloc)?)?
         .subcommand(why(alloc)?)?
+        .subcommand(holders(alloc)?)?
         .subcommand(grow(alloc)?)
 }
 
@@ -119,6 +120,19 @@ fn why<'a>(alloc: Global) -> Result<Command<'a>, AllocError>
     with_reading(alloc, command)
 }
 
+fn holders<'a>(alloc: Global) -> Result<Command<'a>, AllocError>
+    ensures line { IfOk result (λ c. app_of c ≡ holders_line) }
+    ensures local { IfOk result (λ c. has_globals c ≡ false) }
+{
+    let command = Command::new(alloc, "holders")
+        .about("Tells which callers' blocks hold the memory that pointers reach")
+        .arg(operand(alloc, "core", "CORE", CORE))?
+        .arg(operand(alloc, "log", "LOG", LOG))?;
+    let command = with_plan(alloc, command)?;
+    let command = with_reading(alloc, command)?;
+    with_warnings(alloc, command)
+}
+
 fn grow<'a>(alloc: Global) -> Result<Command<'a>, AllocError>
     ensures line { IfOk result (λ c. app_of c ≡ grow_line) }
     ensures local { IfOk result (λ c. has_globals c ≡ false) }
@@ -159,8 +173,16 @@ fn with_signs<'a>(alloc: Global, command: Command<'a>) -> Result<Command<'a>, Al
     ensures line { IfOk result (λ c. app_of c ≡ with_rules (app_of command.entry) sign_rules) }
     ensures local { IfOk result (λ c. has_globals c ≡ has_globals command.entry) }
 {
+    let command = command.arg(flag(alloc, "check", CHECK))?;
+    with_warnings(alloc, command)
+}
+
+/// The command with the options about warnings.
+fn with_warnings<'a>(alloc: Global, command: Command<'a>) -> Result<Command<'a>, AllocError>
+    ensures line { IfOk result (λ c. app_of c ≡ with_rules (app_of command.entry) warning_rules) }
+    ensures local { IfOk result (λ c. has_globals c ≡ has_globals command.entry) }
+{
     command
-        .arg(flag(alloc, "check", CHECK))?
         .arg(flag(alloc, "other-heap", OTHER_HEAP))?
         .arg(flag(alloc, "strict", STRICT))
 }

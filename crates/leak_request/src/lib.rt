@@ -1,8 +1,8 @@
 //! What the program is asked for: from the words of a command line to a request.
 //!
 //! [`request`] reads the words, which begin with the program's name, by a command line of clap: `leak_find one CORE
-//! LOG`, `leak_find two CORE1 LOG1 CORE2 LOG2`, `leak_find why CORE LOG ADDRESS` or `leak_find grow LOG1 LOG2`, with options
-//! after the subcommand. It gives a [`Request`], with the paths of the files and how they are searched or asked, or says as a
+//! LOG`, `leak_find two CORE1 LOG1 CORE2 LOG2`, `leak_find why CORE LOG ADDRESS`, `leak_find holders CORE LOG` or
+//! `leak_find grow LOG1 LOG2`, with options after the subcommand. It gives a [`Request`], with the paths of the files and how they are searched or asked, or says as a
 //! [`UsageFault`] why there is none. [`read_displace`] reads the list of `--displace`, and answers its first fault as a
 //! [`DisplaceFault`].
 //!
@@ -22,5 +22,6 @@ pub use arguments::request;
 pub use displacements::read_displace;
 pub use fault::{DisplaceFault, UsageFault};
 pub use options::{
-    CORE_LIMIT, GrowOptions, GrowRequest, LOG_LIMIT, Options, Request, SearchRequest, WhyRequest,
+    CORE_LIMIT, GrowOptions, GrowRequest, HoldersRequest, LOG_LIMIT, Options, Request,
+    SearchRequest, WhyRequest,
 };

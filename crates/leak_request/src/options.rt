@@ -53,6 +53,15 @@ pub struct WhyRequest {
     pub address: u64,
 }
 
+/// A question who holds the memory.
+#[derive(Debug, Drop)]
+pub struct HoldersRequest {
+    /// The paths of a core and of its log.
+    pub paths: Vec<String>,
+    /// How the core is searched: `two` and `check` are false.
+    pub options: Options,
+}
+
 /// How it is told what grew.
 #[derive(Clone, Copy, Debug)]
 pub struct GrowOptions {
@@ -78,6 +87,8 @@ pub enum Request {
     Search(SearchRequest),
     /// What holds a block.
     Why(WhyRequest),
+    /// Who holds the memory.
+    Holders(HoldersRequest),
     /// What grew between two logs.
     Grow(GrowRequest),
 }

@@ -1,0 +1,16 @@
+use Rattle.std.proofs.Common.{rules, ◌≤◌}
+use Rattle.leak_pool.specs.Plan.{IsBetween}
+use Rattle.leak_request.specs.Requests.{found_rows}
+use Rattle.leak_request.proofs.Complete.{none_lacks_holders}
+use Rattle.leak_request.proofs.arguments.holders_request.Goals as goal
+
+pub returns-in-Err-clause-refused : goal.returns-in-Err-clause-refused
+returns-in-Err-clause-refused c =
+    let plan = c.in_ok-plan.plan in
+    let workers : IsBetween 1 64 plan.workers = search rules in
+    let piece : IsBetween 1 65536 plan.piece = search rules in
+    let stack : plan.stack ≤ 65536 = search rules in (
+      none_lacks_holders (found_rows c.args.found.now) c.in_ok-paths.paths.items (record { workers = plan.workers; piece = plan.piece; stack = plan.stack })
+          c.in_ok-paths.ensures.ok workers piece stack c.in_ok-plan.ensures.ok,
+      c.in-Err.ensures.refused,
+    )
