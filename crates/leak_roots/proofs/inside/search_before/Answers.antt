@@ -4,7 +4,7 @@ use Rattle.std.proofs.lemmas.List.Sorted.{IsPartitionPoint-from_clause}
 use Rattle.std.specs.List.Sorted.{IsPartitionedBy}
 use Rattle.leak_blocks.specs.declared.small.Span.{Span}
 use Rattle.leak_roots.proofs.LeftOut.{lasts_ascend}
-use Rattle.leak_roots.proofs.freed.search_before.Goals as goal
+use Rattle.leak_roots.proofs.inside.search_before.Goals as goal
 
 pub returns-clause-within : goal.returns-clause-within
 returns-clause-within c =

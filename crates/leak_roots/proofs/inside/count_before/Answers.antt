@@ -1,5 +1,5 @@
 use Rattle.leak_roots.proofs.LeftOut.{past_more, later_last}
-use Rattle.leak_roots.proofs.freed.count_before.Goals as goal
+use Rattle.leak_roots.proofs.inside.count_before.Goals as goal
 
 pub loop-count-init : goal.loop-count-init
 loop-count-init c = record {
