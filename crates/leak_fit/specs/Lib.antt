@@ -2,3 +2,5 @@ pub mod Fit
 pub mod Rows
 pub mod FreeLinks
 pub mod LinkRows
+pub mod Slack
+pub mod SlackRows

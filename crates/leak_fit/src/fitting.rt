@@ -45,7 +45,7 @@ fn fits_core<W: Words>(words: &W, block: &Block) -> bool
 }
 
 /// Whether the size word, which stands before the block, is that of a chunk in use of the block's size.
-fn fits_word<W: Words>(words: &W, block: &Block, word: SizeWord) -> bool
+pub(crate) fn fits_word<W: Words>(words: &W, block: &Block, word: SizeWord) -> bool
     requires { 8 ≤ block.now.start }
     ensures { result ≡ fits_word (W.word_at words.now) block.now word.0 }
 {

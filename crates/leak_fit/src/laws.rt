@@ -1,6 +1,7 @@
-//! Worked chunks, and worked links.
+//! Worked chunks, worked links, and worked slack.
 ghost use Rattle.leak_fit.specs.Rows.{AreWorkedChunks};
 ghost use Rattle.leak_fit.specs.LinkRows.{AreWorkedLinks, AreWorkedHits};
+ghost use Rattle.leak_fit.specs.SlackRows.{AreWorkedSlack, AreWorkedSlackWords};
 
 /// Some size words, and whether a block fits them.
 #[tactic(auto, unfolding(crate::specs::Fit::fits_core))]
@@ -18,4 +19,10 @@ pub fn worked_links()
 #[tactic(auto, unfolding(crate::specs::FreeLinks::is_free_link))]
 pub fn worked_hits()
     ensures { AreWorkedHits }
+{}
+
+/// The slack of some blocks, and the words that lie in it.
+pub fn worked_slack()
+    ensures spans { AreWorkedSlack }
+    ensures words { AreWorkedSlackWords }
 {}

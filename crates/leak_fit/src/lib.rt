@@ -8,6 +8,9 @@
 //! the words of malloc's lists, and its pointers to the tops of heaps, are addresses of headers, which stand in the last bytes
 //! of the block before them, or one past its end. [`without_free_links`] takes such a block from the ones that a word leads to.
 //!
+//! And they tell the slack of a block: the bytes that malloc gave it beyond those that were asked for. [`slack_spans`] finds that of
+//! all live blocks that fit.
+//!
 //! The rule is that of `struct malloc_chunk` in glibc's malloc.c, on a machine with words of 8 bytes. What it reads is
 //! any `leak_elf::Words`. The contracts don't say that a block which fits is of this log: another one of its size at its
 //! address fits as well. They say nothing of other allocators, whose blocks have no such words.
@@ -17,7 +20,9 @@ mod chunk;
 mod fitting;
 mod free_link;
 mod laws;
+mod slack;
 
 pub use fitting::{count_misfits, fits};
 pub use free_link::{is_free_link, without_free_links};
-pub use laws::{worked_chunks, worked_hits, worked_links};
+pub use laws::{worked_chunks, worked_hits, worked_links, worked_slack};
+pub use slack::{SlackSpans, slack_spans};

@@ -33,7 +33,8 @@ plan_rules = number_rule (codes "workers") (codes "4") 1 64
 -- the options that say which words keep a block
 abbrev pub reading_rules : List Rule
 reading_rules = text_rule (codes "displace") ∷ flag_rule (codes "skip-ends") ∷ flag_rule (codes "all-memory")
-    ∷ flag_rule (codes "skip-freed") ∷ flag_rule (codes "skip-links") ∷ []
+    ∷ flag_rule (codes "skip-freed") ∷ flag_rule (codes "skip-links")
+    ∷ flag_rule (codes "skip-slack") ∷ []
 
 -- the options about warnings
 abbrev pub warning_rules : List Rule

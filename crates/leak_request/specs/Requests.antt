@@ -72,6 +72,7 @@ pub record IsSearchRequest (name : Text) (rows : List Row) (r : SearchRequest) :
   pub ends : IsTrue (distances_of r.options.reading).skips_ends ↔ IsGiven rows (codes "skip-ends")
   pub freed : IsTrue r.options.skip.freed ↔ IsGiven rows (codes "skip-freed")
   pub links : IsTrue r.options.skip.links ↔ IsGiven rows (codes "skip-links")
+  pub slack : IsTrue r.options.skip.slack ↔ IsGiven rows (codes "skip-slack")
   pub unwritable : IsFalse r.options.skip.unwritable ↔ IsGiven rows (codes "all-memory")
   pub check : IsTrue r.options.check ↔ IsGiven rows (codes "check")
   pub checked : IsTrue r.options.check → IsFalse r.options.other_heap
@@ -89,6 +90,7 @@ pub record IsWhyRequest (rows : List Row) (r : WhyRequest) : Type 0 where
   pub ends : IsTrue (distances_of r.options.reading).skips_ends ↔ IsGiven rows (codes "skip-ends")
   pub freed : IsTrue r.options.skip.freed ↔ IsGiven rows (codes "skip-freed")
   pub links : IsTrue r.options.skip.links ↔ IsGiven rows (codes "skip-links")
+  pub slack : IsTrue r.options.skip.slack ↔ IsGiven rows (codes "skip-slack")
   pub unwritable : IsFalse r.options.skip.unwritable ↔ IsGiven rows (codes "all-memory")
   pub check : r.options.check ≡ false
   pub other_heap : r.options.other_heap ≡ false
@@ -105,6 +107,7 @@ pub record IsHoldersRequest (rows : List Row) (r : HoldersRequest) : Type 0 wher
   pub ends : IsTrue (distances_of r.options.reading).skips_ends ↔ IsGiven rows (codes "skip-ends")
   pub freed : IsTrue r.options.skip.freed ↔ IsGiven rows (codes "skip-freed")
   pub links : IsTrue r.options.skip.links ↔ IsGiven rows (codes "skip-links")
+  pub slack : IsTrue r.options.skip.slack ↔ IsGiven rows (codes "skip-slack")
   pub unwritable : IsFalse r.options.skip.unwritable ↔ IsGiven rows (codes "all-memory")
   pub check : r.options.check ≡ false
   pub other_heap : IsTrue r.options.other_heap ↔ IsGiven rows (codes "other-heap")

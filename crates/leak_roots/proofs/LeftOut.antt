@@ -1,4 +1,4 @@
--- Places that are freed, by ranges that are apart.
+-- Places that are inside spans, by spans that are apart.
 use Rattle.std.proofs.Common.{◌≡◌, ℕ, zero, suc, ◌+◌, ◌-◌, ◌*◌, ◌/◌, ◌%◌, ◌<◌, ◌≤◌, leb, Bool, true, false, not, ◌&&◌, ◌⊎◌, inl, inr, List, [], ◌∷◌, ◌++◌, length, get_or, take, map, filter, refl, sym, ap, subst, ◌∙◌, append-nil, append_assoc, arith}
 use Rattle.std.specs.List.{AllByRecursion, list_all, range_with_len}
 use Rattle.std.proofs.lemmas.Bool.{leb-true, le-leb, cases_lt}
@@ -9,8 +9,8 @@ use Rattle.std.proofs.lemmas.List.FromFn.{get_or-range_with_len, length-range_wi
 use Rattle.leak_blocks.specs.declared.block.Block.{Block}
 use Rattle.leak_blocks.specs.declared.small.Span.{Span}
 use Rattle.leak_blocks.specs.Small.{AreApart, CoverSame, holds, is_covered}
-use Rattle.leak_roots.specs.Places.{IsRange, AreRanges, EndBy, addresses_in, memory_places}
-use Rattle.leak_roots.specs.Roots.{is_freed, outside_places, freed_places, root_places}
+use Rattle.leak_roots.specs.Places.{Places, IsRange, AreRanges, EndBy, addresses_in, memory_places}
+use Rattle.leak_roots.specs.Roots.{AreRootsOf, is_inside, outside_places, freed_places, root_places}
 use Rattle.leak_roots.proofs.Addresses.{addresses_in-split}
 use Rattle.leak_roots.proofs.Ranges.{end_later, ranges_push, places_push, all_push}
 
@@ -120,8 +120,8 @@ all_true p a zero h = refl
 all_true p a (suc n) h = rw (h a (omega arith) (omega arith), all_true p (a + 1) n (λ x l m. h x (omega arith) (omega arith))) refl
 
 -- all bytes of the place are in one span
-pub freed_inside : (spans : List Span) (k : ℕ) (d : Span) (a : ℕ) → k < length spans → (get_or spans k d).first ≤ a → a + 7 ≤ (get_or spans k d).last → is_freed spans a ≡ true
-freed_inside spans k d a h l m = all_true (is_covered spans) a 8 (λ x low high. covered_at spans k d x h (omega arith) (omega arith))
+pub all_inside : (spans : List Span) (k : ℕ) (d : Span) (a : ℕ) → k < length spans → (get_or spans k d).first ≤ a → a + 7 ≤ (get_or spans k d).last → is_inside spans a ≡ true
+all_inside spans k d a h l m = all_true (is_covered spans) a 8 (λ x low high. covered_at spans k d x h (omega arith) (omega arith))
 
 one_false : (p : ℕ → Bool) (a x : ℕ) → a ≤ x → x < a + 8 → p x ≡ false → list_all p (range_with_len a 8) ≡ false
 one_false p a x l m e =
@@ -152,8 +152,8 @@ after_span spans j d apart h =
     ]
 
 -- the first spans end before the place does, and the others begin behind its first byte
-pub freed_none : (spans : List Span) (k : ℕ) (d : Span) (a : ℕ) → AreApart spans → ((j : ℕ) → j < k → j < length spans → (get_or spans j d).last < a + 7) → ((j : ℕ) → k ≤ j → j < length spans → a < (get_or spans j d).first) → is_freed spans a ≡ false
-freed_none spans k d a apart past later =
+pub none_inside : (spans : List Span) (k : ℕ) (d : Span) (a : ℕ) → AreApart spans → ((j : ℕ) → j < k → j < length spans → (get_or spans j d).last < a + 7) → ((j : ℕ) → k ≤ j → j < length spans → a < (get_or spans j d).first) → is_inside spans a ≡ false
+none_inside spans k d a apart past later =
     elim (true_or_false (is_covered spans a)) [
       | inr e ↦ one_false (is_covered spans) a a (omega arith) (omega arith) e
       | inl e ↦
@@ -167,7 +167,7 @@ freed_none spans k d a apart past later =
           ]
     ]
 
--- ---- places of which each is freed, or none
+-- ---- places of which each is inside spans, or none
 
 filter_true : (p : ℕ → Bool) (f : ℕ → ℕ) (i n : ℕ) → ((k : ℕ) → i ≤ k → k < i + n → p (f k) ≡ true) → filter p (map f (range_with_len i n)) ≡ map f (range_with_len i n)
 filter_true p f i zero h = refl
@@ -186,16 +186,16 @@ pass_all p from to m h = filter_true p (λ (i : ℕ). from + 8 * i) 0 ((to - fro
 pass_none : (p : ℕ → Bool) (from to : ℕ) → from % 8 ≡ 0 → ((a : ℕ) → from ≤ a → a < to → a % 8 ≡ 0 → p a ≡ false) → filter p (addresses_in (from, to)) ≡ []
 pass_none p from to m h = filter_false p (λ (i : ℕ). from + 8 * i) 0 ((to - from) / 8) (λ k l n. h (from + 8 * k) (omega arith) (omega arith) (omega arith))
 
--- the places of the range before the cursor: those that aren't freed were added, and the others counted
-pub record AreKept (spans : List Span) (range : ℕ × ℕ) (old new : List (ℕ × ℕ)) (freed cursor : ℕ) : Type 0 where
+-- the places of the range before the cursor: those outside the spans were added, and the others counted
+pub record AreKept (spans : List Span) (range : ℕ × ℕ) (old new : List (ℕ × ℕ)) (inside cursor : ℕ) : Type 0 where
   pub low : range.0 ≤ cursor
   pub high : cursor ≤ range.1
   pub multiple : cursor % 8 ≡ 0
   pub ranges : AreRanges new
   pub ends : EndBy cursor new
-  pub kept : memory_places new ≡ memory_places old ++ filter (λ a. not (is_freed spans a)) (addresses_in (range.0, cursor))
-  pub counted : freed ≡ length (filter (is_freed spans) (addresses_in (range.0, cursor)))
-  pub few : range.0 + 8 * freed ≤ cursor
+  pub kept : memory_places new ≡ memory_places old ++ filter (λ a. not (is_inside spans a)) (addresses_in (range.0, cursor))
+  pub counted : inside ≡ length (filter (is_inside spans) (addresses_in (range.0, cursor)))
+  pub few : range.0 + 8 * inside ≤ cursor
 
 pub kept_first : (spans : List Span) (range : ℕ × ℕ) (old : List (ℕ × ℕ)) → IsRange range → AreRanges old → EndBy range.0 old → AreKept spans range old old 0 range.0
 kept_first spans range old is ranges' ends' = record {
@@ -212,10 +212,10 @@ kept_first spans range old is ranges' ends' = record {
 filter_split : (p : ℕ → Bool) (a b c : ℕ) → a % 8 ≡ 0 → b % 8 ≡ 0 → c % 8 ≡ 0 → a ≤ b → b ≤ c → filter p (addresses_in (a, c)) ≡ filter p (addresses_in (a, b)) ++ filter p (addresses_in (b, c))
 filter_split p a b c x y z l m = ap (filter p) (addresses_in-split a b c x y z l m) ∙ filter-append p (addresses_in (a, b)) (addresses_in (b, c))
 
--- places more that aren't freed
-pub kept_more : (spans : List Span) (range : ℕ × ℕ) (old new more : List (ℕ × ℕ)) (freed cursor end : ℕ) → IsRange range → AreKept spans range old new freed cursor → cursor < end → end ≤ range.1 → end % 8 ≡ 0
-    → ((a : ℕ) → cursor ≤ a → a < end → a % 8 ≡ 0 → is_freed spans a ≡ false) → more ≡ new ++ (cursor, end) ∷ [] → AreKept spans range old more freed end
-kept_more spans range old new more freed cursor end is k some high' multiple' alike e =
+-- places more outside the spans
+pub kept_more : (spans : List Span) (range : ℕ × ℕ) (old new more : List (ℕ × ℕ)) (inside cursor end : ℕ) → IsRange range → AreKept spans range old new inside cursor → cursor < end → end ≤ range.1 → end % 8 ≡ 0
+    → ((a : ℕ) → cursor ≤ a → a < end → a % 8 ≡ 0 → is_inside spans a ≡ false) → more ≡ new ++ (cursor, end) ∷ [] → AreKept spans range old more inside end
+kept_more spans range old new more inside cursor end is k some high' multiple' alike e =
     let low' = k.low in
     let f = is.from_multiple in
     let g = k.multiple in
@@ -229,21 +229,21 @@ kept_more spans range old new more freed cursor end is k some high' multiple' al
       ends = rw e (all_push (λ (r : ℕ × ℕ). r.1 ≤ end) new (cursor, end) (end_later cursor end new (omega arith) k.ends) (omega arith));
       kept = ap memory_places e ∙ places_push new (cursor, end)
           ∙ ap (λ (xs : List ℕ). xs ++ addresses_in (cursor, end)) k.kept
-          ∙ append_assoc (memory_places old) (filter (λ a. not (is_freed spans a)) (addresses_in (range.0, cursor))) (addresses_in (cursor, end))
+          ∙ append_assoc (memory_places old) (filter (λ a. not (is_inside spans a)) (addresses_in (range.0, cursor))) (addresses_in (cursor, end))
           ∙ ap (λ (xs : List ℕ). memory_places old ++ xs)
-          (ap (λ (xs : List ℕ). filter (λ a. not (is_freed spans a)) (addresses_in (range.0, cursor)) ++ xs) (sym (pass_all (λ a. not (is_freed spans a)) cursor end g (λ a l m n. ap not (alike a l m n))))
-          ∙ sym (filter_split (λ a. not (is_freed spans a)) range.0 cursor end f g multiple' low' (omega arith)));
+          (ap (λ (xs : List ℕ). filter (λ a. not (is_inside spans a)) (addresses_in (range.0, cursor)) ++ xs) (sym (pass_all (λ a. not (is_inside spans a)) cursor end g (λ a l m n. ap not (alike a l m n))))
+          ∙ sym (filter_split (λ a. not (is_inside spans a)) range.0 cursor end f g multiple' low' (omega arith)));
       counted = k.counted
-          ∙ ap length (sym (append-nil (filter (is_freed spans) (addresses_in (range.0, cursor)))))
-          ∙ ap (λ (xs : List ℕ). length (filter (is_freed spans) (addresses_in (range.0, cursor)) ++ xs)) (sym (pass_none (is_freed spans) cursor end g alike))
-          ∙ ap length (sym (filter_split (is_freed spans) range.0 cursor end f g multiple' low' (omega arith)));
+          ∙ ap length (sym (append-nil (filter (is_inside spans) (addresses_in (range.0, cursor)))))
+          ∙ ap (λ (xs : List ℕ). length (filter (is_inside spans) (addresses_in (range.0, cursor)) ++ xs)) (sym (pass_none (is_inside spans) cursor end g alike))
+          ∙ ap length (sym (filter_split (is_inside spans) range.0 cursor end f g multiple' low' (omega arith)));
       few = omega arith;
     }
 
--- places more that are freed
-pub kept_less : (spans : List Span) (range : ℕ × ℕ) (old new : List (ℕ × ℕ)) (freed more cursor end : ℕ) → IsRange range → AreKept spans range old new freed cursor → cursor < end → end ≤ range.1 → end % 8 ≡ 0
-    → ((a : ℕ) → cursor ≤ a → a < end → a % 8 ≡ 0 → is_freed spans a ≡ true) → more ≡ freed + (end - cursor) / 8 → AreKept spans range old new more end
-kept_less spans range old new freed more cursor end is k some high' multiple' alike e =
+-- places more inside the spans
+pub kept_less : (spans : List Span) (range : ℕ × ℕ) (old new : List (ℕ × ℕ)) (inside more cursor end : ℕ) → IsRange range → AreKept spans range old new inside cursor → cursor < end → end ≤ range.1 → end % 8 ≡ 0
+    → ((a : ℕ) → cursor ≤ a → a < end → a % 8 ≡ 0 → is_inside spans a ≡ true) → more ≡ inside + (end - cursor) / 8 → AreKept spans range old new more end
+kept_less spans range old new inside more cursor end is k some high' multiple' alike e =
     let low' = k.low in
     let f = is.from_multiple in
     let g = k.multiple in
@@ -256,19 +256,19 @@ kept_less spans range old new freed more cursor end is k some high' multiple' al
       ends = end_later cursor end new (omega arith) k.ends;
       kept = k.kept
           ∙ ap (λ (xs : List ℕ). memory_places old ++ xs)
-          (sym (append-nil (filter (λ a. not (is_freed spans a)) (addresses_in (range.0, cursor))))
-          ∙ ap (λ (xs : List ℕ). filter (λ a. not (is_freed spans a)) (addresses_in (range.0, cursor)) ++ xs) (sym (pass_none (λ a. not (is_freed spans a)) cursor end g (λ a l m n. ap not (alike a l m n))))
-          ∙ sym (filter_split (λ a. not (is_freed spans a)) range.0 cursor end f g multiple' low' (omega arith)));
+          (sym (append-nil (filter (λ a. not (is_inside spans a)) (addresses_in (range.0, cursor))))
+          ∙ ap (λ (xs : List ℕ). filter (λ a. not (is_inside spans a)) (addresses_in (range.0, cursor)) ++ xs) (sym (pass_none (λ a. not (is_inside spans a)) cursor end g (λ a l m n. ap not (alike a l m n))))
+          ∙ sym (filter_split (λ a. not (is_inside spans a)) range.0 cursor end f g multiple' low' (omega arith)));
       counted = e ∙ ap (λ (n : ℕ). n + (end - cursor) / 8) k.counted
-          ∙ ap (λ (n : ℕ). length (filter (is_freed spans) (addresses_in (range.0, cursor))) + n) (sym (length-addresses cursor end))
-          ∙ sym (length-append (filter (is_freed spans) (addresses_in (range.0, cursor))) (addresses_in (cursor, end)))
-          ∙ ap (λ (xs : List ℕ). length (filter (is_freed spans) (addresses_in (range.0, cursor)) ++ xs)) (sym (pass_all (is_freed spans) cursor end g alike))
-          ∙ ap length (sym (filter_split (is_freed spans) range.0 cursor end f g multiple' low' (omega arith)));
+          ∙ ap (λ (n : ℕ). length (filter (is_inside spans) (addresses_in (range.0, cursor))) + n) (sym (length-addresses cursor end))
+          ∙ sym (length-append (filter (is_inside spans) (addresses_in (range.0, cursor))) (addresses_in (cursor, end)))
+          ∙ ap (λ (xs : List ℕ). length (filter (is_inside spans) (addresses_in (range.0, cursor)) ++ xs)) (sym (pass_all (is_inside spans) cursor end g alike))
+          ∙ ap length (sym (filter_split (is_inside spans) range.0 cursor end f g multiple' low' (omega arith)));
       few = omega arith;
     }
 
-pub kept_all : (spans : List Span) (range : ℕ × ℕ) (old new : List (ℕ × ℕ)) (freed cursor : ℕ) → range.1 ≤ cursor → AreKept spans range old new freed cursor → AreKept spans range old new freed range.1
-kept_all spans range old new freed cursor end k = let h = k.high in let e : cursor ≡ range.1 = omega arith in subst (λ (c : ℕ). AreKept spans range old new freed c) e k
+pub kept_all : (spans : List Span) (range : ℕ × ℕ) (old new : List (ℕ × ℕ)) (inside cursor : ℕ) → range.1 ≤ cursor → AreKept spans range old new inside cursor → AreKept spans range old new inside range.1
+kept_all spans range old new inside cursor end k = let h = k.high in let e : cursor ≡ range.1 = omega arith in subst (λ (c : ℕ). AreKept spans range old new inside c) e k
 
 -- ---- one range after another
 
@@ -283,13 +283,13 @@ ranges_apart (r ∷ rs) j zero d h l m = absurd (omega arith)
 ranges_apart (r ∷ rs) zero (suc k) d h l m = ranges_behind r rs k d h.1 (omega arith)
 ranges_apart (r ∷ rs) (suc j) (suc k) d h l m = ranges_apart rs j k d h.2 (omega arith) (omega arith)
 
--- the places of the first ranges: those that aren't freed were added, and the others counted
-pub record AreAllKept (spans : List Span) (memory : List (ℕ × ℕ)) (i : ℕ) (kept : List (ℕ × ℕ)) (freed : ℕ) : Type 0 where
+-- the places of the first ranges: those outside the spans were added, and the others counted
+pub record AreAllKept (spans : List Span) (memory : List (ℕ × ℕ)) (i : ℕ) (kept : List (ℕ × ℕ)) (inside : ℕ) : Type 0 where
   pub ranges : AreRanges kept
   pub ends : (k : ℕ) (d : ℕ × ℕ) → i ≤ k → k < length memory → EndBy (get_or memory k d).0 kept
-  pub few : (k : ℕ) (d : ℕ × ℕ) → i ≤ k → k < length memory → 8 * freed ≤ (get_or memory k d).0
-  pub places : memory_places kept ≡ filter (λ a. not (is_freed spans a)) (memory_places (take i memory))
-  pub counted : freed ≡ length (filter (is_freed spans) (memory_places (take i memory)))
+  pub few : (k : ℕ) (d : ℕ × ℕ) → i ≤ k → k < length memory → 8 * inside ≤ (get_or memory k d).0
+  pub places : memory_places kept ≡ filter (λ a. not (is_inside spans a)) (memory_places (take i memory))
+  pub counted : inside ≡ length (filter (is_inside spans) (memory_places (take i memory)))
 
 pub all_kept_first : (spans : List Span) (memory : List (ℕ × ℕ)) → AreAllKept spans memory 0 [] 0
 all_kept_first spans memory = record { ranges = tt; ends = λ k d l m. tt; few = λ k d l m. omega arith; places = refl; counted = refl }
@@ -300,22 +300,22 @@ filter_more p memory i d h =
     ∙ ap (filter p) (places_push (take i memory) (get_or memory i d))
     ∙ filter-append p (memory_places (take i memory)) (addresses_in (get_or memory i d))
 
-pub all_kept_more : (spans : List Span) (memory : List (ℕ × ℕ)) (i : ℕ) (kept more : List (ℕ × ℕ)) (freed count : ℕ) (d : ℕ × ℕ) → AreRanges memory → i < length memory → AreAllKept spans memory i kept freed
-    → memory_places more ≡ memory_places kept ++ filter (λ a. not (is_freed spans a)) (addresses_in (get_or memory i d)) → AreRanges more → EndBy (get_or memory i d).1 more
-    → count ≡ length (filter (is_freed spans) (addresses_in (get_or memory i d))) → (get_or memory i d).0 + 8 * count ≤ (get_or memory i d).1 → AreAllKept spans memory (i + 1) more (freed + count)
-all_kept_more spans memory i kept more freed count d are h k places' ranges' ends' counted' few' = record {
+pub all_kept_more : (spans : List Span) (memory : List (ℕ × ℕ)) (i : ℕ) (kept more : List (ℕ × ℕ)) (inside count : ℕ) (d : ℕ × ℕ) → AreRanges memory → i < length memory → AreAllKept spans memory i kept inside
+    → memory_places more ≡ memory_places kept ++ filter (λ a. not (is_inside spans a)) (addresses_in (get_or memory i d)) → AreRanges more → EndBy (get_or memory i d).1 more
+    → count ≡ length (filter (is_inside spans) (addresses_in (get_or memory i d))) → (get_or memory i d).0 + 8 * count ≤ (get_or memory i d).1 → AreAllKept spans memory (i + 1) more (inside + count)
+all_kept_more spans memory i kept more inside count d are h k places' ranges' ends' counted' few' = record {
   ranges = ranges';
   ends = λ j e l m. end_later (get_or memory i d).1 (get_or memory j e).0 more (let a = ranges_apart memory i j d are (omega arith) m in let q = get_or_default memory j d e m in rw (← q) a) ends';
   few = λ j e l m. let a = ranges_apart memory i j d are (omega arith) m in let q = get_or_default memory j d e m in let b = k.few i d (omega arith) h in rw (← q) (omega arith);
-  places = places' ∙ ap (λ (xs : List ℕ). xs ++ filter (λ a. not (is_freed spans a)) (addresses_in (get_or memory i d))) k.places ∙ sym (filter_more (λ a. not (is_freed spans a)) memory i d h);
+  places = places' ∙ ap (λ (xs : List ℕ). xs ++ filter (λ a. not (is_inside spans a)) (addresses_in (get_or memory i d))) k.places ∙ sym (filter_more (λ a. not (is_inside spans a)) memory i d h);
   counted = ap (λ (n : ℕ). n + count) k.counted
-      ∙ ap (λ (n : ℕ). length (filter (is_freed spans) (memory_places (take i memory))) + n) counted'
-      ∙ sym (length-append (filter (is_freed spans) (memory_places (take i memory))) (filter (is_freed spans) (addresses_in (get_or memory i d))))
-      ∙ ap length (sym (filter_more (is_freed spans) memory i d h));
+      ∙ ap (λ (n : ℕ). length (filter (is_inside spans) (memory_places (take i memory))) + n) counted'
+      ∙ sym (length-append (filter (is_inside spans) (memory_places (take i memory))) (filter (is_inside spans) (addresses_in (get_or memory i d))))
+      ∙ ap length (sym (filter_more (is_inside spans) memory i d h));
 }
 
-pub all_kept_all : (spans : List Span) (memory : List (ℕ × ℕ)) (i : ℕ) (kept : List (ℕ × ℕ)) (freed : ℕ) → length memory ≤ i → AreAllKept spans memory i kept freed → AreAllKept spans memory (length memory) kept freed
-all_kept_all spans memory i kept freed h k = record {
+pub all_kept_all : (spans : List Span) (memory : List (ℕ × ℕ)) (i : ℕ) (kept : List (ℕ × ℕ)) (inside : ℕ) → length memory ≤ i → AreAllKept spans memory i kept inside → AreAllKept spans memory (length memory) kept inside
+all_kept_all spans memory i kept inside h k = record {
   ranges = k.ranges;
   ends = λ j d l m. absurd (omega arith);
   few = λ j d l m. absurd (omega arith);
@@ -329,27 +329,28 @@ list_all_same : (p q : ℕ → Bool) (xs : List ℕ) → ((a : ℕ) → p a ≡ 
 list_all_same p q [] h = refl
 list_all_same p q (x ∷ xs) h = rw (h x, list_all_same p q xs h) refl
 
-pub freed_same : (spans others : List Span) (a : ℕ) → CoverSame spans others → is_freed spans a ≡ is_freed others a
-freed_same spans others a same = list_all_same (is_covered spans) (is_covered others) (range_with_len a 8) same
+pub inside_same : (spans others : List Span) (a : ℕ) → CoverSame spans others → is_inside spans a ≡ is_inside others a
+inside_same spans others a same = list_all_same (is_covered spans) (is_covered others) (range_with_len a 8) same
 
 pub filter_alike : (p q : ℕ → Bool) (xs : List ℕ) → ((a : ℕ) → p a ≡ q a) → filter p xs ≡ filter q xs
 filter_alike p q [] h = refl
 filter_alike p q (x ∷ xs) h = rw (h x, filter_alike p q xs h) refl
 
-pub root_places_same : (unwritable : Bool) (file : List ℕ) (blocks : List Block) (spans others : List Span) → CoverSame spans others → root_places unwritable file blocks spans ≡ root_places unwritable file blocks others
+pub root_places_same : (unwritable : Bool) (file : List ℕ) (blocks : List Block) (spans others slack : List Span) → CoverSame spans others → root_places unwritable file blocks spans slack ≡ root_places unwritable file blocks others slack
 unfolding root_places
-root_places_same unwritable file blocks spans others same = filter_alike (λ a. not (is_freed spans a)) (λ a. not (is_freed others a)) (outside_places unwritable file blocks) (λ a. ap not (freed_same spans others a same))
+root_places_same unwritable file blocks spans others slack same = ap (filter (λ a. not (is_inside slack a)))
+    (filter_alike (λ a. not (is_inside spans a)) (λ a. not (is_inside others a)) (outside_places unwritable file blocks) (λ a. ap not (inside_same spans others a same)))
 
 pub freed_places_same : (unwritable : Bool) (file : List ℕ) (blocks : List Block) (spans others : List Span) → CoverSame spans others → freed_places unwritable file blocks spans ≡ freed_places unwritable file blocks others
 unfolding freed_places
-freed_places_same unwritable file blocks spans others same = filter_alike (is_freed spans) (is_freed others) (outside_places unwritable file blocks) (λ a. freed_same spans others a same)
+freed_places_same unwritable file blocks spans others same = filter_alike (is_inside spans) (is_inside others) (outside_places unwritable file blocks) (λ a. inside_same spans others a same)
 
 -- ---- no spans
 
-pub none_freed : (spans : List Span) (a : ℕ) → length spans ≡ 0 → is_freed spans a ≡ false
+pub no_spans_inside : (spans : List Span) (a : ℕ) → length spans ≡ 0 → is_inside spans a ≡ false
 unfolding is_covered
-none_freed [] a h = refl
-none_freed (s ∷ spans) a h = absurd (omega arith)
+no_spans_inside [] a h = refl
+no_spans_inside (s ∷ spans) a h = absurd (omega arith)
 
 filter_whole : (p : ℕ → Bool) (xs : List ℕ) → ((a : ℕ) → p a ≡ true) → filter p xs ≡ xs
 filter_whole p [] h = refl
@@ -359,19 +360,41 @@ filter_empty : (p : ℕ → Bool) (xs : List ℕ) → ((a : ℕ) → p a ≡ fal
 filter_empty p [] h = refl
 filter_empty p (x ∷ xs) h = rw (h x) (filter_empty p xs h)
 
-pub none_left_out : (spans : List Span) (places : List ℕ) → length spans ≡ 0 → places ≡ filter (λ a. not (is_freed spans a)) places
-none_left_out spans places none = sym (filter_whole (λ a. not (is_freed spans a)) places (λ a. ap not (none_freed spans a none)))
+pub none_left_out : (spans : List Span) (places : List ℕ) → length spans ≡ 0 → places ≡ filter (λ a. not (is_inside spans a)) places
+none_left_out spans places none = sym (filter_whole (λ a. not (is_inside spans a)) places (λ a. ap not (no_spans_inside spans a none)))
 
-pub none_counted : (spans : List Span) (places : List ℕ) → length spans ≡ 0 → 0 ≡ length (filter (is_freed spans) places)
-none_counted spans places none = sym (ap length (filter_empty (is_freed spans) places (λ a. none_freed spans a none)))
+pub none_counted : (spans : List Span) (places : List ℕ) → length spans ≡ 0 → 0 ≡ length (filter (is_inside spans) places)
+none_counted spans places none = sym (ap length (filter_empty (is_inside spans) places (λ a. no_spans_inside spans a none)))
 
-pub root_places_some : (unwritable : Bool) (file : List ℕ) (blocks : List Block) (spans : List Span) (places : List ℕ) → places ≡ outside_places unwritable file blocks → filter (λ a. not (is_freed spans a)) places ≡ root_places unwritable file blocks spans
+pub root_places_some : (unwritable : Bool) (file : List ℕ) (blocks : List Block) (spans : List Span) (places : List ℕ) → places ≡ outside_places unwritable file blocks → filter (λ a. not (is_inside spans a)) places ≡ root_places unwritable file blocks spans []
 unfolding root_places
-root_places_some unwritable file blocks spans places e = ap (filter (λ a. not (is_freed spans a))) e
+root_places_some unwritable file blocks spans places e =
+    ap (filter (λ a. not (is_inside spans a))) e ∙ none_left_out [] (filter (λ a. not (is_inside spans a)) (outside_places unwritable file blocks)) refl
 
-pub freed_places_some : (unwritable : Bool) (file : List ℕ) (blocks : List Block) (spans : List Span) (places : List ℕ) → places ≡ outside_places unwritable file blocks → filter (is_freed spans) places ≡ freed_places unwritable file blocks spans
+pub freed_places_some : (unwritable : Bool) (file : List ℕ) (blocks : List Block) (spans : List Span) (places : List ℕ) → places ≡ outside_places unwritable file blocks → filter (is_inside spans) places ≡ freed_places unwritable file blocks spans
 unfolding freed_places
-freed_places_some unwritable file blocks spans places e = ap (filter (is_freed spans)) e
+freed_places_some unwritable file blocks spans places e = ap (filter (is_inside spans)) e
+
+-- ---- slack
+
+-- the root places without slack are those with it that are not inside the slack
+slack_left_out : (unwritable : Bool) (file : List ℕ) (blocks : List Block) (spans slack others : List Span) → CoverSame slack others
+    → filter (λ a. not (is_inside slack a)) (root_places unwritable file blocks spans []) ≡ root_places unwritable file blocks spans others
+unfolding root_places
+slack_left_out unwritable file blocks spans slack others same =
+    let unfreed = filter (λ a. not (is_inside spans a)) (outside_places unwritable file blocks) in
+    ap (filter (λ a. not (is_inside slack a))) (sym (none_left_out [] unfreed refl))
+    ∙ filter_alike (λ a. not (is_inside slack a)) (λ a. not (is_inside others a)) unfreed (λ a. ap not (inside_same slack others a same))
+
+pub roots_without_slack : (unwritable : Bool) (file : List ℕ) (blocks : List Block) (spans slack others : List Span) (all kept : Places) → CoverSame slack others
+    → AreRootsOf unwritable file blocks spans [] all → kept.registers ≡ all.registers → memory_places kept.memory ≡ filter (λ a. not (is_inside slack a)) (memory_places all.memory)
+    → AreRanges kept.memory → kept.freed ≡ all.freed → AreRootsOf unwritable file blocks spans others kept
+roots_without_slack unwritable file blocks spans slack others all kept same roots registers' memory' ranges' freed' = record {
+  registers = registers' ∙ roots.registers;
+  memory = memory' ∙ ap (filter (λ a. not (is_inside slack a))) roots.memory ∙ slack_left_out unwritable file blocks spans slack others same;
+  ranges = ranges';
+  freed = freed' ∙ roots.freed;
+}
 
 unfoldable pub no_span : Span
 no_span = record { first = 0; last = 0 }

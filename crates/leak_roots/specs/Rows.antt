@@ -6,7 +6,7 @@ use Rattle.leak_elf.specs.Sample.{sample, file_header, program_header, note_entr
 use Rattle.leak_notes.specs.Rows.{with_vectors}
 use Rattle.leak_blocks.specs.declared.block.Block.{Block}
 use Rattle.leak_blocks.specs.declared.small.Span.{Span}
-use Rattle.leak_roots.specs.Roots.{root_words, is_freed}
+use Rattle.leak_roots.specs.Roots.{root_words, is_inside}
 
 abbrev pub block : ℕ → ℕ → Block
 block start size = record { start = start; size = size; line = 1; caller = (0, 0) }
@@ -24,21 +24,24 @@ with_flags flags =
 -- how many root words it has, and how many of them are the address of the block
 unfoldable pub counts : Bool → ℕ → ℕ × ℕ
 counts unwritable flags =
-    let words = root_words unwritable (with_flags flags) (block 0x10100 0x20 ∷ []) [] in
+    let words = root_words unwritable (with_flags flags) (block 0x10100 0x20 ∷ []) [] [] in
     (length words, length (filter (λ w. w == 0x10100) words))
 
 pub record AreAnswers : Type 0 where
-  pub without_blocks : length (root_words true sample [] []) ≡ 539
-  pub with_a_block : length (root_words true sample (block 0x10100 0x20 ∷ []) []) ≡ 535
-  pub with_vector_registers : length (root_words true with_vectors [] []) ≡ 587
+  pub without_blocks : length (root_words true sample [] [] []) ≡ 539
+  pub with_a_block : length (root_words true sample (block 0x10100 0x20 ∷ []) [] []) ≡ 535
+  pub with_a_block_and_slack : length (root_words true sample (block 0x10100 0x20 ∷ []) [] (span 0x10120 0x1012f ∷ [])) ≡ 533
+  pub freed_and_in_slack :
+      length (root_words true sample (block 0x10100 0x20 ∷ []) (span 0x10120 0x10127 ∷ []) (span 0x10120 0x1012f ∷ [])) ≡ 533
+  pub with_vector_registers : length (root_words true with_vectors [] [] []) ≡ 587
   pub writable : counts true 6 ≡ (29, 1)
   pub writable_with_all : counts false 6 ≡ (29, 1)
   pub read_only : counts true 4 ≡ (27, 0)
   pub read_only_with_all : counts false 4 ≡ (29, 1)
   pub no_rights : counts true 0 ≡ (27, 0)
   pub no_rights_with_all : counts false 0 ≡ (29, 1)
-  pub within_a_span : is_freed (span 0x10100 0x1010b ∷ []) 0x10100 ≡ true
-  pub half_within_a_span : is_freed (span 0x10100 0x1010b ∷ []) 0x10108 ≡ false
-  pub within_two_spans : is_freed (span 0x10104 0x10107 ∷ span 0x10100 0x10103 ∷ []) 0x10100 ≡ true
+  pub within_a_span : is_inside (span 0x10100 0x1010b ∷ []) 0x10100 ≡ true
+  pub half_within_a_span : is_inside (span 0x10100 0x1010b ∷ []) 0x10108 ≡ false
+  pub within_two_spans : is_inside (span 0x10104 0x10107 ∷ span 0x10100 0x10103 ∷ []) 0x10100 ≡ true
   pub one_byte_between_spans :
-      is_freed (span 0x10105 0x10107 ∷ span 0x10100 0x10103 ∷ []) 0x10100 ≡ false
+      is_inside (span 0x10105 0x10107 ∷ span 0x10100 0x10103 ∷ []) 0x10100 ≡ false

@@ -7,12 +7,12 @@
 //!
 //! Registers and writable memory as roots follow bdwgc, and all readable memory LeakSanitizer. That freed memory and dead stack are roots too is own rule,
 //! with that no stack limit is read from a register. Where the spans of small allocations are given, the words of freed
-//! memory are left out: those whose 8 bytes each lie in such a span. What the contracts don't say is whether a root word
-//! is a pointer.
+//! memory are left out: those whose 8 bytes each lie in such a span. [`Roots::skip_slack`] leaves out those within slack, what malloc
+//! gave live blocks beyond what was asked for. What the contracts don't say is whether a root word is a pointer.
 #![tactic(auto)]
 
 mod error;
-mod freed;
+mod inside;
 mod laws;
 mod piece;
 mod pieces;

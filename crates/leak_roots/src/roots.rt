@@ -1,20 +1,21 @@
 //! The root words of a core.
 
-ghost use Rattle.std.specs.Prelude.{◌≡◌, ◌↔◌, IfOk, Err, List, length, false};
+ghost use Rattle.std.specs.Prelude.{◌≡◌, ◌↔◌, ℕ, IfOk, Err, Bool, List, [], length, filter, not, false};
 ghost use Rattle.leak_notes.specs.Threads.{threads_of};
+ghost use Rattle.leak_blocks.specs.declared.block.Block.{Block};
 ghost use Rattle.leak_blocks.specs.declared.small.Span.{Span};
-ghost use Rattle.leak_blocks.specs.Small.{CoverSame};
+ghost use Rattle.leak_blocks.specs.Small.{AreApart, CoverSame};
 ghost use Rattle.leak_roots.specs.Places.{Places, AreRanges, memory_places};
-ghost use Rattle.leak_roots.specs.Roots.{AreRootsOf, freed_places, root_places};
+ghost use Rattle.leak_roots.specs.Roots.{AreRootsOf, freed_places, is_inside, root_places};
 ghost use Rattle.leak_roots.specs.Pieces.{AreCut};
 ghost use Rattle.leak_roots.specs.Cut.{pieces_of};
 
 use crate::error::CutError;
-use crate::freed::leave_out_freed;
+use crate::inside::leave_out;
 use crate::piece::{Piece, push_memory, push_registers};
 use crate::pieces::Pieces;
 use crate::places::find_ranges;
-use leak_blocks::{Live, SmallSpans};
+use leak_blocks::{Live, SmallSpans, Span};
 use leak_elf::Image;
 use leak_notes::Threads;
 use std::alloc::{AllocError, Global};
@@ -49,8 +50,8 @@ impl Roots {
     ///
     /// They are the register words of the threads, as they are given, and the words of 8 bytes at the multiples of 8 in
     /// segments that share no byte with a live block and whose bytes the core holds: registers, stacks and static data,
-    /// as Boehm's collector takes them. Only where the threads are the core's are these the core's root words. No link to
-    /// a free chunk is left out. It fails where memory is refused, and then alone.
+    /// as Boehm's collector takes them. Only where the threads are the core's are these the core's root words. No slack and
+    /// no link to a free chunk is left out. It fails where memory is refused, and then alone.
     pub fn find(
         alloc: Global,
         image: &Image,
@@ -61,17 +62,17 @@ impl Roots {
     ) -> Result<Roots, AllocError>
         ensures registers { IfOk result (λ roots. roots.registers ≡ threads.now.registers) }
         ensures memory { IfOk result (λ roots. memory_places roots.memory
-            ≡ root_places unwritable image.now live.now.blocks small.now) }
+            ≡ root_places unwritable image.now live.now.blocks small.now []) }
         ensures freed { IfOk result (λ roots.
             roots.freed ≡ length (freed_places unwritable image.now live.now.blocks small.now)) }
         ensures links { IfOk result (λ roots. roots.skips_links ≡ false) }
         ensures of_core { (spans : List Span) → CoverSame small.now spans
             → threads.now ≡ threads_of image.now
-            → IfOk result (AreRootsOf unwritable image.now live.now.blocks spans) }
+            → IfOk result (AreRootsOf unwritable image.now live.now.blocks spans []) }
     {
         let registers = threads.registers().to_vec(alloc)?;
         let outside = find_ranges(alloc, image, live.blocks(), unwritable)?;
-        let (memory, freed) = leave_out_freed(alloc, outside, small.ranges())?;
+        let (memory, freed) = leave_out(alloc, outside, small.ranges())?;
         Ok(Roots {
             registers,
             memory,
@@ -101,6 +102,35 @@ impl Roots {
         ensures { result ≡ self.now.freed }
     {
         self.freed
+    }
+
+    /// The same root words without those in memory whose 8 bytes each lie in a span of the slack of live blocks. The
+    /// freed places stay those that were counted. It fails where memory is refused, and then alone.
+    pub fn skip_slack(self, alloc: Global, slack: &[Span]) -> Result<Roots, AllocError>
+        requires { AreApart slack.now }
+        ensures registers { IfOk result (λ roots. roots.registers ≡ self.registers) }
+        ensures memory { IfOk result (λ roots. memory_places roots.memory
+            ≡ filter (λ a. not (is_inside slack.now a)) (memory_places self.memory)) }
+        ensures freed { IfOk result (λ roots. roots.freed ≡ self.freed) }
+        ensures links { IfOk result (λ roots. roots.skips_links ≡ self.skips_links) }
+        ensures of_core { (unwritable : Bool) (file : List ℕ) (blocks : List Block)
+            (spans others : List Span) → CoverSame slack.now others
+            → AreRootsOf unwritable file blocks spans [] self
+            → IfOk result (AreRootsOf unwritable file blocks spans others) }
+    {
+        let Roots {
+            registers,
+            memory,
+            freed,
+            skips_links,
+        } = self;
+        let (memory, _) = leave_out(alloc, memory, slack)?;
+        Ok(Roots {
+            registers,
+            memory,
+            freed,
+            skips_links,
+        })
     }
 
     /// The same root words, and whether malloc's links to free chunks are left out of what those in memory lead to.

@@ -14,6 +14,8 @@ pub struct Skip {
     /// The words of freed memory: those whose 8 bytes each lie in the span of a small allocation of the log, and in no
     /// live block.
     pub freed: bool,
+    /// The words of slack: those whose 8 bytes each lie beyond what was asked for, in what malloc gave a live block.
+    pub slack: bool,
     /// The links that malloc keeps to free chunks, and its pointers to the top of a heap.
     pub links: bool,
     /// The words of memory that can't be written.
@@ -23,10 +25,11 @@ pub struct Skip {
 impl Skip {
     /// What a search leaves out that is asked for nothing else: the words of memory that can't be written.
     pub fn usual() -> Skip
-        ensures { result ≡ record { freed = false; links = false; unwritable = true } }
+        ensures { result ≡ record { freed = false; slack = false; links = false; unwritable = true } }
     {
         Skip {
             freed: false,
+            slack: false,
             links: false,
             unwritable: true,
         }

@@ -14,4 +14,4 @@ use Rattle.leak_roots.proofs.rows.worked_roots.Goals as goal
 
 pub returns : goal.returns
 unfolding sample front file_header zeros program_header note_entry number_at header_at headers segments_of note_parts_of word_of word_in entries_from registers_of is_covered has_roots outside_places root_places root_words with_flags counts
-returns c = record { without_blocks = refl; with_a_block = refl; with_vector_registers = refl; writable = refl; writable_with_all = refl; read_only = refl; read_only_with_all = refl; no_rights = refl; no_rights_with_all = refl; within_a_span = refl; half_within_a_span = refl; within_two_spans = refl; one_byte_between_spans = refl }
+returns c = record { without_blocks = refl; with_a_block = refl; with_a_block_and_slack = refl; freed_and_in_slack = refl; with_vector_registers = refl; writable = refl; writable_with_all = refl; read_only = refl; read_only_with_all = refl; no_rights = refl; no_rights_with_all = refl; within_a_span = refl; half_within_a_span = refl; within_two_spans = refl; one_byte_between_spans = refl }

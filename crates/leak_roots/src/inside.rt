@@ -1,0 +1,174 @@
+//! Leaving out the places inside spans: freed memory, and slack.
+
+ghost use Rattle.std.specs.Prelude.{◌≡◌, ◌+◌, ◌++◌, ◌<◌, ◌≤◌, ◌*◌, ◌^◌, ◌%◌, ℕ, length, slice_index_or, filter, not, OnOk, IfOk, IsTrue};
+ghost use Rattle.leak_blocks.specs.declared.small.Span.{Span};
+ghost use Rattle.leak_blocks.specs.Small.{AreApart};
+ghost use Rattle.leak_roots.specs.Places.{memory_places, addresses_in, IsRange, AreRanges, EndBy};
+ghost use Rattle.leak_roots.specs.Roots.{is_inside};
+
+use leak_blocks::Span;
+use std::alloc::{AllocError, Global};
+
+/// Places of which each is inside spans, or none.
+#[derive(Clone, Copy)]
+struct Run {
+    /// Whether they are inside spans.
+    inside: bool,
+    /// Where they end, excluded: a multiple of 8.
+    end: u64,
+    /// How many of the spans end before the last byte of the first place.
+    passed: usize,
+}
+
+/// Whether so many of the spans, at least, end before the address.
+fn are_past(spans: &[Span], many: usize, addr: u64) -> bool
+    requires { AreApart spans.now }
+    ensures bound { IsTrue result → many ≤ length spans.now }
+    ensures within { IsTrue result → (k : ℕ) (d : Span) → k < many
+        → (slice_index_or spans.now k d).last < addr }
+{
+    many <= spans.len() && (many == 0 || spans[many - 1].last < addr)
+}
+
+/// How many of the spans end before the address, found by a search among all.
+fn search_before(spans: &[Span], addr: u64) -> usize
+    requires { AreApart spans.now }
+    ensures bound { result ≤ length spans.now }
+    ensures within { (k : ℕ) (d : Span) → k < result → (slice_index_or spans.now k d).last < addr }
+    ensures beyond { (k : ℕ) (d : Span) → result ≤ k → k < length spans.now
+        → addr ≤ (slice_index_or spans.now k d).last }
+{
+    spans.partition_point(|span| span.last < addr)
+}
+
+/// How many of the spans end before the address. Those that were passed for an address below it are not looked at again.
+fn count_before(spans: &[Span], passed: usize, addr: u64) -> usize
+    requires { AreApart spans.now }
+    ensures bound { result ≤ length spans.now }
+    ensures within { (k : ℕ) (d : Span) → k < result → (slice_index_or spans.now k d).last < addr }
+    ensures beyond { (k : ℕ) (d : Span) → result ≤ k → k < length spans.now
+        → addr ≤ (slice_index_or spans.now k d).last }
+{
+    if !are_past(spans, passed, addr) {
+        return search_before(spans, addr);
+    }
+    let mut count = passed;
+    while count < spans.len() && spans[count].last < addr {
+        count += 1;
+    }
+    count
+}
+
+/// Places from `from` on, up to `to` at most, of which each is inside, or none. So many spans were passed before them.
+fn run_from(spans: &[Span], passed: usize, from: u64, to: u64) -> Run
+    requires apart { AreApart spans.now }
+    requires range { IsRange (from, to) }
+    ensures some { from < result.end }
+    ensures within { result.end ≤ to }
+    ensures multiple { result.end % 8 ≡ 0 }
+    ensures alike { (a : ℕ) → from ≤ a → a < result.end → a % 8 ≡ 0
+        → is_inside spans.now a ≡ result.inside }
+{
+    let last = from + 7;
+    let next = count_before(spans, passed, last);
+    if next == spans.len() {
+        return Run {
+            inside: false,
+            end: to,
+            passed: next,
+        };
+    }
+    let span = spans[next];
+    let inside = span.first <= from;
+    let words = if inside {
+        (span.last - last) / 8 + 1
+    } else {
+        (span.first - from).div_ceil(8)
+    };
+    Run {
+        inside,
+        end: from + 8 * words.min((to - from) / 8),
+        passed: next,
+    }
+}
+
+/// Adds the places of a range that aren't inside, and counts the others. The spans are passed as the ranges ascend.
+fn push_kept(
+    kept: &mut Vec<(u64, u64)>,
+    range: (u64, u64),
+    spans: &[Span],
+    passed: &mut usize,
+) -> Result<u64, AllocError>
+    requires apart { AreApart spans.now }
+    requires range { IsRange range }
+    requires ranges { AreRanges kept.old.items }
+    requires ends { EndBy range.0 kept.old.items }
+    ensures places { OnOk result (memory_places kept.new.items
+        ≡ memory_places kept.old.items
+        ++ filter (λ a. not (is_inside spans.now a)) (addresses_in range)) }
+    ensures ranges { OnOk result (AreRanges kept.new.items) }
+    ensures ends { OnOk result (EndBy range.1 kept.new.items) }
+    ensures inside { IfOk result (λ inside.
+        inside ≡ length (filter (is_inside spans.now) (addresses_in range))) }
+    ensures few { IfOk result (λ inside. range.0 + 8 * inside ≤ range.1) }
+    ensures fits { IfOk result (λ inside. range.0 + 8 * inside < 2 ^ 64) }
+{
+    let (mut from, to) = range;
+    let mut inside = 0;
+    while from < to {
+        let run = run_from(spans, *passed, from, to);
+        if run.inside {
+            inside += (run.end - from) / 8;
+        } else {
+            kept.push((from, run.end))?;
+        }
+        from = run.end;
+        *passed = run.passed;
+    }
+    Ok(inside)
+}
+
+/// The places in the ranges that aren't inside, and how many are.
+fn keep_others(
+    alloc: Global,
+    memory: &[(u64, u64)],
+    spans: &[Span],
+) -> Result<(Vec<(u64, u64)>, u64), AllocError>
+    requires apart { AreApart spans.now }
+    requires ranges { AreRanges memory.now }
+    ensures places { IfOk result (λ found.
+        memory_places found.0.items
+        ≡ filter (λ a. not (is_inside spans.now a)) (memory_places memory.now)) }
+    ensures ranges { IfOk result (λ found. AreRanges found.0.items) }
+    ensures inside { IfOk result (λ found.
+        found.1 ≡ length (filter (is_inside spans.now) (memory_places memory.now))) }
+{
+    let mut kept = Vec::new(alloc);
+    let mut inside = 0;
+    let mut passed = 0;
+    for range in memory {
+        inside += push_kept(&mut kept, *range, spans, &mut passed)?;
+    }
+    Ok((kept, inside))
+}
+
+/// The places in the ranges that aren't inside, and how many are. Without spans these are the ranges.
+pub(crate) fn leave_out(
+    alloc: Global,
+    memory: Vec<(u64, u64)>,
+    spans: &[Span],
+) -> Result<(Vec<(u64, u64)>, u64), AllocError>
+    requires apart { AreApart spans.now }
+    requires ranges { AreRanges memory.items }
+    ensures places { IfOk result (λ found.
+        memory_places found.0.items
+        ≡ filter (λ a. not (is_inside spans.now a)) (memory_places memory.items)) }
+    ensures ranges { IfOk result (λ found. AreRanges found.0.items) }
+    ensures inside { IfOk result (λ found.
+        found.1 ≡ length (filter (is_inside spans.now) (memory_places memory.items))) }
+{
+    if spans.is_empty() {
+        return Ok((memory, 0));
+    }
+    keep_others(alloc, &memory, spans)
+}
