@@ -25,9 +25,9 @@ mod warning;
 
 pub use head::{Head, Two};
 pub use laws::{live_have_callers, rows_are_sums, worked_reports, worked_warnings};
-pub use lines::caller_text;
+pub use lines::{caller_text, push_freed, push_head, push_line, push_sizes};
 pub use output::{WriteFault, write};
 pub use report::text;
 pub use signs::Signs;
-pub use totals::{CallerRow, Totals};
+pub use totals::{CallerRow, Totals, marked_sizes};
 pub use warning::warnings;

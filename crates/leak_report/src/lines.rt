@@ -88,7 +88,7 @@ pub fn push_misfit_number(out: &mut String, misfits: u64) -> Result<(), AllocErr
 }
 
 /// Appends a line that ends in a text.
-fn push_line(out: &mut Vec<u8>, front: &str, text: &[u8]) -> Result<(), AllocError>
+pub fn push_line(out: &mut Vec<u8>, front: &str, text: &[u8]) -> Result<(), AllocError>
     ensures { OnOk result (out.new.items ≡ out.old.items ++ (front.now ++ text.now ++ newline)) }
 {
     out.extend_from_slice(front.as_bytes())?;

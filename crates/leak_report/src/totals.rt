@@ -79,7 +79,7 @@ impl Totals {
 }
 
 /// The number of the marked blocks, and the sum of their sizes.
-fn marked_sizes(blocks: &[Block], set: &[bool]) -> (u64, u64)
+pub fn marked_sizes(blocks: &[Block], set: &[bool]) -> (u64, u64)
     requires one_each { length set.now ≡ length blocks.now }
     requires fits { bytes_of blocks.now < 2 ^ 64 }
     ensures number { result.0 ≡ length (marked_in set.now blocks.now) }
