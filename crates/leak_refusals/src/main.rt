@@ -7,6 +7,7 @@
 #![tactic(auto)]
 
 mod answer;
+mod asking;
 mod marking;
 mod reading;
 mod reporting;
@@ -22,7 +23,7 @@ use std::rt::Env;
 use std::thread::Threads;
 
 /// The calls, by name.
-static CALLS: [&str; 45] = [
+static CALLS: [&str; 49] = [
     "core_k",
     "Image::read",
     "Threads::read",
@@ -61,12 +62,16 @@ static CALLS: [&str; 45] = [
     "find_one",
     "find_two",
     "find_why",
+    "find_holders",
+    "find_growth",
     "read_all",
     "run",
     "run_sized",
     "run_two",
     "run_why",
     "run_why_sized",
+    "run_holders_sized",
+    "run_grow_sized",
     "request",
 ];
 
@@ -151,12 +156,16 @@ fn answer_of<R: AllocGlobal + Threads + Sync>(rt: &R, name: &str) -> Option<Answ
         "find_one" => whole::by_workers(rt),
         "find_two" => whole::two_cores(rt),
         "find_why" => whole::held_by(alloc),
+        "find_holders" => asking::holders(rt),
+        "find_growth" => asking::growth(alloc),
         "read_all" => whole::input(alloc),
         "run" => whole::runs(rt),
         "run_sized" => whole::runs_sized(rt),
         "run_two" => whole::runs_two(rt),
         "run_why" => whole::runs_why(alloc),
         "run_why_sized" => whole::runs_why_sized(alloc),
+        "run_holders_sized" => asking::runs_holders(rt),
+        "run_grow_sized" => asking::runs_grow(alloc),
         "request" => whole::command_line(alloc),
         _ => None,
     }

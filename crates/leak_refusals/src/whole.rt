@@ -261,7 +261,7 @@ pub(crate) fn input(alloc: Global) -> Option<Answer> {
 }
 
 /// Whether a run met want of memory, in reading or in the search.
-fn is_wanting(fault: &RunFault) -> bool {
+pub(crate) fn is_wanting(fault: &RunFault) -> bool {
     match fault {
         RunFault::Read(_, ReadFault::NoMemory) => true,
         RunFault::Find(FindError::NoMemory) => true,
@@ -270,7 +270,7 @@ fn is_wanting(fault: &RunFault) -> bool {
 }
 
 /// How the runs search, by so many workers.
-fn options(two: bool, plan: Plan) -> Options
+pub(crate) fn options(two: bool, plan: Plan) -> Options
     ensures { result.two ≡ two }
 {
     Options {

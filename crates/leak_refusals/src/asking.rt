@@ -1,0 +1,119 @@
+//! Questions who holds the memory, and what grew.
+
+ghost use Rattle.std.specs.Prelude.{◌≡◌, false};
+
+use crate::answer::Answer;
+use crate::samples::core_of;
+use crate::whole::{is_wanting, options};
+use leak_find::{
+    FindError, GrowOptions, Open, Plan, Reading, Skip, find_growth, find_holders, run_grow_sized,
+    run_holders_sized,
+};
+use std::alloc::Global;
+use std::io::Cursor;
+use std::thread::Threads;
+
+/// Two blocks of two callers.
+const HELD: &str = "@ a:[0x1] + 0x10100 0x20\n@ b:[0x2] + 0x10200 0x10\n";
+
+/// Who holds them, where a root word leads to the first, and it to the second.
+const HOLDERS: &str =
+    "blocks 2 bytes 48\nundumped 0\nunknown 0 displaced 0 torn 0\nmarked 2 bytes 48\n\
+                       leaked 0 bytes 0\nholder 2 48 1 32 0 0x10100 a:[0x1]\n\
+                       holder 1 16 1 16 1 0x10200 b:[0x2]\n";
+
+/// The first of them.
+const EARLIER: &str = "@ a:[0x1] + 0x10100 0x20\n";
+
+/// What grew since then.
+const GREW: &str = "then 1 bytes 32\nnow 2 bytes 48\nnew 1 bytes 16\nunknown 0 displaced 0 torn 0\n\
+                    grew 16 0 0 1 16 1 16 b:[0x2]\n";
+
+/// The core of these blocks.
+fn holding_core(alloc: Global) -> Option<Vec<u8>> {
+    core_of(alloc, &[(0x10008, 0x10100), (0x10100, 0x10200)])
+}
+
+/// `find_holders` by three workers.
+pub(crate) fn holders<R: AllocGlobal + Threads + Sync>(rt: &R) -> Option<Answer> {
+    let core = holding_core(rt.alloc())?;
+    let plan = Plan::new(3, 16, 4).ok()?;
+    let (reading, skip) = (Reading::interior(), Skip::usual());
+    let log = HELD.as_bytes();
+    let answer = match find_holders(rt, rt.alloc(), &core, log, reading, skip, plan, &Open) {
+        Ok(found) => Answer::of(found.report.as_slice() == HOLDERS.as_bytes()),
+        Err(error) => Answer::of_refusal(error == FindError::NoMemory),
+    };
+    Some(answer)
+}
+
+/// `find_growth` of two logs.
+pub(crate) fn growth(alloc: Global) -> Option<Answer> {
+    let answer = match find_growth(alloc, EARLIER.as_bytes(), HELD.as_bytes()) {
+        Ok(grown) => Answer::of(grown.report.as_slice() == GREW.as_bytes()),
+        Err(error) => Answer::of_refusal(error == FindError::NoMemory),
+    };
+    Some(answer)
+}
+
+/// `run_holders_sized` over the core and its log.
+pub(crate) fn runs_holders<R: AllocGlobal + Threads + Sync>(rt: &R) -> Option<Answer> {
+    let alloc = rt.alloc();
+    let mut readers = Vec::new(alloc);
+    readers.push(Cursor::new(holding_core(alloc)?)).ok()?;
+    readers
+        .push(Cursor::new(HELD.as_bytes().to_vec(alloc).ok()?))
+        .ok()?;
+    let options = options(false, Plan::new(3, 16, 4).ok()?);
+    if readers.len() != 2 {
+        return Some(Answer::Other);
+    }
+    let mut written: Vec<u8> = Vec::with_capacity(alloc, 1000).ok()?;
+    let mut warned: Vec<u8> = Vec::with_capacity(alloc, 1000).ok()?;
+    let sizes = [8192, HELD.len() as u64];
+    let readers = readers.as_mut_slice();
+    let answer = match run_holders_sized(
+        rt,
+        alloc,
+        readers,
+        &sizes,
+        &options,
+        &mut written,
+        &mut warned,
+    ) {
+        Ok(status) => Answer::of(status == 0 && written.as_slice() == HOLDERS.as_bytes()),
+        Err(fault) => Answer::of_refusal(
+            is_wanting(&fault) && written.is_empty() && warned.is_empty(),
+        ),
+    };
+    Some(answer)
+}
+
+/// `run_grow_sized` over both logs.
+pub(crate) fn runs_grow(alloc: Global) -> Option<Answer> {
+    let mut readers = Vec::new(alloc);
+    readers
+        .push(Cursor::new(EARLIER.as_bytes().to_vec(alloc).ok()?))
+        .ok()?;
+    readers
+        .push(Cursor::new(HELD.as_bytes().to_vec(alloc).ok()?))
+        .ok()?;
+    let options = GrowOptions {
+        strict: false,
+        log_limit: 8192,
+    };
+    if readers.len() != 2 {
+        return Some(Answer::Other);
+    }
+    let mut written: Vec<u8> = Vec::with_capacity(alloc, 1000).ok()?;
+    let mut warned: Vec<u8> = Vec::with_capacity(alloc, 1000).ok()?;
+    let sizes = [EARLIER.len() as u64, HELD.len() as u64];
+    let readers = readers.as_mut_slice();
+    let answer = match run_grow_sized(alloc, readers, &sizes, &options, &mut written, &mut warned) {
+        Ok(status) => Answer::of(status == 0 && written.as_slice() == GREW.as_bytes()),
+        Err(fault) => Answer::of_refusal(
+            is_wanting(&fault) && written.is_empty() && warned.is_empty(),
+        ),
+    };
+    Some(answer)
+}
