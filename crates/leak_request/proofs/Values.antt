@@ -1,5 +1,5 @@
 -- What the values are that clap found.
-use Rattle.std.proofs.Common.{inl, inr, ◌≡◌, ◌<◌, ◌^◌, get_or, map, subst, [], ◌∙◌, refl, sym, ap, length, Bool, true, false, List, ℕ, Option, Some, None}
+use Rattle.std.proofs.Common.{arith, zero, suc, take, ◌≡◌, ◌<◌, ◌≤◌, ◌^◌, get_or, map, subst, [], ◌∷◌, ◌∙◌, refl, sym, ap, length, Bool, true, false, List, ℕ, Option, Some, None}
 use Rattle.std.proofs.lemmas.List.{get_or-map, length-map}
 use Rattle.std.proofs.lemmas.List.Elements.{All-get_or}
 use Rattle.std.specs.List.{All}
@@ -37,6 +37,14 @@ path_lacks rows ids i d low none = λ all.
     let at : get_or (map (λ (id : Bor (List ℕ)). id.now) ids) i [] ≡ (get_or ids i d).now = get_or-map _ ids i d [] low in
     let some : IsSome (first_of (get_or ids i d).now rows) = subst (λ id. IsSome (first_of id rows)) at here in
     let bad : IsSome {T = List ℕ} None = subst IsSome (sym none) some in cc
+
+-- where all ids were gone through, their values are those of the ids' texts
+pub values_of : (rows : List Row) (ids : List (Bor (List ℕ))) (n : ℕ) → length ids ≤ n
+    → map (λ id. first_of id.now rows) (take n ids) ≡ map (λ id. first_of id rows) (map (λ id. id.now) ids)
+values_of rows [] zero h = refl
+values_of rows [] (suc n) h = refl
+values_of rows (id ∷ ids) zero h = absurd (omega arith)
+values_of rows (id ∷ ids) (suc n) h = ap (λ (rest : List (Option Text)). first_of id.now rows ∷ rest) (values_of rows ids n (omega arith))
 
 -- bad arguments, for a reason
 pub bad_by : {Reason : Type 0} (f : UsageFault) → Reason → IsBadBy (Unit {0}) f → IsBadBy Reason f

@@ -1,7 +1,7 @@
 //! From a command line to what it asks for.
 
 ghost use Rattle.std.specs.Prelude.{◌≡◌, ◌≢◌, ◌<◌, ◌↔◌, IfOk, IsTrue, IsFalse, IfErr, IfNone, IfSome, OnOk, Bool};
-ghost use Rattle.std.specs.Prelude.{codes, map, option_map, string_bytes};
+ghost use Rattle.std.specs.Prelude.{codes, length, map, option_map, string_bytes};
 ghost use Rattle.clap.specs.Words.{first_of, kind_of};
 ghost use Rattle.leak_index.specs.Readings.{distances_of, listed_by};
 ghost use Rattle.leak_request.specs.CommandLine.{grow_ids, name_of, path_ids};
@@ -114,7 +114,7 @@ fn why_request(alloc: Global, found: &ArgMatches) -> Result<WhyRequest, UsageFau
     ensures ok { IfOk result (IsWhyRequest (found_rows found.now)) }
     ensures refused { IfErr result (IsWhyRefusal (found_rows found.now)) }
 {
-    let paths = paths(alloc, found, ONE.as_slice())?;
+    let paths = paths(alloc, found, ids_of(false))?;
     let Some(word) = value(found, "address") else {
         return Err(bad_arguments(alloc));
     };
@@ -147,7 +147,7 @@ fn holders_request(alloc: Global, found: &ArgMatches) -> Result<HoldersRequest, 
     ensures ok { IfOk result (IsHoldersRequest (found_rows found.now)) }
     ensures refused { IfErr result (IsHoldersRefusal (found_rows found.now)) }
 {
-    let paths = paths(alloc, found, ONE.as_slice())?;
+    let paths = paths(alloc, found, ids_of(false))?;
     let plan = plan(alloc, found)?;
     let reading = match reading(found) {
         Ok(reading) => reading,

@@ -1,6 +1,6 @@
-use Rattle.std.proofs.Common.{rules, ◌≤◌}
+use Rattle.std.proofs.Common.{rules, subst, ◌≤◌}
 use Rattle.leak_pool.specs.Plan.{IsBetween}
-use Rattle.leak_request.specs.Requests.{found_rows}
+use Rattle.leak_request.specs.Requests.{AreAt, found_rows}
 use Rattle.leak_request.proofs.Complete.{none_lacks_holders}
 use Rattle.leak_request.proofs.arguments.holders_request.Goals as goal
 
@@ -11,6 +11,6 @@ returns-in-Err-clause-refused c =
     let piece : IsBetween 1 65536 plan.piece = search rules in
     let stack : plan.stack ≤ 65536 = search rules in (
       none_lacks_holders (found_rows c.args.found.now) c.in_ok-paths.paths.items (record { workers = plan.workers; piece = plan.piece; stack = plan.stack })
-          c.in_ok-paths.ensures.ok workers piece stack c.in_ok-plan.ensures.ok,
+          (subst (λ ids. AreAt (found_rows c.args.found.now) ids c.in_ok-paths.paths.items) c.ids_of.ensures c.in_ok-paths.ensures.ok) workers piece stack c.in_ok-plan.ensures.ok,
       c.in-Err.ensures.refused,
     )

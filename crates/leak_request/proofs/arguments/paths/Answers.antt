@@ -1,4 +1,5 @@
-use Rattle.leak_request.proofs.Values.{bad_by, path_lacks}
+use Rattle.std.proofs.Common.{◌∙◌, arith}
+use Rattle.leak_request.proofs.Values.{bad_by, path_lacks, values_of}
 use Rattle.clap.specs.Words.{found_of, rows_of}
 use Rattle.leak_request.proofs.arguments.paths.Goals as goal
 
@@ -7,3 +8,8 @@ returns-in_default-clause-refused c =
     bad_by c.bad_arguments.result
     (path_lacks (rows_of (found_of c.args.found.now)) c.args.ids.now c.loop-id.id-index _ c.loop-id-test.true c.in_default.ensures)
     c.bad_arguments.ensures
+
+pub returns-clause-ok : goal.returns-clause-ok
+returns-clause-ok c =
+    let t = c.loop-id-test.false in
+    c.loop-id.invariant ∙ values_of (rows_of (found_of c.args.found.now)) c.args.ids.now c.loop-id.id-index (omega (arith, t))

@@ -5,4 +5,4 @@ use Rattle.leak_request.proofs.arguments.paths.Given as goal
 
 abbrev pub invariant-loop-id : goal.invariant-loop-id
 invariant-loop-id l =
-    map (λ text. Some (string_bytes text)) l.paths.items ≡ map (λ id. first_of id.now (rows_of (found_of l.found))) (take l.id-index l.id-items)
+    map (λ text. Some (string_bytes text)) l.paths.items ≡ map (λ id. first_of id.now (rows_of (found_of l.found))) (take l.id-index l.ids)

@@ -1,7 +1,7 @@
-use Rattle.std.proofs.Common.{rules, ◌≤◌}
+use Rattle.std.proofs.Common.{rules, subst, ◌≤◌}
 use Rattle.leak_index.specs.Readings.{listed_by}
 use Rattle.leak_pool.specs.Plan.{IsBetween}
-use Rattle.leak_request.specs.Requests.{found_rows}
+use Rattle.leak_request.specs.Requests.{AreAt, found_rows}
 use Rattle.leak_request.proofs.Complete.{none_lacks}
 use Rattle.leak_request.proofs.arguments.search_request.Goals as goal
 
@@ -12,7 +12,7 @@ returns-in-Err-clause-refused c =
     let piece : IsBetween 1 65536 plan.piece = search rules in
     let stack : plan.stack ≤ 65536 = search rules in (
       none_lacks c.args.name.now (found_rows c.args.found.now) c.in-Some.two c.in_ok-paths.paths.items
-          (record { workers = plan.workers; piece = plan.piece; stack = plan.stack }) c.in-Some.ensures.name c.in_ok-paths.ensures.ok workers piece stack
+          (record { workers = plan.workers; piece = plan.piece; stack = plan.stack }) c.in-Some.ensures.name (subst (λ ids. AreAt (found_rows c.args.found.now) ids c.in_ok-paths.paths.items) c.ids_of.ensures c.in_ok-paths.ensures.ok) workers piece stack
           c.in_ok-plan.ensures.ok,
       c.in-Err.ensures.refused,
     )
@@ -24,7 +24,7 @@ returns-then-other_heap-clause-refused c =
     let piece : IsBetween 1 65536 plan.piece = search rules in
     let stack : plan.stack ≤ 65536 = search rules in (
       none_lacks c.args.name.now (found_rows c.args.found.now) c.in-Some.two c.in_ok-paths.paths.items
-          (record { workers = plan.workers; piece = plan.piece; stack = plan.stack }) c.in-Some.ensures.name c.in_ok-paths.ensures.ok workers piece stack
+          (record { workers = plan.workers; piece = plan.piece; stack = plan.stack }) c.in-Some.ensures.name (subst (λ ids. AreAt (found_rows c.args.found.now) ids c.in_ok-paths.paths.items) c.ids_of.ensures c.in_ok-paths.ensures.ok) workers piece stack
           c.in_ok-plan.ensures.ok,
       (listed_by c.in-Ok.reading, c.in-Ok.ensures.ok),
       record { check = c.is_given-check.ensures.0 c.if-check.true; other_heap = c.is_given-other_heap.ensures.0 c.if-other_heap.true },
