@@ -1,3 +1,4 @@
+pub mod Slack
 pub mod Inputs
 pub mod Report
 pub mod Signs

@@ -1,13 +1,17 @@
 //! An input: a core, and the log of its allocations.
 
-ghost use Rattle.std.specs.Prelude.{◌≡◌, ◌≢◌, List, IfOk, IfErr};
+ghost use Rattle.std.specs.Prelude.{◌≡◌, ◌≢◌, List, [], IfOk, IfErr};
+ghost use Rattle.leak_blocks.specs.declared.small.Span.{Span};
 ghost use Rattle.leak_mtrace.specs.declared.line.Line.{Line};
 ghost use Rattle.leak_mtrace.specs.Log.{IsFirstFault};
+ghost use Rattle.leak_roots.specs.Roots.{AreRootsOf};
 ghost use Rattle.leak_input.specs.Inputs.{AreRootsFor, IsInput, IsInputFault, IsRead, IsReadLog};
+ghost use Rattle.leak_input.specs.Slack.{slack_in};
 
 use crate::error::{FindError, at_core, at_log, at_notes};
 use leak_blocks::{Live, Replayed, SmallSpans, replay_bytes, replay_with_spans};
 use leak_elf::Image;
+use leak_fit::slack_spans;
 use leak_mtrace::LogError;
 use leak_notes::Threads;
 use leak_roots::{Roots, Skip};
@@ -84,6 +88,20 @@ pub fn read_input<'a>(
     })
 }
 
+/// The root words of an input without those in slack, where its search leaves these out.
+fn without_slack(alloc: Global, input: &Input, roots: Roots) -> Result<Roots, AllocError>
+    ensures { (spans : List Span) → let input = input.now in let skip = input.skip in
+        AreRootsOf skip.unwritable input.image input.live.blocks spans [] roots
+        → IfOk result (AreRootsOf skip.unwritable input.image input.live.blocks spans
+        (slack_in skip input.image input.live.blocks)) }
+{
+    if !input.skip.slack {
+        return Ok(roots);
+    }
+    let slack = slack_spans(alloc, &input.image, &input.live)?;
+    roots.skip_slack(alloc, slack.ranges())
+}
+
 /// The root words of an input, without what its search leaves out.
 pub fn find_roots(alloc: Global, input: &Input) -> Result<Roots, AllocError>
     ensures { (lines : List Line) → IsInput lines input.now
@@ -97,5 +115,6 @@ pub fn find_roots(alloc: Global, input: &Input) -> Result<Roots, AllocError>
         &input.small,
         input.skip.unwritable,
     )?;
-    Ok(roots.skip_links(input.skip.links))
+    let kept = without_slack(alloc, input, roots)?;
+    Ok(kept.skip_links(input.skip.links))
 }

@@ -4,4 +4,6 @@ use Rattle.leak_input.proofs.inputs.find_roots.Goals as goal
 
 pub returns : goal.returns
 returns c = λ lines read.
-    roots_found lines c.args.input.now c.in_ok-roots.roots _ (c.in_ok-roots.ensures.of_core (spans_of c.args.input.now.skip lines) read.read.small (threads_read _ _ _ (lines, read.read))) c.skip_links.ensures
+    let spans = spans_of c.args.input.now.skip lines in
+    roots_found lines c.args.input.now c.in_ok-kept.kept _
+    (c.in_ok-kept.ensures spans (c.in_ok-roots.ensures.of_core spans read.read.small (threads_read _ _ _ (lines, read.read)))) c.skip_links.ensures
