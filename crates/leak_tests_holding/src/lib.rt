@@ -1,0 +1,12 @@
+//! Tests of marking without sets of blocks, over small graphs.
+//!
+//! They stand beside the crate, so that it is proved once, without its tests.
+#![tactic(auto)]
+
+// Blocks that lead to blocks, as lists.
+#[cfg(test)]
+mod lists;
+
+// Which numbers hold each block.
+#[cfg(test)]
+mod holding;
