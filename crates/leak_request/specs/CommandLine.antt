@@ -33,7 +33,8 @@ plan_rules = number_rule (codes "workers") (codes "4") 1 64
 -- the options that say which words keep a block
 abbrev pub reading_rules : List Rule
 reading_rules = text_rule (codes "displace") ∷ flag_rule (codes "skip-ends") ∷ flag_rule (codes "all-memory")
-    ∷ flag_rule (codes "skip-freed") ∷ flag_rule (codes "skip-links") ∷ []
+    ∷ flag_rule (codes "skip-freed") ∷ flag_rule (codes "skip-links")
+    ∷ flag_rule (codes "skip-slack") ∷ []
 
 -- the options about the signs that a core and its log don't belong together
 abbrev pub sign_rules : List Rule

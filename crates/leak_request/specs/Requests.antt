@@ -67,6 +67,7 @@ pub record IsSearchRequest (name : Text) (rows : List Row) (r : Request) : Type 
   pub ends : IsTrue (distances_of r.options.reading).skips_ends ↔ IsGiven rows (codes "skip-ends")
   pub freed : IsTrue r.options.skip.freed ↔ IsGiven rows (codes "skip-freed")
   pub links : IsTrue r.options.skip.links ↔ IsGiven rows (codes "skip-links")
+  pub slack : IsTrue r.options.skip.slack ↔ IsGiven rows (codes "skip-slack")
   pub unwritable : IsFalse r.options.skip.unwritable ↔ IsGiven rows (codes "all-memory")
   pub check : IsTrue r.options.check ↔ IsGiven rows (codes "check")
   pub checked : IsTrue r.options.check → IsFalse r.options.other_heap
@@ -90,6 +91,7 @@ pub record IsWhyRequest (rows : List Row) (r : Request) : Type 0 where
   pub ends : IsTrue (distances_of r.options.reading).skips_ends ↔ IsGiven rows (codes "skip-ends")
   pub freed : IsTrue r.options.skip.freed ↔ IsGiven rows (codes "skip-freed")
   pub links : IsTrue r.options.skip.links ↔ IsGiven rows (codes "skip-links")
+  pub slack : IsTrue r.options.skip.slack ↔ IsGiven rows (codes "skip-slack")
   pub unwritable : IsFalse r.options.skip.unwritable ↔ IsGiven rows (codes "all-memory")
   pub check : r.options.check ≡ false
   pub other_heap : r.options.other_heap ≡ false

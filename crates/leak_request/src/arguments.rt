@@ -136,12 +136,14 @@ fn why_request(alloc: Global, found: &ArgMatches) -> Result<Request, UsageFault>
 fn skip(found: &ArgMatches) -> Skip
     ensures freed { IsTrue result.freed ↔ IsGiven (found_rows found.now) (codes "skip-freed") }
     ensures links { IsTrue result.links ↔ IsGiven (found_rows found.now) (codes "skip-links") }
+    ensures slack { IsTrue result.slack ↔ IsGiven (found_rows found.now) (codes "skip-slack") }
     ensures unwritable { IsFalse result.unwritable
         ↔ IsGiven (found_rows found.now) (codes "all-memory") }
 {
     Skip {
         freed: is_given(found, "skip-freed"),
         links: is_given(found, "skip-links"),
+        slack: is_given(found, "skip-slack"),
         unwritable: !is_given(found, "all-memory"),
     }
 }

@@ -42,6 +42,10 @@ const SKIP_FREED: &str = "Leave out pointers in freed memory of blocks below 131
 /// What help says of `--skip-links`.
 const SKIP_LINKS: &str = "Leave out the links of glibc's malloc to free chunks of its heap";
 
+/// What help says of `--skip-slack`.
+const SKIP_SLACK: &str =
+    "Leave out pointers in what glibc's malloc gave a block past its size, as no program uses that";
+
 /// What help says of `--check`.
 const CHECK: &str = "List the live blocks that have no chunk of their size in use in glibc's heap";
 
@@ -132,7 +136,8 @@ fn with_reading<'a>(alloc: Global, command: Command<'a>) -> Result<Command<'a>, 
         .arg(flag(alloc, "skip-ends", SKIP_ENDS))?
         .arg(flag(alloc, "all-memory", ALL_MEMORY))?
         .arg(flag(alloc, "skip-freed", SKIP_FREED))?
-        .arg(flag(alloc, "skip-links", SKIP_LINKS))
+        .arg(flag(alloc, "skip-links", SKIP_LINKS))?
+        .arg(flag(alloc, "skip-slack", SKIP_SLACK))
 }
 
 /// The command with the options about the signs that a core and its log do not belong together.

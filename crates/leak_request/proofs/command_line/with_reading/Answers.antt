@@ -10,7 +10,8 @@ returns-clause-local c =
     let second = globals_more c.in_ok-arg-2.ensures c.flag.ensures.local first in
     let third = globals_more c.in_ok-arg-3.ensures c.flag-2.ensures.local second in
     let fourth = globals_more c.in_ok-arg-4.ensures c.flag-3.ensures.local third in
-    IfOk-weaker c.arg-5.result _ _ (λ r added. globals_more added c.flag-4.ensures.local fourth) c.arg-5.ensures
+    let fifth = globals_more c.in_ok-arg-5.ensures c.flag-4.ensures.local fourth in
+    IfOk-weaker c.arg-6.result _ _ (λ r added. globals_more added c.flag-5.ensures.local fifth) c.arg-6.ensures
 
 pub returns-clause-line : goal.returns-clause-line
 returns-clause-line c =
@@ -18,4 +19,5 @@ returns-clause-line c =
     let second = line_more c.in_ok-arg-2.ensures c.flag.ensures.local c.flag.ensures.rule first in
     let third = line_more c.in_ok-arg-3.ensures c.flag-2.ensures.local c.flag-2.ensures.rule second in
     let fourth = line_more c.in_ok-arg-4.ensures c.flag-3.ensures.local c.flag-3.ensures.rule third in
-    IfOk-weaker c.arg-5.result _ _ (λ r added. line_more added c.flag-4.ensures.local c.flag-4.ensures.rule fourth) c.arg-5.ensures
+    let fifth = line_more c.in_ok-arg-5.ensures c.flag-4.ensures.local c.flag-4.ensures.rule fourth in
+    IfOk-weaker c.arg-6.result _ _ (λ r added. line_more added c.flag-5.ensures.local c.flag-5.ensures.rule fifth) c.arg-6.ensures
