@@ -11,6 +11,7 @@ import rows_options
 import rows_pairs
 import rows_places
 import rows_refused
+import rows_slack
 import rows_two
 import rows_why
 import rows_words
@@ -18,6 +19,6 @@ import rows_words
 
 def all_cases():
     """The cases of each file of rows."""
-    tables = (rows_one, rows_two, rows_freed, rows_links, rows_memory, rows_ends, rows_options, rows_fit, rows_refused, rows_pairs,
+    tables = (rows_one, rows_two, rows_freed, rows_links, rows_slack, rows_memory, rows_ends, rows_options, rows_fit, rows_refused, rows_pairs,
               rows_why, rows_words, rows_places, rows_callers)
     return [case for table in tables for case in table.cases()]

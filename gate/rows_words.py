@@ -14,7 +14,7 @@ HELP = Path(__file__).parent / "help"
 PROGRAM = "leak_find <COMMAND>"
 USAGE = {"one": "<CORE> <LOG>", "two": "<CORE1> <LOG1> <CORE2> <LOG2>", "why": "<CORE> <LOG> <ADDRESS>"}
 ONE = "one core.k trace.log "
-READING = ("--skip-ends", "--all-memory", "--skip-freed", "--skip-links")  # the flags that `why` has too
+READING = ("--skip-ends", "--all-memory", "--skip-freed", "--skip-links", "--skip-slack")  # the flags that `why` has too
 
 
 def clap(error, usage="", tip=""):
