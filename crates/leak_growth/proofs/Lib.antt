@@ -1,0 +1,5 @@
+pub mod RowLemmas
+pub mod SumLemmas
+pub mod RankLemmas
+pub mod OrderLemmas
+pub mod PartLemmas

@@ -1,0 +1,18 @@
+//! What grew between two logs of one process.
+//!
+//! [`text`] makes the report of what two logs come to: for each text of a caller, how many blocks and bytes were live in the first
+//! log and are in the second, and how many of the latter are new. The rows stand by growth in bytes, the greatest first. A text whose
+//! blocks are the same ones has no row. The lines are own rule, stated in `specs/Report.antt`.
+//!
+//! The contracts don't say that the second log goes on where the first ends: [`Logs`] says how many lines the first one has.
+#![tactic(auto)]
+
+mod growing;
+mod lines;
+mod report;
+mod rows;
+mod summing;
+
+pub use report::{Logs, text};
+pub use rows::Row;
+pub use summing::Sizes;
