@@ -4,7 +4,7 @@ use Rattle.leak_index.specs.Readings.{distances_of}
 use Rattle.leak_input.specs.Signs.{AreSigns}
 use Rattle.leak_request.specs.declared.options.Options.{Options}
 use Rattle.leak_holding.specs.declared.finding.Holding.{Holding}
-use Rattle.leak_holding.specs.Holding.{FindsHolders}
+use Rattle.leak_holding.specs.Holders.{FindsHolders}
 use Rattle.leak_find.specs.Run.{limit_at}
 use Rattle.leak_find.specs.Holders.{HasHeld}
 use Rattle.leak_find.proofs.RunLemmas.{SoFar}

@@ -6,7 +6,7 @@ use Rattle.leak_report.specs.declared.output.WriteFault.{WriteFault}
 use Rattle.leak_request.specs.declared.options.Options.{Options}
 use Rattle.leak_input.specs.Signs.{AreSigns}
 use Rattle.leak_holding.specs.declared.finding.Holding.{Holding}
-use Rattle.leak_holding.specs.Holding.{FindsHolders}
+use Rattle.leak_holding.specs.Holders.{FindsHolders}
 use Rattle.leak_find.specs.declared.fault.RunFault.{RunFault}
 use Rattle.leak_find.specs.declared.fault.RunFault.TheVariants.{Read, Find, NoBlock, Write}
 use Rattle.leak_find.specs.Run.{AreInputs, IsFindFault, IsReadFault, input_at, status_by, warnings_by}
