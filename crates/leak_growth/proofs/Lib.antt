@@ -3,3 +3,4 @@ pub mod SumLemmas
 pub mod RankLemmas
 pub mod OrderLemmas
 pub mod PartLemmas
+pub mod GrowthLemmas

@@ -4,15 +4,17 @@
 //! log and are in the second, and how many of the latter are new. The rows stand by growth in bytes, the greatest first. A text whose
 //! blocks are the same ones has no row. The lines are own rule, stated in `specs/Report.antt`.
 //!
-//! The contracts don't say that the second log goes on where the first ends: [`Logs`] says how many lines the first one has.
+//! [`find_growth`] does so from the bytes of both logs, or gives their first fault.
 #![tactic(auto)]
 
 mod growing;
+mod growth;
 mod lines;
 mod report;
 mod rows;
 mod summing;
 
+pub use growth::{Grown, find_growth};
 pub use report::{Logs, text};
 pub use rows::Row;
 pub use summing::Sizes;
