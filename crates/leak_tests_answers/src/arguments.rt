@@ -20,14 +20,36 @@ fn asked<R: Abort + AllocGlobal>(
     Ok(request(rt.alloc(), words.as_slice()))
 }
 
-/// A request in words: its options, its address and then its paths.
-fn shown<R: AllocGlobal>(rt: &R, request: &Request) -> Result<String, AllocError> {
-    let mut text = format!(in rt.alloc(); "{:?} {:?}", request.options, request.address)?;
-    for path in &request.paths {
+/// The words with each of the paths behind them.
+fn with_paths(mut text: String, paths: &[String]) -> Result<String, AllocError> {
+    for path in paths {
         text.push(' ')?;
         text.push_str(path.as_str())?;
     }
     Ok(text)
+}
+
+/// A request in words: its kind, its options, the address of the block that is asked for, and then its paths.
+fn shown<R: AllocGlobal>(rt: &R, request: &Request) -> Result<String, AllocError> {
+    let alloc = rt.alloc();
+    match request {
+        Request::Search(r) => with_paths(
+            format!(in alloc; "search {:?}", r.options)?,
+            r.paths.as_slice(),
+        ),
+        Request::Why(r) => with_paths(
+            format!(in alloc; "why {:?} {}", r.options, r.address)?,
+            r.paths.as_slice(),
+        ),
+        Request::Holders(r) => with_paths(
+            format!(in alloc; "holders {:?}", r.options)?,
+            r.paths.as_slice(),
+        ),
+        Request::Grow(r) => with_paths(
+            format!(in alloc; "grow {:?}", r.options)?,
+            r.paths.as_slice(),
+        ),
+    }
 }
 
 /// The options of a search within the program's limits.
@@ -87,7 +109,7 @@ fn takes<R: Abort + AllocGlobal>(
     paths: &str,
 ) -> Result<(), Fail> {
     let request = asked(rt, line)??;
-    let want = format!(in rt.alloc(); "{options:?} None {paths}")?;
+    let want = format!(in rt.alloc(); "search {options:?} {paths}")?;
     same_in(rt, &line, shown(rt, &request)?.as_str(), want.as_str());
     Ok(())
 }
@@ -101,8 +123,21 @@ fn asks<R: Abort + AllocGlobal>(
     paths: &str,
 ) -> Result<(), Fail> {
     let request = asked(rt, line)??;
-    let want = format!(in rt.alloc(); "{options:?} {:?} {paths}", Some(address))?;
+    let want = format!(in rt.alloc(); "why {options:?} {address} {paths}")?;
     same_in(rt, &line, shown(rt, &request)?.as_str(), want.as_str());
+    Ok(())
+}
+
+#[test]
+fn requests_of_holders_and_growth(rt: HostRuntime) -> Result<(), Fail> {
+    let plan = Plan::new(2, 512, 1024)?;
+    let options = skipping(options(false, Reading::interior(), plan), true, false);
+    let want = format!(in rt.alloc(); "holders {options:?} c l")?;
+    let request = asked(&rt, "holders c l --skip-freed --workers 2")??;
+    same(&rt, shown(&rt, &request)?.as_str(), want.as_str());
+    let request = asked(&rt, "grow --strict l m")??;
+    let want = "grow GrowOptions { strict: true, log_limit: 4294967296 } l m";
+    same(&rt, shown(&rt, &request)?.as_str(), want);
     Ok(())
 }
 
