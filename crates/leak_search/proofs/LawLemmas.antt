@@ -17,10 +17,12 @@ use Rattle.leak_blocks.specs.Small.{small_spans_of}
 use Rattle.leak_index.specs.Leads.{Distances}
 use Rattle.leak_index.specs.Hits.{Index, hits_of}
 use Rattle.leak_roots.specs.declared.skip.Skip.{Skip}
-use Rattle.leak_roots.specs.Roots.{has_roots, is_freed, outside_places, outside_places_in, root_places}
+use Rattle.leak_roots.specs.Roots.{has_roots, is_inside, outside_places, outside_places_in, root_places}
 use Rattle.leak_roots.specs.Skipped.{spans_of}
-use Rattle.leak_roots.proofs.LeftOut.{none_freed}
+use Rattle.leak_input.specs.Slack.{slack_in}
+use Rattle.leak_roots.proofs.LeftOut.{no_spans_inside}
 use Rattle.leak_fit.specs.FreeLinks.{is_free_link_past}
+use Rattle.leak_fit.specs.Slack.{slack_spans_of}
 use Rattle.leak_scan.specs.RootWords.{held_by, held_from, targets_without_links}
 use Rattle.leak_scan.specs.Targets.{targets_of}
 use Rattle.leak_marks.specs.Lists.{Has, Within, times}
@@ -106,11 +108,11 @@ each_less f g (a ∷ places) x h = omega (arith, times-append x (f a) (flat_map 
 
 -- ---- where less is left out
 
--- a place that isn't freed where more is left out isn't freed where less is
-freed_less : (less more : Bool) (small : List Span) (a : ℕ) → (less ≡ true → more ≡ true) → not (is_freed (if more then small else []) a) ≡ true → not (is_freed (if less then small else []) a) ≡ true
-freed_less true true small a h is = is
-freed_less true false small a h is = absurd (let e = h refl in cc)
-freed_less false more small a h is = ap not (none_freed [] a refl)
+-- a place that is outside the spans where more is left out is outside them where less is
+inside_less : (less more : Bool) (small : List Span) (a : ℕ) → (less ≡ true → more ≡ true) → not (is_inside (if more then small else []) a) ≡ true → not (is_inside (if less then small else []) a) ≡ true
+inside_less true true small a h is = is
+inside_less true false small a h is = absurd (let e = h refl in cc)
+inside_less false more small a h is = ap not (no_spans_inside [] a refl)
 
 -- a segment that has root words where more is left out has some where less is
 roots_less : (less more : Bool) (s : Segment) → (less ≡ true → more ≡ true) → has_roots more s ≡ true → has_roots less s ≡ true
@@ -123,22 +125,39 @@ roots_less false more s h is = always s.writable
     always true = refl
     always false = refl
 
+-- what passes one test and then another passes both
+filter_twice : (p q : ℕ → Bool) (places : List ℕ) → filter p (filter q places) ≡ filter (λ a. q a && p a) places
+filter_twice p q [] = refl
+filter_twice p q (a ∷ places) =
+    elim (q a) as (λ t. filter p (cond t (a ∷ filter q places) (filter q places)) ≡ cond (t && p a) (a ∷ filter (λ b. q b && p b) places) (filter (λ b. q b && p b) places)) [
+      | true ↦ ap (λ (others : List ℕ). cond (p a) (a ∷ others) others) (filter_twice p q places)
+      | false ↦ filter_twice p q places
+    ]
+
+and_less : (s t u v : Bool) → (s ≡ true → t ≡ true) → (u ≡ true → v ≡ true) → (s && u) ≡ true → (t && v) ≡ true
+and_less true t true v i j h = rw (i refl, j refl) refl
+and_less true t false v i j h = absurd cc
+and_less false t u v i j h = absurd cc
+
 memory_less : (core : List ℕ) (index : Index) (less more : Skip) (lines : List Line) (x : ℕ) → LeavesOutNoMore less more
-    → times x (led_in_memory more.links (word_of core) index (root_places more.unwritable core (live_of lines) (spans_of more lines)))
-    ≤ times x (led_in_memory less.links (word_of core) index (root_places less.unwritable core (live_of lines) (spans_of less lines)))
+    → times x (led_in_memory more.links (word_of core) index (root_places more.unwritable core (live_of lines) (spans_of more lines) (slack_in more core (live_of lines))))
+    ≤ times x (led_in_memory less.links (word_of core) index (root_places less.unwritable core (live_of lines) (spans_of less lines) (slack_in less core (live_of lines))))
 unfolding root_places outside_places
 memory_less core index less more lines x h =
     let w = word_of core in
     let segments = segments_of core in
     let o = outside_places_in core (live_of lines) in
-    let kept = λ (skip : Skip) (a : ℕ). not (is_freed (spans_of skip lines) a) in
+    let kept = λ (skip : Skip) (a : ℕ). not (is_inside (spans_of skip lines) a) in
+    let spare = λ (skip : Skip) (a : ℕ). not (is_inside (slack_in skip core (live_of lines)) a) in
+    let both = λ (skip : Skip) (a : ℕ). kept skip a && spare skip a in
     let places = flat_map o (filter (has_roots more.unwritable) segments) in
     let others = flat_map o (filter (has_roots less.unwritable) segments) in
-    let left = led_is more.links w index (filter (kept more) places) in
-    let right = led_is less.links w index (filter (kept less) others) in
-    let one = each_less (led_at more.links w index) (led_at less.links w index) (filter (kept more) places) x (λ a. led_less less.links more.links w index a x h.links) in
-    let two = fewer (led_at less.links w index) (kept more) (kept less) places x (λ a. freed_less less.freed more.freed (small_spans_of lines) a h.freed) in
-    let three = fewer_segments (led_at less.links w index) (kept less) o (has_roots more.unwritable) (has_roots less.unwritable) segments x (λ s. roots_less less.unwritable more.unwritable s h.unwritable) in
+    let left = led_is more.links w index (filter (spare more) (filter (kept more) places)) ∙ ap (flat_map (led_at more.links w index)) (filter_twice (spare more) (kept more) places) in
+    let right = led_is less.links w index (filter (spare less) (filter (kept less) others)) ∙ ap (flat_map (led_at less.links w index)) (filter_twice (spare less) (kept less) others) in
+    let one = each_less (led_at more.links w index) (led_at less.links w index) (filter (both more) places) x (λ a. led_less less.links more.links w index a x h.links) in
+    let two = fewer (led_at less.links w index) (both more) (both less) places x (λ a. and_less (kept more a) (kept less a) (spare more a) (spare less a)
+    (inside_less less.freed more.freed (small_spans_of lines) a h.freed) (inside_less less.slack more.slack (slack_spans_of w (live_of lines)) a h.slack)) in
+    let three = fewer_segments (led_at less.links w index) (both less) o (has_roots more.unwritable) (has_roots less.unwritable) segments x (λ s. roots_less less.unwritable more.unwritable s h.unwritable) in
     rw (left, right) (omega (arith, one, two, three))
 
 pub first_within : (core : List ℕ) (reading : Distances) (less more : Skip) (lines : List Line) → LeavesOutNoMore less more
@@ -148,8 +167,8 @@ first_within core reading less more lines h x has =
     let w = word_of core in
     let registers = targets_of index (registers_of core) in
     let few = memory_less core index less more lines x h in
-    let left = times-append x registers (led_in_memory more.links w index (root_places more.unwritable core (live_of lines) (spans_of more lines))) in
-    let right = times-append x registers (led_in_memory less.links w index (root_places less.unwritable core (live_of lines) (spans_of less lines))) in
+    let left = times-append x registers (led_in_memory more.links w index (root_places more.unwritable core (live_of lines) (spans_of more lines) (slack_in more core (live_of lines)))) in
+    let right = times-append x registers (led_in_memory less.links w index (root_places less.unwritable core (live_of lines) (spans_of less lines) (slack_in less core (live_of lines)))) in
     omega (arith, few, left, right, has)
 
 pub marked_with_less : (core : List ℕ) (reading : Distances) (less more : Skip) (lines : List Line) (i : ℕ) → LeavesOutNoMore less more

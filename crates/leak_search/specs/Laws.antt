@@ -10,6 +10,7 @@ use Rattle.leak_search.specs.SearchTwo.{IsMarkedEarlier, graph_of_later, kept_bl
 -- what the one search leaves out, the other leaves out too
 pub record LeavesOutNoMore (less more : Skip) : Type 0 where
   pub freed : IsTrue less.freed → IsTrue more.freed
+  pub slack : IsTrue less.slack → IsTrue more.slack
   pub links : IsTrue less.links → IsTrue more.links
   pub unwritable : IsTrue less.unwritable → IsTrue more.unwritable
 

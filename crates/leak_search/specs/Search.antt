@@ -11,6 +11,7 @@ use Rattle.leak_roots.specs.declared.skip.Skip.{Skip}
 use Rattle.leak_notes.specs.Threads.{registers_of}
 use Rattle.leak_roots.specs.Roots.{root_places}
 use Rattle.leak_roots.specs.Skipped.{spans_of, freed_of}
+use Rattle.leak_input.specs.Slack.{slack_in}
 use Rattle.leak_scan.specs.Heads.{heads_of}
 use Rattle.leak_marks.specs.Reach.{Graph, Reach}
 use Rattle.leak_marks.specs.Partition.{Partitions}
@@ -30,7 +31,7 @@ index_of reading lines = record { blocks = live_of lines; reading = reading }
 abbrev pub first_of : List ℕ → Index → Skip → List Line → List ℕ
 first_of core index skip lines =
     led_from skip.links (word_of core) index (registers_of core)
-    (root_places skip.unwritable core (live_of lines) (spans_of skip lines))
+    (root_places skip.unwritable core (live_of lines) (spans_of skip lines) (slack_in skip core (live_of lines)))
 
 -- which live block leads to which, and which of them the root words of the core lead to
 abbrev pub graph_of_one : List ℕ → Distances → Skip → List Line → Graph
