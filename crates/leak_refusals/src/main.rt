@@ -22,7 +22,7 @@ use std::rt::Env;
 use std::thread::Threads;
 
 /// The calls, by name.
-static CALLS: [&str; 43] = [
+static CALLS: [&str; 45] = [
     "core_k",
     "Image::read",
     "Threads::read",
@@ -35,6 +35,7 @@ static CALLS: [&str; 43] = [
     "Paged::new",
     "Roots::find",
     "Roots::find_unfreed",
+    "Roots::skip_slack",
     "cut",
     "pieces",
     "Claims::new",
@@ -56,6 +57,7 @@ static CALLS: [&str; 43] = [
     "find_alone_unfreed",
     "find_alone_checked",
     "find_alone_unlinked",
+    "find_alone_unslacked",
     "find_one",
     "find_two",
     "find_why",
@@ -123,6 +125,7 @@ fn answer_of<R: AllocGlobal + Threads + Sync>(rt: &R, name: &str) -> Option<Answ
         "Paged::new" => searching::paged(alloc),
         "Roots::find" => searching::roots(alloc),
         "Roots::find_unfreed" => searching::unfreed_roots(alloc),
+        "Roots::skip_slack" => searching::unslacked_roots(alloc),
         "cut" => searching::cut(alloc),
         "pieces" => searching::pieces(alloc),
         "Claims::new" => marking::claims(alloc),
@@ -144,6 +147,7 @@ fn answer_of<R: AllocGlobal + Threads + Sync>(rt: &R, name: &str) -> Option<Answ
         "find_alone_unfreed" => whole::unfreed(alloc),
         "find_alone_checked" => whole::checked(alloc),
         "find_alone_unlinked" => whole::unlinked(alloc),
+        "find_alone_unslacked" => whole::unslacked(alloc),
         "find_one" => whole::by_workers(rt),
         "find_two" => whole::two_cores(rt),
         "find_why" => whole::held_by(alloc),

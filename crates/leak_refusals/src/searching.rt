@@ -2,7 +2,7 @@
 
 use crate::answer::Answer;
 use crate::samples::{core_of, live_of};
-use leak_blocks::{SmallSpans, replay, small_spans};
+use leak_blocks::{SmallSpans, Span, replay, small_spans};
 use leak_elf::Image;
 use leak_index::{Hits, Lookup, Paged, Reading};
 use leak_mtrace::Log;
@@ -52,6 +52,26 @@ pub(crate) fn unfreed_roots(alloc: Global) -> Option<Answer> {
         Ok(roots) => Some(Answer::of(
             roots.freed() == 4
                 && roots.memory() == [(0x10000u64, 0x10100u64), (0x10120, 0x11000)].as_slice(),
+        )),
+        Err(_) => Some(Answer::Wanting),
+    }
+}
+
+/// `Roots::skip_slack` of the sample core with a block of 8 bytes, whose slack has two words.
+pub(crate) fn unslacked_roots(alloc: Global) -> Option<Answer> {
+    let core = core_of(alloc, &[])?;
+    let image = Image::read(alloc, core.as_slice()).ok()?;
+    let threads = Threads::read(alloc, &image).ok()?;
+    let live = live_of(alloc, "+ 0x10100 0x8\n")?;
+    let small = SmallSpans::none(alloc);
+    let roots = Roots::find(alloc, &image, &threads, &live, &small, true).ok()?;
+    let slack = [Span {
+        first: 0x10108,
+        last: 0x10117,
+    }];
+    match roots.skip_slack(alloc, slack.as_slice()) {
+        Ok(roots) => Some(Answer::of(
+            roots.memory() == [(0x10000u64, 0x10100u64), (0x10118, 0x11000)].as_slice(),
         )),
         Err(_) => Some(Answer::Wanting),
     }

@@ -173,6 +173,40 @@ pub(crate) fn unlinked(alloc: Global) -> Option<Answer> {
     Some(answer_of(found, UNLINKED))
 }
 
+/// The report of two blocks to which only words in slack lead.
+const UNSLACKED: &str = "blocks 2 bytes 24\n\
+                         undumped 0\n\
+                         unknown 0 displaced 0 torn 0\n\
+                         marked 0 bytes 0\n\
+                         leaked 2 bytes 24\n\
+                         heads 2\n\
+                         caller 2 24 2 ?\n\
+                         leak 0x10100 8 1 head ?\n\
+                         leak 0x10200 16 2 head ?\n";
+
+/// `find_alone` without slack, of two blocks to which only words there lead.
+pub(crate) fn unslacked(alloc: Global) -> Option<Answer> {
+    let words = [
+        (0x100f8, 0x21),
+        (0x10108, 0x10200),
+        (0x10110, 0x10100),
+        (0x10118, 0x21),
+    ];
+    let core = core_of(alloc, &words)?;
+    let found = find_alone(
+        alloc,
+        core.as_slice(),
+        b"+ 0x10100 0x8\n+ 0x10200 0x10\n",
+        Reading::interior(),
+        Skip {
+            slack: true,
+            ..Skip::usual()
+        },
+        false,
+    );
+    Some(answer_of(found, UNSLACKED))
+}
+
 /// `find_one` of the chain of a hundred by three workers.
 pub(crate) fn by_workers<R: AllocGlobal + Threads + Sync>(rt: &R) -> Option<Answer> {
     let sample: Sample = chain(rt.alloc())?;

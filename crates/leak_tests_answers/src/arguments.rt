@@ -57,6 +57,17 @@ fn skipping(options: Options, freed: bool, links: bool) -> Options {
     }
 }
 
+/// The options with slack left out.
+fn without_slack(options: Options) -> Options {
+    Options {
+        skip: Skip {
+            slack: true,
+            ..options.skip
+        },
+        ..options
+    }
+}
+
 /// The options with all memory taken.
 fn with_all_memory(options: Options) -> Options {
     Options {
@@ -163,6 +174,7 @@ fn requests_with_flags(rt: HostRuntime) -> Result<(), Fail> {
             "one --skip-links a --skip-freed b",
             skipping(usual, true, true),
         ),
+        ("one a b --skip-slack", without_slack(usual)),
         ("one a b --all-memory", with_all_memory(usual)),
         (
             "one --skip-freed a --all-memory b",
@@ -209,6 +221,10 @@ fn requests_of_two_cores(rt: HostRuntime) -> Result<(), Fail> {
         ),
         ("two a --all-memory b c d", with_all_memory(usual)),
         (
+            "two a --skip-slack b --skip-freed c d",
+            without_slack(skipping(usual, true, false)),
+        ),
+        (
             "two --skip-links --check a b --skip-freed c d --strict",
             all,
         ),
@@ -236,6 +252,7 @@ fn requests_for_a_block(rt: HostRuntime) -> Result<(), Fail> {
         ("why a b 0xffffffffffffffff", usual, u64::MAX, "a b"),
         ("why a b 0x0000000000000001", usual, 1, "a b"),
         ("why --skip-links a b --skip-freed 0x0", neither, 0, "a b"),
+        ("why a b 0x0 --skip-slack", without_slack(usual), 0, "a b"),
         ("why a b 0x10 --displace 8,16", narrow, 16, "a b"),
         (
             "why a b 0x10 --skip-ends",

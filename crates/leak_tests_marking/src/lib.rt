@@ -35,6 +35,10 @@ mod fit_links;
 #[cfg(test)]
 mod roots;
 
+// What malloc gives blocks past their size, and root words without that.
+#[cfg(test)]
+mod slack;
+
 // Blocks that the words of a range lead to.
 #[cfg(test)]
 mod scan;
