@@ -1,8 +1,9 @@
 pub mod Numbers
 pub mod Bits
 pub mod Owning
-pub mod Holding
+pub mod Held
 pub mod Within
 pub mod Members
 pub mod Ranks
 pub mod Orders
+pub mod Telling

@@ -1,2 +1,3 @@
 pub mod Holders
 pub mod Tallies
+pub mod Examples
