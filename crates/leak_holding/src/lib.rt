@@ -1,0 +1,35 @@
+//! Who holds the memory: which callers' blocks keep which blocks from leaking.
+//!
+//! Blocks go by the text of their caller in the log. A text holds a block if a chain of words reaches the block from the roots,
+//! and no chain does so without passing a block of that text. [`find_holders`] searches a core and its log, and tells for each
+//! text that holds a block how many it holds and how many bytes they have, how many of its own blocks are reached, how many
+//! other texts hold all of these, and the address of the first of them, for who asks why it is held.
+//!
+//! What the report says is stated in `specs/Holders.antt`, and its lines in `specs/Text.antt`. For every accepted input, every
+//! number of workers and every cutting of the work the report is the same. Where an input is not accepted, the answer is the
+//! first refusal by the order of [`FindError`](leak_input::FindError).
+//!
+//! A block of 32 bytes that a word of writable memory leads to:
+//!
+//! ```text
+//! use leak_elf::core_k;
+//! use leak_holding::find_holders;
+//! use leak_index::Reading;
+//! use leak_pool::{Open, Plan};
+//! use leak_roots::Skip;
+//!
+//! let core = core_k(alloc, &[(0x10008, 0x10100)])?;
+//! let log = b"@ ./a.out:[0x401136] + 0x10100 0x20\n";
+//! let plan = Plan::new(4, 1024, 256)?;
+//! let found = find_holders(rt, alloc, &core, log, Reading::interior(), Skip::usual(), plan, &Open)?;
+//! // Its last line is 'holder 1 32 1 32 0 0x10100 ./a.out:[0x401136]'
+//! ```
+//!
+//! The contracts don't say that a log is complete, or how long it takes: it marks once for each 64 texts.
+#![tactic(auto)]
+
+mod finding;
+mod ranking;
+mod telling;
+
+pub use finding::{Holding, find_holders};
