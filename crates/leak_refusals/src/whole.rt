@@ -5,8 +5,9 @@ ghost use Rattle.std.specs.Prelude.{◌≡◌};
 use crate::answer::Answer;
 use crate::samples::{MOVED, ONE_BLOCK, Sample, TWO_BLOCKS, chain, core_of, set, vector_core};
 use leak_find::{
-    FindError, Found, Options, ReadFault, RunFault, Skip, UsageFault, WhyError, find_alone,
-    find_one, find_two, find_why, read_all, request, run, run_sized, run_why, run_why_sized,
+    FindError, Found, Options, ReadFault, Request, RunFault, Skip, UsageFault, WhyError,
+    find_alone, find_one, find_two, find_why, read_all, request, run, run_sized, run_why,
+    run_why_sized,
 };
 use leak_index::Reading;
 use leak_pool::{Open, Plan};
@@ -438,7 +439,7 @@ pub(crate) fn command_line(alloc: Global) -> Option<Answer> {
         return Some(Answer::Other);
     }
     match request(alloc, words.as_slice()) {
-        Ok(request) => Some(Answer::of(
+        Ok(Request::Search(request)) => Some(Answer::of(
             !request.options.two
                 && request.paths.len() == 2
                 && request.options.plan.workers() == 4
@@ -446,6 +447,6 @@ pub(crate) fn command_line(alloc: Global) -> Option<Answer> {
                 && request.options.plan.stack() == 1024,
         )),
         Err(UsageFault::NoMemory) => Some(Answer::Wanting),
-        Err(_) => Some(Answer::Other),
+        _ => Some(Answer::Other),
     }
 }
