@@ -68,7 +68,7 @@ static int is_whole(struct core *core, uint64_t at, uint64_t size)
 {
     uint64_t next;
 
-    return is_word(core, at + size, size) && word(core, at + size + CHUNK_HEAD, &next) && !(next & PREV_INUSE);
+    return size >= LEAST && is_word(core, at + size, size) && word(core, at + size + CHUNK_HEAD, &next) && !(next & PREV_INUSE);
 }
 
 /* By the chunk's end: malloc has put the rest of a free chunk into a list, and behind the rest stands yet the size of the whole; or
