@@ -1,10 +1,12 @@
-# leak_walk: known and real programs, each dumped once under leak_trace, whose table must have the same blocks as the heap; programs stopped at
-# any moment; damaged heaps; what is refused; and leaks of programs that nobody prepared.
+# leak_walk: known and real programs, each dumped once under leak_trace, whose table must have the same blocks as the heap; a program stopped
+# after each instruction of malloc; programs killed at any moment; damaged heaps; what is refused; and leaks of programs that nobody prepared.
 section the heap itself
 build walk_leaks.c
 build walk_storm.c
 build walk_types.cc
 build walk_none.c
+build walk_step.c
+build walk_stepped.c
 walk=$kit/leak_walk
 
 # walked NAME [MORE]: the log of the heap of NAME.core against the table's log. So many blocks may be in the heap alone.
@@ -47,10 +49,27 @@ sys.stdin.readline()'
     traced gdb gdb -nx -q "$kit/leak_trace.so"
 fi
 
+# A core of each moment at which memory changes inside malloc, realloc, memalign and free; by registers the walk knows what they were about
+# to write.
+section stopped after each instruction
+while read -r kind calls fresh; do
+    limited 300 ./walk_step "$walk" "$kind" "$calls" $fresh > stepped
+    verdict "$kind: each moment is walked right" 'refused 0 missing 0 freed 0 lost 0 more 0' "$(tail -n 1 stepped)"
+    echo "     $(grep instructions stepped)"
+    [ "$fresh" ] ||
+        verdict "$kind: without registers some are refused" yes "$(awk '/instructions/ { print ($5 > 0 ? "yes" : "no") }' stepped)"
+done << 'END'
+main 12
+thread 12
+sbrk 10
+thread 1 fresh
+END
+rm -f step.core
+
 # The kernel's core of a process that is killed, as it stands: NAME.core, and by its table NAME.log.
 section eight busy threads, killed at any moment
 storms=${STORMS:-0}
-# One of some hundred fails, and it is not known why (docs/LIMITS.md): so they are made by hand, by walk_long.sh.
+# Each takes four seconds or more: so they are made by hand, by walk_long.sh.
 [ "$storms" != 0 ] || leave_out 'programs that are killed at any moment: STORMS=50 makes fifty'
 [ "$dumps_core" ] || { leave_out 'cores of any moment: the kernel writes none here'; storms=0; }
 bad=0

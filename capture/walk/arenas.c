@@ -105,6 +105,32 @@ static size_t ring_of(const struct heap *heap, uint64_t layout)
     return count;
 }
 
+/* Whether it is just being made, and leads nowhere yet: a main arena leads somewhere from the start. */
+static int is_begun(const struct heap *heap, const struct arena *a)
+{
+    return is_word(heap->core, a->top_at + TO_NEXT, 0);
+}
+
+static size_t begun_ones(const struct heap *heap)
+{
+    size_t count = 0;
+
+    for (size_t i = 0; i < heap->arena_count; i++)
+        count += is_begun(heap, heap->arenas + i);
+    return count;
+}
+
+/* While a thread's arena gets its bins one after another, some of them look like an arena that begins before it. */
+static void drop_begun_ones(struct heap *heap)
+{
+    size_t left = 0;
+
+    for (size_t i = 0; i < heap->arena_count; i++)
+        if (heap->arenas[i].first_heap || !is_begun(heap, heap->arenas + i))
+            heap->arenas[left++] = heap->arenas[i];
+    heap->arena_count = left;
+}
+
 /* The layout: arenas are linked as a ring by their starts. */
 static uint64_t find_layout(const struct heap *heap)
 {
@@ -118,7 +144,7 @@ static uint64_t find_layout(const struct heap *heap)
     if (!most)
         fail("%s: damaged: the arena whose top stands at 0x%llx leads to no other arena and not to itself", heap->core->path,
              (unsigned long long)heap->arenas[0].top_at);
-    if (most < heap->arena_count)
+    if (most + begun_ones(heap) < heap->arena_count)
         damaged("%s: damaged: of %zu arenas %zu lead to no other", heap->core->path, heap->arena_count, heap->arena_count - most);
     return layouts[best];
 }
@@ -130,6 +156,8 @@ static void read_arena(struct heap *heap, struct arena *a, uint64_t layout)
 
     a->start = a->top_at - layout;
     first_heap = a->start & -HEAP_BYTES;
+    if (!segment_at(heap->core, a->start) && is_begun(heap, a))
+        return;
     if (!word(heap->core, a->start, &flags) || !word(heap->core, a->top_at, &a->top)
         || !word(heap->core, a->top_at + TO_SYSTEM_MEM, &a->system_mem))
         fail("%s: the arena at 0x%llx is cut off", heap->core->path, (unsigned long long)a->start);
@@ -152,4 +180,5 @@ void find_arenas(struct heap *heap)
     heap->has_fast_bins = layout != layouts[LAYOUTS - 1];
     for (size_t i = 0; i < heap->arena_count; i++)
         read_arena(heap, heap->arenas + i, layout);
+    drop_begun_ones(heap);
 }

@@ -8,13 +8,12 @@ enum { PREV_INUSE = 1, IS_MMAPPED = 2, NON_MAIN_ARENA = 4, FLAGS = 7 };
 enum { CHUNK_HEAD = 8, ALIGNMENT = 16, LEAST = 32, FENCE = 16 };
 
 /* Two fences end a piece of the main heap, up to the end of a page, where memory goes on elsewhere (sysmalloc). What was left
- * of the top before them may be as small as a fence. */
+ * of the top before them may be as small as a fence, or a free chunk. */
 static int are_fences(struct core *core, const struct chain *chain)
 {
     uint64_t at = chain->at;
 
-    if (chain->is_thread || !is_word(core, at + CHUNK_HEAD, FENCE | PREV_INUSE)
-        || !is_word(core, at + FENCE + CHUNK_HEAD, FENCE | PREV_INUSE))
+    if (chain->is_thread || !is_word(core, at + FENCE + CHUNK_HEAD, FENCE | PREV_INUSE))
         return 0;
     return (at + 2 * FENCE) % PAGE == 0
         || ((at + 3 * FENCE) % PAGE == 0 && is_word(core, at + 2 * FENCE + CHUNK_HEAD, FENCE | PREV_INUSE));
@@ -27,13 +26,13 @@ static int is_end(struct core *core, struct chain *chain)
 
     if (chain->at == chain->top)
         chain->stop = AT_TOP;
-    else if (chain->heap_end && chain->at == chain->heap_end)
-        chain->stop = AT_HEAP_END;
     else if (chain->at % ALIGNMENT || chain->at >= chain->limit || !word(core, chain->at + CHUNK_HEAD, &head))
         chain->stop = BROKEN;
     else if (chain->heap_end && chain->at + FENCE == chain->heap_end && !(head & ~(uint64_t)FLAGS))
         chain->stop = AT_MARKER;
-    else if (head == (FENCE | PREV_INUSE) && are_fences(core, chain))
+    else if (chain->heap_end && (head & ~(uint64_t)FLAGS) == chain->heap_end - chain->at)
+        chain->stop = AT_OLD_TOP;
+    else if ((head & ~(uint64_t)PREV_INUSE) == FENCE && are_fences(core, chain))
         chain->stop = AT_FENCES;
     else
         return 0;
@@ -49,6 +48,8 @@ int next_chunk(struct core *core, struct chain *chain, struct chunk *chunk)
         return 0;
     chain->stop = BROKEN;
     word(core, at + CHUNK_HEAD, &head);
+    if (chain->due.size && at == chain->due.at)
+        head = chain->due.size | PREV_INUSE;
     size = head & ~(uint64_t)FLAGS;
     if (head & IS_MMAPPED || (head & NON_MAIN_ARENA && !chain->is_thread) || size % ALIGNMENT
         || size < (chain->heap_end ? FENCE : LEAST))
@@ -59,22 +60,69 @@ int next_chunk(struct core *core, struct chain *chain, struct chunk *chunk)
     }
     if (size > chain->limit - at || !word(core, at + size + CHUNK_HEAD, &after))
         return 0;
-    *chunk = (struct chunk){ at, size, after & PREV_INUSE };
+    *chunk = (struct chunk){ at, size, at + size == chain->due.at || (after & PREV_INUSE && at != chain->due.at) };
     chain->before = at;
     chain->at = at + size;
     chain->count++;
     return 1;
 }
 
-/* The chain as it stops. */
-struct chain run_chain(struct heap *heap, struct chain chain)
+int ends_well(const struct chain *chain)
+{
+    return chain->stop != BROKEN && chain->stop != OVER_TOP;
+}
+
+/* The chain as it stops; or where `looks`, with what is surely due on its way. */
+static struct chain run(struct heap *heap, struct chain chain, int looks)
 {
     struct chunk chunk;
+    uint64_t before = chain.count;
 
     while (next_chunk(heap->core, &chain, &chunk))
-        ;
-    take_steps(heap, chain.count, chain.at);
+        if (looks && !chain.due.at)
+            chain.due = due_at(heap->core, &chain);
+    take_steps(heap, chain.count - before, chain.at);
     return chain;
+}
+
+struct chain run_as_is(struct heap *heap, struct chain chain)
+{
+    return run(heap, chain, 0);
+}
+
+/* The chain that goes on over the top's begin, if a thread has that in hand: malloc that cuts a chunk from the top, free that joins
+ * one to it, or realloc whose block just grew into it, and is in use up to where the top will be. */
+static struct chain over_top(struct heap *heap, struct chain chain)
+{
+    uint64_t head = 0, size;
+
+    word(heap->core, chain.at + CHUNK_HEAD, &head);
+    size = head & ~(uint64_t)FLAGS;
+    if (!has_in_hand(heap->core, chain.at, chain.top))
+        chain.stop = BROKEN;
+    if (chain.stop == BROKEN || size == chain.limit - chain.at)
+        return chain;
+    chain.stop = BROKEN;
+    if (size > chain.limit - chain.at || chain.limit - chain.at - size < LEAST)
+        return chain;
+    chain.top = chain.due.at = chain.at + size;
+    chain.due.size = 0;
+    return run_as_is(heap, chain);
+}
+
+/* The chain as it stops, with what a thread is about to write if it would not end well without. */
+struct chain run_chain(struct heap *heap, struct chain chain)
+{
+    struct chain end = run(heap, chain, heap->core->thread_count != 0), other;
+
+    if (!ends_well(&end) && end.due.at)
+        end = run_as_is(heap, chain);
+    if (ends_well(&end))
+        return end;
+    other = mended(heap, &chain, &end);
+    if (ends_well(&other))
+        return other;
+    return end.stop == OVER_TOP ? over_top(heap, end) : end;
 }
 
 /* Tries a chain of a main arena from each page start of [from, to). */

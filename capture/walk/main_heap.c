@@ -18,7 +18,7 @@ static void add_main(struct heap *heap, uint64_t start, const struct chain *chai
     int has_top = chain->stop != AT_FENCES;
 
     add_region(heap, (struct region){ .start = start, .end = chain->at, .limit = has_top ? limit : chain->at + FENCES,
-                                      .top = has_top ? arena->top : 0, .arena = arena });
+                                      .top = has_top ? chain->top : 0, .arena = arena, .due = chain->due });
 }
 
 /* The chain breaks: with --partial the chunks before are known, but the last of them led nowhere. */
@@ -28,7 +28,7 @@ static void add_broken(struct heap *heap, uint64_t start, const struct chain *ch
 
     tell_break(heap, "the main heap", start, chain);
     add_region(heap, (struct region){ .start = start, .end = end, .limit = limit, .gap_end = arena->top, .top = arena->top,
-                                      .arena = arena });
+                                      .arena = arena, .due = chain->due });
     heap->left_out += arena->top - end;
 }
 
@@ -50,26 +50,47 @@ static void find_rest(struct heap *heap, uint64_t from, uint64_t limit, const st
     }
 }
 
-/* A heap by sbrk is as large as the arena says, and ends with the top. */
-static void find_contiguous(struct heap *heap, const struct arena *arena, uint64_t limit, uint64_t run_start)
+/* Where a heap of the arena's size begins that ends there. */
+static uint64_t begin_of(const struct arena *arena, uint64_t limit)
 {
-    uint64_t start = arena->system_mem <= limit ? (limit - arena->system_mem + ALIGNMENT - 1) & -(uint64_t)ALIGNMENT : 0;
-    struct chain chain = { .at = start, .top = arena->top, .limit = limit };
+    return arena->system_mem <= limit ? (limit - arena->system_mem + ALIGNMENT - 1) & -(uint64_t)ALIGNMENT : 0;
+}
 
-    if (start <= arena->top)
-        chain = run_chain(heap, chain);
-    if (start <= arena->top && chain.stop != BROKEN) {
-        add_main(heap, start, &chain, limit, arena);
-        if (chain.stop == AT_FENCES)
-            find_rest(heap, chain.at + FENCES, limit, arena);
+/* The chain of a heap of the arena's size that ends at the limit. */
+static struct chain chain_to(struct heap *heap, const struct arena *arena, uint64_t limit)
+{
+    struct chain chain = { .at = begin_of(arena, limit), .top = arena->top, .limit = limit, .stop = BROKEN };
+
+    return chain.at <= arena->top ? run_chain(heap, chain) : chain;
+}
+
+/* A heap by sbrk is as large as the arena says, and ends with the top. While the memory or the top is just being changed one of both is not
+ * right yet, but the memory's own end may be. */
+static void find_contiguous(struct heap *heap, const struct arena *arena, uint64_t limit, const struct segment *s)
+{
+    uint64_t other = s->run_end;
+    struct chain chain;
+
+    if (begin_of(arena, other) == s->run_start) {
+        other = limit;
+        limit = s->run_end;
+    }
+    chain = chain_to(heap, arena, limit);
+    if (chain.stop == BROKEN && other != limit) {
+        struct chain second = chain_to(heap, arena, other);
+        if (second.stop != BROKEN) {
+            chain = second;
+            limit = other;
+        }
+    }
+    if (chain.stop == BROKEN && chain.count) {
+        add_broken(heap, begin_of(arena, limit), &chain, limit, arena);
         return;
     }
-    if (start <= arena->top && chain.count) {
-        add_broken(heap, start, &chain, limit, arena);
-        return;
-    }
-    /* the top, or the sum of its memory, is just being changed */
-    find_rest(heap, run_start, limit, arena);
+    if (chain.stop != BROKEN)
+        add_main(heap, begin_of(arena, limit), &chain, limit, arena);
+    if (chain.stop == BROKEN || chain.stop == AT_FENCES)
+        find_rest(heap, chain.stop == BROKEN ? s->run_start : chain.at + FENCES, limit, arena);
 }
 
 /* Pieces that were mapped: any memory that is no thread's heap may have one. */
@@ -105,7 +126,7 @@ void find_main_heap(struct heap *heap, const struct arena *arena)
     limit = (head & FLAGS) == PREV_INUSE && size >= LEAST && size <= arena->system_mem && (arena->top + size) % ALIGNMENT == 0
         ? arena->top + size : s->run_end;
     if (arena->is_contiguous)
-        find_contiguous(heap, arena, limit, s->run_start);
+        find_contiguous(heap, arena, limit, s);
     else
         find_pieces(heap, arena, limit);
 }

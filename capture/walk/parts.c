@@ -50,6 +50,8 @@ void read_notes(struct core *core, const uint8_t *notes, uint64_t size)
             return;
         if (note.n_type == NT_FILE && note.n_namesz == 5 && !memcmp(notes + at + sizeof note, "CORE", 5))
             read_parts(core, notes + content, note.n_descsz);
+        if (note.n_type == NT_PRSTATUS && note.n_namesz == 5 && !memcmp(notes + at + sizeof note, "CORE", 5))
+            read_registers(core, notes + content, note.n_descsz);
         if (note.n_type == NOTE_MEMORY && note.n_namesz == sizeof LEAK_CORE
             && !memcmp(notes + at + sizeof note, LEAK_CORE, sizeof LEAK_CORE))
             read_ranges(core, notes + content, note.n_descsz);

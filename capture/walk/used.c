@@ -8,7 +8,8 @@ enum { CHUNK_HEAD = 8, FLAGS = 7, PIECE = 16, BYTE_OF_PIECES = 8 * PIECE };
 /* The chunks of a region, all well known. */
 struct chain chunks_of(const struct region *region)
 {
-    return (struct chain){ .at = region->start, .top = region->end, .limit = region->limit, .is_thread = region->arena->first_heap != 0 };
+    return (struct chain){ .at = region->start, .top = region->end, .limit = region->limit, .is_thread = region->arena->first_heap != 0,
+                           .due = region->due };
 }
 
 static uint8_t *bits_of(const struct region *r, uint64_t at)
@@ -21,16 +22,25 @@ int is_used_in(const struct region *r, uint64_t at)
     return *bits_of(r, at) >> (at - r->start) / PIECE % 8 & 1;
 }
 
+/* Whether a chunk that the next one says is free has its size behind it too. One without may be in the hand of realloc, and counts as in
+ * use unless a list has it. */
+static int is_free(struct heap *heap, const struct region *r, const struct chunk *chunk)
+{
+    if (chunk->at == r->due.at || is_word(heap->core, chunk->at + chunk->size, chunk->size))
+        return 1;
+    if (!heap->odd_chunks.count++)
+        heap->odd_chunks.first = chunk->at;
+    return is_listed(heap->core, chunk->at);
+}
+
 static void note(struct heap *heap, struct region *r, const struct chunk *chunk)
 {
-    if (chunk->is_used) {
+    if (chunk->is_used || !is_free(heap, r, chunk)) {
         *bits_of(r, chunk->at) |= 1 << (chunk->at - r->start) / PIECE % 8;
         if (may_be_cache(chunk->size)) {
             heap->maybe_caches = grown(heap->maybe_caches, heap->maybe_cache_count, sizeof *heap->maybe_caches);
             heap->maybe_caches[heap->maybe_cache_count++] = *chunk;
         }
-    } else if (!is_word(heap->core, chunk->at + chunk->size, chunk->size) && !heap->odd_chunks.count++) {
-        heap->odd_chunks.first = chunk->at; /* a free chunk's size stands behind it too */
     }
 }
 

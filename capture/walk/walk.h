@@ -29,6 +29,13 @@ struct range {
     uint64_t start, end;
 };
 
+/* The registers of a stopped thread that may hold what it is about to write (Linux, struct user_regs_struct). */
+enum { REGISTERS = 27, HINTS = 4096 };
+
+struct thread {
+    uint64_t words[REGISTERS];
+};
+
 struct core {
     const char *path;
     struct segment *segments;   /* by ascending start */
@@ -38,6 +45,9 @@ struct core {
     size_t part_count;
     struct range *ranges;       /* whole mappings of memory without a file, by leak_core's note */
     size_t range_count;
+    struct thread *threads;
+    size_t thread_count;
+    uint8_t hints[HINTS];       /* by some bits of its address: may a register have the chunk? */
 };
 
 /* glibc, malloc/malloc.c, struct malloc_state: one arena. */
@@ -49,6 +59,12 @@ struct arena {
     int is_contiguous;
 };
 
+/* A free chunk whose size a stopped thread was just about to write (hand.c): where it begins, or 0, and its size. The chunk before it
+ * is in use. */
+struct due {
+    uint64_t at, size;
+};
+
 /* Chunks in a row. Those of a main arena reach to its top, or to fences where the memory goes on elsewhere; a thread's
  * arena has one region for each of its heaps. */
 struct region {
@@ -57,6 +73,7 @@ struct region {
     uint64_t limit;             /* the end of the memory */
     uint64_t gap_end;           /* with --partial: from `end` up to here are chunks that nobody knows; else 0 */
     const struct arena *arena;
+    struct due due;
     uint8_t *used;              /* a bit for each 16 bytes: does a chunk in use begin here? */
 };
 
@@ -91,15 +108,17 @@ struct heap {
     struct tally odd_chunks, odd_lists; /* free chunks without their size behind them; lists that lead nowhere */
 };
 
-/* Where a chain of chunks stops: at the top chunk; inside a chunk that is just being cut from the top; at the end of a heap that
- * is full, by its marker or without; at the fences of a main arena; or where no chunk can be. */
-enum stop { AT_TOP, OVER_TOP, AT_MARKER, AT_HEAP_END, AT_FENCES, BROKEN };
+/* Where a chain of chunks stops: at the top chunk; at a chunk that goes on over the top's begin, as it is just being cut from the top
+ * or joined to it; at what was the top before a thread's next heap was begun; at the marker of a heap that is full; at the fences of a
+ * main arena; or where no chunk can be. */
+enum stop { AT_TOP, OVER_TOP, AT_OLD_TOP, AT_MARKER, AT_FENCES, BROKEN };
 
 struct chain {
     uint64_t at, before, count; /* the next chunk, the one before, and how many there were */
     uint64_t top, limit;        /* where it may end (top 0: nowhere), and what no chunk crosses */
     uint64_t heap_end;          /* of a thread's heap without the top, else 0 */
     int is_thread;              /* of a thread's arena */
+    struct due due;
     enum stop stop;
 };
 
@@ -155,8 +174,17 @@ uint64_t end_of(const struct arena *arena);
 /* chain.c */
 int next_chunk(struct core *core, struct chain *chain, struct chunk *chunk);
 struct chain run_chain(struct heap *heap, struct chain chain);
+struct chain run_as_is(struct heap *heap, struct chain chain);
+int ends_well(const struct chain *chain);
 uint64_t find_chain(struct heap *heap, uint64_t from, uint64_t to, uint64_t top, struct chain *found);
 void tell_break(struct heap *heap, const char *what, uint64_t start, const struct chain *chain);
+
+/* hand.c */
+void read_registers(struct core *core, const uint8_t *note, uint64_t size);
+int has_in_hand(const struct core *core, uint64_t one, uint64_t other);
+int is_listed(struct core *core, uint64_t chunk);
+struct due due_at(struct core *core, const struct chain *chain);
+struct chain mended(struct heap *heap, const struct chain *start, const struct chain *broken);
 
 /* main_heap.c, thread_heaps.c */
 void add_region(struct heap *heap, struct region region);
