@@ -83,13 +83,16 @@ static void *brief(void *unused)
     return unused;
 }
 
+/* Detached from the start: in pthread_detach glibc may read a thread that has just ended (its bug 19951). */
 static void *start_others(void *unused)
 {
+    pthread_attr_t detached;
     pthread_t thread;
 
+    pthread_attr_init(&detached);
+    pthread_attr_setdetachstate(&detached, PTHREAD_CREATE_DETACHED);
     for (;;)
-        if (!pthread_create(&thread, NULL, brief, NULL))
-            pthread_detach(thread);
+        pthread_create(&thread, &detached, brief, NULL);
     return unused;
 }
 
