@@ -26,14 +26,17 @@ callers_of() {
     rm -f "$by.core" "$by.kernel"
 }
 
-# deep NAME PROGRAM..
+# deep NAME PROGRAM..: what a program allocates may hang on how fast its child answers, so it may differ in one run, but not in three.
 deep() {
-    local name=$1
+    local name=$1 differ
     shift
-    callers_of ours "$@"
-    callers_of them "$@"
-    verdict "$name, $(wc -l < ours.callers) blocks" '0 differ' \
-        "$([ -s ours.callers ] && echo "$(diff ours.callers them.callers | grep -c '^[<>]') differ")"
+    for _ in 1 2 3; do
+        callers_of ours "$@"
+        callers_of them "$@"
+        differ=$([ -s ours.callers ] && echo "$(diff ours.callers them.callers | grep -c '^[<>]') differ")
+        [ "$differ" = '0 differ' ] && break
+    done
+    verdict "$name, $(wc -l < ours.callers) blocks" '0 differ' "$differ"
 }
 [ -x /usr/bin/perl ] && deep perl /usr/bin/perl -e '$|=1; my %h; $h{$_} = [1..5, "x" x $_] for 1..2000; $x = join ",", sort { $a <=> $b } map { s/7/8/gr } keys %h; <STDIN>'
 [ -x /usr/bin/gawk ] && deep gawk /usr/bin/gawk 'BEGIN { for (i = 0; i < 3000; i++) a[i "x"] = i * 2 "y"; n = asorti(a, b); getline x }'
