@@ -1,3 +1,4 @@
 pub mod Holders
 pub mod Tallies
+pub mod Parts
 pub mod Examples
