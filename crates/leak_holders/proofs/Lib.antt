@@ -7,3 +7,4 @@ pub mod Members
 pub mod Ranks
 pub mod Orders
 pub mod Telling
+pub mod Parts
