@@ -18,7 +18,6 @@ abbrev pub counted_of : Option (List ℕ) → List Block → List Bool
 counted_of None blocks = map (λ b. true) blocks
 counted_of (Some since) blocks = map (λ b. nat_lt (count_by (λ c. c == 10) since) b.line) blocks
 
--- so where there is an earlier log
+-- so if there is an earlier log
 abbrev pub news_of : Option (List ℕ) → List Block → Option (List Bool)
-news_of None blocks = None
-news_of (Some since) blocks = Some (counted_of (Some since) blocks)
+news_of since blocks = option_map (λ _. counted_of since blocks) since

@@ -31,6 +31,7 @@
 mod files;
 mod finding;
 mod ranking;
+mod scene;
 mod since;
 mod telling;
 

@@ -1,6 +1,6 @@
 //! Which blocks are counted.
 
-ghost use Rattle.std.specs.Prelude.{◌≡◌, ◌==◌, map, count_by, nat_lt, IfOk, true};
+ghost use Rattle.std.specs.Prelude.{◌≡◌, ◌==◌, map, count_by, nat_lt, option_map, IfOk, true};
 ghost use Rattle.leak_mtrace.specs.Log.{whole_len_of};
 ghost use Rattle.leak_holding.specs.Since.{counted_of, earlier, is_continued_from};
 
@@ -47,6 +47,17 @@ pub(crate) fn counted(
     match since {
         Some(log) => later(alloc, blocks, count_lines(log)),
         None => all(alloc, blocks),
+    }
+}
+
+/// Which blocks are counted, if there is an earlier log.
+pub(crate) fn new<'a>(since: Option<&[u8]>, counted: &'a [bool]) -> Option<&'a [bool]>
+    ensures { option_map (λ s. s.now) result
+        ≡ option_map (λ _. counted.now) (earlier since.entry) }
+{
+    match since {
+        Some(_) => Some(counted),
+        None => None,
     }
 }
 
