@@ -1,3 +1,4 @@
+pub mod Since
 pub mod Text
 pub mod Rows
 pub mod Holders

@@ -28,8 +28,11 @@
 //! The contracts don't say that a log is complete, or how long it takes: it marks once for each 64 texts.
 #![tactic(auto)]
 
+mod files;
 mod finding;
 mod ranking;
+mod since;
 mod telling;
 
+pub use files::Files;
 pub use finding::{Holding, find_holders};
