@@ -8,3 +8,4 @@ pub mod Ranks
 pub mod Orders
 pub mod Telling
 pub mod Parts
+pub mod AddedUp
