@@ -7,6 +7,8 @@ import tempfile
 from bisect import bisect_left
 from typing import NamedTuple
 
+from lines.debug_files import DebugFiles
+
 SYMBOL = re.compile("([0-9a-f]{16}) (?:([0-9a-f]{16}) )?([A-Za-z]) (.*)", re.DOTALL)
 FUNCTION_TYPES, OBJECT_TYPES = "TtWwi", "BbDdRrVvuGgSs"
 VERSION = re.compile("@{1,2}[^@ ]+$")
@@ -95,6 +97,8 @@ def read_symbols(lines, calls, addresses):
 
 
 def ask_symbols(path, calls, addresses):
-    """What nm knows of the file: its own symbols, and those for the loader, which a stripped file still has."""
-    lines = output_of(["nm", "-C", "-S", argument(path)]) + output_of(["nm", "-D", "-C", "-S", argument(path)])
+    """What nm knows of the file: its own symbols, those for the loader, which a stripped file still has, and those of its debug files."""
+    with DebugFiles(path) as further:
+        asked = [["-C", "-S", argument(path)], ["-D", "-C", "-S", argument(path)]] + [["-C", "-S", argument(it)] for it in further]
+        lines = [line for words in asked for line in output_of(["nm"] + words)]
     return read_symbols(lines, calls, addresses)

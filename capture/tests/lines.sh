@@ -5,7 +5,8 @@ for form in plain heads holders in by grew; do
 done
 verdict 'from standard input' "$(cat "$kit/tests/lines.plain.wanted")" "$("$kit/leak_lines" < "$kit/tests/lines.plain")"
 python3 -B "$kit/tests/lines_test.py" 2> lines_test.said
-verdict "the parts: $(tail -n 3 lines_test.said | head -n 1)" 0 $?
+status=$?
+verdict "the parts: $(tail -n 3 lines_test.said | head -n 1)" 0 $status
 
 # first_rows FORM N: what the table of a report ends with.
 first_rows() { "$kit/leak_lines" -n "$2" "$kit/tests/lines.$1" | grep -A 9 '^ *[a-z].* function ' | grep -v '^leak '; }

@@ -23,6 +23,7 @@ part() {
 part dump "$attaches"
 part known "$dumps"
 part lines
+part lines_symbols
 part stops
 part freed "$dumps"
 part walk

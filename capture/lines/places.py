@@ -1,0 +1,40 @@
+"""Places of callers: what a table shows of a frame, and its parts for those who compare, group or search them."""
+import os
+import re
+from typing import NamedTuple
+
+OFFSET = re.compile(r"\+(0x)?[0-9a-f]+$")
+
+
+class Place(NamedTuple):
+    """A frame, or a function that was inlined there."""
+    shown: str  # the function in a table: where none is known, what the log has in its stead, or ?
+    where: str  # file:line in a table: where it is not known, the text of the log
+    function: str  # "" where none is known
+    file: str  # of the source, or ""
+    line: int  # 0 where it is not known
+    module: str  # the mapped file, or ""
+    address: int  # in the module, or 0
+    text: str  # of the frame, as the log has it
+    is_inlined: bool
+
+    @property
+    def cells(self):
+        """Function and file:line in a table."""
+        return ("^ " if self.is_inlined else "") + self.shown, self.where
+
+    @property
+    def label(self):
+        """The function, or its stead: the module with the address there, or the text of the log."""
+        return self.function or (f"{os.path.basename(self.module)}+{self.address:#x}" if self.module else self.text)
+
+
+def logged(name):
+    """The function of a name in the log, which has an offset: main+0x1c."""
+    return OFFSET.sub("", name)
+
+
+def source(where):
+    """File and line of addr2line's words file:line, of which each may be unknown."""
+    file, _, line = where.rpartition(":")
+    return "" if file.startswith("??") else file, int(line) if line.isascii() and line.isdigit() else 0
