@@ -5,8 +5,10 @@ import subprocess
 import sys
 import tempfile
 from bisect import bisect_left
+from functools import lru_cache
 from typing import NamedTuple
 
+from lines import progress
 from lines.debug_files import DebugFiles
 
 SYMBOL = re.compile("([0-9a-f]{16}) (?:([0-9a-f]{16}) )?([A-Za-z]) (.*)", re.DOTALL)
@@ -30,13 +32,21 @@ def output_of(command, text=""):
         words.write(text.encode())
         words.seek(0)
         try:
-            run = subprocess.run(command, stdin=words, stdout=subprocess.PIPE, stderr=subprocess.DEVNULL, check=False)
+            run = subprocess.Popen(command, stdin=words, stdout=subprocess.PIPE, stderr=subprocess.DEVNULL)
         except FileNotFoundError:
             if command[0] not in missing:
                 print(f"leak_lines: {command[0]} is not installed: names are missing", file=sys.stderr)
             missing.add(command[0])
             return []
-    return run.stdout.decode("utf-8", "surrogateescape").split("\n")[:-1]
+    with run:
+        printed = [counted(line) for line in run.stdout]
+    return b"".join(printed).decode("utf-8", "surrogateescape").split("\n")[:-1]
+
+
+def counted(line):
+    """The line. One with an address is an answer more."""
+    progress.SHOWN.done += line.startswith(b"0x")
+    return line
 
 
 def argument(path):
@@ -68,6 +78,7 @@ def ask_lines(path, addresses):
     return read_answers(output_of(["addr2line", "-a", "-f", "-C", "-i", "-e", argument(path)], text), addresses)
 
 
+@lru_cache(maxsize=None)
 def plain(name):
     """A symbol's name without its version."""
     return VERSION.sub("", name)

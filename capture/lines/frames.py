@@ -1,11 +1,12 @@
 """A caller's text in its frames, and their names: lines by debug information, or symbols that have the address."""
 import os
 import re
+from functools import lru_cache
 from typing import NamedTuple
 
-from lines import binutils, places
+from lines import binutils, places, progress
 
-FRAME = re.compile(r"(.*?)(?:\(([^()]*)\))?\[0x([0-9a-f]{1,16})\]", re.DOTALL)
+ADDRESS = re.compile("[0-9a-f]{1,16}]")
 
 
 class Frame(NamedTuple):
@@ -21,18 +22,26 @@ class Frame(NamedTuple):
         return max(self.address - 1, 0)
 
 
+@lru_cache(maxsize=None)
 def frame_of(text):
-    """The parts of a frame."""
-    match = FRAME.fullmatch(text)
-    if not match:
+    """The parts of a frame: path:(name+1c)[0x12], of which path and name may be missing."""
+    begin, bracket, end = text.rpartition("[0x")
+    if not bracket or not ADDRESS.fullmatch(end):
         return Frame(text, "", "", 0)
-    path, name, address = match.groups()
-    return Frame(text, path[:-1] if path.endswith(":") else path, name or "", int(address, 16))
+    path, parenthesis, name = begin.removesuffix(")").rpartition("(")
+    if not parenthesis or not begin.endswith(")") or ")" in name:
+        path, name = begin, ""
+    return Frame(text, path.removesuffix(":"), name, int(end[:-1], 16))
 
 
-def frames_of(text):
-    """The frames of a caller's text, the innermost first."""
-    return [frame_of(part) for part in text.split(" < ")]
+def parts_of(text):
+    """The texts of the frames of a caller's text, the innermost first."""
+    return text.split(" < ")
+
+
+def frames_of_all(texts):
+    """The frames of these texts of callers, each once: callers share most of them."""
+    return [frame_of(part) for part in dict.fromkeys(part for text in texts for part in parts_of(text))]
 
 
 def is_in_file(frame):
@@ -63,9 +72,10 @@ class Names:
         frames_by_path = {}
         for frame in filter(is_in_file, frames):
             frames_by_path.setdefault(frame.path, {})[frame.address] = frame
-        self.lines, self.symbols = {}, {}
+        self.lines, self.symbols, self.known = {}, {}, {}
         for path, by_address in frames_by_path.items():
             calls = sorted({frame.call for frame in by_address.values()})
+            progress.SHOWN.begin(f"asks for names of {path}", len(calls))
             self.lines[path] = binutils.ask_lines(path, calls)
             if not all(has_line(answers[-1][1]) for answers in self.lines[path].values()):
                 self.symbols[path] = binutils.ask_symbols(path, calls, sorted(by_address))
@@ -92,23 +102,33 @@ class Names:
 
     def place(self, frame, function, where):
         """The place of a pair of addr2line's."""
+        in_module = f"{os.path.basename(frame.path)}+{frame.address:#x}"
         if is_unknown(function):
             name, unknown = self.unnamed(frame), frame.name or "?"
         elif has_line(where):
             name, unknown = function, ""
         else:
-            name, unknown = self.checked(frame, function), frame.name or f"{os.path.basename(frame.path)}+{frame.address:#x}"
+            name, unknown = self.checked(frame, function), frame.name or in_module
             where = where if name == function else "??"  # its file is that of the nearest symbol
         shown = frame.text if is_unknown(where) else where
         function, (file, line) = name or places.logged(frame.name), places.source(where)
-        return places.Place(name or unknown, shown, function, file, line, frame.path, frame.address, frame.text, False)
+        label = function or (in_module if frame.path else frame.text)
+        return places.Place((name or unknown, shown), function, file, line, frame.path, frame.address, frame.text, label, False)
 
     def named(self, frame):
         """The places of the frame: first what was inlined, last the function itself."""
         answers = self.lines.get(frame.path, {}).get(frame.call, []) if is_in_file(frame) else []
         found = [self.place(frame, *answer) for answer in answers or [("??", "??")]]
-        return [place._replace(is_inlined=True) for place in found[:-1]] + found[-1:]
+        return [places.inlined(place) for place in found[:-1]] + found[-1:]
 
     def places(self, frame):
         """Function and file:line of the frame, and before it those that were inlined there, with a ^."""
         return [place.cells for place in self.named(frame)]
+
+    def learn(self, part):
+        """The places of a frame by its text, which are remembered."""
+        return self.known.setdefault(part, self.named(frame_of(part)))
+
+    def places_of(self, text):
+        """The places of a caller's text."""
+        return [place for part in parts_of(text) for place in self.known.get(part) or self.learn(part)]

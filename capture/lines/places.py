@@ -1,5 +1,4 @@
 """Places of callers: what a table shows of a frame, and its parts for those who compare, group or search them."""
-import os
 import re
 from typing import NamedTuple
 
@@ -8,25 +7,21 @@ OFFSET = re.compile(r"\+(0x)?[0-9a-f]+$")
 
 class Place(NamedTuple):
     """A frame, or a function that was inlined there."""
-    shown: str  # the function in a table: where none is known, what the log has in its stead, or ?
-    where: str  # file:line in a table: where it is not known, the text of the log
+    cells: tuple  # function and file:line in a table; where they are not known, what the log has in their stead, or ?
     function: str  # "" where none is known
     file: str  # of the source, or ""
     line: int  # 0 where it is not known
     module: str  # the mapped file, or ""
     address: int  # in the module, or 0
     text: str  # of the frame, as the log has it
+    label: str  # the function, or its stead: the module with the address there, or the text of the log
     is_inlined: bool
 
-    @property
-    def cells(self):
-        """Function and file:line in a table."""
-        return ("^ " if self.is_inlined else "") + self.shown, self.where
 
-    @property
-    def label(self):
-        """The function, or its stead: the module with the address there, or the text of the log."""
-        return self.function or (f"{os.path.basename(self.module)}+{self.address:#x}" if self.module else self.text)
+def inlined(place):
+    """The place as one of a function that was inlined: a table marks it by a ^."""
+    name, where = place.cells
+    return place._replace(cells=("^ " + name, where), is_inlined=True)
 
 
 def logged(name):
