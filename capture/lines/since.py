@@ -1,4 +1,7 @@
-"""Two reports compared by caller: what is new, grown, shrunk and gone. Callers are the same where functions and lines of their stacks are."""
+"""Two reports compared by caller: what is new, grown, shrunk and gone.
+
+Callers are the same where functions and lines of their stacks are.
+"""
 import os
 from typing import NamedTuple
 

@@ -8,7 +8,8 @@ KIND = re.compile("head |held ")
 
 
 def table_of(read, kind, shown, left_out):
-    """The lines of the table of a kind, with a last one of the rows that are left out. Callers' tables have a form of their own, which is older."""
+    """The lines of the table of a kind, with a last one of the rows that are left out. Callers' tables have a form of their own, which
+    is older."""
     whole = report.whole(read, kind)
     entries = [table.Entry(views.CELLS[kind](caller.row, whole), [place.cells for place in caller.places]) for caller in shown]
     is_caller = kind == "caller"
@@ -23,7 +24,8 @@ def text_of_leak(line, has_heads):
 
 
 def lines_of(read, found, most):
-    """The lines of the report with tables of so many rows at most, which must be among those found. Blocks of suppressed callers are left out."""
+    """The lines of the report with tables of so many rows at most, which must be among those found. Blocks of suppressed callers are
+    left out."""
     hidden = {caller.row.text for kind in found.suppressed for caller in found.suppressed[kind]}
     out = []
     for part in read.parts:

@@ -42,8 +42,8 @@ class Words(unittest.TestCase):
             self.assertEqual(options.read(words), result)
 
     def test_what_is_refused(self):
-        for words in (["--suppress"], ["--suppress="], ["--exit-code=1"], ["--json="], ["--folded", "--json"], ["--since", "o", "--json", "n"],
-                      ["--no-lines"], ["--fold"], ["---"], ["--since", "o", "n", "m"]):
+        for words in (["--suppress"], ["--suppress="], ["--exit-code=1"], ["--json="], ["--folded", "--json"],
+                      ["--since", "o", "--json", "n"], ["--no-lines"], ["--fold"], ["---"], ["--since", "o", "n", "m"]):
             with self.assertRaises(options.Refused, msg=words):
                 options.read(words)
 
@@ -71,8 +71,8 @@ class Suppressions(unittest.TestCase):
         self.assertEqual([rules.matches(it) for it in ("one", "two three", "two", "x")], [True, True, False, False])
 
     def test_other_lines_are_refused(self):
-        for line, said in (("race:x", "f:2: 'race:x' is no suppression"), ("leak", "f:2: 'leak' is no"), ("leak:", "f:2: leak: without a pattern"),
-                           ("Leak:x", "f:2: 'Leak:x'"), ("leak :x", "f:2:")):
+        for line, said in (("race:x", "f:2: 'race:x' is no suppression"), ("leak", "f:2: 'leak' is no"),
+                           ("leak:", "f:2: leak: without a pattern"), ("Leak:x", "f:2: 'Leak:x'"), ("leak :x", "f:2:")):
             with self.assertRaisesRegex(options.Refused, said):
                 suppressions.read_files([("f", ["leak:a", line])])
 

@@ -37,8 +37,9 @@ class Elf(unittest.TestCase):
         whole = file_with(".x", b"four")
         for end in range(64 + 3 * 64):
             self.assertEqual(self.sections(whole[:end]), {}, end)
-        for damaged in (b"", b"text", b"\x7fELF\x01" + whole[5:], whole[:60] + b"\xfe\xff" + whole[62:], whole[:62] + b"\x09\0" + whole[64:],
-                        whole[:40] + b"\xff" * 8 + whole[48:], whole[:96] + b"\xff" * 96 + whole[192:]):
+        for damaged in (b"", b"text", b"\x7fELF\x01" + whole[5:], whole[:60] + b"\xfe\xff" + whole[62:],
+                        whole[:62] + b"\x09\0" + whole[64:], whole[:40] + b"\xff" * 8 + whole[48:],
+                        whole[:96] + b"\xff" * 96 + whole[192:]):
             self.assertEqual(self.sections(damaged), {})
 
     def test_a_path_that_is_no_file(self):
@@ -51,8 +52,10 @@ class Elf(unittest.TestCase):
             self.assertEqual(elf.build_id(note), identity)
 
     def test_debug_links(self):
-        for section, link in ((b"ab.debug\0\0\0\0\x04\x03\x02\x01", ("ab.debug", 0x01020304)), (b"abc\0\x04\x03\x02\x01", ("abc", 0x01020304)),
-                              (b"abc\0\x04\x03\x02", None), (b"\0\0\0\0\x04\x03\x02\x01", None), (b"", None),
+        for section, link in ((b"ab.debug\0\0\0\0\x04\x03\x02\x01", ("ab.debug", 0x01020304)),
+                              (b"abc\0\x04\x03\x02\x01", ("abc", 0x01020304)), (b"abc\0\x04\x03\x02", None),
+                              (b"\0\0\0\0\x04\x03\x02\x01", None),
+                              (b"", None),
                               (b"../x\0\0\0\0\x04\x03\x02\x01", None)):
             self.assertEqual(elf.debug_link(section), link)
 
