@@ -7,7 +7,7 @@ use Rattle.leak_holding.proofs.GraphLemmas.{same_holders, same_listed, same_mark
 use Rattle.leak_holding.proofs.ranking.rows_of.Goals as goal
 
 pub holders-requires-clause-reached : goal.holders-requires-clause-reached
-holders-requires-clause-reached g c =
+holders-requires-clause-reached g c κs lives =
     subst (λ (h : Graph). AreReached h c.args.facts.now.reached.now)
     (sym (same_listed _ _ _ _ _ _ c.as_slice.ensures.value c.in_ok-links.ensures.words c.in_ok-links.ensures.lookup))
     (same_marked (word_of c.args.input.now.image) c.args.ground.now.lookup c.in_ok-first.first.items
