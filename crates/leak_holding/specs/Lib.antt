@@ -3,3 +3,5 @@ pub mod Scenes
 pub mod Text
 pub mod Rows
 pub mod Holders
+pub mod Held
+pub mod Answers

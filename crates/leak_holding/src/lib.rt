@@ -30,12 +30,17 @@
 //! The contracts don't say that a log is complete, or how long it takes: it marks once for each 64 texts.
 #![tactic(auto)]
 
+mod answering;
+mod asking;
+mod choosing;
 mod files;
 mod finding;
+mod held;
 mod ranking;
 mod scene;
 mod since;
 mod telling;
 
+pub use asking::find_held;
 pub use files::Files;
 pub use finding::{Holding, find_holders};

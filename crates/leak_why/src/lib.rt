@@ -21,4 +21,4 @@ mod tracing;
 pub use asked::block_at;
 pub use asking::why;
 pub use chain::{Chain, Link, RootPlace, RootWord};
-pub use telling::text;
+pub use telling::{push_numbered, text};

@@ -216,8 +216,9 @@ fn push_word(out: &mut Vec<u8>, buffer: &mut String, link: &Link) -> Result<(), 
     Ok(())
 }
 
-/// Appends the line of the block with the number, if there is one.
-fn push_numbered(
+/// Appends the line of the block with the number, if there is one: the name, the block's address, size in bytes and line, and the text
+/// of its caller. Its front is made in the buffer. The log's bytes are those that the callers are ranges of.
+pub fn push_numbered(
     out: &mut Vec<u8>,
     buffer: &mut String,
     name: &str,

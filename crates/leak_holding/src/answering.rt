@@ -1,0 +1,114 @@
+//! The answer about chosen blocks, told.
+
+ghost use Rattle.std.specs.Prelude.{◌≡◌, ◌++◌, ◌<◌, codes, length, flat_map, string_bytes, IfOk, OnOk};
+ghost use Rattle.std.specs.List.{AllByRecursion};
+ghost use Rattle.leak_report.specs.Lines.{blocks_line, newline};
+ghost use Rattle.leak_report.specs.Totals.{HaveCallersIn, marked_in};
+ghost use Rattle.leak_texts.specs.Numbered.{bytes_each};
+ghost use Rattle.leak_holding.specs.Held.{held_text, part_front, part_line, side_word};
+
+use crate::held::Held;
+use leak_blocks::Live;
+use leak_holders::{Part, Side};
+use leak_report::{marked_sizes, push_line, push_sizes};
+use leak_why::push_numbered;
+use std::alloc::{AllocError, Global};
+
+/// Makes the answer: its lines, each with its line feed. `own` says which chosen blocks are reached.
+pub(crate) fn held_text_of(
+    alloc: Global,
+    live: &Live,
+    log: &[u8],
+    block: usize,
+    side: Side,
+    own: &[bool],
+    held: &Held,
+    texts: &[&[u8]],
+) -> Result<Vec<u8>, AllocError>
+    requires in_log { HaveCallersIn log.now live.now.blocks }
+    requires told { length held.now.told.items ≡ length live.now.blocks }
+    requires inside { AllByRecursion (λ p. p.text < length texts.now) held.now.parts.items }
+    ensures { IfOk result (λ out. out.items ≡ held_text log.now live.now.blocks block side
+        own.now held.now.told.items (bytes_each texts.now) held.now.parts.items) }
+{
+    let mut out = Vec::new(alloc);
+    let mut buffer = String::new(alloc);
+    push_numbered(&mut out, &mut buffer, "asked", live.blocks(), block, log)?;
+    if own.iter().any(|b| *b) {
+        push_held(&mut out, &mut buffer, live, held.told.as_slice())?;
+        push_parts(&mut out, &mut buffer, side, texts, held.parts.as_slice())?;
+    } else {
+        out.extend_from_slice(b"leaked\n")?;
+    }
+    Ok(out)
+}
+
+/// Appends how many blocks are told, and their bytes.
+fn push_held(
+    out: &mut Vec<u8>,
+    buffer: &mut String,
+    live: &Live,
+    told: &[bool],
+) -> Result<(), AllocError>
+    requires { length told.now ≡ length live.now.blocks }
+    ensures { OnOk result (out.new.items ≡ out.old.items
+        ++ blocks_line (codes "held") (marked_in told.now live.now.blocks)) }
+{
+    let (blocks, bytes) = marked_sizes(live.blocks(), told);
+    buffer.clear();
+    push_sizes(buffer, "held", blocks, bytes)?;
+    out.extend_from_slice(buffer.as_bytes())?;
+    Ok(())
+}
+
+/// Appends the lines of the rows.
+fn push_parts(
+    out: &mut Vec<u8>,
+    buffer: &mut String,
+    side: Side,
+    texts: &[&[u8]],
+    parts: &[Part],
+) -> Result<(), AllocError>
+    requires { AllByRecursion (λ p. p.text < length texts.now) parts.now }
+    ensures { OnOk result (out.new.items ≡ out.old.items
+        ++ flat_map (part_line side (bytes_each texts.now)) parts.now) }
+{
+    for part in parts {
+        push_part(out, buffer, side, part, texts[part.text as usize])?;
+    }
+    Ok(())
+}
+
+/// Appends a row's line. Its front is made in the buffer.
+fn push_part(
+    out: &mut Vec<u8>,
+    buffer: &mut String,
+    side: Side,
+    part: &Part,
+    text: &[u8],
+) -> Result<(), AllocError>
+    ensures { OnOk result (out.new.items
+        ≡ out.old.items ++ (part_front side part.now ++ text.now ++ newline)) }
+{
+    buffer.clear();
+    push_front(buffer, side, part)?;
+    push_line(out, buffer.as_str(), text)
+}
+
+/// Appends a row's line up to its text.
+fn push_front(out: &mut String, side: Side, part: &Part) -> Result<(), AllocError>
+    ensures { OnOk result (string_bytes out.new ≡ string_bytes out.old ++ part_front side part.now) }
+{
+    let (word, Part { blocks, bytes, .. }) = (word_of_side(side), *part);
+    write!(out, "{word} {blocks} {bytes} ")
+}
+
+/// The first word of a row.
+fn word_of_side(side: Side) -> &'static str
+    ensures { result.now ≡ side_word side }
+{
+    match side {
+        Side::In => "in",
+        Side::Of => "by",
+    }
+}

@@ -1,0 +1,119 @@
+//! What one caller or one block holds, and who holds it.
+
+ghost use Rattle.std.specs.Prelude.{◌≡◌, ◌≢◌, ◌<◌, ℕ, List, Option, [], ◌∷◌, length, IfOk, IfErr};
+ghost use Rattle.leak_index.specs.Leads.{Distances};
+ghost use Rattle.leak_report.specs.Totals.{HaveCallersIn};
+ghost use Rattle.leak_index.specs.Readings.{distances_of};
+ghost use Rattle.leak_input.specs.declared.error.FindError.TheVariants.{NoMemory};
+ghost use Rattle.leak_input.specs.Signs.{AreSigns};
+ghost use Rattle.leak_search.specs.declared.holding.WhyError.TheVariants.{Find};
+ghost use Rattle.leak_holding.specs.Held.{FindsHeld, IsHeldFault};
+ghost use Rattle.leak_holding.specs.Answers.{IsAnswerOf};
+ghost use Rattle.leak_holding.specs.Scenes.{IsSceneOf};
+ghost use Rattle.leak_holding.specs.Since.{earlier};
+
+use crate::answering::held_text_of;
+use crate::choosing::{chosen, in_both};
+use crate::files::Files;
+use crate::finding::Holding;
+use crate::held::held_of;
+use crate::scene::{Scene, facts_of, scene_of};
+use crate::since::is_continued;
+use leak_holders::Question;
+use leak_index::Reading;
+use leak_input::{FindError, Input, Workers, oddities_of_one, read_input};
+use leak_pool::{Gate, Plan};
+use leak_roots::Skip;
+use leak_search::WhyError;
+use leak_why::block_at;
+use std::alloc::Global;
+use std::thread::Threads;
+
+/// Searches a core and its log, and answers a question about the live block of an address, or about all blocks of its text.
+///
+/// What these hold are the blocks that no chain of words reaches without passing one of them, by the texts of their callers. Who holds them
+/// are the other texts without whose blocks no chain reaches one of them. The answer doesn't depend on the plan, on the gate, or on how the
+/// workers meet.
+///
+/// # Errors
+///
+/// As [`find_holders`](crate::find_holders), and then `NoBlock` if no live block has a byte at the address, or begins there.
+pub fn find_held<R: Threads + Sync, G: Gate + Sync>(
+    rt: &R,
+    alloc: Global,
+    files: &Files,
+    question: Question,
+    reading: Reading,
+    skip: Skip,
+    plan: Plan,
+    gate: &G,
+) -> Result<Holding, WhyError>
+    ensures ok { IfOk result (FindsHeld files.now.core.now files.now.log.now
+        (earlier files.now.since) (distances_of reading) skip question) }
+    ensures signs { IfOk result (λ found.
+        AreSigns (files.now.core.now ∷ files.now.log.now ∷ []) found.signs.items) }
+    ensures refused { IfErr result (λ e. e ≢ Find NoMemory → IsHeldFault files.now.core.now
+        files.now.log.now (earlier files.now.since) question.address e) }
+{
+    let input = read_input(alloc, 1, skip, files.core, files.log)?;
+    if !is_continued(files) {
+        return Err(WhyError::Find(FindError::NotPrefix));
+    }
+    let oddities = oddities_of_one(alloc, &input, false)?;
+    let workers = Workers { rt, plan, gate };
+    let scene = scene_of(&workers, alloc, &input, files, reading)?;
+    let Some(block) = block_at(&input.live, question.address) else {
+        return Err(WhyError::NoBlock(question.address));
+    };
+    let report = answer(&workers, alloc, &input, &scene, files.log, question, block)?;
+    Ok(Holding {
+        report,
+        signs: oddities.signs,
+    })
+}
+
+/// The answer about the block with the number, or about all blocks of its text.
+fn answer<R: Threads + Sync, G: Gate + Sync>(
+    workers: &Workers<'_, R, G>,
+    alloc: Global,
+    input: &Input,
+    scene: &Scene,
+    log: &[u8],
+    question: Question,
+    block: usize,
+) -> Result<Vec<u8>, FindError>
+    ghost by: { Option (List ℕ) × Distances }
+    requires in_log { HaveCallersIn log.now input.now.live.blocks }
+    requires one { block < length input.now.live.blocks }
+    requires of { IsSceneOf log.now by.0 by.1 input.now scene.now }
+    ensures memory { IfErr result (λ e. e ≡ FindError.NoMemory) }
+    ensures answer { IfOk result (λ out. IsAnswerOf log.now input.now scene.now question block out.items) }
+{
+    let texts = scene.texts.texts.as_slice();
+    let facts = facts_of(input, scene);
+    let chosen = chosen(alloc, facts.numbers, block, question.alone)?;
+    let own = in_both(alloc, chosen.as_slice(), facts.reached)?;
+    let held = held_of(
+        workers,
+        alloc,
+        input,
+        &scene.ground,
+        &facts,
+        texts.len() as u32,
+        question.side,
+        chosen.as_slice(),
+        facts.numbers[block],
+    )?;
+    let own = own.as_slice();
+    let report = held_text_of(
+        alloc,
+        &input.live,
+        log,
+        block,
+        question.side,
+        own,
+        &held,
+        texts,
+    )?;
+    Ok(report)
+}
