@@ -4,3 +4,5 @@ pub mod RowLemmas
 pub mod GraphLemmas
 pub mod FewLemmas
 pub mod FindLemmas
+pub mod BothLemmas
+pub mod HeldLemmas

@@ -1,11 +1,11 @@
 //! The answer about chosen blocks, told.
 
-ghost use Rattle.std.specs.Prelude.{◌≡◌, ◌++◌, ◌<◌, codes, length, flat_map, string_bytes, IfOk, OnOk};
-ghost use Rattle.std.specs.List.{AllByRecursion};
+ghost use Rattle.std.specs.Prelude.{◌≡◌, ◌++◌, codes, length, flat_map, string_bytes, IfOk, OnOk};
+ghost use Rattle.std.specs.List.{list_any};
 ghost use Rattle.leak_report.specs.Lines.{blocks_line, newline};
 ghost use Rattle.leak_report.specs.Totals.{HaveCallersIn, marked_in};
-ghost use Rattle.leak_texts.specs.Numbered.{bytes_each};
-ghost use Rattle.leak_holding.specs.Held.{held_text, part_front, part_line, side_word};
+ghost use Rattle.leak_texts.specs.Numbered.{bytes_each, text_with};
+ghost use Rattle.leak_holding.specs.Held.{held_lines, held_text, part_front, part_line, side_word};
 
 use crate::held::Held;
 use leak_blocks::Live;
@@ -27,20 +27,43 @@ pub(crate) fn held_text_of(
 ) -> Result<Vec<u8>, AllocError>
     requires in_log { HaveCallersIn log.now live.now.blocks }
     requires told { length held.now.told.items ≡ length live.now.blocks }
-    requires inside { AllByRecursion (λ p. p.text < length texts.now) held.now.parts.items }
     ensures { IfOk result (λ out. out.items ≡ held_text log.now live.now.blocks block side
         own.now held.now.told.items (bytes_each texts.now) held.now.parts.items) }
 {
     let mut out = Vec::new(alloc);
     let mut buffer = String::new(alloc);
     push_numbered(&mut out, &mut buffer, "asked", live.blocks(), block, log)?;
-    if own.iter().any(|b| *b) {
-        push_held(&mut out, &mut buffer, live, held.told.as_slice())?;
-        push_parts(&mut out, &mut buffer, side, texts, held.parts.as_slice())?;
-    } else {
-        out.extend_from_slice(b"leaked\n")?;
-    }
+    push_answer(&mut out, &mut buffer, live, side, own, held, texts)?;
     Ok(out)
+}
+
+/// Appends what is told of the chosen blocks, or that they leaked.
+fn push_answer(
+    out: &mut Vec<u8>,
+    buffer: &mut String,
+    live: &Live,
+    side: Side,
+    own: &[bool],
+    held: &Held,
+    texts: &[&[u8]],
+) -> Result<(), AllocError>
+    requires { length held.now.told.items ≡ length live.now.blocks }
+    ensures { OnOk result (out.new.items ≡ out.old.items ++ held_lines side live.now.blocks
+        own.now held.now.told.items (bytes_each texts.now) held.now.parts.items) }
+{
+    if !is_any(own) {
+        out.extend_from_slice(b"leaked\n")?;
+        return Ok(());
+    }
+    push_held(out, buffer, live, held.told.as_slice())?;
+    push_parts(out, buffer, side, texts, held.parts.as_slice())
+}
+
+/// Whether there is a block in the set.
+fn is_any(set: &[bool]) -> bool
+    ensures { result ≡ list_any (λ x. x) set.now }
+{
+    set.iter().any(|b| *b)
 }
 
 /// Appends how many blocks are told, and their bytes.
@@ -69,14 +92,23 @@ fn push_parts(
     texts: &[&[u8]],
     parts: &[Part],
 ) -> Result<(), AllocError>
-    requires { AllByRecursion (λ p. p.text < length texts.now) parts.now }
     ensures { OnOk result (out.new.items ≡ out.old.items
         ++ flat_map (part_line side (bytes_each texts.now)) parts.now) }
 {
     for part in parts {
-        push_part(out, buffer, side, part, texts[part.text as usize])?;
+        push_part(out, buffer, side, part, text_at(texts, part.text))?;
     }
     Ok(())
+}
+
+/// The text with the number, or no byte if there is none.
+fn text_at<'a>(texts: &[&'a [u8]], number: u32) -> &'a [u8]
+    ensures { result.now ≡ text_with (bytes_each texts.now) number }
+{
+    match texts.get(number as usize) {
+        Some(text) => *text,
+        None => &[],
+    }
 }
 
 /// Appends a row's line. Its front is made in the buffer.

@@ -1,15 +1,12 @@
 //! What one caller or one block holds, and who holds it.
 
-ghost use Rattle.std.specs.Prelude.{◌≡◌, ◌≢◌, ◌<◌, ℕ, List, Option, [], ◌∷◌, length, IfOk, IfErr};
-ghost use Rattle.leak_index.specs.Leads.{Distances};
-ghost use Rattle.leak_report.specs.Totals.{HaveCallersIn};
+ghost use Rattle.std.specs.Prelude.{◌≡◌, ◌≢◌, ◌<◌, [], ◌∷◌, length, IfOk, IfErr};
 ghost use Rattle.leak_index.specs.Readings.{distances_of};
 ghost use Rattle.leak_input.specs.declared.error.FindError.TheVariants.{NoMemory};
 ghost use Rattle.leak_input.specs.Signs.{AreSigns};
 ghost use Rattle.leak_search.specs.declared.holding.WhyError.TheVariants.{Find};
 ghost use Rattle.leak_holding.specs.Held.{FindsHeld, IsHeldFault};
-ghost use Rattle.leak_holding.specs.Answers.{IsAnswerOf};
-ghost use Rattle.leak_holding.specs.Scenes.{IsSceneOf};
+ghost use Rattle.leak_holding.specs.Answers.{IsAnswerOf, IsKnown};
 ghost use Rattle.leak_holding.specs.Since.{earlier};
 
 use crate::answering::held_text_of;
@@ -82,15 +79,13 @@ fn answer<R: Threads + Sync, G: Gate + Sync>(
     question: Question,
     block: usize,
 ) -> Result<Vec<u8>, FindError>
-    ghost by: { Option (List ℕ) × Distances }
-    requires in_log { HaveCallersIn log.now input.now.live.blocks }
+    requires known { IsKnown log.now input.now scene.now }
     requires one { block < length input.now.live.blocks }
-    requires of { IsSceneOf log.now by.0 by.1 input.now scene.now }
     ensures memory { IfErr result (λ e. e ≡ FindError.NoMemory) }
     ensures answer { IfOk result (λ out. IsAnswerOf log.now input.now scene.now question block out.items) }
 {
     let texts = scene.texts.texts.as_slice();
-    let facts = facts_of(input, scene);
+    let facts = facts_of(&*input, &*scene);
     let chosen = chosen(alloc, facts.numbers, block, question.alone)?;
     let own = in_both(alloc, chosen.as_slice(), facts.reached)?;
     let held = held_of(

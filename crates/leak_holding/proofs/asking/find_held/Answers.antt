@@ -1,0 +1,31 @@
+use Rattle.std.proofs.Common.{◌≡◌, ◌∙◌, sym, ap, subst, refl}
+use Rattle.std.proofs.lemmas.Result.{err_from_is_err_and}
+use Rattle.leak_search.specs.declared.holding.WhyError.{WhyError}
+use Rattle.leak_search.specs.declared.holding.WhyError.TheVariants.{Find}
+use Rattle.leak_search.proofs.SignLemmas.{are_of_one}
+use Rattle.leak_holding.specs.Held.{IsHeldFault}
+use Rattle.leak_holding.specs.Since.{earlier}
+use Rattle.leak_holding.proofs.FindLemmas.{many_refused}
+use Rattle.leak_holding.proofs.HeldLemmas.{finds_held, none_asked}
+use Rattle.leak_holding.proofs.asking.find_held.Goals as goal
+
+pub returns-in_err-scene-clause-refused : goal.returns-in_err-scene-clause-refused
+returns-in_err-scene-clause-refused g c =
+    let p = err_from_is_err_and c.from_residual-in_err-scene.result c.from_residual-in_err-scene.ensures.1 in
+    rw (p.1) (λ other. subst (λ (e : WhyError). IsHeldFault c.args.files.now.core.now c.args.files.now.log.now (earlier c.args.files.now.since) c.args.question.address e) (sym p.2)
+    (many_refused c.args.files.now.core.now c.args.files.now.log.now (earlier c.args.files.now.since) c.in_ok-input.input c.in_ok-input.ensures.ok _
+    (sym c.is_continued.ensures ∙ c.if-not-is_continued.false) (c.in_err-scene.ensures.refused (λ n. other (p.2 ∙ ap Find n)))))
+
+pub returns-clause-signs : goal.returns-clause-signs
+returns-clause-signs g c =
+    are_of_one c.args.files.now.core.now c.args.files.now.log.now c.in_ok-input.input c.in_ok-oddities.oddities.signs.items c.in_ok-input.ensures.ok c.in_ok-oddities.ensures.signs
+
+pub returns-in_default-clause-refused : goal.returns-in_default-clause-refused
+returns-in_default-clause-refused g c = λ other.
+    none_asked _ _ (earlier c.args.files.now.since) _ c.in_ok-input.input _ c.in_ok-input.ensures.ok c.in_ok-scene.ensures.ok c.args.question.address
+    (sym c.is_continued.ensures ∙ c.if-not-is_continued.false) c.in_default.ensures.none
+
+pub returns-clause-ok : goal.returns-clause-ok
+returns-clause-ok g c =
+    finds_held _ _ (earlier c.args.files.now.since) _ c.in_ok-input.input _ c.in_ok-input.ensures.ok c.in_ok-scene.ensures.ok _ c.args.question c.in-Some.block _ _
+    c.in_ok-input.ensures.skip (sym c.is_continued.ensures ∙ c.if-not-is_continued.false) c.in-Some.ensures.some c.in_ok-report.ensures.answer refl
