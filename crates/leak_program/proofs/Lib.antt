@@ -1,2 +1,3 @@
+mod HeldFiles
 mod Refusals
 mod SampleLemmas
