@@ -1,13 +1,15 @@
 -- Runs that tell who holds the memory, or are asked about some blocks.
-use Rattle.std.proofs.Common.{◌≡◌, ◌≢◌, ◌⊎◌, ℕ, ◌+◌, ◌≤◌, ◌<◌, List, [], ◌∷◌, length, map, Option, sym, subst, inl, inr, arith}
+use Rattle.std.proofs.Common.{◌≡◌, ◌≢◌, ◌⊎◌, ℕ, ◌+◌, ◌≤◌, ◌<◌, List, [], ◌∷◌, length, map, Option, None, ap, subst, inl, inr, arith}
 use Rattle.std.proofs.lemmas.List.{length-map}
 use Rattle.leak_holders.specs.declared.question.Question.{Question}
 use Rattle.leak_request.specs.declared.options.Options.{Options}
 use Rattle.leak_input.specs.Signs.{AreSigns}
+use Rattle.leak_input.specs.declared.error.FindError.{FindError}
 use Rattle.leak_input.specs.declared.error.FindError.TheVariants.{NoMemory}
 use Rattle.leak_search.specs.declared.holding.WhyError.{WhyError}
 use Rattle.leak_search.specs.declared.holding.WhyError.TheVariants.{Find as Refused, NoBlock as Missing}
 use Rattle.leak_holding.specs.declared.finding.Holding.{Holding}
+use Rattle.leak_holding.specs.Holders.{IsFaultOfHolders}
 use Rattle.leak_find.specs.declared.fault.RunFault.{RunFault}
 use Rattle.leak_find.specs.declared.fault.RunFault.TheVariants.{Read, Find, NoBlock, Write}
 use Rattle.leak_find.specs.Run.{IsReaderFault, input_at, left_in}
@@ -40,6 +42,11 @@ held_stopped o before mid after inputs (Read number e) so_far few fault others =
 held_stopped o before mid after inputs (Find e) so_far few fault others = absurd fault
 held_stopped o before mid after inputs (NoBlock a) so_far few fault others = absurd fault
 held_stopped o before mid after inputs (Write f) so_far few fault others = absurd fault
+
+-- no answer where nothing is asked of some blocks
+pub not_told : (core log : List ℕ) (since : Option (List ℕ)) (e : FindError) → (e ≢ NoMemory → IsFaultOfHolders core log since e)
+    → Refused e ≢ Refused NoMemory → IsNotTold None core log since (Refused e)
+not_told core log since e fault other = fault (λ same. other (ap Refused same))
 
 -- a reader that was not read to its end refuses the run
 pub hold_stopped : (o : Options) (question : Option Question) (before after : List (Option (List ℕ))) (e : RunFault) → IsHeldReadFault o before after e

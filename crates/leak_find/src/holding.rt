@@ -86,12 +86,12 @@ fn tell<T: Threads + Sync>(
         → IsNotTold question files.now.core.now files.now.log.now (earlier files.now.since) e) }
 {
     let (reading, skip, plan) = (options.reading, options.skip, options.plan);
-    if let Some(question) = question {
-        return find_held(rt, alloc, files, question, reading, skip, plan, &Open);
-    }
-    match find_holders(rt, alloc, files, reading, skip, plan, &Open) {
-        Ok(holding) => Ok(holding),
-        Err(error) => Err(WhyError::Find(error)),
+    match question {
+        Some(question) => find_held(rt, alloc, files, question, reading, skip, plan, &Open),
+        None => match find_holders(rt, alloc, files, reading, skip, plan, &Open) {
+            Ok(holding) => Ok(holding),
+            Err(error) => Err(WhyError::Find(error)),
+        },
     }
 }
 

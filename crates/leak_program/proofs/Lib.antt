@@ -1,3 +1,2 @@
-mod HeldFiles
 mod Refusals
 mod SampleLemmas
