@@ -111,16 +111,7 @@ fn held_by<R: AllocGlobal + Threads + Sync>(
         log: HELD.as_bytes(),
         since: Some(b""),
     };
-    let answer = match find_held(
-        rt,
-        rt.alloc(),
-        &files,
-        question,
-        reading,
-        skip,
-        plan,
-        &Open,
-    ) {
+    let answer = match find_held(rt, rt.alloc(), &files, question, reading, skip, plan, &Open) {
         Ok(found) => Answer::of(found.report.as_slice() == wanted.as_bytes()),
         Err(error) => Answer::of_refusal(error == WhyError::Find(FindError::NoMemory)),
     };

@@ -23,7 +23,7 @@ use std::rt::Env;
 use std::thread::Threads;
 
 /// The calls, by name.
-static CALLS: [&str; 49] = [
+static CALLS: [&str; 53] = [
     "core_k",
     "Image::read",
     "Threads::read",
