@@ -5,7 +5,11 @@ import subprocess
 import sys
 import tempfile
 from bisect import bisect_left
+from functools import lru_cache
 from typing import NamedTuple
+
+from lines import progress
+from lines.debug_files import DebugFiles
 
 SYMBOL = re.compile("([0-9a-f]{16}) (?:([0-9a-f]{16}) )?([A-Za-z]) (.*)", re.DOTALL)
 FUNCTION_TYPES, OBJECT_TYPES = "TtWwi", "BbDdRrVvuGgSs"
@@ -28,13 +32,21 @@ def output_of(command, text=""):
         words.write(text.encode())
         words.seek(0)
         try:
-            run = subprocess.run(command, stdin=words, stdout=subprocess.PIPE, stderr=subprocess.DEVNULL, check=False)
+            run = subprocess.Popen(command, stdin=words, stdout=subprocess.PIPE, stderr=subprocess.DEVNULL)
         except FileNotFoundError:
             if command[0] not in missing:
                 print(f"leak_lines: {command[0]} is not installed: names are missing", file=sys.stderr)
             missing.add(command[0])
             return []
-    return run.stdout.decode("utf-8", "surrogateescape").split("\n")[:-1]
+    with run:
+        printed = [counted(line) for line in run.stdout]
+    return b"".join(printed).decode("utf-8", "surrogateescape").split("\n")[:-1]
+
+
+def counted(line):
+    """The line. One with an address is an answer more."""
+    progress.SHOWN.done += line.startswith(b"0x")
+    return line
 
 
 def argument(path):
@@ -66,6 +78,7 @@ def ask_lines(path, addresses):
     return read_answers(output_of(["addr2line", "-a", "-f", "-C", "-i", "-e", argument(path)], text), addresses)
 
 
+@lru_cache(maxsize=None)
 def plain(name):
     """A symbol's name without its version."""
     return VERSION.sub("", name)
@@ -95,6 +108,8 @@ def read_symbols(lines, calls, addresses):
 
 
 def ask_symbols(path, calls, addresses):
-    """What nm knows of the file: its own symbols, and those for the loader, which a stripped file still has."""
-    lines = output_of(["nm", "-C", "-S", argument(path)]) + output_of(["nm", "-D", "-C", "-S", argument(path)])
+    """What nm knows of the file: its own symbols, those for the loader, which a stripped file still has, and those of its debug files."""
+    with DebugFiles(path) as further:
+        asked = [["-C", "-S", argument(path)], ["-D", "-C", "-S", argument(path)]] + [["-C", "-S", argument(it)] for it in further]
+        lines = [line for words in asked for line in output_of(["nm"] + words)]
     return read_symbols(lines, calls, addresses)

@@ -1,31 +1,9 @@
 """The command: reads the report, asks for the names of the rows that are shown, and prints all."""
-import re
 import signal
 import sys
 
-from lines import frames, report, table, views
-
-USAGE = "usage: leak_lines [-n N] [REPORT]"
-
-
-class Refused(Exception):
-    """What keeps the command from its work."""
-
-
-def read_words(words):
-    """How many rows are shown at most, None for all, and the report's path, None for standard input."""
-    words, most = list(words), None
-    while words and words[0].startswith("-") and words[0] != "-":
-        word = words.pop(0)
-        if word == "--":
-            break
-        value = (words.pop(0) if words else "") if word == "-n" else word[2:]
-        if not word.startswith("-n") or not re.fullmatch("[1-9][0-9]{0,17}", value):
-            raise Refused(USAGE)
-        most = int(value)
-    if len(words) > 1:
-        raise Refused(USAGE)
-    return most, words[0] if words and words[0] != "-" else None
+from lines import callers, document, folded, judging, options, progress, report, since, suppressions, tables
+from lines.options import Refused
 
 
 def read_lines(path):
@@ -38,43 +16,82 @@ def read_lines(path):
     return text[:-1].split("\n") if text.endswith("\n") else text.split("\n") if text else []
 
 
-def table_of(read, kind, shown, names):
-    """The lines of the table of a kind. Callers' tables have a form of their own, which is older."""
-    whole = report.whole(read, kind)
-    entries = [
-        table.Entry(views.CELLS[kind](row, whole), [place for frame in frames.frames_of(row.text) for place in names.places(frame)])
-        for row in shown
-    ]
-    is_caller = kind == "caller"
-    lines = table.lay_out(views.TITLES[kind], entries, " " if is_caller else "  ", not is_caller)
-    left_out = read.rows[kind][len(shown):]
-    return lines + ([views.rest(kind, left_out)] if left_out else [])
+def text_of_lines(lines):
+    """The text with these lines."""
+    return "".join(line + "\n" for line in lines)
 
 
 def text_of(lines, most):
     """The report of these lines with tables of so many rows at most."""
     read = report.read(lines)
-    shown = {kind: rows[:most] for kind, rows in read.rows.items()}
-    names = frames.Names(frame for rows in shown.values() for row in rows for frame in frames.frames_of(row.text))
-    out = []
-    for part in read.parts:
-        out += table_of(read, part.kind, shown[part.kind], names) if part.kind else [part.line]
-    return "".join(line + "\n" for line in out)
+    found = callers.name({kind: rows[:most] for kind, rows in read.rows.items()}, suppressions.read_files([]))
+    return text_of_lines(tables.lines_of(read, found, most))
 
 
-def main(words):
-    """Prints the report and gives the exit status."""
-    try:
-        most, path = read_words(words)
-        text = text_of(read_lines(path), most)
-    except Refused as refusal:
-        print(refusal, file=sys.stderr)
-        return 2
+def read_report(path, asked):
+    """The report at this path. Where its leaks decide the status it must be whole."""
+    read = report.read(read_lines(path))
+    if asked.is_judged:
+        judging.check_whole(read)
+    if not report.kind_of(read) and asked.form != "table":
+        raise Refused("leak_lines: this is no report with callers")
+    return read
+
+
+def run_since(asked, rules):
+    """The text of two reports compared, and the exit status."""
+    if asked.path is None and asked.since == "-":
+        raise Refused(options.USAGE)
+    reports = [read_report(None if path == "-" else path, asked) for path in (asked.since, asked.path)]
+    kind = since.kind_of(reports)
+    found = [callers.name(read.rows, rules) for read in reports]
+    lines = since.lines_of(found, kind, asked)
+    lines += [tables.suppressed_line(found[1])] if asked.suppress else []
+    return text_of_lines(lines), since.status_of(found, asked) if asked.is_judged else 0
+
+
+def run_one(asked, rules):
+    """The text of one report, and the exit status."""
+    read = read_report(asked.path, asked)
+    most = asked.most if asked.form == "table" and not asked.is_judged else None
+    found = callers.name({kind: rows[:most] for kind, rows in read.rows.items()}, rules)
+    return text_of_lines(lines_in(asked, read, found)), judging.status_of(found) if asked.is_judged else 0
+
+
+def lines_in(asked, read, found):
+    """The lines in the form that is asked for."""
+    kind = report.kind_of(read)
+    if asked.form == "folded":
+        return folded.lines_of(found.shown.get(kind, []), kind)
+    if asked.form == "json":
+        return document.lines_of(read, found)
+    return tables.lines_of(read, found, asked.most) + ([tables.suppressed_line(found)] if asked.suppress else [])
+
+
+def run(asked):
+    """The text that is printed, and the exit status."""
+    rules = suppressions.read_files([(path, read_lines(path)) for path in asked.suppress])
+    return run_one(asked, rules) if asked.since is None else run_since(asked, rules)
+
+
+def write(text):
+    """Prints the text."""
     signal.signal(signal.SIGPIPE, signal.SIG_DFL)  # `leak_lines | head` ends quietly
     try:
         sys.stdout.buffer.write(text.encode("utf-8", "surrogateescape"))
         sys.stdout.buffer.flush()
     except OSError as error:
-        print(f"leak_lines: write failed: {error.strerror}", file=sys.stderr)
+        raise Refused(f"leak_lines: write failed: {error.strerror}") from error
+
+
+def main(words):
+    """Prints the report and gives the exit status."""
+    try:
+        asked = options.read(words)
+        with progress.SHOWN:
+            text, status = run(asked)
+        write(text)
+    except Refused as refusal:
+        print(refusal, file=sys.stderr)
         return 2
-    return 0
+    return status

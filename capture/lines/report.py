@@ -16,6 +16,9 @@ WORDS = {
 SUM = re.compile(f"(marked|new|held|then|now) {NUMBER} bytes {NUMBER}")
 HEADS = re.compile("heads [^ ]+|leak [^ ]+ [^ ]+ [^ ]+ (head|held)( .*)?", re.DOTALL)
 
+# The first words of lines that stand in reports of a kind alone, in this order: "leaked" stands in those of holders too.
+BESIDE = {"then ": "grew", "heads ": "caller", "held ": "in", "leaked ": "holder"}
+
 
 class Row(NamedTuple):
     """A row: its numbers in the report's order, its address, which a holder alone has, and the text of the caller."""
@@ -84,3 +87,11 @@ def whole(report, kind):
     else:
         number = sums.get("held", 0)
     return number if number > 0 else None
+
+
+def kind_of(report):
+    """The kind of the report's rows, by its other lines where it has none, or "" where it has no such lines either."""
+    if report.rows:
+        return next(iter(report.rows))
+    kinds = [kind for word, kind in BESIDE.items() if any(part.line.startswith(word) for part in report.parts)]
+    return kinds[0] if kinds else ""

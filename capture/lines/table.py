@@ -21,13 +21,14 @@ def lay_out(titles, entries, gap, title_counts):
     rows = [[titles[i] for i in kept]] + [[entry.cells[i] for i in kept] for entry in entries]
     places = [[("function", "where")]] + [entry.places for entry in entries]
     counted = places if title_counts else places[1:]
-    names = [len(name) for frames in counted for name, _ in frames]
-    name_width = max((it for it in names if it <= WIDEST_NAME), default=0)
+    lengths = map(len, {name for frames in counted for name, _ in frames})
+    name_width = max((it for it in lengths if it <= WIDEST_NAME), default=0)
     columns = widths(rows)
-    blank = [""] * len(kept)
-    lines = []
+    blank = gap.join(" " * width for width in columns)
+    lines, ends = [], {}
     for cells, frames in zip(rows, places):
-        for number, (name, where) in enumerate(frames):
-            begin = gap.join(cell.rjust(width) for cell, width in zip(blank if number else cells, columns))
-            lines.append(f"{begin}  {name.ljust(name_width)}  {where}")
+        begin = gap.join(cell.rjust(width) for cell, width in zip(cells, columns))
+        for place in frames:
+            lines.append(begin + (ends.get(place) or ends.setdefault(place, f"  {place[0].ljust(name_width)}  {place[1]}")))
+            begin = blank
     return lines

@@ -5,7 +5,8 @@ for form in plain heads holders in by grew; do
 done
 verdict 'from standard input' "$(cat "$kit/tests/lines.plain.wanted")" "$("$kit/leak_lines" < "$kit/tests/lines.plain")"
 python3 -B "$kit/tests/lines_test.py" 2> lines_test.said
-verdict "the parts: $(tail -n 3 lines_test.said | head -n 1)" 0 $?
+status=$?
+verdict "the parts: $(tail -n 3 lines_test.said | head -n 1)" 0 $status
 
 # first_rows FORM N: what the table of a report ends with.
 first_rows() { "$kit/leak_lines" -n "$2" "$kit/tests/lines.$1" | grep -A 9 '^ *[a-z].* function ' | grep -v '^leak '; }
@@ -23,8 +24,10 @@ refused() {
     "$kit/leak_lines" "$@" > refused.out 2> refused.said
     echo "$? $(wc -c < refused.out) $(cat refused.said)"
 }
+usage='usage: leak_lines [-n N] [--suppress FILE].. [--exit-code] [--folded | --json] [REPORT]
+       leak_lines --since OLD [--no-lines] [-n N] [--suppress FILE].. [--exit-code] [NEW]'
 for words in '-n' '-n 0' '-n x' '-n -1' '-x' '--help' 'one two'; do
-    verdict "refused: $words" '2 0 usage: leak_lines [-n N] [REPORT]' "$(refused $words)"
+    verdict "refused: $words" "2 0 $usage" "$(refused $words)"
 done
 verdict 'no such report' '2 0 leak_lines: none.report: No such file or directory' "$(refused none.report)"
 

@@ -4,7 +4,7 @@ import sys
 import unittest
 
 sys.path.insert(0, os.path.join(os.path.dirname(os.path.abspath(__file__)), ".."))
-from lines import binutils, command, frames, report, table, units, views  # noqa: E402
+from lines import binutils, command, frames, options, report, table, units, views  # noqa: E402
 
 
 class Units(unittest.TestCase):
@@ -164,13 +164,14 @@ class Command(unittest.TestCase):
     def test_words(self):
         for words, result in (([], (None, None)), (["r"], (None, "r")), (["-"], (None, None)), (["-n", "20"], (20, None)),
                               (["-n20", "r"], (20, "r")), (["-n", "3", "--", "-n"], (3, "-n"))):
-            self.assertEqual(command.read_words(words), result)
+            asked = options.read(words)
+            self.assertEqual((asked.most, asked.path), result)
 
     def test_what_is_refused(self):
         for words in (["-n"], ["-n", "0"], ["-n", "-1"], ["-n", "x"], ["-n", "\u0662"], ["-n", "1_0"], ["-n", " 1"], ["-n", "9" * 19],
                       ["-x"], ["--help"], ["a", "b"]):
-            with self.assertRaises(command.Refused):
-                command.read_words(words)
+            with self.assertRaises(options.Refused):
+                options.read(words)
 
     def test_nothing_is_lost_without_rows(self):
         lines = ["", "text with \udcff and \0", "caller x"]

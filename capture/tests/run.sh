@@ -23,6 +23,8 @@ part() {
 part dump "$attaches"
 part known "$dumps"
 part lines
+part lines_symbols
+part lines_options
 part stops
 part freed "$dumps"
 part walk

@@ -1,0 +1,38 @@
+"""Rows of a report with the places of their callers, those that are suppressed apart."""
+from typing import NamedTuple
+
+from lines import frames, progress, report
+
+# Which numbers of a row are its own blocks and their bytes: what holders hold overlaps, and of growth what is there now counts.
+OWN = {"caller": (0, 1), "holder": (2, 3), "in": (0, 1), "by": (0, 1), "grew": (3, 4)}
+
+
+class Caller(NamedTuple):
+    """A row and its places, the innermost first."""
+    row: report.Row
+    places: list
+
+
+class Callers(NamedTuple):
+    """By kind the callers that are shown, in the report's order, and those that are suppressed."""
+    shown: dict
+    suppressed: dict
+
+
+def sums(callers_by_kind):
+    """The own blocks of callers, and their bytes."""
+    pairs = [[caller.row.numbers[i] for i in OWN[kind]] for kind, callers in callers_by_kind.items() for caller in callers]
+    return sum(blocks for blocks, _ in pairs), sum(size for _, size in pairs)
+
+
+def name(rows_by_kind, suppressions):
+    """The callers of these rows."""
+    names = frames.Names(frames.frames_of_all(row.text for rows in rows_by_kind.values() for row in rows))
+    progress.SHOWN.begin("names callers")
+    shown, suppressed = {}, {}
+    for kind, rows in rows_by_kind.items():
+        for row in rows:
+            places = names.places_of(row.text)
+            part = suppressed if suppressions.leaves_out(places) else shown
+            part.setdefault(kind, []).append(Caller(row, places))
+    return Callers(shown, suppressed)

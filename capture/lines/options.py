@@ -1,0 +1,65 @@
+"""The words of the command line."""
+import re
+from typing import NamedTuple
+
+USAGE = """usage: leak_lines [-n N] [--suppress FILE].. [--exit-code] [--folded | --json] [REPORT]
+       leak_lines --since OLD [--no-lines] [-n N] [--suppress FILE].. [--exit-code] [NEW]"""
+VALUED = ("--suppress", "--since")
+FORMS = {"--folded": "folded", "--json": "json"}
+FLAGS = ("--exit-code", "--no-lines")
+NUMBER = re.compile("[1-9][0-9]{0,17}")
+
+
+class Refused(Exception):
+    """What keeps the command from its work."""
+
+
+class Options(NamedTuple):
+    """What is asked for. A path of None is standard input's."""
+    path: str = None
+    most: int = None  # rows of a table, None for all
+    suppress: tuple = ()  # files of suppressions
+    is_judged: bool = False  # whether the status says that something leaked
+    form: str = "table"
+    since: str = None  # the older report
+    has_lines: bool = True  # whether lines of sources are compared too
+
+
+def valued(word, words):
+    """The name of an option and its value, which follows a = or is the next word."""
+    if word.startswith("-n"):
+        return "-n", word[2:] or (words.pop(0) if words else "")
+    name, equals, value = word.partition("=")
+    if not equals and name in VALUED:
+        value = words.pop(0) if words else ""
+    if bool(value) != (name in VALUED) or bool(equals) and name not in VALUED:
+        raise Refused(USAGE)
+    return name, value
+
+
+def with_option(options, name, value):
+    """The options with one more."""
+    if name == "-n" and NUMBER.fullmatch(value):
+        return options._replace(most=int(value))
+    if name == "--suppress":
+        return options._replace(suppress=options.suppress + (value,), is_judged=True)
+    if name == "--since":
+        return options._replace(since=value)
+    if name in FORMS and options.form in ("table", FORMS[name]):
+        return options._replace(form=FORMS[name])
+    if name in FLAGS:
+        return options._replace(**({"is_judged": True} if name == "--exit-code" else {"has_lines": False}))
+    raise Refused(USAGE)
+
+
+def read(words):
+    """The options of the words."""
+    words, options = list(words), Options()
+    while words and words[0].startswith("-") and words[0] != "-":
+        word = words.pop(0)
+        if word == "--":
+            break
+        options = with_option(options, *valued(word, words))
+    if len(words) > 1 or (options.form != "table" if options.since is not None else not options.has_lines):
+        raise Refused(USAGE)
+    return options._replace(path=words[0] if words and words[0] != "-" else None)
