@@ -1,32 +1,83 @@
--- A core and a log that were read, and who holds the memory.
-use Rattle.std.proofs.Common.{◌≡◌, ℕ, List, [], ◌∷◌, Option, None, inl, inr, refl, subst}
-use Rattle.leak_index.specs.Readings.{distances_of}
-use Rattle.leak_input.specs.declared.error.FindError.{FindError}
-use Rattle.leak_input.specs.Inputs.{IsFaultOfOne}
-use Rattle.leak_input.specs.Signs.{AreSigns}
+-- Runs that tell who holds the memory, or are asked about some blocks.
+use Rattle.std.proofs.Common.{◌≡◌, ◌≢◌, ◌⊎◌, ℕ, ◌+◌, ◌≤◌, ◌<◌, List, [], ◌∷◌, length, map, Option, None, ap, subst, inl, inr, arith}
+use Rattle.std.proofs.lemmas.List.{length-map}
+use Rattle.leak_holders.specs.declared.question.Question.{Question}
 use Rattle.leak_request.specs.declared.options.Options.{Options}
+use Rattle.leak_input.specs.Signs.{AreSigns}
+use Rattle.leak_input.specs.declared.error.FindError.{FindError}
+use Rattle.leak_input.specs.declared.error.FindError.TheVariants.{NoMemory}
+use Rattle.leak_search.specs.declared.holding.WhyError.{WhyError}
+use Rattle.leak_search.specs.declared.holding.WhyError.TheVariants.{Find as Refused, NoBlock as Missing}
 use Rattle.leak_holding.specs.declared.finding.Holding.{Holding}
-use Rattle.leak_holding.specs.Holders.{FindsHolders, IsFaultOfHolders}
-use Rattle.leak_find.specs.Run.{limit_at}
-use Rattle.leak_find.specs.Holders.{HasHeld}
-use Rattle.leak_find.proofs.RunLemmas.{SoFar}
+use Rattle.leak_holding.specs.Holders.{IsFaultOfHolders}
+use Rattle.leak_find.specs.declared.fault.RunFault.{RunFault}
+use Rattle.leak_find.specs.declared.fault.RunFault.TheVariants.{Read, Find, NoBlock, Write}
+use Rattle.leak_find.specs.Run.{IsReaderFault, input_at, left_in}
+use Rattle.leak_find.specs.Why.{at_asking}
+use Rattle.leak_find.specs.Holders.{AreAllInputs, HasHeld, IsHeldFindFault, IsHeldReadFault, IsHoldFault, IsNotTold, Tells, earlier_in, limit_of_held}
+use Rattle.leak_find.proofs.RunLemmas.{SoFar, stopped_within}
 
-pub has_held : (o : Options) (before after : List (Option (List ℕ))) (core log core_read log_read : List ℕ)
-    → SoFar (limit_at o) before after (core ∷ log ∷ []) → core_read ≡ core → log_read ≡ log
-    → (holding : Holding) → FindsHolders core_read log_read None (distances_of o.reading) o.skip holding
-    → AreSigns (core_read ∷ log_read ∷ []) holding.signs.items → HasHeld o before after holding
-has_held o before after core log core_read log_read so_far core_is log_is holding finds signs = record {
-  inputs = core ∷ log ∷ [];
-  count = refl;
-  read = so_far.read;
-  finds = subst (λ (l : List ℕ). FindsHolders core l None (distances_of o.reading) o.skip holding) log_is
-      (subst (λ (c : List ℕ). FindsHolders c log_read None (distances_of o.reading) o.skip holding) core_is finds);
-  signs = subst (λ (l : List ℕ). AreSigns (core ∷ l ∷ []) holding.signs.items) log_is
-      (subst (λ (c : List ℕ). AreSigns (c ∷ log_read ∷ []) holding.signs.items) core_is signs);
-}
+-- ---- two readers or three
 
--- without an earlier log the faults are those of a search
-pub fault_alone : (core log : List ℕ) (e : FindError) → IsFaultOfHolders core log None e → IsFaultOfOne core log e
-fault_alone core log e (inl fault) = inl fault
-fault_alone core log e (inr (inl broken)) = cc
-fault_alone core log e (inr (inr many)) = inr (many.1.0, many.0.core_is, many.1.1.1)
+module _ {A : Type 0} (known : A → Option (List ℕ)) (readers : List A) where
+  pub two_at_least : (length readers ≡ 2) ⊎ (length readers ≡ 3) → 2 ≤ length (map known readers)
+  two_at_least (inl two) = let same = length-map readers known in omega (arith, two, same)
+  two_at_least (inr three) = let same = length-map readers known in omega (arith, three, same)
+
+  pub just_two : (n : ℕ) → (length readers ≡ 2) ⊎ (length readers ≡ 3) → n ≡ length readers → n < 3 → 2 ≡ length (map known readers)
+  just_two n (inl two) count less = let same = length-map readers known in omega (arith, two, same)
+  just_two n (inr three) count less = absurd (omega (arith, three, count, less))
+
+  pub just_three : (n : ℕ) → (length readers ≡ 2) ⊎ (length readers ≡ 3) → n ≡ length readers → 3 ≤ n → 3 ≡ length (map known readers)
+  just_three n (inl two) count more = absurd (omega (arith, two, count, more))
+  just_three n (inr three) count more = let same = length-map readers known in omega (arith, three, same)
+
+-- ---- inputs, and the answer for them
+
+pub held_stopped : (o : Options) (before mid after : List (Option (List ℕ))) (inputs : List (List ℕ)) (e : RunFault) → SoFar (limit_of_held o) before mid inputs
+    → length inputs + 1 ≤ length before → IsReaderFault mid after (length inputs) (limit_of_held o (length inputs)) e
+    → ((i : ℕ) → i ≢ length inputs → left_in after i ≡ left_in mid i) → IsHeldReadFault o before after e
+held_stopped o before mid after inputs (Read number e) so_far few fault others =
+    stopped_within (limit_of_held o) (length before) before mid after inputs number e so_far few fault others
+held_stopped o before mid after inputs (Find e) so_far few fault others = absurd fault
+held_stopped o before mid after inputs (NoBlock a) so_far few fault others = absurd fault
+held_stopped o before mid after inputs (Write f) so_far few fault others = absurd fault
+
+-- no answer where nothing is asked of some blocks
+pub not_told : (core log : List ℕ) (since : Option (List ℕ)) (e : FindError) → (e ≢ NoMemory → IsFaultOfHolders core log since e)
+    → Refused e ≢ Refused NoMemory → IsNotTold None core log since (Refused e)
+not_told core log since e fault other = fault (λ same. other (ap Refused same))
+
+-- a reader that was not read to its end refuses the run
+pub hold_stopped : (o : Options) (question : Option Question) (before after : List (Option (List ℕ))) (e : RunFault) → IsHeldReadFault o before after e
+    → IsHoldFault o question before after e
+hold_stopped o question before after (Read number e) fault = fault
+hold_stopped o question before after (Find e) fault = absurd fault
+hold_stopped o question before after (NoBlock a) fault = absurd fault
+hold_stopped o question before after (Write f) fault = absurd fault
+
+module _ (o : Options) (question : Option Question) (before after : List (Option (List ℕ))) (inputs : List (List ℕ)) (core log : List ℕ) (since : Option (List ℕ))
+    (are : AreAllInputs o before after inputs) (core_is : core ≡ input_at inputs 0) (log_is : log ≡ input_at inputs 1) (since_is : since ≡ earlier_in inputs) where
+  pub has_held : (holding : Holding) → Tells question o core log since holding → AreSigns (core ∷ log ∷ []) holding.signs.items → HasHeld o question before after holding
+  has_held holding tells signs = record {
+    inputs = inputs;
+    are = are;
+    tells = subst (λ (s : Option (List ℕ)). Tells question o (input_at inputs 0) (input_at inputs 1) s holding) since_is
+        (subst (λ (l : List ℕ). Tells question o (input_at inputs 0) l since holding) log_is
+        (subst (λ (c : List ℕ). Tells question o c log since holding) core_is tells));
+    signs = subst (λ (l : List ℕ). AreSigns (input_at inputs 0 ∷ l ∷ []) holding.signs.items) log_is
+        (subst (λ (c : List ℕ). AreSigns (c ∷ log ∷ []) holding.signs.items) core_is signs);
+  }
+
+  held_fault : (e : WhyError) → (e ≢ Refused NoMemory → IsNotTold question core log since e) → IsHeldFindFault o question before after e
+  held_fault e fault = record {
+    inputs = inputs;
+    are = are;
+    fault = λ other. subst (λ (s : Option (List ℕ)). IsNotTold question (input_at inputs 0) (input_at inputs 1) s e) since_is
+        (subst (λ (l : List ℕ). IsNotTold question (input_at inputs 0) l since e) log_is
+        (subst (λ (c : List ℕ). IsNotTold question c log since e) core_is (fault other)));
+  }
+
+  pub hold_fault : (e : WhyError) → (e ≢ Refused NoMemory → IsNotTold question core log since e) → IsHoldFault o question before after (at_asking e)
+  hold_fault (Refused e) fault = held_fault (Refused e) fault
+  hold_fault (Missing a) fault = held_fault (Missing a) fault

@@ -1,47 +1,99 @@
--- What a run that tells who holds the memory does to its readers and its writers, where these tell their bytes.
-use Rattle.std.specs.Prelude.{◌≡◌, ℕ, ◌<◌, List, length, Option, None, take}
+-- What a run that tells who holds the memory, or is asked about some blocks, does to its readers and its writers, where these tell
+-- their bytes.
+use Rattle.std.specs.Prelude.{◌≡◌, ◌≢◌, ℕ, ◌<◌, ◌==◌, List, [], ◌∷◌, length, Option, None, Some, take, if◌then◌else◌}
 use Rattle.std.specs.Io.KnownBytes.{Appends, Keeps}
 use Rattle.leak_index.specs.Readings.{distances_of}
+use Rattle.leak_holders.specs.declared.question.Question.{Question}
 use Rattle.leak_report.specs.declared.output.WriteFault.{WriteFault}
 use Rattle.leak_request.specs.declared.options.Options.{Options}
 use Rattle.leak_input.specs.Signs.{AreSigns}
+use Rattle.leak_input.specs.declared.error.FindError.TheVariants.{NoMemory}
+use Rattle.leak_search.specs.declared.holding.WhyError.{WhyError}
+use Rattle.leak_search.specs.declared.holding.WhyError.TheVariants.{Find as Refused, NoBlock as Missing}
 use Rattle.leak_holding.specs.declared.finding.Holding.{Holding}
-use Rattle.leak_holding.specs.Holders.{FindsHolders}
+use Rattle.leak_holding.specs.Held.{FindsHeld, IsHeldFault}
+use Rattle.leak_holding.specs.Holders.{FindsHolders, IsFaultOfHolders}
 use Rattle.leak_find.specs.declared.fault.RunFault.{RunFault}
 use Rattle.leak_find.specs.declared.fault.RunFault.TheVariants.{Read, Find, NoBlock, Write}
-use Rattle.leak_find.specs.Run.{AreInputs, IsFindFault, IsReadFault, input_at, status_by, warnings_by}
+use Rattle.leak_find.specs.Run.{AreWithin, IsReadFaultWithin, input_at, status_by, warnings_by}
 
--- both readers were read to their ends, and this is who holds the memory by what they held
-pub record HasHeld (o : Options) (before after : List (Option (List ℕ))) (holding : Holding) : Type 0 where
+-- how many bytes the reader with the number may hold: the first has a core, the others logs
+abbrev pub limit_of_held : Options → ℕ → ℕ
+limit_of_held o i = if i == 0 then o.core_limit else o.log_limit
+
+-- the earlier log, where there is a third input
+abbrev pub earlier_in : List (List ℕ) → Option (List ℕ)
+earlier_in [] = None
+earlier_in (core ∷ []) = None
+earlier_in (core ∷ log ∷ []) = None
+earlier_in (core ∷ log ∷ since ∷ others) = Some since
+
+-- who holds the memory, or, where there is a question, its answer
+abbrev pub Tells : Option Question → Options → List ℕ → List ℕ → Option (List ℕ) → Holding → Type 0
+Tells None o core log since holding = FindsHolders core log since (distances_of o.reading) o.skip holding
+Tells (Some question) o core log since holding = FindsHeld core log since (distances_of o.reading) o.skip question holding
+
+-- why there is no answer; only a question can miss its block
+abbrev pub IsNotTold : Option Question → List ℕ → List ℕ → Option (List ℕ) → WhyError → Type 0
+IsNotTold None core log since (Refused e) = IsFaultOfHolders core log since e
+IsNotTold None core log since (Missing a) = ⊥
+IsNotTold (Some question) core log since e = IsHeldFault core log since question.address e
+
+-- these are the inputs of all readers, which were read to their ends
+pub record AreAllInputs (o : Options) (before after : List (Option (List ℕ))) (inputs : List (List ℕ)) : Type 0 where
+  pub count : length inputs ≡ length before
+  pub read : AreWithin (limit_of_held o) before after inputs
+
+-- all readers were read to their ends, and this is the answer for what they held
+pub record HasHeld (o : Options) (question : Option Question) (before after : List (Option (List ℕ))) (holding : Holding) : Type 0 where
   pub inputs : List (List ℕ)
-  pub count : length inputs ≡ 2
-  pub read : AreInputs o before after inputs
-  pub finds : FindsHolders (input_at inputs 0) (input_at inputs 1) None (distances_of o.reading) o.skip holding
-  pub signs : AreSigns inputs holding.signs.items
+  pub are : AreAllInputs o before after inputs
+  pub tells : Tells question o (input_at inputs 0) (input_at inputs 1) (earlier_in inputs) holding
+  pub signs : AreSigns (input_at inputs 0 ∷ input_at inputs 1 ∷ []) holding.signs.items
 
--- What was written is who holds the memory, and nothing else; and to the second writer, of the warnings, all or a first part.
--- The status is that of a search that finds no leak.
-pub record RunsHolders (o : Options) (before after : List (Option (List ℕ)))
+-- all readers were read to their ends, and what they held gives no answer for this reason
+pub record IsHeldFindFault (o : Options) (question : Option Question) (before after : List (Option (List ℕ))) (e : WhyError) : Type 0 where
+  pub inputs : List (List ℕ)
+  pub are : AreAllInputs o before after inputs
+  pub fault : e ≢ Refused NoMemory → IsNotTold question (input_at inputs 0) (input_at inputs 1) (earlier_in inputs) e
+
+-- a reader was not read to its end
+abbrev pub IsHeldReadFault : Options → List (Option (List ℕ)) → List (Option (List ℕ)) → RunFault → Type 0
+IsHeldReadFault o before after (Read n e) = IsReadFaultWithin (limit_of_held o) (length before) before after n e
+IsHeldReadFault o before after (Find e) = ⊥
+IsHeldReadFault o before after (NoBlock a) = ⊥
+IsHeldReadFault o before after (Write f) = ⊥
+
+-- why there is no answer to what the readers held
+abbrev pub IsHoldFault : Options → Option Question → List (Option (List ℕ)) → List (Option (List ℕ)) → RunFault → Type 0
+IsHoldFault o question before after (Read n e) = IsHeldReadFault o before after (Read n e)
+IsHoldFault o question before after (Find e) = IsHeldFindFault o question before after (Refused e)
+IsHoldFault o question before after (NoBlock a) = IsHeldFindFault o question before after (Missing a)
+IsHoldFault o question before after (Write f) = ⊥
+
+-- What was written is the answer, and nothing else; and to the second writer, of the warnings, all or a first part. The status is that
+-- of a search that finds no leak.
+pub record RunsHolders (o : Options) (question : Option Question) (before after : List (Option (List ℕ)))
     (held holds heard hears : Option (List ℕ)) (status : ℕ) : Type 0 where
   pub holding : Holding
-  pub has_held : HasHeld o before after holding
+  pub has_held : HasHeld o question before after holding
   pub written : Appends held holds holding.report.items
   pub taken : ℕ
   pub warned : Appends heard hears (take taken (warnings_by o holding.signs.items))
   pub status_is : status ≡ status_by o.strict 0 (warnings_by o holding.signs.items)
 
 -- the answer was made, and just its first bytes were written
-pub record IsHoldersWriteFault (o : Options) (before after : List (Option (List ℕ)))
+pub record IsHoldersWriteFault (o : Options) (question : Option Question) (before after : List (Option (List ℕ)))
     (held holds : Option (List ℕ)) (f : WriteFault) : Type 0 where
   pub holding : Holding
-  pub has_held : HasHeld o before after holding
+  pub has_held : HasHeld o question before after holding
   pub short : f.written < length holding.report.items
   pub written : Appends held holds (take f.written holding.report.items)
 
--- why such a run gives no status: a reader or what the readers held is refused as by a search, and nothing is written
-abbrev pub IsHoldersRunFault : Options → List (Option (List ℕ)) → List (Option (List ℕ))
+-- why such a run gives no status: nothing is written before the answer is made
+abbrev pub IsHoldersRunFault : Options → Option Question → List (Option (List ℕ)) → List (Option (List ℕ))
     → Option (List ℕ) → Option (List ℕ) → RunFault → Type 0
-IsHoldersRunFault o before after held holds (Read n e) = Keeps held holds × IsReadFault o before after n e
-IsHoldersRunFault o before after held holds (Find e) = Keeps held holds × IsFindFault o before after e
-IsHoldersRunFault o before after held holds (NoBlock a) = ⊥
-IsHoldersRunFault o before after held holds (Write f) = IsHoldersWriteFault o before after held holds f
+IsHoldersRunFault o question before after held holds (Read n e) = Keeps held holds × IsHoldFault o question before after (Read n e)
+IsHoldersRunFault o question before after held holds (Find e) = Keeps held holds × IsHoldFault o question before after (Find e)
+IsHoldersRunFault o question before after held holds (NoBlock a) = Keeps held holds × IsHoldFault o question before after (NoBlock a)
+IsHoldersRunFault o question before after held holds (Write f) = IsHoldersWriteFault o question before after held holds f

@@ -1,4 +1,5 @@
 pub mod Run
 pub mod Why
 pub mod Grow
+pub mod HeldInputs
 pub mod Holders

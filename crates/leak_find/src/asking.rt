@@ -35,7 +35,7 @@ fn ask<R: Read>(
 }
 
 /// The refusal of a run whose inputs were read.
-fn at_asking(error: WhyError) -> RunFault
+pub(crate) fn at_asking(error: WhyError) -> RunFault
     ensures { result ≡ at_asking error }
 {
     match error {

@@ -1,54 +1,131 @@
-//! Who holds the memory, from readers to writers.
+//! Who holds the memory, and what some blocks hold, from readers to writers.
 
-ghost use Rattle.std.specs.Prelude.{◌≡◌, IfOk, IfErr, false, length, map};
+ghost use Rattle.std.specs.Prelude.{◌≡◌, ◌≢◌, ◌⊎◌, [], ◌∷◌, IfOk, IfErr, length, map};
 ghost use Rattle.std.specs.Io.KnownBytes.{Keeps};
-ghost use Rattle.leak_find.specs.Run.{IsSearchFault};
-ghost use Rattle.leak_find.specs.Holders.{HasHeld, IsHoldersRunFault, RunsHolders};
+ghost use Rattle.leak_input.specs.Signs.{AreSigns};
+ghost use Rattle.leak_input.specs.declared.error.FindError.TheVariants.{NoMemory};
+ghost use Rattle.leak_search.specs.declared.holding.WhyError.TheVariants.{Find as Refused};
+ghost use Rattle.leak_holding.specs.Since.{earlier};
+ghost use Rattle.leak_find.specs.Holders.{AreAllInputs, HasHeld, IsHeldReadFault, IsHoldFault, IsHoldersRunFault, IsNotTold, RunsHolders};
+ghost use Rattle.leak_find.specs.Holders.{Tells, earlier_in};
+ghost use Rattle.leak_find.specs.HeldInputs.{bytes_in};
 
+use crate::asking::at_asking;
 use crate::fault::RunFault;
 use crate::running::{read_reader, status_of, warnings_by};
-use leak_holding::{Files, Holding, find_holders};
+use leak_holders::Question;
+use leak_holding::{Files, Holding, find_held, find_holders};
 use leak_pool::Open;
 use leak_report::write;
 use leak_request::Options;
-use leak_search::FindError;
+use leak_search::{FindError, WhyError};
 use std::alloc::Global;
 use std::io::{Read, Write};
 use std::thread::Threads;
 
-/// Reads a core and its log, and finds who holds the memory.
+/// What the readers held.
+#[derive(Drop)]
+struct Inputs {
+    core: Vec<u8>,
+    log: Vec<u8>,
+    /// The log as it was earlier.
+    since: Option<Vec<u8>>,
+}
+
+/// Reads a core, its log, and the earlier log, where there is a third reader.
+fn read_inputs<R: Read>(
+    alloc: Global,
+    readers: &mut [R],
+    sizes: &[u64],
+    options: &Options,
+) -> Result<Inputs, RunFault>
+    requires { (length readers.old ≡ 2) ⊎ (length readers.old ≡ 3) }
+    ensures ok { IfOk result (λ inputs. AreAllInputs options.now
+        (map R.remaining readers.old) (map R.remaining readers.new) (bytes_in inputs)) }
+    ensures refused { IfErr result (IsHeldReadFault options.now
+        (map R.remaining readers.old) (map R.remaining readers.new)) }
+{
+    let core = read_reader(alloc, readers, sizes, 0, options.core_limit)?;
+    let log = read_reader(alloc, readers, sizes, 1, options.log_limit)?;
+    if readers.len() < 3 {
+        return Ok(Inputs {
+            core,
+            log,
+            since: None,
+        });
+    }
+    let since = read_reader(alloc, readers, sizes, 2, options.log_limit)?;
+    Ok(Inputs {
+        core,
+        log,
+        since: Some(since),
+    })
+}
+
+/// The bytes of the earlier log, if there is one.
+fn earlier_of(inputs: &Inputs) -> Option<&[u8]>
+    ensures { earlier result ≡ earlier_in (bytes_in inputs.now) }
+{
+    match &inputs.since {
+        Some(log) => Some(log.as_slice()),
+        None => None,
+    }
+}
+
+/// Tells who holds the memory, or answers the question.
+fn tell<T: Threads + Sync>(
+    rt: &T,
+    alloc: Global,
+    files: &Files,
+    options: &Options,
+    question: Option<Question>,
+) -> Result<Holding, WhyError>
+    ensures ok { IfOk result (Tells question options.now files.now.core.now files.now.log.now (earlier files.now.since)) }
+    ensures signs { IfOk result (λ holding. AreSigns (files.now.core.now ∷ files.now.log.now ∷ []) holding.signs.items) }
+    ensures refused { IfErr result (λ e. e ≢ Refused NoMemory
+        → IsNotTold question files.now.core.now files.now.log.now (earlier files.now.since) e) }
+{
+    let (reading, skip, plan) = (options.reading, options.skip, options.plan);
+    match question {
+        Some(question) => find_held(rt, alloc, files, question, reading, skip, plan, &Open),
+        None => match find_holders(rt, alloc, files, reading, skip, plan, &Open) {
+            Ok(holding) => Ok(holding),
+            Err(error) => Err(WhyError::Find(error)),
+        },
+    }
+}
+
+/// Reads the files, and tells who holds the memory, or answers the question.
 fn hold<T: Threads + Sync, R: Read>(
     rt: &T,
     alloc: Global,
     readers: &mut [R],
     sizes: &[u64],
     options: &Options,
+    question: Option<Question>,
 ) -> Result<Holding, RunFault>
-    requires one { options.now.two ≡ false }
-    requires readers { length readers.old ≡ 2 }
-    ensures ok { IfOk result (HasHeld options.now
+    requires { (length readers.old ≡ 2) ⊎ (length readers.old ≡ 3) }
+    ensures ok { IfOk result (HasHeld options.now question
         (map R.remaining readers.old) (map R.remaining readers.new)) }
-    ensures refused { IfErr result (IsSearchFault options.now
+    ensures refused { IfErr result (IsHoldFault options.now question
         (map R.remaining readers.old) (map R.remaining readers.new)) }
 {
-    let core = read_reader(alloc, readers, sizes, 0, options.core_limit)?;
-    let log = read_reader(alloc, readers, sizes, 1, options.log_limit)?;
-    let (reading, skip, plan) = (options.reading, options.skip, options.plan);
+    let inputs = read_inputs(alloc, readers, sizes, options)?;
     let files = Files {
-        core: &core,
-        log: &log,
-        since: None,
+        core: &inputs.core,
+        log: &inputs.log,
+        since: earlier_of(&inputs),
     };
-    match find_holders(rt, alloc, &files, reading, skip, plan, &Open) {
+    match tell(rt, alloc, &files, options, question) {
         Ok(holding) => Ok(holding),
-        Err(error) => Err(RunFault::Find(error)),
+        Err(error) => Err(at_asking(error)),
     }
 }
 
-/// Reads a core and its log, writes who holds the memory to the first writer and then the warnings to the second: 0, or 3 where
-/// the options are strict and there is a warning.
+/// Reads a core and its log, and an earlier log where there is a third reader. Writes who holds the memory, or the answer to the
+/// question, to the first writer and then the warnings to the second: 0, or 3 where the options are strict and there is a warning.
 ///
-/// The readers are said to have so many bytes, as those of [`run_sized`](crate::run_sized) are. Both are read in order before
+/// The readers are said to have so many bytes, as those of [`run_sized`](crate::run_sized) are. All are read in order before
 /// anything is written. After a refusal the readers stand where the reads left them, and the second writer has nothing. Where the
 /// second writer fails, it has a first part of the warnings, and the status is the same.
 pub fn run_holders_sized<T: Threads + Sync, R: Read, W: Write, V: Write>(
@@ -57,21 +134,21 @@ pub fn run_holders_sized<T: Threads + Sync, R: Read, W: Write, V: Write>(
     readers: &mut [R],
     sizes: &[u64],
     options: &Options,
+    question: Option<Question>,
     writer: &mut W,
     warner: &mut V,
 ) -> Result<u8, RunFault>
-    requires one { options.now.two ≡ false }
-    requires readers { length readers.old ≡ 2 }
-    ensures ok { IfOk result (RunsHolders options.now
+    requires { (length readers.old ≡ 2) ⊎ (length readers.old ≡ 3) }
+    ensures ok { IfOk result (RunsHolders options.now question
         (map R.remaining readers.old) (map R.remaining readers.new)
         (W.contents writer.old) (W.contents writer.new)
         (V.contents warner.old) (V.contents warner.new)) }
-    ensures refused { IfErr result (IsHoldersRunFault options.now
+    ensures refused { IfErr result (IsHoldersRunFault options.now question
         (map R.remaining readers.old) (map R.remaining readers.new)
         (W.contents writer.old) (W.contents writer.new)) }
     ensures silent { IfErr result (λ _. Keeps (V.contents warner.old) (V.contents warner.new)) }
 {
-    let holding = hold(rt, alloc, readers, sizes, options)?;
+    let holding = hold(rt, alloc, readers, sizes, options, question)?;
     let Ok(warnings) = warnings_by(alloc, options, holding.signs.as_slice()) else {
         return Err(RunFault::Find(FindError::NoMemory));
     };

@@ -10,7 +10,7 @@
 //! in `leak_search`, where it is also said what a leak, a root and a chain are. [`run`] and [`run_why`] do
 //! the same from readers to writers: how inputs are read is said in `leak_readers`, and what a run comes to in
 //! `specs/Run.antt` and `specs/Why.antt`. [`run_sized`] and [`run_why_sized`] are told how many bytes the readers have, and so are
-//! [`run_holders_sized`], which tells who holds the memory (`specs/Holders.antt`), and [`run_grow_sized`], which tells what grew
+//! [`run_holders_sized`], which tells who holds the memory or what some blocks hold (`specs/Holders.antt`), and [`run_grow_sized`], which tells what grew
 //! between two logs (`specs/Grow.antt`).
 //!
 //! An allocation of 32 bytes, and a core in which no word leads to it:
@@ -40,7 +40,8 @@ pub use fault::RunFault;
 pub use growing::run_grow_sized;
 pub use holding::run_holders_sized;
 pub use leak_growth::{Grown, find_growth};
-pub use leak_holding::{Files, Holding, find_holders};
+pub use leak_holders::{Question, Side};
+pub use leak_holding::{Files, Holding, find_held, find_holders};
 pub use leak_index::{Reading, ReadingError};
 pub use leak_pool::{Gate, Open, Plan, PlanError};
 pub use leak_readers::{ReadFault, read_all};

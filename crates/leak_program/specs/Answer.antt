@@ -7,28 +7,28 @@ use Rattle.leak_request.specs.Requests.{IsRequestOf, IsUsageFaultOf}
 use Rattle.leak_program.specs.declared.failure.Failure.{Failure}
 use Rattle.leak_program.specs.declared.failure.Failure.TheVariants.{Word, Usage, Open, Run, NoMemory}
 use Rattle.leak_find.specs.declared.fault.RunFault.{RunFault}
-use Rattle.leak_program.specs.Files.{AsksFiles, FailsAsked, FailsFiles, FailsGrown, FailsHeld, GrowsFiles, HoldsFiles, IsRefusalOf, SearchesFiles}
+use Rattle.leak_program.specs.Files.{AsksFiles, FailsAsked, FailsFiles, FailsGrown, FailsHeld, GrowsFiles, HoldsFiles, IsRefusalOf, SearchesFiles, paths_of_held}
 
 -- files were searched; or asked for the block of the address, and there is no warning; or who holds the memory; or logs were
 -- asked what grew
 abbrev pub AnswersBy : Request → Option (List ℕ) → Option (List ℕ) → Option (List ℕ) → Option (List ℕ) → ℕ → Type 0
 AnswersBy (Search r) held holds heard hears status = SearchesFiles r.options held holds heard hears status
 AnswersBy (Why r) held holds heard hears status = AsksFiles r.options r.address held holds status × Keeps heard hears
-AnswersBy (Holders r) held holds heard hears status = HoldsFiles r.options held holds heard hears status
+AnswersBy (Holders r) held holds heard hears status = HoldsFiles r held holds heard hears status
 AnswersBy (Grow r) held holds heard hears status = GrowsFiles r.options held holds heard hears status
 
 -- the paths of the files of a request
 abbrev pub paths_in : Request → List (List ℕ)
 paths_in (Search r) = map string_bytes r.paths.items
 paths_in (Why r) = map string_bytes r.paths.items
-paths_in (Holders r) = map string_bytes r.paths.items
+paths_in (Holders r) = paths_of_held r
 paths_in (Grow r) = map string_bytes r.paths.items
 
 -- why the run of what the files hold has no status
 abbrev pub RunFailsBy : Request → Option (List ℕ) → Option (List ℕ) → RunFault → Type 0
 RunFailsBy (Search r) held holds fault = FailsFiles r.options held holds fault
 RunFailsBy (Why r) held holds fault = FailsAsked r.options r.address held holds fault
-RunFailsBy (Holders r) held holds fault = FailsHeld r.options held holds fault
+RunFailsBy (Holders r) held holds fault = FailsHeld r held holds fault
 RunFailsBy (Grow r) held holds fault = FailsGrown r.options held holds fault
 
 -- files were searched or asked by the options of the request that the words make

@@ -1,5 +1,5 @@
 -- The search of files. No contract can say what a file holds, so it is some bytes that were read and searched.
-use Rattle.std.specs.Prelude.{ℕ, List, Option, Contains, map, string_bytes}
+use Rattle.std.specs.Prelude.{◌≡◌, ℕ, List, [], ◌∷◌, ◌++◌, Option, None, Some, Contains, length, map, option_map, string_bytes}
 use Rattle.std.specs.Io.KnownBytes.{Keeps}
 use Rattle.leak_request.specs.declared.options.GrowOptions.{GrowOptions}
 use Rattle.leak_request.specs.declared.options.GrowRequest.{GrowRequest}
@@ -52,19 +52,35 @@ IsOpenFault paths (Open path) = Contains paths (string_bytes path)
 IsOpenFault paths (Run fault) = ⊥
 IsOpenFault paths NoMemory = Unit {0}
 
--- some readers were read by the options, and who holds the memory was written, and nothing else, and the warnings to the second
--- writer, or a first part of them; the status is that of the warnings
-pub record HoldsFiles (o : Options) (held holds heard hears : Option (List ℕ))
+-- the path of the earlier log, if there is one
+abbrev pub if_any : Option (List ℕ) → List (List ℕ)
+if_any None = []
+if_any (Some path) = path ∷ []
+
+-- the paths of the files of a question who holds the memory, in order
+abbrev pub paths_of_held : HoldersRequest → List (List ℕ)
+paths_of_held r = map string_bytes r.paths.items ++ if_any (option_map string_bytes r.since)
+
+-- how many files are read: one more where there is an earlier log
+abbrev pub files_for : Option (List ℕ) → ℕ
+files_for None = 2
+files_for (Some path) = 3
+
+-- some readers, as many as the request has files, were read by its options, and who holds the memory, or the answer to its question, was
+-- written, and nothing else, and the warnings to the second writer, or a first part of them; the status is that of the warnings
+pub record HoldsFiles (r : HoldersRequest) (held holds heard hears : Option (List ℕ))
     (status : ℕ) : Type 0 where
   pub before : List (Option (List ℕ))
   pub after : List (Option (List ℕ))
-  pub runs : RunsHolders o before after held holds heard hears status
+  pub count : length before ≡ files_for (option_map string_bytes r.since)
+  pub runs : RunsHolders r.options r.question before after held holds heard hears status
 
--- some readers were read by the options, and it isn't told who holds the memory, for this reason
-pub record FailsHeld (o : Options) (held holds : Option (List ℕ)) (fault : RunFault) : Type 0 where
+-- so many readers were read by the options, and there is no answer, for this reason
+pub record FailsHeld (r : HoldersRequest) (held holds : Option (List ℕ)) (fault : RunFault) : Type 0 where
   pub before : List (Option (List ℕ))
   pub after : List (Option (List ℕ))
-  pub fails : IsHoldersRunFault o before after held holds fault
+  pub count : length before ≡ files_for (option_map string_bytes r.since)
+  pub fails : IsHoldersRunFault r.options r.question before after held holds fault
 
 -- some logs were read by the options, and what grew between them was written, and nothing else, and the warnings to the second
 -- writer, or a first part of them; the status is that of the warnings
@@ -97,7 +113,7 @@ IsAskFailure r held holds failure =
     IsRefusalOf (FailsAsked r.options r.address held holds) (map string_bytes r.paths.items) held holds failure
 
 abbrev pub IsHoldersFailure : HoldersRequest → Option (List ℕ) → Option (List ℕ) → Failure → Type 0
-IsHoldersFailure r held holds failure = IsRefusalOf (FailsHeld r.options held holds) (map string_bytes r.paths.items) held holds failure
+IsHoldersFailure r held holds failure = IsRefusalOf (FailsHeld r held holds) (paths_of_held r) held holds failure
 
 abbrev pub IsGrowFailure : GrowRequest → Option (List ℕ) → Option (List ℕ) → Failure → Type 0
 IsGrowFailure r held holds failure = IsRefusalOf (FailsGrown r.options held holds) (map string_bytes r.paths.items) held holds failure

@@ -1,6 +1,6 @@
 //! The search of files.
 
-ghost use Rattle.std.specs.Prelude.{◌≡◌, IfOk, IfErr, length, map, string_bytes};
+ghost use Rattle.std.specs.Prelude.{◌≡◌, [], ◌∷◌, IfOk, IfErr, length, map, string_bytes};
 ghost use Rattle.std.specs.Io.KnownBytes.{Keeps};
 ghost use Rattle.leak_request.specs.Requests.{file_count};
 ghost use Rattle.leak_program.specs.Files.{IsFileFault, IsOpenFault, SearchesFiles};
@@ -60,6 +60,19 @@ pub(crate) fn opened<R: Files + AllocGlobal>(
         }
     }
     Ok(files)
+}
+
+/// The file with the path.
+pub(crate) fn opened_one<R: Files + AllocGlobal>(
+    rt: &R,
+    path: &String,
+) -> Result<R::File, Failure>
+    ensures { IfErr result (IsOpenFault (string_bytes path.now ∷ [])) }
+{
+    match fs::open(rt, path) {
+        Ok(file) => Ok(file),
+        Err(_) => Err(Failure::Open(path.as_str().to_string(rt.alloc())?)),
+    }
 }
 
 /// The sizes that the first four files are said to have, in order. A request has no more.

@@ -1,34 +1,49 @@
 //! The question who holds the memory, asked of files.
 
-ghost use Rattle.std.specs.Prelude.{◌≡◌, IfOk, IfErr, false, length};
+ghost use Rattle.std.specs.Prelude.{◌≡◌, IfOk, IfErr, false, length, option_map, string_bytes};
 ghost use Rattle.std.specs.Io.KnownBytes.{Keeps};
-ghost use Rattle.leak_program.specs.Files.{HoldsFiles, IsHoldersFailure};
+ghost use Rattle.leak_program.specs.Files.{HoldsFiles, IsHoldersFailure, IsOpenFault, files_for, paths_of_held};
 
 use crate::failure::Failure;
-use crate::files::{opened, sizes_of};
+use crate::files::{opened, opened_one, sizes_of};
 use leak_find::{HoldersRequest, run_holders_sized};
 use std::io::Write;
 use std::rt::Files;
 use std::thread::Threads;
 
-/// Opens both files of the request in order, and then reads them, writes who holds the memory to the first writer and the warnings
-/// to the second.
+/// The files of the request, opened in order, up to the first that can't be opened.
+fn files_of<R: Files + AllocGlobal>(
+    rt: &R,
+    request: &HoldersRequest,
+) -> Result<Vec<R::File>, Failure>
+    requires { length request.now.paths.items ≡ 2 }
+    ensures ok { IfOk result (λ files. length files.items ≡ files_for (option_map string_bytes request.now.since)) }
+    ensures refused { IfErr result (IsOpenFault (paths_of_held request.now)) }
+{
+    let mut files = opened(rt, request.paths.as_slice())?;
+    if let Some(path) = &request.since {
+        files.push(opened_one(rt, path)?)?;
+    }
+    Ok(files)
+}
+
+/// Opens the files of the request in order, and then reads them, writes who holds the memory, or the answer to its question, to the
+/// first writer and the warnings to the second.
 pub fn tell_holders<R: Files + AllocGlobal + Threads + Sync, W: Write, V: Write>(
     rt: &R,
     request: &HoldersRequest,
     writer: &mut W,
     warner: &mut V,
 ) -> Result<u8, Failure>
-    requires one { request.now.options.two ≡ false }
-    requires files { length request.now.paths.items ≡ 2 }
+    requires { length request.now.paths.items ≡ 2 }
     ensures ok { IfOk result
-        (HoldsFiles request.now.options (W.contents writer.old) (W.contents writer.new)
+        (HoldsFiles request.now (W.contents writer.old) (W.contents writer.new)
         (V.contents warner.old) (V.contents warner.new)) }
     ensures refused { IfErr result
         (IsHoldersFailure request.now (W.contents writer.old) (W.contents writer.new)) }
     ensures silent { IfErr result (λ _. Keeps (V.contents warner.old) (V.contents warner.new)) }
 {
-    let mut files = opened(rt, request.paths.as_slice())?;
+    let mut files = files_of(rt, request)?;
     let sizes = sizes_of(files.as_slice());
     match run_holders_sized(
         rt,
@@ -36,6 +51,7 @@ pub fn tell_holders<R: Files + AllocGlobal + Threads + Sync, W: Write, V: Write>
         files.as_mut_slice(),
         &sizes,
         &request.options,
+        request.question,
         writer,
         warner,
     ) {

@@ -6,8 +6,8 @@ use crate::answer::Answer;
 use crate::samples::core_of;
 use crate::whole::{is_wanting, options};
 use leak_find::{
-    Files, FindError, GrowOptions, Open, Plan, Reading, Skip, find_growth, find_holders,
-    run_grow_sized, run_holders_sized,
+    Files, FindError, GrowOptions, Open, Plan, Question, Reading, Side, Skip, WhyError,
+    find_growth, find_held, find_holders, run_grow_sized, run_holders_sized,
 };
 use std::alloc::Global;
 use std::io::Cursor;
@@ -22,12 +22,18 @@ const HOLDERS: &str =
                        leaked 0 bytes 0\nholder 2 48 1 32 0 0x10100 a:[0x1]\n\
                        holder 1 16 1 16 1 0x10200 b:[0x2]\n";
 
-/// The same, where the second block alone is counted.
-const NEW_HOLDERS: &str =
-    "blocks 2 bytes 48\nundumped 0\nunknown 0 displaced 0 torn 0\nnew 1 bytes 16\n\
-                           marked 2 bytes 48\nleaked 0 bytes 0\n\
-                           holder 1 16 0 0 0 0x10100 a:[0x1]\n\
-                           holder 1 16 1 16 1 0x10200 b:[0x2]\n";
+/// Who holds the second of them alone.
+const LATER: &str =
+    "blocks 2 bytes 48\nundumped 0\nunknown 0 displaced 0 torn 0\nnew 1 bytes 16\nmarked 2 bytes 48\n\
+                     leaked 0 bytes 0\nholder 1 16 0 0 0 0x10100 a:[0x1]\n\
+                     holder 1 16 1 16 1 0x10200 b:[0x2]\n";
+
+/// What the first holds.
+const IN_FIRST: &str =
+    "asked 0x10100 32 1 a:[0x1]\nheld 2 bytes 48\nin 1 32 a:[0x1]\nin 1 16 b:[0x2]\n";
+
+/// Who holds the second.
+const OF_SECOND: &str = "asked 0x10200 16 2 b:[0x2]\nheld 1 bytes 16\nby 1 16 a:[0x1]\n";
 
 /// The first of them.
 const EARLIER: &str = "@ a:[0x1] + 0x10100 0x20\n";
@@ -41,19 +47,73 @@ fn holding_core(alloc: Global) -> Option<Vec<u8>> {
     core_of(alloc, &[(0x10008, 0x10100), (0x10100, 0x10200)])
 }
 
-/// `find_holders` by three workers, with an earlier log.
+/// `find_holders` by three workers.
 pub(crate) fn holders<R: AllocGlobal + Threads + Sync>(rt: &R) -> Option<Answer> {
+    holders_by(rt, None, HOLDERS)
+}
+
+/// The same of the blocks of later lines than the first.
+pub(crate) fn holders_since<R: AllocGlobal + Threads + Sync>(rt: &R) -> Option<Answer> {
+    holders_by(rt, Some(EARLIER.as_bytes()), LATER)
+}
+
+/// `find_holders` with or without an earlier log.
+fn holders_by<R: AllocGlobal + Threads + Sync>(
+    rt: &R,
+    since: Option<&[u8]>,
+    wanted: &str,
+) -> Option<Answer> {
     let core = holding_core(rt.alloc())?;
     let plan = Plan::new(3, 16, 4).ok()?;
     let (reading, skip) = (Reading::interior(), Skip::usual());
     let files = Files {
         core: &core,
         log: HELD.as_bytes(),
-        since: Some(EARLIER.as_bytes()),
+        since,
     };
     let answer = match find_holders(rt, rt.alloc(), &files, reading, skip, plan, &Open) {
-        Ok(found) => Answer::of(found.report.as_slice() == NEW_HOLDERS.as_bytes()),
+        Ok(found) => Answer::of(found.report.as_slice() == wanted.as_bytes()),
         Err(error) => Answer::of_refusal(error == FindError::NoMemory),
+    };
+    Some(answer)
+}
+
+/// `find_held` of the first block.
+pub(crate) fn held_in<R: AllocGlobal + Threads + Sync>(rt: &R) -> Option<Answer> {
+    held_by(rt, question(0x10100, Side::In), IN_FIRST)
+}
+
+/// `find_held` of the second block, by who holds it.
+pub(crate) fn held_of<R: AllocGlobal + Threads + Sync>(rt: &R) -> Option<Answer> {
+    held_by(rt, question(0x10200, Side::Of), OF_SECOND)
+}
+
+/// The question about all blocks of a text.
+fn question(address: u64, side: Side) -> Question {
+    Question {
+        address,
+        side,
+        alone: false,
+    }
+}
+
+/// `find_held`, since an empty log.
+fn held_by<R: AllocGlobal + Threads + Sync>(
+    rt: &R,
+    question: Question,
+    wanted: &str,
+) -> Option<Answer> {
+    let core = holding_core(rt.alloc())?;
+    let plan = Plan::new(3, 16, 4).ok()?;
+    let (reading, skip) = (Reading::interior(), Skip::usual());
+    let files = Files {
+        core: &core,
+        log: HELD.as_bytes(),
+        since: Some(b""),
+    };
+    let answer = match find_held(rt, rt.alloc(), &files, question, reading, skip, plan, &Open) {
+        Ok(found) => Answer::of(found.report.as_slice() == wanted.as_bytes()),
+        Err(error) => Answer::of_refusal(error == WhyError::Find(FindError::NoMemory)),
     };
     Some(answer)
 }
@@ -69,19 +129,44 @@ pub(crate) fn growth(alloc: Global) -> Option<Answer> {
 
 /// `run_holders_sized` over the core and its log.
 pub(crate) fn runs_holders<R: AllocGlobal + Threads + Sync>(rt: &R) -> Option<Answer> {
+    runs_by(rt, None, None, HOLDERS)
+}
+
+/// The same with an earlier log and a question.
+pub(crate) fn runs_held<R: AllocGlobal + Threads + Sync>(rt: &R) -> Option<Answer> {
+    runs_by(
+        rt,
+        Some(EARLIER),
+        Some(question(0x10200, Side::Of)),
+        OF_SECOND,
+    )
+}
+
+/// `run_holders_sized` over the core, its log and, where there is one, the earlier log.
+fn runs_by<R: AllocGlobal + Threads + Sync>(
+    rt: &R,
+    since: Option<&str>,
+    question: Option<Question>,
+    wanted: &str,
+) -> Option<Answer> {
     let alloc = rt.alloc();
     let mut readers = Vec::new(alloc);
     readers.push(Cursor::new(holding_core(alloc)?)).ok()?;
     readers
         .push(Cursor::new(HELD.as_bytes().to_vec(alloc).ok()?))
         .ok()?;
+    if let Some(log) = since {
+        readers
+            .push(Cursor::new(log.as_bytes().to_vec(alloc).ok()?))
+            .ok()?;
+    }
     let options = options(false, Plan::new(3, 16, 4).ok()?);
-    if readers.len() != 2 {
+    if readers.len() != 2 && readers.len() != 3 {
         return Some(Answer::Other);
     }
     let mut written: Vec<u8> = Vec::with_capacity(alloc, 1000).ok()?;
     let mut warned: Vec<u8> = Vec::with_capacity(alloc, 1000).ok()?;
-    let sizes = [8192, HELD.len() as u64];
+    let sizes = [8192, HELD.len() as u64, 25];
     let readers = readers.as_mut_slice();
     let answer = match run_holders_sized(
         rt,
@@ -89,10 +174,11 @@ pub(crate) fn runs_holders<R: AllocGlobal + Threads + Sync>(rt: &R) -> Option<An
         readers,
         &sizes,
         &options,
+        question,
         &mut written,
         &mut warned,
     ) {
-        Ok(status) => Answer::of(status == 0 && written.as_slice() == HOLDERS.as_bytes()),
+        Ok(status) => Answer::of(status == 0 && written.as_slice() == wanted.as_bytes()),
         Err(fault) => Answer::of_refusal(
             is_wanting(&fault) && written.is_empty() && warned.is_empty(),
         ),

@@ -23,7 +23,7 @@ use std::rt::Env;
 use std::thread::Threads;
 
 /// The calls, by name.
-static CALLS: [&str; 49] = [
+static CALLS: [&str; 53] = [
     "core_k",
     "Image::read",
     "Threads::read",
@@ -63,6 +63,9 @@ static CALLS: [&str; 49] = [
     "find_two",
     "find_why",
     "find_holders",
+    "find_holders_since",
+    "find_held_in",
+    "find_held_of",
     "find_growth",
     "read_all",
     "run",
@@ -71,6 +74,7 @@ static CALLS: [&str; 49] = [
     "run_why",
     "run_why_sized",
     "run_holders_sized",
+    "run_held_sized",
     "run_grow_sized",
     "request",
 ];
@@ -157,6 +161,9 @@ fn answer_of<R: AllocGlobal + Threads + Sync>(rt: &R, name: &str) -> Option<Answ
         "find_two" => whole::two_cores(rt),
         "find_why" => whole::held_by(alloc),
         "find_holders" => asking::holders(rt),
+        "find_holders_since" => asking::holders_since(rt),
+        "find_held_in" => asking::held_in(rt),
+        "find_held_of" => asking::held_of(rt),
         "find_growth" => asking::growth(alloc),
         "read_all" => whole::input(alloc),
         "run" => whole::runs(rt),
@@ -165,6 +172,7 @@ fn answer_of<R: AllocGlobal + Threads + Sync>(rt: &R, name: &str) -> Option<Answ
         "run_why" => whole::runs_why(alloc),
         "run_why_sized" => whole::runs_why_sized(alloc),
         "run_holders_sized" => asking::runs_holders(rt),
+        "run_held_sized" => asking::runs_held(rt),
         "run_grow_sized" => asking::runs_grow(alloc),
         "request" => whole::command_line(alloc),
         _ => None,

@@ -1,12 +1,15 @@
 -- Where the paths and the numbers were read, nothing that a subcommand takes is lacking.
-use Rattle.std.proofs.Common.{◌≡◌, ◌≤◌, ◌<◌, ℕ, Bool, true, false, List, [], ◌∷◌, None, Some, ap, subst, sym, refl, ◌∙◌, arith, inl, inr, codes, map, slice_index_or}
+use Rattle.std.proofs.Common.{◌≡◌, ◌≤◌, ◌<◌, ℕ, Bool, true, false, List, [], ◌∷◌, None, Some, ap, subst, sym, refl, ◌∙◌, arith, inl, inr, codes, slice_index_or}
 use Rattle.std.proofs.lemmas.List.Elements.{All-cons, All-nil}
 use Rattle.std.specs.List.{All}
-use Rattle.std.specs.Prelude.{IsSome, String, string_bytes, unwrap_or}
+use Rattle.std.specs.Prelude.{IsSome, String, string_bytes}
 use Rattle.clap.specs.Words.{Row, Text, first_of}
 use Rattle.leak_pool.specs.Plan.{IsBetween, Numbers}
 use Rattle.leak_request.specs.CommandLine.{address_id, name_of, path_ids}
-use Rattle.leak_request.specs.Requests.{AreAt, AreNumbersAt, HoldersLacks, Lacks, WhyLacks}
+use Rattle.leak_request.specs.Questions.{IsQuestionFault}
+use Rattle.leak_request.specs.Requests.{AreAt, AreNumbersAt, HoldersLacks, IsHoldersRefusal, IsListTaken, Lacks, WhyLacks}
+use Rattle.leak_request.specs.declared.fault.UsageFault.{UsageFault}
+use Rattle.leak_request.specs.declared.fault.UsageFault.TheVariants as fault
 
 -- texts that are the values of the ids show that each id has a value
 pub all_there : {A : Type 0} (rows : List Row) (ids : List Text) (texts : List (String A)) → AreAt rows ids texts → All (λ id. IsSome (first_of id rows)) ids
@@ -49,3 +52,13 @@ pub none_lacks_holders : {A : Type 0} (rows : List Row) (paths : List (String A)
     → IsBetween 1 64 n.workers → IsBetween 1 65536 n.piece → n.stack ≤ 65536 → AreNumbersAt rows n.workers n.piece n.stack → HoldersLacks rows → ⊥
 none_lacks_holders rows paths n there workers piece stack at (inl lacks) = lacks (all_there rows (path_ids false) paths there)
 none_lacks_holders rows paths n there workers piece stack at (inr lacks) = lacks n workers piece stack at
+
+-- a question is refused where all is there and the list is taken
+pub question_refused : (rows : List Row) (f : UsageFault) → (HoldersLacks rows → ⊥) → IsListTaken rows → IsQuestionFault rows f → IsHoldersRefusal rows f
+question_refused rows (fault.Words text) whole taken refused = absurd refused
+question_refused rows (fault.Displace f) whole taken refused = absurd refused
+question_refused rows fault.Check whole taken refused = (whole, taken, refused)
+question_refused rows fault.Sides whole taken refused = (whole, taken, refused)
+question_refused rows fault.Block whole taken refused = (whole, taken, refused)
+question_refused rows fault.Address whole taken refused = (whole, taken, refused)
+question_refused rows fault.NoMemory whole taken refused = absurd refused

@@ -56,5 +56,7 @@ pub refused_after : (words : List Text) (name : Text) (rows : List Row) (f : Usa
 refused_after words name rows (fault.Words text) taken met refused = λ _. rw met refused
 refused_after words name rows (fault.Displace f) taken met refused = (taken, rw met refused)
 refused_after words name rows fault.Check taken met refused = (taken, rw met refused)
+refused_after words name rows fault.Sides taken met refused = (taken, rw met refused)
+refused_after words name rows fault.Block taken met refused = (taken, rw met refused)
 refused_after words name rows fault.Address taken met refused = (taken, rw met refused)
 refused_after words name rows fault.NoMemory taken met refused = tt

@@ -2,7 +2,6 @@
 use Rattle.std.proofs.Common.{arith, zero, suc, take, ◌≡◌, ◌<◌, ◌≤◌, ◌^◌, get_or, map, subst, [], ◌∷◌, ◌∙◌, refl, sym, ap, length, Bool, true, false, List, ℕ, Option, Some, None}
 use Rattle.std.proofs.lemmas.List.{get_or-map, length-map}
 use Rattle.std.proofs.lemmas.List.Elements.{All-get_or}
-use Rattle.std.specs.List.{All}
 use Rattle.std.specs.Borrow.{Bor}
 use Rattle.std.specs.Prelude.{Err, IfNone, IfSome, IsSome, IsSomeAnd, Result, Ok, String}
 use Rattle.clap.specs.Words.{ReadsOne, Row, Text, first_of}
@@ -51,6 +50,8 @@ pub bad_by : {Reason : Type 0} (f : UsageFault) → Reason → IsBadBy (Unit {0}
 bad_by (fault.Words text) reason bad = (bad.0, reason)
 bad_by (fault.Displace f) reason bad = bad
 bad_by fault.Check reason bad = bad
+bad_by fault.Sides reason bad = bad
+bad_by fault.Block reason bad = bad
 bad_by fault.Address reason bad = bad
 bad_by fault.NoMemory reason bad = tt
 

@@ -18,3 +18,7 @@ value_of digits = fold (λ n d. 16 * n + digit_value d) 0 digits
 abbrev pub IsAddress : List ℕ → ℕ → Type 0
 IsAddress text n = (digits : List ℕ) × (text ≡ codes "0x" ++ digits) × (1 ≤ length digits) × (length digits ≤ 16)
     × IsTrue (list_all is_digit digits) × (n ≡ value_of digits)
+
+-- the text is no address
+abbrev pub IsBadAddress : List ℕ → Type 0
+IsBadAddress text = (a : ℕ) → IsAddress text a → ⊥

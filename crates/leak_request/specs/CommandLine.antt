@@ -24,6 +24,10 @@ text_rule id = record (new_rule id) { long = Some id; value_names = 1 }
 abbrev pub flag_rule : Text → Rule
 flag_rule id = record (new_rule id) { long = Some id; action = Some SetTrue }
 
+-- the options that ask about some blocks, and that say which blocks count
+abbrev pub question_rules : List Rule
+question_rules = text_rule (codes "in") ∷ text_rule (codes "of") ∷ flag_rule (codes "block") ∷ text_rule (codes "since") ∷ []
+
 -- the options that share out the work
 abbrev pub plan_rules : List Rule
 plan_rules = number_rule (codes "workers") (codes "4") 1 64
@@ -85,7 +89,8 @@ holders_name = codes "holders"
 -- `leak_find holders CORE LOG`
 abbrev pub holders_line : App
 holders_line =
-    with_rules (with_rules (with_rules (with_rules (new_app holders_name) (map operand_rule (path_ids false))) plan_rules) reading_rules) warning_rules
+    with_rules (with_rules (with_rules
+    (with_rules (with_rules (new_app holders_name) (map operand_rule (path_ids false))) question_rules) plan_rules) reading_rules) warning_rules
 
 -- the subcommand that asks what grew
 abbrev pub grow_name : Text

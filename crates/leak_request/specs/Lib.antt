@@ -1,4 +1,6 @@
 pub mod Address
 pub mod CommandLine
 pub mod Displacements
+pub mod Found
+pub mod Questions
 pub mod Requests

@@ -1,15 +1,16 @@
 -- What a command line asks for, by the subcommand that clap met and the rows that it found there. Own rule.
-use Rattle.std.specs.Prelude.{◌≡◌, ◌↔◌, ◌≤◌, ◌<◌, ◌^◌, ◌⊎◌, ℕ, Bool, false, List, [], ◌∷◌, Option, Some, None, length, map, codes, String, string_bytes, IfSome, IsSome, IsTrue, IsSomeAnd, IsFalse, if◌then◌else◌}
+use Rattle.std.specs.Prelude.{◌≡◌, ◌↔◌, ◌≤◌, ◌<◌, ◌^◌, ◌⊎◌, ℕ, Bool, false, List, [], Option, Some, None, option_map, length, map, codes, String, string_bytes, IfSome, IsSome, IsTrue, IsSomeAnd, IsFalse, if◌then◌else◌}
 use Rattle.std.specs.List.{All}
 use Rattle.std.specs.Str.Parse.{IsNumeral, digits_value, without_leading_plus}
-use Rattle.clap.specs.Words.{Row, Text, first_of, found_of, one_of, rows_of, subcommand_of}
-use Rattle.clap.specs.declared.parser.matches.ArgMatches.{ArgMatches}
+use Rattle.clap.specs.Words.{Row, Text, first_of, one_of, subcommand_of}
 use Rattle.clap.specs.Faults.{fault_of}
 use Rattle.leak_index.specs.Readings.{distances_of, listed_by}
 use Rattle.leak_pool.specs.Plan.{IsBetween, Numbers}
-use Rattle.leak_request.specs.Address.{IsAddress}
+use Rattle.leak_request.specs.Address.{IsAddress, IsBadAddress}
 use Rattle.leak_request.specs.CommandLine.{address_id, command_line, grow_ids, grow_name, holders_name, name_of, path_ids, why_name}
 use Rattle.leak_request.specs.Displacements.{IsListed, displace_fault_of}
+use Rattle.leak_request.specs.Found.{IsGiven}
+use Rattle.leak_request.specs.Questions.{IsQuestionAt, IsQuestionFault}
 use Rattle.leak_request.specs.declared.fault.DisplaceFault.{DisplaceFault}
 use Rattle.leak_request.specs.declared.fault.UsageFault.{UsageFault}
 use Rattle.leak_request.specs.declared.fault.UsageFault.TheVariants as fault
@@ -19,10 +20,6 @@ use Rattle.leak_request.specs.declared.options.Request.{Request}
 use Rattle.leak_request.specs.declared.options.Request.TheVariants.{Search, Why, Holders, Grow}
 use Rattle.leak_request.specs.declared.options.SearchRequest.{SearchRequest}
 use Rattle.leak_request.specs.declared.options.WhyRequest.{WhyRequest}
-
--- the rows that clap found for a subcommand
-abbrev pub found_rows : ArgMatches → List Row
-found_rows found = rows_of (found_of found)
 
 -- the text is the number in decimal, as std reads it
 abbrev pub Writes : ℕ → Text → Type 0
@@ -41,10 +38,6 @@ pub record AreNumbersAt (rows : List Row) (n m k : ℕ) : Type 0 where
   pub workers : IsNumberAt rows (codes "workers") n
   pub piece : IsNumberAt rows (codes "piece") m
   pub stack : IsNumberAt rows (codes "stack") k
-
--- the flag was given
-abbrev pub IsGiven : List Row → Text → Type 0
-IsGiven rows id = first_of id rows ≡ Some (codes "true")
 
 -- the list of displacements
 abbrev pub list_in : List Row → Option Text
@@ -98,10 +91,12 @@ pub record IsWhyRequest (rows : List Row) (r : WhyRequest) : Type 0 where
   pub core_limit : r.options.core_limit ≡ 68719476736
   pub log_limit : r.options.log_limit ≡ 4294967296
 
--- the request for who holds the memory: a search of one core that lists no misfits
+-- the request for who holds the memory: a search of one core that lists no misfits, and maybe a question about some blocks
 pub record IsHoldersRequest (rows : List Row) (r : HoldersRequest) : Type 0 where
   pub two : r.options.two ≡ false
   pub paths : AreAt rows (path_ids false) r.paths.items
+  pub since : option_map string_bytes r.since ≡ first_of (codes "since") rows
+  pub question : IsQuestionAt rows r.question
   pub numbers : AreNumbersAt rows r.options.plan.workers r.options.plan.piece r.options.plan.stack
   pub reading : IsListedBy (list_in rows) (listed_by r.options.reading)
   pub ends : IsTrue (distances_of r.options.reading).skips_ends ↔ IsGiven rows (codes "skip-ends")
@@ -158,6 +153,8 @@ abbrev pub IsBadBy : Type 0 → UsageFault → Type 0
 IsBadBy reason (fault.Words text) = (string_bytes text ≡ codes "bad arguments") × reason
 IsBadBy reason (fault.Displace f) = ⊥
 IsBadBy reason fault.Check = ⊥
+IsBadBy reason fault.Sides = ⊥
+IsBadBy reason fault.Block = ⊥
 IsBadBy reason fault.Address = ⊥
 IsBadBy reason fault.NoMemory = Unit {0}
 
@@ -186,10 +183,6 @@ IsSearchRefusal name rows f = IsBadBy (Lacks name rows) f
 abbrev pub WhyLacks : List Row → Type 0
 WhyLacks rows = LacksPath rows false ⊎ (first_of address_id rows ≡ None)
 
--- the text is no address
-abbrev pub IsBadAddress : List ℕ → Type 0
-IsBadAddress text = (a : ℕ) → IsAddress text a → ⊥
-
 -- Why what clap found asks for no block: something isn't there, which is answered first; or all is there and the list is
 -- refused; or the list is taken too, and the address isn't one.
 abbrev pub IsWhyRefusal : List Row → UsageFault → Type 0
@@ -202,13 +195,17 @@ IsWhyRefusal rows f = IsBadBy (WhyLacks rows) f
 abbrev pub HoldersLacks : List Row → Type 0
 HoldersLacks rows = LacksPath rows false ⊎ LacksNumber rows
 
+-- all that the question who holds the memory takes is there, its list of displacements is taken, and it is refused for what it asks
+abbrev pub IsRefusedForQuestion : List Row → UsageFault → Type 0
+IsRefusedForQuestion rows f = (HoldersLacks rows → ⊥) × IsListTaken rows × IsQuestionFault rows f
+
 -- Why what clap found doesn't ask who holds the memory: something isn't there, which is answered first; or all is there and the
--- list is refused.
+-- list is refused; or the list is taken too, and what is asked about some blocks isn't.
 abbrev pub IsHoldersRefusal : List Row → UsageFault → Type 0
+IsHoldersRefusal rows (fault.Words text) = IsBadBy (HoldersLacks rows) (fault.Words text)
 IsHoldersRefusal rows (fault.Displace f) = (HoldersLacks rows → ⊥) × IsListFaultAt rows f
-IsHoldersRefusal rows fault.Check = ⊥
-IsHoldersRefusal rows fault.Address = ⊥
-IsHoldersRefusal rows f = IsBadBy (HoldersLacks rows) f
+IsHoldersRefusal rows fault.NoMemory = Unit {0}
+IsHoldersRefusal rows f = IsRefusedForQuestion rows f
 
 -- why what clap found doesn't ask what grew: a path isn't there
 abbrev pub IsGrowRefusal : List Row → UsageFault → Type 0
@@ -240,6 +237,10 @@ IsUsageFaultOf words (fault.Displace f) = (fault_of command_line words ≡ [])
     × IsSomeAnd (subcommand_of command_line words) (λ met. IsRefusedAt met.0 met.1 (fault.Displace f))
 IsUsageFaultOf words fault.Check = (fault_of command_line words ≡ [])
     × IsSomeAnd (subcommand_of command_line words) (λ met. IsRefusedAt met.0 met.1 fault.Check)
+IsUsageFaultOf words fault.Sides = (fault_of command_line words ≡ [])
+    × IsSomeAnd (subcommand_of command_line words) (λ met. IsRefusedAt met.0 met.1 fault.Sides)
+IsUsageFaultOf words fault.Block = (fault_of command_line words ≡ [])
+    × IsSomeAnd (subcommand_of command_line words) (λ met. IsRefusedAt met.0 met.1 fault.Block)
 IsUsageFaultOf words fault.Address = (fault_of command_line words ≡ [])
     × IsSomeAnd (subcommand_of command_line words) (λ met. IsRefusedAt met.0 met.1 fault.Address)
 IsUsageFaultOf words fault.NoMemory = Unit {0}

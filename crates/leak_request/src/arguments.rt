@@ -5,13 +5,15 @@ ghost use Rattle.std.specs.Prelude.{codes, length, map, option_map, string_bytes
 ghost use Rattle.clap.specs.Words.{first_of, kind_of};
 ghost use Rattle.leak_index.specs.Readings.{distances_of, listed_by};
 ghost use Rattle.leak_request.specs.CommandLine.{grow_ids, name_of, path_ids};
-ghost use Rattle.leak_request.specs.Requests.{AreAt, AreNumbersAt, IsBadBy, IsGiven, IsListFaultAt, IsListedBy};
+ghost use Rattle.leak_request.specs.Found.{IsGiven, found_rows};
+ghost use Rattle.leak_request.specs.Requests.{AreAt, AreNumbersAt, IsBadBy, IsListFaultAt, IsListedBy};
 ghost use Rattle.leak_request.specs.Requests.{IsGrowRefusal, IsHoldersRefusal, IsNumberAt, IsRefusedAt, IsSearchRefusal, IsWhyRefusal};
 ghost use Rattle.leak_request.specs.Requests.{LacksNumber, LacksNumberAt, LacksOneOf};
 ghost use Rattle.leak_request.specs.Requests.{HasFiles, IsGrowRequest, IsHoldersRequest, IsRequest, IsRequestOf, IsSearchRequest};
-ghost use Rattle.leak_request.specs.Requests.{IsUsageFaultOf, IsWhyRequest, found_rows, list_in};
+ghost use Rattle.leak_request.specs.Requests.{IsUsageFaultOf, IsWhyRequest, list_in};
 
 use crate::address::address;
+use crate::asking::question;
 use crate::command_line::command;
 use crate::displacements::read_displace;
 use crate::fault::{DisplaceFault, UsageFault};
@@ -38,8 +40,8 @@ static GROW: [&str; 2] = ["log1", "log2"];
 /// Reads the words of a command line, which begin with the program's name.
 ///
 /// The text of a refusal, or of the help that was asked for, is clap's. A list of displacements is refused only where
-/// nothing else is missing, and `--check` with `--other-heap`, or an address, only where the list is not. Own rule: help
-/// is no request.
+/// nothing else is missing, and `--check` with `--other-heap`, `--in` with `--of`, `--block` without both, or an address, only
+/// where the list is not. Own rule: help is no request.
 pub fn request(alloc: Global, words: &[String]) -> Result<Request, UsageFault>
     requires { 0 < length words.now }
     ensures ok { IfOk result (IsRequestOf (map string_bytes words.now)) }
@@ -153,8 +155,11 @@ fn holders_request(alloc: Global, found: &ArgMatches) -> Result<HoldersRequest, 
         Ok(reading) => reading,
         Err(fault) => return Err(UsageFault::Displace(fault)),
     };
+    let since = optional(alloc, found, "since")?;
+    let question = question(found)?;
     Ok(HoldersRequest {
         paths,
+        since,
         options: Options {
             two: false,
             reading,
@@ -166,6 +171,7 @@ fn holders_request(alloc: Global, found: &ArgMatches) -> Result<HoldersRequest, 
             core_limit: CORE_LIMIT,
             log_limit: LOG_LIMIT,
         },
+        question,
     })
 }
 
@@ -253,8 +259,18 @@ fn plan(alloc: Global, found: &ArgMatches) -> Result<Plan, UsageFault>
     }
 }
 
+/// The value of the argument, as text that lives on.
+fn optional(alloc: Global, found: &ArgMatches, id: &str) -> Result<Option<String>, AllocError>
+    ensures { IfOk result (λ text. option_map string_bytes text ≡ first_of id.now (found_rows found.now)) }
+{
+    match value(found, id) {
+        Some(text) => Ok(Some(text.to_string(alloc)?)),
+        None => Ok(None),
+    }
+}
+
 /// The value of the argument, as text.
-fn value<'a>(found: &ArgMatches<'a>, id: &str) -> Option<&'a str>
+pub(crate) fn value<'a>(found: &ArgMatches<'a>, id: &str) -> Option<&'a str>
     ensures { option_map (λ text. text.now) result ≡ first_of id.now (found_rows found.now) }
 {
     found.get_str(id)
@@ -269,7 +285,7 @@ fn number(found: &ArgMatches, id: &str) -> Option<u32>
 }
 
 /// Whether the flag was given.
-fn is_given(found: &ArgMatches, id: &str) -> bool
+pub(crate) fn is_given(found: &ArgMatches, id: &str) -> bool
     ensures { IsTrue result ↔ IsGiven (found_rows found.now) id.now }
 {
     matches!(value(found, id), Some("true"))

@@ -3,7 +3,7 @@
 ghost use Rattle.std.specs.Prelude.{◌≡◌, IfOk, false, true, codes};
 ghost use Rattle.clap.specs.Words.{app_of, rule_of};
 ghost use Rattle.leak_request.specs.CommandLine.{command_line, flag_rule, grow_line, has_globals, holders_line, number_rule, operand_rule};
-ghost use Rattle.leak_request.specs.CommandLine.{plan_rules, reading_rules, search_line, sign_rules, text_rule};
+ghost use Rattle.leak_request.specs.CommandLine.{plan_rules, question_rules, reading_rules, search_line, sign_rules, text_rule};
 ghost use Rattle.leak_request.specs.CommandLine.{warning_rules, why_line, with_options, with_rules};
 
 use clap::{Arg, ArgAction, Command};
@@ -36,6 +36,22 @@ const LATER_LOG: &str = "A later log of the same process; it begins with LOG1";
 /// What help says of an address.
 const ADDRESS: &str = "An address in the block, or its start: 0x and 1 to 16 hexadecimal digits";
 
+/// What help says of `--in`.
+const IN: &str = "Tell what is held by the live block of this address and all others of its caller";
+
+/// What help says of `--of`.
+const OF: &str = "Tell who holds the live block of this address and all others of its caller";
+
+/// What help says of `--block`.
+const BLOCK: &str = "With --in or --of: mean that block alone";
+
+/// What help says of `--since`.
+const SINCE: &str = "Count only blocks allocated after LOG1, an earlier log with which LOG begins";
+
+/// What help says of `--displace`.
+const DISPLACE: &str =
+    "Byte offsets at which a pointer keeps a block, besides 0, as 8,16 [default: any]";
+
 /// What help says of `--skip-ends`.
 const SKIP_ENDS: &str = "Leave out pointers one past the end of a block";
 
@@ -50,7 +66,7 @@ const SKIP_LINKS: &str = "Leave out the links of glibc's malloc to free chunks o
 
 /// What help says of `--skip-slack`.
 const SKIP_SLACK: &str =
-    "Leave out pointers in what glibc's malloc gave a block past its size, as no program uses that";
+    "Leave out pointers in what glibc's malloc gave a block past its size; assumes that the program doesn't use it";
 
 /// What help says of `--check`.
 const CHECK: &str = "List the live blocks that have no chunk of their size in use in glibc's heap";
@@ -132,6 +148,7 @@ fn holders<'a>(alloc: Global) -> Result<Command<'a>, AllocError>
         .about("Tells which callers' blocks hold the memory that pointers reach")
         .arg(operand(alloc, "core", "CORE", CORE))?
         .arg(operand(alloc, "log", "LOG", LOG))?;
+    let command = with_question(alloc, command)?;
     let command = with_plan(alloc, command)?;
     let command = with_reading(alloc, command)?;
     with_warnings(alloc, command)
@@ -146,6 +163,18 @@ fn grow<'a>(alloc: Global) -> Result<Command<'a>, AllocError>
         .arg(operand(alloc, "log1", "LOG1", EARLIER_LOG))?
         .arg(operand(alloc, "log2", "LOG2", LATER_LOG))?
         .arg(flag(alloc, "strict", STRICT))
+}
+
+/// The command with the options that ask about some blocks, and that say which blocks count.
+fn with_question<'a>(alloc: Global, command: Command<'a>) -> Result<Command<'a>, AllocError>
+    ensures line { IfOk result (λ c. app_of c ≡ with_rules (app_of command.entry) question_rules) }
+    ensures local { IfOk result (λ c. has_globals c ≡ has_globals command.entry) }
+{
+    command
+        .arg(text(alloc, "in", "ADDRESS", IN))?
+        .arg(text(alloc, "of", "ADDRESS", OF))?
+        .arg(flag(alloc, "block", BLOCK))?
+        .arg(text(alloc, "since", "LOG1", SINCE))
 }
 
 /// The command with the options that share out the work.
@@ -165,7 +194,7 @@ fn with_reading<'a>(alloc: Global, command: Command<'a>) -> Result<Command<'a>, 
     ensures local { IfOk result (λ c. has_globals c ≡ has_globals command.entry) }
 {
     command
-        .arg(displace(alloc))?
+        .arg(text(alloc, "displace", "LIST", DISPLACE))?
         .arg(flag(alloc, "skip-ends", SKIP_ENDS))?
         .arg(flag(alloc, "all-memory", ALL_MEMORY))?
         .arg(flag(alloc, "skip-freed", SKIP_FREED))?
@@ -238,14 +267,11 @@ fn stack<'a>(alloc: Global) -> Arg<'a>
         .help("Number of blocks that a worker's stack holds, 0 to 65536")
 }
 
-fn displace<'a>(alloc: Global) -> Arg<'a>
-    ensures rule { rule_of result ≡ text_rule (codes "displace") }
+fn text<'a>(alloc: Global, id: &'a str, value: &'a str, what: &'a str) -> Arg<'a>
+    ensures rule { rule_of result ≡ text_rule id.entry.now }
     ensures local { result.global ≡ false }
 {
-    Arg::new(alloc, "displace")
-        .long("displace")
-        .value_name("LIST")
-        .help("Byte offsets at which a pointer keeps a block, besides 0, as 8,16 [default: any]")
+    Arg::new(alloc, id).long(id).value_name(value).help(what)
 }
 
 fn flag<'a>(alloc: Global, name: &'a str, what: &'a str) -> Arg<'a>

@@ -30,6 +30,12 @@ pub enum UsageFault {
     /// Blocks are to be compared with glibc's heap, and the allocator is said to be another.
     #[error("--check: not with --other-heap")]
     Check,
+    /// It is asked both what some blocks hold and who holds them.
+    #[error("--in: not with --of")]
+    Sides,
+    /// One block alone is meant, and nothing is asked about it.
+    #[error("--block: only with --in or --of")]
+    Block,
     /// The address of a block is not `0x` and 1 to 16 hexadecimal digits, and nothing else is missing.
     #[error("bad address")]
     Address,

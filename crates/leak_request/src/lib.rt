@@ -13,6 +13,7 @@
 
 mod address;
 mod arguments;
+mod asking;
 mod command_line;
 mod displacements;
 mod fault;

@@ -1,5 +1,6 @@
 //! What the program was asked for.
 
+use leak_holders::Question;
 use leak_index::Reading;
 use leak_pool::Plan;
 use leak_roots::Skip;
@@ -58,8 +59,12 @@ pub struct WhyRequest {
 pub struct HoldersRequest {
     /// The paths of a core and of its log.
     pub paths: Vec<String>,
+    /// The path of an earlier log of the process, if only later blocks count.
+    pub since: Option<String>,
     /// How the core is searched: `two` and `check` are false.
     pub options: Options,
+    /// What is asked about some blocks. Without it: who holds what.
+    pub question: Option<Question>,
 }
 
 /// How it is told what grew.

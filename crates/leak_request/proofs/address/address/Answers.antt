@@ -1,5 +1,5 @@
 -- 16 digits fit.
-use Rattle.std.proofs.Common.{ℕ, ◌+◌, ◌*◌, ◌^◌, ◌<◌, arith}
+use Rattle.std.proofs.Common.{◌+◌, ◌*◌, ◌^◌, ◌<◌, arith}
 use Rattle.leak_request.proofs.Digits.{digit_room}
 use Rattle.leak_request.proofs.address.address.Goals as goal
 

@@ -6,7 +6,7 @@ use Rattle.leak_request.proofs.command_line.with_reading.Goals as goal
 
 pub returns-clause-local : goal.returns-clause-local
 returns-clause-local c =
-    let first = globals_more c.in_ok-arg.ensures c.displace.ensures.local refl in
+    let first = globals_more c.in_ok-arg.ensures c.text.ensures.local refl in
     let second = globals_more c.in_ok-arg-2.ensures c.flag.ensures.local first in
     let third = globals_more c.in_ok-arg-3.ensures c.flag-2.ensures.local second in
     let fourth = globals_more c.in_ok-arg-4.ensures c.flag-3.ensures.local third in
@@ -15,7 +15,7 @@ returns-clause-local c =
 
 pub returns-clause-line : goal.returns-clause-line
 returns-clause-line c =
-    let first = line_more {line = app_of c.args.command} c.in_ok-arg.ensures c.displace.ensures.local c.displace.ensures.rule refl in
+    let first = line_more {line = app_of c.args.command} c.in_ok-arg.ensures c.text.ensures.local c.text.ensures.rule refl in
     let second = line_more c.in_ok-arg-2.ensures c.flag.ensures.local c.flag.ensures.rule first in
     let third = line_more c.in_ok-arg-3.ensures c.flag-2.ensures.local c.flag-2.ensures.rule second in
     let fourth = line_more c.in_ok-arg-4.ensures c.flag-3.ensures.local c.flag-3.ensures.rule third in

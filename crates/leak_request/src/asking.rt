@@ -1,0 +1,41 @@
+//! What is asked about some blocks.
+
+ghost use Rattle.std.specs.Prelude.{IfErr, IfOk};
+ghost use Rattle.leak_request.specs.Found.{found_rows};
+ghost use Rattle.leak_request.specs.Questions.{IsAskedBy, IsBadFor, IsQuestionAt, IsQuestionFault};
+
+use crate::address::address;
+use crate::arguments::{is_given, value};
+use crate::fault::UsageFault;
+use clap::ArgMatches;
+use leak_holders::{Question, Side};
+
+/// The question about some blocks, if there is one, where clap found this.
+pub(crate) fn question(found: &ArgMatches) -> Result<Option<Question>, UsageFault>
+    ensures ok { IfOk result (IsQuestionAt (found_rows found.now)) }
+    ensures refused { IfErr result (IsQuestionFault (found_rows found.now)) }
+{
+    let alone = is_given(found, "block");
+    match (value(found, "in"), value(found, "of")) {
+        (Some(_), Some(_)) => Err(UsageFault::Sides),
+        (Some(word), None) => Ok(Some(asked(word, Side::In, alone)?)),
+        (None, Some(word)) => Ok(Some(asked(word, Side::Of, alone)?)),
+        (None, None) if alone => Err(UsageFault::Block),
+        (None, None) => Ok(None),
+    }
+}
+
+/// The question by the text of its address.
+fn asked(text: &str, side: Side, alone: bool) -> Result<Question, UsageFault>
+    ensures ok { IfOk result (IsAskedBy text.now side alone) }
+    ensures refused { IfErr result (IsBadFor text.now) }
+{
+    match address(text.as_bytes()) {
+        Some(address) => Ok(Question {
+            address,
+            side,
+            alone,
+        }),
+        None => Err(UsageFault::Address),
+    }
+}
