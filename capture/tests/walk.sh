@@ -12,6 +12,7 @@ walk=$kit/leak_walk
 # walked NAME [MORE]: the log of the heap of NAME.core against the table's log. So many blocks may be in the heap alone.
 walked() {
     local said
+    verdict "$1: its log is by the table" 1 "$(grep -c '^= leak_log moment' "$1.log")"
     limited 60 "$walk" "$1.core" > "$1.walk" 2> "$1.said"
     verdict "$1: the heap is walked" 0 $?
     said=$(python3 "$kit/tests/walk.py" "$1.log" "$1.walk" "${2:-0}")
@@ -20,13 +21,13 @@ walked() {
     verdict "$1: misfits" 'misfits 0' "$(find_leaks one --check "$1.core" "$1.walk" 2>&1 | grep '^misfits')"
 }
 
-# traced NAME PROGRAM..: runs it under leak_trace, with standard input held open, and compares.
+# traced NAME PROGRAM..: runs it under leak_trace, by the command `run_by` where there is one, with standard input held open, and compares.
 traced() {
     local name=$1
     shift
     command -v "$1" > /dev/null || { leave_out "$1, which is not installed"; return; }
     rm -f "$name.in" && mkfifo "$name.in"
-    (exec 3<> "$name.in"; exec "$kit/leak_trace" "$@" <&3 > "$name.out" 2>&1 3>&-) &
+    (exec 3<> "$name.in"; exec ${run_by-} "$kit/leak_trace" "$@" <&3 > "$name.out" 2>&1 3>&-) &
     process=$!
     started[$process]=1
     settle $process
@@ -54,40 +55,55 @@ fi
 section stopped after each instruction
 while read -r kind calls fresh; do
     limited 300 ./walk_step "$walk" "$kind" "$calls" $fresh > stepped
-    verdict "$kind: each moment is walked right" 'refused 0 missing 0 freed 0 lost 0 more 0' "$(tail -n 1 stepped)"
+    verdict "$kind: each moment is walked right" 'refused 0 missing 0 freed 0 lost 0 more 0 misfits 0' "$(tail -n 1 stepped)"
     echo "     $(grep instructions stepped)"
     [ "$fresh" ] ||
         verdict "$kind: without registers some are refused" yes "$(awk '/instructions/ { print ($5 > 0 ? "yes" : "no") }' stepped)"
-done << 'END'
+    [ "$kind" != heaps ] ||
+        verdict "$kind: a thread's second heap comes and goes" yes "$(awk '/instructions/ { print ($11 > 0 ? "yes" : "no") }' stepped)"
+done << END
 main 12
 thread 12
 sbrk 10
 thread 1 fresh
+heaps ${HEAPS:-6}
 END
 rm -f step.core
 
-# The kernel's core of a process that is killed, as it stands: NAME.core, and by its table NAME.log.
-section eight busy threads, killed at any moment
 storms=${STORMS:-0}
-# Each takes four seconds or more: so they are made by hand, by walk_long.sh.
+# Each takes two seconds or more: so they are made by hand, by walk_long.sh.
 [ "$storms" != 0 ] || leave_out 'programs that are killed at any moment: STORMS=50 makes fifty'
 [ "$dumps_core" ] || { leave_out 'cores of any moment: the kernel writes none here'; storms=0; }
-bad=0
-for _ in $(seq "$storms"); do
-    wait=0.$((RANDOM % 90 + 10)) start ./walk_storm 8
-    sleep 0.$((RANDOM % 90 + 10))
-    dump_killed $process "$work/busy"
-    limited 60 "$walk" --quiet busy.core > busy.walk 2> busy.said || { cat busy.said; bad=$((bad + 1)); }
-    # a thread has at most the block that malloc gave it, and the one that realloc or free is taking
-    python3 "$kit/tests/walk.py" busy.log busy.walk 16 > busy.compared || { cat busy.compared; bad=$((bad + 1)); }
-    sed -n 's/^both.*only in the walk \([0-9]*\).*/\1/p' busy.compared >> busy.more
-    find_leaks one --check busy.core busy.walk 2> busy.warned | awk '$1 == "misfits" && $2 > 0' >> busy.misfits
-    unset "started[$process]"
-done
-[ "$storms" = 0 ] || verdict "walks at $storms moments, with what the table has" 0 $bad
-[ -s busy.more ] && echo "     blocks in hand: $(sort -n busy.more | tr '\n' ' ')"
-[ "$storms" = 0 ] || verdict 'blocks that do not fit their core' '' "$(cat busy.misfits 2> /dev/null)"
-rm -f busy.core busy.kernel
+
+# storms_of NAME ARGUMENT..: walk_storm, killed so many times; the kernel's core as it stands and its table have the same blocks. KEEP names a
+# folder for the cores of which that isn't so.
+storms_of() {
+    local name=$1 bad=0 was_bad misfits
+    shift
+    rm -f busy.more
+    for _ in $(seq "$storms"); do
+        was_bad=$bad
+        wait=0.$((RANDOM % 90 + 10)) start ./walk_storm "$@"
+        sleep 0.$((RANDOM % 90 + 10))
+        dump_killed $process "$work/busy"
+        unset "started[$process]"
+        limited 60 "$walk" --quiet busy.core > busy.walk 2> busy.said || { cat busy.said; bad=$((bad + 1)); }
+        # a thread has at most the block that malloc gave it, and the one that realloc or free is taking
+        python3 "$kit/tests/walk.py" busy.log busy.walk 16 > busy.compared || { cat busy.compared; bad=$((bad + 1)); }
+        sed -n 's/^both.*only in the walk \([0-9]*\).*/\1/p' busy.compared >> busy.more
+        misfits=$(find_leaks one --check busy.core busy.walk 2> busy.warned | grep '^misfits')
+        [ "$misfits" = 'misfits 0' ] || { echo "$misfits"; bad=$((bad + 1)); }
+        [ $bad = $was_bad ] || [ ! "${KEEP-}" ] || cp --sparse=always busy.core busy.log busy.walk "$KEEP"
+    done
+    verdict "$name: walks at $storms moments, with what the table has, and all in order" 0 $bad
+    echo "     blocks in hand: $(sort -n busy.more | tr '\n' ' ')"
+    rm -f busy.core busy.kernel
+}
+if [ "$storms" != 0 ]; then
+    section busy threads, killed at any moment
+    storms_of 'eight threads' 8
+    storms_of 'a thread of several heaps' 1 100
+fi
 
 # core_of PID NAME: a core, by gdb or by killing the process.
 core_of() {

@@ -1,8 +1,10 @@
 #!/bin/bash
 # What of leak_walk takes too long for the gate: many real programs, fifty killed storms, 1,000 mutations under sanitizers, ten million blocks, and
-# programs with another allocator. Programs that are not installed are left out. LEAK_FIND names leak_find, as for run.sh.
+# programs with another allocator. Programs that are not installed are left out. LEAK_FIND names leak_find, as for run.sh. REDIS_LIBC names a
+# redis-server that was built by `make MALLOC=libc`: Debian's has jemalloc.
 . "$(dirname "$0")/common.sh"
 STORMS=${STORMS:-50}
+HEAPS=${HEAPS:-24}
 . "$kit/tests/walk.sh"
 
 section more real programs
@@ -22,6 +24,30 @@ if [ "$dumps" ]; then
     traced node node -e 'let a = []; for (let i = 0; i < 9999; i++) a.push({ i }); process.stdin.resume()'
     traced sort sort -S 100M --parallel=4
     traced gdb_of_gdb gdb -nx -q "$(command -v gdb)"
+    printf '#include <%s>\n' iostream map regex string vector > many.cc
+    echo '#include "/dev/stdin"' >> many.cc # it waits there, with all headers read
+    traced cc1plus "$(gcc -print-prog-name=cc1plus)" -quiet -imultiarch x86_64-linux-gnu -D_GNU_SOURCE many.cc -o many.s
+    [ ! "${REDIS_LIBC-}" ] || traced redis "$REDIS_LIBC" --port 28184 --bind 127.0.0.1 --save '' --appendonly no
+fi
+
+section servers that are no daemons
+if [ "$dumps" ]; then
+    chmod 1777 . # they give up root's rights, and write their tables here
+    postgres=$(ls /usr/lib/postgresql/*/bin/postgres 2> /dev/null | tail -n 1)
+    nobody='setpriv --reuid=nobody --regid=nogroup --clear-groups'
+    if [ "$postgres" ]; then
+        (mkdir pg && chown nobody pg && cd pg && limited 120 $nobody "${postgres%/*}/initdb" -D data > initdb.out 2>&1)
+        run_by=$nobody traced postgres "$postgres" --single -D pg/data postgres
+    else
+        leave_out postgres
+    fi
+    if command -v mariadbd > /dev/null; then
+        mkdir maria && chown nobody maria
+        limited 120 mariadb-install-db --no-defaults --datadir="$work/maria" --user=nobody --auth-root-authentication-method=normal > maria.out 2>&1
+        traced mariadbd mariadbd --no-defaults --bootstrap --datadir="$work/maria" --user=nobody
+    else
+        leave_out mariadbd
+    fi
 fi
 
 section other allocators

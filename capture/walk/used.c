@@ -3,7 +3,7 @@
 
 #include "walk.h"
 
-enum { CHUNK_HEAD = 8, FLAGS = 7, PIECE = 16, BYTE_OF_PIECES = 8 * PIECE };
+enum { CHUNK_HEAD = 8, PREV_INUSE = 1, FLAGS = 7, PIECE = 16, BYTE_OF_PIECES = 8 * PIECE };
 
 /* The chunks of a region, all well known. */
 struct chain chunks_of(const struct region *region)
@@ -22,20 +22,56 @@ int is_used_in(const struct region *r, uint64_t at)
     return *bits_of(r, at) >> (at - r->start) / PIECE % 8 & 1;
 }
 
-/* Whether a chunk that the next one says is free has its size behind it too. One without may be in the hand of realloc, and counts as in
- * use unless a list has it. */
-static int is_free(struct heap *heap, const struct region *r, const struct chunk *chunk)
+/* Whether a chunk that the next one says is free has its size behind it too, or is in a list. */
+static int is_whole(struct heap *heap, const struct region *r, const struct chunk *chunk)
 {
-    if (chunk->at == r->due.at || is_word(heap->core, chunk->at + chunk->size, chunk->size))
+    return chunk->at == r->due.at || is_word(heap->core, chunk->at + chunk->size, chunk->size) || is_listed(heap->core, chunk->at);
+}
+
+/* Whether a thread has it in hand: the next chunk's size word says that it is free, or is yet to be written, and nothing else says so. */
+static int is_unsettled(struct heap *heap, const struct region *r, const struct chunk *chunk)
+{
+    uint64_t next = 0;
+
+    word(heap->core, chunk->at + chunk->size + CHUNK_HEAD, &next);
+    return !(next & PREV_INUSE) && (chunk->at + chunk->size == r->due.at || !is_whole(heap, r, chunk));
+}
+
+static int has_size(struct heap *heap, uint64_t at, uint64_t size)
+{
+    uint64_t head;
+
+    return word(heap->core, at + CHUNK_HEAD, &head) && (head & ~(uint64_t)FLAGS) == size;
+}
+
+/* Whether a chunk in hand is a block that realloc makes larger or smaller. Inside a larger one is yet the head of the free chunk, or of the
+ * top, that it took. Behind the rest of a smaller one the next chunk says that it is in use. */
+static int is_resized(struct heap *heap, const struct region *r, const struct chunk *chunk)
+{
+    uint64_t end = chunk->at + chunk->size, rest = end == r->due.at ? r->due.size : 0, taken, next, at = chunk->at + PIECE;
+
+    if (rest && word(heap->core, end + rest + CHUNK_HEAD, &next) && next & PREV_INUSE)
         return 1;
-    if (!heap->odd_chunks.count++)
-        heap->odd_chunks.first = chunk->at;
-    return is_listed(heap->core, chunk->at);
+    if (word(heap->core, end + rest, &taken) && taken > rest && taken - rest < chunk->size && has_size(heap, end + rest - taken, taken))
+        return 1;
+    while (at < end && end == r->top && !has_size(heap, at, r->limit - at))
+        at += PIECE;
+    return at < end && end == r->top;
+}
+
+/* Of what is in hand only such a block is surely the program's. */
+int is_in_hand(struct heap *heap, const struct region *r, const struct chunk *chunk)
+{
+    return is_unsettled(heap, r, chunk) && !is_resized(heap, r, chunk);
 }
 
 static void note(struct heap *heap, struct region *r, const struct chunk *chunk)
 {
-    if (chunk->is_used || !is_free(heap, r, chunk)) {
+    int is_odd = is_unsettled(heap, r, chunk);
+
+    if (is_odd && !chunk->is_used && !heap->odd_chunks.count++)
+        heap->odd_chunks.first = chunk->at;
+    if (is_odd ? is_resized(heap, r, chunk) : chunk->is_used) {
         *bits_of(r, chunk->at) |= 1 << (chunk->at - r->start) / PIECE % 8;
         if (may_be_cache(chunk->size)) {
             heap->maybe_caches = grown(heap->maybe_caches, heap->maybe_cache_count, sizeof *heap->maybe_caches);

@@ -196,6 +196,7 @@ void find_thread_heaps(struct heap *heap);
 void find_used(struct heap *heap);
 struct chain chunks_of(const struct region *region);
 int is_used_in(const struct region *region, uint64_t at);
+int is_in_hand(struct heap *heap, const struct region *region, const struct chunk *chunk);
 int begins_region(const struct heap *heap, uint64_t at);
 int is_used(struct heap *heap, uint64_t at);
 void set_used(struct heap *heap, uint64_t at, int used);
