@@ -117,6 +117,9 @@ core_of() {
     [ -s "$2.core" ] || { verdict "dump $2" 'a core' none; return 1; }
 }
 
+# classes FILE: those that leak_lines names.
+classes() { awk '/walk_types:\[/ && !/^leak/ { print $4 }' "$1" | sort | tr '\n' ' ' | sed 's/ $//'; }
+
 section leaks of programs that nobody prepared
 if [ "$dumps" ]; then
     unprepared ./walk_leaks
@@ -139,7 +142,7 @@ if [ "$dumps" ]; then
     find_leaks one --skip-freed --skip-links types.core types.log > types.report 2>&1
     verdict 'objects that are lost' "$(expected "$kit/tests/walk_types.cc")" "$(named types.report)"
     "$kit/leak_lines" types.report > types.lines
-    verdict 'their classes' 'shapes::many<long> shapes::square' "$(awk '/walk_types:\[/ && !/^leak/ { print $4 }' types.lines | sort | tr '\n' ' ' | sed 's/ $//')"
+    verdict 'their classes' 'shapes::many<long> shapes::square' "$(classes types.lines)"
 
     gcc -O1 -g -pthread -static "$kit/tests/walk_leaks.c" -o static_leaks 2> static.cc && unprepared ./static_leaks && core_of $process static
     stop $process
@@ -149,6 +152,31 @@ if [ "$dumps" ]; then
     # libc holds a block of its own, of 40 bytes, by memory alone that is read-only by then
     verdict 'a static program: named' "$(expected "$kit/tests/walk_leaks.c")" "$(awk '$1 == "leak" && $3 != 40 { print $3 }' static.report | in_steps)"
     rm -f static.core types.core
+fi
+
+# A filter without bit 4 leaves out the first pages of mapped files, by which readers of cores know the files (core(5)).
+if [ "$dumps_core" ]; then
+    section a core without the first pages of files
+    unprepared ./walk_types
+    echo 0x23 > "/proc/$process/coredump_filter"
+    rm -f core core.*
+    { kill -ABRT $process && wait $process; } 2> /dev/null
+    unset "started[$process]"
+    mv "$(kernel_core)" bare.kernel
+    verdict 'of ELF files only the one of the kernel' 1 "$(python3 "$kit/tests/walk_headers.py" bare.kernel)"
+    "$kit/leak_dump" --core bare.kernel bare 2> bare.said
+    verdict 'a log' 0 $?
+    find_leaks one --skip-freed --skip-links bare.core bare.log > bare.report 2>&1
+    verdict 'objects that are lost' "$(expected "$kit/tests/walk_types.cc")" "$(named bare.report)"
+    "$kit/leak_lines" bare.report > bare.lines
+    verdict 'their classes' 'shapes::many<long> shapes::square' "$(classes bare.lines)"
+    mv walk_types walk_types.away
+    "$walk" --quiet bare.core > away.log
+    find_leaks one --skip-freed --skip-links bare.core away.log > away.report 2>&1
+    verdict 'the file is not here: what is lost' "$(expected "$kit/tests/walk_types.cc")" "$(named away.report)"
+    verdict 'the file is not here: it is told by file and offset' yes "$(awk '$1 == "leak" { print ($6 ~ /walk_types:\[0x[0-9a-f]+\]$/ ? "yes" : $6) }' away.report | sort -u)"
+    mv walk_types.away walk_types
+    rm -f bare.core bare.kernel
 fi
 
 section two moments of one process
