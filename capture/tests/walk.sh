@@ -78,9 +78,9 @@ storms=${STORMS:-0}
 # storms_of NAME ARGUMENT..: walk_storm, killed so many times; the kernel's core as it stands and its table have the same blocks. KEEP names a
 # folder for the cores of which that isn't so.
 storms_of() {
-    local name=$1 bad=0 was_bad misfits
+    local name=$1 bad=0 was_bad one
     shift
-    rm -f busy.more
+    rm -f busy.more busy.resized
     for _ in $(seq "$storms"); do
         was_bad=$bad
         wait=0.$((RANDOM % 90 + 10)) start ./walk_storm "$@"
@@ -91,12 +91,15 @@ storms_of() {
         # a thread has at most the block that malloc gave it, and the one that realloc or free is taking
         python3 "$kit/tests/walk.py" busy.log busy.walk 16 > busy.compared || { cat busy.compared; bad=$((bad + 1)); }
         sed -n 's/^both.*only in the walk \([0-9]*\).*/\1/p' busy.compared >> busy.more
-        misfits=$(find_leaks one --check busy.core busy.walk 2> busy.warned | grep '^misfits')
-        [ "$misfits" = 'misfits 0' ] || { echo "$misfits"; bad=$((bad + 1)); }
-        [ $bad = $was_bad ] || [ ! "${KEEP-}" ] || cp --sparse=always busy.core busy.log busy.walk "$KEEP"
+        # while realloc makes a block larger or smaller, the next chunk's size word isn't written yet; such a block is in no table
+        find_leaks one --check busy.core busy.walk 2> busy.warned | awk '$1 == "misfit" { print "+ " $2 " " }' > busy.misfits
+        cat busy.misfits >> busy.resized
+        if grep -F -f busy.misfits busy.log; then bad=$((bad + 1)); fi
+        [ "$(wc -l < busy.misfits)" -le 2 ] || { cat busy.misfits; bad=$((bad + 1)); }
+        [ $bad = $was_bad ] || [ ! "${KEEP-}" ] || for one in core log walk; do cp --sparse=always busy.$one "$KEEP/$1.$bad.$one"; done
     done
-    verdict "$name: walks at $storms moments, with what the table has, and all in order" 0 $bad
-    echo "     blocks in hand: $(sort -n busy.more | tr '\n' ' ')"
+    verdict "$name: walks at $storms moments, with what the table has, which fits the core" 0 $bad
+    echo "     blocks in hand: $(sort -n busy.more | tr '\n' ' '); being resized: $(wc -l < busy.resized)"
     rm -f busy.core busy.kernel
 }
 if [ "$storms" != 0 ]; then
