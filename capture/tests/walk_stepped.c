@@ -83,7 +83,7 @@ static void *run(void *p)
 {
     for (long i = 0; i < before_rounds; i++) one();
     raise(SIGSTOP);
-    for (long i = 0; i < rounds; i++) takes_heaps && i % 4 != 3 ? one_big() : one();
+    for (long i = 0; i < rounds; i++) takes_heaps && i % 8 != 7 ? one_big() : one();
     return p;
 }
 int main(int argc, char **argv)

@@ -33,8 +33,10 @@ static int is_unsettled(struct heap *heap, const struct region *r, const struct 
 {
     uint64_t next = 0;
 
-    word(heap->core, chunk->at + chunk->size + CHUNK_HEAD, &next);
-    return !(next & PREV_INUSE) && (chunk->at + chunk->size == r->due.at || !is_whole(heap, r, chunk));
+    if (chunk->at + chunk->size != r->due.at)
+        return !chunk->is_used && !is_whole(heap, r, chunk);
+    word(heap->core, r->due.at + CHUNK_HEAD, &next);
+    return !(next & PREV_INUSE);
 }
 
 static int has_size(struct heap *heap, uint64_t at, uint64_t size)
