@@ -252,5 +252,11 @@ if [ "$dumps" ]; then
 main breaks after
 thread breaks after
 END
+    read -r chunk < <(python3 "$kit/tests/walk_damage.py" leaks.core leaks.log damaged.core bit)
+    "$walk" damaged.core > bit.log 2> bit.said
+    verdict 'a byte that says a block is free: walked' 0 $?
+    verdict 'a byte that says a block is free: it says where' 1 "$(grep -c "1 free chunks have no size behind them, the first at $chunk" bit.said)"
+    verdict 'a byte that says a block is free: the block is the misfit' "$(printf '0x%x' $((chunk + 16)))" \
+        "$(find_leaks one --check damaged.core bit.log 2> bit.warned | awk '$1 == "misfit" { print $2 }')"
     rm -f damaged.core cut.core leaks.core first.core
 fi

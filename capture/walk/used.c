@@ -61,19 +61,41 @@ static int is_resized(struct heap *heap, const struct region *r, const struct ch
     return at < end && end == r->top;
 }
 
-/* Of what is in hand only such a block is surely the program's. */
-int is_in_hand(struct heap *heap, const struct region *r, const struct chunk *chunk)
+/* Whether registers show that a thread is at work on the chunk, by where it begins, where it ends or where the free one before it begins.
+ * Where there are more such chunks than threads can have in hand, the heap is damaged. */
+static int is_held(const struct heap *heap, const struct chunk *chunk, uint64_t before)
 {
-    return is_unsettled(heap, r, chunk) && !is_resized(heap, r, chunk);
+    const struct core *core = heap->core;
+    uint64_t end = chunk->at + chunk->size;
+
+    return heap->odd_chunks.count <= 2 * core->thread_count
+        && (has_in_hand(core, chunk->at, chunk->at) || has_in_hand(core, end, end) || has_in_hand(core, before, before));
+}
+
+/* Sorts out a chunk that is unsettled: a block, if realloc has it or no thread; else it is known as one in hand. Gives whether it is a block. */
+static int settle(struct heap *heap, const struct region *r, const struct chunk *chunk)
+{
+    uint64_t size = 0;
+
+    if (!chunk->is_used && !heap->odd_chunks.count++)
+        heap->odd_chunks.first = chunk->at;
+    word(heap->core, chunk->at, &size);
+    if (is_resized(heap, r, chunk) || !is_held(heap, chunk, chunk->at - size))
+        return 1;
+    heap->in_hand = grown(heap->in_hand, heap->in_hand_count, sizeof *heap->in_hand);
+    heap->in_hand[heap->in_hand_count++] = chunk->at;
+    return 0;
+}
+
+/* Whether the chunk was found to be in hand. */
+int is_in_hand(const struct heap *heap, uint64_t at)
+{
+    return heap->in_hand_count && bsearch(&at, heap->in_hand, heap->in_hand_count, sizeof at, by_start);
 }
 
 static void note(struct heap *heap, struct region *r, const struct chunk *chunk)
 {
-    int is_odd = is_unsettled(heap, r, chunk);
-
-    if (is_odd && !chunk->is_used && !heap->odd_chunks.count++)
-        heap->odd_chunks.first = chunk->at;
-    if (is_odd ? is_resized(heap, r, chunk) : chunk->is_used) {
+    if (is_unsettled(heap, r, chunk) ? settle(heap, r, chunk) : chunk->is_used) {
         *bits_of(r, chunk->at) |= 1 << (chunk->at - r->start) / PIECE % 8;
         if (may_be_cache(chunk->size)) {
             heap->maybe_caches = grown(heap->maybe_caches, heap->maybe_cache_count, sizeof *heap->maybe_caches);

@@ -13,7 +13,7 @@ static void visit_chunks(struct heap *heap, const struct region *r, struct visit
         uint64_t start = chunk.at + TO_BLOCK, end = chunk.at + chunk.size + LAST_WORD;
         if (chunk.size > FENCE && is_used_in(r, chunk.at))
             v->block(v, start, end - start);
-        else if (chunk.size > FENCE && !is_in_hand(heap, r, &chunk))
+        else if (chunk.size > FENCE && !is_in_hand(heap, chunk.at))
             v->unused(v, start, end);
     }
 }
