@@ -68,7 +68,6 @@ sbrk 10
 thread 1 fresh
 heaps ${HEAPS:-6}
 END
-rm -f step.core
 
 storms=${STORMS:-0}
 # Each takes two seconds or more: so they are made by hand, by walk_long.sh.

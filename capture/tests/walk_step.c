@@ -3,6 +3,8 @@
 #include "walk_step.h"
 enum { MOST = 1 << 16, IN_HAND = 6 };
 static const char *walk;
+static char core_path[32];
+static int said;
 static struct block found[MOST], freed[MOST], own[MOST];
 static int found_count, freed_count, own_count, extra_count;
 static struct user_regs_struct registers;
@@ -31,15 +33,15 @@ static void read_log(FILE *log)
 }
 static int run_walk(void)
 {
-    int out[2], status, said = open("walk.said", O_RDWR | O_CREAT | O_TRUNC, 0600);
-    if (said < 0 || pipe(out)) exit(2);
+    int out[2], status;
+    if (ftruncate(said, 0) || lseek(said, 0, SEEK_SET) || pipe(out)) exit(2);
     pid_t child = vfork();
     if (!child) {
         dup2(out[1], 1), dup2(said, 2), close(out[0]);
-        execl(walk, "leak_walk", "--quiet", "step.core", NULL);
+        execl(walk, "leak_walk", "--quiet", core_path, NULL);
         _exit(9);
     }
-    close(out[1]), close(said);
+    close(out[1]);
     FILE *log = fdopen(out[0], "r");
     read_log(log);
     fclose(log);
@@ -64,9 +66,7 @@ static void tell(const char *what, uint64_t start)
 static void tell_refusal(void)
 {
     char line[1000] = "";
-    FILE *said = fopen("walk.said", "r");
-    if (said && fgets(line, sizeof line, said)) printf("refused at 0x%llx: %s", registers.rip, line);
-    if (said) fclose(said);
+    if (pread(said, line, sizeof line - 1, 0) > 0) printf("refused at 0x%llx: %s", registers.rip, line);
 }
 /* Blocks that the walk has, and neither the program nor the C library itself. */
 static void count_extra(void)
@@ -165,7 +165,9 @@ static void open_process(pid_t thread)
     memory = open(name, O_RDONLY);
     snprintf(name, sizeof name, "/proc/%d/pagemap", (int)thread);
     page_map = open(name, O_RDONLY);
-    core_file = open("step.core", O_RDWR | O_CREAT | O_TRUNC, 0600);
+    core_file = memfd_create("core", 0); /* on a disk that is busy each change of its size would wait */
+    said = memfd_create("said", 0);
+    snprintf(core_path, sizeof core_path, "/dev/fd/%d", core_file);
     ptrace(PTRACE_GETREGS, thread, 0, &registers);
     read_maps(thread, registers.rsp);
     begin_core();
