@@ -1,4 +1,4 @@
-"""walk_headers.py CORE: how many segments of a core begin as an ELF file does. One is the kernel's own, which each process has (vdso(7))."""
+"""walk_headers.py CORE: how many segments of a core begin as an ELF file does. One is the kernel's own, which each process has: vdso(7)."""
 import struct, sys
 
 data = open(sys.argv[1], "rb").read()

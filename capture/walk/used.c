@@ -72,7 +72,8 @@ static int is_held(const struct heap *heap, const struct chunk *chunk, uint64_t 
         && (has_in_hand(core, chunk->at, chunk->at) || has_in_hand(core, end, end) || has_in_hand(core, before, before));
 }
 
-/* Sorts out a chunk that is unsettled: a block, if realloc has it or no thread; else it is known as one in hand. Gives whether it is a block. */
+/* Sorts out a chunk that is unsettled: a block, if realloc has it or no thread; else it is known as one in hand. Gives whether it is a
+ * block. */
 static int settle(struct heap *heap, const struct region *r, const struct chunk *chunk)
 {
     uint64_t size = 0;
