@@ -15,7 +15,7 @@ _leak_options() {
     leak_log) echo '--after' ;;
     leak_walk) echo '--partial --quiet --after' ;;
     leak_report) echo '--keep --after --list -n' ;;
-    leak_lines) echo '-n --suppress --exit-code --folded --json --since --no-lines' ;;
+    leak_lines) echo '-n --suppress --exit-code --folded --json --html --since --no-lines' ;;
     esac
 }
 
@@ -25,7 +25,7 @@ _leak_value() {
     *' --workers' | *' --piece' | *' --stack' | *' --displace' | leak_*' -n' | 'leak_trace -d') echo number ;;
     'leak_report --keep' | 'leak_report --after') echo folder ;;
     'leak_dump --size') echo process ;;
-    *' --after' | *' --core' | *' --suppress' | *' --since' | *' -o') echo file ;;
+    *' --after' | *' --core' | *' --suppress' | *' --since' | *' --html' | *' -o') echo file ;;
     esac
 }
 

@@ -8,13 +8,15 @@ import unittest
 import options_of
 
 BASH = os.path.join(options_of.KIT, "completion", "leak_find.bash")
-CASES = {"leak_find": ["leak_find"], **{name: ["leak_find", name] for name in options_of.SUBCOMMANDS}, **{name: [name] for name in options_of.SOURCES}}
+CASES = {"leak_find": ["leak_find"], **{name: ["leak_find", name] for name in options_of.SUBCOMMANDS},
+         **{name: [name] for name in options_of.SOURCES}}
 
 
 def offered(*words, folder=None):
     """What bash offers for the last of these words."""
     script = '. "$1"; shift; COMP_WORDS=("$@"); COMP_CWORD=$(($# - 1)); _leak_complete; printf "%s\\n" "${COMPREPLY[@]}"'
-    done = subprocess.run(["bash", "-c", script, "bash", os.path.abspath(BASH), *words], cwd=folder, capture_output=True, text=True, check=True)
+    command = ["bash", "-c", script, "bash", os.path.abspath(BASH), *words]
+    done = subprocess.run(command, cwd=folder, capture_output=True, text=True, check=True)
     assert not done.stderr, done.stderr
     return {word for word in done.stdout.split("\n") if word}
 
