@@ -11,7 +11,8 @@ fi
 python3 -B "$kit/tests/completion_test.py" 2> completion_test.said
 status=$?
 verdict "completions: $(tail -n 3 completion_test.said | head -n 1)" 0 $status
-verdict 'bash reads its completion' 'complete -F _leak_complete leak_find' "$(bash -c '. "$0" && complete -p leak_find' "$kit/completion/leak_find.bash" 2>&1)"
+verdict 'bash reads its completion' \
+    'complete -F _leak_complete leak_find' "$(bash -c '. "$0" && complete -p leak_find' "$kit/completion/leak_find.bash" 2>&1)"
 if command -v zsh > /dev/null; then
     verdict 'zsh reads its completion' '' "$(zsh -n "$kit/completion/_leak_find" 2>&1)"
 else
