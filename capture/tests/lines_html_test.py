@@ -8,7 +8,8 @@ from html.parser import HTMLParser
 sys.path.insert(0, os.path.join(os.path.dirname(os.path.abspath(__file__)), ".."))
 from lines import callers, folded, html, options, report, suppressions  # noqa: E402
 
-HOSTILE = ["</script><script>alert`1`</script>", "<!--<script>", "<img src=x onerror=alert`1`>", "\"'`${x}&amp;&lt;", "line\u2028of\u2029two",
+HOSTILE = ["</script><script>alert`1`</script>",
+           "<!--<script>", "<img src=x onerror=alert`1`>", "\"'`${x}&amp;&lt;", "line\u2028of\u2029two",
            "@DATA@", "\\u003c/script>", "]]>", "__proto__", "caf\u00e9 \U0001f600", "\udcff bytes", "\x00\x1b[31m", "a;b"]
 HEAD = ["blocks 9 bytes 100", "undumped 0", "unknown 0 displaced 0 torn 0", "marked 1 bytes 10"]
 
