@@ -1,5 +1,5 @@
 -- What a run that tells who holds the memory does to its readers and its writers, where these tell their bytes.
-use Rattle.std.specs.Prelude.{◌≡◌, ℕ, ◌<◌, List, length, Option, take}
+use Rattle.std.specs.Prelude.{◌≡◌, ℕ, ◌<◌, List, length, Option, None, take}
 use Rattle.std.specs.Io.KnownBytes.{Appends, Keeps}
 use Rattle.leak_index.specs.Readings.{distances_of}
 use Rattle.leak_report.specs.declared.output.WriteFault.{WriteFault}
@@ -16,7 +16,7 @@ pub record HasHeld (o : Options) (before after : List (Option (List ℕ))) (hold
   pub inputs : List (List ℕ)
   pub count : length inputs ≡ 2
   pub read : AreInputs o before after inputs
-  pub finds : FindsHolders (input_at inputs 0) (input_at inputs 1) (distances_of o.reading) o.skip holding
+  pub finds : FindsHolders (input_at inputs 0) (input_at inputs 1) None (distances_of o.reading) o.skip holding
   pub signs : AreSigns inputs holding.signs.items
 
 -- What was written is who holds the memory, and nothing else; and to the second writer, of the warnings, all or a first part.

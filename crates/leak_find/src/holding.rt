@@ -7,7 +7,7 @@ ghost use Rattle.leak_find.specs.Holders.{HasHeld, IsHoldersRunFault, RunsHolder
 
 use crate::fault::RunFault;
 use crate::running::{read_reader, status_of, warnings_by};
-use leak_holding::{Holding, find_holders};
+use leak_holding::{Files, Holding, find_holders};
 use leak_pool::Open;
 use leak_report::write;
 use leak_request::Options;
@@ -34,7 +34,12 @@ fn hold<T: Threads + Sync, R: Read>(
     let core = read_reader(alloc, readers, sizes, 0, options.core_limit)?;
     let log = read_reader(alloc, readers, sizes, 1, options.log_limit)?;
     let (reading, skip, plan) = (options.reading, options.skip, options.plan);
-    match find_holders(rt, alloc, &core, &log, reading, skip, plan, &Open) {
+    let files = Files {
+        core: &core,
+        log: &log,
+        since: None,
+    };
+    match find_holders(rt, alloc, &files, reading, skip, plan, &Open) {
         Ok(holding) => Ok(holding),
         Err(error) => Err(RunFault::Find(error)),
     }

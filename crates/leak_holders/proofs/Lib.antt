@@ -7,3 +7,5 @@ pub mod Members
 pub mod Ranks
 pub mod Orders
 pub mod Telling
+pub mod Parts
+pub mod AddedUp

@@ -1,3 +1,5 @@
 pub mod Holders
 pub mod Tallies
+pub mod Parts
+pub mod Laws
 pub mod Examples

@@ -12,9 +12,8 @@ use Rattle.std.proofs.lemmas.Map.Keys.{IsDistinct-from_sorted}
 use Rattle.std.proofs.lemmas.Map.Lookups.{exact_bytes}
 use Rattle.std.proofs.lemmas.Map.Made.{length-le_from_is_member}
 use Rattle.std.proofs.lemmas.Map.Views.{Contains-from_any, list_any-from_Contains}
-use denote.Ref.{Bor}
 use Rattle.leak_blocks.specs.declared.block.Block.{Block}
-use Rattle.leak_texts.specs.Numbered.{AreNumbered, AreTexts, bytes_each, text_with, texts_of}
+use Rattle.leak_texts.specs.Numbered.{AreNumbered, AreTexts, text_with, texts_of}
 use Rattle.leak_report.specs.Totals.{text_at}
 use Rattle.leak_holding.specs.Rows.{AreNumbers}
 
@@ -33,7 +32,7 @@ few_texts given texts numbers are =
     (λ q m. list_any-from_Contains (eq_by_cmp_equiv nat_list_cmp_total) q given
     (All-contains (Contains given) texts q are.each (Contains-from_any same_text q texts m)))
 
-are_numbers : (log : List ℕ) (blocks : List Block) (texts : List (List ℕ)) (numbers : List ℕ) → AreTexts log blocks texts numbers → length blocks < 2 ^ 32
+pub are_numbers : (log : List ℕ) (blocks : List Block) (texts : List (List ℕ)) (numbers : List ℕ) → AreTexts log blocks texts numbers → length blocks < 2 ^ 32
     → AreNumbers (length blocks) (length texts) numbers
 are_numbers log blocks texts numbers are few =
     let given : length (texts_of log blocks) ≡ length blocks = length-map blocks (λ (b : Block). text_at log b.caller) in
@@ -43,13 +42,3 @@ are_numbers log blocks texts numbers are few =
       of_texts = λ b h. are.below b 0 (omega arith);
       few = let no_more : length texts ≤ length (texts_of log blocks) = few_texts (texts_of log blocks) texts numbers are in omega arith;
     }
-
--- the same of slices, as they are shown
-pub are_shown : (log : List ℕ) (shown blocks : List Block) (items slices : List (Bor (List ℕ))) (numbers given : List ℕ) → AreTexts log shown (bytes_each items) numbers
-    → shown ≡ blocks → slices ≡ items → given ≡ numbers → AreTexts log blocks (bytes_each slices) given
-are_shown log shown blocks items slices numbers given are e s n = rw (s, n, ← e) are
-
-pub shown_numbers : (log : List ℕ) (blocks : List Block) (slices : List (Bor (List ℕ))) (numbers : List ℕ) → AreTexts log blocks (bytes_each slices) numbers → length blocks < 2 ^ 32
-    → AreNumbers (length blocks) (length slices) numbers
-shown_numbers log blocks slices numbers are few =
-    subst (λ (n : ℕ). AreNumbers (length blocks) n numbers) (length-map slices (λ (s : Bor (List ℕ)). s.now)) (are_numbers log blocks (bytes_each slices) numbers are few)

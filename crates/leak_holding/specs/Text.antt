@@ -1,5 +1,5 @@
 -- The report on who holds the memory (own rule): the sums of a search, and a line for each holder.
-use Rattle.std.specs.Prelude.{ℕ, ◌<◌, Bool, List, ◌++◌, flat_map, codes, decimal, slice_index_or}
+use Rattle.std.specs.Prelude.{ℕ, ◌<◌, Bool, List, [], ◌++◌, flat_map, codes, decimal, slice_index_or, Option, None, Some}
 use Rattle.std.specs.List.{AllByRecursion}
 use Rattle.leak_blocks.specs.declared.block.Block.{Block}
 use Rattle.leak_report.specs.declared.head.Head.{Head}
@@ -25,15 +25,20 @@ holder_line row start text = holder_front row start ++ text ++ newline
 abbrev pub line_of : List Block → List (List ℕ) → Holder → List ℕ
 line_of blocks texts row = holder_line row (start_of blocks row.block) (text_with texts row.text)
 
+-- if blocks of later lines alone are counted, those
+abbrev pub new_lines : Option (List Bool) → List Block → List ℕ
+new_lines None blocks = []
+new_lines (Some counted) blocks = blocks_line (codes "new") (marked_in counted blocks)
+
 -- the lines before those of the holders
-abbrev pub sums_of : Head → List Block → List Bool → List ℕ
-sums_of head blocks set =
-    blocks_line (codes "blocks") blocks ++ undumped_line head ++ log_line head ++ freed_lines head.freed
+abbrev pub sums_of : Head → List Block → Option (List Bool) → List Bool → List ℕ
+sums_of head blocks news set =
+    blocks_line (codes "blocks") blocks ++ undumped_line head ++ log_line head ++ freed_lines head.freed ++ new_lines news blocks
     ++ blocks_line (codes "marked") (marked_in set blocks) ++ blocks_line (codes "leaked") (leaked_in set blocks)
 
--- the report of the live blocks and the marked set, with the numbers of the head and the rows of holders
-unfoldable pub holders_text : Head → List Block → List Bool → List (List ℕ) → List Holder → List ℕ
-holders_text head blocks set texts rows = sums_of head blocks set ++ flat_map (line_of blocks texts) rows
+-- the report of the live blocks and the marked set, with the numbers of the head, the new blocks and the rows of holders
+unfoldable pub holders_text : Head → List Block → Option (List Bool) → List Bool → List (List ℕ) → List Holder → List ℕ
+holders_text head blocks news set texts rows = sums_of head blocks news set ++ flat_map (line_of blocks texts) rows
 
 -- the row tells of one of so many blocks, and of one of so many texts
 pub record IsRowOf (blocks texts : ℕ) (row : Holder) : Type 0 where

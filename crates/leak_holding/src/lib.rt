@@ -3,7 +3,8 @@
 //! Blocks go by the text of their caller in the log. A text holds a block if a chain of words reaches the block from the roots,
 //! and no chain does so without passing a block of that text. [`find_holders`] searches a core and its log, and tells for each
 //! text that holds a block how many it holds and how many bytes they have, how many of its own blocks are reached, how many
-//! other texts hold all of these, and the address of the first of them, for who asks why it is held.
+//! other texts hold all of these, and the address of the first of them, for who asks why it is held. With an earlier log of the same
+//! process ([`Files`]) only blocks of later lines are counted.
 //!
 //! What the report says is stated in `specs/Holders.antt`, and its lines in `specs/Text.antt`. For every accepted input, every
 //! number of workers and every cutting of the work the report is the same. Where an input is not accepted, the answer is the
@@ -13,23 +14,28 @@
 //!
 //! ```text
 //! use leak_elf::core_k;
-//! use leak_holding::find_holders;
+//! use leak_holding::{Files, find_holders};
 //! use leak_index::Reading;
 //! use leak_pool::{Open, Plan};
 //! use leak_roots::Skip;
 //!
 //! let core = core_k(alloc, &[(0x10008, 0x10100)])?;
 //! let log = b"@ ./a.out:[0x401136] + 0x10100 0x20\n";
+//! let files = Files { core: &core, log, since: None };
 //! let plan = Plan::new(4, 1024, 256)?;
-//! let found = find_holders(rt, alloc, &core, log, Reading::interior(), Skip::usual(), plan, &Open)?;
+//! let found = find_holders(rt, alloc, &files, Reading::interior(), Skip::usual(), plan, &Open)?;
 //! // Its last line is 'holder 1 32 1 32 0 0x10100 ./a.out:[0x401136]'
 //! ```
 //!
 //! The contracts don't say that a log is complete, or how long it takes: it marks once for each 64 texts.
 #![tactic(auto)]
 
+mod files;
 mod finding;
 mod ranking;
+mod scene;
+mod since;
 mod telling;
 
+pub use files::Files;
 pub use finding::{Holding, find_holders};

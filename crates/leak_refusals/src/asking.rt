@@ -6,8 +6,8 @@ use crate::answer::Answer;
 use crate::samples::core_of;
 use crate::whole::{is_wanting, options};
 use leak_find::{
-    FindError, GrowOptions, Open, Plan, Reading, Skip, find_growth, find_holders, run_grow_sized,
-    run_holders_sized,
+    Files, FindError, GrowOptions, Open, Plan, Reading, Skip, find_growth, find_holders,
+    run_grow_sized, run_holders_sized,
 };
 use std::alloc::Global;
 use std::io::Cursor;
@@ -22,6 +22,13 @@ const HOLDERS: &str =
                        leaked 0 bytes 0\nholder 2 48 1 32 0 0x10100 a:[0x1]\n\
                        holder 1 16 1 16 1 0x10200 b:[0x2]\n";
 
+/// The same, where the second block alone is counted.
+const NEW_HOLDERS: &str =
+    "blocks 2 bytes 48\nundumped 0\nunknown 0 displaced 0 torn 0\nnew 1 bytes 16\n\
+                           marked 2 bytes 48\nleaked 0 bytes 0\n\
+                           holder 1 16 0 0 0 0x10100 a:[0x1]\n\
+                           holder 1 16 1 16 1 0x10200 b:[0x2]\n";
+
 /// The first of them.
 const EARLIER: &str = "@ a:[0x1] + 0x10100 0x20\n";
 
@@ -34,14 +41,18 @@ fn holding_core(alloc: Global) -> Option<Vec<u8>> {
     core_of(alloc, &[(0x10008, 0x10100), (0x10100, 0x10200)])
 }
 
-/// `find_holders` by three workers.
+/// `find_holders` by three workers, with an earlier log.
 pub(crate) fn holders<R: AllocGlobal + Threads + Sync>(rt: &R) -> Option<Answer> {
     let core = holding_core(rt.alloc())?;
     let plan = Plan::new(3, 16, 4).ok()?;
     let (reading, skip) = (Reading::interior(), Skip::usual());
-    let log = HELD.as_bytes();
-    let answer = match find_holders(rt, rt.alloc(), &core, log, reading, skip, plan, &Open) {
-        Ok(found) => Answer::of(found.report.as_slice() == HOLDERS.as_bytes()),
+    let files = Files {
+        core: &core,
+        log: HELD.as_bytes(),
+        since: Some(EARLIER.as_bytes()),
+    };
+    let answer = match find_holders(rt, rt.alloc(), &files, reading, skip, plan, &Open) {
+        Ok(found) => Answer::of(found.report.as_slice() == NEW_HOLDERS.as_bytes()),
         Err(error) => Answer::of_refusal(error == FindError::NoMemory),
     };
     Some(answer)

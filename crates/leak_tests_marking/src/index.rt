@@ -10,67 +10,72 @@ fn ask<L: Lookup>(lookup: &L, word: u64) -> Hits {
     lookup.hits(word)
 }
 
-/// Words, and what they lead to by the interior reading and by displacements of 8.
-const WORDS: [(u64, Hits, Hits); 11] = [
-    (0, Hits::Zero, Hits::Zero),
-    (0xff, Hits::Zero, Hits::Zero),
-    (0x100, Hits::One(0), Hits::One(0)),
-    (0x108, Hits::One(0), Hits::One(0)),
-    (0x110, Hits::Two(0, 1), Hits::One(1)),
-    (0x111, Hits::One(2), Hits::One(2)),
-    (0x119, Hits::One(2), Hits::One(2)),
-    (0x120, Hits::One(2), Hits::Zero),
-    (0x121, Hits::Zero, Hits::Zero),
-    (0x140, Hits::One(3), Hits::Zero),
-    (u64::MAX, Hits::Zero, Hits::Zero),
+/// Checks what both lookups answer by the reading.
+pub fn check(
+    rt: &impl Abort,
+    alloc: Global,
+    log: &str,
+    reading: Reading,
+    cases: &[(u64, Hits)],
+) -> Result<(), Fail> {
+    let live = lives(alloc, log)?;
+    let sorted = Sorted::new(&live, reading);
+    let paged = Paged::new(alloc, &live, reading)?;
+    for (word, hits) in cases {
+        same_in(rt, &(word, "sorted"), ask(&sorted, *word), *hits);
+        same_in(rt, &(word, "by rows or pages"), ask(&paged, *word), *hits);
+    }
+    Ok(())
+}
+
+/// Four blocks, of which two begin at the end of another, and one has no byte.
+const FOUR: &str = "+ 0x100 0x10\n+ 0x110 0\n+ 0x111 0xf\n+ 0x130 0x10\n";
+
+static BY_INTERIOR: [(u64, Hits); 11] = [
+    (0, Hits::Zero),
+    (0xff, Hits::Zero),
+    (0x100, Hits::One(0)),
+    (0x108, Hits::One(0)),
+    (0x110, Hits::Two(0, 1)),
+    (0x111, Hits::One(2)),
+    (0x119, Hits::One(2)),
+    (0x120, Hits::One(2)),
+    (0x121, Hits::Zero),
+    (0x140, Hits::One(3)),
+    (u64::MAX, Hits::Zero),
+];
+
+/// The same words by displacements of 8.
+static BY_EIGHT: [(u64, Hits); 11] = [
+    (0, Hits::Zero),
+    (0xff, Hits::Zero),
+    (0x100, Hits::One(0)),
+    (0x108, Hits::One(0)),
+    (0x110, Hits::One(1)),
+    (0x111, Hits::One(2)),
+    (0x119, Hits::One(2)),
+    (0x120, Hits::Zero),
+    (0x121, Hits::Zero),
+    (0x140, Hits::Zero),
+    (u64::MAX, Hits::Zero),
 ];
 
 #[test]
 fn words_by_both_readings(rt: HostRuntime) -> Result<(), Fail> {
-    let alloc = rt.alloc();
-    let live = lives(
-        alloc,
-        "+ 0x100 0x10\n+ 0x110 0\n+ 0x111 0xf\n+ 0x130 0x10\n",
-    )?;
     let Ok(by_eight) = Reading::displaced(&[8]) else {
         return Ok(assert!(rt; false, "one value is a reading"));
     };
-    let interior = Sorted::new(&live, Reading::interior());
-    let displaced = Sorted::new(&live, by_eight);
-    let paged_interior = Paged::new(alloc, &live, Reading::interior())?;
-    let paged_displaced = Paged::new(alloc, &live, by_eight)?;
-    for (word, by_interior, by_displaced) in WORDS {
-        same_in(&rt, &word, ask(&interior, word), by_interior);
-        same_in(&rt, &word, ask(&displaced, word), by_displaced);
-        same_in(&rt, &word, ask(&paged_interior, word), by_interior);
-        same_in(&rt, &word, ask(&paged_displaced, word), by_displaced);
-    }
-    Ok(())
-}
-
-/// Checks what both lookups answer by the interior reading.
-fn check_both(
-    rt: &impl Abort,
-    alloc: Global,
-    log: &str,
-    cases: &[(u64, Hits)],
-) -> Result<(), Fail> {
-    let live = lives(alloc, log)?;
-    let sorted = Sorted::new(&live, Reading::interior());
-    let paged = Paged::new(alloc, &live, Reading::interior())?;
-    for (word, hits) in cases {
-        same_in(rt, &(word, "sorted"), sorted.hits(*word), *hits);
-        same_in(rt, &(word, "by pages"), paged.hits(*word), *hits);
-    }
-    Ok(())
+    check(&rt, rt.alloc(), FOUR, Reading::interior(), &BY_INTERIOR)?;
+    check(&rt, rt.alloc(), FOUR, by_eight, &BY_EIGHT)
 }
 
 #[test]
 fn a_block_of_the_page_before_ends_where_a_page_begins(rt: HostRuntime) -> Result<(), Fail> {
-    check_both(
+    check(
         &rt,
         rt.alloc(),
         "+ 0x10ff0 0x10\n+ 0x11000 0x10\n",
+        Reading::interior(),
         &[
             (0x10fef, Hits::Zero),
             (0x10fff, Hits::One(0)),
@@ -84,10 +89,11 @@ fn a_block_of_the_page_before_ends_where_a_page_begins(rt: HostRuntime) -> Resul
 
 #[test]
 fn a_block_goes_over_pages_in_which_none_starts(rt: HostRuntime) -> Result<(), Fail> {
-    check_both(
+    check(
         &rt,
         rt.alloc(),
         "+ 0x10100 0x3100\n+ 0x13210 0x10\n+ 0x15ff8 0x8\n",
+        Reading::interior(),
         &[
             (0x11000, Hits::One(0)),
             (0x12ff8, Hits::One(0)),
@@ -104,10 +110,11 @@ fn a_block_goes_over_pages_in_which_none_starts(rt: HostRuntime) -> Result<(), F
 
 #[test]
 fn a_huge_block_is_led_to_from_its_start_to_its_end(rt: HostRuntime) -> Result<(), Fail> {
-    check_both(
+    check(
         &rt,
         rt.alloc(),
         "+ 0x10100 0x1000000000000000\n",
+        Reading::interior(),
         &[
             (0x100f, Hits::Zero),
             (0x100ff, Hits::Zero),

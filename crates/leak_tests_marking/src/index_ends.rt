@@ -1,27 +1,6 @@
-use crate::comparisons::same_in;
-use crate::samples::lives;
-use leak_index::{Hits, Lookup, Paged, Reading, Sorted};
-use std::alloc::Global;
-use std::process::Abort;
+use crate::index::check;
+use leak_index::{Hits, Reading};
 use std::test::Fail;
-
-/// Checks what both lookups answer by the reading.
-fn check(
-    rt: &impl Abort,
-    alloc: Global,
-    log: &str,
-    reading: Reading,
-    cases: &[(u64, Hits)],
-) -> Result<(), Fail> {
-    let live = lives(alloc, log)?;
-    let sorted = Sorted::new(&live, reading);
-    let paged = Paged::new(alloc, &live, reading)?;
-    for (word, hits) in cases {
-        same_in(rt, &(word, "sorted"), sorted.hits(*word), *hits);
-        same_in(rt, &(word, "paged"), paged.hits(*word), *hits);
-    }
-    Ok(())
-}
 
 /// Four blocks, of which two begin at the end of another, and one has no byte.
 const BY_PAGES: &str = "+ 0x100 0x10\n+ 0x110 0\n+ 0x111 0xf\n+ 0x130 0x10\n";

@@ -1,7 +1,7 @@
 use Rattle.std.proofs.Common.{[], ◌∷◌, arith}
 use Rattle.std.proofs.lemmas.Result.{err_from_is_err_and}
 use Rattle.leak_find.proofs.RunLemmas.{none_yet, one_more, stopped, of_one, fault_one}
-use Rattle.leak_find.proofs.HoldersLemmas.{has_held}
+use Rattle.leak_find.proofs.HoldersLemmas.{fault_alone, has_held}
 use Rattle.leak_find.proofs.holding.hold.Goals as goal
 
 pub returns-in_err-core-clause-refused : goal.returns-in_err-core-clause-refused
@@ -25,4 +25,4 @@ pub returns-clause-refused : goal.returns-clause-refused
 returns-clause-refused g c =
     fault_one c.args.options.now _ _ c.in_ok-core.core.items c.in_ok-log.log.items _ _ c.in-Err.error c.requires.one
     (one_more _ _ _ _ (c.in_ok-core.core.items ∷ []) _ (one_more _ _ _ _ [] _ (none_yet _ _) c.in_ok-core.ensures.ok c.in_ok-core.ensures.others) c.in_ok-log.ensures.ok c.in_ok-log.ensures.others)
-    c.deref.ensures.value c.deref-2.ensures.value c.in-Err.ensures.refused
+    c.deref.ensures.value c.deref-2.ensures.value (λ other. fault_alone _ _ _ (c.in-Err.ensures.refused other))

@@ -1,0 +1,40 @@
+-- What a question knows of an input: what is marked, the texts of callers, and which blocks are counted.
+use Rattle.std.specs.Prelude.{◌≡◌, ℕ, ◌^◌, ◌<◌, ◌≤◌, Bool, List, [], length, Option}
+use Rattle.leak_elf.specs.Words.{word_of}
+use Rattle.leak_mtrace.specs.declared.line.Line.{Line}
+use Rattle.leak_index.specs.Hits.{Index}
+use Rattle.leak_index.specs.Leads.{Distances}
+use Rattle.leak_roots.specs.Places.{Places}
+use Rattle.leak_marks.specs.Reach.{Graph, Reach}
+use Rattle.leak_pool.specs.Marking.{IsSet, graph_of, led_by_roots}
+use Rattle.leak_texts.specs.Numbered.{AreTexts, bytes_each}
+use Rattle.leak_holders.specs.declared.facts.Facts.{Facts}
+use Rattle.leak_input.specs.declared.error.FindError.{FindError}
+use Rattle.leak_input.specs.declared.error.FindError.TheVariants.{TooMany}
+use Rattle.leak_input.specs.declared.inputs.Input.{Input}
+use Rattle.leak_input.specs.Inputs.{AreRootsFor, IsInput}
+use Rattle.leak_holding.specs.declared.scene.Scene.{Scene}
+use Rattle.leak_holding.specs.Since.{counted_of}
+
+-- what leads to what in the input
+abbrev pub graph_with : Input → Index → Places → Graph
+graph_with input index places = graph_of (word_of input.image) index (led_by_roots (word_of input.image) index places) []
+
+-- more blocks than there are numbers for them
+abbrev pub IsMany : ℕ → FindError → Type 0
+IsMany blocks e = (e ≡ TooMany) × (2 ^ 32 ≤ blocks)
+
+pub record IsSceneOf (log : List ℕ) (since : Option (List ℕ)) (reading : Distances) (input : Input) (scene : Scene) : Type 0 where
+  pub lookup : scene.ground.lookup ≡ record { blocks = input.live.blocks; reading = reading }
+  pub roots : (lines : List Line) → IsInput lines input → AreRootsFor lines input scene.ground.roots
+  pub few : length input.live.blocks < 2 ^ 32
+  pub marked : IsSet scene.set.items (length input.live.blocks) (Reach (graph_with input scene.ground.lookup scene.ground.roots))
+  pub numbered : AreTexts log input.live.blocks (bytes_each scene.texts.texts.items) scene.texts.numbers.items
+  pub counted : scene.counted.items ≡ counted_of since input.live.blocks
+
+-- these are the facts of its blocks
+pub record AreFactsOf (input : Input) (scene : Scene) (facts : Facts) : Type 0 where
+  pub of_blocks : facts.blocks.now ≡ input.live.blocks
+  pub of_texts : facts.numbers.now ≡ scene.texts.numbers.items
+  pub reached : facts.reached.now ≡ scene.set.items
+  pub counted : facts.counted.now ≡ scene.counted.items
