@@ -22,6 +22,7 @@ part() {
 
 part dump "$attaches"
 part known "$dumps"
+part pages
 part lines
 part lines_symbols
 part lines_options
