@@ -1,6 +1,6 @@
 /* The table of the live blocks: the file that leak_trace.so writes and leak_log reads.
  *
- * One page with the head, then the entries. An entry is 3 + depth words:
+ * The head, then the entries. An entry is 3 + depth words:
  *     ~start, ~asked size, ~stamp, ~caller, ~caller's caller ...
  * Each word is complemented, so that none of them looks like an address of the process. The first word is
  * 0 where the entry holds no block. It is written last and cleared first. Where it is even and not 0, realloc
@@ -14,9 +14,9 @@
 
 #include <stdint.h>
 
-#define TABLE_MAGIC "leaktab3"
+#define TABLE_MAGIC "leaktab4"
 
-enum { HEAD_BYTES = 4096, MAX_DEPTH = 32, PROGRAM_BYTES = 256 };
+enum { HEAD_BYTES = 8192, MAX_DEPTH = 32, PROGRAM_BYTES = 256, MOST_OWN = 400 };
 
 enum { ENTRY_START, ENTRY_SIZE, ENTRY_STAMP, ENTRY_CALLERS };
 
@@ -26,19 +26,25 @@ enum { ENTRY_HELD = 1 };     /* the lowest bit of a first word, but while reallo
 enum { SMALL_BELOW = 128 << 10, REGION_BITS = 16, PIECE_BITS = 4,
        LEAF_BITS = 1 << (REGION_BITS - PIECE_BITS), LEAF_WORDS = 1 + LEAF_BITS / 64 };
 
+/* Memory of the library, which no core has. */
+struct own {
+    uint64_t start, bytes;
+};
+
 struct table_head {
     char magic[8];
     uint64_t pid;
     uint64_t depth;          /* callers of an entry */
-    uint64_t base;           /* where the process has the file mapped */
+    uint64_t base;           /* where the process has the file's first page mapped */
     uint64_t used;           /* entries that were ever used */
     uint64_t missed;         /* blocks that found no place */
-    uint64_t finder;         /* where the library's private memory is mapped, which no core has either */
-    uint64_t finder_bytes;
-    uint64_t room;           /* bytes of the mapping */
+    uint64_t refused;        /* why: the error (errno) of the memory that was not had, or 0 */
+    uint64_t room;           /* bytes of the file */
     uint64_t leaves_at;      /* where in the file the leaves begin */
     uint64_t leaves;         /* leaves that were ever used */
+    uint64_t own_count;
     char program[PROGRAM_BYTES];
+    struct own own[MOST_OWN];
 };
 
 #endif

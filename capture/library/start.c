@@ -59,13 +59,14 @@ __attribute__((constructor)) static void start(int count, char **arguments, char
     size_t callers = strtoul(setting(environment, "LEAK_TRACE_DEPTH", "1"), NULL, 10);
     size_t blocks = strtoul(setting(environment, "LEAK_TRACE_BLOCKS", "67108864"), NULL, 10);
 
+    most_blocks = blocks < LEAST_BLOCKS ? LEAST_BLOCKS : blocks > MOST_BLOCKS ? MOST_BLOCKS : blocks;
     table_name = kept(setting(environment, "LEAK_TRACE", "/dev/shm/leak_trace.%p"), name, sizeof name);
     program_name = kept(count > 0 ? arguments[0] : "", program, sizeof program);
     forks_are_traced = strcmp(setting(environment, "LEAK_TRACE_FORK", "1"), "0");
     fstat(2, &first_error);
     frees_wipe = !strcmp(setting(environment, "LEAK_TRACE_WIPE", "0"), "1");
     callers = callers < 1 ? 1 : callers > MAX_DEPTH ? MAX_DEPTH : callers;
-    if (!open_finder(blocks))
+    if (!open_finder())
         complain("memory");
     else if (!pthread_atfork(before_fork, NULL, after_fork))
         finder->on = open_table(callers);

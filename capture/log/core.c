@@ -72,6 +72,14 @@ struct core read_core(struct file file)
     return core;
 }
 
+static int is_own(const struct table_head *head, uint64_t address)
+{
+    for (size_t i = 0; i < head->own_count && i < MOST_OWN; i++)
+        if (address - head->own[i].start < head->own[i].bytes)
+            return 1;
+    return 0;
+}
+
 /* Says of how much writable memory the core has no contents, and how much of that is the library's own, in
  * which no block of the program is led to. A kernel's core lists such memory, leak_core's does not. */
 void tell_undumped(const struct core *core, const struct table_head *head)
@@ -82,7 +90,7 @@ void tell_undumped(const struct core *core, const struct table_head *head)
         if (p->p_type != PT_LOAD || !(p->p_flags & PF_W))
             continue;
         all += p->p_memsz - p->p_filesz;
-        if (!p->p_filesz && (p->p_vaddr - head->base < head->room || p->p_vaddr - head->finder < head->finder_bytes))
+        if (!p->p_filesz && is_own(head, p->p_vaddr))
             own += p->p_memsz;
     }
     if (own)

@@ -105,6 +105,8 @@ int main(int count, char **arguments)
     }
     printf("= leak_log moment 0x%llx table 0x%llx\n", (unsigned long long)fresh.moment,
            (unsigned long long)fresh.base);
+    if (blocks.missed)
+        printf("= leak_log missed %llu\n", (unsigned long long)blocks.missed);
     tell_allocator(&core);
     if (blocks.knows_freed)
         write_freed(table, &blocks);

@@ -41,6 +41,7 @@ struct blocks {
     uint64_t moment;            /* the newest stamp */
     uint64_t base;              /* where the process has its table */
     int knows_freed;            /* is what is in none of them free? */
+    uint64_t missed;            /* blocks that found no place in the table */
 };
 
 /* leak_log.c */

@@ -28,6 +28,7 @@ part freed "$dumps"
 part walk
 part frames "$dumps"
 part tables "$dumps"
+part limits "$attaches"
 part moments "$attaches"
 part untraced
 part report "$dumps"

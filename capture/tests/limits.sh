@@ -1,0 +1,23 @@
+# A program that limits its own memory must run as it does untraced. Where its table can't grow any more it lives on, and the
+# log says how many blocks are missing.
+section a limit of memory that the program sets
+build limited.c
+for options in '' '-d 8'; do
+    start ./limited > limited.out
+    look limited.c
+    verdict 'it runs as untraced' 'status 0' "$(cat limited.out)"
+done
+options=
+start ./limited full > limited.out
+verdict 'where the table cannot grow it runs on' 'status 0' "$(cat limited.out)"
+limited 120 "$kit/leak_dump" $process "$work/full" 2> said
+verdict 'it is said' 1 "$(grep -c 'blocks found no place in the table (Cannot allocate memory)' said)"
+search full
+verdict 'the log has the blocks but those' all \
+    "$(awk 'NR == FNR { if (/^= leak_log missed /) missed = $4; next } $1 == "blocks" { print (missed > 0 && $2 < 800000 && missed + $2 >= 800000) ? "all" : missed " and " $2 }' full.log full.report)"
+verdict 'the log is taken' 'unknown 0 displaced 0 torn 0' "$(grep ^unknown full.report)"
+limited 120 "$kit/leak_dump" --after "$work/full" $process "$work/full2" 2> said
+verdict 'a second log after such a one' 'unknown 0 displaced 0 torn 0' \
+    "$(find_leaks two full.core full.log full2.core full2.log | grep ^unknown)"
+stop $process
+rm -f full.core full2.core
