@@ -16,7 +16,11 @@
 
 #define TABLE_MAGIC "leaktab4"
 
-enum { HEAD_BYTES = 8192, MAX_DEPTH = 32, PROGRAM_BYTES = 256, MOST_OWN = 400 };
+enum { HEAD_BYTES = 8192, MAX_DEPTH = 32, PROGRAM_BYTES = 256, MOST_OWN = 300, MOST_UNTRACED = 24 };
+
+/* What has become of the process: it ended by itself, but could not remove the file; or it was about to run another program,
+ * which is not traced where the mark stays. */
+enum { TABLE_RUNS, TABLE_ENDED, TABLE_EXEC };
 
 enum { ENTRY_START, ENTRY_SIZE, ENTRY_STAMP, ENTRY_CALLERS };
 
@@ -29,6 +33,12 @@ enum { SMALL_BELOW = 128 << 10, REGION_BITS = 16, PIECE_BITS = 4,
 /* Memory of the library, which no core has. */
 struct own {
     uint64_t start, bytes;
+};
+
+/* A child that runs a program untraced. */
+struct untraced {
+    uint64_t pid;
+    char program[72];
 };
 
 struct table_head {
@@ -44,6 +54,11 @@ struct table_head {
     uint64_t leaves;         /* leaves that were ever used */
     uint64_t own_count;
     char program[PROGRAM_BYTES];
+    uint64_t state;
+    uint64_t started;        /* when the process started, by the 22nd field of proc(5), stat */
+    uint64_t untraced_count; /* children that were not traced */
+    char next_program[PROGRAM_BYTES];   /* what an exec is about to run */
+    struct untraced untraced[MOST_UNTRACED];
     struct own own[MOST_OWN];
 };
 

@@ -113,3 +113,15 @@ void unmap_extents(struct area *area)
             munmap((void *)start_of(area, k, from), to - from);
         }
 }
+
+/* Gives the file's room back. */
+void empty_extents(struct area *area)
+{
+    uint64_t from, to;
+
+    for (unsigned k = 0; k < EXTENTS; k++)
+        if (atomic_load(&area->extents[k])) {
+            limits(area, k, &from, &to);
+            madvise((void *)start_of(area, k, from), to - from, MADV_REMOVE);
+        }
+}

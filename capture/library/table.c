@@ -4,6 +4,7 @@
 #include <fcntl.h>
 #include <limits.h>
 #include <stdio.h>
+#include <stdlib.h>
 #include <string.h>
 #include <sys/mman.h>
 #include <sys/resource.h>
@@ -97,6 +98,21 @@ static int map_file(int file, uint64_t room, size_t depth)
     return 1;
 }
 
+/* When this process started: it has its id and its start alone. */
+static uint64_t start_time(void)
+{
+    char line[1024];
+    int file = open("/proc/self/stat", O_RDONLY | O_CLOEXEC), fields = 1;
+    ssize_t bytes = file < 0 ? -1 : read(file, line, sizeof line - 1);
+
+    close(file);
+    line[bytes < 0 ? 0 : bytes] = 0;
+    char *at = strrchr(line, ')');          /* behind the name, which may have blanks */
+    for (; at && fields < 21; fields++)
+        at = strchr(at + 1, ' ');
+    return at ? strtoull(at, NULL, 10) : 0;
+}
+
 static void write_head(uint64_t room, size_t depth)
 {
     struct table_head *head = table.head;
@@ -106,6 +122,7 @@ static void write_head(uint64_t room, size_t depth)
     head->base = (uintptr_t)head;
     head->room = room;
     head->leaves_at = table.leaves.at;
+    head->started = start_time();
     snprintf(head->program, PROGRAM_BYTES, "%s", program_name);
     tell_own(head, HEAD_BYTES);
     tell_own(finder, sizeof *finder);
@@ -118,15 +135,17 @@ static void write_head(uint64_t room, size_t depth)
 /* Makes and maps the table of this process. The finder is there already, and zero. */
 int open_table(size_t depth)
 {
-    int file = make_file();
     uint64_t room;
 
+    if (!has_room())
+        return 0;
+    int file = make_file();
     if (file < 0)
-        return complain(table_path), 0;
+        return complain(table_path, NULL), 0;
     room = set_length(file, HEAD_BYTES + most_blocks * (ENTRY_CALLERS + depth) * sizeof(uint64_t), HEAD_BYTES + STEP);
     int is_mapped = room && map_file(file, room, depth);
     if (!is_mapped) {
-        complain(table_path);
+        complain(table_path, NULL);
         unlink(table_path);
     } else
         write_head(room, depth);
@@ -142,11 +161,16 @@ void close_table(struct table *old)
     munmap(old->head, HEAD_BYTES);
 }
 
-/* Removes the table of a process that ends in order: there is no core to read with it. */
+/* Removes the table of a process that ends in order: there is no core to read with it. Where the process gave up its rights to do
+ * so, or has another root by now, the file gives back what it takes but for its head. */
 void remove_table(void)
 {
-    if (tracing() && table.head->pid == (uint64_t)getpid())
-        unlink(table_path);
+    if (!tracing() || tables_stay || table.head->pid != (uint64_t)getpid() || !unlink(table_path))
+        return;
+    finder->on = 0;
+    table.head->state = TABLE_ENDED;
+    empty_extents(&table.entries);
+    empty_extents(&table.leaves);
 }
 
 static struct unused *own_stack(void)

@@ -54,6 +54,7 @@ static inline uintptr_t record_at(const struct area *area, uint64_t number, unsi
 int reach(struct area *area, uint64_t number);
 int populate(void *from, uint64_t bytes);
 void unmap_extents(struct area *area);
+void empty_extents(struct area *area);
 void tell_own(const void *start, uint64_t bytes);
 void tell_extents(struct area *area);
 
@@ -186,11 +187,20 @@ uint64_t read_rule(uintptr_t address);
 enum { RULE_KNOWN = 1, RULE_FROM_RBP = 2, RULE_SAVES_RBP = 4, RULE_LAST_FRAME = 8, RULE_TOO_HARD = 16,
        RULE_UP_SHIFT = 8, RULE_RBP_SHIFT = 36, RULE_MASK = (1 << 28) - 1 };
 
+/* ---- folder.c: all tables of a folder ---- */
+
+int has_room(void);
+
+/* ---- exec.c: programs that this one runs ---- */
+
+void keep_variables(char **environment);
+
 /* ---- start.c ---- */
 
-extern int frees_wipe;
+extern int frees_wipe, tables_stay, execs_are_traced;
+extern uint64_t most_megabytes;     /* of all tables together; 0: a quarter of the file system */
 
-void complain(const char *what);
+void complain(const char *what, const char *why);
 
 /* ---- fork.c ---- */
 

@@ -29,6 +29,8 @@ part walk
 part frames "$dumps"
 part tables "$dumps"
 part limits "$attaches"
+part ends
+part execs
 part moments "$attaches"
 part untraced
 part report "$dumps"
