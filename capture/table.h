@@ -16,7 +16,7 @@
 
 #define TABLE_MAGIC "leaktab4"
 
-enum { HEAD_BYTES = 8192, MAX_DEPTH = 32, PROGRAM_BYTES = 256, MOST_OWN = 300, MOST_UNTRACED = 24 };
+enum { HEAD_BYTES = 8192, MAX_DEPTH = 32, PROGRAM_BYTES = 256, MOST_OWN = 300, MOST_UNTRACED = 24, MOST_KEPT_OUT = 40 };
 
 /* What has become of the process: it ended by itself, but could not remove the file; or it was about to run another program,
  * which is not traced where the mark stays. */
@@ -30,7 +30,7 @@ enum { ENTRY_HELD = 1 };     /* the lowest bit of a first word, but while reallo
 enum { SMALL_BELOW = 128 << 10, REGION_BITS = 16, PIECE_BITS = 4,
        LEAF_BITS = 1 << (REGION_BITS - PIECE_BITS), LEAF_WORDS = 1 + LEAF_BITS / 64 };
 
-/* Memory of the library, which no core has. */
+/* Memory of the library, which no core has, or of the program. */
 struct own {
     uint64_t start, bytes;
 };
@@ -60,6 +60,9 @@ struct table_head {
     char next_program[PROGRAM_BYTES];   /* what an exec is about to run */
     struct untraced untraced[MOST_UNTRACED];
     struct own own[MOST_OWN];
+    uint64_t keeps_out;      /* 1 where the program ever kept memory out of cores */
+    uint64_t kept_out_missed;   /* such memory that found no place here */
+    struct own kept_out[MOST_KEPT_OUT];     /* and such memory, where its start is not 0 */
 };
 
 #endif

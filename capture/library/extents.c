@@ -51,7 +51,7 @@ void tell_extents(struct area *area)
 /* Makes pages present, so that a full disk shows here and not as SIGBUS later. */
 int populate(void *from, uint64_t bytes)
 {
-    return !madvise(from, bytes, POPULATE_WRITE) || errno == EINVAL;
+    return !advise(from, bytes, POPULATE_WRITE) || errno == EINVAL;
 }
 
 /* Maps a further extent of the file, which has no descriptor any more: what is mapped of it can be mapped once more and longer,
@@ -122,6 +122,6 @@ void empty_extents(struct area *area)
     for (unsigned k = 0; k < EXTENTS; k++)
         if (atomic_load(&area->extents[k])) {
             limits(area, k, &from, &to);
-            madvise((void *)start_of(area, k, from), to - from, MADV_REMOVE);
+            advise((void *)start_of(area, k, from), to - from, MADV_REMOVE);
         }
 }

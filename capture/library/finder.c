@@ -25,13 +25,13 @@ void *private_memory(uint64_t bytes)
 
     if (map == MAP_FAILED)
         return map;
-    if (madvise(map, bytes, MADV_DONTDUMP) || madvise(map, bytes, MADV_WIPEONFORK)) {
+    if (advise(map, bytes, MADV_DONTDUMP) || advise(map, bytes, MADV_WIPEONFORK)) {
         int error = errno;
         munmap(map, bytes);
         errno = error;
         return MAP_FAILED;
     }
-    madvise(map, bytes, MADV_NOHUGEPAGE);       /* few of its pages are touched */
+    advise(map, bytes, MADV_NOHUGEPAGE);       /* few of its pages are touched */
     return map;
 }
 

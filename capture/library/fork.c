@@ -1,6 +1,7 @@
 /* A child of fork gets a table of its own, with the blocks that were live when it was forked. */
 #define _GNU_SOURCE
 #include <errno.h>
+#include <string.h>
 #include <sys/mman.h>
 
 #include "trace.h"
@@ -30,6 +31,14 @@ static void copy_entries(const struct table *old)
     }
 }
 
+/* The child's memory is kept out of cores as its parent's. */
+static void copy_kept_out(const struct table_head *old)
+{
+    table.head->keeps_out = old->keeps_out;
+    table.head->kept_out_missed = old->kept_out_missed;
+    memcpy(table.head->kept_out, old->kept_out, sizeof old->kept_out);
+}
+
 /* In the child, whose heap is as it was at the fork and whose finder is zero. */
 void after_fork(void)
 {
@@ -41,6 +50,7 @@ void after_fork(void)
     old = table;
     if (forks_are_traced && open_table(old.words - ENTRY_CALLERS)) {
         copy_entries(&old);
+        copy_kept_out(old.head);
         finder->on = 1;
     }
     close_table(&old);

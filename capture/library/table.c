@@ -70,7 +70,7 @@ static void *map_first(struct area *area, int file, uint64_t before)
         errno = error;
         return NULL;
     }
-    madvise(map, bytes, MADV_DONTDUMP);
+    advise(map, bytes, MADV_DONTDUMP);
     atomic_store(&area->extents[0], (uintptr_t)map + before);
     return map;
 }

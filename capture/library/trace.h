@@ -191,6 +191,10 @@ enum { RULE_KNOWN = 1, RULE_FROM_RBP = 2, RULE_SAVES_RBP = 4, RULE_LAST_FRAME = 
 
 int has_room(void);
 
+/* ---- kept_out.c: memory that the program keeps out of cores ---- */
+
+int advise(void *start, uint64_t bytes, int advice);
+
 /* ---- exec.c: programs that this one runs ---- */
 
 void keep_variables(char **environment);

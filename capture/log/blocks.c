@@ -72,6 +72,8 @@ struct blocks read_table(struct file file, const struct core *core)
     size_t dropped = keep_newest(&blocks, 1);
     tell_undumped(core, head);
     blocks.missed = head->missed;
+    blocks.kept_out = kept_out_bytes(core, head);
+    blocks.is_more_kept_out = head->kept_out_missed && !core->is_whole;
     if (head->missed)
         fprintf(stderr, "leak_log: %llu blocks found no place in the table (%s): leaks among them are not named\n",
                 (unsigned long long)head->missed, head->refused ? strerror(head->refused) : "it is full");
