@@ -35,7 +35,7 @@ static int is_left(int folder, const char *name)
     ssize_t bytes = file < 0 ? -1 : pread(file, &head, sizeof head, 0);
 
     if (file >= 0)
-        close(file);
+        shut(file);
     return bytes == sizeof head && !memcmp(head.magic, TABLE_MAGIC, sizeof head.magic)
         && (head.state == TABLE_ENDED || (head.state == TABLE_EXEC && kill(head.pid, 0) && errno == ESRCH));
 }
@@ -84,7 +84,7 @@ int has_room(void)
     if (!limit && !fstatfs(folder, &about))
         limit = (uint64_t)about.f_blocks * about.f_bsize / 4;
     uint64_t sum = sum_of(folder, pattern + 1);
-    close(folder);
+    shut(folder);
     if (limit && sum >= limit)
         complain(path, why);
     return !limit || sum < limit;

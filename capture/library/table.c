@@ -105,7 +105,7 @@ static uint64_t start_time(void)
     int file = open("/proc/self/stat", O_RDONLY | O_CLOEXEC), fields = 1;
     ssize_t bytes = file < 0 ? -1 : read(file, line, sizeof line - 1);
 
-    close(file);
+    shut(file);
     line[bytes < 0 ? 0 : bytes] = 0;
     char *at = strrchr(line, ')');          /* behind the name, which may have blanks */
     for (; at && fields < 21; fields++)
@@ -149,7 +149,7 @@ int open_table(size_t depth)
         unlink(table_path);
     } else
         write_head(room, depth);
-    close(file);
+    shut(file);
     return is_mapped;
 }
 

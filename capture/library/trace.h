@@ -8,6 +8,8 @@
 #include <stdatomic.h>
 #include <stddef.h>
 #include <stdint.h>
+#include <sys/syscall.h>
+#include <unistd.h>
 
 #include "../table.h"
 
@@ -72,6 +74,12 @@ extern char table_path[];
 extern const char *table_name;      /* the path, with %p for the pid */
 extern const char *program_name;
 extern uint64_t most_blocks;
+
+/* close(), which the program or another library may have a version of its own of. */
+static inline void shut(int file)
+{
+    syscall(SYS_close, file);
+}
 
 int open_table(size_t depth);
 void close_table(struct table *old);
