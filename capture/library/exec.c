@@ -100,11 +100,11 @@ static void add_variables(char *const *environment, char **list, char *preload)
         }
 }
 
-/* Says that a program runs untraced: in the table of this process, or in its parent's where it is a child that shares it. */
-static void tell_untraced(uint64_t pid, const char *program)
+/* Says in the table of a parent that a child of it runs untraced. */
+void tell_untraced(struct table_head *head, uint64_t pid, const char *program)
 {
-    uint64_t place = atomic_fetch_add((_Atomic uint64_t *)&table.head->untraced_count, 1);
-    struct untraced *child = &table.head->untraced[place % MOST_UNTRACED];
+    uint64_t place = atomic_fetch_add((_Atomic uint64_t *)&head->untraced_count, 1);
+    struct untraced *child = &head->untraced[place % MOST_UNTRACED];
 
     snprintf(child->program, sizeof child->program, "%s", program);
     child->pid = pid;
@@ -117,7 +117,7 @@ static void tell_exec(const char *program, int is_traced)
         return;
     if (table.head->pid != (uint64_t)getpid()) {
         if (!is_traced)
-            tell_untraced(getpid(), program);
+            tell_untraced(table.head, getpid(), program);
         return;
     }
     snprintf(table.head->next_program, PROGRAM_BYTES, "%s", program);
@@ -127,8 +127,13 @@ static void tell_exec(const char *program, int is_traced)
 /* The exec failed. */
 static int goes_on(int result)
 {
-    if (tracing() && table.head->pid == (uint64_t)getpid())
+    uint64_t pid = getpid();
+
+    if (tracing() && table.head->pid == pid)
         table.head->state = TABLE_RUNS;
+    for (int i = 0; tracing() && i < MOST_UNTRACED; i++)
+        if (table.head->untraced[i].pid == pid)
+            table.head->untraced[i].pid = 0;
     return result;
 }
 
@@ -230,7 +235,7 @@ PUBLIC int execle(const char *path, const char *first, ...)
         if (!error && child)                                                                            \
             *child = pid;                                                                               \
         if (!error && tracing() && !is_handed_on(environment))                                          \
-            tell_untraced(pid, program);                                                                \
+            tell_untraced(table.head, pid, program);                                                                \
         return error;                                                                                   \
     }
 

@@ -15,8 +15,8 @@
 
 #include "trace.h"
 
-/* Is it the name of a table? `pattern` is what follows the folder in `table_name`. */
-static int is_table(const char *name, const char *pattern)
+/* The process of a table by its name, or 0 where it is not the name of one. `pattern` is what follows the folder in `table_name`. */
+static pid_t process_of(const char *name, const char *pattern)
 {
     const char *pid = strstr(pattern, "%p"), *behind = pid ? pid + 2 : "";
     size_t before = pid ? (size_t)(pid - pattern) : strlen(pattern);
@@ -24,29 +24,33 @@ static int is_table(const char *name, const char *pattern)
     if (strncmp(name, pattern, before) || (!pid && name[before++] != '.'))
         return 0;
     size_t digits = strspn(name + before, "0123456789");
-    return digits && !strcmp(name + before + digits, behind);
+    return digits && !strcmp(name + before + digits, behind) ? atoi(name + before) : 0;
 }
 
-/* Has nobody use of the file? Then its process ended by itself, or ended after it ran another program. */
-static int is_left(int folder, const char *name)
+/* Has nobody use of the file? Then its process ended by itself, or ended after it ran another program. The files of those that
+ * live are not opened. */
+static int is_left(int folder, const char *name, pid_t process)
 {
     struct table_head head;
+
+    if (!kill(process, 0) || errno != ESRCH)
+        return 0;
     int file = openat(folder, name, O_RDONLY | O_NOFOLLOW | O_NONBLOCK | O_CLOEXEC);
     ssize_t bytes = file < 0 ? -1 : pread(file, &head, sizeof head, 0);
 
     if (file >= 0)
         shut(file);
     return bytes == sizeof head && !memcmp(head.magic, TABLE_MAGIC, sizeof head.magic)
-        && (head.state == TABLE_ENDED || (head.state == TABLE_EXEC && kill(head.pid, 0) && errno == ESRCH));
+        && head.state != TABLE_RUNS;
 }
 
 /* The bytes that a table takes. What is left behind is removed, and counts where that is not allowed. */
-static uint64_t bytes_of(int folder, const char *name)
+static uint64_t bytes_of(int folder, const char *name, pid_t process)
 {
     struct stat about;
 
     if (fstatat(folder, name, &about, AT_SYMLINK_NOFOLLOW) || !S_ISREG(about.st_mode)
-        || (is_left(folder, name) && !unlinkat(folder, name, 0)))
+        || (is_left(folder, name, process) && !unlinkat(folder, name, 0)))
         return 0;
     return about.st_blocks * 512ull;
 }
@@ -60,8 +64,9 @@ static uint64_t sum_of(int folder, const char *pattern)
     for (long bytes; (bytes = syscall(SYS_getdents64, folder, buffer, sizeof buffer)) > 0;)
         for (long at = 0; at < bytes;) {
             const struct dirent64 *entry = (const void *)(buffer + at);
-            if (is_table(entry->d_name, pattern))
-                sum += bytes_of(folder, entry->d_name);
+            pid_t process = process_of(entry->d_name, pattern);
+            if (process)
+                sum += bytes_of(folder, entry->d_name, process);
             at += entry->d_reclen;
         }
     return sum;

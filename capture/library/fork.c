@@ -52,7 +52,8 @@ void after_fork(void)
         copy_entries(&old);
         copy_kept_out(old.head);
         finder->on = 1;
-    }
+    } else if (forks_are_traced)
+        tell_untraced(old.head, getpid(), program_name);
     close_table(&old);
     errno = error;
 }

@@ -206,6 +206,7 @@ int advise(void *start, uint64_t bytes, int advice);
 /* ---- exec.c: programs that this one runs ---- */
 
 void keep_variables(char **environment);
+void tell_untraced(struct table_head *head, uint64_t pid, const char *program);
 
 /* ---- start.c ---- */
 

@@ -1,5 +1,5 @@
 /* ends WAY: ends by that way, with some blocks allocated. `rights`: 25 children give up their rights, and end by _exit; `runs`: 25 run a
- * program without the environment. */
+ * program without the environment; `rests`: a child and its parent rest. */
 #define _GNU_SOURCE
 #include <pthread.h>
 #include <signal.h>
@@ -24,6 +24,7 @@ static void end(const char *way)
     if (!strcmp(way, "rights")) _exit(setuid(65534) && !getuid());
     if (!strcmp(way, "runs")) execve("/bin/true", arguments, none);
     if (!strcmp(way, "signal")) raise(SIGKILL);
+    if (!strcmp(way, "rests")) rest();
 }
 int main(int argc, char **argv)
 {
@@ -31,6 +32,7 @@ int main(int argc, char **argv)
     for (int i = 0; i < 40000; i++) held[i] = malloc(i % 100 + 1);
     for (int i = 0; i < children; i++) {
         if (!fork()) end(argv[1]);
+        if (!strcmp(argv[1], "rests")) rest();
         wait(NULL);
     }
     if (argc == 2) end(argv[1]);

@@ -41,3 +41,12 @@ limited 60 "$kit/leak_trace" -m 1 ./hello > hello.out 2> said
 verdict 'at the limit: the program runs, and it is said' 'hello 1' "$(cat hello.out) $(grep -c 'all tables together are at their limit .*; not traced' said)"
 verdict 'no table is made' 1 "$(left)"
 "$kit/leak_trace" --remove > /dev/null
+options='-m 1'
+start ./ends rests 1
+options=
+until_true 20 pgrep -P $process > child
+started[$(cat child)]=1
+until_true 20 eval '"$kit/leak_trace" --list | grep -q "not traced"'
+verdict 'a child that has no table is told' "1 children were not traced: ./ends $(cat child)" "$("$kit/leak_trace" --list | tail -n 1)"
+stop $process "$(cat child)"
+rm -f table.*

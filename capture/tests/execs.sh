@@ -4,9 +4,11 @@ build lost.c
 
 # lost WAY OPTION..: runs it, and waits for the child, of which `child` is the id.
 lost() {
+    rm -f lost.out
     (cd "$work" && exec "$kit/leak_trace" -d 3 "${@:2}" ./lost "$1" > lost.out 2> lost.err) &
     process=$!
     started[$process]=1
+    until_true 60 [ -s lost.out ]
     settle $process
     child=$(cat lost.out)
     started[$child]=1
@@ -33,10 +35,7 @@ stop "$process" "$child"
 
 section the tables that are there
 rm -f table.*
-start ./lost execve > lost.out
-child=$(pgrep -P $process)
-started[$child]=1
-settle "$child"
+lost execve
 verdict 'one that runs another program' "$child untraced" "$("$kit/leak_trace" --list | awk -v child="$child" '$1 == child { print $1, $2 }')"
 stop "$child"
 verdict 'it is dead' "$child dead" "$("$kit/leak_trace" --list | awk -v child="$child" '$1 == child { print $1, $2 }')"
@@ -49,7 +48,8 @@ stop "$process"
 section a child of a bare clone
 build cloned.c
 start ./cloned
-child=$(pgrep -P $process)
+until_true 60 pgrep -P $process > child
+child=$(cat child)
 started[$child]=1
 settle "$child"
 if [ "$attaches" ]; then

@@ -22,7 +22,8 @@ if [ "$attaches" ] && command -v gdb > /dev/null; then
     by_gdb gdb $first
     start ./kept_out child
     parent=$process
-    child=$(pgrep -P $parent)
+    until_true 60 pgrep -P $parent > child
+    child=$(cat child)
     started[$child]=1
     settle "$child"
     by_gdb gdb_child "$child"

@@ -49,7 +49,7 @@ int main(int argc, char **argv)
     } else if (!strcmp(argv[1], "posix_spawnp")) {
         if (posix_spawnp(&child, argv[0], NULL, NULL, arguments, none)) return 2;
     } else if (!strcmp(argv[1], "vfork")) {
-        if (!(child = vfork())) { execve(argv[0], arguments, none); _exit(9); }
+        if (!(child = vfork())) { execve("/nonexistent", arguments, none); execve(argv[0], arguments, none); _exit(9); }
     } else if (!(child = fork()))
         run(argv[1], argv[0]);
     printf("%d\n", (int)child);
