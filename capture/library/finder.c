@@ -63,6 +63,8 @@ static void leave_page(int64_t number)
     (void)number;
 }
 
+struct records page_records = { make_page, leave_page, 0 };
+
 /* The cells of a region, its first page of them, its second, .. , or null. Where one is wanted and none is there, it is made. */
 static inline _Atomic uint32_t *page_of(uint64_t region, unsigned turn, int is_wanted)
 {
@@ -70,7 +72,7 @@ static inline _Atomic uint32_t *page_of(uint64_t region, unsigned turn, int is_w
     int64_t number = number_in(cell);
 
     if (UNLIKELY(cell >> NUMBER_BITS != key)) {
-        number = look_up(&finder->cells, key, is_wanted ? make_page : NULL, leave_page);
+        number = look_up(&finder->cells, key, &page_records, is_wanted);
         if (number < 0)
             return NULL;
     }

@@ -19,6 +19,8 @@ static void leave_leaf(int64_t number)
     put(leaf(number), 0);
 }
 
+struct records leaf_records = { make_leaf, leave_leaf, 0 };
+
 static inline _Atomic uint64_t *bits_of(int64_t number)
 {
     return leaf(number) + 1;
@@ -28,7 +30,7 @@ static inline _Atomic uint64_t *bits_of(int64_t number)
 static void set_bits(uint64_t piece, uint64_t last)
 {
     for (uint64_t next; piece <= last; piece = next) {
-        int64_t number = look_up(&finder->leaves, piece / LEAF_BITS, make_leaf, leave_leaf);
+        int64_t number = look_up(&finder->leaves, piece / LEAF_BITS, &leaf_records, 1);
         if (number < 0)
             return;
         _Atomic uint64_t *bits = bits_of(number);

@@ -129,6 +129,7 @@ static void write_head(uint64_t room, size_t depth)
     tell_extents(&table.entries);
     tell_extents(&table.leaves);
     tell_extents(&cell_pages);
+    tell_more_cells();
     memcpy(head->magic, TABLE_MAGIC, sizeof head->magic);
 }
 

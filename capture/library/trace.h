@@ -110,19 +110,30 @@ static inline void put(_Atomic uint64_t *word, uint64_t value)
 
 /* ---- directory.c: from a region of the heap to a record ---- */
 
-/* A cell is 0 (never used), or a key of 36 bits and below it the number of a record. */
-enum { NUMBER_BITS = 28, DIRECTORY_BITS = 20, ROW_BITS = 9, DIRECTORY_PROBES = 16 };
+/* A cell is 0 (never used), or a key of 36 bits and below it the number of a record. Where the first cells are taken, there are
+ * more, which are mapped then. */
+#ifdef FEW_CELLS        /* for a test */
+enum { DIRECTORY_BITS = 10 };
+#else
+enum { DIRECTORY_BITS = 15 };
+#endif
+enum { NUMBER_BITS = 28, ROW_BITS = 9, MORE_BITS = 20, DIRECTORY_PROBES = 16 };
 
 struct directory {
     _Atomic uint64_t cells[1 << DIRECTORY_BITS] __attribute__((aligned(4096)));
 };
 
 /* 512 regions in a row, 32 MiB of the heap, share a page of cells. */
-static inline _Atomic uint64_t *directory_cell(struct directory *directory, uint64_t key, unsigned n)
+static inline _Atomic uint64_t *cell_among(_Atomic uint64_t *cells, unsigned bits, uint64_t key, unsigned n)
 {
     uint64_t row = ((key >> ROW_BITS) + n * 0x1000000000001ull) * 0x9E3779B97F4A7C15ull;
 
-    return &directory->cells[row >> (64 - DIRECTORY_BITS + ROW_BITS) << ROW_BITS | key % (1 << ROW_BITS)];
+    return &cells[row >> (64 - bits + ROW_BITS) << ROW_BITS | key % (1 << ROW_BITS)];
+}
+
+static inline _Atomic uint64_t *directory_cell(struct directory *directory, uint64_t key, unsigned n)
+{
+    return cell_among(directory->cells, DIRECTORY_BITS, key, n);
 }
 
 static inline int64_t number_in(uint64_t cell)
@@ -130,7 +141,17 @@ static inline int64_t number_in(uint64_t cell)
     return cell & ((1ull << NUMBER_BITS) - 1);
 }
 
-int64_t look_up(struct directory *directory, uint64_t key, int64_t (*make)(uint64_t key), void (*unmake)(int64_t number));
+/* What a directory is of, and its further cells, which a child of fork has too, but empty. */
+struct records {
+    int64_t (*make)(uint64_t key);
+    void (*unmake)(int64_t number);
+    _Atomic uintptr_t more;
+};
+
+extern struct records leaf_records, page_records;
+
+int64_t look_up(struct directory *directory, uint64_t key, struct records *records, int is_wanted);
+void tell_more_cells(void);
 
 /* ---- finder.c: from the start of a block to its entry ---- */
 
