@@ -31,6 +31,11 @@ part freed "$dumps"
 part walk
 part frames "$dumps"
 part tables "$dumps"
+part limits "$attaches"
+part ends
+part execs
+part kept_out "$dumps"
+part allocators "$attaches"
 part moments "$attaches"
 part untraced
 part report "$dumps"
