@@ -1,58 +1,99 @@
 /* The finder: from the start of a block to its entry in the table.
  *
- * Cells of four bytes, by open addressing. A region of 64 KiB of the heap has a page of them, and 64 bytes
- * have one, so neighbours share cache lines and only pages of used heap are touched. A cell is taken by
+ * Cells of four bytes, by open addressing. A region of 64 KiB of the heap has pages of them, and 64 bytes of the heap
+ * have one on each, so neighbours share cache lines and only pages of used heap are touched. A cell is taken by
  * compare and swap, and only the owner of a block removes it. */
 #define _GNU_SOURCE
+#include <errno.h>
 #include <sys/mman.h>
 
 #include "trace.h"
 
-enum { GRAIN_BITS = 6, PAGE_BITS = REGION_BITS - GRAIN_BITS, PROBES = 64, NEAR = 4 };
+enum { GRAIN_BITS = 6, CELL_BITS = REGION_BITS - GRAIN_BITS, CELLS = 1 << CELL_BITS, PROBES = 64, NEAR = 4 };
 
 /* A cell is 0 (never used), or REMOVED (look on behind it), or the number of an entry with the top bit. */
 #define REMOVED 1u
 #define IN_USE 0x80000000u
 
 struct finder *finder;
-static int cell_bits;
+struct area cell_pages = { .end = 1ull << 40, .bytes = CELLS * sizeof(uint32_t), .first_bits = PAGE_BITS_AT_FIRST, .is_private = 1 };
 
-uint64_t finder_bytes(void)
+/* Memory that is zero, takes room where it is touched, is in no core, and is zero again in a child of fork. */
+void *private_memory(uint64_t bytes)
 {
-    return sizeof *finder + (sizeof finder->cells[0] << cell_bits);
+    void *map = mmap(NULL, bytes, PROT_READ | PROT_WRITE, MAP_PRIVATE | MAP_ANONYMOUS | MAP_NORESERVE, -1, 0);
+
+    if (map == MAP_FAILED)
+        return map;
+    if (advise(map, bytes, MADV_DONTDUMP) || advise(map, bytes, MADV_WIPEONFORK)) {
+        int error = errno;
+        munmap(map, bytes);
+        errno = error;
+        return MAP_FAILED;
+    }
+    advise(map, bytes, MADV_NOHUGEPAGE);       /* few of its pages are touched */
+    return map;
 }
 
-/* Maps the finder, with cells for so many blocks. It is zero, and takes memory where it is touched. */
-int open_finder(size_t blocks)
+int open_finder(void)
 {
-    for (cell_bits = LEAST_CELL_BITS; cell_bits < MOST_CELL_BITS && 1ul << cell_bits < blocks; cell_bits++)
-        continue;
-    size_t bytes = finder_bytes();
-    void *map = mmap(NULL, bytes, PROT_READ | PROT_WRITE, MAP_PRIVATE | MAP_ANONYMOUS | MAP_NORESERVE, -1, 0);
+    void *map = private_memory(sizeof *finder);
+
     if (map == MAP_FAILED)
         return 0;
-    if (madvise(map, bytes, MADV_DONTDUMP) || madvise(map, bytes, MADV_WIPEONFORK))
-        return 0;
-    madvise(map, bytes, MADV_NOHUGEPAGE);       /* few of its pages are touched */
     finder = map;
     return 1;
 }
 
-/* The cell where a block is looked for at the n-th try: four near each other, then four on another page. */
-static _Atomic uint32_t *cell_of(uintptr_t start, unsigned n)
+static int64_t make_page(uint64_t key)
 {
-    uint64_t region = (start >> REGION_BITS) + (n / NEAR) * 0x1000000000001ull;
-    uint64_t page = (region * 0x9E3779B97F4A7C15ull) >> (64 - (cell_bits - PAGE_BITS));
-    uint64_t place = ((start >> GRAIN_BITS) & ((1u << PAGE_BITS) - 1)) ^ n % NEAR;
+    uint64_t number = atomic_load(&finder->pages);
 
-    return &finder->cells[page << PAGE_BITS | place];
+    (void)key;
+    do {
+        if (!reach(&cell_pages, number))
+            return -1;
+    } while (!atomic_compare_exchange_weak(&finder->pages, &number, number + 1));
+    return number;
+}
+
+/* Leaves a page unused for which another thread was faster. */
+static void leave_page(int64_t number)
+{
+    (void)number;
+}
+
+struct records page_records = { make_page, leave_page, 0 };
+
+/* The cells of a region, its first page of them, its second, .. , or null. Where one is wanted and none is there, it is made. */
+static inline _Atomic uint32_t *page_of(uint64_t region, unsigned turn, int is_wanted)
+{
+    uint64_t key = region | (uint64_t)turn << 32, cell = get(directory_cell(&finder->cells, key, 0));
+    int64_t number = number_in(cell);
+
+    if (UNLIKELY(cell >> NUMBER_BITS != key)) {
+        number = look_up(&finder->cells, key, &page_records, is_wanted);
+        if (number < 0)
+            return NULL;
+    }
+    return (_Atomic uint32_t *)record_at(&cell_pages, number, PAGE_BITS_AT_FIRST, CELLS * sizeof(uint32_t));
+}
+
+/* The cell where a block is looked for at the n-th try: four near each other, then four on the next page. */
+static inline _Atomic uint32_t *cell_of(_Atomic uint32_t *page, uintptr_t start, unsigned n)
+{
+    return page + ((start >> GRAIN_BITS & (CELLS - 1)) ^ n % NEAR);
 }
 
 /* The cell of a block, or null. */
 static _Atomic uint32_t *find(uintptr_t start)
 {
+    _Atomic uint32_t *page = NULL;
+
     for (unsigned n = 0; n < PROBES; n++) {
-        _Atomic uint32_t *cell = cell_of(start, n);
+        if (n % NEAR == 0 && !(page = page_of(start >> REGION_BITS, n / NEAR, 0)))
+            return NULL;
+        _Atomic uint32_t *cell = cell_of(page, start, n);
         uint32_t value = atomic_load_explicit(cell, memory_order_relaxed);
         if (!value)
             return NULL;
@@ -62,14 +103,18 @@ static _Atomic uint32_t *find(uintptr_t start)
     return NULL;
 }
 
-/* Makes a block's entry findable. False where all its cells are taken.
+/* Makes a block's entry findable. False where all its cells are taken, or no memory is had for more.
  *
  * An entry of the same start may be there: an allocator calls its own public calls, or a free passed the
  * library by. It is replaced. */
 static int publish(uintptr_t start, uint32_t number)
 {
+    _Atomic uint32_t *page = NULL;
+
     for (unsigned n = 0; n < PROBES; n++) {
-        _Atomic uint32_t *cell = cell_of(start, n);
+        if (n % NEAR == 0 && !(page = page_of(start >> REGION_BITS, n / NEAR, 1)))
+            return 0;
+        _Atomic uint32_t *cell = cell_of(page, start, n);
         uint32_t value = atomic_load_explicit(cell, memory_order_relaxed);
         while (!(value & IN_USE))
             if (atomic_compare_exchange_weak(cell, &value, number | IN_USE))

@@ -1,6 +1,7 @@
 /* A child of fork gets a table of its own, with the blocks that were live when it was forked. */
 #define _GNU_SOURCE
 #include <errno.h>
+#include <string.h>
 #include <sys/mman.h>
 
 #include "trace.h"
@@ -14,13 +15,13 @@ void before_fork(void)
 }
 
 /* Copies the parent's entries from before the fork. The parent may go on meanwhile: an entry that it takes
- * out or writes anew is left out, and what it made writable since the fork is not writable here. */
-static void copy_entries(const struct table *old, uint64_t ready)
+ * out or writes anew is left out, and what it mapped since the fork is not mapped here. */
+static void copy_entries(const struct table *old)
 {
-    uint64_t copy[ENTRY_CALLERS + MAX_DEPTH], bytes = old->words * sizeof(uint64_t);
-    _Atomic uint64_t *word = (_Atomic uint64_t *)((char *)old->head + HEAD_BYTES);
+    uint64_t copy[ENTRY_CALLERS + MAX_DEPTH];
 
-    for (uint64_t i = 0; i < old->head->used && HEAD_BYTES + (i + 1) * bytes <= ready; i++, word += old->words) {
+    for (uint64_t i = 0; i < old->head->used && atomic_load(&old->entries.extents[extent_of(i, ENTRY_BITS)]); i++) {
+        _Atomic uint64_t *word = (_Atomic uint64_t *)record_at(&old->entries, i, ENTRY_BITS, old->entries.bytes);
         uint64_t start = atomic_load(word);
         for (size_t k = 0; k < old->words; k++)
             copy[k] = ~atomic_load(word + k);
@@ -30,17 +31,29 @@ static void copy_entries(const struct table *old, uint64_t ready)
     }
 }
 
+/* The child's memory is kept out of cores as its parent's. */
+static void copy_kept_out(const struct table_head *old)
+{
+    table.head->keeps_out = old->keeps_out;
+    table.head->kept_out_missed = old->kept_out_missed;
+    memcpy(table.head->kept_out, old->kept_out, sizeof old->kept_out);
+}
+
 /* In the child, whose heap is as it was at the fork and whose finder is zero. */
 void after_fork(void)
 {
-    struct table old = { .head = table.head, .words = table.words };
-    uint64_t ready = table.entries.ready, room = table.leaves.end;
+    static struct table old;
     int error = errno;
 
-    if (!fork_stamp || !forks_are_traced || !open_table(old.words - ENTRY_CALLERS))
+    if (!fork_stamp)
         return;
-    copy_entries(&old, ready);
-    munmap(old.head, room);
-    finder->on = 1;
+    old = table;
+    if (forks_are_traced && open_table(old.words - ENTRY_CALLERS)) {
+        copy_entries(&old);
+        copy_kept_out(old.head);
+        finder->on = 1;
+    } else if (forks_are_traced)
+        tell_untraced(old.head, getpid(), program_name);
+    close_table(&old);
     errno = error;
 }

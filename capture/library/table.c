@@ -4,6 +4,7 @@
 #include <fcntl.h>
 #include <limits.h>
 #include <stdio.h>
+#include <stdlib.h>
 #include <string.h>
 #include <sys/mman.h>
 #include <sys/resource.h>
@@ -12,38 +13,14 @@
 
 #include "trace.h"
 
-enum { STEP = 1 << 16, BATCH = 16, POPULATE_WRITE = 23 /* MADV_POPULATE_WRITE */ };
+enum { STEP = 1 << 16, BATCH = 16 };
 
 struct table table;
 char table_path[PATH_MAX];
 const char *table_name, *program_name;
+uint64_t most_blocks;
 
 static __thread uint32_t thread_number;
-
-/* Makes the area writable up to `need` bytes of the file, and its pages present, so that a full disk shows
- * here and not as SIGBUS later. Two threads may do so at once. Keeps errno where it succeeds. */
-static int grow(struct area *area, uint64_t need)
-{
-    int error = errno;
-    uint64_t have = atomic_load(&area->ready), eighth = (have - area->start) / 8;
-    uint64_t step = eighth > STEP ? eighth : STEP;
-    uint64_t want = (need + step + STEP - 1) & ~(uint64_t)(STEP - 1);
-    char *from = (char *)table.head + have;
-
-    if (want > area->end)
-        want = area->end;
-    if (need > want || atomic_load(&area->full))
-        return 0;
-    if (mprotect(from, want - have, PROT_READ | PROT_WRITE)
-        || (madvise(from, want - have, POPULATE_WRITE) && errno != EINVAL)) {
-        atomic_store(&area->full, 1);
-        return 0;
-    }
-    while (have < want && !atomic_compare_exchange_weak(&area->ready, &have, want))
-        continue;
-    errno = error;
-    return 1;
-}
 
 /* Writes the path of this process's table, and removes a file that stands there: it is of a dead process
  * with this pid, or of what this process was before exec. */
@@ -58,71 +35,143 @@ static int make_file(void)
     return open(table_path, O_RDWR | O_CREAT | O_EXCL | O_NOFOLLOW | O_CLOEXEC, 0600);
 }
 
-/* Maps the file, of `bytes` or, where so much is not granted, of a half, a quarter, down to `least`. Gives
- * how many bytes they are in `room`. */
-static void *map_file(int file, uint64_t bytes, uint64_t least, uint64_t *room)
+/* Sets the file's length, of `bytes` or, where so much is not granted, of a half, a quarter, down to `least`. It takes no room
+ * before it is written to. 0 where nothing is granted. */
+static uint64_t set_length(int file, uint64_t bytes, uint64_t least)
 {
     struct rlimit limit;
 
     if (!getrlimit(RLIMIT_FSIZE, &limit) && limit.rlim_cur < bytes)
-        bytes = limit.rlim_cur & ~(uint64_t)(STEP - 1);
-    for (*room = bytes & ~4095ull; *room >= least; *room = *room / 2 & ~4095ull) {
-        if (ftruncate(file, *room))
-            continue;
-        void *map = mmap(NULL, *room, PROT_NONE, MAP_SHARED | MAP_NORESERVE, file, 0);
-        if (map != MAP_FAILED)
-            return map;
+        bytes = limit.rlim_cur;
+    for (bytes &= ~(uint64_t)(STEP - 1); bytes >= least; bytes = bytes / 2 & ~(uint64_t)(STEP - 1))
+        if (!ftruncate(file, bytes))
+            return bytes;
+    return 0;
+}
+
+static uint64_t first_bytes(const struct area *area, uint64_t most)
+{
+    uint64_t bytes = (((uint64_t)area->bytes << area->first_bits) + 4095) & ~4095ull;
+
+    return bytes < most ? bytes : most;
+}
+
+/* Maps the first part of the area, with `before` bytes in front of it. 0 where memory or the disk is full. */
+static void *map_first(struct area *area, int file, uint64_t before)
+{
+    uint64_t bytes = before + first_bytes(area, area->end - area->at);
+    char *map = mmap(NULL, bytes, PROT_READ | PROT_WRITE, MAP_SHARED | MAP_NORESERVE, file, area->at - before);
+
+    if (map == MAP_FAILED)
+        return NULL;
+    if (!populate(map, bytes)) {
+        int error = errno;
+        munmap(map, bytes);
+        errno = error;
+        return NULL;
     }
-    return MAP_FAILED;
+    advise(map, bytes, MADV_DONTDUMP);
+    atomic_store(&area->extents[0], (uintptr_t)map + before);
+    return map;
 }
 
 /* Divides the file: the last eighth is for the leaves. */
-static void divide(uint64_t room)
+static void divide(uint64_t room, size_t depth)
 {
     uint64_t leaves_at = room - (room / 8 & ~(uint64_t)(STEP - 1));
 
-    table.entries = (struct area){ .end = leaves_at };
-    table.leaves = (struct area){ .start = leaves_at, .end = room, .ready = leaves_at };
+    table = (struct table){ .words = ENTRY_CALLERS + depth };
+    table.entries = (struct area){ .at = HEAD_BYTES, .end = leaves_at, .bytes = table.words * sizeof(uint64_t),
+                                   .first_bits = ENTRY_BITS };
+    table.leaves = (struct area){ .at = leaves_at, .end = room, .bytes = LEAF_WORDS * sizeof(uint64_t),
+                                  .first_bits = LEAF_BITS_AT_FIRST };
+}
+
+/* Maps the file. Without room for leaves none are kept. */
+static int map_file(int file, uint64_t room, size_t depth)
+{
+    divide(room, depth);
+    if (!(table.head = map_first(&table.entries, file, HEAD_BYTES)))
+        return 0;
+    if (table.leaves.at == table.leaves.end || !map_first(&table.leaves, file, 0))
+        table.leaves.full = 1;
+    return 1;
+}
+
+/* When this process started: it has its id and its start alone. */
+static uint64_t start_time(void)
+{
+    char line[1024];
+    int file = open("/proc/self/stat", O_RDONLY | O_CLOEXEC), fields = 1;
+    ssize_t bytes = file < 0 ? -1 : read(file, line, sizeof line - 1);
+
+    shut(file);
+    line[bytes < 0 ? 0 : bytes] = 0;
+    char *at = strrchr(line, ')');          /* behind the name, which may have blanks */
+    for (; at && fields < 21; fields++)
+        at = strchr(at + 1, ' ');
+    return at ? strtoull(at, NULL, 10) : 0;
+}
+
+static void write_head(uint64_t room, size_t depth)
+{
+    struct table_head *head = table.head;
+
+    head->pid = getpid();
+    head->depth = depth;
+    head->base = (uintptr_t)head;
+    head->room = room;
+    head->leaves_at = table.leaves.at;
+    head->started = start_time();
+    snprintf(head->program, PROGRAM_BYTES, "%s", program_name);
+    tell_own(head, HEAD_BYTES);
+    tell_own(finder, sizeof *finder);
+    tell_extents(&table.entries);
+    tell_extents(&table.leaves);
+    tell_extents(&cell_pages);
+    tell_more_cells();
+    memcpy(head->magic, TABLE_MAGIC, sizeof head->magic);
 }
 
 /* Makes and maps the table of this process. The finder is there already, and zero. */
 int open_table(size_t depth)
 {
-    uint64_t room, cells = (finder_bytes() - sizeof *finder) / sizeof finder->cells[0];
-    int file = make_file();
+    uint64_t room;
 
-    if (file < 0)
-        return complain(table_path), 0;
-    void *map = map_file(file, HEAD_BYTES + cells * (ENTRY_CALLERS + depth) * sizeof(uint64_t), HEAD_BYTES + STEP,
-                         &room);
-    close(file);
-    table.head = map;
-    divide(room);
-    if (map == MAP_FAILED || !grow(&table.entries, HEAD_BYTES + STEP)) {
-        complain(table_path);
-        unlink(table_path);
+    if (!has_room())
         return 0;
-    }
-    madvise(map, room, MADV_DONTDUMP);
-    table.words = ENTRY_CALLERS + depth;
-    table.head->pid = getpid();
-    table.head->depth = depth;
-    table.head->base = (uintptr_t)map;
-    table.head->finder = (uintptr_t)finder;
-    table.head->finder_bytes = finder_bytes();
-    table.head->room = room;
-    table.head->leaves_at = table.leaves.start;
-    table.first_leaf = (_Atomic uint64_t *)((char *)map + table.leaves.start);
-    snprintf(table.head->program, PROGRAM_BYTES, "%s", program_name);
-    memcpy(table.head->magic, TABLE_MAGIC, sizeof table.head->magic);
-    return 1;
+    int file = make_file();
+    if (file < 0)
+        return complain(table_path, NULL), 0;
+    room = set_length(file, HEAD_BYTES + most_blocks * (ENTRY_CALLERS + depth) * sizeof(uint64_t), HEAD_BYTES + STEP);
+    int is_mapped = room && map_file(file, room, depth);
+    if (!is_mapped) {
+        complain(table_path, NULL);
+        unlink(table_path);
+    } else
+        write_head(room, depth);
+    shut(file);
+    return is_mapped;
 }
 
-/* Removes the table of a process that ends in order: there is no core to read with it. */
+/* Gives up the mappings of another process's table. */
+void close_table(struct table *old)
+{
+    unmap_extents(&old->entries);
+    unmap_extents(&old->leaves);
+    munmap(old->head, HEAD_BYTES);
+}
+
+/* Removes the table of a process that ends in order: there is no core to read with it. Where the process gave up its rights to do
+ * so, or has another root by now, the file gives back what it takes but for its head. */
 void remove_table(void)
 {
-    if (tracing() && table.head->pid == (uint64_t)getpid())
-        unlink(table_path);
+    if (!tracing() || tables_stay || table.head->pid != (uint64_t)getpid() || !unlink(table_path))
+        return;
+    finder->on = 0;
+    table.head->state = TABLE_ENDED;
+    empty_extents(&table.entries);
+    empty_extents(&table.leaves);
 }
 
 static struct unused *own_stack(void)
@@ -171,8 +220,7 @@ static int64_t new_entry(void)
     uint64_t first = atomic_load(used);
 
     do {
-        uint64_t need = HEAD_BYTES + (first + BATCH) * table.words * sizeof(uint64_t);
-        if (need > atomic_load(&table.entries.ready) && !grow(&table.entries, need))
+        if (!reach(&table.entries, first + BATCH - 1))
             return -1;
     } while (!atomic_compare_exchange_weak(used, &first, first + BATCH));
     for (int k = 1; k < BATCH; k++)
@@ -202,8 +250,7 @@ int64_t new_leaf(void)
     uint64_t number = atomic_load(leaves);
 
     do {
-        uint64_t need = table.head->leaves_at + (number + 1) * LEAF_WORDS * sizeof(uint64_t);
-        if (need > atomic_load(&table.leaves.ready) && !grow(&table.leaves, need))
+        if (!reach(&table.leaves, number))
             return -1;
     } while (!atomic_compare_exchange_weak(leaves, &number, number + 1));
     return number;

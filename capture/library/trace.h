@@ -8,6 +8,8 @@
 #include <stdatomic.h>
 #include <stddef.h>
 #include <stdint.h>
+#include <sys/syscall.h>
+#include <unistd.h>
 
 #include "../table.h"
 
@@ -23,20 +25,47 @@ struct caller {
 #define CALLER() (struct caller){ (uintptr_t)__builtin_return_address(0), \
         *(uintptr_t *)__builtin_frame_address(0), (uintptr_t)__builtin_frame_address(0) + 16 }
 
-/* ---- table.c: the file, and its entries ---- */
+/* ---- extents.c: records in memory that grows ---- */
 
-/* A part of the file that grows: from `start` to `end`, of which what lies before `ready` may be written. */
+/* Records lie in extents. The first has 1 << `first_bits` of them, and each further four make as many as there were. So no
+ * record moves, and no memory is reserved: a limit on it (RLIMIT_AS, RLIMIT_DATA) is the program's. */
+enum { EXTENTS = 1 + 4 * 22, ENTRY_BITS = 12, LEAF_BITS_AT_FIRST = 7, PAGE_BITS_AT_FIRST = 6 };
+
 struct area {
-    uint64_t start, end;
-    _Atomic uint64_t ready;
+    uint64_t at, end;               /* bytes of the file from its first record on; of private memory from 0 on */
+    uint32_t bytes, first_bits;     /* of a record */
+    int is_private;
     _Atomic uint32_t full;
+    _Atomic uintptr_t extents[EXTENTS];     /* where its record 0 would lie; 0 where it is not there yet */
 };
 
+static inline unsigned extent_of(uint64_t number, unsigned first_bits)
+{
+    if (!(number >> first_bits))
+        return 0;
+    unsigned high = 63 - __builtin_clzll(number);
+    return 1 + ((high - first_bits) << 2) + (number >> (high - 2) & 3);
+}
+
+/* The record, which must be there. `first_bits` is the area's, and known to the compiler. */
+static inline uintptr_t record_at(const struct area *area, uint64_t number, unsigned first_bits, size_t bytes)
+{
+    return atomic_load_explicit(&area->extents[extent_of(number, first_bits)], memory_order_relaxed) + number * bytes;
+}
+
+int reach(struct area *area, uint64_t number);
+int populate(void *from, uint64_t bytes);
+void unmap_extents(struct area *area);
+void empty_extents(struct area *area);
+void tell_own(const void *start, uint64_t bytes);
+void tell_extents(struct area *area);
+
+/* ---- table.c: the file, and its entries ---- */
+
 struct table {
-    struct table_head *head;    /* the whole file, mapped */
-    struct area entries;        /* with the head in front */
+    struct table_head *head;    /* mapped together with the first entries */
+    struct area entries;
     struct area leaves;
-    _Atomic uint64_t *first_leaf;
     size_t words;               /* of an entry */
 };
 
@@ -44,8 +73,16 @@ extern struct table table;
 extern char table_path[];
 extern const char *table_name;      /* the path, with %p for the pid */
 extern const char *program_name;
+extern uint64_t most_blocks;
+
+/* close(), which the program or another library may have a version of its own of. */
+static inline void shut(int file)
+{
+    syscall(SYS_close, file);
+}
 
 int open_table(size_t depth);
+void close_table(struct table *old);
 void remove_table(void);
 int64_t take_entry(void);
 void give_entry(uint32_t number);
@@ -53,7 +90,12 @@ int64_t new_leaf(void);
 
 static inline _Atomic uint64_t *entry(uint32_t number)
 {
-    return (_Atomic uint64_t *)((char *)table.head + HEAD_BYTES) + (size_t)number * table.words;
+    return (_Atomic uint64_t *)record_at(&table.entries, number, ENTRY_BITS, table.words * sizeof(uint64_t));
+}
+
+static inline _Atomic uint64_t *leaf(uint32_t number)
+{
+    return (_Atomic uint64_t *)record_at(&table.leaves, number, LEAF_BITS_AT_FIRST, LEAF_WORDS * sizeof(uint64_t));
 }
 
 static inline uint64_t get(_Atomic uint64_t *word)
@@ -65,6 +107,51 @@ static inline void put(_Atomic uint64_t *word, uint64_t value)
 {
     atomic_store_explicit(word, value, memory_order_relaxed);
 }
+
+/* ---- directory.c: from a region of the heap to a record ---- */
+
+/* A cell is 0 (never used), or a key of 36 bits and below it the number of a record. Where the first cells are taken, there are
+ * more, which are mapped then. */
+#ifdef FEW_CELLS        /* for a test */
+enum { DIRECTORY_BITS = 10 };
+#else
+enum { DIRECTORY_BITS = 15 };
+#endif
+enum { NUMBER_BITS = 28, ROW_BITS = 9, MORE_BITS = 20, DIRECTORY_PROBES = 16 };
+
+struct directory {
+    _Atomic uint64_t cells[1 << DIRECTORY_BITS] __attribute__((aligned(4096)));
+};
+
+/* 512 regions in a row, 32 MiB of the heap, share a page of cells. */
+static inline _Atomic uint64_t *cell_among(_Atomic uint64_t *cells, unsigned bits, uint64_t key, unsigned n)
+{
+    uint64_t row = ((key >> ROW_BITS) + n * 0x1000000000001ull) * 0x9E3779B97F4A7C15ull;
+
+    return &cells[row >> (64 - bits + ROW_BITS) << ROW_BITS | key % (1 << ROW_BITS)];
+}
+
+static inline _Atomic uint64_t *directory_cell(struct directory *directory, uint64_t key, unsigned n)
+{
+    return cell_among(directory->cells, DIRECTORY_BITS, key, n);
+}
+
+static inline int64_t number_in(uint64_t cell)
+{
+    return cell & ((1ull << NUMBER_BITS) - 1);
+}
+
+/* What a directory is of, and its further cells, which a child of fork has too, but empty. */
+struct records {
+    int64_t (*make)(uint64_t key);
+    void (*unmake)(int64_t number);
+    _Atomic uintptr_t more;
+};
+
+extern struct records leaf_records, page_records;
+
+int64_t look_up(struct directory *directory, uint64_t key, struct records *records, int is_wanted);
+void tell_more_cells(void);
 
 /* ---- finder.c: from the start of a block to its entry ---- */
 
@@ -80,24 +167,25 @@ struct rule_cell {
     _Atomic uint64_t key, rule;
 };
 
-enum { STACKS = 16, RULES = 4096, LEAST_CELL_BITS = 15, MOST_CELL_BITS = 30, LEAF_CELL_BITS = 20 };
+enum { STACKS = 16, RULES = 4096, LEAST_BLOCKS = 1 << 15, MOST_BLOCKS = 1 << 30 };
 
 /* Private memory, which the kernel zeroes in a child of fork (MADV_WIPEONFORK). So a child is not traced
  * until `after_fork` has given it a table of its own, and a child of a bare clone never is. */
 struct finder {
     _Atomic uint32_t on;
     _Atomic uint32_t threads;
-    char line[56];
+    _Atomic uint64_t pages;             /* of cells, that were ever used */
+    char line[48];
     struct unused unused[STACKS];
     struct rule_cell rules[RULES];
-    _Atomic uint64_t leaf_cells[1 << LEAF_CELL_BITS] __attribute__((aligned(4096)));
-    _Atomic uint32_t cells[] __attribute__((aligned(4096)));
+    struct directory leaves, cells;
 };
 
 extern struct finder *finder;
+extern struct area cell_pages;
 
-int open_finder(size_t blocks);
-uint64_t finder_bytes(void);
+int open_finder(void);
+void *private_memory(uint64_t bytes);
 void insert(uintptr_t start, size_t size, uint64_t stamp, const uintptr_t *callers, size_t depth);
 int take_out(uintptr_t start, uint64_t *copy);
 int64_t set_aside(uintptr_t start, uint64_t *copy);
@@ -128,11 +216,25 @@ uint64_t read_rule(uintptr_t address);
 enum { RULE_KNOWN = 1, RULE_FROM_RBP = 2, RULE_SAVES_RBP = 4, RULE_LAST_FRAME = 8, RULE_TOO_HARD = 16,
        RULE_UP_SHIFT = 8, RULE_RBP_SHIFT = 36, RULE_MASK = (1 << 28) - 1 };
 
+/* ---- folder.c: all tables of a folder ---- */
+
+int has_room(void);
+
+/* ---- kept_out.c: memory that the program keeps out of cores ---- */
+
+int advise(void *start, uint64_t bytes, int advice);
+
+/* ---- exec.c: programs that this one runs ---- */
+
+void keep_variables(char **environment);
+void tell_untraced(struct table_head *head, uint64_t pid, const char *program);
+
 /* ---- start.c ---- */
 
-extern int frees_wipe;
+extern int frees_wipe, tables_stay, execs_are_traced;
+extern uint64_t most_megabytes;     /* of all tables together; 0: a quarter of the file system */
 
-void complain(const char *what);
+void complain(const char *what, const char *why);
 
 /* ---- fork.c ---- */
 

@@ -2,7 +2,7 @@
 import signal
 import sys
 
-from lines import callers, document, folded, judging, options, progress, report, since, suppressions, tables
+from lines import callers, document, folded, html, judging, options, progress, report, since, suppressions, tables
 from lines.options import Refused
 
 
@@ -65,6 +65,8 @@ def lines_in(asked, read, found):
         return folded.lines_of(found.shown.get(kind, []), kind)
     if asked.form == "json":
         return document.lines_of(read, found)
+    if asked.form == "html":
+        return html.lines_of(read, found)
     return tables.lines_of(read, found, asked.most) + ([tables.suppressed_line(found)] if asked.suppress else [])
 
 
@@ -72,6 +74,15 @@ def run(asked):
     """The text that is printed, and the exit status."""
     rules = suppressions.read_files([(path, read_lines(path)) for path in asked.suppress])
     return run_one(asked, rules) if asked.since is None else run_since(asked, rules)
+
+
+def write_page(path, text):
+    """Writes the text to the file."""
+    try:
+        with open(path, "w", encoding="utf-8") as file:
+            file.write(text)
+    except OSError as error:
+        raise Refused(f"leak_lines: {path}: {error.strerror}") from error
 
 
 def write(text):
@@ -90,7 +101,10 @@ def main(words):
         asked = options.read(words)
         with progress.SHOWN:
             text, status = run(asked)
-        write(text)
+        if asked.page is None:
+            write(text)
+        else:
+            write_page(asked.page, text)
     except Refused as refusal:
         print(refusal, file=sys.stderr)
         return 2

@@ -2,9 +2,9 @@
 import re
 from typing import NamedTuple
 
-USAGE = """usage: leak_lines [-n N] [--suppress FILE].. [--exit-code] [--folded | --json] [REPORT]
+USAGE = """usage: leak_lines [-n N] [--suppress FILE].. [--exit-code] [--folded | --json | --html FILE] [REPORT]
        leak_lines --since OLD [--no-lines] [-n N] [--suppress FILE].. [--exit-code] [NEW]"""
-VALUED = ("--suppress", "--since")
+VALUED = ("--suppress", "--since", "--html")
 FORMS = {"--folded": "folded", "--json": "json"}
 FLAGS = ("--exit-code", "--no-lines")
 NUMBER = re.compile("[1-9][0-9]{0,17}")
@@ -21,6 +21,7 @@ class Options(NamedTuple):
     suppress: tuple = ()  # files of suppressions
     is_judged: bool = False  # whether the status says that something leaked
     form: str = "table"
+    page: str = None  # the file of a page of HTML
     since: str = None  # the older report
     has_lines: bool = True  # whether lines of sources are compared too
 
@@ -45,6 +46,8 @@ def with_option(options, name, value):
         return options._replace(suppress=options.suppress + (value,), is_judged=True)
     if name == "--since":
         return options._replace(since=value)
+    if name == "--html" and options.form in ("table", "html"):
+        return options._replace(form="html", page=value)
     if name in FORMS and options.form in ("table", FORMS[name]):
         return options._replace(form=FORMS[name])
     if name in FLAGS:

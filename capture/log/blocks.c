@@ -71,9 +71,12 @@ struct blocks read_table(struct file file, const struct core *core)
     }
     size_t dropped = keep_newest(&blocks, 1);
     tell_undumped(core, head);
+    blocks.missed = head->missed;
+    blocks.kept_out = kept_out_bytes(core, head);
+    blocks.is_more_kept_out = head->kept_out_missed && !core->is_whole;
     if (head->missed)
-        fprintf(stderr, "leak_log: %llu blocks found no place in the table: leaks among them are not named\n",
-                (unsigned long long)head->missed);
+        fprintf(stderr, "leak_log: %llu blocks found no place in the table (%s): leaks among them are not named\n",
+                (unsigned long long)head->missed, head->refused ? strerror(head->refused) : "it is full");
     if (moving)
         fprintf(stderr, "leak_log: %zu blocks are just being moved by realloc: nobody knows where to, so that the log "
                 "has no freed memory, and --skip-freed changes little\n", moving);
@@ -93,7 +96,7 @@ static int begins(const char *at, const char *stop, const char *with)
 struct blocks read_log(struct file file)
 {
     static const char head[] = "= leak_log moment 0x", base[] = " table 0x", came[] = "] + 0x", went[] = "- 0x", freed[] = "+ 0x",
-                      allocator[] = "= leak_log allocator ";
+                      remark[] = "= leak_log ";
     const char *at = (const char *)file.bytes, *end = at + file.size, *stop;
     struct blocks blocks = { 0 };
     int is_ours = 0;
@@ -102,7 +105,7 @@ struct blocks read_log(struct file file)
         if (!(stop = memchr(at, '\n', end - at)))
             fail(file.path, "the log ends in the middle of a line");
         const char *where = memrchr(at, ']', stop - at), *start = where ? where + strlen(came) : at + strlen(went);
-        if (begins(at, stop, allocator))
+        if (begins(at, stop, remark) && !begins(at, stop, head))
             continue;
         if (begins(at, stop, head)) {
             char *rest;

@@ -5,6 +5,8 @@
 
 #include "log.h"
 
+enum { MEMORY_NOTE = 0x4d454d };    /* by leak_core */
+
 static int holds(struct file file, uint64_t at, uint64_t size)
 {
     return at <= file.size && size <= file.size - at;
@@ -43,6 +45,8 @@ static void read_notes(struct core *core, struct file file, uint64_t at, uint64_
             return;
         if (note->n_type == NT_FILE && note->n_namesz == 5 && !memcmp(note + 1, "CORE", 5))
             read_parts(core, file.bytes + content, note->n_descsz);
+        if (note->n_type == MEMORY_NOTE && note->n_namesz == sizeof "LEAK_CORE" && !memcmp(note + 1, "LEAK_CORE", sizeof "LEAK_CORE"))
+            core->is_whole = 1;
         at = content + ((note->n_descsz + 3ull) & ~3ull);
     }
 }
@@ -72,6 +76,14 @@ struct core read_core(struct file file)
     return core;
 }
 
+static int is_own(const struct table_head *head, uint64_t address)
+{
+    for (size_t i = 0; i < head->own_count && i < MOST_OWN; i++)
+        if (address - head->own[i].start < head->own[i].bytes)
+            return 1;
+    return 0;
+}
+
 /* Says of how much writable memory the core has no contents, and how much of that is the library's own, in
  * which no block of the program is led to. A kernel's core lists such memory, leak_core's does not. */
 void tell_undumped(const struct core *core, const struct table_head *head)
@@ -82,13 +94,39 @@ void tell_undumped(const struct core *core, const struct table_head *head)
         if (p->p_type != PT_LOAD || !(p->p_flags & PF_W))
             continue;
         all += p->p_memsz - p->p_filesz;
-        if (!p->p_filesz && (p->p_vaddr - head->base < head->room || p->p_vaddr - head->finder < head->finder_bytes))
+        if (!p->p_filesz && is_own(head, p->p_vaddr))
             own += p->p_memsz;
     }
     if (own)
         fprintf(stderr, "leak_log: undumped: of %llu bytes %llu are leak_trace's own, where no pointer is missed; "
                 "%llu are the program's\n", (unsigned long long)all, (unsigned long long)own,
                 (unsigned long long)(all - own));
+}
+
+/* The bytes from `start` to `end` of which the core has no contents, where no two segments overlap. */
+static uint64_t missing_between(const struct core *core, uint64_t start, uint64_t end)
+{
+    uint64_t missing = end - start;
+
+    for (const Elf64_Phdr *p = core->segments; p < core->segments + core->segment_count; p++) {
+        uint64_t from = p->p_vaddr > start ? p->p_vaddr : start;
+        uint64_t to = p->p_vaddr + p->p_filesz < end ? p->p_vaddr + p->p_filesz : end;
+        if (p->p_type == PT_LOAD && from < to)
+            missing -= to - from;
+    }
+    return missing;
+}
+
+/* How much of the memory that the program keeps out of cores (MADV_DONTDUMP) is not in this one. By gdb such memory is in no segment
+ * at all, so nothing in the core tells of it. leak_core has it. */
+uint64_t kept_out_bytes(const struct core *core, const struct table_head *head)
+{
+    uint64_t bytes = 0;
+
+    for (size_t i = 0; i < MOST_KEPT_OUT && !core->is_whole; i++)
+        if (head->kept_out[i].start)
+            bytes += missing_between(core, head->kept_out[i].start, head->kept_out[i].start + head->kept_out[i].bytes);
+    return bytes;
 }
 
 /* The file's name without its folders. */

@@ -71,11 +71,35 @@ static struct blocks write_ends(const struct blocks *old, const struct blocks *b
     return fresh;
 }
 
-/* Says by a remark of the log, and to the user, that the heap is not glibc's. */
-static void tell_allocator(const struct core *core)
+/* Says by a remark of the log, and to the user, that the core lacks memory. */
+static void tell_kept_out(const struct blocks *blocks)
+{
+    unsigned long long bytes = blocks->kept_out;
+
+    if (!bytes && !blocks->is_more_kept_out)
+        return;
+    printf("= leak_log kept out %llu\n", bytes);
+    fprintf(stderr, "leak_log: the program keeps %s%llu bytes out of cores (MADV_DONTDUMP), which this core lacks, though it may not say so "
+            "(undumped): what they alone hold is named; leak_core has them\n", blocks->is_more_kept_out ? "more than " : "", bytes);
+}
+
+/* Do blocks stand side by side, one in a hundred at least? glibc keeps 8 bytes between two. Those with one start are one. */
+static int stand_side_by_side(const struct blocks *blocks)
+{
+    size_t count = 0;
+
+    for (size_t i = 0; i + 1 < blocks->count; i++)
+        count += blocks->list[i].size && blocks->list[i].start + blocks->list[i].size == blocks->list[i + 1].start;
+    return count > blocks->count / 100;
+}
+
+/* Says by a remark of the log, and to the user, that the heap is not glibc's: by the name of a library, or else by its blocks. */
+static void tell_allocator(const struct core *core, const struct blocks *blocks)
 {
     const char *name = other_allocator(core);
 
+    if (!name && stand_side_by_side(blocks))
+        name = "unknown";
     if (!name)
         return;
     printf("= leak_log allocator %s\n", name);
@@ -105,7 +129,10 @@ int main(int count, char **arguments)
     }
     printf("= leak_log moment 0x%llx table 0x%llx\n", (unsigned long long)fresh.moment,
            (unsigned long long)fresh.base);
-    tell_allocator(&core);
+    if (blocks.missed)
+        printf("= leak_log missed %llu\n", (unsigned long long)blocks.missed);
+    tell_kept_out(&blocks);
+    tell_allocator(&core, &blocks);
     if (blocks.knows_freed)
         write_freed(table, &blocks);
     if (fresh.count)

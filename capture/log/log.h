@@ -26,6 +26,7 @@ struct core {
     size_t part_count;
     const Elf64_Phdr *segments;
     size_t segment_count;
+    int is_whole;               /* by leak_core, which has what the program keeps out of cores */
 };
 
 /* A block of the table, or of an earlier log: then the stamp counts the lines, and there are no callers. */
@@ -41,6 +42,9 @@ struct blocks {
     uint64_t moment;            /* the newest stamp */
     uint64_t base;              /* where the process has its table */
     int knows_freed;            /* is what is in none of them free? */
+    uint64_t missed;            /* blocks that found no place in the table */
+    uint64_t kept_out;          /* bytes that the core lacks since the program keeps them out */
+    int is_more_kept_out;       /* are there more of them, of which the table does not say where? */
 };
 
 /* leak_log.c */
@@ -52,6 +56,7 @@ struct file open_file(const char *path);
 struct core read_core(struct file file);
 const char *other_allocator(const struct core *core);
 void tell_undumped(const struct core *core, const struct table_head *head);
+uint64_t kept_out_bytes(const struct core *core, const struct table_head *head);
 
 /* place.c */
 void put_text(const char *text);

@@ -24,12 +24,12 @@ int main(int argc, char **argv)
     wait(NULL);
     char line[200]; long rss = 0, v;
     FILE *f = fopen("/proc/self/smaps", "r");
-    int table = 0, finder = 0;
-    long table_kb = 0, finder_kb = 0;
+    int table = 0;
+    long table_kb = 0, finder_kb = 0, last = 0;
     while (fgets(line, sizeof line, f)) {
-        if (strchr(line, '-') && strchr(line, ' ') && line[0] != ' ' && strstr(line, "-") < line + 13) { table = strstr(line, "rw-s") != NULL; finder = 0; }
-        if (sscanf(line, "Size: %ld", &v) == 1 && v >= 270336 && v < 270500) finder = 1;
-        if (sscanf(line, "Rss: %ld", &v) == 1) { rss += v; if (table) table_kb += v; if (finder) finder_kb += v; }
+        if (strchr(line, '-') && strchr(line, ' ') && line[0] != ' ' && strstr(line, "-") < line + 13) table = strstr(line, "rw-s") != NULL;
+        if (sscanf(line, "Rss: %ld", &v) == 1) { rss += v; last = v; if (table) table_kb += v; }
+        if (!strncmp(line, "VmFlags:", 8) && strstr(line, " wf")) finder_kb += last;     /* wiped by a fork */
     }
     printf("resident: all %ld KiB, table %ld KiB (%.1f bytes a block), finder %ld KiB (%.1f bytes a block)\n", rss, table_kb, table_kb * 1024.0 / n, finder_kb, finder_kb * 1024.0 / n);
     if (argc > 2) {

@@ -89,12 +89,12 @@ until_true() {
     done
 }
 
-# settle PID: waits until the process rests in read() or poll(), for three tenths of a second, or a minute in all.
+# settle PID: waits until the process rests in read(), poll() or epoll_wait(), for three tenths of a second, or a minute in all.
 settle() {
     local still=0 end=$((SECONDS + 60))
     while [ $SECONDS -lt $end ]; do
         case $(cut -d ' ' -f 1 "/proc/$1/syscall" 2> /dev/null) in
-        0 | 7) still=$((still + 1)) ;;
+        0 | 7 | 232 | 281) still=$((still + 1)) ;;
         *) still=0 ;;
         esac
         [ $still -lt 4 ] || return 0

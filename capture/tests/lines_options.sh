@@ -69,3 +69,14 @@ caller = json.load(sys.stdin)["callers"][0]
 frame = caller["frames"][0]
 print(frame["function"], os.path.basename(frame["file"]), frame["line"], caller["bytes"])')"
 verdict 'no report for a form' 'leak_lines: this is no report with callers status 2' "$(said --json /dev/null | tr '\n' ' ' | sed 's/ $//')"
+
+python3 -B "$kit/tests/lines_html_test.py" 2> html_test.said
+status=$?
+verdict "the page: $(tail -n 3 html_test.said | head -n 1)" 0 $status
+verdict 'a page is written, and nothing printed' 'status 0' "$(said --html one.html one.report)"
+verdict 'the page has the function' 1 "$(grep -c '"lose"' one.html)"
+verdict 'a page has the status too' 'status 1' "$(said --html=one.html --exit-code one.report)"
+verdict 'no folder for the page' 'leak_lines: none/one.html: No such file or directory status 2' \
+    "$(said --html none/one.html one.report | tr '\n' ' ' | sed 's/ $//')"
+verdict 'a page of no report' 'leak_lines: this is no report with callers status 2' "$(said --html none.html /dev/null | tr '\n' ' ' | sed 's/ $//')"
+verdict 'then none is written' no "$([ -e none.html ] && echo yes || echo no)"

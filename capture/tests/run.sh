@@ -22,6 +22,7 @@ part() {
 
 part dump "$attaches"
 part known "$dumps"
+part pages
 part lines
 part lines_symbols
 part lines_options
@@ -30,6 +31,11 @@ part freed "$dumps"
 part walk
 part frames "$dumps"
 part tables "$dumps"
+part limits "$attaches"
+part ends
+part execs
+part kept_out "$dumps"
+part allocators "$attaches"
 part moments "$attaches"
 part untraced
 part report "$dumps"

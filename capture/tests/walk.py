@@ -3,7 +3,7 @@ both, in one alone, and have a size that malloc doesn't give for what was asked.
 wrong, freed memory lies over a block, or more than MORE blocks (none) are in the walk alone."""
 import bisect, re, sys
 
-PAGE, CHUNK_HEAD, LEAST_USABLE = 4096, 8, 24
+PAGE, CHUNK_HEAD, LEAST_USABLE, MOST_ALIGNMENT = 4096, 8, 24, 1 << 16
 
 def read(path):
     live, freed, last = {}, [], None
@@ -33,7 +33,8 @@ def is_usable(start, usable, asked):
         exact_pages = (asked + PAGE - 1) // PAGE * PAGE + CHUNK_HEAD
         if exact_pages <= usable <= exact_pages + 32:
             return True
-    return exact <= usable <= exact + 32 or (asked <= usable < asked + 2 * PAGE and (start + usable) % PAGE == 0)
+    alignment = min(start & -start, MOST_ALIGNMENT)
+    return exact <= usable <= exact + 32 or (asked <= usable < asked + PAGE + max(PAGE, alignment + 1) and (start + usable) % PAGE == 0)
 
 def over(freed, live):
     starts = sorted(live)

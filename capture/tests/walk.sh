@@ -12,6 +12,7 @@ walk=$kit/leak_walk
 # walked NAME [MORE]: the log of the heap of NAME.core against the table's log. So many blocks may be in the heap alone.
 walked() {
     local said
+    verdict "$1: its log is by the table" 1 "$(grep -c '^= leak_log moment' "$1.log")"
     limited 60 "$walk" "$1.core" > "$1.walk" 2> "$1.said"
     verdict "$1: the heap is walked" 0 $?
     said=$(python3 "$kit/tests/walk.py" "$1.log" "$1.walk" "${2:-0}")
@@ -20,13 +21,13 @@ walked() {
     verdict "$1: misfits" 'misfits 0' "$(find_leaks one --check "$1.core" "$1.walk" 2>&1 | grep '^misfits')"
 }
 
-# traced NAME PROGRAM..: runs it under leak_trace, with standard input held open, and compares.
+# traced NAME PROGRAM..: runs it under leak_trace, by the command `run_by` where there is one, with standard input held open, and compares.
 traced() {
     local name=$1
     shift
     command -v "$1" > /dev/null || { leave_out "$1, which is not installed"; return; }
     rm -f "$name.in" && mkfifo "$name.in"
-    (exec 3<> "$name.in"; exec "$kit/leak_trace" "$@" <&3 > "$name.out" 2>&1 3>&-) &
+    (exec 3<> "$name.in"; exec ${run_by-} "$kit/leak_trace" "$@" <&3 > "$name.out" 2>&1 3>&-) &
     process=$!
     started[$process]=1
     settle $process
@@ -54,40 +55,57 @@ fi
 section stopped after each instruction
 while read -r kind calls fresh; do
     limited 300 ./walk_step "$walk" "$kind" "$calls" $fresh > stepped
-    verdict "$kind: each moment is walked right" 'refused 0 missing 0 freed 0 lost 0 more 0' "$(tail -n 1 stepped)"
+    verdict "$kind: each moment is walked right" 'refused 0 missing 0 freed 0 lost 0 more 0 misfits 0' "$(tail -n 1 stepped)"
     echo "     $(grep instructions stepped)"
     [ "$fresh" ] ||
         verdict "$kind: without registers some are refused" yes "$(awk '/instructions/ { print ($5 > 0 ? "yes" : "no") }' stepped)"
-done << 'END'
+    [ "$kind" != heaps ] ||
+        verdict "$kind: a thread's second heap comes and goes" yes "$(awk '/instructions/ { print ($11 > 0 ? "yes" : "no") }' stepped)"
+done << END
 main 12
 thread 12
 sbrk 10
 thread 1 fresh
+heaps ${HEAPS:-6}
 END
-rm -f step.core
 
-# The kernel's core of a process that is killed, as it stands: NAME.core, and by its table NAME.log.
-section eight busy threads, killed at any moment
 storms=${STORMS:-0}
-# Each takes four seconds or more: so they are made by hand, by walk_long.sh.
+# Each takes two seconds or more: so they are made by hand, by walk_long.sh.
 [ "$storms" != 0 ] || leave_out 'programs that are killed at any moment: STORMS=50 makes fifty'
 [ "$dumps_core" ] || { leave_out 'cores of any moment: the kernel writes none here'; storms=0; }
-bad=0
-for _ in $(seq "$storms"); do
-    wait=0.$((RANDOM % 90 + 10)) start ./walk_storm 8
-    sleep 0.$((RANDOM % 90 + 10))
-    dump_killed $process "$work/busy"
-    limited 60 "$walk" --quiet busy.core > busy.walk 2> busy.said || { cat busy.said; bad=$((bad + 1)); }
-    # a thread has at most the block that malloc gave it, and the one that realloc or free is taking
-    python3 "$kit/tests/walk.py" busy.log busy.walk 16 > busy.compared || { cat busy.compared; bad=$((bad + 1)); }
-    sed -n 's/^both.*only in the walk \([0-9]*\).*/\1/p' busy.compared >> busy.more
-    find_leaks one --check busy.core busy.walk 2> busy.warned | awk '$1 == "misfits" && $2 > 0' >> busy.misfits
-    unset "started[$process]"
-done
-[ "$storms" = 0 ] || verdict "walks at $storms moments, with what the table has" 0 $bad
-[ -s busy.more ] && echo "     blocks in hand: $(sort -n busy.more | tr '\n' ' ')"
-[ "$storms" = 0 ] || verdict 'blocks that do not fit their core' '' "$(cat busy.misfits 2> /dev/null)"
-rm -f busy.core busy.kernel
+
+# storms_of NAME ARGUMENT..: walk_storm, killed so many times; the kernel's core as it stands and its table have the same blocks. KEEP names a
+# folder for the cores of which that isn't so.
+storms_of() {
+    local name=$1 bad=0 was_bad one
+    shift
+    rm -f busy.more busy.resized
+    for _ in $(seq "$storms"); do
+        was_bad=$bad
+        wait=0.$((RANDOM % 90 + 10)) start ./walk_storm "$@"
+        sleep 0.$((RANDOM % 90 + 10))
+        dump_killed $process "$work/busy"
+        unset "started[$process]"
+        limited 60 "$walk" --quiet busy.core > busy.walk 2> busy.said || { cat busy.said; bad=$((bad + 1)); }
+        # a thread has at most the block that malloc gave it, and the one that realloc or free is taking
+        python3 "$kit/tests/walk.py" busy.log busy.walk 16 > busy.compared || { cat busy.compared; bad=$((bad + 1)); }
+        sed -n 's/^both.*only in the walk \([0-9]*\).*/\1/p' busy.compared >> busy.more
+        # while realloc makes a block larger or smaller, the next chunk's size word isn't written yet; such a block is in no table
+        find_leaks one --check busy.core busy.walk 2> busy.warned | awk '$1 == "misfit" { print "+ " $2 " " }' > busy.misfits
+        cat busy.misfits >> busy.resized
+        if grep -F -f busy.misfits busy.log; then bad=$((bad + 1)); fi
+        [ "$(wc -l < busy.misfits)" -le 2 ] || { cat busy.misfits; bad=$((bad + 1)); }
+        [ $bad = $was_bad ] || [ ! "${KEEP-}" ] || for one in core log walk; do cp --sparse=always busy.$one "$KEEP/$1.$bad.$one"; done
+    done
+    verdict "$name: walks at $storms moments, with what the table has, which fits the core" 0 $bad
+    echo "     blocks in hand: $(sort -n busy.more | tr '\n' ' '); being resized: $(wc -l < busy.resized)"
+    rm -f busy.core busy.kernel
+}
+if [ "$storms" != 0 ]; then
+    section busy threads, killed at any moment
+    storms_of 'eight threads' 8
+    storms_of 'a thread of several heaps' 1 100
+fi
 
 # core_of PID NAME: a core, by gdb or by killing the process.
 core_of() {
@@ -100,6 +118,9 @@ core_of() {
     fi
     [ -s "$2.core" ] || { verdict "dump $2" 'a core' none; return 1; }
 }
+
+# classes FILE: those that leak_lines names.
+classes() { awk '/walk_types:\[/ && !/^leak/ { print $4 }' "$1" | sort | tr '\n' ' ' | sed 's/ $//'; }
 
 section leaks of programs that nobody prepared
 if [ "$dumps" ]; then
@@ -123,7 +144,7 @@ if [ "$dumps" ]; then
     find_leaks one --skip-freed --skip-links types.core types.log > types.report 2>&1
     verdict 'objects that are lost' "$(expected "$kit/tests/walk_types.cc")" "$(named types.report)"
     "$kit/leak_lines" types.report > types.lines
-    verdict 'their classes' 'shapes::many<long> shapes::square' "$(awk '/walk_types:\[/ && !/^leak/ { print $4 }' types.lines | sort | tr '\n' ' ' | sed 's/ $//')"
+    verdict 'their classes' 'shapes::many<long> shapes::square' "$(classes types.lines)"
 
     gcc -O1 -g -pthread -static "$kit/tests/walk_leaks.c" -o static_leaks 2> static.cc && unprepared ./static_leaks && core_of $process static
     stop $process
@@ -133,6 +154,31 @@ if [ "$dumps" ]; then
     # libc holds a block of its own, of 40 bytes, by memory alone that is read-only by then
     verdict 'a static program: named' "$(expected "$kit/tests/walk_leaks.c")" "$(awk '$1 == "leak" && $3 != 40 { print $3 }' static.report | in_steps)"
     rm -f static.core types.core
+fi
+
+# A filter without bit 4 leaves out the first pages of mapped files, by which readers of cores know the files (core(5)).
+if [ "$dumps_core" ]; then
+    section a core without the first pages of files
+    unprepared ./walk_types
+    echo 0x23 > "/proc/$process/coredump_filter"
+    rm -f core core.*
+    { kill -ABRT $process && wait $process; } 2> /dev/null
+    unset "started[$process]"
+    mv "$(kernel_core)" bare.kernel
+    verdict 'of ELF files only the one of the kernel' 1 "$(python3 "$kit/tests/walk_headers.py" bare.kernel)"
+    "$kit/leak_dump" --core bare.kernel bare 2> bare.said
+    verdict 'a log' 0 $?
+    find_leaks one --skip-freed --skip-links bare.core bare.log > bare.report 2>&1
+    verdict 'objects that are lost' "$(expected "$kit/tests/walk_types.cc")" "$(named bare.report)"
+    "$kit/leak_lines" bare.report > bare.lines
+    verdict 'their classes' 'shapes::many<long> shapes::square' "$(classes bare.lines)"
+    mv walk_types walk_types.away
+    "$walk" --quiet bare.core > away.log
+    find_leaks one --skip-freed --skip-links bare.core away.log > away.report 2>&1
+    verdict 'the file is not here: what is lost' "$(expected "$kit/tests/walk_types.cc")" "$(named away.report)"
+    verdict 'the file is not here: it is told by file and offset' yes "$(awk '$1 == "leak" { print ($6 ~ /walk_types:\[0x[0-9a-f]+\]$/ ? "yes" : $6) }' away.report | sort -u)"
+    mv walk_types.away walk_types
+    rm -f bare.core bare.kernel
 fi
 
 section two moments of one process
@@ -205,5 +251,11 @@ if [ "$dumps" ]; then
 main breaks after
 thread breaks after
 END
+    read -r chunk < <(python3 "$kit/tests/walk_damage.py" leaks.core leaks.log damaged.core bit)
+    "$walk" damaged.core > bit.log 2> bit.said
+    verdict 'a byte that says a block is free: walked' 0 $?
+    verdict 'a byte that says a block is free: it says where' 1 "$(grep -c "1 free chunks have no size behind them, the first at $chunk" bit.said)"
+    verdict 'a byte that says a block is free: the block is the misfit' "$(printf '0x%x' $((chunk + 16)))" \
+        "$(find_leaks one --check damaged.core bit.log 2> bit.warned | awk '$1 == "misfit" { print $2 }')"
     rm -f damaged.core cut.core leaks.core first.core
 fi

@@ -1,8 +1,10 @@
 #!/bin/bash
 # What of leak_walk takes too long for the gate: many real programs, fifty killed storms, 1,000 mutations under sanitizers, ten million blocks, and
-# programs with another allocator. Programs that are not installed are left out. LEAK_FIND names leak_find, as for run.sh.
+# programs with another allocator. Programs that are not installed are left out. LEAK_FIND names leak_find, as for run.sh. REDIS_LIBC names a
+# redis-server that was built by `make MALLOC=libc`: Debian's has jemalloc.
 . "$(dirname "$0")/common.sh"
 STORMS=${STORMS:-50}
+HEAPS=${HEAPS:-24}
 . "$kit/tests/walk.sh"
 
 section more real programs
@@ -22,6 +24,64 @@ if [ "$dumps" ]; then
     traced node node -e 'let a = []; for (let i = 0; i < 9999; i++) a.push({ i }); process.stdin.resume()'
     traced sort sort -S 100M --parallel=4
     traced gdb_of_gdb gdb -nx -q "$(command -v gdb)"
+    printf '#include <%s>\n' iostream map regex string vector > many.cc
+    echo '#include "/dev/stdin"' >> many.cc # it waits there, with all headers read
+    traced cc1plus "$(gcc -print-prog-name=cc1plus)" -quiet -imultiarch x86_64-linux-gnu -D_GNU_SOURCE many.cc -o many.s
+    [ ! "${REDIS_LIBC-}" ] || traced redis "$REDIS_LIBC" --port 28184 --bind 127.0.0.1 --save '' --appendonly no
+fi
+
+section servers that are no daemons
+if [ "$dumps" ]; then
+    chmod 1777 . # they give up root's rights, and write their tables here
+    postgres=$(ls /usr/lib/postgresql/*/bin/postgres 2> /dev/null | tail -n 1)
+    nobody='setpriv --reuid=nobody --regid=nogroup --clear-groups'
+    if [ "$postgres" ]; then
+        (mkdir pg && chown nobody pg && cd pg && limited 120 $nobody "${postgres%/*}/initdb" -D data > initdb.out 2>&1)
+        run_by=$nobody traced postgres "$postgres" --single -D pg/data postgres
+    else
+        leave_out postgres
+    fi
+    if command -v mariadbd > /dev/null; then
+        mkdir maria && chown nobody maria
+        limited 120 mariadb-install-db --no-defaults --datadir="$work/maria" --user=nobody --auth-root-authentication-method=normal > maria.out 2>&1
+        traced mariadbd mariadbd --no-defaults --bootstrap --datadir="$work/maria" --user=nobody
+    else
+        leave_out mariadbd
+    fi
+fi
+
+section leaks of requests to a server, between two moments
+if [ "$attaches" ] && command -v nginx > /dev/null; then
+    mkdir www && echo hello > www/x && chmod 755 . www
+    gcc -shared -fPIC -O1 -o request_leaks.so "$kit/tests/request_leaks.c"
+    printf 'pid %s/nginx.pid; error_log %s/e.log; worker_processes 1; daemon off;\nevents {}\nhttp { access_log off; server { listen 127.0.0.1:28187; root %s/www; } }\n' "$work" "$work" "$work" > n.conf
+    LD_PRELOAD=$work/request_leaks.so nginx -c "$work/n.conf" > nginx.out 2>&1 &
+    master=$!
+    started[$master]=1
+    ask() { limited 60 python3 -c 'import sys, urllib.request
+for _ in range(int(sys.argv[1])):
+    urllib.request.urlopen("http://127.0.0.1:28187/x", timeout=5).read()' "$1" 2> /dev/null; }
+    until_true 20 ask 1
+    worker=$(pgrep -P "$master")
+    started[$worker]=1
+    ask 2
+    "$kit/leak_dump" "$worker" before 2> before.said
+    ask 30
+    "$kit/leak_dump" --after before "$worker" after 2> after.said
+    for displace in '' '--displace 0'; do
+        find_leaks one --skip-freed --skip-links $displace after.core after.log > requests.report 2>&1
+        # one of the three may have a rest of 16 bytes
+        awk '$1 == "leak" { print $3 == 1016 || $3 == 1032, $5 }' requests.report | sort | uniq -c > requests.named
+        [ "$displace" ] || verdict 'named are lists of requests, and nothing else' '' "$(awk '$2 == 0' requests.named)"
+        verdict "of 33 lists named${displace:+ by $displace}: 30 or more" yes "$(awk '$2 == 1 && $3 == "head" { print ($1 >= 30 ? "yes" : $1) }' requests.named)"
+        echo "     $(grep -E '^(leaked|heads)' requests.report | tr '\n' ' ')"
+    done
+    find_leaks two --skip-freed --skip-links before.core before.log after.core after.log > pair.report 2>&1
+    verdict 'of the three lists that were lost before: two or more' yes "$(awk '$1 == "heads" { print ($2 >= 2 ? "yes" : $2) }' pair.report)"
+    stop "$worker" "$master"
+    rm -f before.core after.core
+else
+    leave_out 'leaks of requests to nginx'
 fi
 
 section other allocators

@@ -3,10 +3,12 @@
 #include "walk_step.h"
 enum { MOST = 1 << 16, IN_HAND = 6 };
 static const char *walk;
+static char core_path[32];
+static int said;
 static struct block found[MOST], freed[MOST], own[MOST];
 static int found_count, freed_count, own_count, extra_count;
 static struct user_regs_struct registers;
-static long moments, refused, missing, over, lost, many, unsaid;
+static long moments, refused, missing, over, lost, many, unsaid, misfits, most_maps, least_maps = MOST_MAPS;
 
 static int by_start(const void *a, const void *b)
 {
@@ -31,15 +33,15 @@ static void read_log(FILE *log)
 }
 static int run_walk(void)
 {
-    int out[2], status, said = open("walk.said", O_RDWR | O_CREAT | O_TRUNC, 0600);
-    if (said < 0 || pipe(out)) exit(2);
+    int out[2], status;
+    if (ftruncate(said, 0) || lseek(said, 0, SEEK_SET) || pipe(out)) exit(2);
     pid_t child = vfork();
     if (!child) {
         dup2(out[1], 1), dup2(said, 2), close(out[0]);
-        execl(walk, "leak_walk", "--quiet", "step.core", NULL);
+        execl(walk, "leak_walk", "--quiet", core_path, NULL);
         _exit(9);
     }
-    close(out[1]), close(said);
+    close(out[1]);
     FILE *log = fdopen(out[0], "r");
     read_log(log);
     fclose(log);
@@ -64,9 +66,7 @@ static void tell(const char *what, uint64_t start)
 static void tell_refusal(void)
 {
     char line[1000] = "";
-    FILE *said = fopen("walk.said", "r");
-    if (said && fgets(line, sizeof line, said)) printf("refused at 0x%llx: %s", registers.rip, line);
-    if (said) fclose(said);
+    if (pread(said, line, sizeof line - 1, 0) > 0) printf("refused at 0x%llx: %s", registers.rip, line);
 }
 /* Blocks that the walk has, and neither the program nor the C library itself. */
 static void count_extra(void)
@@ -78,6 +78,15 @@ static void count_extra(void)
         its_own += find(found, found_count, own[i].start) != NULL;
     extra_count = found_count - held - its_own;
 }
+/* Blocks that the next chunk says are free, but for the one that realloc has: it says so of that one while it makes it larger. */
+static void count_misfits(void)
+{
+    for (int i = 0; i < found_count; i++) {
+        uint64_t head = core_word(found[i].start - 8), size = head & ~(uint64_t)7;
+        int fits = head & 2 || core_word(found[i].start + size - 8) & 1;
+        if (!fits && found[i].start != truth->moving.start) misfits++, tell("misfit", found[i].start);
+    }
+}
 static void compare(void)
 {
     for (int i = 0; i < SLOTS; i++) {
@@ -87,6 +96,7 @@ static void compare(void)
     }
     count_extra();
     if (extra_count > IN_HAND) many++, tell("too many", extra_count);
+    count_misfits();
 }
 /* A block that realloc has is there under its old address or the one that realloc gives in the end: which, is known only then. */
 static int gone; /* moments of this call at which it wasn't at the old one, but something more was there */
@@ -107,6 +117,7 @@ static void without_registers(void)
 static void look(void)
 {
     moments++;
+    most_maps = most_maps > map_count ? most_maps : map_count, least_maps = least_maps < map_count ? least_maps : map_count;
     put_registers(&registers);
     if (run_walk()) {
         refused++, tell_refusal();
@@ -154,7 +165,9 @@ static void open_process(pid_t thread)
     memory = open(name, O_RDONLY);
     snprintf(name, sizeof name, "/proc/%d/pagemap", (int)thread);
     page_map = open(name, O_RDONLY);
-    core_file = open("step.core", O_RDWR | O_CREAT | O_TRUNC, 0600);
+    core_file = memfd_create("core", 0); /* on a disk that is busy each change of its size would wait */
+    said = memfd_create("said", 0);
+    snprintf(core_path, sizeof core_path, "/dev/fd/%d", core_file);
     ptrace(PTRACE_GETREGS, thread, 0, &registers);
     read_maps(thread, registers.rsp);
     begin_core();
@@ -185,7 +198,8 @@ int main(int argc, char **argv)
         if (is_call) read_maps(thread, registers.rsp), begin_core();
         if (truth->inside && !is_repeated && copy_memory() | is_call) look();
     }
-    printf("%ld instructions, %ld moments, %ld of them refused without registers\n", steps, moments, unsaid);
-    printf("refused %ld missing %ld freed %ld lost %ld more %ld\n", refused, missing, over, lost, many);
-    return !moments || refused + missing + over + lost + many;
+    printf("%ld instructions, %ld moments, %ld of them refused without registers; %ld mappings come and go\n", steps, moments, unsaid,
+           most_maps - least_maps);
+    printf("refused %ld missing %ld freed %ld lost %ld more %ld misfits %ld\n", refused, missing, over, lost, many, misfits);
+    return !moments || refused + missing + over + lost + many + misfits;
 }

@@ -69,6 +69,15 @@ static inline void begin_core(void)
     memcpy(core + sizeof head, headers, sizeof *headers * (map_count + 1));
     memcpy(core + NOTE_AT, &note, sizeof note);
 }
+static inline uint64_t core_word(uint64_t address)
+{
+    uint8_t *from = core + MEMORY_AT;
+    uint64_t value = 0;
+    for (int i = 0; i < map_count; from += maps[i++].size)
+        if (address >= maps[i].start && address - maps[i].start <= maps[i].size - sizeof value)
+            memcpy(&value, from + (address - maps[i].start), sizeof value);
+    return value;
+}
 static inline void put_registers(const struct user_regs_struct *registers)
 {
     memcpy(core + NOTE_AT + offsetof(struct note, status.pr_reg), registers, sizeof *registers);

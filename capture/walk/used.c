@@ -3,7 +3,7 @@
 
 #include "walk.h"
 
-enum { CHUNK_HEAD = 8, FLAGS = 7, PIECE = 16, BYTE_OF_PIECES = 8 * PIECE };
+enum { CHUNK_HEAD = 8, PREV_INUSE = 1, FLAGS = 7, PIECE = 16, BYTE_OF_PIECES = 8 * PIECE };
 
 /* The chunks of a region, all well known. */
 struct chain chunks_of(const struct region *region)
@@ -22,20 +22,81 @@ int is_used_in(const struct region *r, uint64_t at)
     return *bits_of(r, at) >> (at - r->start) / PIECE % 8 & 1;
 }
 
-/* Whether a chunk that the next one says is free has its size behind it too. One without may be in the hand of realloc, and counts as in
- * use unless a list has it. */
-static int is_free(struct heap *heap, const struct region *r, const struct chunk *chunk)
+/* Whether a chunk that the next one says is free has its size behind it too, or is in a list. */
+static int is_whole(struct heap *heap, const struct region *r, const struct chunk *chunk)
 {
-    if (chunk->at == r->due.at || is_word(heap->core, chunk->at + chunk->size, chunk->size))
+    return chunk->at == r->due.at || is_word(heap->core, chunk->at + chunk->size, chunk->size) || is_listed(heap->core, chunk->at);
+}
+
+/* Whether a thread has it in hand: the next chunk's size word says that it is free, or is yet to be written, and nothing else says so. */
+static int is_unsettled(struct heap *heap, const struct region *r, const struct chunk *chunk)
+{
+    uint64_t next = 0;
+
+    if (chunk->at + chunk->size != r->due.at)
+        return !chunk->is_used && !is_whole(heap, r, chunk);
+    word(heap->core, r->due.at + CHUNK_HEAD, &next);
+    return !(next & PREV_INUSE);
+}
+
+static int has_size(struct heap *heap, uint64_t at, uint64_t size)
+{
+    uint64_t head;
+
+    return word(heap->core, at + CHUNK_HEAD, &head) && (head & ~(uint64_t)FLAGS) == size;
+}
+
+/* Whether a chunk in hand is a block that realloc makes larger or smaller. Inside a larger one is yet the head of the free chunk, or of the
+ * top, that it took. Behind the rest of a smaller one the next chunk says that it is in use. */
+static int is_resized(struct heap *heap, const struct region *r, const struct chunk *chunk)
+{
+    uint64_t end = chunk->at + chunk->size, rest = end == r->due.at ? r->due.size : 0, taken, next, at = chunk->at + PIECE;
+
+    if (rest && word(heap->core, end + rest + CHUNK_HEAD, &next) && next & PREV_INUSE)
         return 1;
-    if (!heap->odd_chunks.count++)
+    if (word(heap->core, end + rest, &taken) && taken > rest && taken - rest < chunk->size && has_size(heap, end + rest - taken, taken))
+        return 1;
+    while (at < end && end == r->top && !has_size(heap, at, r->limit - at))
+        at += PIECE;
+    return at < end && end == r->top;
+}
+
+/* Whether registers show that a thread is at work on the chunk, by where it begins, where it ends or where the free one before it begins.
+ * Where there are more such chunks than threads can have in hand, the heap is damaged. */
+static int is_held(const struct heap *heap, const struct chunk *chunk, uint64_t before)
+{
+    const struct core *core = heap->core;
+    uint64_t end = chunk->at + chunk->size;
+
+    return heap->odd_chunks.count <= 2 * core->thread_count
+        && (has_in_hand(core, chunk->at, chunk->at) || has_in_hand(core, end, end) || has_in_hand(core, before, before));
+}
+
+/* Sorts out a chunk that is unsettled: a block, if realloc has it or no thread; else it is known as one in hand. Gives whether it is a
+ * block. */
+static int settle(struct heap *heap, const struct region *r, const struct chunk *chunk)
+{
+    uint64_t size = 0;
+
+    if (!chunk->is_used && !heap->odd_chunks.count++)
         heap->odd_chunks.first = chunk->at;
-    return is_listed(heap->core, chunk->at);
+    word(heap->core, chunk->at, &size);
+    if (is_resized(heap, r, chunk) || !is_held(heap, chunk, chunk->at - size))
+        return 1;
+    heap->in_hand = grown(heap->in_hand, heap->in_hand_count, sizeof *heap->in_hand);
+    heap->in_hand[heap->in_hand_count++] = chunk->at;
+    return 0;
+}
+
+/* Whether the chunk was found to be in hand. */
+int is_in_hand(const struct heap *heap, uint64_t at)
+{
+    return heap->in_hand_count && bsearch(&at, heap->in_hand, heap->in_hand_count, sizeof at, by_start);
 }
 
 static void note(struct heap *heap, struct region *r, const struct chunk *chunk)
 {
-    if (chunk->is_used || !is_free(heap, r, chunk)) {
+    if (is_unsettled(heap, r, chunk) ? settle(heap, r, chunk) : chunk->is_used) {
         *bits_of(r, chunk->at) |= 1 << (chunk->at - r->start) / PIECE % 8;
         if (may_be_cache(chunk->size)) {
             heap->maybe_caches = grown(heap->maybe_caches, heap->maybe_cache_count, sizeof *heap->maybe_caches);

@@ -3,7 +3,7 @@
 
 enum { TO_BLOCK = 16, LAST_WORD = 8, FENCE = 16 };
 
-/* A block goes on into the next chunk's first word; so does what is free. */
+/* A block goes on into the next chunk's first word; so does what is free. What a thread has in hand is told as neither. */
 static void visit_chunks(struct heap *heap, const struct region *r, struct visitor *v)
 {
     struct chain chain = chunks_of(r);
@@ -13,7 +13,7 @@ static void visit_chunks(struct heap *heap, const struct region *r, struct visit
         uint64_t start = chunk.at + TO_BLOCK, end = chunk.at + chunk.size + LAST_WORD;
         if (chunk.size > FENCE && is_used_in(r, chunk.at))
             v->block(v, start, end - start);
-        else if (chunk.size > FENCE)
+        else if (chunk.size > FENCE && !is_in_hand(heap, chunk.at))
             v->unused(v, start, end);
     }
 }

@@ -102,6 +102,8 @@ struct heap {
     size_t mapping_count;
     struct chunk *maybe_caches; /* chunks in use with the size of a thread's cache */
     size_t maybe_cache_count;
+    uint64_t *in_hand;          /* chunks that a thread is at work on, ascending: neither blocks nor free */
+    size_t in_hand_count;
     uint64_t steps_left;        /* more than a right heap needs; a damaged one may lead in circles */
     uint64_t dumped_left;       /* bytes of writable memory that no region has yet */
     uint64_t left_out;          /* bytes of no known chunk */
@@ -196,6 +198,7 @@ void find_thread_heaps(struct heap *heap);
 void find_used(struct heap *heap);
 struct chain chunks_of(const struct region *region);
 int is_used_in(const struct region *region, uint64_t at);
+int is_in_hand(const struct heap *heap, uint64_t at);
 int begins_region(const struct heap *heap, uint64_t at);
 int is_used(struct heap *heap, uint64_t at);
 void set_used(struct heap *heap, uint64_t at, int used);

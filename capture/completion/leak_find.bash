@@ -1,0 +1,94 @@
+# Completion for bash of leak_find and the commands around it. `make install` puts it where bash-completion looks for each of them.
+
+# The options of a command, or of a subcommand of leak_find.
+_leak_options() {
+    local skips='--skip-freed --skip-links --skip-slack --skip-ends --all-memory --displace'
+    local search="$skips --other-heap --strict --workers --piece --stack"
+    case $1 in
+    leak_find | help) echo '-h --help' ;;
+    one | two) echo "$search --check -h --help" ;;
+    holders) echo "$search -h --help" ;;
+    why) echo "$skips -h --help" ;;
+    grow) echo '--strict -h --help' ;;
+    leak_trace) echo '-o -d -w --list --remove' ;;
+    leak_dump) echo '--after --core --size' ;;
+    leak_log) echo '--after' ;;
+    leak_walk) echo '--partial --quiet --after' ;;
+    leak_report) echo '--keep --after --list -n' ;;
+    leak_lines) echo '-n --suppress --exit-code --folded --json --html --since --no-lines' ;;
+    esac
+}
+
+# What the value of an option is, or nothing where it has none.
+_leak_value() {
+    case "$1 $2" in
+    *' --workers' | *' --piece' | *' --stack' | *' --displace' | leak_*' -n' | 'leak_trace -d') echo number ;;
+    'leak_report --keep' | 'leak_report --after') echo folder ;;
+    'leak_dump --size') echo process ;;
+    *' --after' | *' --core' | *' --suppress' | *' --since' | *' --html' | *' -o') echo file ;;
+    esac
+}
+
+# What the operand at a place is, counted from 0.
+_leak_operand() {
+    case "$1 $2" in
+    'leak_find 0' | 'help 0') echo subcommand ;;
+    'leak_trace 0') echo program ;;
+    'leak_dump 0' | 'leak_report 0') echo process ;;
+    'why 2') echo address ;;
+    *) echo file ;;
+    esac
+}
+
+# The processes of this user.
+_leak_processes() {
+    local folder
+    for folder in /proc/[0-9]*; do
+        [ -O "$folder" ] && echo "${folder#/proc/}"
+    done
+}
+
+# _leak_offer KIND WORD: the words of this kind that begin so.
+_leak_offer() {
+    case $1 in
+    subcommand) compgen -W 'one two why holders grow help' -- "$2" ;;
+    program) compgen -c -- "$2"; compgen -f -- "$2" ;;
+    process) compgen -W "$(_leak_processes)" -- "$2"; compgen -f -- "$2" ;;
+    folder) compgen -d -- "$2" ;;
+    file) compgen -f -- "$2" ;;
+    esac
+}
+
+# Goes through the words before the one that is asked for: sets the command that rules, and the operands and value that are before it.
+_leak_walk_words() {
+    local i
+    for ((i = 1; i < COMP_CWORD; i++)); do
+        local each=${COMP_WORDS[i]}
+        if [ "$each" = '=' ]; then
+            continue
+        elif [ "$value" ]; then
+            value=
+        elif [[ $each == -?* ]]; then
+            value=$(_leak_value "$command" "$each")
+        elif [ "$command" = leak_find ]; then
+            command=$each
+        else
+            operands=$((operands + 1))
+        fi
+    done
+}
+
+_leak_complete() {
+    local command=${COMP_WORDS[0]##*/} word=${COMP_WORDS[COMP_CWORD]} operands=0 value=
+    _leak_walk_words
+    [ "$word" != '=' ] || word=
+    local kind=${value:-$(_leak_operand "$command" "$operands")}
+    if [[ ! $value && $word == -* && ($command != leak_trace || $operands == 0) ]]; then
+        mapfile -t COMPREPLY < <(compgen -W "$(_leak_options "$command")" -- "$word")
+        return
+    fi
+    [ "$kind" = subcommand ] || compopt -o filenames 2> /dev/null # fails where no completion goes on, as in tests
+    mapfile -t COMPREPLY < <(_leak_offer "$kind" "$word")
+}
+
+complete -F _leak_complete leak_find leak_trace leak_dump leak_log leak_walk leak_report leak_lines

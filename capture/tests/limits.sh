@@ -1,0 +1,41 @@
+# A program that limits its own memory must run as it does untraced. Where its table can't grow any more it lives on, and the
+# log says how many blocks are missing.
+section a limit of memory that the program sets
+build limited.c
+for options in '' '-d 8'; do
+    start ./limited > limited.out
+    look limited.c
+    verdict 'it runs as untraced' 'status 0' "$(cat limited.out)"
+done
+options=
+start ./limited full > limited.out
+verdict 'where the table cannot grow it runs on' 'status 0' "$(cat limited.out)"
+limited 120 "$kit/leak_dump" $process "$work/full" 2> said
+verdict 'it is said' 1 "$(grep -c 'blocks found no place in the table (Cannot allocate memory)' said)"
+search full
+verdict 'the log has the blocks but those' all \
+    "$(awk 'NR == FNR { if (/^= leak_log missed /) missed = $4; next } $1 == "blocks" { print (missed > 0 && $2 < 800000 && missed + $2 >= 800000) ? "all" : missed " and " $2 }' full.log full.report)"
+verdict 'the log is taken' 'unknown 0 displaced 0 torn 0' "$(grep ^unknown full.report)"
+limited 120 "$kit/leak_dump" --after "$work/full" $process "$work/full2" 2> said
+verdict 'a second log after such a one' 'unknown 0 displaced 0 torn 0' \
+    "$(find_leaks two full.core full.log full2.core full2.log | grep ^unknown)"
+stop $process
+rm -f full.core full2.core
+
+# With few first cells in its directories the library soon needs the further ones, which else are for heaps above 2 GiB.
+section a heap of many regions
+mkdir -p few && cp "$kit/leak_trace" few
+gcc -std=gnu11 -O2 -g -DFEW_CELLS -fPIC -fvisibility=hidden -ftls-model=initial-exec -shared -static-libgcc -Wl,-z,initfirst \
+    -o few/leak_trace.so "$kit"/library/*.c -lgcc_eh
+build exchange.c
+verdict exchange 'wrong 0 others few missed 0' "$(limited 120 few/leak_trace ./exchange "$work/table" 2> /dev/null)"
+build threads.c
+(cd "$work" && exec few/leak_trace -d 2 ./threads) & process=$!
+started[$process]=1
+sleep 1
+verdict 'the further cells are there' '8192 kB' "$(awk '$1 == "Size:" && $2 == 8192 { print $2, $3; exit }' "/proc/$process/smaps")"
+dump $process "$work/threads" && search threads
+verdict 'wrongly named' '' "$(named threads.report | tr ' ' '\n' | grep -vxE '45|61|77|93|109|125|' | tr '\n' ' ')"
+verdict 'of 600 lost blocks are named' 'most' "$([ "$(grep -c '^leak ' threads.report)" -gt 500 ] && echo most)"
+stop $process
+rm -f threads.core

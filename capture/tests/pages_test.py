@@ -1,0 +1,44 @@
+"""Man pages: each has the options that its program has, and no other."""
+import os
+import re
+import unittest
+
+import options_of
+
+
+class Pages(unittest.TestCase):
+    """The pages of all commands."""
+
+    def test_each_command_has_a_page(self):
+        pages = {name.removesuffix(".1") for name in os.listdir(os.path.join(options_of.KIT, "man"))}
+        self.assertEqual(pages, set(options_of.SOURCES) | {"leak_find"})
+
+    def test_a_page_has_the_options_of_its_program(self):
+        for name in options_of.SOURCES:
+            with self.subTest(name):
+                self.assertEqual(options_of.of_page(name), options_of.of_program(name))
+
+    def test_the_page_of_leak_find_has_the_options_of_its_help(self):
+        helps = [options_of.of_help(name)[0] for name in options_of.SUBCOMMANDS]
+        self.assertEqual(options_of.of_page("leak_find"), set().union(*helps))
+
+    def test_the_page_of_leak_find_has_the_subcommands_of_its_help(self):
+        with open(os.path.join(options_of.HELP, "program.txt"), encoding="utf-8") as file:
+            helped = re.findall(r"^  ([a-z]+)  ", file.read(), re.MULTILINE)
+        text = options_of.text_of("man", "leak_find.1")
+        self.assertEqual(re.findall(r"^\.B leak_find ([a-z]+)$", text, re.MULTILINE), helped)
+        part = text.split(".SH SUBCOMMANDS")[1].split(".SH ")[0]
+        self.assertEqual(re.findall(r"^\.TP\n\\fB([a-z]+)\\fR$", part, re.MULTILINE), helped)
+
+    def test_the_options_that_only_some_subcommands_take(self):
+        text = options_of.text_of("man", "leak_find.1")
+        listed = re.findall(r"^\.TP\n\\fB(--[a-z-]+)", text, re.MULTILINE)
+        taken = {name: options_of.of_help(name)[0] - {"-h", "--help"} for name in options_of.SUBCOMMANDS}
+        self.assertEqual(taken["one"], set(listed))
+        self.assertEqual(taken["two"], set(listed))
+        self.assertEqual(taken["holders"], set(listed) - {"--check"})
+        self.assertEqual(taken["why"], set(listed[:listed.index("--displace") + 1]))
+        self.assertEqual(taken["grow"], {"--strict"})
+
+
+unittest.main()
