@@ -7,10 +7,10 @@ _leak_options() {
     case $1 in
     leak_find | help) echo '-h --help' ;;
     one | two) echo "$search --check -h --help" ;;
-    holders) echo "$search -h --help" ;;
+    holders) echo "$search --in --of --block --since -h --help" ;;
     why) echo "$skips -h --help" ;;
     grow) echo '--strict -h --help' ;;
-    leak_trace) echo '-o -d -w --list --remove' ;;
+    leak_trace) echo '-o -d -m -w -k -e --list --remove' ;;
     leak_dump) echo '--after --core --size' ;;
     leak_log) echo '--after' ;;
     leak_walk) echo '--partial --quiet --after' ;;
@@ -22,7 +22,8 @@ _leak_options() {
 # What the value of an option is, or nothing where it has none.
 _leak_value() {
     case "$1 $2" in
-    *' --workers' | *' --piece' | *' --stack' | *' --displace' | leak_*' -n' | 'leak_trace -d') echo number ;;
+    *' --workers' | *' --piece' | *' --stack' | *' --displace' | leak_*' -n' | 'leak_trace -d' | 'leak_trace -m') echo number ;;
+    *' --in' | *' --of') echo address ;;
     'leak_report --keep' | 'leak_report --after') echo folder ;;
     'leak_dump --size') echo process ;;
     *' --after' | *' --core' | *' --suppress' | *' --since' | *' --html' | *' -o') echo file ;;

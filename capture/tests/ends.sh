@@ -42,7 +42,7 @@ verdict 'at the limit: the program runs, and it is said' 'hello 1' "$(cat hello.
 verdict 'no table is made' 1 "$(left)"
 "$kit/leak_trace" --remove > /dev/null
 options='-m 1'
-start ./ends rests 1
+start ./ends rests 1 2> said
 options=
 until_true 20 pgrep -P $process > child
 started[$(cat child)]=1

@@ -34,8 +34,8 @@ class Pages(unittest.TestCase):
         text = options_of.text_of("man", "leak_find.1")
         listed = re.findall(r"^\.TP\n\\fB(--[a-z-]+)", text, re.MULTILINE)
         taken = {name: options_of.of_help(name)[0] - {"-h", "--help"} for name in options_of.SUBCOMMANDS}
-        self.assertEqual(taken["one"], set(listed))
-        self.assertEqual(taken["two"], set(listed))
+        self.assertEqual(taken["one"], set(listed[:-4]))
+        self.assertEqual(taken["two"], set(listed[:-4]))
         self.assertEqual(taken["holders"], set(listed) - {"--check"})
         self.assertEqual(taken["why"], set(listed[:listed.index("--displace") + 1]))
         self.assertEqual(taken["grow"], {"--strict"})
