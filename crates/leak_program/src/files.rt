@@ -63,10 +63,7 @@ pub(crate) fn opened<R: Files + AllocGlobal>(
 }
 
 /// The file with the path.
-pub(crate) fn opened_one<R: Files + AllocGlobal>(
-    rt: &R,
-    path: &String,
-) -> Result<R::File, Failure>
+pub(crate) fn opened_one<R: Files + AllocGlobal>(rt: &R, path: &String) -> Result<R::File, Failure>
     ensures { IfErr result (IsOpenFault (string_bytes path.now ∷ [])) }
 {
     match fs::open(rt, path) {
