@@ -6,17 +6,19 @@ use native.Mathlib.Decide.{ℕ_discrete}
 use Rattle.std.specs.Io.KnownBytes.{Appends}
 use Rattle.std.specs.Result.{OnOk}
 use Rattle.std.proofs.Math.Seq.{take-length}
-use Rattle.leak_report.specs.declared.output.WriteFault.{WriteFault}
+use Rattle.leak_streams.specs.declared.fault.WriteFault.{WriteFault}
+use Rattle.leak_streams.specs.Writes.{IsWrittenWhole, IsCutOff}
+use Rattle.leak_streams.proofs.Appended.{cut_off_appends, tells, whole_appends}
 use Rattle.leak_index.specs.Readings.{distances_of}
 use Rattle.leak_input.specs.declared.error.FindError.{FindError}
 use Rattle.leak_input.specs.declared.error.FindError.TheVariants.{NoMemory}
-use Rattle.leak_readers.specs.declared.fault.ReadFault.{ReadFault}
+use Rattle.leak_streams.specs.declared.fault.ReadFault.{ReadFault}
 use Rattle.leak_find.specs.declared.fault.RunFault.{RunFault}
 use Rattle.leak_find.specs.declared.fault.RunFault.TheVariants.{Read, Find, NoBlock, Write}
 use Rattle.leak_input.specs.declared.found.Found.{Found}
 use Rattle.leak_request.specs.declared.options.Options.{Options}
 use Rattle.leak_input.specs.Inputs.{IsFaultOfOne, IsFaultOfTwo}
-use Rattle.leak_readers.specs.Reading.{IsWholeInput, IsStopped}
+use Rattle.leak_streams.specs.Reading.{IsWholeInput, IsStopped}
 use Rattle.leak_request.specs.Requests.{file_count}
 use Rattle.leak_find.specs.Run.{left_in, input_at, limit_at, AreWithin, IsReadFaultWithin, Finds, IsFaultOf, HasFound, IsReaderFault, IsFindFault, IsSearchFault}
 use Rattle.leak_search.specs.Holding.{IsWhyFault, TellsWhy}
@@ -218,6 +220,17 @@ module _ (o : Options) (before after : List (Option (List ℕ))) (core1 log1 cor
   }
 
 -- ---- the warnings
+
+-- a writing by its calls, where the writer tells its bytes
+pub written_ok : {W : Type 0} (contents : W → Option (List ℕ)) (text : List ℕ) (first last : W) (result : Result (Unit {0}) WriteFault)
+    → OnOk result (IsWrittenWhole (tells contents) text first last) → OnOk result (Appends (contents first) (contents last) text)
+written_ok contents text first last (Ok _) whole = whole_appends contents text first last whole
+written_ok contents text first last (Err f) whole = tt
+
+pub written_fault : {W : Type 0} (contents : W → Option (List ℕ)) (text : List ℕ) (first last : W) (result : Result (Unit {0}) WriteFault)
+    → IfErr result (IsCutOff (tells contents) text first last) → IfErr result (λ f. Appends (contents first) (contents last) (take f.written text))
+written_fault contents text first last (Ok _) cut = tt
+written_fault contents text first last (Err f) cut = cut_off_appends contents text first last f cut
 
 -- a writer that was given a text has it, or a first part of it
 pub first_part : (result : Result (Unit {0}) WriteFault) (heard hears : Option (List ℕ)) (text : List ℕ) → OnOk result (Appends heard hears text)

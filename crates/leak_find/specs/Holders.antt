@@ -4,7 +4,7 @@ use Rattle.std.specs.Prelude.{◌≡◌, ◌≢◌, ℕ, ◌<◌, ◌==◌, List
 use Rattle.std.specs.Io.KnownBytes.{Appends, Keeps}
 use Rattle.leak_index.specs.Readings.{distances_of}
 use Rattle.leak_holders.specs.declared.question.Question.{Question}
-use Rattle.leak_report.specs.declared.output.WriteFault.{WriteFault}
+use Rattle.leak_streams.specs.declared.fault.WriteFault.{WriteFault}
 use Rattle.leak_request.specs.declared.options.Options.{Options}
 use Rattle.leak_input.specs.Signs.{AreSigns}
 use Rattle.leak_input.specs.declared.error.FindError.TheVariants.{NoMemory}

@@ -2,16 +2,16 @@
 use Rattle.std.specs.Prelude.{◌≡◌, ◌≢◌, ℕ, ◌+◌, ◌<◌, ◌≤◌, ◌%◌, ◌==◌, Bool, true, false, ◌&&◌, List, [], length, map, Option, None, slice_index_or, take, nat_lt, if◌then◌else◌}
 use Rattle.std.specs.Io.KnownBytes.{Appends, Keeps}
 use Rattle.leak_index.specs.Readings.{distances_of}
-use Rattle.leak_report.specs.declared.output.WriteFault.{WriteFault}
+use Rattle.leak_streams.specs.declared.fault.WriteFault.{WriteFault}
 use Rattle.leak_input.specs.declared.error.FindError.{FindError}
 use Rattle.leak_input.specs.declared.error.FindError.TheVariants.{NoMemory}
 use Rattle.leak_input.specs.declared.found.Found.{Found}
-use Rattle.leak_readers.specs.declared.fault.ReadFault.{ReadFault}
+use Rattle.leak_streams.specs.declared.fault.ReadFault.{ReadFault}
 use Rattle.leak_find.specs.declared.fault.RunFault.{RunFault}
 use Rattle.leak_find.specs.declared.fault.RunFault.TheVariants.{Read, Find, NoBlock, Write}
 use Rattle.leak_request.specs.declared.options.Options.{Options}
 use Rattle.leak_input.specs.Inputs.{IsFaultOfOne, IsFaultOfTwo}
-use Rattle.leak_readers.specs.Reading.{IsWholeInput, IsStopped}
+use Rattle.leak_streams.specs.Reading.{IsWholeInput, IsStopped}
 use Rattle.leak_request.specs.Requests.{file_count}
 use Rattle.leak_search.specs.Search.{FindsOne}
 use Rattle.leak_search.specs.SearchTwo.{FindsTwo}

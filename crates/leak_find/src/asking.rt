@@ -5,9 +5,9 @@ ghost use Rattle.leak_find.specs.Why.{HasTold, IsAskFault, IsWhyRunFault, RunsWh
 
 use crate::fault::RunFault;
 use crate::running::read_reader;
-use leak_report::write;
 use leak_request::Options;
 use leak_search::{Why, WhyError, find_why};
+use leak_streams::write;
 use std::alloc::Global;
 use std::io::{Read, Write};
 

@@ -7,9 +7,10 @@ ghost use Rattle.leak_find.specs.Grow.{HasGrown, IsGrowFault, IsGrowRunFault, Ru
 use crate::fault::RunFault;
 use crate::running::{read_reader, status_of};
 use leak_growth::{Grown, find_growth};
-use leak_report::{warnings, write};
+use leak_report::warnings;
 use leak_request::GrowOptions;
 use leak_search::FindError;
+use leak_streams::write;
 use std::alloc::Global;
 use std::io::{Read, Write};
 

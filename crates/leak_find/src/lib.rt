@@ -8,7 +8,7 @@
 //! [`find_alone`] searches one core on the caller's thread, [`find_one`] by worker threads, under the same promise, and
 //! [`find_two`] searches a later core from what an earlier one says. [`find_why`] tells why a block is held. These stand
 //! in `leak_search`, where it is also said what a leak, a root and a chain are. [`run`] and [`run_why`] do
-//! the same from readers to writers: how inputs are read is said in `leak_readers`, and what a run comes to in
+//! the same from readers to writers: how inputs are read is said in `leak_streams`, and what a run comes to in
 //! `specs/Run.antt` and `specs/Why.antt`. [`run_sized`] and [`run_why_sized`] are told how many bytes the readers have, and so are
 //! [`run_holders_sized`], which tells who holds the memory or what some blocks hold (`specs/Holders.antt`), and [`run_grow_sized`], which tells what grew
 //! between two logs (`specs/Grow.antt`).
@@ -44,8 +44,7 @@ pub use leak_holders::{Question, Side};
 pub use leak_holding::{Files, Holding, find_held, find_holders};
 pub use leak_index::{Reading, ReadingError};
 pub use leak_pool::{Gate, Open, Plan, PlanError};
-pub use leak_readers::{ReadFault, read_all};
-pub use leak_report::{Signs, WriteFault, warnings, write};
+pub use leak_report::{Signs, warnings};
 pub use leak_request::{
     CORE_LIMIT, DisplaceFault, GrowOptions, GrowRequest, HoldersRequest, LOG_LIMIT, Options,
     Request, SearchRequest, UsageFault, WhyRequest, read_displace, request,
@@ -54,4 +53,5 @@ pub use leak_roots::Skip;
 pub use leak_search::{
     FindError, Found, Why, WhyError, find_alone, find_one, find_two, find_why, leaked_stay_leaked,
 };
+pub use leak_streams::{ReadCalls, ReadFault, WriteCalls, WriteFault, read_all, write};
 pub use running::{run, run_sized};

@@ -1,17 +1,17 @@
 //! A whole run: the inputs are read, the search is made, the report is written.
 
 ghost use Rattle.std.specs.Prelude.{◌≡◌, ◌≢◌, ◌<◌, ◌≤◌, ◌+◌, ◌^◌, ℕ, length, map, IfOk, IfErr, IsTrue, IsFalse, true, false, take, string_bytes};
-ghost use Rattle.leak_readers.specs.Reading.{IsWholeInput};
+ghost use Rattle.leak_streams.specs.Reading.{IsWholeInput};
 ghost use Rattle.leak_request.specs.Requests.{file_count};
 ghost use Rattle.std.specs.Io.KnownBytes.{Appends, Keeps};
 ghost use Rattle.leak_find.specs.Run.{signs_that_count, status_by, warnings_by, left_in, IsReaderFault, HasFound, IsSearchFault, Runs, IsRunFault};
 
 use crate::fault::RunFault;
 use leak_pool::Open;
-use leak_readers::read_sized;
-use leak_report::{Signs, warnings, write};
+use leak_report::{Signs, warnings};
 use leak_request::Options;
 use leak_search::{FindError, Found, find_one, find_two};
+use leak_streams::{read_sized, write};
 use std::alloc::{AllocError, Global};
 use std::io::{Read, Write};
 use std::thread::Threads;
