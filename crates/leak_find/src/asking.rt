@@ -1,18 +1,19 @@
 //! Why a block is held, from readers to a writer.
 
 ghost use Rattle.std.specs.Prelude.{◌≡◌, IfOk, IfErr, false, length, map};
+ghost use Rattle.leak_find.specs.Streams.{by_bytes_held, by_bytes_left, by_reads, by_writes};
 ghost use Rattle.leak_find.specs.Why.{HasTold, IsAskFault, IsWhyRunFault, RunsWhy, at_asking, status_by_held};
 
 use crate::fault::RunFault;
 use crate::running::read_reader;
 use leak_request::Options;
 use leak_search::{Why, WhyError, find_why};
-use leak_streams::write;
+use leak_streams::{ReadCalls, WriteCalls, write};
 use std::alloc::Global;
 use std::io::{Read, Write};
 
 /// Reads a core and its log, and asks what holds the live block of the address.
-fn ask<R: Read>(
+fn ask<R: ReadCalls>(
     alloc: Global,
     readers: &mut [R],
     sizes: &[u64],
@@ -21,10 +22,10 @@ fn ask<R: Read>(
 ) -> Result<Why, RunFault>
     requires one { options.now.two ≡ false }
     requires readers { length readers.old ≡ 2 }
-    ensures ok { IfOk result (HasTold options.now address
-        (map R.remaining readers.old) (map R.remaining readers.new)) }
-    ensures refused { IfErr result (IsAskFault options.now address
-        (map R.remaining readers.old) (map R.remaining readers.new)) }
+    ensures ok { IfOk result
+        (HasTold (by_reads R.calls) options.now address readers.old readers.new) }
+    ensures refused { IfErr result
+        (IsAskFault (by_reads R.calls) options.now address readers.old readers.new) }
 {
     let core = read_reader(alloc, readers, sizes, 0, options.core_limit)?;
     let log = read_reader(alloc, readers, sizes, 1, options.log_limit)?;
@@ -48,7 +49,7 @@ pub(crate) fn at_asking(error: WhyError) -> RunFault
 /// held, and 1 where it leaked.
 ///
 /// Both inputs are read in order before the block is looked for, and the answer is made before anything is written. After
-/// a refusal the readers stand where the reads left them.
+/// a refusal the readers are where the reads left them.
 pub fn run_why<R: Read, W: Write>(
     alloc: Global,
     readers: &mut [R],
@@ -58,18 +59,19 @@ pub fn run_why<R: Read, W: Write>(
 ) -> Result<u8, RunFault>
     requires one { options.now.two ≡ false }
     requires readers { length readers.old ≡ 2 }
-    ensures ok { IfOk result (RunsWhy options.now address
+    ensures ok { IfOk result (RunsWhy by_bytes_left by_bytes_held options.now address
         (map R.remaining readers.old) (map R.remaining readers.new)
         (W.contents writer.old) (W.contents writer.new)) }
-    ensures refused { IfErr result (IsWhyRunFault options.now address
+    ensures refused { IfErr result (IsWhyRunFault by_bytes_left by_bytes_held options.now address
         (map R.remaining readers.old) (map R.remaining readers.new)
         (W.contents writer.old) (W.contents writer.new)) }
 {
     run_why_sized(alloc, readers, &[], options, address, writer)
 }
 
-/// Runs as [`run_why`] does, with readers that are said to have so many bytes, as those of [`run_sized`] are.
-pub fn run_why_sized<R: Read, W: Write>(
+/// Runs as [`run_why`] does, with readers that are said to have so many bytes, as those of [`run_sized`](crate::run_sized)
+/// are, and promises of readers and writer by each of their calls.
+pub fn run_why_sized<R: ReadCalls, W: WriteCalls>(
     alloc: Global,
     readers: &mut [R],
     sizes: &[u64],
@@ -79,12 +81,10 @@ pub fn run_why_sized<R: Read, W: Write>(
 ) -> Result<u8, RunFault>
     requires one { options.now.two ≡ false }
     requires readers { length readers.old ≡ 2 }
-    ensures ok { IfOk result (RunsWhy options.now address
-        (map R.remaining readers.old) (map R.remaining readers.new)
-        (W.contents writer.old) (W.contents writer.new)) }
-    ensures refused { IfErr result (IsWhyRunFault options.now address
-        (map R.remaining readers.old) (map R.remaining readers.new)
-        (W.contents writer.old) (W.contents writer.new)) }
+    ensures ok { IfOk result (RunsWhy (by_reads R.calls) (by_writes W.calls)
+        options.now address readers.old readers.new writer.old writer.new) }
+    ensures refused { IfErr result (IsWhyRunFault (by_reads R.calls) (by_writes W.calls)
+        options.now address readers.old readers.new writer.old writer.new) }
 {
     let why = ask(alloc, readers, sizes, options, address)?;
     if let Err(fault) = write(&why.text, writer) {

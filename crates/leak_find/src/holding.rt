@@ -1,11 +1,11 @@
 //! Who holds the memory, and what some blocks hold, from readers to writers.
 
-ghost use Rattle.std.specs.Prelude.{◌≡◌, ◌≢◌, ◌⊎◌, [], ◌∷◌, IfOk, IfErr, length, map};
-ghost use Rattle.std.specs.Io.KnownBytes.{Keeps};
+ghost use Rattle.std.specs.Prelude.{◌≡◌, ◌≢◌, ◌⊎◌, [], ◌∷◌, IfOk, IfErr, length};
 ghost use Rattle.leak_input.specs.Signs.{AreSigns};
 ghost use Rattle.leak_input.specs.declared.error.FindError.TheVariants.{NoMemory};
 ghost use Rattle.leak_search.specs.declared.holding.WhyError.TheVariants.{Find as Refused};
 ghost use Rattle.leak_holding.specs.Since.{earlier};
+ghost use Rattle.leak_find.specs.Streams.{by_reads, by_writes};
 ghost use Rattle.leak_find.specs.Holders.{AreAllInputs, HasHeld, IsHeldReadFault, IsHoldFault, IsHoldersRunFault, IsNotTold, RunsHolders};
 ghost use Rattle.leak_find.specs.Holders.{Tells, earlier_in};
 ghost use Rattle.leak_find.specs.HeldInputs.{bytes_in};
@@ -18,9 +18,8 @@ use leak_holding::{Files, Holding, find_held, find_holders};
 use leak_pool::Open;
 use leak_request::Options;
 use leak_search::{FindError, WhyError};
-use leak_streams::write;
+use leak_streams::{ReadCalls, WriteCalls, write};
 use std::alloc::Global;
-use std::io::{Read, Write};
 use std::thread::Threads;
 
 /// What the readers held.
@@ -33,17 +32,17 @@ struct Inputs {
 }
 
 /// Reads a core, its log, and the earlier log, where there is a third reader.
-fn read_inputs<R: Read>(
+fn read_inputs<R: ReadCalls>(
     alloc: Global,
     readers: &mut [R],
     sizes: &[u64],
     options: &Options,
 ) -> Result<Inputs, RunFault>
     requires { (length readers.old ≡ 2) ⊎ (length readers.old ≡ 3) }
-    ensures ok { IfOk result (λ inputs. AreAllInputs options.now
-        (map R.remaining readers.old) (map R.remaining readers.new) (bytes_in inputs)) }
-    ensures refused { IfErr result (IsHeldReadFault options.now
-        (map R.remaining readers.old) (map R.remaining readers.new)) }
+    ensures ok { IfOk result (λ inputs.
+        AreAllInputs (by_reads R.calls) options.now readers.old readers.new (bytes_in inputs)) }
+    ensures refused { IfErr result
+        (IsHeldReadFault (by_reads R.calls) options.now readers.old readers.new) }
 {
     let core = read_reader(alloc, readers, sizes, 0, options.core_limit)?;
     let log = read_reader(alloc, readers, sizes, 1, options.log_limit)?;
@@ -96,7 +95,7 @@ fn tell<T: Threads + Sync>(
 }
 
 /// Reads the files, and tells who holds the memory, or answers the question.
-fn hold<T: Threads + Sync, R: Read>(
+fn hold<T: Threads + Sync, R: ReadCalls>(
     rt: &T,
     alloc: Global,
     readers: &mut [R],
@@ -105,10 +104,10 @@ fn hold<T: Threads + Sync, R: Read>(
     question: Option<Question>,
 ) -> Result<Holding, RunFault>
     requires { (length readers.old ≡ 2) ⊎ (length readers.old ≡ 3) }
-    ensures ok { IfOk result (HasHeld options.now question
-        (map R.remaining readers.old) (map R.remaining readers.new)) }
-    ensures refused { IfErr result (IsHoldFault options.now question
-        (map R.remaining readers.old) (map R.remaining readers.new)) }
+    ensures ok { IfOk result
+        (HasHeld (by_reads R.calls) options.now question readers.old readers.new) }
+    ensures refused { IfErr result
+        (IsHoldFault (by_reads R.calls) options.now question readers.old readers.new) }
 {
     let inputs = read_inputs(alloc, readers, sizes, options)?;
     let files = Files {
@@ -125,10 +124,10 @@ fn hold<T: Threads + Sync, R: Read>(
 /// Reads a core and its log, and an earlier log where there is a third reader. Writes who holds the memory, or the answer to the
 /// question, to the first writer and then the warnings to the second: 0, or 3 where the options are strict and there is a warning.
 ///
-/// The readers are said to have so many bytes, as those of [`run_sized`](crate::run_sized) are. All are read in order before
-/// anything is written. After a refusal the readers stand where the reads left them, and the second writer has nothing. Where the
-/// second writer fails, it has a first part of the warnings, and the status is the same.
-pub fn run_holders_sized<T: Threads + Sync, R: Read, W: Write, V: Write>(
+/// All are read in order before anything is written. After a refusal the readers are where the reads left them, and the second
+/// writer was not written to. Where the second writer fails, it has a first part of the warnings, and the status is the same. The
+/// sizes are those that the readers are said to have, as of [`run_sized`](crate::run_sized).
+pub fn run_holders_sized<T: Threads + Sync, R: ReadCalls, W: WriteCalls, V: WriteCalls>(
     rt: &T,
     alloc: Global,
     readers: &mut [R],
@@ -139,14 +138,11 @@ pub fn run_holders_sized<T: Threads + Sync, R: Read, W: Write, V: Write>(
     warner: &mut V,
 ) -> Result<u8, RunFault>
     requires { (length readers.old ≡ 2) ⊎ (length readers.old ≡ 3) }
-    ensures ok { IfOk result (RunsHolders options.now question
-        (map R.remaining readers.old) (map R.remaining readers.new)
-        (W.contents writer.old) (W.contents writer.new)
-        (V.contents warner.old) (V.contents warner.new)) }
-    ensures refused { IfErr result (IsHoldersRunFault options.now question
-        (map R.remaining readers.old) (map R.remaining readers.new)
-        (W.contents writer.old) (W.contents writer.new)) }
-    ensures silent { IfErr result (λ _. Keeps (V.contents warner.old) (V.contents warner.new)) }
+    ensures ok { IfOk result (RunsHolders (by_reads R.calls) (by_writes W.calls) (by_writes V.calls)
+        options.now question readers.old readers.new writer.old writer.new warner.old warner.new) }
+    ensures refused { IfErr result (IsHoldersRunFault (by_reads R.calls) (by_writes W.calls)
+        options.now question readers.old readers.new writer.old writer.new) }
+    ensures silent { IfErr result (λ _. warner.new ≡ warner.old) }
 {
     let holding = hold(rt, alloc, readers, sizes, options, question)?;
     let Ok(warnings) = warnings_by(alloc, options, holding.signs.as_slice()) else {
