@@ -11,6 +11,7 @@ use Rattle.leak_find.specs.declared.fault.RunFault.{RunFault}
 use Rattle.leak_find.specs.Grow.{IsGrowRunFault, RunsGrow}
 use Rattle.leak_find.specs.Holders.{IsHoldersRunFault, RunsHolders}
 use Rattle.leak_find.specs.Run.{IsRunFault, Runs}
+use Rattle.leak_find.specs.Streams.{by_bytes_held, by_bytes_left}
 use Rattle.leak_find.specs.Why.{IsWhyRunFault, RunsWhy}
 use Rattle.leak_program.specs.declared.failure.Failure.{Failure}
 use Rattle.leak_program.specs.declared.failure.Failure.TheVariants.{Word, Usage, Open, Run, NoMemory}
@@ -21,13 +22,13 @@ pub record SearchesFiles (o : Options) (held holds heard hears : Option (List �
     (status : ℕ) : Type 0 where
   pub before : List (Option (List ℕ))
   pub after : List (Option (List ℕ))
-  pub runs : Runs o before after held holds heard hears status
+  pub runs : Runs by_bytes_left by_bytes_held by_bytes_held o before after held holds heard hears status
 
 -- some readers were read by the options, and their run has no status for this reason
 pub record FailsFiles (o : Options) (held holds : Option (List ℕ)) (fault : RunFault) : Type 0 where
   pub before : List (Option (List ℕ))
   pub after : List (Option (List ℕ))
-  pub fails : IsRunFault o before after held holds fault
+  pub fails : IsRunFault by_bytes_left by_bytes_held o before after held holds fault
 
 -- some readers were read by the options and asked for the block of the address; the answer was written, and nothing
 -- else; the status is that of the answer
@@ -35,14 +36,14 @@ pub record AsksFiles (o : Options) (address : ℕ) (held holds : Option (List �
     (status : ℕ) : Type 0 where
   pub before : List (Option (List ℕ))
   pub after : List (Option (List ℕ))
-  pub runs : RunsWhy o address before after held holds status
+  pub runs : RunsWhy by_bytes_left by_bytes_held o address before after held holds status
 
 -- some readers were read by the options, and gave no answer for this reason
 pub record FailsAsked (o : Options) (address : ℕ) (held holds : Option (List ℕ))
     (fault : RunFault) : Type 0 where
   pub before : List (Option (List ℕ))
   pub after : List (Option (List ℕ))
-  pub fails : IsWhyRunFault o address before after held holds fault
+  pub fails : IsWhyRunFault by_bytes_left by_bytes_held o address before after held holds fault
 
 -- one of the paths can't be opened, or an allocation failed
 abbrev pub IsOpenFault : List (List ℕ) → Failure → Type 0
@@ -73,14 +74,14 @@ pub record HoldsFiles (r : HoldersRequest) (held holds heard hears : Option (Lis
   pub before : List (Option (List ℕ))
   pub after : List (Option (List ℕ))
   pub count : length before ≡ files_for (option_map string_bytes r.since)
-  pub runs : RunsHolders r.options r.question before after held holds heard hears status
+  pub runs : RunsHolders by_bytes_left by_bytes_held by_bytes_held r.options r.question before after held holds heard hears status
 
 -- so many readers were read by the options, and there is no answer, for this reason
 pub record FailsHeld (r : HoldersRequest) (held holds : Option (List ℕ)) (fault : RunFault) : Type 0 where
   pub before : List (Option (List ℕ))
   pub after : List (Option (List ℕ))
   pub count : length before ≡ files_for (option_map string_bytes r.since)
-  pub fails : IsHoldersRunFault r.options r.question before after held holds fault
+  pub fails : IsHoldersRunFault by_bytes_left by_bytes_held r.options r.question before after held holds fault
 
 -- some logs were read by the options, and what grew between them was written, and nothing else, and the warnings to the second
 -- writer, or a first part of them; the status is that of the warnings
@@ -88,13 +89,13 @@ pub record GrowsFiles (o : GrowOptions) (held holds heard hears : Option (List �
     (status : ℕ) : Type 0 where
   pub before : List (Option (List ℕ))
   pub after : List (Option (List ℕ))
-  pub runs : RunsGrow o before after held holds heard hears status
+  pub runs : RunsGrow by_bytes_left by_bytes_held by_bytes_held o before after held holds heard hears status
 
 -- some logs were read by the options, and it isn't told what grew, for this reason
 pub record FailsGrown (o : GrowOptions) (held holds : Option (List ℕ)) (fault : RunFault) : Type 0 where
   pub before : List (Option (List ℕ))
   pub after : List (Option (List ℕ))
-  pub fails : IsGrowRunFault o before after held holds fault
+  pub fails : IsGrowRunFault by_bytes_left by_bytes_held o before after held holds fault
 
 -- why files give no answer: they can't all be opened, and nothing is written, or their run has no status, as is said
 abbrev pub IsRefusalOf : (RunFault → Type 0) → List (List ℕ) → Option (List ℕ) → Option (List ℕ) → Failure → Type 0

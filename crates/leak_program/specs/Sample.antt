@@ -4,6 +4,7 @@ use Rattle.leak_elf.specs.Sample.{sample_with}
 use Rattle.leak_index.specs.Readings.{distances_of}
 use Rattle.leak_request.specs.declared.options.Options.{Options}
 use Rattle.leak_find.specs.Run.{Runs}
+use Rattle.leak_find.specs.Streams.{by_bytes_held, by_bytes_left}
 
 -- the log of one allocation of 32 bytes
 abbrev pub sample_log : List ℕ
@@ -22,4 +23,4 @@ pub record SearchesSample (held holds heard hears : Option (List ℕ)) (status :
   pub usual : options.skip ≡ record { freed = false; slack = false; links = false; unwritable = true }
   pub no_heap : options.other_heap ≡ true
   pub after : List (Option (List ℕ))
-  pub runs : Runs options sample_inputs after held holds heard hears status
+  pub runs : Runs by_bytes_left by_bytes_held by_bytes_held options sample_inputs after held holds heard hears status
