@@ -1,0 +1,22 @@
+use Rattle.std.proofs.Common.{subst, sym}
+use Rattle.std.specs.Io.KnownBytes.{Keeps}
+use Rattle.leak_find.proofs.TellLemmas.{runs_tell}
+use Rattle.leak_program.proofs.Refusals.{kept}
+use Rattle.leak_program.proofs.files.search_files.Goals as goal
+
+pub returns-in-Ok-clause-ok : goal.returns-in-Ok-clause-ok
+returns-in-Ok-clause-ok g c = record {
+  before = _;
+  after = _;
+  runs = (runs_tell _ g.W.Write.contents g.V.Write.contents).runs _ _ _ _ _ _ _ _ c.in-Ok.ensures.ok;
+}
+
+pub returns-clause-refused : goal.returns-clause-refused
+returns-clause-refused g c = record {
+  before = _;
+  after = _;
+  fails = (runs_tell _ g.W.Write.contents g.V.Write.contents).refused _ _ _ _ _ _ c.in-Err.ensures.refused;
+}
+
+pub returns-clause-silent : goal.returns-clause-silent
+returns-clause-silent g c = subst (λ w. Keeps (g.V.Write.contents c.args.warner.now) (g.V.Write.contents w)) (sym c.in-Err.ensures.silent) (kept _)
