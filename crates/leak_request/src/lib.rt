@@ -17,6 +17,7 @@ mod asking;
 mod command_line;
 mod displacements;
 mod fault;
+mod found;
 mod options;
 
 pub use arguments::request;

@@ -3,7 +3,7 @@ use Rattle.std.specs.Str.Parse.{ExplainsUnsignedError, HasUnsignedDigitsIfOk, Pa
 use Rattle.clap.specs.Words.{found_of}
 use Rattle.clap.proofs.WalkLemmas.{one_text-rows}
 use Rattle.leak_request.proofs.Values.{no_number_read, number_read}
-use Rattle.leak_request.proofs.arguments.number.Goals as goal
+use Rattle.leak_request.proofs.found.number.Goals as goal
 
 pub returns-clause-some : goal.returns-clause-some
 returns-clause-some c =

@@ -1,7 +1,7 @@
 use Rattle.std.proofs.Common.{◌∙◌, arith}
 use Rattle.leak_request.proofs.Values.{bad_by, path_lacks, values_of}
 use Rattle.clap.specs.Words.{found_of, rows_of}
-use Rattle.leak_request.proofs.arguments.paths.Goals as goal
+use Rattle.leak_request.proofs.found.paths.Goals as goal
 
 pub returns-in_default-clause-refused : goal.returns-in_default-clause-refused
 returns-in_default-clause-refused c =
