@@ -21,5 +21,7 @@ pub record SearchesSample (held holds heard hears : Option (List ℕ)) (status :
   pub interior : distances_of options.reading ≡ record { listed = None; skips_ends = false }
   pub usual : options.skip ≡ record { freed = false; slack = false; links = false; unwritable = true }
   pub no_heap : options.other_heap ≡ true
+  pub unchecked : options.check ≡ false
+  pub lenient : options.strict ≡ false
   pub after : List (Option (List ℕ))
   pub runs : Runs options sample_inputs after held holds heard hears status

@@ -1,35 +1,40 @@
 //! The question what grew between two logs, asked of files.
 
-ghost use Rattle.std.specs.Prelude.{◌≡◌, IfOk, IfErr, length};
+ghost use Rattle.std.specs.Prelude.{◌≡◌, IfOk, IfErr, length, map, string_bytes};
 ghost use Rattle.std.specs.Io.KnownBytes.{Keeps};
-ghost use Rattle.leak_program.specs.Files.{GrowsFiles, IsGrowFailure};
+ghost use Rattle.leak_program.specs.Files.{FailsGrown, GrowsFiles, IsRefusalOf, OfOpened};
 
 use crate::failure::Failure;
-use crate::files::{opened, sizes_of};
+use crate::naming::named;
 use leak_find::{GrowRequest, run_grow_sized};
+use leak_opening::{Opener, open_all, sizes_of};
+use std::alloc::Global;
 use std::io::Write;
-use std::rt::Files;
 
 /// Opens both logs of the request in order, and then reads them, writes what grew to the first writer and the warnings to the
 /// second.
-pub fn compare_logs<R: Files + AllocGlobal, W: Write, V: Write>(
-    rt: &R,
+pub fn compare_logs<O: Opener, W: Write, V: Write>(
+    alloc: Global,
+    opener: &mut O,
     request: &GrowRequest,
     writer: &mut W,
     warner: &mut V,
 ) -> Result<u8, Failure>
     requires { length request.now.paths.items ≡ 2 }
-    ensures ok { IfOk result
-        (GrowsFiles request.now.options (W.contents writer.old) (W.contents writer.new)
-        (V.contents warner.old) (V.contents warner.new)) }
+    ensures ok { IfOk result (λ status. OfOpened O.opens (map string_bytes request.now.paths.items) opener.old opener.new
+        (GrowsFiles O.File.remaining request.now.options (W.contents writer.old) (W.contents writer.new)
+        (V.contents warner.old) (V.contents warner.new) status)) }
     ensures refused { IfErr result
-        (IsGrowFailure request.now (W.contents writer.old) (W.contents writer.new)) }
+        (IsRefusalOf O.opens (map string_bytes request.now.paths.items) opener.old opener.new
+        (W.contents writer.old) (W.contents writer.new)
+        (FailsGrown O.File.remaining request.now.options (W.contents writer.old) (W.contents writer.new))) }
     ensures silent { IfErr result (λ _. Keeps (V.contents warner.old) (V.contents warner.new)) }
 {
-    let mut files = opened(rt, request.paths.as_slice())?;
-    let sizes = sizes_of(files.as_slice());
+    let paths = request.paths.as_slice();
+    let mut files = open_all(alloc, opener, paths)?;
+    let sizes = sizes_of::<O>(files.as_slice());
     match run_grow_sized(
-        rt.alloc(),
+        alloc,
         files.as_mut_slice(),
         &sizes,
         &request.options,
@@ -37,6 +42,6 @@ pub fn compare_logs<R: Files + AllocGlobal, W: Write, V: Write>(
         warner,
     ) {
         Ok(status) => Ok(status),
-        Err(fault) => Err(Failure::Run(fault)),
+        Err(fault) => Err(named(alloc, paths, fault)),
     }
 }

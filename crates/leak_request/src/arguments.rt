@@ -1,8 +1,8 @@
 //! From a command line to what it asks for.
 
-ghost use Rattle.std.specs.Prelude.{◌≡◌, ◌≢◌, ◌<◌, ◌↔◌, IfOk, IsTrue, IsFalse, IfErr, IfNone, IfSome, OnOk, Bool};
+ghost use Rattle.std.specs.Prelude.{◌≡◌, ◌<◌, ◌↔◌, IfOk, IsTrue, IsFalse, IfErr, IfNone, IfSome, Bool};
 ghost use Rattle.std.specs.Prelude.{codes, length, map, option_map, string_bytes};
-ghost use Rattle.clap.specs.Words.{first_of, kind_of};
+ghost use Rattle.clap.specs.Words.{first_of};
 ghost use Rattle.leak_index.specs.Readings.{distances_of, listed_by};
 ghost use Rattle.leak_request.specs.CommandLine.{grow_ids, name_of, path_ids};
 ghost use Rattle.leak_request.specs.Found.{IsGiven, found_rows};
@@ -21,8 +21,8 @@ use crate::options::{
     CORE_LIMIT, GrowOptions, GrowRequest, HoldersRequest, LOG_LIMIT, Options, Request,
     SearchRequest, WhyRequest,
 };
-use clap::error::ErrorKind;
-use clap::{ArgMatches, Error};
+use crate::unmatched::unmatched;
+use clap::ArgMatches;
 use leak_index::Reading;
 use leak_pool::Plan;
 use leak_roots::Skip;
@@ -39,9 +39,9 @@ static GROW: [&str; 2] = ["log1", "log2"];
 
 /// Reads the words of a command line, which begin with the program's name.
 ///
-/// The text of a refusal, or of the help that was asked for, is clap's. A list of displacements is refused only where
-/// nothing else is missing, and `--check` with `--other-heap`, `--in` with `--of`, `--block` without both, or an address, only
-/// where the list is not. Own rule: help is no request.
+/// The text of a refusal, of help or of the version is clap's. A list of displacements is refused only where nothing else is
+/// missing, and `--check` with `--other-heap`, `--in` with `--of`, `--block` without both, or an address, only where the list is
+/// not.
 pub fn request(alloc: Global, words: &[String]) -> Result<Request, UsageFault>
     requires { 0 < length words.now }
     ensures ok { IfOk result (IsRequestOf (map string_bytes words.now)) }
@@ -51,7 +51,7 @@ pub fn request(alloc: Global, words: &[String]) -> Result<Request, UsageFault>
     let command = command(alloc)?;
     let matches = match command.try_get_matches_from(words) {
         Ok(matches) => matches,
-        Err(error) => return Err(UsageFault::Words(text_of(alloc, &error)?)),
+        Err(error) => return unmatched(alloc, words, &error),
     };
     match matches.subcommand() {
         Some((name, found)) => request_of(alloc, name, found),
@@ -325,14 +325,4 @@ fn bad_arguments(alloc: Global) -> UsageFault
         Ok(text) => UsageFault::Words(text),
         Err(_) => UsageFault::NoMemory,
     }
-}
-
-/// The text of clap's error: the help that was asked for, or what is wrong with the words.
-fn text_of(alloc: Global, error: &Error) -> Result<String, AllocError>
-    ensures { OnOk result (kind_of error.now ≢ ErrorKind.OutOfMemory) }
-{
-    if error.kind() == ErrorKind::OutOfMemory {
-        return Err(AllocError);
-    }
-    error.to_string(alloc)
 }

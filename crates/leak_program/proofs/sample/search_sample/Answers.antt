@@ -9,6 +9,8 @@ returns-in-Ok-clause-ok g c = record {
   interior = c.interior.ensures;
   usual = c.usual.ensures;
   no_heap = refl;
+  unchecked = refl;
+  lenient = refl;
   after = _;
   runs = over_inputs c.in-Ok.ensures.ok (search rules);
 }
