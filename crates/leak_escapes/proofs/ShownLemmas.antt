@@ -1,6 +1,7 @@
 -- No text has a control character.
 use Rattle.std.proofs.Common.{rules, arith, ◌≡◌, ◌∙◌, ap, sym, ℕ, ◌+◌, ◌-◌, ◌<◌, ◌≤◌, ◌/◌, ◌%◌, ◌==◌, ◌&&◌, ◌||◌, not, Bool, true, false, suc, zero, List, [], ◌∷◌, ◌++◌, flat_map, decimal, refl, nat_lt}
 use Rattle.std.proofs.lemmas.Bool.{cond_both}
+use Rattle.std.proofs.lemmas.Nat.{mod_below}
 use Rattle.std.proofs.lemmas.List.Folds.{list_all-append}
 use Rattle.std.specs.Cmp.Derive.{both_true}
 use Rattle.std.specs.Fmt.{digits, digits_onto, digit_glyph}
@@ -18,17 +19,22 @@ both text more first second = list_all-append shown text more ∙ both_true firs
 pub above : (byte : ℕ) → 32 ≤ byte → byte < 127 → shown byte ≡ true
 above byte low high = grind arith
 
-pub digit_shown : (d : ℕ) → d < 10 → shown (digit_glyph false d) ≡ true
+digit_shown : (d : ℕ) → d < 16 → shown (digit_glyph false d) ≡ true
 digit_shown d small = cond_both (nat_lt d 10) (48 + d) (87 + d) (λ byte. shown byte ≡ true) (λ so. above (48 + d) (omega arith) (omega (arith, small))) (λ so. above (87 + d) (omega arith) (omega (arith, small)))
 
-digits_shown : (k n : ℕ) (acc : List ℕ) → AreShown acc → AreShown (digits_onto k 10 false n acc)
-digits_shown zero n acc so = so
-digits_shown (suc k) n acc so =
-    let one : AreShown (digit_glyph false (n % 10) ∷ acc) = both_true (digit_shown (n % 10) (omega arith)) so in
-    cond_both (n / 10 == 0) _ _ AreShown (λ last. one) (λ more. digits_shown k (n / 10) (digit_glyph false (n % 10) ∷ acc) one)
+-- the digits of a number in a base up to 16
+digits_shown : (k base n : ℕ) (acc : List ℕ) → 0 < base → base ≤ 16 → AreShown acc → AreShown (digits_onto k base false n acc)
+digits_shown zero base n acc some few so = so
+digits_shown (suc k) base n acc some few so =
+    let small : n % base < base = mod_below n base some in
+    let one : AreShown (digit_glyph false (n % base) ∷ acc) = both_true (digit_shown (n % base) (omega (arith, small, few))) so in
+    cond_both (n / base == 0) _ _ AreShown (λ last. one) (λ more. digits_shown k base (n / base) (digit_glyph false (n % base) ∷ acc) some few one)
 
 pub decimal_shown : (n : ℕ) → AreShown (decimal n)
-decimal_shown n = unfold digits in digits_shown 64 n [] refl
+decimal_shown n = unfold digits in digits_shown 64 10 n [] (omega arith) (omega arith) refl
+
+pub hexadecimal_shown : (n : ℕ) → AreShown (digits 16 false n)
+hexadecimal_shown n = unfold digits in digits_shown 64 16 n [] (omega arith) (omega arith) refl
 
 hex_shown : (d : ℕ) → d < 16 → shown (hex_digit d) ≡ true
 hex_shown d small = cond_both (nat_lt d 10) (48 + d) (97 + (d - 10)) (λ byte. shown byte ≡ true) (λ so. above (48 + d) (omega arith) (omega (arith, small))) (λ so. above (97 + (d - 10)) (omega arith) (omega (arith, small)))

@@ -8,12 +8,17 @@ use Rattle.leak_mtrace.specs.declared.error.LogError.{LogError}
 use Rattle.leak_mtrace.specs.declared.error.LogError.TheVariants as log
 use Rattle.leak_input.specs.declared.error.FindError.{FindError}
 use Rattle.leak_input.specs.declared.error.FindError.TheVariants as find
-use Rattle.leak_readers.specs.declared.fault.ReadFault.{ReadFault}
-use Rattle.leak_readers.specs.declared.fault.ReadFault.TheVariants as read
-use Rattle.leak_report.specs.declared.output.WriteFault.{WriteFault}
+use Rattle.leak_streams.specs.declared.fault.ReadFault.{ReadFault}
+use Rattle.leak_streams.specs.declared.fault.ReadFault.TheVariants as read
+use Rattle.leak_streams.specs.declared.fault.WriteFault.{WriteFault}
+use Rattle.leak_index.specs.declared.error.ReadingError.{ReadingError}
+use Rattle.leak_index.specs.declared.error.ReadingError.TheVariants as reading
+use Rattle.leak_request.specs.declared.fault.DisplaceFault.{DisplaceFault}
+use Rattle.leak_request.specs.declared.fault.DisplaceFault.TheVariants as list
 use Rattle.leak_opening.specs.declared.fault.Reason.{Reason}
 use Rattle.leak_opening.specs.declared.fault.Reason.TheVariants as reason
 use Rattle.leak_messages.specs.Inputs.{core_text, find_text, header_text, input_text, log_text, notes_text, read_text, reason_text, write_text}
+use Rattle.leak_messages.specs.Words.{displace_text, reading_text}
 use Rattle.leak_escapes.specs.Escaped.{AreShown}
 use Rattle.leak_escapes.proofs.ShownLemmas.{both, decimal_shown}
 
@@ -81,3 +86,11 @@ reason_shown reason.NotFolder = refl
 reason_shown reason.Name = refl
 reason_shown reason.Links = refl
 reason_shown reason.Other = refl
+
+reading_shown : (e : ReadingError) → AreShown (reading_text e)
+reading_shown reading.TooMany = refl
+reading_shown (reading.TooLarge item) = numbered (codes "item ") (codes " is over 65535") item refl refl
+
+pub displace_shown : (f : DisplaceFault) → AreShown (displace_text f)
+displace_shown (list.Number item) = numbered (codes "--displace: item ") (codes " is not a number") item refl refl
+displace_shown (list.Reading e) = both (codes "--displace: ") (reading_text e) refl (reading_shown e)

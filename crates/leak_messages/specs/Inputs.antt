@@ -8,9 +8,9 @@ use Rattle.leak_mtrace.specs.declared.error.LogError.{LogError}
 use Rattle.leak_mtrace.specs.declared.error.LogError.TheVariants as log
 use Rattle.leak_input.specs.declared.error.FindError.{FindError}
 use Rattle.leak_input.specs.declared.error.FindError.TheVariants as find
-use Rattle.leak_readers.specs.declared.fault.ReadFault.{ReadFault}
-use Rattle.leak_readers.specs.declared.fault.ReadFault.TheVariants as read
-use Rattle.leak_report.specs.declared.output.WriteFault.{WriteFault}
+use Rattle.leak_streams.specs.declared.fault.ReadFault.{ReadFault}
+use Rattle.leak_streams.specs.declared.fault.ReadFault.TheVariants as read
+use Rattle.leak_streams.specs.declared.fault.WriteFault.{WriteFault}
 use Rattle.leak_opening.specs.declared.fault.Reason.{Reason}
 use Rattle.leak_opening.specs.declared.fault.Reason.TheVariants as reason
 

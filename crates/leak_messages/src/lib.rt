@@ -11,8 +11,10 @@ mod inputs;
 mod laws;
 mod opening;
 mod streams;
+mod words;
 
 pub use inputs::{push_core, push_find, push_log, push_notes};
 pub use laws::texts_are_shown;
 pub use opening::push_reason;
 pub use streams::{push_read, push_write};
+pub use words::{push_displace, push_usage};

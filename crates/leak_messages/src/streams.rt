@@ -3,8 +3,7 @@
 ghost use Rattle.std.specs.Prelude.{◌≡◌, ◌++◌, OnOk, string_bytes};
 ghost use Rattle.leak_messages.specs.Inputs.{read_text, write_text};
 
-use leak_readers::ReadFault;
-use leak_report::WriteFault;
+use leak_streams::{ReadFault, WriteFault};
 use std::alloc::AllocError;
 
 /// Appends the text of what stopped a reading.

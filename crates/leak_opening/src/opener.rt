@@ -3,8 +3,9 @@
 ghost use Rattle.std.specs.Prelude.{ℕ, List, Result, ⊤};
 ghost use Rattle.std.specs.declared.io.Error.{Error};
 
+use leak_streams::ReadCalls;
 use std::fs::{self, OpenFile};
-use std::io::{self, ErrorKind, Read};
+use std::io::{self, ErrorKind};
 use std::rt::Files;
 
 /// Opens files by their paths. Each opening has a name in contracts.
@@ -12,7 +13,7 @@ use std::rt::Files;
 /// A function that knows nothing else of its opener has to tell each opening that it makes.
 pub trait Opener {
     /// An opened file, which can be read.
-    type File: Read + Drop;
+    type File: ReadCalls + Drop;
 
     /// What an opening does: the opener before it, the path, the answer, and the opener after it.
     ghost opens: { Self → List ℕ → Result Self.File Error → Self → Type 0 };

@@ -6,7 +6,7 @@ use Rattle.leak_find.specs.declared.fault.RunFault.{RunFault}
 use Rattle.leak_find.specs.declared.fault.RunFault.TheVariants as run
 use Rattle.leak_messages.specs.Inputs.{find_text, read_text, reason_text, write_text}
 use Rattle.leak_messages.specs.Words.{usage_text}
-use Rattle.leak_readers.specs.declared.fault.ReadFault.{ReadFault}
+use Rattle.leak_streams.specs.declared.fault.ReadFault.{ReadFault}
 use Rattle.leak_request.specs.declared.fault.UsageFault.{UsageFault}
 use Rattle.leak_request.specs.declared.fault.UsageFault.TheVariants as usage
 use Rattle.leak_program.specs.declared.failure.Failure.{Failure}
@@ -37,7 +37,12 @@ line_of text = codes "leak_find: " ++ (text ++ 10 ∷ [])
 -- clap's text stands alone
 abbrev pub usage_message : UsageFault → List ℕ
 usage_message (usage.Words text) = string_bytes text
-usage_message f = line_of (usage_text f)
+usage_message (usage.Displace f) = line_of (usage_text (usage.Displace f))
+usage_message usage.Check = line_of (usage_text usage.Check)
+usage_message usage.Sides = line_of (usage_text usage.Sides)
+usage_message usage.Block = line_of (usage_text usage.Block)
+usage_message usage.Address = line_of (usage_text usage.Address)
+usage_message usage.NoMemory = line_of (usage_text usage.NoMemory)
 
 abbrev pub message_of : Failure → List ℕ
 message_of Word = line_of (failure_text Word)
@@ -47,9 +52,23 @@ message_of (Read number path f) = line_of (failure_text (Read number path f))
 message_of (Run f) = line_of (failure_text (Run f))
 message_of NoMemory = line_of (failure_text NoMemory)
 
--- the text of the failure is clap's
+-- the text is clap's
+abbrev pub IsClapText : UsageFault → Type 0
+IsClapText (usage.Words text) = Unit {0}
+IsClapText (usage.Displace f) = ⊥
+IsClapText usage.Check = ⊥
+IsClapText usage.Sides = ⊥
+IsClapText usage.Block = ⊥
+IsClapText usage.Address = ⊥
+IsClapText usage.NoMemory = ⊥
+
 abbrev pub IsOfClap : Failure → Type 0
-IsOfClap failure = (text : String Global) × (failure ≡ Usage (usage.Words text))
+IsOfClap Word = ⊥
+IsOfClap (Usage f) = IsClapText f
+IsOfClap (Open path reason) = ⊥
+IsOfClap (Read number path f) = ⊥
+IsOfClap (Run f) = ⊥
+IsOfClap NoMemory = ⊥
 
 -- the message is one line: it has one line end, its last byte, and no other control character
 pub record IsOneLine (message : List ℕ) : Type 0 where

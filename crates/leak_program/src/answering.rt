@@ -1,7 +1,7 @@
 //! What the program answers to the words of a command line.
 
 ghost use Rattle.std.specs.Prelude.{◌≡◌, ◌<◌, ◌≤◌, IfOk, IfErr, length, map, string_bytes};
-ghost use Rattle.std.specs.Io.KnownBytes.{Appends, Keeps};
+ghost use Rattle.leak_find.specs.Streams.{by_reads, by_writes};
 ghost use Rattle.leak_program.specs.Answer.{Answers, IsFailureOf, IsNotShown};
 ghost use Rattle.leak_program.specs.Sample.{SearchesSample};
 
@@ -11,9 +11,8 @@ use crate::files::search_files;
 use crate::growing::compare_logs;
 use crate::holding::tell_holders;
 use crate::sample::search_sample;
-use leak_find::{Request, RunFault, request, write};
+use leak_find::{Request, RunFault, WriteCalls, request, write};
 use leak_opening::Opener;
-use std::io::Write;
 use std::thread::Threads;
 
 /// Searches what the words ask for, which begin with the program's name, writes the report to the first writer and then
@@ -25,7 +24,7 @@ use std::thread::Threads;
 ///
 /// Where no word follows the name, a sample is searched. After a refusal nothing is written, unless it is the writer
 /// that failed.
-pub fn answer<R: AllocGlobal + Threads + Sync, O: Opener, W: Write, V: Write>(
+pub fn answer<R: AllocGlobal + Threads + Sync, O: Opener, W: WriteCalls, V: WriteCalls>(
     rt: &R,
     opener: &mut O,
     words: &[String],
@@ -33,16 +32,15 @@ pub fn answer<R: AllocGlobal + Threads + Sync, O: Opener, W: Write, V: Write>(
     warner: &mut V,
 ) -> Result<u8, Failure>
     ensures sample { length words.now < 2
-        → IfOk result (SearchesSample (W.contents writer.old) (W.contents writer.new)
-        (V.contents warner.old) (V.contents warner.new)) }
+        → IfOk result (SearchesSample (by_writes W.calls) (by_writes V.calls)
+        writer.old writer.new warner.old warner.new) }
     ensures ok { 2 ≤ length words.now → IfOk result
-        (Answers O.opens O.File.remaining (map string_bytes words.now) opener.old opener.new
-        (W.contents writer.old) (W.contents writer.new)
-        (V.contents warner.old) (V.contents warner.new)) }
+        (Answers O.opens (by_reads O.File.calls) (by_writes W.calls) (by_writes V.calls) (map string_bytes words.now)
+        opener.old opener.new writer.old writer.new warner.old warner.new) }
     ensures refused { 2 ≤ length words.now → IfErr result
-        (IsFailureOf O.opens O.File.remaining (map string_bytes words.now) opener.old opener.new
-        (W.contents writer.old) (W.contents writer.new)) }
-    ensures silent { IfErr result (λ _. Keeps (V.contents warner.old) (V.contents warner.new)) }
+        (IsFailureOf O.opens (by_reads O.File.calls) (by_writes W.calls) (map string_bytes words.now)
+        opener.old opener.new writer.old writer.new) }
+    ensures silent { IfErr result (λ _. warner.new ≡ warner.old) }
 {
     if words.len() < 2 {
         return search_sample(rt, writer, warner);
@@ -58,9 +56,9 @@ pub fn answer<R: AllocGlobal + Threads + Sync, O: Opener, W: Write, V: Write>(
 }
 
 /// Writes the text that was asked for.
-fn show<W: Write>(text: &str, writer: &mut W) -> Result<u8, Failure>
-    ensures ok { IfOk result (λ status. (status ≡ 0) × Appends (W.contents writer.old) (W.contents writer.new) text.now) }
-    ensures refused { IfErr result (IsNotShown text.now (W.contents writer.old) (W.contents writer.new)) }
+fn show<W: WriteCalls>(text: &str, writer: &mut W) -> Result<u8, Failure>
+    ensures ok { IfOk result (λ status. (status ≡ 0) × (by_writes W.calls).whole text.now writer.old writer.new) }
+    ensures refused { IfErr result (IsNotShown (by_writes W.calls) text.now writer.old writer.new) }
 {
     match write(text.as_bytes(), writer) {
         Ok(()) => Ok(0),

@@ -1,17 +1,17 @@
 //! The question what holds a block, asked of files.
 
 ghost use Rattle.std.specs.Prelude.{◌≡◌, IfOk, IfErr, false, length, map, string_bytes};
+ghost use Rattle.leak_find.specs.Streams.{by_reads, by_writes};
 ghost use Rattle.leak_program.specs.Files.{AsksFiles, FailsAsked, IsRefusalOf, OfOpened};
 
 use crate::failure::Failure;
 use crate::naming::named;
-use leak_find::{WhyRequest, run_why_sized};
+use leak_find::{WhyRequest, WriteCalls, run_why_sized};
 use leak_opening::{Opener, open_all, sizes_of};
 use std::alloc::Global;
-use std::io::Write;
 
 /// Opens both files of the request in order, asks what holds the block of the address, and writes the answer.
-pub fn ask_files<O: Opener, W: Write>(
+pub fn ask_files<O: Opener, W: WriteCalls>(
     alloc: Global,
     opener: &mut O,
     request: &WhyRequest,
@@ -20,13 +20,13 @@ pub fn ask_files<O: Opener, W: Write>(
     requires one { request.now.options.two ≡ false }
     requires files { length request.now.paths.items ≡ 2 }
     ensures ok { IfOk result (λ status. OfOpened O.opens (map string_bytes request.now.paths.items) opener.old opener.new
-        (AsksFiles O.File.remaining request.now.options request.now.address
-        (W.contents writer.old) (W.contents writer.new) status)) }
+        (AsksFiles (by_reads O.File.calls) (by_writes W.calls) request.now.options request.now.address
+        writer.old writer.new status)) }
     ensures refused { IfErr result
         (IsRefusalOf O.opens (map string_bytes request.now.paths.items) opener.old opener.new
-        (W.contents writer.old) (W.contents writer.new)
-        (FailsAsked O.File.remaining request.now.options request.now.address
-        (W.contents writer.old) (W.contents writer.new))) }
+        writer.old writer.new
+        (FailsAsked (by_reads O.File.calls) (by_writes W.calls) request.now.options request.now.address
+        writer.old writer.new)) }
 {
     let paths = request.paths.as_slice();
     let mut files = open_all(alloc, opener, paths)?;

@@ -1,20 +1,19 @@
 //! The search of files.
 
 ghost use Rattle.std.specs.Prelude.{◌≡◌, IfOk, IfErr, length, map, string_bytes};
-ghost use Rattle.std.specs.Io.KnownBytes.{Keeps};
 ghost use Rattle.leak_request.specs.Requests.{file_count};
+ghost use Rattle.leak_find.specs.Streams.{by_reads, by_writes};
 ghost use Rattle.leak_program.specs.Files.{FailsFiles, IsRefusalOf, OfOpened, SearchesFiles};
 
 use crate::failure::Failure;
 use crate::naming::named;
-use leak_find::{SearchRequest, run_sized};
+use leak_find::{SearchRequest, WriteCalls, run_sized};
 use leak_opening::{Opener, open_all, sizes_of};
-use std::io::Write;
 use std::thread::Threads;
 
 /// Opens all files of the request in order, and then reads and searches them, writes the report to the first writer and
 /// the warnings to the second.
-pub fn search_files<R: AllocGlobal + Threads + Sync, O: Opener, W: Write, V: Write>(
+pub fn search_files<R: AllocGlobal + Threads + Sync, O: Opener, W: WriteCalls, V: WriteCalls>(
     rt: &R,
     opener: &mut O,
     request: &SearchRequest,
@@ -23,13 +22,13 @@ pub fn search_files<R: AllocGlobal + Threads + Sync, O: Opener, W: Write, V: Wri
 ) -> Result<u8, Failure>
     requires { length request.now.paths.items ≡ file_count request.now.options.two }
     ensures ok { IfOk result (λ status. OfOpened O.opens (map string_bytes request.now.paths.items) opener.old opener.new
-        (SearchesFiles O.File.remaining request.now.options (W.contents writer.old) (W.contents writer.new)
-        (V.contents warner.old) (V.contents warner.new) status)) }
+        (SearchesFiles (by_reads O.File.calls) (by_writes W.calls) (by_writes V.calls) request.now.options
+        writer.old writer.new warner.old warner.new status)) }
     ensures refused { IfErr result
         (IsRefusalOf O.opens (map string_bytes request.now.paths.items) opener.old opener.new
-        (W.contents writer.old) (W.contents writer.new)
-        (FailsFiles O.File.remaining request.now.options (W.contents writer.old) (W.contents writer.new))) }
-    ensures silent { IfErr result (λ _. Keeps (V.contents warner.old) (V.contents warner.new)) }
+        writer.old writer.new
+        (FailsFiles (by_reads O.File.calls) (by_writes W.calls) request.now.options writer.old writer.new)) }
+    ensures silent { IfErr result (λ _. warner.new ≡ warner.old) }
 {
     let alloc = rt.alloc();
     let paths = request.paths.as_slice();

@@ -1,15 +1,14 @@
 //! The question who holds the memory, asked of files.
 
 ghost use Rattle.std.specs.Prelude.{◌≡◌, IfOk, IfErr, length, map, string_bytes};
-ghost use Rattle.std.specs.Io.KnownBytes.{Keeps};
+ghost use Rattle.leak_find.specs.Streams.{by_reads, by_writes};
 ghost use Rattle.leak_program.specs.Files.{FailsHeld, HoldsFiles, IsRefusalOf, OfOpened, paths_of_held};
 
 use crate::failure::Failure;
 use crate::naming::named;
-use leak_find::{HoldersRequest, run_holders_sized};
+use leak_find::{HoldersRequest, WriteCalls, run_holders_sized};
 use leak_opening::{Opener, open_all, sizes_of};
 use std::alloc::{AllocError, Global};
-use std::io::Write;
 use std::thread::Threads;
 
 /// The paths of the files of the request, in order.
@@ -25,7 +24,7 @@ fn paths_of(alloc: Global, request: &HoldersRequest) -> Result<Vec<String>, Allo
 
 /// Opens the files of the request in order, and then reads them, writes who holds the memory, or the answer to its question, to the
 /// first writer and the warnings to the second.
-pub fn tell_holders<R: AllocGlobal + Threads + Sync, O: Opener, W: Write, V: Write>(
+pub fn tell_holders<R: AllocGlobal + Threads + Sync, O: Opener, W: WriteCalls, V: WriteCalls>(
     rt: &R,
     opener: &mut O,
     request: &HoldersRequest,
@@ -34,13 +33,13 @@ pub fn tell_holders<R: AllocGlobal + Threads + Sync, O: Opener, W: Write, V: Wri
 ) -> Result<u8, Failure>
     requires { length request.now.paths.items ≡ 2 }
     ensures ok { IfOk result (λ status. OfOpened O.opens (paths_of_held request.now) opener.old opener.new
-        (HoldsFiles O.File.remaining request.now (W.contents writer.old) (W.contents writer.new)
-        (V.contents warner.old) (V.contents warner.new) status)) }
+        (HoldsFiles (by_reads O.File.calls) (by_writes W.calls) (by_writes V.calls) request.now
+        writer.old writer.new warner.old warner.new status)) }
     ensures refused { IfErr result
         (IsRefusalOf O.opens (paths_of_held request.now) opener.old opener.new
-        (W.contents writer.old) (W.contents writer.new)
-        (FailsHeld O.File.remaining request.now (W.contents writer.old) (W.contents writer.new))) }
-    ensures silent { IfErr result (λ _. Keeps (V.contents warner.old) (V.contents warner.new)) }
+        writer.old writer.new
+        (FailsHeld (by_reads O.File.calls) (by_writes W.calls) request.now writer.old writer.new)) }
+    ensures silent { IfErr result (λ _. warner.new ≡ warner.old) }
 {
     let alloc = rt.alloc();
     let paths = paths_of(alloc, request)?;

@@ -2,15 +2,15 @@
 
 ghost use Rattle.std.specs.Prelude.{◌≡◌, IfErr, map, string_bytes};
 ghost use Rattle.std.specs.Process.{exit_status};
+ghost use Rattle.leak_find.specs.Streams.{by_reads, by_writes};
 ghost use Rattle.leak_program.specs.Start.{HasStarted, IsAnswered, IsTold, IsUnread, status_of};
 
 use crate::answering::answer;
 use crate::failure::Failure;
 use crate::messages::message;
-use leak_find::write;
+use leak_find::{WriteCalls, write};
 use leak_opening::Opener;
 use std::alloc::Global;
-use std::io::Write;
 use std::process::ExitCode;
 use std::rt::Env;
 use std::thread::Threads;
@@ -24,15 +24,14 @@ const NO_MEMORY: &[u8; 25] = b"leak_find: out of memory\n";
 
 /// Does what the words of the program's command line ask for, over files that the opener gives: the report goes to the first writer,
 /// which is that of standard output, and the warnings, or why there is no report, to the second, which is that of standard error.
-pub fn start<R: Env + AllocGlobal + Threads + Sync, O: Opener, W: Write, V: Write>(
+pub fn start<R: Env + AllocGlobal + Threads + Sync, O: Opener, W: WriteCalls, V: WriteCalls>(
     rt: &R,
     opener: &mut O,
     writer: &mut W,
     warner: &mut V,
 ) -> ExitCode
-    ensures { HasStarted O.opens O.File.remaining opener.old opener.new
-        (W.contents writer.old) (W.contents writer.new)
-        (V.contents warner.old) (V.contents warner.new) (exit_status result) }
+    ensures { HasStarted O.opens (by_reads O.File.calls) (by_writes W.calls) (by_writes V.calls) opener.old opener.new
+        writer.old writer.new warner.old warner.new (exit_status result) }
 {
     let status = match words_of(rt) {
         Ok(words) => answer_all(rt, opener, words.as_slice(), writer, warner),
@@ -45,16 +44,15 @@ pub fn start<R: Env + AllocGlobal + Threads + Sync, O: Opener, W: Write, V: Writ
 }
 
 /// Answers the words, and says on the second writer why there is no answer, if there is none. Gives the exit status.
-pub fn answer_all<R: AllocGlobal + Threads + Sync, O: Opener, W: Write, V: Write>(
+pub fn answer_all<R: AllocGlobal + Threads + Sync, O: Opener, W: WriteCalls, V: WriteCalls>(
     rt: &R,
     opener: &mut O,
     words: &[String],
     writer: &mut W,
     warner: &mut V,
 ) -> u8
-    ensures { IsAnswered O.opens O.File.remaining (map string_bytes words.now) opener.old opener.new
-        (W.contents writer.old) (W.contents writer.new)
-        (V.contents warner.old) (V.contents warner.new) result }
+    ensures { IsAnswered O.opens (by_reads O.File.calls) (by_writes W.calls) (by_writes V.calls) (map string_bytes words.now)
+        opener.old opener.new writer.old writer.new warner.old warner.new result }
 {
     let answer = answer(rt, opener, words, writer, warner);
     if let Err(failure) = &answer {
@@ -95,8 +93,8 @@ fn unread(error: &io::Error) -> Failure
 }
 
 /// Says why there is no report. A refused write leaves nowhere to say so.
-fn tell<V: Write>(alloc: Global, failure: &Failure, warner: &mut V)
-    ensures { IsTold failure.now (V.contents warner.old) (V.contents warner.new) }
+fn tell<V: WriteCalls>(alloc: Global, failure: &Failure, warner: &mut V)
+    ensures { IsTold (by_writes V.calls) failure.now warner.old warner.new }
 {
     let _taken = match message(alloc, failure) {
         Ok(text) => write(&text, warner),
