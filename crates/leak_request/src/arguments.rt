@@ -1,8 +1,7 @@
 //! From a command line to what it asks for.
 
-ghost use Rattle.std.specs.Prelude.{◌≡◌, ◌≢◌, ◌<◌, IfOk, IfErr, IfNone, IfSome, OnOk, Bool};
+ghost use Rattle.std.specs.Prelude.{◌≡◌, ◌<◌, IfOk, IfErr, IfNone, IfSome, Bool};
 ghost use Rattle.std.specs.Prelude.{length, map, string_bytes};
-ghost use Rattle.clap.specs.Words.{kind_of};
 ghost use Rattle.leak_request.specs.CommandLine.{name_of, path_ids};
 ghost use Rattle.leak_request.specs.Found.{found_rows};
 ghost use Rattle.leak_request.specs.Requests.{IsGrowRefusal, IsHoldersRefusal, IsRefusedAt, IsSearchRefusal, IsWhyRefusal};
@@ -18,8 +17,8 @@ use crate::options::{
     CORE_LIMIT, GrowOptions, GrowRequest, HoldersRequest, LOG_LIMIT, Options, Request,
     SearchRequest, WhyRequest,
 };
-use clap::error::ErrorKind;
-use clap::{ArgMatches, Error};
+use crate::unmatched::unmatched;
+use clap::ArgMatches;
 use leak_pool::Plan;
 use std::alloc::{AllocError, Global};
 
@@ -34,9 +33,9 @@ static GROW: [&str; 2] = ["log1", "log2"];
 
 /// Reads the words of a command line, which begin with the program's name.
 ///
-/// The text of a refusal, or of the help that was asked for, is clap's. A list of displacements is refused only where
-/// nothing else is missing, and `--check` with `--other-heap`, `--in` with `--of`, `--block` without both, or an address, only
-/// where the list is not. Own rule: help is no request.
+/// The text of a refusal, of help or of the version is clap's. A list of displacements is refused only where nothing else is
+/// missing, and `--check` with `--other-heap`, `--in` with `--of`, `--block` without both, or an address, only where the list is
+/// not.
 pub fn request(alloc: Global, words: &[String]) -> Result<Request, UsageFault>
     requires { 0 < length words.now }
     ensures ok { IfOk result (IsRequestOf (map string_bytes words.now)) }
@@ -46,7 +45,7 @@ pub fn request(alloc: Global, words: &[String]) -> Result<Request, UsageFault>
     let command = command(alloc)?;
     let matches = match command.try_get_matches_from(words) {
         Ok(matches) => matches,
-        Err(error) => return Err(UsageFault::Words(text_of(alloc, &error)?)),
+        Err(error) => return unmatched(alloc, words, &error),
     };
     match matches.subcommand() {
         Some((name, found)) => request_of(alloc, name, found),
@@ -201,14 +200,4 @@ fn ids_of(two: bool) -> &'static [&'static str]
     ensures { map (λ id. id.now) result.now ≡ path_ids two }
 {
     if two { TWO.as_slice() } else { ONE.as_slice() }
-}
-
-/// The text of clap's error: the help that was asked for, or what is wrong with the words.
-fn text_of(alloc: Global, error: &Error) -> Result<String, AllocError>
-    ensures { OnOk result (kind_of error.now ≢ ErrorKind.OutOfMemory) }
-{
-    if error.kind() == ErrorKind::OutOfMemory {
-        return Err(AllocError);
-    }
-    error.to_string(alloc)
 }
