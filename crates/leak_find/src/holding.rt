@@ -14,8 +14,7 @@ use crate::asking::at_asking;
 use crate::fault::RunFault;
 use crate::running::{read_reader, status_of, warnings_by};
 use leak_holders::Question;
-use leak_holding::{Files, Holding, find_held, find_holders};
-use leak_pool::Open;
+use leak_holding::{Files, Holding, Progress, find_held, find_holders};
 use leak_report::write;
 use leak_request::Options;
 use leak_search::{FindError, WhyError};
@@ -73,12 +72,13 @@ fn earlier_of(inputs: &Inputs) -> Option<&[u8]>
 }
 
 /// Tells who holds the memory, or answers the question.
-fn tell<T: Threads + Sync>(
+fn tell<T: Threads + Sync, P: Progress>(
     rt: &T,
     alloc: Global,
     files: &Files,
     options: &Options,
     question: Option<Question>,
+    progress: &P,
 ) -> Result<Holding, WhyError>
     ensures ok { IfOk result (Tells question options.now files.now.core.now files.now.log.now (earlier files.now.since)) }
     ensures signs { IfOk result (λ holding. AreSigns (files.now.core.now ∷ files.now.log.now ∷ []) holding.signs.items) }
@@ -87,8 +87,8 @@ fn tell<T: Threads + Sync>(
 {
     let (reading, skip, plan) = (options.reading, options.skip, options.plan);
     match question {
-        Some(question) => find_held(rt, alloc, files, question, reading, skip, plan, &Open),
-        None => match find_holders(rt, alloc, files, reading, skip, plan, &Open) {
+        Some(question) => find_held(rt, alloc, files, question, reading, skip, plan, progress),
+        None => match find_holders(rt, alloc, files, reading, skip, plan, progress) {
             Ok(holding) => Ok(holding),
             Err(error) => Err(WhyError::Find(error)),
         },
@@ -96,13 +96,14 @@ fn tell<T: Threads + Sync>(
 }
 
 /// Reads the files, and tells who holds the memory, or answers the question.
-fn hold<T: Threads + Sync, R: Read>(
+fn hold<T: Threads + Sync, P: Progress, R: Read>(
     rt: &T,
     alloc: Global,
     readers: &mut [R],
     sizes: &[u64],
     options: &Options,
     question: Option<Question>,
+    progress: &P,
 ) -> Result<Holding, RunFault>
     requires { (length readers.old ≡ 2) ⊎ (length readers.old ≡ 3) }
     ensures ok { IfOk result (HasHeld options.now question
@@ -116,7 +117,7 @@ fn hold<T: Threads + Sync, R: Read>(
         log: &inputs.log,
         since: earlier_of(&inputs),
     };
-    match tell(rt, alloc, &files, options, question) {
+    match tell(rt, alloc, &files, options, question, progress) {
         Ok(holding) => Ok(holding),
         Err(error) => Err(at_asking(error)),
     }
@@ -127,14 +128,16 @@ fn hold<T: Threads + Sync, R: Read>(
 ///
 /// The readers are said to have so many bytes, as those of [`run_sized`](crate::run_sized) are. All are read in order before
 /// anything is written. After a refusal the readers stand where the reads left them, and the second writer has nothing. Where the
-/// second writer fails, it has a first part of the warnings, and the status is the same.
-pub fn run_holders_sized<T: Threads + Sync, R: Read, W: Write, V: Write>(
+/// second writer fails, it has a first part of the warnings, and the status is the same. What the progress is told changes nothing of
+/// all this.
+pub fn run_holders_sized<T: Threads + Sync, P: Progress, R: Read, W: Write, V: Write>(
     rt: &T,
     alloc: Global,
     readers: &mut [R],
     sizes: &[u64],
     options: &Options,
     question: Option<Question>,
+    progress: &P,
     writer: &mut W,
     warner: &mut V,
 ) -> Result<u8, RunFault>
@@ -148,7 +151,7 @@ pub fn run_holders_sized<T: Threads + Sync, R: Read, W: Write, V: Write>(
         (W.contents writer.old) (W.contents writer.new)) }
     ensures silent { IfErr result (λ _. Keeps (V.contents warner.old) (V.contents warner.new)) }
 {
-    let holding = hold(rt, alloc, readers, sizes, options, question)?;
+    let holding = hold(rt, alloc, readers, sizes, options, question, progress)?;
     let Ok(warnings) = warnings_by(alloc, options, holding.signs.as_slice()) else {
         return Err(RunFault::Find(FindError::NoMemory));
     };

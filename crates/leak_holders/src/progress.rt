@@ -1,5 +1,7 @@
 //! Who does the work of a call, and who is told how far it has come.
 
+ghost use Rattle.std.specs.Prelude.{◌≡◌};
+
 use std::thread::Threads;
 
 /// Is told how far a call has come: after each marking, on the thread of the caller.
@@ -29,4 +31,17 @@ pub struct Crew<'a, R: Threads + Sync, P: Progress> {
     pub rt: &'a R,
     pub workers: u32,
     pub progress: &'a P,
+}
+
+impl<'a, R: Threads + Sync, P: Progress> Crew<'a, R, P> {
+    /// A crew of so many workers.
+    pub fn new(rt: &'a R, workers: u32, progress: &'a P) -> Crew<'a, R, P>
+        ensures { result.workers ≡ workers }
+    {
+        Crew {
+            rt,
+            workers,
+            progress,
+        }
+    }
 }

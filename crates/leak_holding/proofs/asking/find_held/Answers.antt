@@ -4,6 +4,7 @@ use Rattle.leak_search.specs.declared.holding.WhyError.{WhyError}
 use Rattle.leak_search.specs.declared.holding.WhyError.TheVariants.{Find}
 use Rattle.leak_search.proofs.SignLemmas.{are_of_one}
 use Rattle.leak_holding.specs.Held.{IsHeldFault}
+use Rattle.leak_index.specs.Readings.{distances_of}
 use Rattle.leak_holding.specs.Since.{earlier}
 use Rattle.leak_holding.proofs.FindLemmas.{many_refused}
 use Rattle.leak_holding.proofs.HeldLemmas.{finds_held, none_asked}
@@ -22,10 +23,10 @@ returns-clause-signs g c =
 
 pub returns-in_default-clause-refused : goal.returns-in_default-clause-refused
 returns-in_default-clause-refused g c = λ other.
-    none_asked _ _ (earlier c.args.files.now.since) _ c.in_ok-input.input _ c.in_ok-input.ensures.ok c.in_ok-scene.ensures.ok c.args.question.address
+    none_asked _ _ (earlier c.args.files.now.since) _ c.in_ok-input.input _ c.in_ok-input.ensures.ok (c.in_ok-scene.ensures.ok (distances_of c.args.reading) (record { lookup = c.in_ok-ground.ensures.lookup; roots = c.in_ok-ground.ensures.roots })) c.args.question.address
     (sym c.is_continued.ensures ∙ c.if-not-is_continued.false) c.in_default.ensures.none
 
 pub returns-clause-ok : goal.returns-clause-ok
 returns-clause-ok g c =
-    finds_held _ _ (earlier c.args.files.now.since) _ c.in_ok-input.input _ c.in_ok-input.ensures.ok c.in_ok-scene.ensures.ok _ c.args.question c.in-Some.block _ _
+    finds_held _ _ (earlier c.args.files.now.since) _ c.in_ok-input.input _ c.in_ok-input.ensures.ok (c.in_ok-scene.ensures.ok (distances_of c.args.reading) (record { lookup = c.in_ok-ground.ensures.lookup; roots = c.in_ok-ground.ensures.roots })) _ c.args.question c.in-Some.block _ _
     c.in_ok-input.ensures.skip (sym c.is_continued.ensures ∙ c.if-not-is_continued.false) c.in-Some.ensures.some c.in_ok-report.ensures.answer refl

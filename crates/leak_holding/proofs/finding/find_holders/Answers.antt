@@ -2,6 +2,7 @@ use Rattle.std.proofs.Common.{◌≡◌, ap, sym, subst, ◌∙◌, length}
 use Rattle.std.proofs.lemmas.Result.{err_from_is_err_and}
 use Rattle.leak_input.specs.declared.error.FindError.{FindError}
 use Rattle.leak_holding.specs.Holders.{IsFaultOfHolders}
+use Rattle.leak_index.specs.Readings.{distances_of}
 use Rattle.leak_holding.specs.Since.{earlier}
 use Rattle.leak_search.proofs.SignLemmas.{are_of_one}
 use Rattle.leak_holding.proofs.FindLemmas.{complete, finds_holders, many_refused, news_each, texts_long}
@@ -16,27 +17,27 @@ returns-in_err-scene-clause-refused g c =
 
 pub rows_of-requires-clause-complete : goal.rows_of-requires-clause-complete
 rows_of-requires-clause-complete g c κs within =
-    (complete _ _ _ _ _ _ c.in_ok-input.ensures.ok c.in_ok-scene.ensures.ok c.facts_of-facts.result _ c.facts_of-facts.ensures.of c.facts_of-facts.ensures.fits
-    (texts_long _ _ _ _ _ _ c.in_ok-input.ensures.ok c.in_ok-scene.ensures.ok _ c.as_slice-texts.ensures.value)).0
+    (complete _ _ _ _ _ _ c.in_ok-input.ensures.ok (c.in_ok-scene.ensures.ok (distances_of c.args.reading) (record { lookup = c.in_ok-ground.ensures.lookup; roots = c.in_ok-ground.ensures.roots })) c.facts_of-facts.result _ c.facts_of-facts.ensures.of c.facts_of-facts.ensures.fits
+    (texts_long _ _ _ _ _ _ c.in_ok-input.ensures.ok (c.in_ok-scene.ensures.ok (distances_of c.args.reading) (record { lookup = c.in_ok-ground.ensures.lookup; roots = c.in_ok-ground.ensures.roots })) _ c.as_slice-texts.ensures.value)).0
 
 pub rows_of-requires-clause-number : goal.rows_of-requires-clause-number
 rows_of-requires-clause-number g c κs within =
-    (complete _ _ _ _ _ _ c.in_ok-input.ensures.ok c.in_ok-scene.ensures.ok c.facts_of-facts.result _ c.facts_of-facts.ensures.of c.facts_of-facts.ensures.fits
-    (texts_long _ _ _ _ _ _ c.in_ok-input.ensures.ok c.in_ok-scene.ensures.ok _ c.as_slice-texts.ensures.value)).1
+    (complete _ _ _ _ _ _ c.in_ok-input.ensures.ok (c.in_ok-scene.ensures.ok (distances_of c.args.reading) (record { lookup = c.in_ok-ground.ensures.lookup; roots = c.in_ok-ground.ensures.roots })) c.facts_of-facts.result _ c.facts_of-facts.ensures.of c.facts_of-facts.ensures.fits
+    (texts_long _ _ _ _ _ _ c.in_ok-input.ensures.ok (c.in_ok-scene.ensures.ok (distances_of c.args.reading) (record { lookup = c.in_ok-ground.ensures.lookup; roots = c.in_ok-ground.ensures.roots })) _ c.as_slice-texts.ensures.value)).1
 
 pub text-requires-clause-new : goal.text-requires-clause-new
 text-requires-clause-new g c =
-    news_each _ _ _ _ _ _ c.in_ok-input.ensures.ok c.in_ok-scene.ensures.ok c.facts_of-facts.result c.new-new.result c.facts_of-facts.ensures.of c.new-new.ensures
+    news_each _ _ _ _ _ _ c.in_ok-input.ensures.ok (c.in_ok-scene.ensures.ok (distances_of c.args.reading) (record { lookup = c.in_ok-ground.ensures.lookup; roots = c.in_ok-ground.ensures.roots })) c.facts_of-facts.result c.new-new.result c.facts_of-facts.ensures.of c.new-new.ensures
 
 pub text-requires-clause-inside : goal.text-requires-clause-inside
 text-requires-clause-inside g c =
-    shown_inside _ c.facts_of-facts.result _ _ c.in_ok-rows.rows.items c.as_slice.result.now c.in_ok-rows.ensures.rows (ap length c.facts_of-facts.ensures.of.of_blocks) c.as_slice.ensures.value
+    shown_inside _ c.facts_of-facts.result _ _ c.in_ok-rows.rows.items c.as_slice.result.now c.in_ok-rows.ensures (ap length c.facts_of-facts.ensures.of.of_blocks) c.as_slice.ensures.value
 
 pub returns-clause-ok : goal.returns-clause-ok
 returns-clause-ok g c =
-    finds_holders _ _ _ _ _ _ c.in_ok-input.ensures.ok c.in_ok-scene.ensures.ok _ c.head_of-head.result c.facts_of-facts.result _ c.as_slice-texts.result.now c.in_ok-rows.rows.items c.as_slice.result.now _
+    finds_holders _ _ _ _ _ _ c.in_ok-input.ensures.ok (c.in_ok-scene.ensures.ok (distances_of c.args.reading) (record { lookup = c.in_ok-ground.ensures.lookup; roots = c.in_ok-ground.ensures.roots })) _ c.head_of-head.result c.facts_of-facts.result _ c.as_slice-texts.result.now c.in_ok-rows.rows.items c.as_slice.result.now _
     c.in_ok-input.ensures.skip (sym c.is_continued.ensures ∙ c.if-not-is_continued.false) c.facts_of-facts.ensures.of c.as_slice-texts.ensures.value c.as_slice.ensures.value
-    c.in_ok-rows.ensures.rows c.head_of-head.ensures c.new-new.ensures c.in_ok-report.ensures
+    c.in_ok-rows.ensures c.head_of-head.ensures c.new-new.ensures c.in_ok-report.ensures
 
 pub returns-clause-signs : goal.returns-clause-signs
 returns-clause-signs g c =
