@@ -11,7 +11,7 @@ use crate::files::search_files;
 use crate::growing::compare_logs;
 use crate::holding::tell_holders;
 use crate::sample::search_sample;
-use leak_find::{Request, request};
+use leak_find::{Progress, Request, request};
 use std::io::Write;
 use std::rt::Files;
 use std::thread::Threads;
@@ -22,11 +22,13 @@ use std::thread::Threads;
 /// is 0 where the block is held, and 1 where it leaked. Where they ask who holds the memory, or what grew, the answer is
 /// written to the first writer and the warnings to the second, and the status is 0, or 3 by `--strict`.
 ///
-/// Where no word follows the name, a sample is searched. After a refusal nothing is written, unless it is the writer
+/// The progress is told how far a question who holds the memory has come, and changes nothing of all this. Where no word follows the
+/// name, a sample is searched. After a refusal nothing is written, unless it is the writer
 /// that failed.
-pub fn answer<R: Files + AllocGlobal + Threads + Sync, W: Write, V: Write>(
+pub fn answer<R: Files + AllocGlobal + Threads + Sync, P: Progress, W: Write, V: Write>(
     rt: &R,
     words: &[String],
+    progress: &P,
     writer: &mut W,
     warner: &mut V,
 ) -> Result<u8, Failure>
@@ -46,7 +48,7 @@ pub fn answer<R: Files + AllocGlobal + Threads + Sync, W: Write, V: Write>(
     match request(rt.alloc(), words)? {
         Request::Search(request) => search_files(rt, &request, writer, warner),
         Request::Why(request) => ask_files(rt, &request, writer),
-        Request::Holders(request) => tell_holders(rt, &request, writer, warner),
+        Request::Holders(request) => tell_holders(rt, &request, progress, writer, warner),
         Request::Grow(request) => compare_logs(rt, &request, writer, warner),
     }
 }

@@ -6,7 +6,7 @@ ghost use Rattle.leak_program.specs.Files.{HoldsFiles, IsHoldersFailure, IsOpenF
 
 use crate::failure::Failure;
 use crate::files::{opened, opened_one, sizes_of};
-use leak_find::{HoldersRequest, run_holders_sized};
+use leak_find::{HoldersRequest, Progress, run_holders_sized};
 use std::io::Write;
 use std::rt::Files;
 use std::thread::Threads;
@@ -28,10 +28,11 @@ fn files_of<R: Files + AllocGlobal>(
 }
 
 /// Opens the files of the request in order, and then reads them, writes who holds the memory, or the answer to its question, to the
-/// first writer and the warnings to the second.
-pub fn tell_holders<R: Files + AllocGlobal + Threads + Sync, W: Write, V: Write>(
+/// first writer and the warnings to the second. What the progress is told changes nothing of all this.
+pub fn tell_holders<R: Files + AllocGlobal + Threads + Sync, P: Progress, W: Write, V: Write>(
     rt: &R,
     request: &HoldersRequest,
+    progress: &P,
     writer: &mut W,
     warner: &mut V,
 ) -> Result<u8, Failure>
@@ -52,6 +53,7 @@ pub fn tell_holders<R: Files + AllocGlobal + Threads + Sync, W: Write, V: Write>
         &sizes,
         &request.options,
         request.question,
+        progress,
         writer,
         warner,
     ) {

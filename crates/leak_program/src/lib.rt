@@ -4,7 +4,7 @@
 //! and gives the status. [`answer`] does what the words ask for and writes to any writer: it searches files
 //! ([`search_files`]), asks what holds a block in them ([`ask_files`]), who holds the memory ([`tell_holders`]) or
 //! what grew between two logs ([`compare_logs`]) or, where no word follows the program's name, searches a sample from memory
-//! ([`search_sample`]). A [`Failure`] says why there is no report.
+//! ([`search_sample`]). A [`Screen`] shows a terminal how far a long run has come. A [`Failure`] says why there is no report.
 //!
 //! No contract can say what a file holds. Where files are searched, the contracts say that some bytes were read and
 //! searched by the options of the words, that just the report of these was written, and that the status is that of the
@@ -17,6 +17,7 @@ mod failure;
 mod files;
 mod growing;
 mod holding;
+mod progress;
 mod sample;
 mod starting;
 
@@ -26,5 +27,6 @@ pub use failure::Failure;
 pub use files::search_files;
 pub use growing::compare_logs;
 pub use holding::tell_holders;
+pub use progress::Screen;
 pub use sample::search_sample;
 pub use starting::{start, status_of};

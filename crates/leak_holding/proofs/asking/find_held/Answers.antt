@@ -17,6 +17,15 @@ returns-in_err-scene-clause-refused g c =
     (many_refused c.args.files.now.core.now c.args.files.now.log.now (earlier c.args.files.now.since) c.in_ok-input.input c.in_ok-input.ensures.ok _
     (sym c.is_continued.ensures ∙ c.if-not-is_continued.false) (c.in_err-scene.ensures.refused (λ n. other (p.2 ∙ ap Find n)))))
 
+pub answer-requires-clause-known : goal.answer-requires-clause-known
+answer-requires-clause-known g c κs within = record {
+  core = c.args.files.now.core.now;
+  since = earlier c.args.files.now.since;
+  reading = distances_of c.args.reading;
+  read = c.in_ok-input.ensures.ok;
+  is_scene = c.in_ok-scene.ensures.ok (distances_of c.args.reading) (record { lookup = c.in_ok-ground.ensures.lookup; roots = c.in_ok-ground.ensures.roots });
+}
+
 pub returns-clause-signs : goal.returns-clause-signs
 returns-clause-signs g c =
     are_of_one c.args.files.now.core.now c.args.files.now.log.now c.in_ok-input.input c.in_ok-oddities.oddities.signs.items c.in_ok-input.ensures.ok c.in_ok-oddities.ensures.signs
