@@ -1,5 +1,5 @@
 -- What a question knows of an input: what is marked, the texts of callers, and which blocks are counted.
-use Rattle.std.specs.Prelude.{◌≡◌, ℕ, ◌^◌, ◌<◌, ◌≤◌, Bool, List, [], length, Option}
+use Rattle.std.specs.Prelude.{◌≡◌, ℕ, ◌^◌, ◌<◌, ◌≤◌, List, [], length, Option}
 use Rattle.leak_elf.specs.Words.{word_of}
 use Rattle.leak_mtrace.specs.declared.line.Line.{Line}
 use Rattle.leak_index.specs.Hits.{Index}

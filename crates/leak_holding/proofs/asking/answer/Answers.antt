@@ -1,4 +1,4 @@
-use Rattle.std.proofs.Common.{◌≡◌, ◌∙◌, ℕ, Bool, List, length, sym, ap, subst, arith}
+use Rattle.std.proofs.Common.{◌∙◌, ℕ, Bool, List, length, sym, ap, subst, arith}
 use Rattle.std.specs.Prelude.{slice_index}
 use denote.Ref.{Bor}
 use Rattle.leak_texts.specs.Numbered.{bytes_each}

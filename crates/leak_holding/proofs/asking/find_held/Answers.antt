@@ -1,4 +1,4 @@
-use Rattle.std.proofs.Common.{◌≡◌, ◌∙◌, sym, ap, subst, refl}
+use Rattle.std.proofs.Common.{◌∙◌, sym, ap, subst, refl}
 use Rattle.std.proofs.lemmas.Result.{err_from_is_err_and}
 use Rattle.leak_search.specs.declared.holding.WhyError.{WhyError}
 use Rattle.leak_search.specs.declared.holding.WhyError.TheVariants.{Find}

@@ -1,4 +1,4 @@
-use Rattle.std.proofs.Common.{◌≡◌, Bool, List, ap, sym, subst, ◌∙◌, length}
+use Rattle.std.proofs.Common.{Bool, List, ap, sym, subst, ◌∙◌, length}
 use Rattle.std.proofs.lemmas.Result.{err_from_is_err_and}
 use Rattle.leak_index.specs.Hits.{Index}
 use Rattle.leak_marks.specs.Reach.{Reach}

@@ -1,4 +1,4 @@
-use Rattle.std.proofs.Common.{◌≡◌, [], length, sym, ap, subst}
+use Rattle.std.proofs.Common.{[], length, sym, ap, subst}
 use Rattle.std.proofs.lemmas.Result.{IfOk-weaker}
 use Rattle.leak_elf.specs.Words.{word_of}
 use Rattle.leak_marks.specs.Reach.{Graph, Reach}
