@@ -9,9 +9,12 @@
 //! and `--strict` was given.
 #![tactic(auto)]
 
-use leak_program::start;
+use leak_program::{Screen, start};
+use std::io::IsTerminal;
 use std::process::ExitCode;
 
 fn main(rt: HostRuntime) -> ExitCode {
-    start(&rt, &mut &rt, &mut rt.stdout(), &mut rt.stderr())
+    let mut warner = rt.stderr();
+    let screen = Screen::new(&rt, warner.is_terminal());
+    start(&rt, &mut &rt, &screen, &mut rt.stdout(), &mut warner)
 }

@@ -14,8 +14,7 @@ use crate::asking::at_asking;
 use crate::fault::RunFault;
 use crate::running::{read_reader, status_of, warnings_by};
 use leak_holders::Question;
-use leak_holding::{Files, Holding, find_held, find_holders};
-use leak_pool::Open;
+use leak_holding::{Files, Holding, Progress, find_held, find_holders};
 use leak_request::Options;
 use leak_search::{FindError, WhyError};
 use leak_streams::{ReadCalls, WriteCalls, write};
@@ -72,12 +71,13 @@ fn earlier_of(inputs: &Inputs) -> Option<&[u8]>
 }
 
 /// Tells who holds the memory, or answers the question.
-fn tell<T: Threads + Sync>(
+fn tell<T: Threads + Sync, P: Progress>(
     rt: &T,
     alloc: Global,
     files: &Files,
     options: &Options,
     question: Option<Question>,
+    progress: &P,
 ) -> Result<Holding, WhyError>
     ensures ok { IfOk result (Tells question options.now files.now.core.now files.now.log.now (earlier files.now.since)) }
     ensures signs { IfOk result (λ holding. AreSigns (files.now.core.now ∷ files.now.log.now ∷ []) holding.signs.items) }
@@ -86,8 +86,8 @@ fn tell<T: Threads + Sync>(
 {
     let (reading, skip, plan) = (options.reading, options.skip, options.plan);
     match question {
-        Some(question) => find_held(rt, alloc, files, question, reading, skip, plan, &Open),
-        None => match find_holders(rt, alloc, files, reading, skip, plan, &Open) {
+        Some(question) => find_held(rt, alloc, files, question, reading, skip, plan, progress),
+        None => match find_holders(rt, alloc, files, reading, skip, plan, progress) {
             Ok(holding) => Ok(holding),
             Err(error) => Err(WhyError::Find(error)),
         },
@@ -95,13 +95,14 @@ fn tell<T: Threads + Sync>(
 }
 
 /// Reads the files, and tells who holds the memory, or answers the question.
-fn hold<T: Threads + Sync, R: ReadCalls>(
+fn hold<T: Threads + Sync, P: Progress, R: ReadCalls>(
     rt: &T,
     alloc: Global,
     readers: &mut [R],
     sizes: &[u64],
     options: &Options,
     question: Option<Question>,
+    progress: &P,
 ) -> Result<Holding, RunFault>
     requires { (length readers.old ≡ 2) ⊎ (length readers.old ≡ 3) }
     ensures ok { IfOk result
@@ -115,7 +116,7 @@ fn hold<T: Threads + Sync, R: ReadCalls>(
         log: &inputs.log,
         since: earlier_of(&inputs),
     };
-    match tell(rt, alloc, &files, options, question) {
+    match tell(rt, alloc, &files, options, question, progress) {
         Ok(holding) => Ok(holding),
         Err(error) => Err(at_asking(error)),
     }
@@ -126,14 +127,22 @@ fn hold<T: Threads + Sync, R: ReadCalls>(
 ///
 /// All are read in order before anything is written. After a refusal the readers are where the reads left them, and the second
 /// writer was not written to. Where the second writer fails, it has a first part of the warnings, and the status is the same. The
-/// sizes are those that the readers are said to have, as of [`run_sized`](crate::run_sized).
-pub fn run_holders_sized<T: Threads + Sync, R: ReadCalls, W: WriteCalls, V: WriteCalls>(
+/// sizes are those that the readers are said to have, as of [`run_sized`](crate::run_sized). What the progress is told changes
+/// nothing of all this.
+pub fn run_holders_sized<
+    T: Threads + Sync,
+    P: Progress,
+    R: ReadCalls,
+    W: WriteCalls,
+    V: WriteCalls,
+>(
     rt: &T,
     alloc: Global,
     readers: &mut [R],
     sizes: &[u64],
     options: &Options,
     question: Option<Question>,
+    progress: &P,
     writer: &mut W,
     warner: &mut V,
 ) -> Result<u8, RunFault>
@@ -144,7 +153,7 @@ pub fn run_holders_sized<T: Threads + Sync, R: ReadCalls, W: WriteCalls, V: Writ
         options.now question readers.old readers.new writer.old writer.new) }
     ensures silent { IfErr result (λ _. warner.new ≡ warner.old) }
 {
-    let holding = hold(rt, alloc, readers, sizes, options, question)?;
+    let holding = hold(rt, alloc, readers, sizes, options, question, progress)?;
     let Ok(warnings) = warnings_by(alloc, options, holding.signs.as_slice()) else {
         return Err(RunFault::Find(FindError::NoMemory));
     };

@@ -47,7 +47,7 @@ pub use holding::run_holders_sized;
 pub use laws::runs_tell;
 pub use leak_growth::{Grown, find_growth};
 pub use leak_holders::{Question, Side};
-pub use leak_holding::{Files, Holding, find_held, find_holders};
+pub use leak_holding::{Files, Holding, Progress, Silent, find_held, find_holders};
 pub use leak_index::{Reading, ReadingError};
 pub use leak_pool::{Gate, Open, Plan, PlanError};
 pub use leak_report::{Signs, warnings};

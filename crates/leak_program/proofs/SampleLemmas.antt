@@ -9,7 +9,7 @@ use Rattle.leak_find.proofs.ViewLemmas.{Shows, sees_left}
 
 -- a sink, as it is
 shows_all : {W : Type 0} (sink : Sink W) → Shows (λ w. w) sink sink
-shows_all sink = record { whole = λ text before after is. is; cut_off = λ text before after f is. is; }
+shows_all sink = record { whole = λ text before after is. is; cut_off = λ text before after f is. is }
 
 pub over_inputs : {R W V : Type 0} (left : R → Option (List ℕ)) (sink : Sink W) (warner : Sink V) (o : Options) (before after : List R)
     (inputs : List (Option (List ℕ))) (held holds : W) (heard hears : V) (status : ℕ)

@@ -11,7 +11,7 @@ use crate::files::search_files;
 use crate::growing::compare_logs;
 use crate::holding::tell_holders;
 use crate::sample::search_sample;
-use leak_find::{Request, RunFault, WriteCalls, request, write};
+use leak_find::{Progress, Request, RunFault, WriteCalls, request, write};
 use leak_opening::Opener;
 use std::thread::Threads;
 
@@ -22,12 +22,19 @@ use std::thread::Threads;
 /// written to the first writer and the warnings to the second, and the status is 0, or 3 by `--strict`. Where they ask for
 /// help, or for the version, the text is written to the first writer, and the status is 0.
 ///
-/// Where no word follows the name, a sample is searched. After a refusal nothing is written, unless it is the writer
-/// that failed.
-pub fn answer<R: AllocGlobal + Threads + Sync, O: Opener, W: WriteCalls, V: WriteCalls>(
+/// The progress is told how far a question who holds the memory has come, which changes nothing of all this. Where no word follows
+/// the name, a sample is searched. After a refusal nothing is written, unless it is the writer that failed.
+pub fn answer<
+    R: AllocGlobal + Threads + Sync,
+    O: Opener,
+    P: Progress,
+    W: WriteCalls,
+    V: WriteCalls,
+>(
     rt: &R,
     opener: &mut O,
     words: &[String],
+    progress: &P,
     writer: &mut W,
     warner: &mut V,
 ) -> Result<u8, Failure>
@@ -49,7 +56,7 @@ pub fn answer<R: AllocGlobal + Threads + Sync, O: Opener, W: WriteCalls, V: Writ
     match request(alloc, words)? {
         Request::Search(request) => search_files(rt, opener, &request, writer, warner),
         Request::Why(request) => ask_files(alloc, opener, &request, writer),
-        Request::Holders(request) => tell_holders(rt, opener, &request, writer, warner),
+        Request::Holders(request) => tell_holders(rt, opener, &request, progress, writer, warner),
         Request::Grow(request) => compare_logs(alloc, opener, &request, writer, warner),
         Request::Text(text) => show(text.as_str(), writer),
     }

@@ -6,7 +6,7 @@ ghost use Rattle.leak_program.specs.Files.{FailsHeld, HoldsFiles, IsRefusalOf, O
 
 use crate::failure::Failure;
 use crate::naming::named;
-use leak_find::{HoldersRequest, WriteCalls, run_holders_sized};
+use leak_find::{HoldersRequest, Progress, WriteCalls, run_holders_sized};
 use leak_opening::{Opener, open_all, sizes_of};
 use std::alloc::{AllocError, Global};
 use std::thread::Threads;
@@ -23,11 +23,18 @@ fn paths_of(alloc: Global, request: &HoldersRequest) -> Result<Vec<String>, Allo
 }
 
 /// Opens the files of the request in order, and then reads them, writes who holds the memory, or the answer to its question, to the
-/// first writer and the warnings to the second.
-pub fn tell_holders<R: AllocGlobal + Threads + Sync, O: Opener, W: WriteCalls, V: WriteCalls>(
+/// first writer and the warnings to the second. What the progress is told changes nothing of all this.
+pub fn tell_holders<
+    R: AllocGlobal + Threads + Sync,
+    O: Opener,
+    P: Progress,
+    W: WriteCalls,
+    V: WriteCalls,
+>(
     rt: &R,
     opener: &mut O,
     request: &HoldersRequest,
+    progress: &P,
     writer: &mut W,
     warner: &mut V,
 ) -> Result<u8, Failure>
@@ -52,6 +59,7 @@ pub fn tell_holders<R: AllocGlobal + Threads + Sync, O: Opener, W: WriteCalls, V
         &sizes,
         &request.options,
         request.question,
+        progress,
         writer,
         warner,
     ) {

@@ -4,7 +4,8 @@
 //! report, to another, and gives the status. [`answer_all`] does so for any words, and [`answer`] without telling a refusal: it
 //! searches files ([`search_files`]), asks what holds a block in them ([`ask_files`]), who holds the memory ([`tell_holders`]) or
 //! what grew between two logs ([`compare_logs`]), writes the text of help, or, where no word follows the program's name, searches a
-//! sample from memory ([`search_sample`]). A [`Failure`] says why there is no report, and [`message`] how it is told.
+//! sample from memory ([`search_sample`]). A [`Failure`] says why there is no report, and [`message`] how it is told. A [`Screen`]
+//! tells a terminal how far a run has come.
 //!
 //! Files are opened by an `Opener` of leak_opening. The contracts say that each path of the request was opened once, in order, before
 //! any was read, that the files so opened were searched by the options of the words, that just the report of what they held was
@@ -20,6 +21,7 @@ mod growing;
 mod holding;
 mod messages;
 mod naming;
+mod progress;
 mod sample;
 mod starting;
 
@@ -29,6 +31,8 @@ pub use failure::Failure;
 pub use files::search_files;
 pub use growing::compare_logs;
 pub use holding::tell_holders;
+pub use leak_find::{Progress, Silent};
 pub use messages::{message, messages_are_lines};
+pub use progress::Screen;
 pub use sample::search_sample;
 pub use starting::{answer_all, start, status_of};

@@ -8,7 +8,7 @@ ghost use Rattle.leak_program.specs.Start.{HasStarted, IsAnswered, IsTold, IsUnr
 use crate::answering::answer;
 use crate::failure::Failure;
 use crate::messages::message;
-use leak_find::{WriteCalls, write};
+use leak_find::{Progress, WriteCalls, write};
 use leak_opening::Opener;
 use std::alloc::Global;
 use std::process::ExitCode;
@@ -23,18 +23,20 @@ const REFUSED: u8 = 2;
 const NO_MEMORY: &[u8; 25] = b"leak_find: out of memory\n";
 
 /// Does what the words of the program's command line ask for, over files that the opener gives: the report goes to the first writer,
-/// which is that of standard output, and the warnings, or why there is no report, to the second, which is that of standard error.
-pub fn start<R: Env + AllocGlobal + Threads + Sync, O: Opener, W: WriteCalls, V: WriteCalls>(
-    rt: &R,
-    opener: &mut O,
-    writer: &mut W,
-    warner: &mut V,
-) -> ExitCode
+/// which is that of standard output, and the warnings, or why there is no report, to the second, which is that of standard error. The
+/// progress is told how far a run has come that may take long.
+pub fn start<
+    R: Env + AllocGlobal + Threads + Sync,
+    O: Opener,
+    P: Progress,
+    W: WriteCalls,
+    V: WriteCalls,
+>(rt: &R, opener: &mut O, progress: &P, writer: &mut W, warner: &mut V) -> ExitCode
     ensures { HasStarted O.opens (by_reads O.File.calls) (by_writes W.calls) (by_writes V.calls) opener.old opener.new
         writer.old writer.new warner.old warner.new (exit_status result) }
 {
     let status = match words_of(rt) {
-        Ok(words) => answer_all(rt, opener, words.as_slice(), writer, warner),
+        Ok(words) => answer_all(rt, opener, words.as_slice(), progress, writer, warner),
         Err(failure) => {
             tell(rt.alloc(), &failure, warner);
             REFUSED
@@ -44,17 +46,17 @@ pub fn start<R: Env + AllocGlobal + Threads + Sync, O: Opener, W: WriteCalls, V:
 }
 
 /// Answers the words, and says on the second writer why there is no answer, if there is none. Gives the exit status.
-pub fn answer_all<R: AllocGlobal + Threads + Sync, O: Opener, W: WriteCalls, V: WriteCalls>(
-    rt: &R,
-    opener: &mut O,
-    words: &[String],
-    writer: &mut W,
-    warner: &mut V,
-) -> u8
+pub fn answer_all<
+    R: AllocGlobal + Threads + Sync,
+    O: Opener,
+    P: Progress,
+    W: WriteCalls,
+    V: WriteCalls,
+>(rt: &R, opener: &mut O, words: &[String], progress: &P, writer: &mut W, warner: &mut V) -> u8
     ensures { IsAnswered O.opens (by_reads O.File.calls) (by_writes W.calls) (by_writes V.calls) (map string_bytes words.now)
         opener.old opener.new writer.old writer.new warner.old warner.new result }
 {
-    let answer = answer(rt, opener, words, writer, warner);
+    let answer = answer(rt, opener, words, progress, writer, warner);
     if let Err(failure) = &answer {
         tell(rt.alloc(), failure, warner);
     }

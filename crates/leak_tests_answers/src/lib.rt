@@ -15,6 +15,10 @@ mod report;
 #[cfg(test)]
 mod why;
 
+// What words ask for, in words.
+#[cfg(test)]
+mod asked;
+
 // Words of the command line.
 #[cfg(test)]
 mod arguments;
