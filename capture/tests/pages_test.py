@@ -19,7 +19,7 @@ class Pages(unittest.TestCase):
                 self.assertEqual(options_of.of_page(name), options_of.of_program(name))
 
     def test_the_page_of_leak_find_has_the_options_of_its_help(self):
-        helps = [options_of.of_help(name)[0] for name in options_of.SUBCOMMANDS]
+        helps = [options_of.of_help(name)[0] for name in (*options_of.SUBCOMMANDS, "program")]
         self.assertEqual(options_of.of_page("leak_find"), set().union(*helps))
 
     def test_the_page_of_leak_find_has_the_subcommands_of_its_help(self):

@@ -104,9 +104,9 @@ grow_ids = codes "log1" ∷ codes "log2" ∷ []
 abbrev pub grow_line : App
 grow_line = with_rules (with_rules (new_app grow_name) (map operand_rule grow_ids)) (flag_rule (codes "strict") ∷ [])
 
--- the subcommand has to be named
+-- the subcommand has to be named, unless the version is asked for
 abbrev pub naming_subcommand : App → App
-naming_subcommand a = record a { top = record a.top { subcommand_required = true } }
+naming_subcommand a = record a { top = record a.top { subcommand_required = true; has_version = true } }
 
 -- the whole command line
 abbrev pub command_line : App

@@ -5,5 +5,5 @@ use leak_program::start;
 use std::process::ExitCode;
 
 fn main(rt: HostRuntime) -> ExitCode {
-    start(&rt, &mut rt.stderr())
+    start(&rt, &mut &rt, &mut rt.stdout(), &mut rt.stderr())
 }

@@ -49,6 +49,7 @@ fn shown<R: AllocGlobal>(rt: &R, request: &Request) -> Result<String, AllocError
             format!(in alloc; "grow {:?}", r.options)?,
             r.paths.as_slice(),
         ),
+        Request::Text(text) => text.clone(),
     }
 }
 

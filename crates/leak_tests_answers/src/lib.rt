@@ -31,6 +31,10 @@ mod search;
 #[cfg(test)]
 mod find;
 
-// What a failure of the program prints, where no case can have it.
+// Texts of faults, and what their own Display writes.
+#[cfg(test)]
+mod messages;
+
+// What the program says of a failure.
 #[cfg(test)]
 mod program;
