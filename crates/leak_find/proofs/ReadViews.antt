@@ -41,6 +41,7 @@ module _ {R S : Type 0} (view : R → S) (source : Source R) (known : Source S) 
     count = has.count;
     read = are_read view source known sees (limit_at o) before after has.inputs has.read;
     tells = has.tells;
+    signs = has.signs;
   }
 
   pub holding_fault : (o : Options) (address : ℕ) (before after : List R) (e : WhyError) → IsHoldingFault source o address before after e

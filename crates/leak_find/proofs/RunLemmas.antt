@@ -80,13 +80,16 @@ fault_one source o before after core log core_read log_read e one so_far core_is
 
 module _ {R : Type 0} (source : Source R) (o : Options) (address : ℕ) (before after : List R) (core log core_read log_read : List ℕ)
     (so_far : AreRead source (limit_at o) before after (core ∷ log ∷ [])) (core_is : core_read ≡ core) (log_is : log_read ≡ log) where
-  pub has_told : (why : Why) → TellsWhy core_read log_read (distances_of o.reading) o.skip address why → HasTold source o address before after why
-  has_told why tells = record {
+  pub has_told : (why : Why) → TellsWhy core_read log_read (distances_of o.reading) o.skip address why
+      → AreSigns (core_read ∷ log_read ∷ []) why.signs.items → HasTold source o address before after why
+  has_told why tells signs = record {
     inputs = core ∷ log ∷ [];
     count = refl;
     read = so_far;
     tells = subst (λ (l : List ℕ). TellsWhy core l (distances_of o.reading) o.skip address why) log_is
         (subst (λ (c : List ℕ). TellsWhy c log_read (distances_of o.reading) o.skip address why) core_is tells);
+    signs = subst (λ (l : List ℕ). AreSigns (core ∷ l ∷ []) why.signs.items) log_is
+        (subst (λ (c : List ℕ). AreSigns (c ∷ log_read ∷ []) why.signs.items) core_is signs);
   }
 
   pub holding_fault : (e : WhyError) → (e ≢ Refused NoMemory → IsWhyFault core_read log_read address e) → IsHoldingFault source o address before after e

@@ -30,15 +30,6 @@ module _ {R S W X : Type 0} (view : R → S) (source : Source R) (known : Source
     cut_off = shows.cut_off _ w z f fault.cut_off;
   }
 
-  pub runs_why : (o : Options) (address : ℕ) (before after : List R) (w z : W) (status : ℕ) → RunsWhy source sink o address before after w z status
-      → RunsWhy known shown o address (map view before) (map view after) (look w) (look z) status
-  runs_why o address before after w z status runs = record {
-    why = runs.why;
-    has_told = told view source known sees o address before after runs.why runs.has_told;
-    written = shows.whole _ w z runs.written;
-    status_is = runs.status_is;
-  }
-
   pub refused : (o : Options) (before after : List R) (w z : W) (e : RunFault) → IsRunFault source sink o before after w z e
       → IsRunFault known shown o (map view before) (map view after) (look w) (look z) e
   refused o before after w z (Read n e) fault = (ap look fault.0, fault_within view source known sees (limit_at o) (file_count o.two) before after n e fault.1)
@@ -81,6 +72,17 @@ module _ {R S W X : Type 0} (view : R → S) (source : Source R) (known : Source
       has_found = found view source known sees o before after run.found run.has_found;
       written = shows.whole _ w z run.written;
       warned = tried listen warner heard warns (warnings_by o run.found.signs.items) v u run.warned;
+      status_is = run.status_is;
+    }
+
+    pub runs_why : (o : Options) (address : ℕ) (before after : List R) (w z : W) (v u : V) (status : ℕ)
+        → RunsWhy source sink warner o address before after w z v u status
+        → RunsWhy known shown heard o address (map view before) (map view after) (look w) (look z) (listen v) (listen u) status
+    runs_why o address before after w z v u status run = record {
+      why = run.why;
+      has_told = told view source known sees o address before after run.why run.has_told;
+      written = shows.whole _ w z run.written;
+      warned = tried listen warner heard warns (warnings_by o run.why.signs.items) v u run.warned;
       status_is = run.status_is;
     }
 

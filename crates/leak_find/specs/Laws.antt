@@ -22,11 +22,12 @@ pub record RunsTell {R W V : Type 0} (source : Source R) (left : R → Option (L
       → IsRunFault by_bytes_left by_bytes_held o (map left before) (map left after) (contents held) (contents holds) e
 
 -- a block that is asked for
-pub record RunsWhyTell {R W : Type 0} (source : Source R) (left : R → Option (List ℕ)) (sink : Sink W)
-    (contents : W → Option (List ℕ)) : Type 0 where
-  pub runs : (o : Options) (address : ℕ) (before after : List R) (held holds : W) (status : ℕ)
-      → RunsWhy source sink o address before after held holds status
-      → RunsWhy by_bytes_left by_bytes_held o address (map left before) (map left after) (contents held) (contents holds) status
+pub record RunsWhyTell {R W V : Type 0} (source : Source R) (left : R → Option (List ℕ)) (sink : Sink W) (contents : W → Option (List ℕ))
+    (warner : Sink V) (warnings : V → Option (List ℕ)) : Type 0 where
+  pub runs : (o : Options) (address : ℕ) (before after : List R) (held holds : W) (heard hears : V) (status : ℕ)
+      → RunsWhy source sink warner o address before after held holds heard hears status
+      → RunsWhy by_bytes_left by_bytes_held by_bytes_held o address (map left before) (map left after)
+      (contents held) (contents holds) (warnings heard) (warnings hears) status
   pub refused : (o : Options) (address : ℕ) (before after : List R) (held holds : W) (e : RunFault)
       → IsWhyRunFault source sink o address before after held holds e
       → IsWhyRunFault by_bytes_left by_bytes_held o address (map left before) (map left after) (contents held) (contents holds) e

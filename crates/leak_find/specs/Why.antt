@@ -1,8 +1,9 @@
--- What a run that asks for one block does to its readers and its writer.
-use Rattle.std.specs.Prelude.{◌≡◌, ◌≢◌, ℕ, Bool, List, length, if◌then◌else◌}
+-- What a run that asks for one block does to its readers and its writers.
+use Rattle.std.specs.Prelude.{◌≡◌, ◌≢◌, ℕ, Bool, List, [], ◌∷◌, length, if◌then◌else◌}
 use Rattle.leak_index.specs.Readings.{distances_of}
 use Rattle.leak_streams.specs.declared.fault.WriteFault.{WriteFault}
 use Rattle.leak_request.specs.declared.options.Options.{Options}
+use Rattle.leak_input.specs.Signs.{AreSigns}
 use Rattle.leak_input.specs.declared.error.FindError.TheVariants.{NoMemory}
 use Rattle.leak_search.specs.declared.holding.Why.{Why}
 use Rattle.leak_search.specs.declared.holding.WhyError.{WhyError}
@@ -10,9 +11,9 @@ use Rattle.leak_search.specs.declared.holding.WhyError.TheVariants.{Find as Refu
 use Rattle.leak_search.specs.Holding.{IsWhyFault, TellsWhy}
 use Rattle.leak_find.specs.declared.fault.RunFault.{RunFault}
 use Rattle.leak_find.specs.declared.fault.RunFault.TheVariants.{Read, Find, NoBlock, Write}
-use Rattle.leak_find.specs.Streams.{Source, Sink}
+use Rattle.leak_find.specs.Streams.{Source, Sink, IsTried}
 use Rattle.leak_find.specs.Inputs.{AreRead, input_at}
-use Rattle.leak_find.specs.Run.{IsReadFault, limit_at}
+use Rattle.leak_find.specs.Run.{IsReadFault, limit_at, status_by, warnings_by}
 
 -- both readers were read to their ends, and this is what holds the block of the address in what they held
 pub record HasTold {R : Type 0} (source : Source R) (o : Options) (address : ℕ) (before after : List R) (why : Why) : Type 0 where
@@ -21,6 +22,7 @@ pub record HasTold {R : Type 0} (source : Source R) (o : Options) (address : ℕ
   pub read : AreRead source (limit_at o) before after inputs
   pub tells : TellsWhy (input_at inputs 0) (input_at inputs 1)
       (distances_of o.reading) o.skip address why
+  pub signs : AreSigns (input_at inputs 0 ∷ input_at inputs 1 ∷ []) why.signs.items
 
 -- both readers were read to their ends, and what they held gives no answer for this reason
 pub record IsHoldingFault {R : Type 0} (source : Source R) (o : Options) (address : ℕ) (before after : List R) (e : WhyError) : Type 0 where
@@ -41,17 +43,19 @@ IsAskFault source o address before after (Find e) = IsHoldingFault source o addr
 IsAskFault source o address before after (NoBlock a) = IsHoldingFault source o address before after (Missing a)
 IsAskFault source o address before after (Write f) = ⊥
 
--- 0 where the block is held, and 1 where it leaked
-abbrev pub status_by_held : Bool → ℕ
-status_by_held held = if held then 0 else 1
+-- how many blocks are told as leaked: the one that was asked for, if nothing holds it
+abbrev pub leaked_if_not : Bool → ℕ
+leaked_if_not held = if held then 0 else 1
 
--- what was written is the answer for what the readers held, and nothing else
-pub record RunsWhy {R W : Type 0} (source : Source R) (sink : Sink W) (o : Options) (address : ℕ) (before after : List R)
-    (held holds : W) (status : ℕ) : Type 0 where
+-- What was written is the answer for what the readers held, and nothing else; and to the second writer, of the warnings, all or
+-- those that it took up to a fault.
+pub record RunsWhy {R W V : Type 0} (source : Source R) (sink : Sink W) (warner : Sink V) (o : Options) (address : ℕ)
+    (before after : List R) (held holds : W) (heard hears : V) (status : ℕ) : Type 0 where
   pub why : Why
   pub has_told : HasTold source o address before after why
   pub written : sink.whole why.text.items held holds
-  pub status_is : status ≡ status_by_held why.held
+  pub warned : IsTried warner (warnings_by o why.signs.items) heard hears
+  pub status_is : status ≡ status_by o.strict (leaked_if_not why.held) (warnings_by o why.signs.items)
 
 -- the answer was made, and was not written whole
 pub record IsWhyWriteFault {R W : Type 0} (source : Source R) (sink : Sink W) (o : Options) (address : ℕ) (before after : List R)

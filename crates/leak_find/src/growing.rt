@@ -5,12 +5,12 @@ ghost use Rattle.leak_find.specs.Streams.{by_reads, by_writes};
 ghost use Rattle.leak_find.specs.Grow.{HasGrown, IsGrowFault, IsGrowRunFault, RunsGrow};
 
 use crate::fault::RunFault;
-use crate::running::{read_reader, status_of};
+use crate::running::{read_reader, status_of, write_both};
 use leak_growth::{Grown, find_growth};
 use leak_report::warnings;
 use leak_request::GrowOptions;
 use leak_search::FindError;
-use leak_streams::{ReadCalls, WriteCalls, write};
+use leak_streams::{ReadCalls, WriteCalls};
 use std::alloc::Global;
 
 /// Reads two logs, and finds what grew between them.
@@ -59,10 +59,8 @@ pub fn run_grow_sized<R: ReadCalls, W: WriteCalls, V: WriteCalls>(
     let Ok(warnings) = warnings(alloc, grown.signs.as_slice()) else {
         return Err(RunFault::Find(FindError::NoMemory));
     };
-    if let Err(fault) = write(&grown.report, writer) {
+    if let Err(fault) = write_both(&grown.report, warnings.as_str(), writer, warner) {
         return Err(RunFault::Write(fault));
     }
-    // The answer stands, whatever becomes of the warnings.
-    let _taken = write(warnings.as_bytes(), warner);
     Ok(status_of(options.strict, 0, warnings.as_str()))
 }

@@ -12,12 +12,12 @@ ghost use Rattle.leak_find.specs.HeldInputs.{bytes_in};
 
 use crate::asking::at_asking;
 use crate::fault::RunFault;
-use crate::running::{read_reader, status_of, warnings_by};
+use crate::running::{read_reader, status_of, warnings_by, write_both};
 use leak_holders::Question;
 use leak_holding::{Files, Holding, Progress, find_held, find_holders};
 use leak_request::Options;
 use leak_search::{FindError, WhyError};
-use leak_streams::{ReadCalls, WriteCalls, write};
+use leak_streams::{ReadCalls, WriteCalls};
 use std::alloc::Global;
 use std::thread::Threads;
 
@@ -157,10 +157,8 @@ pub fn run_holders_sized<
     let Ok(warnings) = warnings_by(alloc, options, holding.signs.as_slice()) else {
         return Err(RunFault::Find(FindError::NoMemory));
     };
-    if let Err(fault) = write(&holding.report, writer) {
+    if let Err(fault) = write_both(&holding.report, warnings.as_str(), writer, warner) {
         return Err(RunFault::Write(fault));
     }
-    // The answer stands, whatever becomes of the warnings.
-    let _taken = write(warnings.as_bytes(), warner);
     Ok(status_of(options.strict, 0, warnings.as_str()))
 }

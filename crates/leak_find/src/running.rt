@@ -1,8 +1,9 @@
 //! A whole run: the inputs are read, the search is made, the report is written.
 
-ghost use Rattle.std.specs.Prelude.{◌≡◌, ◌<◌, length, map, IfOk, IfErr, true, false, string_bytes};
+ghost use Rattle.std.specs.Prelude.{◌≡◌, ◌<◌, length, map, IfOk, IfErr, OnOk, true, false, string_bytes};
+ghost use Rattle.leak_streams.specs.Writes.{IsCutOff, IsWrittenWhole};
 ghost use Rattle.leak_request.specs.Requests.{file_count};
-ghost use Rattle.leak_find.specs.Streams.{by_bytes_held, by_bytes_left, by_reads, by_writes};
+ghost use Rattle.leak_find.specs.Streams.{IsTried, by_bytes_held, by_bytes_left, by_reads, by_writes};
 ghost use Rattle.leak_find.specs.Inputs.{IsReadAt, IsReaderFault};
 ghost use Rattle.leak_find.specs.Run.{signs_that_count, status_by, warnings_by, HasFound, IsSearchFault, Runs, IsRunFault};
 
@@ -11,7 +12,7 @@ use leak_pool::Open;
 use leak_report::{Signs, warnings};
 use leak_request::Options;
 use leak_search::{FindError, Found, find_one, find_two};
-use leak_streams::{ReadCalls, WriteCalls, read_sized, write};
+use leak_streams::{ReadCalls, WriteCalls, WriteFault, read_sized, write};
 use std::alloc::{AllocError, Global};
 use std::io::{Read, Write};
 use std::thread::Threads;
@@ -169,6 +170,23 @@ pub(crate) fn status_of(strict: bool, leaked: u64, warnings: &str) -> u8
     }
 }
 
+/// Writes a report, and then its warnings: the report stands, whatever becomes of these.
+pub(crate) fn write_both<W: WriteCalls, V: WriteCalls>(
+    report: &[u8],
+    warnings: &str,
+    writer: &mut W,
+    warner: &mut V,
+) -> Result<(), WriteFault>
+    ensures ok { OnOk result (IsWrittenWhole W.calls report.now writer.old writer.new) }
+    ensures warned { OnOk result (IsTried (by_writes V.calls) warnings.now warner.old warner.new) }
+    ensures cut_off { IfErr result (IsCutOff W.calls report.now writer.old writer.new) }
+    ensures silent { IfErr result (λ _. warner.new ≡ warner.old) }
+{
+    write(report, writer)?;
+    let _taken = write(warnings.as_bytes(), warner);
+    Ok(())
+}
+
 /// Reads a core and its log, or two of each (core 1, log 1, core 2, log 2), searches them, writes the report to the
 /// first writer and then the warnings to the second: 0 where nothing leaked, and 1 otherwise; where the options are
 /// strict and there is a warning, 3.
@@ -223,10 +241,8 @@ pub fn run_sized<T: Threads + Sync, R: ReadCalls, W: WriteCalls, V: WriteCalls>(
     let Ok(warnings) = warnings_by(alloc, options, found.signs.as_slice()) else {
         return Err(RunFault::Find(FindError::NoMemory));
     };
-    if let Err(fault) = write(&found.report, writer) {
+    if let Err(fault) = write_both(&found.report, warnings.as_str(), writer, warner) {
         return Err(RunFault::Write(fault));
     }
-    // The report stands, whatever becomes of the warnings.
-    let _taken = write(warnings.as_bytes(), warner);
     Ok(status_of(options.strict, found.leaked, warnings.as_str()))
 }

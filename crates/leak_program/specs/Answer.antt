@@ -33,13 +33,13 @@ IsNotShown sink text held holds (Read n path f) = ⊥
 IsNotShown sink text held holds (Run fault) = IsCut sink text held holds fault
 IsNotShown sink text held holds NoMemory = ⊥
 
--- files were searched; or asked for the block of the address, and there is no warning; or who holds the memory; or logs were
--- asked what grew; or a text was asked for, and there are no files
+-- files were searched; or asked for the block of the address, or who holds the memory; or logs were asked what grew; or a text was
+-- asked for, and there are no files
 abbrev pub AnswersBy : {F W V : Type 0} → Source F → Sink W → Sink V → Request → W → W → V → V → ℕ → List F → Type 0
 AnswersBy source sink warner (Search r) held holds heard hears status files =
     SearchesFiles source sink warner r.options held holds heard hears status files
 AnswersBy source sink warner (Why r) held holds heard hears status files =
-    AsksFiles source sink r.options r.address held holds status files × (hears ≡ heard)
+    AsksFiles source sink warner r.options r.address held holds heard hears status files
 AnswersBy source sink warner (Holders r) held holds heard hears status files =
     HoldsFiles source sink warner r held holds heard hears status files
 AnswersBy source sink warner (Grow r) held holds heard hears status files =

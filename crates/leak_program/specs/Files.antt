@@ -32,11 +32,11 @@ SearchesFiles {F} source sink warner o held holds heard hears status files =
 abbrev pub FailsFiles : {F W : Type 0} → Source F → Sink W → Options → W → W → RunFault → List F → Type 0
 FailsFiles {F} source sink o held holds fault files = (after : List F) × IsRunFault source sink o files after held holds fault
 
--- the files were read by the options and asked for the block of the address; the answer was written, and nothing else; the status is
--- that of the answer
-abbrev pub AsksFiles : {F W : Type 0} → Source F → Sink W → Options → ℕ → W → W → ℕ → List F → Type 0
-AsksFiles {F} source sink o address held holds status files =
-    (after : List F) × RunsWhy source sink o address files after held holds status
+-- the files were read by the options and asked for the block of the address; the answer was written, and nothing else, and its warnings
+-- to the second writer, or a first part of them; the status is that of the answer and the warnings
+abbrev pub AsksFiles : {F W V : Type 0} → Source F → Sink W → Sink V → Options → ℕ → W → W → V → V → ℕ → List F → Type 0
+AsksFiles {F} source sink warner o address held holds heard hears status files =
+    (after : List F) × RunsWhy source sink warner o address files after held holds heard hears status
 
 abbrev pub FailsAsked : {F W : Type 0} → Source F → Sink W → Options → ℕ → W → W → RunFault → List F → Type 0
 FailsAsked {F} source sink o address held holds fault files =

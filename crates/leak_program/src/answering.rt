@@ -17,9 +17,9 @@ use std::thread::Threads;
 
 /// Searches what the words ask for, which begin with the program's name, writes the report to the first writer and then
 /// the warnings to the second, and gives the status: 0 where nothing leaked, and 1 otherwise; with `--strict`, 3 where
-/// there is a warning. Where the words ask what holds a block, the answer is written to the first writer, and the status
-/// is 0 where the block is held, and 1 where it leaked. Where they ask who holds the memory, or what grew, the answer is
-/// written to the first writer and the warnings to the second, and the status is 0, or 3 by `--strict`. Where they ask for
+/// there is a warning. Where the words ask what holds a block, answer and warnings are written so too, and the status is 0
+/// where the block is held, and 1 where it leaked, or 3 by `--strict`. Where they ask who holds the memory, or what grew, the
+/// answer and the warnings are written so too, and the status is 0, or 3 by `--strict`. Where they ask for
 /// help, or for the version, the text is written to the first writer, and the status is 0.
 ///
 /// The progress is told how far a question who holds the memory has come, which changes nothing of all this. Where no word follows
@@ -55,7 +55,7 @@ pub fn answer<
     let alloc = rt.alloc();
     match request(alloc, words)? {
         Request::Search(request) => search_files(rt, opener, &request, writer, warner),
-        Request::Why(request) => ask_files(alloc, opener, &request, writer),
+        Request::Why(request) => ask_files(alloc, opener, &request, writer, warner),
         Request::Holders(request) => tell_holders(rt, opener, &request, progress, writer, warner),
         Request::Grow(request) => compare_logs(alloc, opener, &request, writer, warner),
         Request::Text(text) => show(text.as_str(), writer),

@@ -80,7 +80,8 @@ address_id = codes "address"
 
 -- `leak_find why CORE LOG ADDRESS`
 abbrev pub why_line : App
-why_line = with_rules (with_rules (new_app why_name) (map operand_rule (path_ids false ++ address_id ∷ []))) reading_rules
+why_line =
+    with_rules (with_rules (with_rules (new_app why_name) (map operand_rule (path_ids false ++ address_id ∷ []))) reading_rules) warning_rules
 
 -- the subcommand that asks who holds the memory
 abbrev pub holders_name : Text

@@ -77,7 +77,7 @@ pub record IsSearchRequest (name : Text) (rows : List Row) (r : SearchRequest) :
   pub core_limit : r.options.core_limit ≡ 68719476736
   pub log_limit : r.options.log_limit ≡ 4294967296
 
--- the request for what holds a block: nothing is asked for that only a search takes
+-- the request for what holds a block: one core, on one thread, and no misfits are listed
 pub record IsWhyRequest (rows : List Row) (r : WhyRequest) : Type 0 where
   pub two : r.options.two ≡ false
   pub paths : AreAt rows (path_ids false) r.paths.items
@@ -89,8 +89,8 @@ pub record IsWhyRequest (rows : List Row) (r : WhyRequest) : Type 0 where
   pub slack : IsTrue r.options.skip.slack ↔ IsGiven rows (codes "skip-slack")
   pub unwritable : IsFalse r.options.skip.unwritable ↔ IsGiven rows (codes "all-memory")
   pub check : r.options.check ≡ false
-  pub other_heap : r.options.other_heap ≡ false
-  pub strict : r.options.strict ≡ false
+  pub other_heap : IsTrue r.options.other_heap ↔ IsGiven rows (codes "other-heap")
+  pub strict : IsTrue r.options.strict ↔ IsGiven rows (codes "strict")
   pub core_limit : r.options.core_limit ≡ 68719476736
   pub log_limit : r.options.log_limit ≡ 4294967296
 

@@ -121,6 +121,7 @@ fn why_request(alloc: Global, found: &ArgMatches) -> Result<WhyRequest, UsageFau
     let Some(address) = address(word.as_bytes()) else {
         return Err(UsageFault::Address);
     };
+    let strict = is_given(found, "strict");
     Ok(WhyRequest {
         paths,
         options: Options {
@@ -128,9 +129,9 @@ fn why_request(alloc: Global, found: &ArgMatches) -> Result<WhyRequest, UsageFau
             reading,
             skip: skip(found),
             plan: Plan::new(1, 1, 0).unwrap(),
-            other_heap: false,
+            other_heap: is_given(found, "other-heap"),
             check: false,
-            strict: false,
+            strict,
             core_limit: CORE_LIMIT,
             log_limit: LOG_LIMIT,
         },

@@ -141,7 +141,8 @@ fn why<'a>(alloc: Global) -> Result<Command<'a>, AllocError>
         .arg(operand(alloc, "core", "CORE", CORE))?
         .arg(operand(alloc, "log", "LOG", LOG))?
         .arg(operand(alloc, "address", "ADDRESS", ADDRESS))?;
-    with_reading(alloc, command)
+    let command = with_reading(alloc, command)?;
+    with_warnings(alloc, command)
 }
 
 fn holders<'a>(alloc: Global) -> Result<Command<'a>, AllocError>

@@ -3,25 +3,22 @@ use Rattle.leak_streams.specs.Writes.{IsWrittenWhole, IsCutOff}
 use Rattle.leak_report.specs.Warnings.{warnings_of}
 use Rattle.leak_find.specs.Run.{status_by}
 use Rattle.leak_find.specs.Streams.{IsTried, by_writes}
-use Rattle.leak_find.proofs.TriedLemmas.{tried}
 use Rattle.leak_find.proofs.growing.run_grow_sized.Goals as goal
 
 pub returns-in-Err-clause-refused : goal.returns-in-Err-clause-refused
 returns-in-Err-clause-refused g c = record {
   grown = c.in_ok-grown.grown;
   has_grown = c.in_ok-grown.ensures.ok;
-  cut_off = subst (λ (text : List ℕ). IsCutOff g.W.WriteCalls.calls text c.args.writer.now c.write.new.writer c.in-Err.fault) c.deref.ensures.value c.in-Err.ensures.fault;
+  cut_off = subst (λ (text : List ℕ). IsCutOff g.W.WriteCalls.calls text c.args.writer.now c.write_both.new.writer c.in-Err.fault) c.deref.ensures.value c.in-Err.ensures.cut_off;
 }
 
 pub returns-clause-ok : goal.returns-clause-ok
 returns-clause-ok g c =
-    let made : c.as_bytes.result.now ≡ warnings_of c.in_ok-grown.grown.signs.items = c.as_bytes.ensures.value ∙ c.in-Ok.ensures ∙ ap (λ ss. warnings_of ss) c.as_slice.ensures.value in
     let shown : c.as_str.result.now ≡ warnings_of c.in_ok-grown.grown.signs.items = c.as_str.ensures.value ∙ c.in-Ok.ensures ∙ ap (λ ss. warnings_of ss) c.as_slice.ensures.value in
     record {
       grown = c.in_ok-grown.grown;
       has_grown = c.in_ok-grown.ensures.ok;
-      written = subst (λ (text : List ℕ). IsWrittenWhole g.W.WriteCalls.calls text c.args.writer.now c.write.new.writer) c.deref.ensures.value c.in_default-write.ensures.ok;
-      warned = subst (λ (text : List ℕ). IsTried (by_writes g.V.WriteCalls.calls) text c.args.warner.now c.write-taken.new.writer) made
-          (tried (by_writes g.V.WriteCalls.calls) c.as_bytes.result.now c.args.warner.now c.write-taken.new.writer c.write-taken.result c.write-taken.ensures.ok c.write-taken.ensures.fault);
+      written = subst (λ (text : List ℕ). IsWrittenWhole g.W.WriteCalls.calls text c.args.writer.now c.write_both.new.writer) c.deref.ensures.value c.in_default.ensures.ok;
+      warned = subst (λ (text : List ℕ). IsTried (by_writes g.V.WriteCalls.calls) text c.args.warner.now c.write_both.new.warner) shown c.in_default.ensures.warned;
       status_is = c.status_of.ensures ∙ ap (λ text. status_by c.args.options.now.strict 0 text) shown;
     }
