@@ -129,7 +129,7 @@ def of_streams():
                           FILES, held(), "", 3, {"stderr": place}))
         found.append(case(f"a leak, standard error {name}", "as without warnings", "one core.k trace.log --displace 8",
                           {**FILES, "core.k": core()}, lost(), "", 1, {"stderr": place}))
-        found.append(case(f"why, standard error {name}", "nothing was to be written there", "why core.k trace.log 0x10100",
+        found.append(case(f"why, standard error {name}", "the answer stands, and its status", "why core.k trace.log 0x10100",
                           FILES, answer, "", 0, {"stderr": place}))
         found.append(case(f"refused, standard error {name}", "the status tells", "one core.k no.log", FILES, "", "", 2,
                           {"stderr": place}))

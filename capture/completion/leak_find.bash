@@ -9,7 +9,7 @@ _leak_options() {
     help) echo '-h --help' ;;
     one | two) echo "$search --check -h --help" ;;
     holders) echo "$search --in --of --block --since -h --help" ;;
-    why) echo "$skips -h --help" ;;
+    why) echo "$skips --other-heap --strict -h --help" ;;
     grow) echo '--strict -h --help' ;;
     leak_trace) echo '-o -d -m -w -k -e --list --remove' ;;
     leak_dump) echo '--after --core --size' ;;

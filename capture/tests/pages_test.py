@@ -37,7 +37,7 @@ class Pages(unittest.TestCase):
         self.assertEqual(taken["one"], set(listed[:-4]))
         self.assertEqual(taken["two"], set(listed[:-4]))
         self.assertEqual(taken["holders"], set(listed) - {"--check"})
-        self.assertEqual(taken["why"], set(listed[:listed.index("--displace") + 1]))
+        self.assertEqual(taken["why"], {*listed[:listed.index("--displace") + 1], "--other-heap", "--strict"})
         self.assertEqual(taken["grow"], {"--strict"})
 
 
