@@ -1,0 +1,5 @@
+pub mod Lists
+pub mod TextSums
+pub mod SameTexts
+pub mod Ascending
+pub mod SameLemmas

@@ -1,0 +1,8 @@
+//! Laws of what the program tells: none of them is needed to run it.
+//!
+//! Each is a function that does nothing: its contract is the law.
+#![tactic(auto)]
+
+mod same;
+
+pub use same::{reports_are_one, signs_are_one};
