@@ -3,6 +3,8 @@
 //! Each is a function that does nothing: its contract is the law.
 #![tactic(auto)]
 
+mod leaks;
 mod same;
 
+pub use leaks::{earlier_cores_keep_blocks, reported_stay_reported};
 pub use same::{reports_are_one, signs_are_one};
