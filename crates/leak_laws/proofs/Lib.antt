@@ -3,5 +3,7 @@ pub mod SameLemmas
 pub mod TextSums
 pub mod SameTexts
 pub mod Ascending
+pub mod GrowthSums
+pub mod SameGrowth
 pub mod Reading
 pub mod LeakLemmas
