@@ -1,3 +1,4 @@
 pub mod Same
 pub mod Leaks
 pub mod Growth
+pub mod GrowthRows

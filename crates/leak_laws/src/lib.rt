@@ -7,6 +7,6 @@ mod growth;
 mod leaks;
 mod same;
 
-pub use growth::{growths_add_up, reports_of_growth_are_one};
+pub use growth::{growths_add_up, reports_of_growth_are_one, worked_growths};
 pub use leaks::{earlier_cores_keep_blocks, reported_stay_reported};
 pub use same::{reports_are_one, signs_are_one};
