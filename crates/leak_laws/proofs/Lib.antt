@@ -7,3 +7,6 @@ pub mod GrowthSums
 pub mod SameGrowth
 pub mod Reading
 pub mod LeakLemmas
+pub mod SameTextNumbers
+pub mod SameRows
+pub mod SameHeld

@@ -2,3 +2,4 @@ pub mod Same
 pub mod Leaks
 pub mod Growth
 pub mod GrowthRows
+pub mod Held

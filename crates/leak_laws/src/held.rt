@@ -1,0 +1,16 @@
+//! Answers about what is held are one.
+
+ghost use Rattle.leak_laws.specs.Held.{AnswersAreOne, AnswersOfWhyAreAsLong, ReportsOfHoldersAreOne};
+
+/// Two accepted reports of who holds the memory, from the same bytes and by the same options, are the same, byte by byte, and so are two
+/// answers to one question about what chosen blocks hold, or who holds them.
+pub fn reports_of_holders_are_one()
+    ensures holders { ReportsOfHoldersAreOne }
+    ensures chosen { AnswersAreOne }
+{}
+
+/// Two answers to why a block is held are of the same block, both say that it is held or neither, and have as many links. (Which of the
+/// shortest chains is told, the contract leaves open.)
+pub fn answers_of_why_are_as_long()
+    ensures { AnswersOfWhyAreAsLong }
+{}
