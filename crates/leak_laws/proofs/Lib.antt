@@ -10,3 +10,6 @@ pub mod LeakLemmas
 pub mod SameTextNumbers
 pub mod SameRows
 pub mod SameHeld
+pub mod Splits
+pub mod RowReading
+pub mod ToldLemmas

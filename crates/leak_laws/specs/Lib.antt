@@ -3,3 +3,4 @@ pub mod Leaks
 pub mod Growth
 pub mod GrowthRows
 pub mod Held
+pub mod Told
