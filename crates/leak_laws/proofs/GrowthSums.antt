@@ -32,11 +32,7 @@ use Rattle.leak_growth.proofs.RankLemmas.{each_ranked, ranked_has, sorted_ranked
 use Rattle.leak_laws.specs.Growth.{AddUp}
 use Rattle.leak_laws.proofs.Ascending.{AreAmong, Ascend, ascend, ascend_filtered, as_long, same_blocks, unfiltered}
 use Rattle.leak_laws.proofs.SameTexts.{texts_are_same}
-use Rattle.leak_laws.proofs.TextSums.{AreApart, of_text, sum_map, sum_same, sum_same_of, sum_texts}
-
-length_sum : {X : Type 0} (xs : List X) → length xs ≡ sum_by (λ x. 1) xs
-length_sum [] = refl
-length_sum {X} (x ∷ xs) = omega (arith, sum_by-cons (λ (y : X). 1) x xs, length_sum xs)
+use Rattle.leak_laws.proofs.TextSums.{AreApart, length_sum, sum_map, sum_same_of, sum_texts}
 
 both_front : {X : Type 0} (xs ys : List X) (x : X) → Has xs x → Has (xs ++ ys) x
 both_front [] ys x has = absurd has

@@ -13,3 +13,5 @@ pub mod SameHeld
 pub mod Splits
 pub mod RowReading
 pub mod ToldLemmas
+pub mod ReportLemmas
+pub mod SearchReports

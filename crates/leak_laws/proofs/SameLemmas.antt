@@ -62,19 +62,26 @@ later_report core log reading skip check lines pages kept fresh workers others a
       leaked = f.leaked ∙ ap (λ (t : List Bool). length (leaked_in t (live_of lines))) s ∙ sym g.leaked;
     }
 
-pub two_report : (core1 log1 core2 log2 : List ℕ) (reading : Distances) (skip : Skip) (check : Bool) (workers others : ℕ) (a b : Found)
-    → FindsTwo core1 log1 core2 log2 reading skip check workers a → FindsTwo core1 log1 core2 log2 reading skip check others b → IsSameReport a b
-two_report core1 log1 core2 log2 reading skip check workers others a b f g =
+-- what the second search finds in the later core, told by the lines, the marked set and the pages of the first
+pub later_of : (core1 log1 core2 log2 : List ℕ) (reading : Distances) (skip : Skip) (check other : Bool) (workers others : ℕ) (a b : Found)
+    → (f : FindsTwo core1 log1 core2 log2 reading skip check workers a) → FindsTwo core1 log1 core2 log2 reading skip other others b
+    → FindsLater core2 log2 reading skip other f.second.lines f.pages (kept_blocks f.first.lines f.earlier f.second.lines) (new_blocks f.first.lines f.second.lines) others b
+later_of core1 log1 core2 log2 reading skip check other workers others a b f g =
     let before : f.first.lines ≡ g.first.lines = logs_are_one log1 f.first.lines g.first.lines f.first.log_is g.first.log_is in
     let now : f.second.lines ≡ g.second.lines = logs_are_one log2 f.second.lines g.second.lines f.second.log_is g.second.log_is in
     let pages : f.pages ≡ g.pages = pages_are_one (word_of core1) (word_of core2) f.pages g.pages f.differing g.differing in
     let marked : IsMarkedEarlier core1 reading skip f.first.lines g.earlier = subst (λ (l : List Line). IsMarkedEarlier core1 reading skip l g.earlier) (sym before) g.marked in
     let earlier : f.earlier ≡ g.earlier = sets_are_one _ _ f.earlier g.earlier f.marked marked in
-    let one = subst (λ (l : List Line). FindsLater core2 log2 reading skip check g.second.lines g.pages (kept_blocks l g.earlier g.second.lines) (new_blocks l g.second.lines) others b) (sym before) g.finds in
-    let two = subst (λ (l : List Line). FindsLater core2 log2 reading skip check l g.pages (kept_blocks f.first.lines g.earlier l) (new_blocks f.first.lines l) others b) (sym now) one in
-    let three = subst (λ (ps : List ℕ). FindsLater core2 log2 reading skip check f.second.lines ps (kept_blocks f.first.lines g.earlier f.second.lines) (new_blocks f.first.lines f.second.lines) others b) (sym pages) two in
-    let four = subst (λ (t : List Bool). FindsLater core2 log2 reading skip check f.second.lines f.pages (kept_blocks f.first.lines t f.second.lines) (new_blocks f.first.lines f.second.lines) others b) (sym earlier) three in
-    later_report core2 log2 reading skip check f.second.lines f.pages (kept_blocks f.first.lines f.earlier f.second.lines) (new_blocks f.first.lines f.second.lines) workers others a b f.finds four
+    let one = subst (λ (l : List Line). FindsLater core2 log2 reading skip other g.second.lines g.pages (kept_blocks l g.earlier g.second.lines) (new_blocks l g.second.lines) others b) (sym before) g.finds in
+    let two = subst (λ (l : List Line). FindsLater core2 log2 reading skip other l g.pages (kept_blocks f.first.lines g.earlier l) (new_blocks f.first.lines l) others b) (sym now) one in
+    let three = subst (λ (ps : List ℕ). FindsLater core2 log2 reading skip other f.second.lines ps (kept_blocks f.first.lines g.earlier f.second.lines) (new_blocks f.first.lines f.second.lines) others b) (sym pages) two in
+    subst (λ (t : List Bool). FindsLater core2 log2 reading skip other f.second.lines f.pages (kept_blocks f.first.lines t f.second.lines) (new_blocks f.first.lines f.second.lines) others b) (sym earlier) three
+
+pub two_report : (core1 log1 core2 log2 : List ℕ) (reading : Distances) (skip : Skip) (check : Bool) (workers others : ℕ) (a b : Found)
+    → FindsTwo core1 log1 core2 log2 reading skip check workers a → FindsTwo core1 log1 core2 log2 reading skip check others b → IsSameReport a b
+two_report core1 log1 core2 log2 reading skip check workers others a b f g =
+    later_report core2 log2 reading skip check f.second.lines f.pages (kept_blocks f.first.lines f.earlier f.second.lines) (new_blocks f.first.lines f.second.lines) workers others a b f.finds
+    (later_of core1 log1 core2 log2 reading skip check check workers others a b f g)
 
 -- ---- signs
 

@@ -4,3 +4,4 @@ pub mod Growth
 pub mod GrowthRows
 pub mod Held
 pub mod Told
+pub mod Reports
