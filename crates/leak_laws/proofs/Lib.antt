@@ -14,4 +14,5 @@ pub mod Splits
 pub mod RowReading
 pub mod ToldLemmas
 pub mod ReportLemmas
+pub mod OneLineTexts
 pub mod SearchReports

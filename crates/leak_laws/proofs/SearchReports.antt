@@ -17,9 +17,11 @@ use Rattle.leak_input.specs.declared.found.Found.{Found}
 use Rattle.leak_input.specs.Signs.{fits_told}
 use Rattle.leak_search.specs.Search.{FindsOne, graph_of_one, head_of_one, index_of}
 use Rattle.leak_search.specs.SearchTwo.{FindsTwo, head_of_two, kept_blocks, new_blocks, numbers_of_two}
+use Rattle.leak_laws.specs.OneLine.{AreOfOneLine}
 use Rattle.leak_laws.specs.Reports.{IsReport, told_by_one, told_by_two, told_of, without_misfits}
 use Rattle.leak_laws.specs.Told.{told_text}
 use Rattle.leak_laws.proofs.Ascending.{ascend}
+use Rattle.leak_laws.proofs.OneLineTexts.{blocks_lack, of_one_line}
 use Rattle.leak_laws.proofs.ReportLemmas.{belong, report_is_told}
 use Rattle.leak_laws.proofs.SameLemmas.{later_of, sets_are_one}
 
@@ -43,6 +45,16 @@ of_two core1 log1 core2 log2 reading skip check workers found f = record {
       (length-heads_of (word_of core2) (index_of reading f.second.lines) f.finds.set) (ascend (live_of f.second.lines) (live_disjoint f.second.lines));
   leaked = f.finds.leaked;
 }
+
+-- ---- texts
+
+pub one_of_lines : (core log : List ℕ) (reading : Distances) (skip : Skip) (check : Bool) (workers : ℕ) (found : Found) → (f : FindsOne core log reading skip check workers found) → AreOfOneLine (told_by_one f)
+one_of_lines core log reading skip check workers found f =
+    of_one_line (head_of_one core log skip f.lines) (live_of f.lines) f.set (heads_of (word_of core) (index_of reading f.lines) f.set) (fits_told check core f.lines) log (blocks_lack log f.lines f.is_log)
+
+pub two_of_lines : (core1 log1 core2 log2 : List ℕ) (reading : Distances) (skip : Skip) (check : Bool) (workers : ℕ) (found : Found) → (f : FindsTwo core1 log1 core2 log2 reading skip check workers found) → AreOfOneLine (told_by_two f)
+two_of_lines core1 log1 core2 log2 reading skip check workers found f =
+    of_one_line (head_by f) (live_of f.second.lines) f.finds.set (heads_of (word_of core2) (index_of reading f.second.lines) f.finds.set) (fits_told check core2 f.second.lines) log2 (blocks_lack log2 f.second.lines f.second.log_is)
 
 -- ---- without the lines of misfits
 

@@ -5,3 +5,4 @@ pub mod GrowthRows
 pub mod Held
 pub mod Told
 pub mod Reports
+pub mod OneLine

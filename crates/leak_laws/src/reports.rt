@@ -1,5 +1,6 @@
 //! Reports, for who reads them.
 
+ghost use Rattle.leak_laws.specs.OneLine.{ReportsOfOneAreOfLines, ReportsOfTwoAreOfLines, TextsAreOfOneLine};
 ghost use Rattle.leak_laws.specs.Reports.{CheckAddsMisfits, CheckAddsMisfitsOfTwo, ReportsAreTold, ReportsOfOneBelongTogether, ReportsOfTwoBelongTogether};
 ghost use Rattle.leak_laws.specs.Told.{ReportsReadBack};
 
@@ -21,4 +22,11 @@ pub fn lines_belong_together()
 pub fn check_adds_misfits()
     ensures one { CheckAddsMisfits }
     ensures two { CheckAddsMisfitsOfTwo }
+{}
+
+/// The text of a caller has no line feed: of no live block of a log, and so in no line of a report.
+pub fn texts_are_of_one_line()
+    ensures blocks { TextsAreOfOneLine }
+    ensures one { ReportsOfOneAreOfLines }
+    ensures two { ReportsOfTwoAreOfLines }
 {}
