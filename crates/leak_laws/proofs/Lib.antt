@@ -16,3 +16,4 @@ pub mod ToldLemmas
 pub mod ReportLemmas
 pub mod OneLineTexts
 pub mod SearchReports
+pub mod HeldReading

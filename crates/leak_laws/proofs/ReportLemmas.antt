@@ -29,7 +29,7 @@ use Rattle.leak_laws.proofs.TextSums.{AreApart, length_sum, sum_map, sum_same_of
 
 -- ---- the bytes
 
-flat_mapped : {X Y : Type 0} (line : Y → List ℕ) (told : X → Y) (xs : List X) → flat_map line (map told xs) ≡ flat_map (λ x. line (told x)) xs
+pub flat_mapped : {X Y : Type 0} (line : Y → List ℕ) (told : X → Y) (xs : List X) → flat_map line (map told xs) ≡ flat_map (λ x. line (told x)) xs
 flat_mapped line told [] = refl
 flat_mapped line told (x ∷ xs) = ap (λ (r : List ℕ). line (told x) ++ r) (flat_mapped line told xs)
 

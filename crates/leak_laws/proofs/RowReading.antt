@@ -74,6 +74,34 @@ number_read name m n r s p q e =
     flat : (name : List ℕ) (m : ℕ) (r : List ℕ) → (name ++ (decimal m ++ (10 ∷ []))) ++ r ≡ name ++ (decimal m ++ (10 ∷ r))
     flat name m r = simp append_assoc
 
+-- what is odd about a log: the same numbers
+pub record AreSameCounts (u v : ℕ) (d e : ℕ) (t w : ℕ) (r s : List ℕ) : Type 0 where
+  pub unknown : u ≡ v
+  pub displaced : d ≡ e
+  pub torn : t ≡ w
+  pub rest : r ≡ s
+
+abbrev pub counts : ℕ → ℕ → ℕ → List ℕ
+counts unknown displaced torn = codes "unknown " ++ (decimal unknown ++ (codes " displaced " ++ (decimal displaced ++ (codes " torn " ++ (decimal torn ++ (10 ∷ []))))))
+
+flat_counts : (u d t : ℕ) (r : List ℕ) → counts u d t ++ r ≡ codes "unknown " ++ (decimal u ++ (32 ∷ (codes "displaced " ++ (decimal d ++ (32 ∷ (codes "torn " ++ (decimal t ++ (10 ∷ r))))))))
+flat_counts u d t r = simp append_assoc
+
+pub counts_read : (u v d e t w : ℕ) (r s : List ℕ) → IsNumber u → IsNumber v → IsNumber d → IsNumber e → IsNumber t → IsNumber w → counts u d t ++ r ≡ counts v e w ++ s → AreSameCounts u v d e t w r s
+counts_read u v d e t w r s pu pv pd pe pt pw same =
+    let e0 = append_cancel_left (codes "unknown ") _ _ (sym (flat_counts u d t r) ∙ same ∙ flat_counts v e w s) in
+    let unknown = split_number 32 u v _ _ space_ends pu pv e0 in
+    let displaced = split_number 32 d e _ _ space_ends pd pe (append_cancel_left (codes "displaced ") _ _ unknown.rest) in
+    let torn = split_number 10 t w r s feed_ends pt pw (append_cancel_left (codes "torn ") _ _ displaced.rest) in
+    record { unknown = unknown.part; displaced = displaced.part; torn = torn.part; rest = torn.rest }
+
+-- the number of freed words, if it is told
+pub freed_read : (x y : Option ℕ) (r s : List ℕ) → IfSome x IsNumber → IfSome y IsNumber → NotFirst 102 r → NotFirst 102 s → freed_lines x ++ r ≡ freed_lines y ++ s → AreSame x y r s
+freed_read None None r s p q left right e = record { part = refl; rest = e }
+freed_read None (Some n) r s p q left right e = absurd (left _ e)
+freed_read (Some m) None r s p q left right e = absurd (right _ (sym e))
+freed_read (Some m) (Some n) r s p q left right e = let one = number_read (codes "freed ") m n r s p q e in record { part = ap (λ (k : ℕ). Some k) one.part; rest = one.rest }
+
 -- ---- rows of a report
 
 flat_caller : (c : ToldCaller) (r : List ℕ) → caller_text c ++ r ≡ codes "caller " ++ (decimal c.blocks ++ (32 ∷ (decimal c.bytes ++ (32 ∷ (decimal c.heads ++ (32 ∷ (c.text ++ (10 ∷ r))))))))

@@ -32,7 +32,7 @@ split_at c (x ∷ xs) (y ∷ ys) r s p q e =
     record { part = (let f : x ∷ xs ≡ y ∷ ys = cc in f); rest = more.rest }
 
 -- a byte that is no digit
-lacks_digits : (base c : ℕ) (ds : List ℕ) → base ≤ digit_value c → AllDigits base ds → Lacks c ds
+pub lacks_digits : (base c : ℕ) (ds : List ℕ) → base ≤ digit_value c → AllDigits base ds → Lacks c ds
 lacks_digits base c [] none all = tt
 lacks_digits base c (d ∷ ds) none all =
     (false_from_ne_true (d == c) (λ is. let e : d ≡ c = eqb-true d c is in let low : digit_value c < base = subst (λ (b : ℕ). digit_value b < base) e all.0 in omega arith), lacks_digits base c ds none all.1)

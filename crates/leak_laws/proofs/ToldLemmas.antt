@@ -6,19 +6,10 @@ use Rattle.leak_report.specs.declared.head.Head.{Head}
 use Rattle.leak_report.specs.declared.head.Two.{Two}
 use Rattle.leak_report.specs.Lines.{freed_lines, heads_line, log_line, two_lines, undumped_line}
 use Rattle.leak_laws.specs.Told.{AreTwoRead, IsHeadRead, IsNumber, IsRead, Sum, Told, ToldCaller, ToldLeak, ToldMisfit, caller_text, leak_text, misfit_text, number_lines, sum_line, told_text}
-use Rattle.leak_laws.proofs.RowReading.{NotFirst, caller_rows, feed_ends, leak_rows, misfit_rows, number_read, others_first, rows_read, space_ends, sum_read}
-use Rattle.leak_laws.proofs.Splits.{AreSame, split_number}
-
-first_of : (m n : ℕ) (r s : List ℕ) → m ∷ r ≡ n ∷ s → m ≡ n
-first_of m n r s e = ap (λ (t : List ℕ). get_or t 0 0) e
+use Rattle.leak_laws.proofs.RowReading.{NotFirst, caller_rows, counts_read, freed_read, leak_rows, misfit_rows, number_read, others_first, rows_read, sum_read}
+use Rattle.leak_laws.proofs.Splits.{AreSame}
 
 -- ---- lines that may be missing
-
-freed_read : (x y : Option ℕ) (r s : List ℕ) → IfSome x IsNumber → IfSome y IsNumber → NotFirst 102 r → NotFirst 102 s → freed_lines x ++ r ≡ freed_lines y ++ s → AreSame x y r s
-freed_read None None r s p q left right e = record { part = refl; rest = e }
-freed_read None (Some n) r s p q left right e = absurd (left _ e)
-freed_read (Some m) None r s p q left right e = absurd (right _ (sym e))
-freed_read (Some m) (Some n) r s p q left right e = let one = number_read (codes "freed ") m n r s p q e in record { part = ap (λ (k : ℕ). Some k) one.part; rest = one.rest }
 
 flat_two : (t : Two) (r : List ℕ) → two_lines (Some t) ++ r ≡ sum_line (codes "new") (record { blocks = t.fresh; bytes = t.fresh_bytes }) ++ ((codes "reread " ++ (decimal t.reread ++ (10 ∷ []))) ++ r)
 flat_two t r = append_assoc (sum_line (codes "new") (record { blocks = t.fresh; bytes = t.fresh_bytes })) (codes "reread " ++ (decimal t.reread ++ (10 ∷ []))) r
@@ -55,24 +46,6 @@ no_number [] [] (m ∷ misfits) rest e = let n : 32 ≡ 115 = ap (λ (t : List �
 no_number [] [] [] rest e = let n : 0 ≡ 109 = ap (λ (t : List ℕ). get_or t 0 0) e in omega (arith, n)
 
 -- ---- the first lines
-
-flat_log : (h : Head) (r : List ℕ) → log_line h ++ r ≡ codes "unknown " ++ (decimal h.unknown ++ (32 ∷ (codes "displaced " ++ (decimal h.displaced ++ (32 ∷ (codes "torn " ++ (decimal h.torn ++ (10 ∷ r))))))))
-flat_log h r = simp append_assoc
-
--- the same numbers of a log
-record AreSameCounts (x y : Head) (r s : List ℕ) : Type 0 where
-  unknown : x.unknown ≡ y.unknown
-  displaced : x.displaced ≡ y.displaced
-  torn : x.torn ≡ y.torn
-  rest : r ≡ s
-
-log_read : (x y : Head) (r s : List ℕ) → IsHeadRead x → IsHeadRead y → log_line x ++ r ≡ log_line y ++ s → AreSameCounts x y r s
-log_read x y r s p q e =
-    let e0 = append_cancel_left (codes "unknown ") _ _ (sym (flat_log x r) ∙ e ∙ flat_log y s) in
-    let unknown = split_number 32 x.unknown y.unknown _ _ space_ends p.unknown q.unknown e0 in
-    let displaced = split_number 32 x.displaced y.displaced _ _ space_ends p.displaced q.displaced (append_cancel_left (codes "displaced ") _ _ unknown.rest) in
-    let torn = split_number 10 x.torn y.torn r s feed_ends p.torn q.torn (append_cancel_left (codes "torn ") _ _ displaced.rest) in
-    record { unknown = unknown.part; displaced = displaced.part; torn = torn.part; rest = torn.rest }
 
 same_head : (x y : Head) → x.undumped ≡ y.undumped → x.unknown ≡ y.unknown → x.displaced ≡ y.displaced → x.torn ≡ y.torn → x.freed ≡ y.freed → x.two ≡ y.two → x ≡ y
 same_head x y a b c d e f =
@@ -114,11 +87,24 @@ misfits_first c differ (m ∷ ms) rest e = differ (ap (λ (u : List ℕ). get_or
 leaks_first : (ls : List ToldLeak) (ms : List ToldMisfit) → NotFirst 99 (flat_map leak_text ls ++ flat_map misfit_text ms)
 leaks_first ls ms = others_first leak_text 108 _ leak_rows 99 (λ e. omega (arith, e)) ls (flat_map misfit_text ms) (misfits_first 99 (λ e. omega (arith, e)) ms)
 
+same_told : (a b : Told) → a.all ≡ b.all → a.head ≡ b.head → a.marked ≡ b.marked → a.leaked ≡ b.leaked → a.heads ≡ b.heads → a.misfits ≡ b.misfits → a.callers ≡ b.callers → a.leaks ≡ b.leaks → a.misfit_rows ≡ b.misfit_rows → a ≡ b
+same_told a b c d e f g h i j k =
+    ap (λ (x : Sum). record { all = x; head = a.head; marked = a.marked; leaked = a.leaked; heads = a.heads; misfits = a.misfits; callers = a.callers; leaks = a.leaks; misfit_rows = a.misfit_rows }) c
+    ∙ ap (λ (x : Head). record { all = b.all; head = x; marked = a.marked; leaked = a.leaked; heads = a.heads; misfits = a.misfits; callers = a.callers; leaks = a.leaks; misfit_rows = a.misfit_rows }) d
+    ∙ ap (λ (x : Sum). record { all = b.all; head = b.head; marked = x; leaked = a.leaked; heads = a.heads; misfits = a.misfits; callers = a.callers; leaks = a.leaks; misfit_rows = a.misfit_rows }) e
+    ∙ ap (λ (x : Sum). record { all = b.all; head = b.head; marked = b.marked; leaked = x; heads = a.heads; misfits = a.misfits; callers = a.callers; leaks = a.leaks; misfit_rows = a.misfit_rows }) f
+    ∙ ap (λ (x : ℕ). record { all = b.all; head = b.head; marked = b.marked; leaked = b.leaked; heads = x; misfits = a.misfits; callers = a.callers; leaks = a.leaks; misfit_rows = a.misfit_rows }) g
+    ∙ ap (λ (x : Option ℕ). record { all = b.all; head = b.head; marked = b.marked; leaked = b.leaked; heads = b.heads; misfits = x; callers = a.callers; leaks = a.leaks; misfit_rows = a.misfit_rows }) h
+    ∙ ap (λ (x : List ToldCaller). record { all = b.all; head = b.head; marked = b.marked; leaked = b.leaked; heads = b.heads; misfits = b.misfits; callers = x; leaks = a.leaks; misfit_rows = a.misfit_rows }) i
+    ∙ ap (λ (x : List ToldLeak). record { all = b.all; head = b.head; marked = b.marked; leaked = b.leaked; heads = b.heads; misfits = b.misfits; callers = b.callers; leaks = x; misfit_rows = a.misfit_rows }) j
+    ∙ ap (λ (x : List ToldMisfit). record { all = b.all; head = b.head; marked = b.marked; leaked = b.leaked; heads = b.heads; misfits = b.misfits; callers = b.callers; leaks = b.leaks; misfit_rows = x }) k
+
 pub read_back : (a b : Told) → IsRead a → IsRead b → told_text a ≡ told_text b → a ≡ b
 read_back a b p q e =
     let all = sum_read (codes "blocks") a.all b.all _ _ p.all q.all (sym (grouped a) ∙ e ∙ grouped b) in
     let undumped = number_read (codes "undumped ") a.head.undumped b.head.undumped _ _ p.head.undumped q.head.undumped all.rest in
-    let counts = log_read a.head b.head _ _ p.head q.head undumped.rest in
+    let counts =
+    counts_read a.head.unknown b.head.unknown a.head.displaced b.head.displaced a.head.torn b.head.torn _ _ p.head.unknown q.head.unknown p.head.displaced q.head.displaced p.head.torn q.head.torn undumped.rest in
     let freed = freed_read a.head.freed b.head.freed _ _ p.head.freed q.head.freed (two_first a.head.two a) (two_first b.head.two b) counts.rest in
     let two = two_read a.head.two b.head.two _ _ p.head.two q.head.two (end_first a) (end_first b) freed.rest in
     let marked = sum_read (codes "marked") a.marked b.marked _ _ p.marked q.marked two.rest in
@@ -130,12 +116,4 @@ read_back a b p q e =
     let last : flat_map misfit_text a.misfit_rows ++ [] ≡ flat_map misfit_text b.misfit_rows ++ [] = append-nil (flat_map misfit_text a.misfit_rows) ∙ leaks.rest ∙ sym (append-nil (flat_map misfit_text b.misfit_rows)) in
     let rows = rows_read misfit_text 109 _ misfit_rows a.misfit_rows b.misfit_rows [] [] p.misfit_rows q.misfit_rows (λ r f. let n : 0 ≡ 109 = ap (λ (u : List ℕ). get_or u 0 0) f in omega (arith, n)) (λ r f. let n : 0 ≡ 109 = ap (λ (u : List ℕ). get_or u 0 0) f in omega (arith, n)) last in
     let head : a.head ≡ b.head = same_head a.head b.head undumped.part counts.unknown counts.displaced counts.torn freed.part two.part in
-    ap (λ (x : Sum). record { all = x; head = a.head; marked = a.marked; leaked = a.leaked; heads = a.heads; misfits = a.misfits; callers = a.callers; leaks = a.leaks; misfit_rows = a.misfit_rows }) all.part
-    ∙ ap (λ (x : Head). record { all = b.all; head = x; marked = a.marked; leaked = a.leaked; heads = a.heads; misfits = a.misfits; callers = a.callers; leaks = a.leaks; misfit_rows = a.misfit_rows }) head
-    ∙ ap (λ (x : Sum). record { all = b.all; head = b.head; marked = x; leaked = a.leaked; heads = a.heads; misfits = a.misfits; callers = a.callers; leaks = a.leaks; misfit_rows = a.misfit_rows }) marked.part
-    ∙ ap (λ (x : Sum). record { all = b.all; head = b.head; marked = b.marked; leaked = x; heads = a.heads; misfits = a.misfits; callers = a.callers; leaks = a.leaks; misfit_rows = a.misfit_rows }) leaked.part
-    ∙ ap (λ (x : ℕ). record { all = b.all; head = b.head; marked = b.marked; leaked = b.leaked; heads = x; misfits = a.misfits; callers = a.callers; leaks = a.leaks; misfit_rows = a.misfit_rows }) heads.part
-    ∙ ap (λ (x : Option ℕ). record { all = b.all; head = b.head; marked = b.marked; leaked = b.leaked; heads = b.heads; misfits = x; callers = a.callers; leaks = a.leaks; misfit_rows = a.misfit_rows }) misfits.part
-    ∙ ap (λ (x : List ToldCaller). record { all = b.all; head = b.head; marked = b.marked; leaked = b.leaked; heads = b.heads; misfits = b.misfits; callers = x; leaks = a.leaks; misfit_rows = a.misfit_rows }) callers.part
-    ∙ ap (λ (x : List ToldLeak). record { all = b.all; head = b.head; marked = b.marked; leaked = b.leaked; heads = b.heads; misfits = b.misfits; callers = b.callers; leaks = x; misfit_rows = a.misfit_rows }) leaks.part
-    ∙ ap (λ (x : List ToldMisfit). record { all = b.all; head = b.head; marked = b.marked; leaked = b.leaked; heads = b.heads; misfits = b.misfits; callers = b.callers; leaks = b.leaks; misfit_rows = x }) rows.part
+    same_told a b all.part head marked.part leaked.part heads.part misfits.part callers.part leaks.part rows.part

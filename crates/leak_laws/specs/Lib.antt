@@ -6,3 +6,5 @@ pub mod Held
 pub mod Told
 pub mod Reports
 pub mod OneLine
+pub mod ToldHeld
+pub mod ToldAnswers
