@@ -85,7 +85,7 @@ growth_rows = record { begins = λ g. (_, refl); reads = growth_read }
 no_more : (c : ℕ) → (0 ≡ c → ⊥) → NotFirst c []
 no_more c differ rest e = differ (ap (λ (t : List ℕ). get_or t 0 0) e)
 
-last_rows : {X : Type 0} (line : X → List ℕ) (first : ℕ) (ok : X → Type 0) → IsRowText line first ok → (0 ≡ first → ⊥) → (xs ys : List X) → AllByRecursion ok xs → AllByRecursion ok ys → flat_map line xs ≡ flat_map line ys → xs ≡ ys
+pub last_rows : {X : Type 0} (line : X → List ℕ) (first : ℕ) (ok : X → Type 0) → IsRowText line first ok → (0 ≡ first → ⊥) → (xs ys : List X) → AllByRecursion ok xs → AllByRecursion ok ys → flat_map line xs ≡ flat_map line ys → xs ≡ ys
 last_rows line first ok is some xs ys p q e =
     (rows_read line first ok is xs ys [] [] p q (no_more first some) (no_more first some) (append-nil (flat_map line xs) ∙ e ∙ sym (append-nil (flat_map line ys)))).part
 

@@ -17,3 +17,5 @@ pub mod ReportLemmas
 pub mod OneLineTexts
 pub mod SearchReports
 pub mod HeldReading
+pub mod AnswerReading
+pub mod WhyReading

@@ -8,3 +8,4 @@ pub mod Reports
 pub mod OneLine
 pub mod ToldHeld
 pub mod ToldAnswers
+pub mod ToldWhy

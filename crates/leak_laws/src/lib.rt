@@ -3,12 +3,14 @@
 //! Each is a function that does nothing: its contract is the law.
 #![tactic(auto)]
 
+mod answers;
 mod growth;
 mod held;
 mod leaks;
 mod reports;
 mod same;
 
+pub use answers::{growth_reads_back, holders_read_back, why_reads_back};
 pub use growth::{growths_add_up, reports_of_growth_are_one, worked_growths};
 pub use held::{answers_of_why_are_as_long, reports_of_holders_are_one};
 pub use leaks::{earlier_cores_keep_blocks, reported_stay_reported};
