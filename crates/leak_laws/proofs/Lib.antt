@@ -19,3 +19,4 @@ pub mod SearchReports
 pub mod HeldReading
 pub mod AnswerReading
 pub mod WhyReading
+pub mod RunLemmas

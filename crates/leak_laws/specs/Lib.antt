@@ -9,3 +9,4 @@ pub mod OneLine
 pub mod ToldHeld
 pub mod ToldAnswers
 pub mod ToldWhy
+pub mod Runs

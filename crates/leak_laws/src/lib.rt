@@ -8,6 +8,7 @@ mod growth;
 mod held;
 mod leaks;
 mod reports;
+mod runs;
 mod same;
 
 pub use answers::{growth_reads_back, holders_read_back, why_reads_back};
@@ -17,4 +18,5 @@ pub use leaks::{earlier_cores_keep_blocks, reported_stay_reported};
 pub use reports::{
     check_adds_misfits, lines_belong_together, reports_read_back, texts_are_of_one_line,
 };
+pub use runs::{runs_are_one, runs_write_reports};
 pub use same::{reports_are_one, signs_are_one};
