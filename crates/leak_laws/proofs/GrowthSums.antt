@@ -128,9 +128,12 @@ module _ (log1 log2 : List ℕ) (earlier later : List Block) (after : ℕ) where
   apart_in [] all up = tt
   apart_in (g ∷ gs) all up = (each_mapped (λ r. r.text) (λ u. bytes_eq g.text u ≡ false) gs (others g gs all.0 all.1 up.0), apart_in gs all.1 up.1)
 
-  apart : AreApart (map (λ g. g.text) rows)
+  sorted : IsStrictlySortedBy rank rows
   unfolding growths_of
-  apart = apart_in rows each_row (sorted_ranked rank rank_total candidates)
+  sorted = sorted_ranked rank rank_total candidates
+
+  apart : AreApart (map (λ g. g.text) rows)
+  apart = apart_in rows each_row sorted
 
   has_row : (t : List ℕ) → Has texts t → changed t ≡ true → Has (map (λ g. g.text) rows) t
   unfolding growths_of
@@ -235,6 +238,8 @@ module _ (log1 log2 : List ℕ) (earlier later : List Block) (after : ℕ) where
       bytes = balance (λ b. b.size) (λ g. g.later.bytes) (λ g. g.earlier.bytes) (λ t. refl) (λ t. refl);
       new_blocks = fresh (λ b. 1) (λ g. g.new.blocks) (λ t. length_sum (with_text log2 t (new_of after later))) ∙ sym (length_sum (new_of after later));
       new_bytes = fresh (λ b. b.size) (λ g. g.new.bytes) (λ t. refl);
+      ordered = sorted;
+      changed = each_implied IsRow (λ g. has_changed g.earlier g.later g.new ≡ true) (λ g own. ap (λ (r : Growth). has_changed r.earlier r.later r.new) own.0 ∙ own.1) rows each_row;
     }
 
 pub growths_add_up : (log1 log2 : List ℕ) (before now : List Line) → IsTrue (is_continued_by log1 log2) → IsLog log1 before → IsLog log2 now

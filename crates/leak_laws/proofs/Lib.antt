@@ -20,3 +20,4 @@ pub mod HeldReading
 pub mod AnswerReading
 pub mod WhyReading
 pub mod RunLemmas
+pub mod HolderSums

@@ -53,14 +53,14 @@ report_is_told head blocks set heads fits log =
 
 -- ---- marked and leaked
 
-parted_blocks : (set : List Bool) (blocks : List Block) → length set ≡ length blocks → length blocks ≡ length (marked_in set blocks) + length (leaked_in set blocks)
+pub parted_blocks : (set : List Bool) (blocks : List Block) → length set ≡ length blocks → length blocks ≡ length (marked_in set blocks) + length (leaked_in set blocks)
 parted_blocks [] [] n = refl
 parted_blocks [] (b ∷ blocks) n = absurd (omega (arith, n))
 parted_blocks (s ∷ set) [] n = absurd (omega (arith, n))
 parted_blocks (true ∷ set) (b ∷ blocks) n = omega (arith, parted_blocks set blocks (omega (arith, n)))
 parted_blocks (false ∷ set) (b ∷ blocks) n = omega (arith, parted_blocks set blocks (omega (arith, n)))
 
-parted_bytes : (set : List Bool) (blocks : List Block) → length set ≡ length blocks → bytes_of blocks ≡ bytes_of (marked_in set blocks) + bytes_of (leaked_in set blocks)
+pub parted_bytes : (set : List Bool) (blocks : List Block) → length set ≡ length blocks → bytes_of blocks ≡ bytes_of (marked_in set blocks) + bytes_of (leaked_in set blocks)
 parted_bytes [] [] n = refl
 parted_bytes [] (b ∷ blocks) n = absurd (omega (arith, n))
 parted_bytes (s ∷ set) [] n = absurd (omega (arith, n))

@@ -53,7 +53,7 @@ use Rattle.leak_laws.proofs.SameRows.{bool_same, held_are_one, rows_are_one}
 use Rattle.leak_laws.proofs.SameTextNumbers.{numbers_are_one, texts_are_one}
 
 -- there is an entry for each block
-one_each : (core : List ℕ) (reading : Distances) (skip : Skip) (lines : List Line) → length (live_of lines) ≡ length (graph_of_one core reading skip lines).targets
+pub one_each : (core : List ℕ) (reading : Distances) (skip : Skip) (lines : List Line) → length (live_of lines) ≡ length (graph_of_one core reading skip lines).targets
 unfolding graph_of
 one_each core reading skip lines = sym (length-map (live_of lines) _)
 

@@ -81,13 +81,15 @@ plain_is blocks numbers set counted f k =
 plain_holders : (graph : Graph) (f : Facts) (texts : ℕ) (rows : List Holder) → AreHolders graph f texts rows → AreHolders graph (plain f) texts rows
 plain_holders graph f texts rows p = record { held = p.held; holds = p.holds; are = p.are }
 
+pub plain_rows : (graph : Graph) (blocks : List Block) (numbers : List ℕ) (set counted : List Bool) (texts : ℕ) (rows : List Holder) → AreRows graph blocks numbers set counted texts rows
+    → AreHolders graph (facts_of blocks numbers set counted) texts rows
+plain_rows graph blocks numbers set counted texts rows p =
+    subst (λ (f : Facts). AreHolders graph f texts rows) (plain_is blocks numbers set counted p.facts p.known) (plain_holders graph p.facts texts rows p.holders)
+
 pub rows_are_one : (graph : Graph) (blocks : List Block) (numbers : List ℕ) (set counted : List Bool) (texts : ℕ) (rows others : List Holder) → length blocks ≡ length graph.targets
     → AreRows graph blocks numbers set counted texts rows → AreRows graph blocks numbers set counted texts others → rows ≡ others
 rows_are_one graph blocks numbers set counted texts rows others n p q =
-    let known = facts_of blocks numbers set counted in
-    holders_are_one graph known texts rows others n
-    (subst (λ (f : Facts). AreHolders graph f texts rows) (plain_is blocks numbers set counted p.facts p.known) (plain_holders graph p.facts texts rows p.holders))
-    (subst (λ (f : Facts). AreHolders graph f texts others) (plain_is blocks numbers set counted q.facts q.known) (plain_holders graph q.facts texts others q.holders))
+    holders_are_one graph (facts_of blocks numbers set counted) texts rows others n (plain_rows graph blocks numbers set counted texts rows p) (plain_rows graph blocks numbers set counted texts others q)
 
 -- ---- rows about chosen blocks
 

@@ -10,3 +10,4 @@ pub mod ToldHeld
 pub mod ToldAnswers
 pub mod ToldWhy
 pub mod Runs
+pub mod HeldTogether

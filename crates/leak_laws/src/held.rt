@@ -1,5 +1,6 @@
-//! Answers about what is held are one.
+//! What is held: answers are one, and the lines of a report belong together.
 
+ghost use Rattle.leak_laws.specs.HeldTogether.{HoldersBelongTogether, OwnBlocksAreMarked};
 ghost use Rattle.leak_laws.specs.Held.{AnswersAreOne, AnswersOfWhyAreAsLong, ReportsOfHoldersAreOne};
 
 /// Two accepted reports of who holds the memory, from the same bytes and by the same options, are the same, byte by byte, and so are two
@@ -13,4 +14,11 @@ pub fn reports_of_holders_are_one()
 /// shortest chains is told, the contract leaves open.)
 pub fn answers_of_why_are_as_long()
     ensures { AnswersOfWhyAreAsLong }
+{}
+
+/// The lines of a report on who holds the memory stand in order, and each live block is marked or leaked. Without an earlier log the own
+/// blocks and bytes of all lines have the sums of the marked blocks; no line has more of its own than it holds, or holds more than is marked.
+pub fn holders_belong_together()
+    ensures together { HoldersBelongTogether }
+    ensures own { OwnBlocksAreMarked }
 {}

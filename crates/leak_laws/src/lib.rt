@@ -13,7 +13,7 @@ mod same;
 
 pub use answers::{growth_reads_back, holders_read_back, why_reads_back};
 pub use growth::{growths_add_up, reports_of_growth_are_one, worked_growths};
-pub use held::{answers_of_why_are_as_long, reports_of_holders_are_one};
+pub use held::{answers_of_why_are_as_long, holders_belong_together, reports_of_holders_are_one};
 pub use leaks::{earlier_cores_keep_blocks, reported_stay_reported};
 pub use reports::{
     check_adds_misfits, lines_belong_together, reports_read_back, texts_are_of_one_line,
