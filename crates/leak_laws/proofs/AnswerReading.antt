@@ -1,5 +1,5 @@
 -- Answers about chosen blocks are read from the first line to the last.
-use Rattle.std.proofs.Common.{◌≡◌, ℕ, ◌<◌, Bool, true, false, List, [], ◌∷◌, ◌++◌, length, flat_map, get_or, map, Option, None, Some, slice_get, refl, sym, ap, ◌∙◌, arith, append_assoc}
+use Rattle.std.proofs.Common.{◌≡◌, ℕ, ◌<◌, Bool, true, false, List, [], ◌∷◌, ◌++◌, length, flat_map, get_or, map, Option, None, Some, refl, sym, ap, ◌∙◌, arith, append_assoc}
 use Rattle.std.specs.Prelude.{codes, decimal, IfSome, if◌then◌else◌}
 use Rattle.std.specs.List.{AllByRecursion, list_any}
 use Rattle.std.specs.Option.{option_map_or}
@@ -14,11 +14,11 @@ use Rattle.leak_holders.specs.declared.question.Side.TheVariants.{In, Of}
 use Rattle.leak_why.specs.Text.{block_line, numbered_line}
 use Rattle.leak_holding.specs.Held.{held_lines, held_text, part_line, side_word}
 use Rattle.leak_laws.specs.Reports.{sum_of}
-use Rattle.leak_laws.specs.Told.{Sum, sum_line}
+use Rattle.leak_laws.specs.Told.{Sum}
 use Rattle.leak_laws.specs.ToldAnswers.{AreRowsRead, IsAnswerRead, IsEntryRead, IsPartRead, ToldAnswer, ToldEntry, ToldPart, ToldRows, answer_tells, answer_told, entry_text, part_text, rows_text, told_entry, told_part, told_rows}
-use Rattle.leak_laws.proofs.HeldReading.{last_rows}
-use Rattle.leak_laws.proofs.ReportLemmas.{flat_mapped}
-use Rattle.leak_laws.proofs.RowReading.{IsRowText, space_ends, space_ends_address, sum_read}
+use Rattle.leak_laws.proofs.GrowthReading.{last_rows}
+use Rattle.leak_laws.proofs.ReportBytes.{flat_mapped}
+use Rattle.leak_laws.proofs.RowReading.{space_ends, space_ends_address, sum_read}
 use Rattle.leak_laws.proofs.Splits.{AreSame, split_address, split_at, split_number}
 
 -- ---- the bytes

@@ -1,5 +1,5 @@
 -- What rows of growth add up to: each changed text has a row, and the blocks of the others are the same in both logs.
-use Rattle.std.proofs.Common.{◌≡◌, ℕ, ◌+◌, ◌<◌, ◌≤◌, ◌⊎◌, inl, inr, ⊎_elim, Bool, true, false, not, ◌||◌, ◌==◌, cond, List, [], ◌∷◌, ◌++◌, length, map, filter, sum_by, bytes_eq, refl, sym, ap, subst, ◌∙◌, arith, IsTrue}
+use Rattle.std.proofs.Common.{◌≡◌, ℕ, ◌+◌, ◌<◌, ◌≤◌, Bool, true, false, not, ◌||◌, List, [], ◌∷◌, ◌++◌, length, map, filter, sum_by, bytes_eq, refl, sym, ap, subst, ◌∙◌, arith, IsTrue}
 use Rattle.std.specs.Prelude.{nat_lt}
 use Rattle.std.specs.List.{AllByRecursion}
 use Rattle.std.specs.List.Sorted.{IsStrictlySortedBy}
@@ -7,61 +7,30 @@ use Rattle.std.specs.Cmp.Lexicographic.{slice_cmp}
 use Rattle.std.specs.Ordering.{nat_cmp, ordering_then}
 use Rattle.std.specs.declared.cmp.Ordering.{Ordering}
 use Rattle.std.specs.declared.cmp.Ordering.TheVariants.{Less, Equal, Greater}
-use Rattle.std.proofs.lemmas.Bool.{eqb-true, false_from_ne_true, le-ltb, ltb-true, ltb-false}
+use Rattle.std.proofs.lemmas.Bool.{eqb-true, false_from_ne_true, ltb-true, ltb-false}
 use Rattle.std.proofs.lemmas.Cmp.{tied_itself}
-use Rattle.std.proofs.lemmas.List.Filters.{length-filter_both, sum_by-filter_both}
-use Rattle.std.proofs.lemmas.List.Sums.{sum_by-cons}
+use Rattle.std.proofs.lemmas.List.Filters.{sum_by-filter_both}
 use Rattle.std.proofs.lemmas.Map.Lookups.{exact_bytes}
 use Rattle.std.proofs.lemmas.Slice.Eq.{bytes_eq-Decides}
 use Rattle.leak_mtrace.specs.declared.line.Line.{Line}
 use Rattle.leak_mtrace.specs.Log.{IsLog, is_continued_by}
 use Rattle.leak_mtrace.proofs.SameLogLemmas.{logs_continue}
 use Rattle.leak_blocks.specs.declared.block.Block.{Block}
-use Rattle.leak_blocks.specs.Laws.{IsIn}
 use Rattle.leak_blocks.specs.Live.{live_of}
 use Rattle.leak_blocks.proofs.DisjointLemmas.{live_disjoint}
 use Rattle.leak_blocks.proofs.LiveLemmas.{were_live}
-use Rattle.leak_report.specs.Totals.{bytes_of, text_at}
+use Rattle.leak_report.specs.Totals.{text_at}
 use Rattle.leak_report.proofs.Members.{Has, Has-filter, Has-map, each_filtered, each_has, each_implied, each_itself, each_mapped}
 use Rattle.leak_texts.specs.Numbered.{texts_of}
-use Rattle.leak_growth.specs.declared.summing.Sizes.{Sizes}
 use Rattle.leak_growth.specs.Report.{growth_with, growths_of}
-use Rattle.leak_growth.specs.Rows.{Growth, has_changed, new_of, rank, ranked, sizes_of, with_text}
+use Rattle.leak_growth.specs.Rows.{Growth, has_changed, new_of, rank, ranked, with_text}
 use Rattle.leak_growth.proofs.OrderLemmas.{rank_total}
 use Rattle.leak_growth.proofs.RankLemmas.{each_ranked, ranked_has, sorted_ranked}
 use Rattle.leak_laws.specs.Growth.{AddUp}
 use Rattle.leak_laws.proofs.Ascending.{AreAmong, Ascend, ascend, ascend_filtered, as_long, same_blocks, unfiltered}
 use Rattle.leak_laws.proofs.SameTexts.{texts_are_same}
 use Rattle.leak_laws.proofs.TextSums.{AreApart, length_sum, sum_map, sum_same_of, sum_texts}
-
-both_front : {X : Type 0} (xs ys : List X) (x : X) → Has xs x → Has (xs ++ ys) x
-both_front [] ys x has = absurd has
-both_front (z ∷ xs) ys x (inl e) = inl e
-both_front (z ∷ xs) ys x (inr has) = inr (both_front xs ys x has)
-
-both_back : {X : Type 0} (xs ys : List X) (x : X) → Has ys x → Has (xs ++ ys) x
-both_back [] ys x has = has
-both_back (z ∷ xs) ys x has = inr (both_back xs ys x has)
-
-all_pass : {X : Type 0} (p : X → Bool) (xs : List X) → AllByRecursion (λ x. p x ≡ true) xs → filter p xs ≡ xs
-all_pass p [] all = refl
-all_pass {X} p (x ∷ xs) all = ap (λ (b : Bool). cond b (x ∷ filter p xs) (filter p xs)) all.0 ∙ ap (λ (ys : List X). x ∷ ys) (all_pass p xs all.1)
-
-is_in : (bs : List Block) (b : Block) → Has bs b → IsIn b bs
-is_in [] b has = has
-is_in (c ∷ bs) b (inl e) = inl e
-is_in (c ∷ bs) b (inr has) = inr (is_in bs b has)
-
-has_in : (bs : List Block) (b : Block) → IsIn b bs → Has bs b
-has_in [] b is = is
-has_in (c ∷ bs) b (inl e) = inl e
-has_in (c ∷ bs) b (inr is) = inr (has_in bs b is)
-
-none_has : {X : Type 0} (xs : List X) (x : X) → length xs ≡ 0 → Has xs x → ⊥
-none_has [] x n has = has
-none_has (y ∷ ys) x n has = omega (arith, n)
-
--- ---- rows
+use Rattle.leak_laws.proofs.ListParts.{all_pass, both_back, both_front, has_in, is_in, none_has}
 
 second_tied : (a b : Ordering) → ordering_then a b ≡ Equal → b ≡ Equal
 second_tied Less b e = cc

@@ -1,5 +1,5 @@
 -- What is marked in no more is leaked in no less.
-use Rattle.std.proofs.Common.{◌≡◌, ℕ, zero, suc, ◌<◌, ◌≤◌, ◌⊎◌, inl, inr, Bool, true, false, List, [], ◌∷◌, length, Some, slice_get, refl, sym, ap, subst, ◌∙◌, arith}
+use Rattle.std.proofs.Common.{◌≡◌, ℕ, suc, ◌<◌, ◌≤◌, inl, inr, Bool, true, false, List, [], ◌∷◌, length, Some, slice_get, refl, sym, ap, subst, ◌∙◌, arith}
 use Rattle.leak_mtrace.specs.declared.line.Line.{Line}
 use Rattle.leak_mtrace.proofs.SameLogLemmas.{logs_are_one}
 use Rattle.leak_blocks.specs.declared.block.Block.{Block}

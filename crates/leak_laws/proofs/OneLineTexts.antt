@@ -1,9 +1,8 @@
 -- The text of a caller is a part of a line of the log, and a line has no line feed.
-use Rattle.std.proofs.Common.{◌≡◌, ℕ, zero, suc, ◌+◌, ◌-◌, ◌⊎◌, inl, inr, ⊎_elim, Bool, true, false, not, cond, ◌==◌, List, [], ◌∷◌, ◌++◌, length, map, filter, Option, None, Some, slice_get, refl, sym, ap, subst, ◌∙◌, arith}
+use Rattle.std.proofs.Common.{◌≡◌, ℕ, zero, suc, ◌+◌, ◌-◌, inl, inr, Bool, true, false, not, ◌==◌, List, [], ◌∷◌, ◌++◌, length, map, filter, Option, None, Some, slice_get, refl, sym, ap, subst}
 use Rattle.std.specs.Prelude.{codes, if◌then◌else◌, nat_lt}
 use Rattle.std.specs.List.{AllByRecursion, AllZip}
 use Rattle.leak_mtrace.specs.declared.line.Line.{Line}
-use Rattle.leak_mtrace.specs.Line.{IsPlaced}
 use Rattle.leak_mtrace.specs.Log.{HasItsPlace, IsLog, in_range, whole_lines, with_places}
 use Rattle.leak_mtrace.proofs.CallerLemmas.{callers_hold_places}
 use Rattle.leak_mtrace.proofs.CutLemmas.{Cut, HasNoFeed, cut_of, lines_of_cut}
@@ -12,14 +11,13 @@ use Rattle.leak_blocks.specs.Laws.{IsOfLine}
 use Rattle.leak_blocks.specs.Live.{live_of}
 use Rattle.leak_blocks.proofs.LineLemmas.{live_of_lines}
 use Rattle.leak_report.specs.declared.head.Head.{Head}
-use Rattle.leak_report.specs.declared.totals.CallerRow.{CallerRow}
 use Rattle.leak_report.specs.Misfits.{misfits_in}
 use Rattle.leak_report.specs.Totals.{Leak, first_of_each, has_same_text, leaks_in, row_of, rows_of, text_at}
 use Rattle.leak_report.proofs.Members.{each_filtered, each_from_All, each_implied, each_mapped}
 use Rattle.leak_report.proofs.Ranks.{each_ranked}
 use Rattle.leak_laws.specs.OneLine.{AreOfOneLine}
 use Rattle.leak_laws.specs.Reports.{misfit_rows_told, told_caller, told_leak, told_misfit, told_of}
-use Rattle.leak_laws.specs.Told.{Lacks}
+use Rattle.leak_laws.specs.Readable.{Lacks}
 
 lacks_front : (c : ℕ) (xs ys : List ℕ) → Lacks c (xs ++ ys) → Lacks c xs
 lacks_front c [] ys all = tt

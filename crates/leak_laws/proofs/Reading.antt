@@ -1,7 +1,6 @@
 -- By a reading that leads to no more, from roots of which no less is left out, chains reach no more.
-use Rattle.std.proofs.Common.{◌≡◌, ℕ, zero, suc, ◌+◌, ◌-◌, ◌≤◌, ◌<◌, ◌⊎◌, inl, inr, ⊎_elim, Bool, true, false, not, ◌&&◌, ◌||◌, ◌==◌, cond, List, [], ◌∷◌, ◌++◌, length, map, get_or, refl, sym, ap, ◌∙◌, filter, filter_map, flat_map, Option, Some, None, slice_get, arith}
-use Rattle.std.specs.Prelude.{if◌then◌else◌, max, nat_le, nat_lt, IsTrue}
-use Rattle.std.specs.List.{list_any}
+use Rattle.std.proofs.Common.{◌≡◌, ℕ, zero, suc, ◌+◌, ◌-◌, ◌≤◌, ◌<◌, ⊎_elim, Bool, true, false, not, ◌&&◌, ◌==◌, cond, List, [], ◌∷◌, map, get_or, refl, filter, filter_map, flat_map, Option, Some, None, arith}
+use Rattle.std.specs.Prelude.{if◌then◌else◌, max, nat_le}
 use Rattle.std.specs.Option.{option_map_or}
 use Rattle.std.proofs.lemmas.Bool.{and_from, and_parts, le-leb, ltb-true, or_cases, or_left, or_right}
 use Rattle.leak_elf.specs.Words.{word_of}
@@ -9,7 +8,7 @@ use Rattle.leak_mtrace.specs.declared.line.Line.{Line}
 use Rattle.leak_notes.specs.Threads.{registers_of}
 use Rattle.leak_blocks.specs.declared.block.Block.{Block}
 use Rattle.leak_blocks.specs.Live.{live_of}
-use Rattle.leak_index.specs.Hits.{Index, hits_from, hits_of}
+use Rattle.leak_index.specs.Hits.{hits_from, hits_of}
 use Rattle.leak_index.specs.Leads.{Distances, allows, is_up_to_end, leads}
 use Rattle.leak_roots.specs.declared.skip.Skip.{Skip}
 use Rattle.leak_roots.specs.Roots.{root_places}

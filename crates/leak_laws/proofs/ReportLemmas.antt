@@ -1,55 +1,27 @@
 -- The lines of a report belong together: each live block is marked or leaked, and each leaked block has its line and its caller's.
-use Rattle.std.proofs.Common.{◌≡◌, ℕ, zero, suc, ◌+◌, ◌<◌, ◌≤◌, ◌⊎◌, inl, inr, Bool, true, false, ◌||◌, ◌==◌, cond, List, [], ◌∷◌, ◌++◌, length, map, filter, flat_map, sum_by, bytes_eq, Option, None, Some, refl, sym, ap, subst, ◌∙◌, arith, IsTrue}
-use Rattle.std.specs.Prelude.{IfSome, codes}
+use Rattle.std.proofs.Common.{◌≡◌, ℕ, ◌+◌, ◌<◌, Bool, true, false, ◌||◌, ◌==◌, cond, List, [], ◌∷◌, length, map, filter, sum_by, bytes_eq, Option, None, Some, refl, sym, ap, ◌∙◌, arith}
+use Rattle.std.specs.Prelude.{IfSome}
 use Rattle.std.specs.List.{AllByRecursion, list_any}
 use Rattle.std.specs.List.Sorted.{IsStrictlySortedBy}
-use Rattle.std.specs.Cmp.Lexicographic.{slice_cmp}
-use Rattle.std.specs.Ordering.{nat_cmp, ordering_then}
-use Rattle.std.specs.declared.cmp.Ordering.{Ordering}
+use Rattle.std.specs.Ordering.{nat_cmp}
 use Rattle.std.specs.declared.cmp.Ordering.TheVariants.{Less, Equal, Greater}
-use Rattle.std.proofs.lemmas.Bool.{false_from_ne_true, lt-ltb}
-use Rattle.std.proofs.lemmas.Cmp.{nat_cmp_total, nat_list_cmp_total, tied_itself}
+use Rattle.std.proofs.lemmas.Bool.{lt-ltb}
 use Rattle.std.proofs.lemmas.List.{length-map}
 use Rattle.std.proofs.lemmas.List.Sums.{sum_by-cons}
-use Rattle.std.proofs.lemmas.Slice.Eq.{bytes_eq-Decides}
 use Rattle.leak_blocks.specs.declared.block.Block.{Block}
 use Rattle.leak_report.specs.declared.head.Head.{Head}
 use Rattle.leak_report.specs.declared.totals.CallerRow.{CallerRow}
-use Rattle.leak_report.specs.Laws.{AreSums, HasRow, SumsUp}
-use Rattle.leak_report.specs.Lines.{caller_line, leak_line}
-use Rattle.leak_report.specs.Misfits.{misfit_line, misfit_lines, misfit_sums, misfits_in}
-use Rattle.leak_report.specs.Report.{sums_of, text_of}
-use Rattle.leak_report.specs.Totals.{Leak, bytes_in, bytes_of, heads_in, leaked_in, leaks_in, marked_in, rank, rows_of, text_at, with_text}
-use Rattle.leak_report.proofs.Members.{Has, each_has, each_implied, each_itself, each_mapped}
+use Rattle.leak_report.specs.Laws.{AreSums, HasRow}
+use Rattle.leak_report.specs.Misfits.{misfits_in}
+use Rattle.leak_report.specs.Totals.{Leak, bytes_in, bytes_of, heads_in, leaked_in, leaks_in, marked_in, rows_of, text_at, with_text}
+use Rattle.leak_report.proofs.Members.{each_implied, each_mapped}
 use Rattle.leak_report.proofs.Sums.{rows_sum_up}
-use Rattle.leak_laws.specs.Reports.{BelongTogether, DifferInText, HasCaller, heads_among, misfit_rows_told, misfits_told, rank_told, told_caller, told_leak, told_misfit, told_of}
-use Rattle.leak_laws.specs.Told.{ToldCaller, ToldLeak, ToldMisfit, caller_text, leak_text, misfit_text, number_lines, told_text}
+use Rattle.leak_laws.proofs.CallerSums.{in_sum, in_text, same_rank}
+use Rattle.leak_laws.specs.Reports.{misfit_rows_told, misfits_told, told_caller, told_leak, told_misfit, told_of}
+use Rattle.leak_laws.specs.Together.{BelongTogether, HasCaller, heads_among}
+use Rattle.leak_laws.specs.Told.{ToldCaller, ToldLeak}
 use Rattle.leak_laws.proofs.Ascending.{Ascend}
-use Rattle.leak_laws.proofs.TextSums.{AreApart, length_sum, sum_map, sum_same_of, sum_texts}
-
--- ---- the bytes
-
-pub flat_mapped : {X Y : Type 0} (line : Y → List ℕ) (told : X → Y) (xs : List X) → flat_map line (map told xs) ≡ flat_map (λ x. line (told x)) xs
-flat_mapped line told [] = refl
-flat_mapped line told (x ∷ xs) = ap (λ (r : List ℕ). line (told x) ++ r) (flat_mapped line told xs)
-
-numbers_told : (fits : Option (List Bool)) (blocks : List Block) → misfit_sums fits blocks ≡ number_lines (misfits_told fits blocks)
-numbers_told None blocks = refl
-numbers_told (Some fits) blocks = refl
-
-misfits_are_told : (log : List ℕ) (fits : Option (List Bool)) (blocks : List Block) → misfit_lines log fits blocks ≡ flat_map misfit_text (misfit_rows_told log fits blocks)
-misfits_are_told log None blocks = refl
-misfits_are_told log (Some fits) blocks = sym (flat_mapped misfit_text (told_misfit log) (misfits_in fits blocks))
-
-pub report_is_told : (head : Head) (blocks : List Block) (set heads : List Bool) (fits : Option (List Bool)) (log : List ℕ) → text_of head blocks set heads fits log ≡ told_text (told_of head blocks set heads fits log)
-unfolding text_of
-report_is_told head blocks set heads fits log =
-    let leaks : List Leak = leaks_in set heads blocks in
-    let rows : List CallerRow = rows_of log (leaks_in set heads blocks) in
-    ap (λ (ns : List ℕ). sums_of head blocks set heads ++ ns ++ flat_map (caller_line log) rows ++ flat_map (leak_line log) leaks ++ misfit_lines log fits blocks) (numbers_told fits blocks)
-    ∙ ap (λ (cs : List ℕ). sums_of head blocks set heads ++ number_lines (misfits_told fits blocks) ++ cs ++ flat_map (leak_line log) leaks ++ misfit_lines log fits blocks) (sym (flat_mapped caller_text (told_caller log) rows))
-    ∙ ap (λ (ls : List ℕ). sums_of head blocks set heads ++ number_lines (misfits_told fits blocks) ++ flat_map caller_text (map (told_caller log) rows) ++ ls ++ misfit_lines log fits blocks) (sym (flat_mapped leak_text (told_leak log) leaks))
-    ∙ ap (λ (ms : List ℕ). sums_of head blocks set heads ++ number_lines (misfits_told fits blocks) ++ flat_map caller_text (map (told_caller log) rows) ++ flat_map leak_text (map (told_leak log) leaks) ++ ms) (misfits_are_told log fits blocks)
+use Rattle.leak_laws.proofs.TextSums.{length_sum, sum_map}
 
 -- ---- marked and leaked
 
@@ -95,9 +67,11 @@ leaks_up log [] heads blocks up = tt
 leaks_up log (s ∷ set) [] blocks up = tt
 leaks_up log (s ∷ set) (h ∷ heads) [] up = tt
 leaks_up log (true ∷ set) (h ∷ heads) (b ∷ blocks) up = leaks_up log set heads blocks up.1
-leaks_up log (false ∷ set) (h ∷ heads) (b ∷ blocks) up =
-    (each_mapped (told_leak log) (λ l. nat_cmp b.start l.start ≡ Less) (leaks_in set heads blocks)
-    (each_implied (λ l. b.start < l.block.start) (λ l. nat_cmp b.start l.block.start ≡ Less) (λ l lt. compares b.start l.block.start lt) (leaks_in set heads blocks) (leaked_above b.start set heads blocks up.0)), leaks_up log set heads blocks up.1)
+leaks_up log (false ∷ set) (h ∷ heads) (b ∷ blocks) up = (
+  each_mapped (told_leak log) (λ l. nat_cmp b.start l.start ≡ Less) (leaks_in set heads blocks)
+      (each_implied (λ l. b.start < l.block.start) (λ l. nat_cmp b.start l.block.start ≡ Less) (λ l lt. compares b.start l.block.start lt) (leaks_in set heads blocks) (leaked_above b.start set heads blocks up.0)),
+  leaks_up log set heads blocks up.1,
+)
 
 misfits_above : (a : ℕ) (fits : List Bool) (blocks : List Block) → AllByRecursion (λ c. a < c.start) blocks → AllByRecursion (λ c. a < c.start) (misfits_in fits blocks)
 misfits_above a [] blocks up = tt
@@ -110,9 +84,11 @@ unfolding IsStrictlySortedBy
 some_up log [] blocks up = tt
 some_up log (f ∷ fits) [] up = tt
 some_up log (true ∷ fits) (b ∷ blocks) up = some_up log fits blocks up.1
-some_up log (false ∷ fits) (b ∷ blocks) up =
-    (each_mapped (told_misfit log) (λ m. nat_cmp b.start m.start ≡ Less) (misfits_in fits blocks)
-    (each_implied (λ c. b.start < c.start) (λ c. nat_cmp b.start c.start ≡ Less) (λ c lt. compares b.start c.start lt) (misfits_in fits blocks) (misfits_above b.start fits blocks up.0)), some_up log fits blocks up.1)
+some_up log (false ∷ fits) (b ∷ blocks) up = (
+  each_mapped (told_misfit log) (λ m. nat_cmp b.start m.start ≡ Less) (misfits_in fits blocks)
+      (each_implied (λ c. b.start < c.start) (λ c. nat_cmp b.start c.start ≡ Less) (λ c lt. compares b.start c.start lt) (misfits_in fits blocks) (misfits_above b.start fits blocks up.0)),
+  some_up log fits blocks up.1,
+)
 
 misfits_up : (log : List ℕ) (fits : Option (List Bool)) (blocks : List Block) → Ascend blocks → IsStrictlySortedBy (λ k l. nat_cmp k.start l.start) (misfit_rows_told log fits blocks)
 unfolding IsStrictlySortedBy
@@ -122,65 +98,6 @@ misfits_up log (Some fits) blocks up = some_up log fits blocks up
 misfits_count : (log : List ℕ) (fits : Option (List Bool)) (blocks : List Block) → IfSome (misfits_told fits blocks) (λ n. n ≡ length (misfit_rows_told log fits blocks))
 misfits_count log None blocks = tt
 misfits_count log (Some fits) blocks = sym (length-map (misfits_in fits blocks) (told_misfit log))
-
--- ---- callers
-
-same_rank : (log : List ℕ) (rows : List CallerRow) → IsStrictlySortedBy (rank log) rows → IsStrictlySortedBy rank_told (map (told_caller log) rows)
-unfolding IsStrictlySortedBy
-same_rank log [] up = tt
-same_rank log (r ∷ rows) up = (each_mapped (told_caller log) (λ d. rank_told (told_caller log r) d ≡ Less) rows up.0, same_rank log rows up.1)
-
-module _ (log : List ℕ) (leaks : List Leak) where
-  -- rows of one text would have as many bytes
-  others : (r : CallerRow) (rows : List CallerRow) → SumsUp log leaks r → AllByRecursion (SumsUp log leaks) rows → AllByRecursion (λ s. rank log r s ≡ Less) rows → AllByRecursion (λ s. bytes_eq (text_at log r.caller) (text_at log s.caller) ≡ false) rows
-  others r [] is all up = tt
-  others r (s ∷ rows) is all up = (false_from_ne_true (bytes_eq (text_at log r.caller) (text_at log s.caller)) differ, others r rows is all.1 up.1)
-    where
-      differ : bytes_eq (text_at log r.caller) (text_at log s.caller) ≡ true → ⊥
-      differ alike =
-          let e : text_at log r.caller ≡ text_at log s.caller = (bytes_eq-Decides (text_at log r.caller) (text_at log s.caller)).0 alike in
-          let bytes : r.bytes ≡ s.bytes = is.bytes ∙ ap (λ (t : List ℕ). bytes_in (with_text log t leaks)) e ∙ sym all.0.bytes in
-          let one : nat_cmp s.bytes r.bytes ≡ Equal = ap (λ (n : ℕ). nat_cmp s.bytes n) bytes ∙ tied_itself nat_cmp_total s.bytes in
-          let two : slice_cmp nat_cmp (text_at log r.caller) (text_at log s.caller) ≡ Equal = ap (λ (t : List ℕ). slice_cmp nat_cmp t (text_at log s.caller)) e ∙ tied_itself nat_list_cmp_total (text_at log s.caller) in
-          let tied : rank log r s ≡ Equal = ap (λ (o : Ordering). ordering_then o (slice_cmp nat_cmp (text_at log r.caller) (text_at log s.caller))) one ∙ two in
-          let less : rank log r s ≡ Less = up.0 in
-          cc
-
-  apart : (rows : List CallerRow) → AllByRecursion (SumsUp log leaks) rows → IsStrictlySortedBy (rank log) rows → AreApart (map (λ r. text_at log r.caller) rows)
-  unfolding IsStrictlySortedBy
-  apart [] all up = tt
-  apart (r ∷ rows) all up = (each_mapped (λ s. text_at log s.caller) (λ u. bytes_eq (text_at log r.caller) u ≡ false) rows (others r rows all.0 all.1 up.0), apart rows all.1 up.1)
-
-  in_text : (rows : List CallerRow) → AllByRecursion (SumsUp log leaks) rows → IsStrictlySortedBy (rank log) rows → DifferInText (map (told_caller log) rows)
-  unfolding IsStrictlySortedBy
-  in_text [] all up = tt
-  in_text (r ∷ rows) all up = (each_mapped (told_caller log) (λ d. bytes_eq (text_at log r.caller) d.text ≡ false) rows (others r rows all.0 all.1 up.0), in_text rows all.1 up.1)
-
-  has_text : (rows : List CallerRow) (l : Leak) → HasRow log rows l → Has (map (λ r. text_at log r.caller) rows) (text_at log l.block.caller)
-  has_text [] l has = cc
-  has_text (r ∷ rows) l has = go (bytes_eq (text_at log r.caller) (text_at log l.block.caller)) refl has (has_text rows l)
-    where
-      go : (t : Bool) → bytes_eq (text_at log r.caller) (text_at log l.block.caller) ≡ t → (t || list_any (λ row. bytes_eq (text_at log row.caller) (text_at log l.block.caller)) rows) ≡ true
-          → (HasRow log rows l → Has (map (λ r. text_at log r.caller) rows) (text_at log l.block.caller)) → Has (map (λ r. text_at log r.caller) (r ∷ rows)) (text_at log l.block.caller)
-      go true is e later = inl ((bytes_eq-Decides (text_at log r.caller) (text_at log l.block.caller)).0 is)
-      go false is e later = inr (later e)
-
-  -- a number of the rows in sum
-  in_sum : (w : Leak → ℕ) (part : CallerRow → ℕ) (rows : List CallerRow) → AreSums log leaks rows → ((r : CallerRow) → SumsUp log leaks r → part r ≡ sum_by w (with_text log (text_at log r.caller) leaks)) → sum_by part rows ≡ sum_by w leaks
-  in_sum w part rows are is =
-      sum_same_of (SumsUp log leaks) part (λ r. sum_by w (with_text log (text_at log r.caller) leaks)) is rows are.each
-      ∙ sym (sum_map (λ (r : CallerRow). text_at log r.caller) (λ t. sum_by w (with_text log t leaks)) rows)
-      ∙ sum_texts (λ l. text_at log l.block.caller) w (λ t. true) (map (λ r. text_at log r.caller) rows) leaks (apart rows are.each are.order) (yes (map (λ r. text_at log r.caller) rows))
-      (each_implied (HasRow log rows) (λ l. true ≡ true → Has (map (λ r. text_at log r.caller) rows) (text_at log l.block.caller)) (λ l has e. has_text rows l has) leaks are.every)
-      ∙ ap (sum_by w) (all_of leaks)
-    where
-      yes : (ts : List (List ℕ)) → AllByRecursion (λ t. true ≡ true) ts
-      yes [] = tt
-      yes (t ∷ ts) = (refl, yes ts)
-
-      all_of : (ls : List Leak) → filter (λ l. true) ls ≡ ls
-      all_of [] = refl
-      all_of (l ∷ ls) = ap (λ (ms : List Leak). l ∷ ms) (all_of ls)
 
 -- ---- all lines
 

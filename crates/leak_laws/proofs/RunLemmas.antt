@@ -10,17 +10,16 @@ use Rattle.leak_report.specs.declared.signs.Signs.{Signs}
 use Rattle.leak_report.specs.Warnings.{warnings_of}
 use Rattle.leak_input.specs.declared.found.Found.{Found}
 use Rattle.leak_input.specs.Signs.{AreSigns}
-use Rattle.leak_readers.specs.Reading.{IsWholeInput}
 use Rattle.leak_request.specs.declared.options.Options.{Options}
 use Rattle.leak_request.specs.Requests.{file_count}
 use Rattle.leak_search.specs.Search.{FindsOne}
 use Rattle.leak_search.specs.SearchTwo.{FindsTwo}
-use Rattle.leak_find.specs.Run.{AreInputs, Finds, Runs, input_at, left_in, limit_at, signs_that_count, status_by, warnings_by}
+use Rattle.leak_find.specs.Run.{AreInputs, Finds, Runs, input_at, left_in, signs_that_count, status_by, warnings_by}
 use Rattle.leak_laws.specs.OneLine.{AreOfOneLine}
 use Rattle.leak_laws.specs.Reports.{IsReport, told_by_one, told_by_two}
 use Rattle.leak_laws.specs.Runs.{AreAlike, AskAlike, HoldAlike, IsRunReport}
 use Rattle.leak_laws.specs.Same.{IsSameReport}
-use Rattle.leak_laws.specs.Told.{Told, told_text}
+use Rattle.leak_laws.specs.Told.{Told}
 use Rattle.leak_laws.proofs.SameLemmas.{one_report, one_signs, two_report}
 use Rattle.leak_laws.proofs.SearchReports.{of_one, of_two, one_of_lines, two_of_lines}
 

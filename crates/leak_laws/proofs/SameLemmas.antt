@@ -1,5 +1,5 @@
 -- A log has one list of lines, tests of a set of blocks are one list, and so are the numbers of the pages that differ.
-use Rattle.std.proofs.Common.{◌≡◌, ℕ, ◌<◌, Bool, List, [], ◌∷◌, length, Option, refl, sym, ap, subst, ◌∙◌}
+use Rattle.std.proofs.Common.{◌≡◌, ℕ, ◌<◌, Bool, List, [], ◌∷◌, length, Option, sym, ap, subst, ◌∙◌}
 use Rattle.leak_elf.specs.Words.{word_of}
 use Rattle.leak_mtrace.specs.declared.line.Line.{Line}
 use Rattle.leak_mtrace.proofs.SameLogLemmas.{logs_are_one}

@@ -4,14 +4,13 @@ use Rattle.std.specs.Prelude.{◌↔◌, slice_index_or, slice_index}
 use Rattle.std.specs.List.{list_all, range_with_len}
 use Rattle.leak_blocks.specs.declared.block.Block.{Block}
 use Rattle.leak_marks.specs.Reach.{Graph}
-use Rattle.leak_without.specs.Without.{chosen, IsHeldBy, members}
 use Rattle.leak_holders.specs.declared.facts.Facts.{Facts}
 use Rattle.leak_holders.specs.declared.holder.Holder.{Holder}
 use Rattle.leak_holders.specs.declared.part.Part.{Part}
 use Rattle.leak_holders.specs.declared.question.Side.{Side}
 use Rattle.leak_holders.specs.declared.question.Side.TheVariants.{In, Of}
 use Rattle.leak_holders.specs.Holders.{AreHolders, Held, below, blocks_with, bytes_of, held_by, is_counted, is_own, is_within, own_of, ranked, row_of, rows_of, with_blocks}
-use Rattle.leak_holders.specs.Parts.{AreHoldersOf, counted_in, parts_but, parts_by}
+use Rattle.leak_holders.specs.Parts.{counted_in, parts_but, parts_by}
 use Rattle.leak_holders.specs.Tallies.{facts_of}
 use Rattle.leak_holders.proofs.Numbers.{filter_same}
 use Rattle.leak_holding.specs.Held.{AreHeld, AreHeldIn, AreHeldOf, both}

@@ -1,5 +1,5 @@
 -- The reports of searches have the lines that belong together.
-use Rattle.std.proofs.Common.{◌≡◌, ℕ, ◌<◌, Bool, true, false, List, length, Option, None, refl, sym, ap, subst, ◌∙◌}
+use Rattle.std.proofs.Common.{◌≡◌, ℕ, Bool, true, false, List, length, None, ap, subst, ◌∙◌}
 use Rattle.leak_elf.specs.Words.{word_of}
 use Rattle.leak_mtrace.specs.declared.line.Line.{Line}
 use Rattle.leak_mtrace.proofs.SameLogLemmas.{logs_are_one}
@@ -18,11 +18,12 @@ use Rattle.leak_input.specs.Signs.{fits_told}
 use Rattle.leak_search.specs.Search.{FindsOne, graph_of_one, head_of_one, index_of}
 use Rattle.leak_search.specs.SearchTwo.{FindsTwo, head_of_two, kept_blocks, new_blocks, numbers_of_two}
 use Rattle.leak_laws.specs.OneLine.{AreOfOneLine}
-use Rattle.leak_laws.specs.Reports.{IsReport, told_by_one, told_by_two, told_of, without_misfits}
+use Rattle.leak_laws.specs.Reports.{IsReport, told_by_one, told_by_two, without_misfits}
 use Rattle.leak_laws.specs.Told.{told_text}
 use Rattle.leak_laws.proofs.Ascending.{ascend}
 use Rattle.leak_laws.proofs.OneLineTexts.{blocks_lack, of_one_line}
-use Rattle.leak_laws.proofs.ReportLemmas.{belong, report_is_told}
+use Rattle.leak_laws.proofs.ReportLemmas.{belong}
+use Rattle.leak_laws.proofs.ReportBytes.{report_is_told}
 use Rattle.leak_laws.proofs.SameLemmas.{later_of, sets_are_one}
 
 pub of_one : (core log : List ℕ) (reading : Distances) (skip : Skip) (check : Bool) (workers : ℕ) (found : Found) → (f : FindsOne core log reading skip check workers found) → IsReport found (told_by_one f)

@@ -1,12 +1,13 @@
 -- A report is read from its first line to its last.
-use Rattle.std.proofs.Common.{◌≡◌, ℕ, Bool, List, [], ◌∷◌, ◌++◌, flat_map, get_or, Option, None, Some, refl, sym, ap, ◌∙◌, arith, append_assoc, append-nil}
+use Rattle.std.proofs.Common.{◌≡◌, ℕ, List, [], ◌∷◌, ◌++◌, flat_map, get_or, Option, None, Some, refl, sym, ap, ◌∙◌, arith, append_assoc, append-nil}
 use Rattle.std.specs.Prelude.{codes, decimal, IfSome}
-use Rattle.std.proofs.lemmas.List.{append_cancel_left}
 use Rattle.leak_report.specs.declared.head.Head.{Head}
 use Rattle.leak_report.specs.declared.head.Two.{Two}
 use Rattle.leak_report.specs.Lines.{freed_lines, heads_line, log_line, two_lines, undumped_line}
-use Rattle.leak_laws.specs.Told.{AreTwoRead, IsHeadRead, IsNumber, IsRead, Sum, Told, ToldCaller, ToldLeak, ToldMisfit, caller_text, leak_text, misfit_text, number_lines, sum_line, told_text}
-use Rattle.leak_laws.proofs.RowReading.{NotFirst, caller_rows, counts_read, freed_read, leak_rows, misfit_rows, number_read, others_first, rows_read, sum_read}
+use Rattle.leak_laws.specs.Told.{Sum, Told, ToldCaller, ToldLeak, ToldMisfit, caller_text, leak_text, misfit_text, number_lines, sum_line, told_text}
+use Rattle.leak_laws.specs.Readable.{AreTwoRead, IsNumber, IsRead}
+use Rattle.leak_laws.proofs.RowReading.{NotFirst, counts_read, freed_read, number_read, others_first, rows_read, sum_read}
+use Rattle.leak_laws.proofs.ReportRows.{caller_rows, leak_rows, misfit_rows}
 use Rattle.leak_laws.proofs.Splits.{AreSame}
 
 -- ---- lines that may be missing

@@ -1,5 +1,5 @@
 -- What grew between some logs, worked out by hand. The lines of a log are given beside its bytes.
-use Rattle.std.specs.Prelude.{◌≡◌, ℕ, ◌++◌, List, [], ◌∷◌, length, codes, IsTrue}
+use Rattle.std.specs.Prelude.{◌≡◌, ℕ, ◌++◌, List, [], ◌∷◌, codes, IsTrue}
 use Rattle.leak_mtrace.specs.declared.line.Kind.TheVariants.{Alloc, Free}
 use Rattle.leak_mtrace.specs.declared.line.Line.{Line}
 use Rattle.leak_mtrace.specs.Log.{IsLog, is_continued_by}

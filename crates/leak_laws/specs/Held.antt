@@ -1,5 +1,5 @@
 -- Answers about what is held are one: who holds the memory, what chosen blocks hold or who holds them, and why a block is held.
-use Rattle.std.specs.Prelude.{◌≡◌, ℕ, Bool, false, List, length, Option, option_map}
+use Rattle.std.specs.Prelude.{◌≡◌, ℕ, false, List, length, Option, option_map}
 use Rattle.leak_index.specs.Leads.{Distances}
 use Rattle.leak_roots.specs.declared.skip.Skip.{Skip}
 use Rattle.leak_holders.specs.declared.question.Question.{Question}

@@ -1,5 +1,5 @@
 -- How the lines of a report on who holds the memory belong together.
-use Rattle.std.specs.Prelude.{◌≡◌, ◌+◌, ◌≤◌, ℕ, Bool, List, sum_by, Option, None}
+use Rattle.std.specs.Prelude.{◌≡◌, ◌+◌, ◌≤◌, ℕ, List, sum_by, Option, None}
 use Rattle.std.specs.List.{AllByRecursion}
 use Rattle.std.specs.List.Sorted.{IsStrictlySortedBy}
 use Rattle.std.specs.Cmp.Lexicographic.{slice_cmp}
@@ -12,7 +12,7 @@ use Rattle.leak_search.specs.Search.{head_of_one}
 use Rattle.leak_holding.specs.declared.finding.Holding.{Holding}
 use Rattle.leak_holding.specs.Holders.{FindsHolders}
 use Rattle.leak_holding.specs.Since.{news_of}
-use Rattle.leak_laws.specs.ToldHeld.{ToldHolder, ToldHolders, holders_tell, holders_told}
+use Rattle.leak_laws.specs.ToldHolders.{ToldHolder, ToldHolders, holders_tell, holders_told}
 
 -- more bytes first, ties by the ascending bytes of the text
 abbrev pub rank_holder : ToldHolder → ToldHolder → Ordering

@@ -4,9 +4,12 @@ pub mod Growth
 pub mod GrowthRows
 pub mod Held
 pub mod Told
+pub mod Readable
 pub mod Reports
+pub mod Together
 pub mod OneLine
-pub mod ToldHeld
+pub mod ToldGrowth
+pub mod ToldHolders
 pub mod ToldAnswers
 pub mod ToldWhy
 pub mod Runs

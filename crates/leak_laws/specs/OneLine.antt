@@ -11,7 +11,8 @@ use Rattle.leak_input.specs.declared.found.Found.{Found}
 use Rattle.leak_search.specs.Search.{FindsOne}
 use Rattle.leak_search.specs.SearchTwo.{FindsTwo}
 use Rattle.leak_laws.specs.Reports.{told_by_one, told_by_two}
-use Rattle.leak_laws.specs.Told.{Lacks, Told}
+use Rattle.leak_laws.specs.Told.{Told}
+use Rattle.leak_laws.specs.Readable.{Lacks}
 
 -- of each live block of a log
 abbrev pub TextsAreOfOneLine : Type 0

@@ -6,7 +6,7 @@ use Rattle.leak_request.specs.declared.options.Options.{Options}
 use Rattle.leak_request.specs.Requests.{file_count}
 use Rattle.leak_find.specs.Run.{Runs, left_in}
 use Rattle.leak_laws.specs.OneLine.{AreOfOneLine}
-use Rattle.leak_laws.specs.Reports.{BelongTogether}
+use Rattle.leak_laws.specs.Together.{BelongTogether}
 use Rattle.leak_laws.specs.Told.{Told, told_text}
 
 -- the options ask for the same; how marking is shared may differ, and how much is read at most

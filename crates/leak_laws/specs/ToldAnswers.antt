@@ -10,7 +10,8 @@ use Rattle.leak_holders.specs.declared.question.Side.{Side}
 use Rattle.leak_why.specs.Text.{block_front}
 use Rattle.leak_holding.specs.Held.{held_text, part_front}
 use Rattle.leak_laws.specs.Reports.{sum_of}
-use Rattle.leak_laws.specs.Told.{IsNumber, IsSumRead, Lacks, Sum, sum_line}
+use Rattle.leak_laws.specs.Told.{Sum, sum_line}
+use Rattle.leak_laws.specs.Readable.{IsNumber, IsSumRead, Lacks}
 
 -- a block
 pub record ToldEntry : Type 0 where

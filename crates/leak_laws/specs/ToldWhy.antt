@@ -7,7 +7,7 @@ use Rattle.leak_report.specs.Lines.{hexadecimal}
 use Rattle.leak_why.specs.declared.chain.Chain.{Chain}
 use Rattle.leak_why.specs.declared.chain.Link.{Link}
 use Rattle.leak_why.specs.Text.{holds, place_text, text_of}
-use Rattle.leak_laws.specs.Told.{IsNumber, Lacks}
+use Rattle.leak_laws.specs.Readable.{IsNumber, Lacks}
 use Rattle.leak_laws.specs.ToldAnswers.{IsEntryRead, ToldEntry, entry_text, told_entry}
 
 -- a word of the block before, and the block that it leads to

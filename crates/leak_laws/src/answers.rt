@@ -1,7 +1,8 @@
 //! The other reports and answers, for who reads them.
 
 ghost use Rattle.leak_laws.specs.ToldAnswers.{AnswersAreTold, AnswersReadBack};
-ghost use Rattle.leak_laws.specs.ToldHeld.{GrowthIsTold, GrowthReadsBack, HoldersAreTold, HoldersReadBack};
+ghost use Rattle.leak_laws.specs.ToldGrowth.{GrowthIsTold, GrowthReadsBack};
+ghost use Rattle.leak_laws.specs.ToldHolders.{HoldersAreTold, HoldersReadBack};
 ghost use Rattle.leak_laws.specs.ToldWhy.{WhyIsTold, WhyReadsBack};
 
 /// Two reports of what grew with the same bytes tell the same, as those of leaks do.

@@ -2,7 +2,7 @@
 
 ghost use Rattle.leak_laws.specs.OneLine.{ReportsOfOneAreOfLines, ReportsOfTwoAreOfLines, TextsAreOfOneLine};
 ghost use Rattle.leak_laws.specs.Reports.{CheckAddsMisfits, CheckAddsMisfitsOfTwo, ReportsAreTold, ReportsOfOneBelongTogether, ReportsOfTwoBelongTogether};
-ghost use Rattle.leak_laws.specs.Told.{ReportsReadBack};
+ghost use Rattle.leak_laws.specs.Readable.{ReportsReadBack};
 
 /// Two reports with the same bytes tell the same, line by line and number by number, if no text has a line feed and each number is
 /// below 2^64. A report tells the lines that it is made of.

@@ -1,5 +1,5 @@
 -- From the lemmas.
-use Rattle.leak_laws.proofs.HeldReading.{growth_is_told, growth_reads_back}
+use Rattle.leak_laws.proofs.GrowthReading.{growth_is_told, growth_reads_back}
 use Rattle.leak_laws.proofs.answers.growth_reads_back.Goals as goal
 
 pub returns : goal.returns

@@ -1,6 +1,6 @@
 -- From the lemmas.
 use Rattle.leak_laws.proofs.AnswerReading.{answer_is_told, answers_read_back}
-use Rattle.leak_laws.proofs.HeldReading.{holders_are_told, holders_read_back}
+use Rattle.leak_laws.proofs.HolderReading.{holders_are_told, holders_read_back}
 use Rattle.leak_laws.proofs.answers.holders_read_back.Goals as goal
 
 pub returns : goal.returns

@@ -1,7 +1,6 @@
 -- Each report is computed; the lines go by their cases.
 use Rattle.std.proofs.Common.{◌≡◌, ℕ, inl, inr, refl, codes, List, [], ◌∷◌, arith}
 use Rattle.std.specs.Fmt.{digits}
-use Rattle.leak_mtrace.specs.declared.line.Line.{Line}
 use Rattle.leak_mtrace.specs.Line.{IsLine}
 use Rattle.leak_mtrace.specs.Log.{IsGoodLine, IsLog, placed}
 use Rattle.leak_mtrace.specs.Number.{IsAddress, IsSize}

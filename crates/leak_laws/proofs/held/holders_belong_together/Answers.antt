@@ -1,5 +1,6 @@
 -- From the lemmas.
-use Rattle.leak_laws.proofs.HolderSums.{holders_belong, own_are_marked}
+use Rattle.leak_laws.proofs.HolderSums.{own_are_marked}
+use Rattle.leak_laws.proofs.HolderOrder.{holders_belong}
 use Rattle.leak_laws.proofs.held.holders_belong_together.Goals as goal
 
 pub returns : goal.returns

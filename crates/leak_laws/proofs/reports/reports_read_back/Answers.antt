@@ -1,5 +1,5 @@
 -- From the lemmas.
-use Rattle.leak_laws.proofs.ReportLemmas.{report_is_told}
+use Rattle.leak_laws.proofs.ReportBytes.{report_is_told}
 use Rattle.leak_laws.proofs.ToldLemmas.{read_back}
 use Rattle.leak_laws.proofs.reports.reports_read_back.Goals as goal
 
