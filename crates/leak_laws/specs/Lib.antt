@@ -14,3 +14,4 @@ pub mod ToldAnswers
 pub mod ToldWhy
 pub mod Runs
 pub mod HeldTogether
+pub mod ZeroRows

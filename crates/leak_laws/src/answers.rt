@@ -4,6 +4,7 @@ ghost use Rattle.leak_laws.specs.ToldAnswers.{AnswersAreTold, AnswersReadBack};
 ghost use Rattle.leak_laws.specs.ToldGrowth.{GrowthIsTold, GrowthReadsBack};
 ghost use Rattle.leak_laws.specs.ToldHolders.{HoldersAreTold, HoldersReadBack};
 ghost use Rattle.leak_laws.specs.ToldWhy.{WhyIsTold, WhyReadsBack};
+ghost use Rattle.leak_laws.specs.ZeroRows.{AreAtZero};
 
 /// Two reports of what grew with the same bytes tell the same, as those of leaks do.
 pub fn growth_reads_back()
@@ -23,4 +24,9 @@ pub fn holders_read_back()
 pub fn why_reads_back()
     ensures told { WhyIsTold }
     ensures one { WhyReadsBack }
+{}
+
+/// A root word may stand at the address 0, where docs/FORMAT.md has `0x0`: addresses of blocks are above 0.
+pub fn roots_at_zero()
+    ensures { AreAtZero }
 {}
