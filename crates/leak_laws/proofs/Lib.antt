@@ -29,3 +29,4 @@ pub mod WhyBytes
 pub mod RunLemmas
 pub mod HolderSums
 pub mod HolderOrder
+pub mod HeldTexts

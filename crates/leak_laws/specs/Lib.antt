@@ -15,3 +15,4 @@ pub mod ToldWhy
 pub mod Runs
 pub mod HeldTogether
 pub mod ZeroRows
+pub mod HeldOneLine

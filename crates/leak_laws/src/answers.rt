@@ -1,5 +1,6 @@
 //! The other reports and answers, for who reads them.
 
+ghost use Rattle.leak_laws.specs.HeldOneLine.{AnswersAreOfLines, GrowthIsOfLines, HoldersAreOfLines, WhyIsOfLines};
 ghost use Rattle.leak_laws.specs.ToldAnswers.{AnswersAreTold, AnswersReadBack};
 ghost use Rattle.leak_laws.specs.ToldGrowth.{GrowthIsTold, GrowthReadsBack};
 ghost use Rattle.leak_laws.specs.ToldHolders.{HoldersAreTold, HoldersReadBack};
@@ -24,6 +25,14 @@ pub fn holders_read_back()
 pub fn why_reads_back()
     ensures told { WhyIsTold }
     ensures one { WhyReadsBack }
+{}
+
+/// The text of a caller has no line feed in any of these reports and answers, and the answers have the bytes of their lines.
+pub fn answers_are_of_lines()
+    ensures growth { GrowthIsOfLines }
+    ensures holders { HoldersAreOfLines }
+    ensures chosen { AnswersAreOfLines }
+    ensures why { WhyIsOfLines }
 {}
 
 /// A root word may stand at the address 0, where docs/FORMAT.md has `0x0`: addresses of blocks are above 0.

@@ -9,7 +9,7 @@
 //! - **Lines belong together**, as docs/FORMAT.md says: [`lines_belong_together`], [`check_adds_misfits`],
 //!   [`runs_write_reports`], [`holders_belong_together`], [`growths_add_up`].
 //! - **Bytes tell the lines**: [`reports_read_back`], [`texts_are_of_one_line`], [`growth_reads_back`],
-//!   [`holders_read_back`], [`why_reads_back`].
+//!   [`holders_read_back`], [`why_reads_back`], [`answers_are_of_lines`].
 //! - **Worked rows**: [`worked_growths`], [`roots_at_zero`].
 //!
 //! What the lines of a report say is in `specs/Told.antt`, and how they belong together in `specs/Together.antt`.
@@ -23,7 +23,9 @@ mod reports;
 mod runs;
 mod same;
 
-pub use answers::{growth_reads_back, holders_read_back, roots_at_zero, why_reads_back};
+pub use answers::{
+    answers_are_of_lines, growth_reads_back, holders_read_back, roots_at_zero, why_reads_back,
+};
 pub use growth::{growths_add_up, reports_of_growth_are_one, worked_growths};
 pub use held::{answers_of_why_are_as_long, holders_belong_together, reports_of_holders_are_one};
 pub use leaks::{earlier_cores_keep_blocks, reported_stay_reported};
