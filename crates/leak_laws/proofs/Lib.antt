@@ -30,3 +30,4 @@ pub mod RunLemmas
 pub mod HolderSums
 pub mod HolderOrder
 pub mod HeldTexts
+pub mod HeldRunLemmas

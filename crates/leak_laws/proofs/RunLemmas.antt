@@ -14,7 +14,7 @@ use Rattle.leak_request.specs.declared.options.Options.{Options}
 use Rattle.leak_request.specs.Requests.{file_count}
 use Rattle.leak_search.specs.Search.{FindsOne}
 use Rattle.leak_search.specs.SearchTwo.{FindsTwo}
-use Rattle.leak_find.specs.Run.{AreInputs, Finds, Runs, input_at, left_in, signs_that_count, status_by, warnings_by}
+use Rattle.leak_find.specs.Run.{AreWithin, Finds, Runs, input_at, left_in, limit_at, signs_that_count, status_by, warnings_by}
 use Rattle.leak_laws.specs.OneLine.{AreOfOneLine}
 use Rattle.leak_laws.specs.Reports.{IsReport, told_by_one, told_by_two}
 use Rattle.leak_laws.specs.Runs.{AreAlike, AskAlike, HoldAlike, IsRunReport}
@@ -33,25 +33,24 @@ whole all bytes (Some xs) (Some ys) e taken end =
     let same : xs ≡ all = cc in
     sym (append-nil bytes) ∙ ap (λ (t : List ℕ). bytes ++ t) (sym end) ∙ sym taken ∙ same
 
-inputs_are_one : (a b : Options) (before after readers left : List (Option (List ℕ))) (inputs others : List (List ℕ)) → a.two ≡ b.two → HoldAlike (file_count a.two) before readers
-    → length inputs ≡ file_count a.two → length others ≡ file_count b.two → AreInputs a before after inputs → AreInputs b readers left others → inputs ≡ others
-inputs_are_one a b before after readers left inputs others two hold m n p q =
-    same_lists inputs others (m ∙ ap file_count two ∙ sym n) (λ i d low. each i d low)
-  where
-    default : (xs : List (List ℕ)) (i : ℕ) (d : List ℕ) → i < length xs → get_or xs i d ≡ get_or xs i []
-    default [] i d low = absurd (omega arith)
-    default (x ∷ xs) zero d low = refl
-    default (x ∷ xs) (suc i) d low = default xs i d (omega arith)
+default : (xs : List (List ℕ)) (i : ℕ) (d : List ℕ) → i < length xs → get_or xs i d ≡ get_or xs i []
+default [] i d low = absurd (omega arith)
+default (x ∷ xs) zero d low = refl
+default (x ∷ xs) (suc i) d low = default xs i d (omega arith)
 
+pub inputs_are_one : (limit other : ℕ → ℕ) (before after readers left : List (Option (List ℕ))) (inputs others : List (List ℕ)) → length inputs ≡ length others → HoldAlike (length inputs) before readers
+    → AreWithin limit before after inputs → AreWithin other readers left others → inputs ≡ others
+inputs_are_one limit other before after readers left inputs others n hold p q = same_lists inputs others n (λ i d low. each i d low)
+  where
     each : (i : ℕ) (d : List ℕ) → i < length inputs → get_or inputs i d ≡ get_or others i d
     each i d low =
-        let h = hold i (omega (arith, m)) in
+        let h = hold i low in
         let w = p.each i low in
-        let v = q.each i (omega (arith, m, n, ap file_count two)) in
+        let v = q.each i (omega (arith, n)) in
         default inputs i d low
         ∙ whole h.0 (input_at inputs i) (left_in before i) (left_in after i) h.1 w.taken w.end
         ∙ sym (whole h.0 (input_at others i) (left_in readers i) (left_in left i) h.2 v.taken v.end)
-        ∙ sym (default others i d (omega (arith, m, n, ap file_count two)))
+        ∙ sym (default others i d (omega (arith, n)))
 
 -- ---- reports
 
@@ -72,7 +71,9 @@ pub runs_are_one : (a b : Options) (before after readers left : List (Option (Li
     → Runs a before after held holds heard hears status → Runs b readers left other others told tells same
     → AreAlike held holds other others status same
 runs_are_one a b before after readers left held holds heard hears other others told tells status same ask hold f g =
-    let inputs : f.has_found.inputs ≡ g.has_found.inputs = inputs_are_one a b before after readers left f.has_found.inputs g.has_found.inputs ask.two hold f.has_found.count g.has_found.count f.has_found.read g.has_found.read in
+    let inputs : f.has_found.inputs ≡ g.has_found.inputs =
+    inputs_are_one (limit_at a) (limit_at b) before after readers left f.has_found.inputs g.has_found.inputs (f.has_found.count ∙ ap file_count ask.two ∙ sym g.has_found.count)
+    (subst (λ (n : ℕ). HoldAlike n before readers) (sym f.has_found.count) hold) f.has_found.read g.has_found.read in
     let finds1 = subst (λ (two : Bool). Finds two b g.has_found.inputs g.found) (sym ask.two) g.has_found.finds in
     let finds2 = subst (λ (is : List (List ℕ)). Finds a.two b is g.found) (sym inputs) finds1 in
     let report = same_found a.two a b f.has_found.inputs f.found g.found ask f.has_found.finds finds2 in

@@ -16,3 +16,4 @@ pub mod Runs
 pub mod HeldTogether
 pub mod ZeroRows
 pub mod HeldOneLine
+pub mod HeldRuns

@@ -3,8 +3,8 @@
 //! Each is a function that does nothing: its contract is the law.
 //!
 //! - **Answers are functions of the files**: [`reports_are_one`], [`signs_are_one`], [`reports_of_holders_are_one`],
-//!   [`reports_of_growth_are_one`], and of whole runs [`runs_are_one`]. Which of the shortest chains is told of a block is
-//!   open, but not how long it is ([`answers_of_why_are_as_long`]).
+//!   [`reports_of_growth_are_one`], and of whole runs [`runs_are_one`], [`other_runs_are_one`]. Which of the shortest chains
+//!   is told of a block is open, but not how long it is ([`answers_of_why_are_as_long`]).
 //! - **What leaks by other options**: [`reported_stay_reported`], [`earlier_cores_keep_blocks`].
 //! - **Lines belong together**, as docs/FORMAT.md says: [`lines_belong_together`], [`check_adds_misfits`],
 //!   [`runs_write_reports`], [`holders_belong_together`], [`growths_add_up`].
@@ -32,5 +32,5 @@ pub use leaks::{earlier_cores_keep_blocks, reported_stay_reported};
 pub use reports::{
     check_adds_misfits, lines_belong_together, reports_read_back, texts_are_of_one_line,
 };
-pub use runs::{runs_are_one, runs_write_reports};
+pub use runs::{other_runs_are_one, runs_are_one, runs_write_reports};
 pub use same::{reports_are_one, signs_are_one};
