@@ -34,9 +34,9 @@ use Rattle.leak_laws.proofs.TextSums.{sum_map}
 
 module _ (p : ℕ → Bool) (size : ℕ → ℕ) where
   -- the numbers from a on pass where the blocks are marked, and have their sizes
-  record Tell (a : ℕ) (set : List Bool) (blocks : List Block) : Type 0 where
-    tests : (i : ℕ) → i < length set → p (a + i) ≡ slice_index_or set i false
-    sizes : (i : ℕ) (d : Block) → i < length blocks → size (a + i) ≡ (slice_index_or blocks i d).size
+  pub record Tell (a : ℕ) (set : List Bool) (blocks : List Block) : Type 0 where
+    pub tests : (i : ℕ) → i < length set → p (a + i) ≡ slice_index_or set i false
+    pub sizes : (i : ℕ) (d : Block) → i < length blocks → size (a + i) ≡ (slice_index_or blocks i d).size
 
   tell_rest : (a : ℕ) (s : Bool) (set : List Bool) (b : Block) (blocks : List Block) → Tell a (s ∷ set) (b ∷ blocks) → Tell (a + 1) set blocks
   tell_rest a s set b blocks t = record {
@@ -44,7 +44,7 @@ module _ (p : ℕ → Bool) (size : ℕ → ℕ) where
     sizes = λ i d low. (let e : a + 1 + i ≡ a + suc i = omega arith in ap size e ∙ t.sizes (suc i) d (omega arith));
   }
 
-  as_many : (a : ℕ) (set : List Bool) (blocks : List Block) → length set ≡ length blocks → Tell a set blocks → length (filter p (range_with_len a (length blocks))) ≡ length (marked_in set blocks)
+  pub as_many : (a : ℕ) (set : List Bool) (blocks : List Block) → length set ≡ length blocks → Tell a set blocks → length (filter p (range_with_len a (length blocks))) ≡ length (marked_in set blocks)
   as_many a [] [] n t = refl
   as_many a [] (b ∷ blocks) n t = absurd (omega (arith, n))
   as_many a (s ∷ set) [] n t = absurd (omega (arith, n))
@@ -59,7 +59,7 @@ module _ (p : ℕ → Bool) (size : ℕ → ℕ) where
       go true rest = omega (arith, rest)
       go false rest = rest
 
-  as_large : (a : ℕ) (set : List Bool) (blocks : List Block) → length set ≡ length blocks → Tell a set blocks → sum_by size (filter p (range_with_len a (length blocks))) ≡ bytes_of (marked_in set blocks)
+  pub as_large : (a : ℕ) (set : List Bool) (blocks : List Block) → length set ≡ length blocks → Tell a set blocks → sum_by size (filter p (range_with_len a (length blocks))) ≡ bytes_of (marked_in set blocks)
   as_large a [] [] n t = refl
   as_large a [] (b ∷ blocks) n t = absurd (omega (arith, n))
   as_large a (s ∷ set) [] n t = absurd (omega (arith, n))

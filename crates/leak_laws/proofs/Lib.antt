@@ -31,3 +31,4 @@ pub mod HolderSums
 pub mod HolderOrder
 pub mod HeldTexts
 pub mod HeldRunLemmas
+pub mod PartSums

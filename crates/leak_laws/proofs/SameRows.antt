@@ -95,6 +95,11 @@ rows_are_one graph blocks numbers set counted texts rows others n p q =
 plain_in : (graph : Graph) (f : Facts) (texts : ℕ) (set told : List Bool) (parts : List Part) → AreHeldIn graph f texts set told parts → AreHeldIn graph (plain f) texts set told parts
 plain_in graph f texts set told parts p = record { held = p.held; len = p.len; holds = p.holds; told_are = p.told_are; rows = p.rows }
 
+pub known_in : (graph : Graph) (blocks : List Block) (numbers : List ℕ) (reached counted : List Bool) (texts : ℕ) (set told : List Bool) (parts : List Part) (f : Facts) → AreKnown blocks numbers reached counted f
+    → AreHeldIn graph f texts set told parts → AreHeldIn graph (facts_of blocks numbers reached counted) texts set told parts
+known_in graph blocks numbers reached counted texts set told parts f known p =
+    subst (λ (k : Facts). AreHeldIn graph k texts set told parts) (plain_is blocks numbers reached counted f known) (plain_in graph f texts set told parts p)
+
 plain_of : (graph : Graph) (f : Facts) (texts : ℕ) (set : List Bool) (but : ℕ) (told : List Bool) (parts : List Part) → AreHeldOf graph f texts set but told parts → AreHeldOf graph (plain f) texts set but told parts
 plain_of graph f texts set but told parts p = record {
   told_are = p.told_are;

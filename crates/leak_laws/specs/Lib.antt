@@ -17,3 +17,4 @@ pub mod HeldTogether
 pub mod ZeroRows
 pub mod HeldOneLine
 pub mod HeldRuns
+pub mod InSums

@@ -1,6 +1,7 @@
 //! What is held: answers are one, and the lines of a report belong together.
 
 ghost use Rattle.leak_laws.specs.HeldTogether.{HoldersBelongTogether, OwnBlocksAreMarked};
+ghost use Rattle.leak_laws.specs.InSums.{InLinesAddUp};
 ghost use Rattle.leak_laws.specs.Held.{AnswersAreOne, AnswersOfWhyAreAsLong, ReportsOfHoldersAreOne};
 
 /// Two accepted reports of who holds the memory, from the same bytes and by the same options, are the same, byte by byte, and so are two
@@ -21,4 +22,9 @@ pub fn answers_of_why_are_as_long()
 pub fn holders_belong_together()
     ensures together { HoldersBelongTogether }
     ensures own { OwnBlocksAreMarked }
+{}
+
+/// The lines of what chosen blocks hold have the sums of the held blocks.
+pub fn in_lines_add_up()
+    ensures { InLinesAddUp }
 {}
