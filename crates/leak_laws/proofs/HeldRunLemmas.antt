@@ -1,5 +1,5 @@
 -- A run that tells what is held, or what grew, is a function of its inputs.
-use Rattle.std.proofs.Common.{◌≡◌, ℕ, Bool, List, [], ◌∷◌, length, map, Option, None, Some, refl, sym, ap, subst, ◌∙◌}
+use Rattle.std.proofs.Common.{◌≡◌, ℕ, Bool, List, [], ◌∷◌, length, map, Option, None, Some, sym, ap, subst, ◌∙◌}
 use Rattle.std.specs.Io.KnownBytes.{Appends}
 use Rattle.leak_index.specs.Leads.{Distances}
 use Rattle.leak_index.specs.Readings.{distances_of}
@@ -11,7 +11,6 @@ use Rattle.leak_holders.specs.declared.question.Question.{Question}
 use Rattle.leak_request.specs.declared.options.GrowOptions.{GrowOptions}
 use Rattle.leak_request.specs.declared.options.Options.{Options}
 use Rattle.leak_growth.specs.Growth.{FindsGrowth}
-use Rattle.leak_search.specs.declared.holding.Why.{Why}
 use Rattle.leak_search.specs.Holding.{TellsWhy}
 use Rattle.leak_holding.specs.declared.finding.Holding.{Holding}
 use Rattle.leak_holding.specs.Held.{FindsHeld}

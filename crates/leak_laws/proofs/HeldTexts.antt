@@ -1,5 +1,5 @@
 -- The texts of the other reports and answers are those of blocks of their logs.
-use Rattle.std.proofs.Common.{◌≡◌, ℕ, zero, suc, ◌<◌, Bool, true, false, List, [], ◌∷◌, ◌++◌, length, map, filter, get_or, Option, None, Some, slice_get, refl, sym, ap, subst, ◌∙◌, arith}
+use Rattle.std.proofs.Common.{◌≡◌, ℕ, zero, suc, ◌<◌, Bool, true, false, List, [], ◌∷◌, ◌++◌, length, map, filter, Option, None, Some, refl, subst, ◌∙◌}
 use Rattle.std.specs.Prelude.{IfSome, if◌then◌else◌, slice_index_or}
 use Rattle.std.specs.List.{AllByRecursion, Contains, list_any}
 use Rattle.std.proofs.lemmas.Option.{slice_get_within}
@@ -26,7 +26,7 @@ use Rattle.leak_why.specs.declared.chain.RootWord.{RootWord}
 use Rattle.leak_growth.specs.declared.growth.Grown.{Grown}
 use Rattle.leak_growth.specs.Growth.{FindsGrowth}
 use Rattle.leak_growth.specs.Report.{growth_with, growths_of}
-use Rattle.leak_growth.specs.Rows.{Growth, has_changed, rank, ranked}
+use Rattle.leak_growth.specs.Rows.{has_changed, rank}
 use Rattle.leak_growth.proofs.RankLemmas.{each_ranked}
 use Rattle.leak_search.specs.Search.{index_of}
 use Rattle.leak_search.specs.declared.holding.Why.{Why}

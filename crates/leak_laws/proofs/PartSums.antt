@@ -3,26 +3,25 @@ use Rattle.std.proofs.Common.{◌≡◌, ℕ, zero, suc, ◌+◌, ◌<◌, ◌�
 use Rattle.std.specs.Prelude.{IfSome, if◌then◌else◌, nat_lt, slice_index, slice_index_or}
 use Rattle.std.specs.List.{list_any, range_with_len}
 use Rattle.std.specs.Ordering.{is_lt}
-use Rattle.std.proofs.lemmas.Bool.{cases_eq, eq-eqb, eqb-true, lt-ltb, ltb-false, ne_eqb}
+use Rattle.std.proofs.lemmas.Bool.{cases_eq, eq-eqb, ltb-false, ne_eqb}
 use Rattle.std.proofs.lemmas.List.FromFn.{get_or-map-range_with_len, length-map-range_with_len}
 use Rattle.std.proofs.lemmas.List.Sums.{sum_by-cons}
 use Rattle.leak_blocks.specs.declared.block.Block.{Block}
 use Rattle.leak_blocks.specs.Live.{live_of}
 use Rattle.leak_index.specs.Leads.{Distances}
 use Rattle.leak_roots.specs.declared.skip.Skip.{Skip}
-use Rattle.leak_marks.specs.Reach.{Graph}
 use Rattle.leak_report.specs.Totals.{bytes_of, marked_in}
 use Rattle.leak_holders.specs.declared.facts.Facts.{Facts}
 use Rattle.leak_holders.specs.declared.part.Part.{Part}
 use Rattle.leak_holders.specs.declared.question.Question.{Question}
 use Rattle.leak_holders.specs.declared.question.Side.{Side}
-use Rattle.leak_holders.specs.declared.question.Side.TheVariants.{In, Of}
+use Rattle.leak_holders.specs.declared.question.Side.TheVariants.{In}
 use Rattle.leak_holders.specs.Holders.{is_counted, size_of, text_of}
 use Rattle.leak_holders.specs.Parts.{held_of, part_of, parts_by, parts_with_blocks, placed_part, rank_of_parts, ranked_parts}
 use Rattle.leak_holders.specs.Tallies.{facts_of}
 use Rattle.leak_search.specs.Search.{graph_of_one}
 use Rattle.leak_holding.specs.declared.finding.Holding.{Holding}
-use Rattle.leak_holding.specs.Held.{AreHeld, AreHeldIn, FindsHeld, both, chosen_with}
+use Rattle.leak_holding.specs.Held.{AreHeld, FindsHeld, both, chosen_with}
 use Rattle.leak_holding.specs.Since.{counted_of}
 use Rattle.leak_holding.proofs.NumberLemmas.{are_numbers}
 use Rattle.leak_laws.specs.HeldOneLine.{told_by_answer}
