@@ -1,1 +1,3 @@
 pub mod HeapLemmas
+pub mod GraphTests
+pub mod ChainTests
