@@ -55,6 +55,14 @@ pub record Scene : Type 0 where
 abbrev pub scene : List (ℕ × ℕ) → List Block → Places → Scene
 scene words blocks places = record { words = words; index = index_by false None blocks; places = places }
 
+-- blocks that the listed distances alone lead to
+abbrev pub displaced_scene : List ℕ → List (ℕ × ℕ) → List Block → Places → Scene
+displaced_scene listed words blocks places = record { words = words; index = index_by false (Some listed) blocks; places = places }
+
+-- blocks that no word at their ends leads to
+abbrev pub inner_scene : Option (List ℕ) → List (ℕ × ℕ) → List Block → Places → Scene
+inner_scene listed words blocks places = record { words = words; index = index_by true listed blocks; places = places }
+
 -- a chain with the root word and the links may be told of the block
 abbrev pub IsHeldBy : Scene → ℕ → RootWord → List Link → Type 0
 IsHeldBy s block root links =
@@ -78,6 +86,14 @@ two_blocks = block 0x10100 0x20 1 ∷ block 0x10200 0x10 2 ∷ []
 abbrev pub around_two : List (ℕ × ℕ)
 around_two = (0x10000, 0x10100) ∷ (0x10120, 0x10200) ∷ (0x10210, 0x10220) ∷ []
 
+-- that block and one that begins at its end
+abbrev pub neighbors : ℕ → List Block
+neighbors size = block 0x10100 0x20 1 ∷ block 0x10120 size 2 ∷ []
+
+-- root words before all these blocks
+abbrev pub before_all : Places
+before_all = places ((0x10000, 0x100f8) ∷ []) zero_registers
+
 -- a block of 12 bytes, whose second word is only half in it, and one of 16
 abbrev pub half_blocks : List Block
 half_blocks = block 0x10100 0xc 1 ∷ block 0x10200 0x10 2 ∷ []
@@ -85,15 +101,6 @@ half_blocks = block 0x10100 0xc 1 ∷ block 0x10200 0x10 2 ∷ []
 -- a list's head at 0x10008 that leads to the free chunk after the block, which leads back
 abbrev pub free_list : List (ℕ × ℕ)
 free_list = (0x100f8, 0x31) ∷ (0x10008, 0x10120) ∷ (0x10138, 0xfff8) ∷ []
-
--- so many blocks of 16 bytes, each holding the start of the next in its first word
-abbrev pub row_of : ℕ → Scene
-row_of n = scene ((0x10008, 0x10200) ∷ map (λ i. (0x10200 + 0x20 * i, 0x10220 + 0x20 * i)) (range_with_len 0 n))
-    (map (λ i. block (0x10200 + 0x20 * i) 0x10 (i + 1)) (range_with_len 0 n)) (places ((0x10000, 0x10100) ∷ []) zero_registers)
-
--- its links, from the last block back to the first
-abbrev pub row_links : ℕ → List Link
-row_links n = map (λ i. link (n - 2 - i) (0x10200 + 0x20 * (n - 2 - i)) (0x10220 + 0x20 * (n - 2 - i))) (range_with_len 0 (n - 1))
 
 pub record AreWorkedChains : Type 0 where
   pub by_memory : IsHeldBy (scene ((0x10008, 0x10100) ∷ []) one_block (places around_one zero_registers)) 0 (at 0x10008 0x10100) []
@@ -106,11 +113,50 @@ pub record AreWorkedChains : Type 0 where
       (at 0x10008 0x10100) (link 0 0x10118 0x10200 ∷ [])
   pub directly_and_by_a_block : IsHeldBy (scene ((0x10008, 0x10200) ∷ (0x10010, 0x10100) ∷ (0x10100, 0x10200) ∷ []) two_blocks (places around_two zero_registers)) 1
       (at 0x10008 0x10200) []
-  pub half_word : IsLost (scene ((0x10008, 0x10100) ∷ (0x10108, 0x10200) ∷ []) half_blocks (places ((0x10000, 0x10100) ∷ []) zero_registers)) 1
-  pub ends_of_neighbors : IsHeldBy (scene ((0x10008, 0x10120) ∷ []) (block 0x10100 0x20 1 ∷ block 0x10120 0x10 2 ∷ []) (places ((0x10000, 0x10100) ∷ []) zero_registers)) 0
+  pub half_word : IsLost (scene ((0x10008, 0x10100) ∷ (0x10108, 0x10200) ∷ []) half_blocks before_all) 1
+  pub ends_of_neighbors : IsHeldBy (scene ((0x10008, 0x10120) ∷ []) (neighbors 0x10) before_all) 0
       (at 0x10008 0x10120) []
-  pub empty : IsHeldBy (scene ((0x10008, 0x10200) ∷ []) (block 0x10200 0 1 ∷ []) (places ((0x10000, 0x10100) ∷ []) zero_registers)) 0 (at 0x10008 0x10200) []
+  pub empty : IsHeldBy (scene ((0x10008, 0x10200) ∷ []) (block 0x10200 0 1 ∷ []) before_all) 0 (at 0x10008 0x10200) []
   pub free_chunk : IsHeldBy (scene free_list one_block (places around_one zero_registers)) 0 (at 0x10008 0x10120) []
   pub free_chunk_left_out : IsLost (scene free_list one_block (without_links around_one zero_registers)) 0
   pub free_chunk_in_a_register : IsHeldBy (scene free_list one_block (without_links around_one (in_rbx 0x10120))) 0 (in_register 5 0x10120) []
-  pub ten_in_a_row : IsHeldBy (row_of 10) 9 (at 0x10008 0x10200) (row_links 10)
+
+-- the same by a word 8 bytes after a block's start, where 8 is listed alone
+abbrev pub by_eight : ℕ → Scene
+by_eight word = displaced_scene (8 ∷ []) ((0x10008, word) ∷ []) one_block (places around_one zero_registers)
+
+-- a root word 8 bytes after the first block's start, and in this a word with a distance from the second's
+abbrev pub two_by_eight : ℕ → Scene
+two_by_eight distance = displaced_scene (8 ∷ []) ((0x10008, 0x10108) ∷ (0x10100, 0x10200 + distance) ∷ []) two_blocks (places around_two zero_registers)
+
+-- which distances of words keep a block, and which ends
+pub record AreWorkedDistances : Type 0 where
+  pub listed : IsHeldBy (by_eight 0x10108) 0 (at 0x10008 0x10108) []
+  pub start : IsHeldBy (by_eight 0x10100) 0 (at 0x10008 0x10100) []
+  pub not_listed : IsLost (by_eight 0x10110) 0
+  pub end_not_listed : IsLost (by_eight 0x10120) 0
+  pub in_a_block : IsHeldBy (two_by_eight 8) 1 (at 0x10008 0x10108) (link 0 0x10100 0x10208 ∷ [])
+  pub not_listed_in_a_block : IsLost (two_by_eight 4) 1
+  pub end_left_out : IsLost (inner_scene None ((0x10008, 0x10120) ∷ []) one_block before_all) 0
+  pub last_byte : IsHeldBy (inner_scene None ((0x10008, 0x1011f) ∷ []) one_block before_all) 0 (at 0x10008 0x1011f) []
+  pub end_before_a_neighbor : IsLost (inner_scene None ((0x10008, 0x10120) ∷ []) (neighbors 0x10) before_all) 0
+  pub start_of_a_neighbor : IsHeldBy (inner_scene None ((0x10008, 0x10120) ∷ []) (neighbors 0x10) before_all) 1 (at 0x10008 0x10120) []
+  pub empty : IsHeldBy (inner_scene None ((0x10008, 0x10200) ∷ []) (block 0x10200 0 1 ∷ []) before_all) 0 (at 0x10008 0x10200) []
+  pub listed_end : IsLost (inner_scene (Some (32 ∷ [])) ((0x10008, 0x10120) ∷ []) (neighbors 0) before_all) 0
+  pub empty_neighbor : IsHeldBy (inner_scene (Some (32 ∷ [])) ((0x10008, 0x10120) ∷ []) (neighbors 0) before_all) 1 (at 0x10008 0x10120) []
+  pub end_in_a_block : IsLost (inner_scene None ((0x10008, 0x10100) ∷ (0x10100, 0x10210) ∷ []) two_blocks before_all) 1
+
+-- so many blocks of 16 bytes, each holding the start of the next in its first word
+abbrev pub row_of : ℕ → Scene
+row_of n = scene ((0x10008, 0x10200) ∷ map (λ i. (0x10200 + 0x20 * i, 0x10220 + 0x20 * i)) (range_with_len 0 n))
+    (map (λ i. block (0x10200 + 0x20 * i) 0x10 (i + 1)) (range_with_len 0 n)) before_all
+
+-- its links, from the last block back to the first
+abbrev pub row_links : ℕ → List Link
+row_links n = map (λ i. link (n - 2 - i) (0x10200 + 0x20 * (n - 2 - i)) (0x10220 + 0x20 * (n - 2 - i))) (range_with_len 0 (n - 1))
+
+-- each of a hundred blocks is further from the root than the one before
+pub record IsWorkedRow : Type 0 where
+  pub last : IsHeldBy (row_of 100) 99 (at 0x10008 0x10200) (row_links 100)
+  pub first : IsHeldBy (row_of 100) 0 (at 0x10008 0x10200) []
+  pub second : IsHeldBy (row_of 100) 1 (at 0x10008 0x10200) (link 0 0x10200 0x10220 ∷ [])

@@ -1,2 +1,3 @@
 pub mod Heap
 pub mod Chains
+pub mod Told

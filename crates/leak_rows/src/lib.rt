@@ -5,4 +5,4 @@ mod heap;
 mod why;
 
 pub use heap::{blocks_fit_if_in_use, live_heaps_fit};
-pub use why::worked_chains;
+pub use why::{asked_blocks, register_names, worked_answers, worked_chains, worked_distances, worked_row};
