@@ -1,3 +1,5 @@
 pub mod HeapLemmas
 pub mod GraphTests
 pub mod ChainTests
+pub mod SearchTests
+pub mod Logs

@@ -1,3 +1,4 @@
 pub mod Heap
 pub mod Chains
 pub mod Told
+pub mod Searches
