@@ -3,3 +3,4 @@ pub mod GraphTests
 pub mod ChainTests
 pub mod SearchTests
 pub mod Logs
+pub mod RequestTests

@@ -2,3 +2,4 @@ pub mod Heap
 pub mod Chains
 pub mod Told
 pub mod Searches
+pub mod Requests
