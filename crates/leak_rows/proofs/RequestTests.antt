@@ -1,6 +1,6 @@
 -- What a command line asks for, by the values that clap found.
-use Rattle.std.proofs.Common.{◌≡◌, ◌↔◌, ◌⊎◌, ℕ, ◌^◌, ◌<◌, ◌≤◌, inl, inr, ⊎_elim, Bool, true, false, not, ◌&&◌, List, [], ◌∷◌, codes, map, Option, Some, None, refl, sym, ap, subst, ◌∙◌, arith}
-use Rattle.std.specs.Prelude.{decimal, String, string_bytes, slice_index_or, IfSome, IsSome, IsSomeAnd}
+use Rattle.std.proofs.Common.{◌≡◌, ◌↔◌, ◌⊎◌, ℕ, ◌^◌, ◌<◌, ◌≤◌, inl, inr, ⊎_elim, Bool, true, false, not, ◌&&◌, List, [], ◌∷◌, codes, map, Option, Some, None, refl, sym, ap, ap₂, subst, ◌∙◌, arith}
+use Rattle.std.specs.Prelude.{decimal, option_map, String, string_bytes, slice_index_or, IfSome, IsSome, IsSomeAnd}
 use Rattle.std.specs.List.{All}
 use Rattle.std.specs.Option.{option_map_or}
 use Rattle.std.specs.Str.Parse.{IsNumeral, digits_value, without_leading_plus}
@@ -34,6 +34,56 @@ rows_in words = option_map_or (λ met. met.1) (subcommand_of command_line words)
 pub record AreTaken (words : List Text) : Type 0 where
   pub taken : fault_of command_line words ≡ []
   pub met : subcommand_of command_line words ≡ Some (name_in words, rows_in words)
+
+-- what is looked at of it: the name, the values of some paths and of some options, and the numbers of a plan
+abbrev pub number_ids : List Text
+number_ids = codes "workers" ∷ codes "piece" ∷ codes "stack" ∷ []
+
+abbrev pub Values : Type 0
+Values = List (Option Text)
+
+abbrev pub Seen : Type 0
+Seen = Text × (Values × (Values × Values))
+
+abbrev pub seen_in : List Text → List Text → Text × List Row → Seen
+seen_in paths ids met = (met.0, (map (λ id. first_of id met.1) paths, (map (λ id. first_of id met.1) ids, map (λ id. one_of id met.1) number_ids)))
+
+abbrev pub seen : List Text → List Text → List Text → Option Seen
+seen paths ids words = option_map (seen_in paths ids) (subcommand_of command_line words)
+
+pub record IsSeen (paths ids words : List Text) (name : Text) (there values numbers : Values) : Type 0 where
+  pub taken : AreTaken words
+  pub named : name_in words ≡ name
+  pub there_is : map (λ id. first_of id (rows_in words)) paths ≡ there
+  pub values_are : map (λ id. first_of id (rows_in words)) ids ≡ values
+  pub numbers_are : map (λ id. one_of id (rows_in words)) number_ids ≡ numbers
+
+abbrev first : Option (Text × List Row) → Text
+first o = option_map_or (λ met. met.0) o []
+
+abbrev rows : Option (Text × List Row) → List Row
+rows o = option_map_or (λ met. met.1) o []
+
+pub sees : (paths ids words : List Text) (name : Text) (there values numbers : Values) → fault_of command_line words ≡ [] → seen paths ids words ≡ Some (name, (there, (values, numbers)))
+    → IsSeen paths ids words name there values numbers
+sees paths ids words name there values numbers taken q = go (subcommand_of command_line words) refl q
+  where
+    go : (o : Option (Text × List Row)) → subcommand_of command_line words ≡ o → option_map (seen_in paths ids) o ≡ Some (name, (there, (values, numbers))) → IsSeen paths ids words name there values numbers
+    go None e h = cc
+    go (Some met) e h =
+        let same : seen_in paths ids met ≡ (name, (there, (values, numbers))) = ap (λ (o : Option Seen). option_map_or (λ x. x) o (seen_in paths ids met)) h in
+        let row : rows_in words ≡ met.1 = ap rows e in
+        record {
+          taken = record { taken = taken; met = e ∙ ap Some (ap₂ (λ (a : Text) (b : List Row). (a, b)) (sym (ap first e)) (sym row)) };
+          named = ap first e ∙ ap (λ (x : Seen). x.0) same;
+          there_is = ap (λ (r : List Row). map (λ id. first_of id r) paths) row ∙ ap (λ (x : Seen). x.1.0) same;
+          values_are = ap (λ (r : List Row). map (λ id. first_of id r) ids) row ∙ ap (λ (x : Seen). x.1.1.0) same;
+          numbers_are = ap (λ (r : List Row). map (λ id. one_of id r) number_ids) row ∙ ap (λ (x : Seen). x.1.1.1) same;
+        }
+
+-- the value at a place
+value_at : (k : ℕ) (xs ys : Values) → xs ≡ ys → slice_index_or xs k None ≡ slice_index_or ys k None
+value_at k xs ys e = ap (λ (l : Values). slice_index_or l k None) e
 
 pub request_at : (words : List Text) (r : Request) → AreTaken words → IsRequestOf words r ↔ IsRequest (name_in words) (rows_in words) r
 request_at words r t =
@@ -338,3 +388,79 @@ asks_search words two paths n w s t h =
         ((λ q. b.0 (a.0 q)), (λ q. a.1 (b.1 q)));
       taken = λ f q. ⊎_elim (λ e. search_taken (name_in all) (rows_in all) two paths n w s f h (search_refusal (name_in all) (rows_in all) two f h.named e)) (λ e. e) (refused_at all f t q);
     }
+
+-- ---- the values of each row, seen at once
+
+abbrev pub reading_ids : List Text
+reading_ids = codes "displace" ∷ codes "skip-ends" ∷ codes "skip-freed" ∷ codes "skip-links" ∷ codes "skip-slack" ∷ codes "all-memory" ∷ []
+
+abbrev pub flag_value : Bool → Option Text
+flag_value b = Some (flag_text b)
+
+abbrev pub reading_values : Option Text → Reads → Values → Values
+reading_values list w more = list ∷ flag_value w.ends ∷ flag_value w.freed ∷ flag_value w.links ∷ flag_value w.slack ∷ flag_value w.all_memory ∷ more
+
+abbrev pub search_ids : List Text
+search_ids = codes "displace" ∷ codes "skip-ends" ∷ codes "skip-freed" ∷ codes "skip-links" ∷ codes "skip-slack" ∷ codes "all-memory"
+    ∷ codes "check" ∷ codes "other-heap" ∷ codes "strict" ∷ []
+
+abbrev pub search_values : Option Text → Reads → Signed → Values
+search_values list w s = reading_values list w (flag_value s.check ∷ flag_value s.other_heap ∷ flag_value s.strict ∷ [])
+
+-- the text lists these displacements, and none lists none
+abbrev pub IsListOf : Option Text → Option (List ℕ) → Type 0
+IsListOf None listed = listed ≡ None
+IsListOf (Some text) listed = (displace_fault_of text ≡ None) × (listed ≡ Some (displacements_of text))
+
+list_from : (rows : List Row) (list : Option Text) (listed : Option (List ℕ)) → list_in rows ≡ list → IsListOf list listed → HasList rows listed
+list_from rows None listed e h = inl (e, h)
+list_from rows (Some text) listed e h = inr (text, e, h.0, h.1)
+
+-- the texts of a plan's numbers
+pub record AreNumbers (n : Planned) (workers piece stack : Text) : Type 0 where
+  pub workers_text : without_leading_plus workers ≡ decimal n.workers
+  pub piece_text : without_leading_plus piece ≡ decimal n.piece
+  pub stack_text : without_leading_plus stack ≡ decimal n.stack
+  pub workers_between : IsBetween 1 64 n.workers
+  pub piece_between : IsBetween 1 65536 n.piece
+  pub stack_small : n.stack ≤ 65536
+
+plan_seen : (rows : List Row) (n : Planned) (a b c : Text) → map (λ id. one_of id rows) number_ids ≡ Some a ∷ Some b ∷ Some c ∷ [] → AreNumbers n a b c → HasPlan rows n
+plan_seen rows n a b c e h = record {
+  workers = record { text = a; is = value_at 0 _ _ e; writes = h.workers_text; small = let x = h.workers_between.to in omega arith };
+  piece = record { text = b; is = value_at 1 _ _ e; writes = h.piece_text; small = let x = h.piece_between.to in omega arith };
+  stack = record { text = c; is = value_at 2 _ _ e; writes = h.stack_text; small = let x = h.stack_small in omega arith };
+  workers_between = h.workers_between;
+  piece_between = h.piece_between;
+  stack_small = h.stack_small;
+}
+
+reads_seen : (rows : List Row) (ids : List Text) (list : Option Text) (w : Reads) (more : Values)
+    → map (λ id. first_of id rows) (codes "displace" ∷ codes "skip-ends" ∷ codes "skip-freed" ∷ codes "skip-links" ∷ codes "skip-slack" ∷ codes "all-memory" ∷ ids) ≡ reading_values list w more
+    → IsListOf list w.listed → HasReads rows w
+reads_seen rows ids list w more e h = record {
+  list = list_from rows list w.listed (value_at 0 _ _ e) h;
+  ends = value_at 1 _ _ e;
+  freed = value_at 2 _ _ e;
+  links = value_at 3 _ _ e;
+  slack = value_at 4 _ _ e;
+  all_memory = value_at 5 _ _ e;
+}
+
+-- a search by its values
+pub sees_search : (words : List Text) (two : Bool) (paths : List Text) (n : Planned) (w : Reads) (s : Signed) (list : Option Text) (a b c : Text)
+    → fault_of command_line (codes "leak_find" ∷ words) ≡ [] → seen (path_ids two) search_ids (codes "leak_find" ∷ words) ≡ Some (name_of two, (map Some paths, (search_values list w s, Some a ∷ Some b ∷ Some c ∷ [])))
+    → IsListOf list w.listed → AreNumbers n a b c → (s.check && s.other_heap) ≡ false → AskFor words (IsSearch two paths n w s)
+sees_search words two paths n w s list a b c taken q lists numbers apart =
+    let all : List Text = codes "leak_find" ∷ words in
+    let is : IsSeen (path_ids two) search_ids all (name_of two) (map Some paths) (search_values list w s) (Some a ∷ Some b ∷ Some c ∷ []) = sees (path_ids two) search_ids all _ _ _ _ taken q in
+    asks_search words two paths n w s is.taken (record {
+      named = is.named;
+      there = is.there_is;
+      plan = plan_seen (rows_in all) n a b c is.numbers_are numbers;
+      reads = reads_seen (rows_in all) (codes "check" ∷ codes "other-heap" ∷ codes "strict" ∷ []) list w _ is.values_are lists;
+      check = value_at 6 _ _ is.values_are;
+      other_heap = value_at 7 _ _ is.values_are;
+      strict = value_at 8 _ _ is.values_are;
+      apart = apart;
+    })
