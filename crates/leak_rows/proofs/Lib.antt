@@ -4,3 +4,5 @@ pub mod ChainTests
 pub mod SearchTests
 pub mod Logs
 pub mod RequestTests
+pub mod RefusalTests
+pub mod QuestionTests

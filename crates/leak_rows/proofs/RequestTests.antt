@@ -82,7 +82,7 @@ sees paths ids words name there values numbers taken q = go (subcommand_of comma
         }
 
 -- the value at a place
-value_at : (k : ℕ) (xs ys : Values) → xs ≡ ys → slice_index_or xs k None ≡ slice_index_or ys k None
+pub value_at : (k : ℕ) (xs ys : Values) → xs ≡ ys → slice_index_or xs k None ≡ slice_index_or ys k None
 value_at k xs ys e = ap (λ (l : Values). slice_index_or l k None) e
 
 pub request_at : (words : List Text) (r : Request) → AreTaken words → IsRequestOf words r ↔ IsRequest (name_in words) (rows_in words) r
@@ -119,13 +119,13 @@ abbrev pub HasList : List Row → Option (List ℕ) → Type 0
 HasList rows listed = ((list_in rows ≡ None) × (listed ≡ None))
     ⊎ ((text : Text) × (list_in rows ≡ Some text) × (displace_fault_of text ≡ None) × (listed ≡ Some (displacements_of text)))
 
-list_is : (rows : List Row) (listed l : Option (List ℕ)) → HasList rows listed → IsListedBy (list_in rows) l ↔ (l ≡ listed)
+pub list_is : (rows : List Row) (listed l : Option (List ℕ)) → HasList rows listed → IsListedBy (list_in rows) l ↔ (l ≡ listed)
 list_is rows listed l (inl none) =
     ((λ q. subst (λ (o : Option Text). IsListedBy o l) none.0 q ∙ sym none.1), (λ e. subst (λ (o : Option Text). IsListedBy o l) (sym none.0) (e ∙ none.1)))
 list_is rows listed l (inr some) =
     ((λ q. (subst (λ (o : Option Text). IsListedBy o l) some.1 q).1 ∙ sym some.3), (λ e. subst (λ (o : Option Text). IsListedBy o l) (sym some.1) (some.2, e ∙ some.3)))
 
-no_list_fault : (rows : List Row) (listed : Option (List ℕ)) → HasList rows listed → (f : _) → IsListFaultAt rows f → ⊥
+pub no_list_fault : (rows : List Row) (listed : Option (List ℕ)) → HasList rows listed → (f : _) → IsListFaultAt rows f → ⊥
 no_list_fault rows listed (inl none) f q = subst (λ (o : Option Text). IsSomeAnd o (λ text. displace_fault_of text ≡ Some f)) none.0 q
 no_list_fault rows listed (inr some) f q = let e : None ≡ Some f = sym some.2 ∙ subst (λ (o : Option Text). IsSomeAnd o (λ text. displace_fault_of text ≡ Some f)) some.1 q in cc
 
@@ -137,7 +137,7 @@ flag_text false = codes "false"
 abbrev pub HasFlag : List Row → Text → Bool → Type 0
 HasFlag rows id b = first_of id rows ≡ Some (flag_text b)
 
-first_letter : (a b : Text) → Some a ≡ Some b → slice_index_or a 0 0 ≡ slice_index_or b 0 0
+pub first_letter : (a b : Text) → Some a ≡ Some b → slice_index_or a 0 0 ≡ slice_index_or b 0 0
 first_letter a b e = ap (λ (o : Option Text). slice_index_or (option_map_or (λ t. t) o []) 0 0) e
 
 pub given_is : (rows : List Row) (id : Text) (f : Bool) → HasFlag rows id f → IsGiven rows id ↔ (f ≡ true)
@@ -149,14 +149,14 @@ flag_is true f q = sym (q.0 refl)
 flag_is false true q = q.1 refl
 flag_is false false q = refl
 
-flag_from : (rows : List Row) (id : Text) (b f : Bool) → HasFlag rows id f → (b ≡ true) ↔ IsGiven rows id → b ≡ f
+pub flag_from : (rows : List Row) (id : Text) (b f : Bool) → HasFlag rows id f → (b ≡ true) ↔ IsGiven rows id → b ≡ f
 flag_from rows id b f h q = let g = given_is rows id f h in flag_is b f ((λ e. g.0 (q.0 e)), (λ e. q.1 (g.1 e)))
 
-flag_to : (rows : List Row) (id : Text) (b f : Bool) → HasFlag rows id f → b ≡ f → (b ≡ true) ↔ IsGiven rows id
+pub flag_to : (rows : List Row) (id : Text) (b f : Bool) → HasFlag rows id f → b ≡ f → (b ≡ true) ↔ IsGiven rows id
 flag_to rows id b f h s = let g = given_is rows id f h in ((λ e. g.1 (sym s ∙ e)), (λ q. s ∙ g.0 q))
 
 -- the same of a flag that is given to have the field false
-not_from : (rows : List Row) (id : Text) (b f : Bool) → HasFlag rows id f → (b ≡ false) ↔ IsGiven rows id → b ≡ not f
+pub not_from : (rows : List Row) (id : Text) (b f : Bool) → HasFlag rows id f → (b ≡ false) ↔ IsGiven rows id → b ≡ not f
 not_from rows id true f h q = let g = given_is rows id f h in go f (λ e. q.1 (g.1 e))
   where
     go : (f : Bool) → (f ≡ true → true ≡ false) → true ≡ not f
@@ -164,13 +164,13 @@ not_from rows id true f h q = let g = given_is rows id f h in go f (λ e. q.1 (g
     go false k = refl
 not_from rows id false f h q = let g = given_is rows id f h in ap not (sym (g.0 (q.0 refl)))
 
-not_to : (rows : List Row) (id : Text) (b f : Bool) → HasFlag rows id f → b ≡ not f → (b ≡ false) ↔ IsGiven rows id
+pub not_to : (rows : List Row) (id : Text) (b f : Bool) → HasFlag rows id f → b ≡ not f → (b ≡ false) ↔ IsGiven rows id
 not_to rows id b true h s = let g = given_is rows id true h in ((λ e. g.1 refl), (λ q. s))
 not_to rows id b false h s = let g = given_is rows id false h in ((λ e. absurd (let x : true ≡ false = sym s ∙ e in cc)), (λ q. absurd (let x : false ≡ true = g.0 q in cc)))
 
 -- ---- paths
 
-paths_from : {A : Type 0} (rows : List Row) (ids paths : List Text) (texts : List (String A)) → map (λ id. first_of id rows) ids ≡ map Some paths → AreAt rows ids texts → map string_bytes texts ≡ paths
+pub paths_from : {A : Type 0} (rows : List Row) (ids paths : List Text) (texts : List (String A)) → map (λ id. first_of id rows) ids ≡ map Some paths → AreAt rows ids texts → map string_bytes texts ≡ paths
 paths_from {A = A} rows ids paths texts are q = go paths texts (q ∙ are)
   where
     go : (paths : List Text) (texts : List (String A)) → map (λ text. Some (string_bytes text)) texts ≡ map Some paths → map string_bytes texts ≡ paths
@@ -182,7 +182,7 @@ paths_from {A = A} rows ids paths texts are q = go paths texts (q ∙ are)
         let more : map (λ text. Some (string_bytes text)) ts ≡ map Some ps = cc in
         ap (λ (x : Text). x ∷ map string_bytes ts) here ∙ ap (λ (xs : List Text). p ∷ xs) (go ps ts more)
 
-paths_to : {A : Type 0} (rows : List Row) (ids paths : List Text) (texts : List (String A)) → map (λ id. first_of id rows) ids ≡ map Some paths → map string_bytes texts ≡ paths → AreAt rows ids texts
+pub paths_to : {A : Type 0} (rows : List Row) (ids paths : List Text) (texts : List (String A)) → map (λ id. first_of id rows) ids ≡ map Some paths → map string_bytes texts ≡ paths → AreAt rows ids texts
 paths_to {A = A} rows ids paths texts are e = go texts ∙ ap (λ (ps : List Text). map Some ps) e ∙ sym are
   where
     go : (texts : List (String A)) → map (λ text. Some (string_bytes text)) texts ≡ map Some (map string_bytes texts)
@@ -190,7 +190,7 @@ paths_to {A = A} rows ids paths texts are e = go texts ∙ ap (λ (ps : List Tex
     go (t ∷ ts) = ap (λ (xs : List (Option Text)). Some (string_bytes t) ∷ xs) (go ts)
 
 -- no path is lacking
-none_lacks : (rows : List Row) (ids paths : List Text) → map (λ id. first_of id rows) ids ≡ map Some paths → LacksOneOf rows ids → ⊥
+pub none_lacks : (rows : List Row) (ids paths : List Text) → map (λ id. first_of id rows) ids ≡ map Some paths → LacksOneOf rows ids → ⊥
 none_lacks rows ids paths are lacks = lacks (go ids paths are)
   where
     go : (ids paths : List Text) → map (λ id. first_of id rows) ids ≡ map Some paths → All (λ id. IsSome (first_of id rows)) ids
@@ -204,7 +204,7 @@ none_lacks rows ids paths are lacks = lacks (go ids paths are)
 -- ---- a search
 
 -- the names of subcommands begin with other letters
-letters : (a b : Text) (n m : ℕ) → a ≡ b → slice_index_or a 0 0 ≡ n → slice_index_or b 0 0 ≡ m → (n ≡ m → ⊥) → ⊥
+pub letters : (a b : Text) (n m : ℕ) → a ≡ b → slice_index_or a 0 0 ≡ n → slice_index_or b 0 0 ≡ m → (n ≡ m → ⊥) → ⊥
 letters a b n m same first second differ = differ (sym first ∙ ap (λ (t : Text). slice_index_or t 0 0) same ∙ second)
 
 name_letter : Bool → ℕ
@@ -226,7 +226,7 @@ unfolding name_letter
 later_letter false e = omega arith
 later_letter true e = omega arith
 
-two_is : (a b : Bool) → name_of a ≡ name_of b → b ≡ a
+pub two_is : (a b : Bool) → name_of a ≡ name_of b → b ≡ a
 two_is false false e = refl
 two_is true true e = refl
 two_is false true e = absurd (letters (codes "one") (codes "two") 111 116 e refl refl (λ x. omega arith))
@@ -251,14 +251,14 @@ pub record HasPlan (rows : List Row) (n : Planned) : Type 0 where
   pub piece_between : IsBetween 1 65536 n.piece
   pub stack_small : n.stack ≤ 65536
 
-plan_from : (rows : List Row) (n : Planned) (o : Options) → HasPlan rows n → AreNumbersAt rows o.plan.workers o.plan.piece o.plan.stack → ArePlanned n o
+pub plan_from : (rows : List Row) (n : Planned) (o : Options) → HasPlan rows n → AreNumbersAt rows o.plan.workers o.plan.piece o.plan.stack → ArePlanned n o
 plan_from rows n o h q = record {
   workers = (number_is rows (codes "workers") n.workers o.plan.workers h.workers).0 q.workers;
   piece = (number_is rows (codes "piece") n.piece o.plan.piece h.piece).0 q.piece;
   stack = (number_is rows (codes "stack") n.stack o.plan.stack h.stack).0 q.stack;
 }
 
-plan_to : (rows : List Row) (n : Planned) (o : Options) → HasPlan rows n → ArePlanned n o → AreNumbersAt rows o.plan.workers o.plan.piece o.plan.stack
+pub plan_to : (rows : List Row) (n : Planned) (o : Options) → HasPlan rows n → ArePlanned n o → AreNumbersAt rows o.plan.workers o.plan.piece o.plan.stack
 plan_to rows n o h q = record {
   workers = (number_is rows (codes "workers") n.workers o.plan.workers h.workers).1 q.workers;
   piece = (number_is rows (codes "piece") n.piece o.plan.piece h.piece).1 q.piece;
@@ -266,7 +266,7 @@ plan_to rows n o h q = record {
 }
 
 -- no number is lacking
-plan_lacks : (rows : List Row) (n : Planned) → HasPlan rows n → LacksNumber rows → ⊥
+pub plan_lacks : (rows : List Row) (n : Planned) → HasPlan rows n → LacksNumber rows → ⊥
 plan_lacks rows n h lacks = lacks (record { workers = n.workers; piece = n.piece; stack = n.stack }) h.workers_between h.piece_between h.stack_small (record {
   workers = (number_is rows (codes "workers") n.workers n.workers h.workers).1 refl;
   piece = (number_is rows (codes "piece") n.piece n.piece h.piece).1 refl;
@@ -350,7 +350,7 @@ search_is name rows two paths n w s (Holders r) h = ((λ q. not_holders two (sym
 search_is name rows two paths n w s (Grow r) h = ((λ q. not_grow two (sym h.named ∙ q.0)), (λ q. absurd q))
 
 -- nothing that a search takes is lacking
-search_lacks : (name : Text) (rows : List Row) (two : Bool) (paths : List Text) (n : Planned) → name ≡ name_of two → map (λ id. first_of id rows) (path_ids two) ≡ map Some paths → HasPlan rows n
+pub search_lacks : (name : Text) (rows : List Row) (two : Bool) (paths : List Text) (n : Planned) → name ≡ name_of two → map (λ id. first_of id rows) (path_ids two) ≡ map Some paths → HasPlan rows n
     → Lacks name rows → ⊥
 search_lacks name rows two paths n named there plan (inl none) = none two named
 search_lacks name rows two paths n named there plan (inr (inl lacks)) =
@@ -358,7 +358,7 @@ search_lacks name rows two paths n named there plan (inr (inl lacks)) =
 search_lacks name rows two paths n named there plan (inr (inr lacks)) = plan_lacks rows n plan lacks
 
 -- a refusal of a search is one of what it found
-search_refusal : (name : Text) (rows : List Row) (two : Bool) (f : UsageFault) → name ≡ name_of two → IsRefusedAt name rows f → IsSearchRefusal name rows f
+pub search_refusal : (name : Text) (rows : List Row) (two : Bool) (f : UsageFault) → name ≡ name_of two → IsRefusedAt name rows f → IsSearchRefusal name rows f
 search_refusal name rows two f named (inl q) = absurd (not_why two (sym named ∙ q.0))
 search_refusal name rows two f named (inr (inl q)) = absurd (not_holders two (sym named ∙ q.0))
 search_refusal name rows two f named (inr (inr (inl q))) = absurd (not_grow two (sym named ∙ q.0))
@@ -412,7 +412,7 @@ abbrev pub IsListOf : Option Text → Option (List ℕ) → Type 0
 IsListOf None listed = listed ≡ None
 IsListOf (Some text) listed = (displace_fault_of text ≡ None) × (listed ≡ Some (displacements_of text))
 
-list_from : (rows : List Row) (list : Option Text) (listed : Option (List ℕ)) → list_in rows ≡ list → IsListOf list listed → HasList rows listed
+pub list_from : (rows : List Row) (list : Option Text) (listed : Option (List ℕ)) → list_in rows ≡ list → IsListOf list listed → HasList rows listed
 list_from rows None listed e h = inl (e, h)
 list_from rows (Some text) listed e h = inr (text, e, h.0, h.1)
 
@@ -425,7 +425,7 @@ pub record AreNumbers (n : Planned) (workers piece stack : Text) : Type 0 where
   pub piece_between : IsBetween 1 65536 n.piece
   pub stack_small : n.stack ≤ 65536
 
-plan_seen : (rows : List Row) (n : Planned) (a b c : Text) → map (λ id. one_of id rows) number_ids ≡ Some a ∷ Some b ∷ Some c ∷ [] → AreNumbers n a b c → HasPlan rows n
+pub plan_seen : (rows : List Row) (n : Planned) (a b c : Text) → map (λ id. one_of id rows) number_ids ≡ Some a ∷ Some b ∷ Some c ∷ [] → AreNumbers n a b c → HasPlan rows n
 plan_seen rows n a b c e h = record {
   workers = record { text = a; is = value_at 0 _ _ e; writes = h.workers_text; small = let x = h.workers_between.to in omega arith };
   piece = record { text = b; is = value_at 1 _ _ e; writes = h.piece_text; small = let x = h.piece_between.to in omega arith };
@@ -435,7 +435,7 @@ plan_seen rows n a b c e h = record {
   stack_small = h.stack_small;
 }
 
-reads_seen : (rows : List Row) (ids : List Text) (list : Option Text) (w : Reads) (more : Values)
+pub reads_seen : (rows : List Row) (ids : List Text) (list : Option Text) (w : Reads) (more : Values)
     → map (λ id. first_of id rows) (codes "displace" ∷ codes "skip-ends" ∷ codes "skip-freed" ∷ codes "skip-links" ∷ codes "skip-slack" ∷ codes "all-memory" ∷ ids) ≡ reading_values list w more
     → IsListOf list w.listed → HasReads rows w
 reads_seen rows ids list w more e h = record {

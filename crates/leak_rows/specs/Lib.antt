@@ -3,3 +3,4 @@ pub mod Chains
 pub mod Told
 pub mod Searches
 pub mod Requests
+pub mod Questions
