@@ -6,3 +6,4 @@ pub mod Logs
 pub mod RequestTests
 pub mod RefusalTests
 pub mod QuestionTests
+pub mod HoldersTests

@@ -53,28 +53,28 @@ address_is digits n m t e =
     rest : (nat_le 1 (length digits) && (nat_le (length digits) 16 && list_all is_digit digits)) ≡ true
     rest = t
 
-address_at : (o : Option Text) (digits : List ℕ) (n m : ℕ) → o ≡ Some (codes "0x" ++ digits) → is_address (codes "0x" ++ digits) ≡ true → n ≡ value_of digits → IsSomeAnd o (λ text. IsAddress text m) ↔ (m ≡ n)
+pub address_at : (o : Option Text) (digits : List ℕ) (n m : ℕ) → o ≡ Some (codes "0x" ++ digits) → is_address (codes "0x" ++ digits) ≡ true → n ≡ value_of digits → IsSomeAnd o (λ text. IsAddress text m) ↔ (m ≡ n)
 address_at o digits n m e t v =
     ((λ q. (address_is digits n m t v).0 (subst (λ (x : Option Text). IsSomeAnd x (λ text. IsAddress text m)) e q)),
     (λ s. subst (λ (x : Option Text). IsSomeAnd x (λ text. IsAddress text m)) (sym e) ((address_is digits n m t v).1 s)))
 
-good_address : (o : Option Text) (digits : List ℕ) (n : ℕ) → o ≡ Some (codes "0x" ++ digits) → is_address (codes "0x" ++ digits) ≡ true → n ≡ value_of digits → IsSomeAnd o IsBadAddress → ⊥
+pub good_address : (o : Option Text) (digits : List ℕ) (n : ℕ) → o ≡ Some (codes "0x" ++ digits) → is_address (codes "0x" ++ digits) ≡ true → n ≡ value_of digits → IsSomeAnd o IsBadAddress → ⊥
 good_address o digits n e t v q = subst (λ (x : Option Text). IsSomeAnd x IsBadAddress) e q n ((address_is digits n n t v).1 refl)
 
 -- ---- names of subcommands
 
-why_holders : why_name ≡ holders_name → ⊥
+pub why_holders : why_name ≡ holders_name → ⊥
 why_holders e = letters why_name holders_name 119 104 e refl refl (λ x. omega arith)
 
-why_grow : why_name ≡ grow_name → ⊥
+pub why_grow : why_name ≡ grow_name → ⊥
 why_grow e = letters why_name grow_name 119 103 e refl refl (λ x. omega arith)
 
-holders_grow : holders_name ≡ grow_name → ⊥
+pub holders_grow : holders_name ≡ grow_name → ⊥
 holders_grow e = letters holders_name grow_name 104 103 e refl refl (λ x. omega arith)
 
 -- ---- options
 
-reads_from : (rows : List Row) (w : Reads) (o : Options) → HasReads rows w → IsListedBy (list_in rows) (listed_by o.reading) → ((distances_of o.reading).skips_ends ≡ true) ↔ IsGiven rows (codes "skip-ends")
+pub reads_from : (rows : List Row) (w : Reads) (o : Options) → HasReads rows w → IsListedBy (list_in rows) (listed_by o.reading) → ((distances_of o.reading).skips_ends ≡ true) ↔ IsGiven rows (codes "skip-ends")
     → (o.skip.freed ≡ true) ↔ IsGiven rows (codes "skip-freed") → (o.skip.links ≡ true) ↔ IsGiven rows (codes "skip-links") → (o.skip.slack ≡ true) ↔ IsGiven rows (codes "skip-slack")
     → (o.skip.unwritable ≡ false) ↔ IsGiven rows (codes "all-memory") → o.core_limit ≡ 68719476736 → o.log_limit ≡ 4294967296 → AreReadAs w o
 reads_from rows w o h listed ends freed links slack memory core log = record {
