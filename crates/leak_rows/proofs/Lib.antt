@@ -7,3 +7,5 @@ pub mod RequestTests
 pub mod RefusalTests
 pub mod QuestionTests
 pub mod HoldersTests
+pub mod GrowthLogs
+pub mod GrowthTests

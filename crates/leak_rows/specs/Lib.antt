@@ -4,3 +4,5 @@ pub mod Told
 pub mod Searches
 pub mod Requests
 pub mod Questions
+pub mod Statuses
+pub mod Growth
