@@ -9,3 +9,4 @@ pub mod QuestionTests
 pub mod HoldersTests
 pub mod GrowthLogs
 pub mod GrowthTests
+pub mod ReasonTests

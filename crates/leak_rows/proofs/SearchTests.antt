@@ -24,7 +24,7 @@ use Rattle.leak_search.specs.Search.{FindsOne, claims_of, first_of, graph_of_one
 use Rattle.leak_rows.specs.Searches.{Finds, Search}
 use Rattle.leak_rows.proofs.GraphTests.{is_reached, one_list, same_tests, tests_are, tests_of}
 
-none_given : (core : List ℕ) (reading : Distances) (skip : Skip) (lines : List Line) → (graph_of_one core reading skip lines).given ≡ []
+pub none_given : (core : List ℕ) (reading : Distances) (skip : Skip) (lines : List Line) → (graph_of_one core reading skip lines).given ≡ []
 none_given core reading skip lines = graph-given (word_of core) (index_of reading lines) (first_of core (index_of reading lines) skip lines) []
 
 -- the report where these blocks are marked

@@ -6,3 +6,4 @@ pub mod Requests
 pub mod Questions
 pub mod Statuses
 pub mod Growth
+pub mod Reasons

@@ -3,6 +3,7 @@
 
 mod growth;
 mod heap;
+mod reasons;
 mod requests;
 mod searches;
 mod statuses;
@@ -10,6 +11,7 @@ mod why;
 
 pub use growth::worked_growths;
 pub use heap::{blocks_fit_if_in_use, live_heaps_fit};
+pub use reasons::worked_reasons;
 pub use requests::{worked_grow_lines, worked_holders_lines, worked_refusals, worked_search_lines, worked_why_lines};
 pub use searches::worked_searches;
 pub use statuses::worked_statuses;
