@@ -1,5 +1,5 @@
 -- Tests that a graph passes by computing, and what they show of its chains.
-use Rattle.std.proofs.Common.{◌≡◌, ◌↔◌, ℕ, zero, suc, ◌+◌, ◌<◌, ◌≤◌, ⊎_elim, Bool, true, false, ◌&&◌, ◌||◌, ◌==◌, List, [], ◌∷◌, length, map, get_or, Some, slice_get, refl, sym, ap, subst, ◌∙◌, append-nil, arith}
+use Rattle.std.proofs.Common.{◌≡◌, ◌↔◌, ℕ, zero, suc, ◌+◌, ◌<◌, ◌≤◌, ⊎_elim, Bool, true, false, not, ◌&&◌, ◌||◌, ◌==◌, List, [], ◌∷◌, length, map, get_or, Some, slice_get, refl, sym, ap, subst, ◌∙◌, append-nil, arith}
 use Rattle.std.specs.Prelude.{nat_le}
 use Rattle.std.specs.List.{concat, list_all, list_any, range_with_len}
 use Rattle.std.proofs.lemmas.Bool.{eqb-true, leb-true}
@@ -20,16 +20,27 @@ each_passes test (y ∷ ys) x all h = ⊎_elim
 
 -- ---- a set that chains don't leave
 
--- the set has what root words lead to, and what its blocks lead to
+or_other : (a b : Bool) → (a || b) ≡ true → (a ≡ true → ⊥) → b ≡ true
+or_other true b e none = absurd (none refl)
+or_other false b e none = e
+
+-- no chain passes the block, or it is in the set
+abbrev pub is_kept : Graph → List ℕ → ℕ → Bool
+is_kept g set b = has g.given b || has set b
+
+-- of what root words lead to, and what its blocks lead to, the set has all that chains pass
 abbrev pub is_closed : Graph → List ℕ → Bool
-is_closed g set = list_all (has set) g.first && list_all (λ s. list_all (has set) (targets_of g s)) set
+is_closed g set = list_all (is_kept g set) g.first && list_all (λ s. list_all (is_kept g set) (targets_of g s)) set
+
+kept_inside : (g : Graph) (set : List ℕ) (b : ℕ) → ¬ Has g.given b → is_kept g set b ≡ true → Has set b
+kept_inside g set b free t = of_has set b (or_other (has g.given b) (has set b) t (λ e. free (of_has g.given b e)))
 
 pub chain_inside : (g : Graph) (set : List ℕ) (b : ℕ) (before : List ℕ) → is_closed g set ≡ true → IsChain g (b ∷ before) → Has set b
-chain_inside g set b [] t c = of_has set b (each_passes (has set) g.first b (and_left (list_all (has set) g.first) _ t) c.1)
+chain_inside g set b [] t c = kept_inside g set b c.0 (each_passes (is_kept g set) g.first b (and_left (list_all (is_kept g set) g.first) _ t) c.1)
 chain_inside g set b (s ∷ before) t c =
     let source : Has set s = chain_inside g set s before t c.2 in
-    of_has set b (each_passes (has set) (targets_of g s) b
-        (each_passes (λ r. list_all (has set) (targets_of g r)) set s (and_right (list_all (has set) g.first) _ t) source) c.1)
+    kept_inside g set b c.0 (each_passes (is_kept g set) (targets_of g s) b
+        (each_passes (λ r. list_all (is_kept g set) (targets_of g r)) set s (and_right (list_all (is_kept g set) g.first) _ t) source) c.1)
 
 -- ---- levels
 
@@ -64,13 +75,17 @@ chain_long g levels b (s ∷ before) t c =
 
 -- ---- blocks that chains reach
 
--- a root word leads to the block, or a block before it in the list does
+-- a root word leads to the block, or a block before it in the list does, and chains pass it
 abbrev pub is_led : Graph → List ℕ → ℕ → Bool
-is_led g done b = has g.first b || list_any (λ s. has (targets_of g s) b) done
+is_led g done b = not (has g.given b) && (has g.first b || list_any (λ s. has (targets_of g s) b) done)
 
 abbrev pub are_led : Graph → List ℕ → List ℕ → Bool
 are_led g done [] = true
 are_led g done (b ∷ blocks) = is_led g done b && are_led g (b ∷ done) blocks
+
+not_true : (t : Bool) → not t ≡ true → t ≡ true → ⊥
+not_true true e h = let x : false ≡ true = e in cc
+not_true false e h = let x : false ≡ true = h in cc
 
 some_passes : (test : ℕ → Bool) (xs : List ℕ) → list_any test xs ≡ true → (x : ℕ) × Has xs x × (test x ≡ true)
 some_passes test [] any = absurd (let e : false ≡ true = any in cc)
@@ -80,11 +95,11 @@ some_passes test (y ∷ ys) any = go (test y) refl any (λ k. some_passes test y
     go true e some rest = (y, here y ys, e)
     go false e some rest = let r : (x : ℕ) × Has ys x × (test x ≡ true) = rest some in (r.0, there y ys r.0 r.1, r.2)
 
-led_reach : (g : Graph) (done : List ℕ) (b : ℕ) → g.given ≡ [] → ((x : ℕ) → Has done x → Reach g x) → is_led g done b ≡ true → Reach g b
-led_reach g done b none reached t = go (has g.first b) refl t
+led_reach : (g : Graph) (done : List ℕ) (b : ℕ) → ((x : ℕ) → Has done x → Reach g x) → is_led g done b ≡ true → Reach g b
+led_reach g done b reached t = go (has g.first b) refl (and_right (not (has g.given b)) _ t)
   where
     free : ¬ Has g.given b
-    free h = none_has b (subst (λ (l : List ℕ). Has l b) none h)
+    free h = not_true (has g.given b) (and_left (not (has g.given b)) _ t) (to_has g.given b h)
 
     go : (first : Bool) → has g.first b ≡ first → (first || list_any (λ s. has (targets_of g s) b) done) ≡ true → Reach g b
     go true e some = ([], (free, of_has g.first b e))
@@ -93,13 +108,13 @@ led_reach g done b none reached t = go (has g.first b) refl t
         let r : Reach g s.0 = reached s.0 s.1 in
         (s.0 ∷ r.0, (free, of_has (targets_of g s.0) b s.2, r.1))
 
-each_reached : (g : Graph) (done blocks : List ℕ) → g.given ≡ [] → ((x : ℕ) → Has done x → Reach g x) → are_led g done blocks ≡ true → (b : ℕ) → Has blocks b → Reach g b
-each_reached g done [] none reached t b h = absurd (none_has b h)
-each_reached g done (c ∷ blocks) none reached t b h =
-    let this : Reach g c = led_reach g done c none reached (and_left (is_led g done c) (are_led g (c ∷ done) blocks) t) in
+each_reached : (g : Graph) (done blocks : List ℕ) → ((x : ℕ) → Has done x → Reach g x) → are_led g done blocks ≡ true → (b : ℕ) → Has blocks b → Reach g b
+each_reached g done [] reached t b h = absurd (none_has b h)
+each_reached g done (c ∷ blocks) reached t b h =
+    let this : Reach g c = led_reach g done c reached (and_left (is_led g done c) (are_led g (c ∷ done) blocks) t) in
     ⊎_elim
     (λ s. subst (Reach g) s this)
-    (λ r. each_reached g (c ∷ done) blocks none
+    (λ r. each_reached g (c ∷ done) blocks
         (λ x k. ⊎_elim (λ s. subst (Reach g) s this) (λ m. reached x m) (at_head c done x k))
         (and_right (is_led g done c) (are_led g (c ∷ done) blocks) t) b r)
     (at_head c blocks b h)
@@ -108,10 +123,10 @@ each_reached g done (c ∷ blocks) none reached t b h =
 abbrev pub is_reached : Graph → List ℕ → Bool
 is_reached g blocks = is_closed g blocks && are_led g [] blocks
 
-pub reach_is : (g : Graph) (blocks : List ℕ) (b : ℕ) → g.given ≡ [] → is_reached g blocks ≡ true → Reach g b ↔ (has blocks b ≡ true)
-reach_is g blocks b none t =
+pub reach_is : (g : Graph) (blocks : List ℕ) (b : ℕ) → is_reached g blocks ≡ true → Reach g b ↔ (has blocks b ≡ true)
+reach_is g blocks b t =
     ((λ r. to_has blocks b (chain_inside g blocks b r.0 (and_left (is_closed g blocks) (are_led g [] blocks) t) r.1)),
-    (λ h. each_reached g [] blocks none (λ x k. absurd (none_has x k)) (and_right (is_closed g blocks) (are_led g [] blocks) t) b (of_has blocks b h)))
+    (λ h. each_reached g [] blocks (λ x k. absurd (none_has x k)) (and_right (is_closed g blocks) (are_led g [] blocks) t) b (of_has blocks b h)))
 
 -- ---- tests of all blocks
 
@@ -127,12 +142,12 @@ test_at f (suc n) from (suc i) k h e = test_at f n (from + 1) i k (omega arith) 
 some_true : (a b : Bool) → Some a ≡ Some b → a ≡ b
 some_true a b e = cc
 
-pub tests_are : (g : Graph) (blocks : List ℕ) (n : ℕ) → g.given ≡ [] → is_reached g blocks ≡ true → IsSet (tests_of blocks n) n (Reach g)
-tests_are g blocks n none t = record {
+pub tests_are : (g : Graph) (blocks : List ℕ) (n : ℕ) → is_reached g blocks ≡ true → IsSet (tests_of blocks n) n (Reach g)
+tests_are g blocks n t = record {
   len = length-map-range_with_len (has blocks) 0 n;
   each = λ i h.
     let at : slice_get (tests_of blocks n) i ≡ Some (has blocks i) = test_at (has blocks) n 0 i i h (omega arith) in
-    let is : Reach g i ↔ (has blocks i ≡ true) = reach_is g blocks i none t in
+    let is : Reach g i ↔ (has blocks i ≡ true) = reach_is g blocks i t in
     ((λ s. is.1 (some_true (has blocks i) true (sym at ∙ s))), (λ r. at ∙ ap Some (is.0 r)));
 }
 
@@ -157,12 +172,12 @@ same_tests P s t n a b = go s t (a.len ∙ sym b.len)
         ∙ ap (λ (zs : List Bool). y ∷ zs) (go xs ys (omega arith) (λ i h k. there (suc i) (omega arith) k) (λ i h k. back (suc i) (omega arith) k))
 
 -- one list of claims, which has each of the blocks once, is all claims
-pub one_list : (g : Graph) (blocks : List ℕ) (claims : List (List ℕ)) → g.given ≡ [] → is_reached g blocks ≡ true → list_all (λ b. times b blocks == 1) blocks ≡ true → claims ≡ blocks ∷ [] → Partitions claims (Reach g)
-one_list g blocks claims none t each is = record {
+pub one_list : (g : Graph) (blocks : List ℕ) (claims : List (List ℕ)) → is_reached g blocks ≡ true → list_all (λ b. times b blocks == 1) blocks ≡ true → claims ≡ blocks ∷ [] → Partitions claims (Reach g)
+one_list g blocks claims t each is = record {
   once = λ b r.
-    let h : Has blocks b = of_has blocks b ((reach_is g blocks b none t).0 r) in
+    let h : Has blocks b = of_has blocks b ((reach_is g blocks b t).0 r) in
     ap (λ (l : List ℕ). times b l) whole ∙ eqb-true (times b blocks) 1 (each_passes (λ x. times x blocks == 1) blocks b each h);
-  only = λ b h. (reach_is g blocks b none t).1 (to_has blocks b (subst (λ (l : List ℕ). Has l b) whole h));
+  only = λ b h. (reach_is g blocks b t).1 (to_has blocks b (subst (λ (l : List ℕ). Has l b) whole h));
 }
   where
     whole : concat claims ≡ blocks

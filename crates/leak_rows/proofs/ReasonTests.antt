@@ -27,7 +27,6 @@ use Rattle.leak_search.specs.declared.holding.Why.{Why}
 use Rattle.leak_rows.specs.Reasons.{TellsHeld, TellsLost}
 use Rattle.leak_rows.specs.Searches.{interior, usual}
 use Rattle.leak_rows.proofs.GraphTests.{is_reached, reach_is}
-use Rattle.leak_rows.proofs.SearchTests.{none_given}
 
 -- the address is of the block, as a test
 abbrev pub is_of : Block → ℕ → Bool
@@ -80,7 +79,7 @@ held_is : (core log : List ℕ) (address : ℕ) (lines : List Line) (b c : Block
 held_is core log address lines b c block marked q found f =
     let e : f.lines ≡ lines = logs_are_one log f.lines lines f.is_log q.is_log in
     let i : f.block ≡ block = same_block core log address lines b c block marked q f.lines f.block f.is_log f.asked in
-    let r = reach_is (graph_of_one core interior usual lines) marked block (none_given core interior usual lines) q.reached in
+    let r = reach_is (graph_of_one core interior usual lines) marked block q.reached in
     ((λ s. r.0 (subst (λ (n : ℕ). Reach (graph_of_one core interior usual lines) n) i (subst (λ (ls : List Line). Reach (graph_of_one core interior usual ls) f.block) e (f.reached.0 s)))),
     (λ h. f.reached.1 (subst (λ (ls : List Line). Reach (graph_of_one core interior usual ls) f.block) (sym e) (subst (λ (n : ℕ). Reach (graph_of_one core interior usual lines) n) (sym i) (r.1 h)))))
 
@@ -110,7 +109,7 @@ tells_held core log address lines b c block marked places root links text q h ro
     links = no_links;
     chain = Some chain;
     why = why chain same_root same_links;
-    reached = ((λ s. (reach_is (graph_of_one core interior usual lines) marked block (none_given core interior usual lines) q.reached).1 h), (λ r. refl));
+    reached = ((λ s. (reach_is (graph_of_one core interior usual lines) marked block q.reached).1 h), (λ r. refl));
     text = text_is ∙ sym (told chain same_root same_links);
     held = held;
   };
@@ -136,7 +135,7 @@ tells_lost core log address lines b c block marked places text q h roots no_link
     links = no_links;
     chain = None;
     why = why;
-    reached = ((λ s. absurd (let x : false ≡ true = s in cc)), (λ r. absurd (not_marked ((reach_is (graph_of_one core interior usual lines) marked block (none_given core interior usual lines) q.reached).0 r))));
+    reached = ((λ s. absurd (let x : false ≡ true = s in cc)), (λ r. absurd (not_marked ((reach_is (graph_of_one core interior usual lines) marked block q.reached).0 r))));
     text = text_is ∙ sym told;
     held = held;
   };

@@ -8,24 +8,18 @@ use Rattle.leak_mtrace.specs.declared.line.Line.{Line}
 use Rattle.leak_mtrace.specs.Log.{IsLog}
 use Rattle.leak_mtrace.proofs.SameLogLemmas.{logs_are_one}
 use Rattle.leak_blocks.specs.Live.{live_of}
-use Rattle.leak_index.specs.Leads.{Distances}
-use Rattle.leak_roots.specs.declared.skip.Skip.{Skip}
 use Rattle.leak_scan.specs.Heads.{heads_of}
 use Rattle.leak_marks.specs.Lists.{times}
 use Rattle.leak_marks.specs.Reach.{Graph, Reach}
-use Rattle.leak_pool.specs.Marking.{IsSet, graph_of}
-use Rattle.leak_pool.proofs.GraphLemmas.{graph-given}
+use Rattle.leak_pool.specs.Marking.{IsSet}
 use Rattle.leak_report.specs.Report.{text_of}
 use Rattle.leak_report.specs.Totals.{leaked_in}
 use Rattle.leak_input.specs.declared.found.Found.{Found}
 use Rattle.leak_input.specs.Inputs.{IsCore}
 use Rattle.leak_input.specs.Signs.{fits_told}
-use Rattle.leak_search.specs.Search.{FindsOne, claims_of, first_of, graph_of_one, head_of_one, index_of}
+use Rattle.leak_search.specs.Search.{FindsOne, claims_of, graph_of_one, head_of_one, index_of}
 use Rattle.leak_rows.specs.Searches.{Finds, Search}
 use Rattle.leak_rows.proofs.GraphTests.{is_reached, one_list, same_tests, tests_are, tests_of}
-
-pub none_given : (core : List ℕ) (reading : Distances) (skip : Skip) (lines : List Line) → (graph_of_one core reading skip lines).given ≡ []
-none_given core reading skip lines = graph-given (word_of core) (index_of reading lines) (first_of core (index_of reading lines) skip lines) []
 
 -- the report where these blocks are marked
 abbrev pub report_with : Search → List Line → List ℕ → List ℕ
@@ -53,7 +47,7 @@ finds s lines marked leaked report accepted is_log few reached each told count =
     report = report_is ∙ sym told;
     leaked = leaked_is ∙ sym count;
     lists = ap (λ (l : List (List ℕ)). length l) claims_are;
-    claims = one_list (graph lines) marked (claims_of found) (none_given s.core s.reading s.skip lines) reached each claims_are;
+    claims = one_list (graph lines) marked (claims_of found) reached each claims_are;
   };
 }
   where
@@ -64,7 +58,7 @@ finds s lines marked leaked report accepted is_log few reached each told count =
     same ls is = logs_are_one s.log lines ls is_log is
 
     tests : IsSet (tests_of marked (length (live_of lines))) (length (live_of lines)) (Reach (graph lines))
-    tests = tests_are (graph lines) marked (length (live_of lines)) (none_given s.core s.reading s.skip lines) reached
+    tests = tests_are (graph lines) marked (length (live_of lines)) reached
 
     set_is : (ls : List Line) (set : List Bool) → lines ≡ ls → IsSet set (length (live_of ls)) (Reach (graph ls)) → set ≡ tests_of marked (length (live_of lines))
     set_is ls set e is = same_tests (Reach (graph lines)) set (tests_of marked (length (live_of lines))) (length (live_of lines))
