@@ -10,3 +10,4 @@ pub mod HoldersTests
 pub mod GrowthLogs
 pub mod GrowthTests
 pub mod ReasonTests
+pub mod HoldingTests

@@ -7,3 +7,4 @@ pub mod Questions
 pub mod Statuses
 pub mod Growth
 pub mod Reasons
+pub mod Holding

@@ -54,11 +54,15 @@ two_core root word = core_of (0 ∷ root ∷ word ∷ 0 ∷ 0 ∷ [])
 abbrev pub search : List ℕ → Search
 search core = record { core = core; log = two_log; reading = interior; skip = usual; check = false }
 
--- a block was freed at 0x10000, where a word to a live block was left
+-- a block was freed at 0x10000
+abbrev pub freed_log : List ℕ
+freed_log = codes "+ 0x10010 0x8\n+ 0x10000 0x10\n- 0x10000\n"
+
+-- a word to a live block was left there
 abbrev pub freed_search : Skip → Search
 freed_search skip = record {
   core = core_of (0 ∷ 0x10010 ∷ 0 ∷ []);
-  log = codes "+ 0x10010 0x8\n+ 0x10000 0x10\n- 0x10000\n";
+  log = freed_log;
   reading = interior;
   skip = skip;
   check = false;

@@ -3,6 +3,7 @@
 
 mod growth;
 mod heap;
+mod holding;
 mod reasons;
 mod requests;
 mod searches;
@@ -11,6 +12,7 @@ mod why;
 
 pub use growth::worked_growths;
 pub use heap::{blocks_fit_if_in_use, live_heaps_fit};
+pub use holding::worked_holders;
 pub use reasons::worked_reasons;
 pub use requests::{worked_grow_lines, worked_holders_lines, worked_refusals, worked_search_lines, worked_why_lines};
 pub use searches::worked_searches;

@@ -27,7 +27,7 @@ use Rattle.leak_rows.specs.Chains.{in_rbx, places, zero_registers}
 use Rattle.leak_rows.specs.Reasons.{rbx_core}
 use Rattle.leak_rows.specs.Searches.{core_of, two_core, two_log}
 use Rattle.leak_rows.proofs.ChainTests.{answers, leaked, told}
-use Rattle.leak_rows.proofs.Logs.{two_lines, two_log_is}
+use Rattle.leak_rows.proofs.Logs.{two_is, two_lines}
 use Rattle.leak_rows.proofs.ReasonTests.{IsQuestion, first_asked, none_asked, second_asked, tells_held, tells_lost}
 use Rattle.leak_rows.proofs.reasons.worked_reasons.Goals as goal
 
@@ -68,19 +68,19 @@ pub returns : goal.returns
 unfolding digits number_at headers header_at extent_fault file_fault header_fault fault_of segments_of note_parts_of undumped_of word_in word_of words_between zeros file_header program_header note_entry entries_from note_fault_of registers_of threads_of live_of replay_of is_covered small_spans_of hits_of freed_places has_roots outside_places root_places heads_of block_targets targets_of graph_of core_of
 returns c = record {
   by_memory = tells_held _ _ _ two_lines first_block second_block 0 (0 ∷ 1 ∷ []) (places around zero_registers) _ _ _
-      (record { accepted = record { headers = refl; notes = refl }; is_log = two_log_is; blocks = refl; one = first_asked first_block second_block 0x10010 refl; asked = asked_first; reached = refl })
+      (record { accepted = record { headers = refl; notes = refl }; is_log = two_is; blocks = refl; one = first_asked first_block second_block 0x10010 refl; asked = asked_first; reached = refl })
       refl (record { registers = refl; memory = refl; ranges = ranges; freed = refl }) refl (answers _ _ _ _ _ _ (0 ∷ 1 ∷ []) refl) (told _ _ _ _ _ _ _ refl);
   by_a_block = tells_held _ _ _ two_lines first_block second_block 1 (0 ∷ 1 ∷ []) (places around zero_registers) _ _ _
-      (record { accepted = record { headers = refl; notes = refl }; is_log = two_log_is; blocks = refl; one = second_asked first_block second_block 0x10027 refl; asked = asked_last; reached = refl })
+      (record { accepted = record { headers = refl; notes = refl }; is_log = two_is; blocks = refl; one = second_asked first_block second_block 0x10027 refl; asked = asked_last; reached = refl })
       refl (record { registers = refl; memory = refl; ranges = ranges; freed = refl }) refl (answers _ _ _ _ _ _ (0 ∷ 1 ∷ []) refl) (told _ _ _ _ _ _ _ refl);
   by_a_register = tells_held _ _ _ two_lines first_block second_block 0 (0 ∷ []) (places around (in_rbx 0x10010)) _ _ _
-      (record { accepted = record { headers = refl; notes = refl }; is_log = two_log_is; blocks = refl; one = first_asked first_block second_block 0x10011 refl; asked = asked_inside; reached = refl })
+      (record { accepted = record { headers = refl; notes = refl }; is_log = two_is; blocks = refl; one = first_asked first_block second_block 0x10011 refl; asked = asked_inside; reached = refl })
       refl (record { registers = refl; memory = refl; ranges = ranges; freed = refl }) refl (answers _ _ _ _ _ _ (0 ∷ 0 ∷ []) refl) (told _ _ _ _ _ _ _ refl);
   lost = tells_lost _ _ _ two_lines first_block second_block 0 [] (places around zero_registers) _
-      (record { accepted = record { headers = refl; notes = refl }; is_log = two_log_is; blocks = refl; one = first_asked first_block second_block 0x10010 refl; asked = asked_first; reached = refl })
+      (record { accepted = record { headers = refl; notes = refl }; is_log = two_is; blocks = refl; one = first_asked first_block second_block 0x10010 refl; asked = asked_first; reached = refl })
       refl (record { registers = refl; memory = refl; ranges = ranges; freed = refl }) refl (leaked _ _ _ _ [] refl refl) leaked_first;
   lost_held = tells_lost _ _ _ two_lines first_block second_block 1 [] (places around zero_registers) _
-      (record { accepted = record { headers = refl; notes = refl }; is_log = two_log_is; blocks = refl; one = second_asked first_block second_block 0x10020 refl; asked = asked_second; reached = refl })
+      (record { accepted = record { headers = refl; notes = refl }; is_log = two_is; blocks = refl; one = second_asked first_block second_block 0x10020 refl; asked = asked_second; reached = refl })
       refl (record { registers = refl; memory = refl; ranges = ranges; freed = refl }) refl (leaked _ _ _ _ [] refl refl) leaked_second;
-  no_block = (refl, record { headers = refl; notes = refl }, (two_lines, two_log_is, none_asked first_block second_block 0x10028 2 refl refl));
+  no_block = (refl, record { headers = refl; notes = refl }, (two_lines, two_is, none_asked first_block second_block 0x10028 2 refl refl));
 }
