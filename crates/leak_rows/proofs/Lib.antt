@@ -11,3 +11,4 @@ pub mod GrowthLogs
 pub mod GrowthTests
 pub mod ReasonTests
 pub mod HoldingTests
+pub mod TwoTests

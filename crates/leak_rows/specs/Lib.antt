@@ -8,3 +8,4 @@ pub mod Statuses
 pub mod Growth
 pub mod Reasons
 pub mod Holding
+pub mod TwoSearches
