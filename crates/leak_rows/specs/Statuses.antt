@@ -1,0 +1,29 @@
+-- Worked statuses: of a search by its leaks and warnings, and of a question about a block.
+use Rattle.std.specs.Prelude.{◌≡◌, true, false, [], ◌∷◌, codes}
+use Rattle.leak_report.specs.Warnings.{warnings_of}
+use Rattle.leak_report.specs.declared.signs.Signs.{Signs}
+use Rattle.leak_find.specs.Run.{signs_that_count, status_by}
+use Rattle.leak_find.specs.Why.{status_by_held}
+
+-- the signs of a core that fits its log, and of one with a block that doesn't
+abbrev pub well : Signs
+well = record { live = 2; torn = 0; unknown = 0; displaced = 0; misfits = 0 }
+
+abbrev pub odd : Signs
+odd = record { live = 2; torn = 0; unknown = 0; displaced = 0; misfits = 1 }
+
+pub record AreWorkedStatuses : Type 0 where
+  pub none : status_by false 0 [] ≡ 0
+  pub some : status_by false 1 [] ≡ 1
+  pub many : status_by false 4294967296 [] ≡ 1
+  pub strict : status_by true 0 [] ≡ 0
+  pub strict_leaks : status_by true 2 [] ≡ 1
+  pub warned : status_by false 0 (codes "leak_find: warning\n") ≡ 0
+  pub warned_leaks : status_by false 2 (codes "leak_find: warning\n") ≡ 1
+  pub strict_warned : status_by true 0 (codes "leak_find: warning\n") ≡ 3
+  pub strict_warned_leaks : status_by true 2 (codes "leak_find: warning\n") ≡ 3
+  pub fits : status_by true 0 (warnings_of (well ∷ [])) ≡ 0
+  pub misfit : status_by true 0 (warnings_of (odd ∷ [])) ≡ 3
+  pub misfit_of_other_heap : status_by true 0 (warnings_of (signs_that_count true odd ∷ [])) ≡ 0
+  pub held : status_by_held true ≡ 0
+  pub lost : status_by_held false ≡ 1

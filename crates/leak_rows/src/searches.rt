@@ -1,0 +1,13 @@
+//! Worked searches, from bytes to reports.
+ghost use Rattle.leak_rows.specs.Searches.{AreWorkedSearches};
+ghost use Rattle.leak_rows.specs.TwoSearches.{AreWorkedPairs};
+
+/// The reports of some cores and logs.
+pub fn worked_searches()
+    ensures { AreWorkedSearches }
+{}
+
+/// The reports of some pairs of cores and logs.
+pub fn worked_pairs()
+    ensures { AreWorkedPairs }
+{}
