@@ -39,28 +39,6 @@ static int is_unsettled(struct heap *heap, const struct region *r, const struct 
     return !(next & PREV_INUSE);
 }
 
-static int has_size(struct heap *heap, uint64_t at, uint64_t size)
-{
-    uint64_t head;
-
-    return word(heap->core, at + CHUNK_HEAD, &head) && (head & ~(uint64_t)FLAGS) == size;
-}
-
-/* Whether a chunk in hand is a block that realloc makes larger or smaller. Inside a larger one is yet the head of the free chunk, or of the
- * top, that it took. Behind the rest of a smaller one the next chunk says that it is in use. */
-static int is_resized(struct heap *heap, const struct region *r, const struct chunk *chunk)
-{
-    uint64_t end = chunk->at + chunk->size, rest = end == r->due.at ? r->due.size : 0, taken, next, at = chunk->at + PIECE;
-
-    if (rest && word(heap->core, end + rest + CHUNK_HEAD, &next) && next & PREV_INUSE)
-        return 1;
-    if (word(heap->core, end + rest, &taken) && taken > rest && taken - rest < chunk->size && has_size(heap, end + rest - taken, taken))
-        return 1;
-    while (at < end && end == r->top && !has_size(heap, at, r->limit - at))
-        at += PIECE;
-    return at < end && end == r->top;
-}
-
 /* Whether registers show that a thread is at work on the chunk, by where it begins, where it ends or where the free one before it begins.
  * Where there are more such chunks than threads can have in hand, the heap is damaged. */
 static int is_held(const struct heap *heap, const struct chunk *chunk, uint64_t before)
@@ -72,16 +50,16 @@ static int is_held(const struct heap *heap, const struct chunk *chunk, uint64_t 
         && (has_in_hand(core, chunk->at, chunk->at) || has_in_hand(core, end, end) || has_in_hand(core, before, before));
 }
 
-/* Sorts out a chunk that is unsettled: a block, if realloc has it or no thread; else it is known as one in hand. Gives whether it is a
- * block. */
-static int settle(struct heap *heap, const struct region *r, const struct chunk *chunk)
+/* Sorts out a chunk that is unsettled: if a thread has it, it is known as one in hand, also if it is a block that realloc makes larger or
+ * smaller, since its size word and the next one don't fit each other yet; else it is a block. Gives whether it is a block. */
+static int settle(struct heap *heap, const struct chunk *chunk)
 {
     uint64_t size = 0;
 
     if (!chunk->is_used && !heap->odd_chunks.count++)
         heap->odd_chunks.first = chunk->at;
     word(heap->core, chunk->at, &size);
-    if (is_resized(heap, r, chunk) || !is_held(heap, chunk, chunk->at - size))
+    if (!is_held(heap, chunk, chunk->at - size))
         return 1;
     heap->in_hand = grown(heap->in_hand, heap->in_hand_count, sizeof *heap->in_hand);
     heap->in_hand[heap->in_hand_count++] = chunk->at;
@@ -96,7 +74,7 @@ int is_in_hand(const struct heap *heap, uint64_t at)
 
 static void note(struct heap *heap, struct region *r, const struct chunk *chunk)
 {
-    if (is_unsettled(heap, r, chunk) ? settle(heap, r, chunk) : chunk->is_used) {
+    if (is_unsettled(heap, r, chunk) ? settle(heap, chunk) : chunk->is_used) {
         *bits_of(r, chunk->at) |= 1 << (chunk->at - r->start) / PIECE % 8;
         if (may_be_cache(chunk->size)) {
             heap->maybe_caches = grown(heap->maybe_caches, heap->maybe_cache_count, sizeof *heap->maybe_caches);
