@@ -47,11 +47,11 @@ static int has_bins(struct core *core, uint64_t top_at)
 static void find_in(struct heap *heap, const struct segment *s)
 {
     enum { TO_LAST_BIN = BIN_BYTES * (BINS - 1) };
+    uint64_t at = (s->start + 7) & -(uint64_t)8, value;
 
-    for (uint64_t at = -s->start % 8; s->size >= BIN_BYTES && at <= s->size - BIN_BYTES; at += 8) {
-        uint64_t bin = s->start + at - FD, pair[2];
-        memcpy(pair, s->bytes + at, sizeof pair);
-        if (pair[0] != bin || pair[1] != bin || bin < TO_LAST_BIN || !has_bins(heap->core, bin - TO_LAST_BIN))
+    for (; at - s->start < s->size && word(heap->core, at, &value); at += 8) {
+        uint64_t bin = at - FD;
+        if (value != bin || bin < TO_LAST_BIN || !is_word(heap->core, bin + BK, bin) || !has_bins(heap->core, bin - TO_LAST_BIN))
             continue;
         heap->arenas = grown(heap->arenas, heap->arena_count, sizeof *heap->arenas);
         heap->arenas[heap->arena_count++] = (struct arena){ .top_at = bin - TO_LAST_BIN };

@@ -99,6 +99,8 @@ struct core read_core(const char *path)
     uint64_t size, count;
     const uint8_t *file = map_file(path, &size), *headers = headers_of(path, file, size, &count);
 
+    core.file = file;
+    core.file_size = size;
     for (uint64_t i = 0; i < count; i++) {
         Elf64_Phdr p;
         memcpy(&p, headers + i * sizeof p, sizeof p);
@@ -147,6 +149,33 @@ const struct segment *segment_at(struct core *core, uint64_t address)
     if (i == core->segment_count || core->segments[i].start > address)
         return NULL;
     return core->near = core->segments + i;
+}
+
+/* Goes on to the window of the segment that has the address. Pages of a mapped file count as the program's memory while they are mapped
+ * in, so now and then all are let go; they stay in the system's cache. */
+static void move_window(struct core *core, const struct segment *s, uint64_t address)
+{
+    enum { WINDOW = 256 << 10, MOST_TOUCHED = 64 << 20 };
+    uint64_t from = (address - s->start) & -(uint64_t)WINDOW, left = s->size - from;
+    uint64_t size = left < WINDOW + sizeof(uint64_t) ? left : WINDOW + sizeof(uint64_t) - 1;
+
+    core->window = (struct window){ s->start + from, size - sizeof(uint64_t) + 1, s->bytes + from };
+    core->touched += WINDOW;
+    if (core->touched < MOST_TOUCHED)
+        return;
+    madvise((void *)core->file, core->file_size, MADV_DONTNEED);
+    core->touched = 0;
+}
+
+/* As `word`, of an address outside of the window. */
+int word_elsewhere(struct core *core, uint64_t address, uint64_t *value)
+{
+    const struct segment *s = segment_at(core, address);
+
+    if (!s || s->size < sizeof *value || address - s->start > s->size - sizeof *value)
+        return 0;
+    move_window(core, s, address);
+    return word(core, address, value);
 }
 
 int is_word(struct core *core, uint64_t address, uint64_t wanted)

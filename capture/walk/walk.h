@@ -36,8 +36,18 @@ struct thread {
     uint64_t words[REGISTERS];
 };
 
+/* The part of a segment that words were read from last. */
+struct window {
+    uint64_t start, places;     /* how many addresses from start on a word begins at */
+    const uint8_t *bytes;
+};
+
 struct core {
     const char *path;
+    const uint8_t *file;        /* mapped */
+    uint64_t file_size;
+    struct window window;
+    uint64_t touched;           /* bytes of windows since the file's pages were let go */
     struct segment *segments;   /* by ascending start */
     size_t segment_count;
     const struct segment *near; /* the one that was asked for last, or NULL */
@@ -142,16 +152,16 @@ struct core read_core(const char *path);
 size_t first_behind(const struct core *core, uint64_t address);
 const struct segment *segment_at(struct core *core, uint64_t address);
 
+int word_elsewhere(struct core *core, uint64_t address, uint64_t *value);
+
 /* Whether the core has the eight bytes at the address, and which. */
 static inline int word(struct core *core, uint64_t address, uint64_t *value)
 {
-    const struct segment *s = core->near;
+    uint64_t at = address - core->window.start;
 
-    if (!s || address < s->start || address >= s->end)
-        s = segment_at(core, address);
-    if (!s || s->size < sizeof *value || address - s->start > s->size - sizeof *value)
-        return 0;
-    memcpy(value, s->bytes + (address - s->start), sizeof *value);
+    if (at >= core->window.places)
+        return word_elsewhere(core, address, value);
+    memcpy(value, core->window.bytes + at, sizeof *value);
     return 1;
 }
 
