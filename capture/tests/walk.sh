@@ -7,6 +7,7 @@ build walk_types.cc
 build walk_none.c
 build walk_step.c
 build walk_stepped.c
+build walk_sparse.c
 walk=$kit/leak_walk
 
 # walked NAME [MORE]: the log of the heap of NAME.core against the table's log. So many blocks may be in the heap alone.
@@ -41,6 +42,7 @@ if [ "$dumps" ]; then
     traced plain ./plain
     traced walk_types ./walk_types
     traced walk_leaks ./walk_leaks
+    traced walk_sparse ./walk_sparse
     traced perl perl -e 'my %h; $h{$_} = [1..5, "x" x $_] for 1..3000; for (1..3000) { delete $h{$_} if $_ % 3 } <STDIN>'
     PYTHONMALLOC=malloc traced python /usr/bin/python3 -c 'import json, sys
 x = [json.loads(json.dumps({"a": [i] * 5})) for i in range(3000)]

@@ -75,11 +75,12 @@ void take_steps(struct heap *heap, uint64_t count, uint64_t near)
 static void set_steps(struct heap *heap)
 {
     enum { LEAST_CHUNK = 32, TRIES = 1 << 20 };
+    uint64_t dumped = 0;
 
     for (size_t i = 0; i < heap->core->segment_count; i++)
         if (heap->core->segments[i].is_writable)
-            heap->dumped_left += heap->core->segments[i].size;
-    heap->steps_left = 2 * (heap->dumped_left / LEAST_CHUNK) + TRIES;
+            dumped += heap->core->segments[i].size;
+    heap->steps_left = 2 * (dumped / LEAST_CHUNK) + TRIES;
 }
 
 /* Finds all chunks, and which are in use. */

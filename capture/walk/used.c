@@ -1,4 +1,5 @@
-/* Which chunks are in use: a bit for each, set by the next chunk's size word, and cleared where a list of free chunks has it. */
+/* Which chunks are in use: a bit for each, set by the next chunk's size word, and cleared where a list of free chunks has it. It is found by
+ * the place of the chunk's size word in the file, so that memory that was never touched takes none. */
 #include <stdlib.h>
 
 #include "walk.h"
@@ -12,14 +13,31 @@ struct chain chunks_of(const struct region *region)
                            .due = region->due };
 }
 
-static uint8_t *bits_of(const struct region *r, uint64_t at)
+/* The byte that has the chunk's bit, and the bit; or NULL where the core doesn't have its size word. */
+static uint8_t *bits_of(struct heap *heap, uint64_t at, uint8_t *bit)
 {
-    return r->used + (at - r->start) / BYTE_OF_PIECES;
+    uint64_t place;
+
+    if (!place_of(heap->core, at + CHUNK_HEAD, &place))
+        return NULL;
+    *bit = 1 << place / PIECE % 8;
+    return heap->used + place / BYTE_OF_PIECES;
 }
 
-int is_used_in(const struct region *r, uint64_t at)
+/* Whether the chunk there, which is known, is in use. */
+int is_marked(struct heap *heap, uint64_t at)
 {
-    return *bits_of(r, at) >> (at - r->start) / PIECE % 8 & 1;
+    uint8_t bit, *bits = bits_of(heap, at, &bit);
+
+    return bits && *bits & bit;
+}
+
+static void mark(struct heap *heap, uint64_t at, int used)
+{
+    uint8_t bit, *bits = bits_of(heap, at, &bit);
+
+    if (bits)
+        *bits = used ? *bits | bit : *bits & ~bit;
 }
 
 /* Whether a chunk that the next one says is free has its size behind it too, or is in a list. */
@@ -75,7 +93,7 @@ int is_in_hand(const struct heap *heap, uint64_t at)
 static void note(struct heap *heap, struct region *r, const struct chunk *chunk)
 {
     if (is_unsettled(heap, r, chunk) ? settle(heap, chunk) : chunk->is_used) {
-        *bits_of(r, chunk->at) |= 1 << (chunk->at - r->start) / PIECE % 8;
+        mark(heap, chunk->at, 1);
         if (may_be_cache(chunk->size)) {
             heap->maybe_caches = grown(heap->maybe_caches, heap->maybe_cache_count, sizeof *heap->maybe_caches);
             heap->maybe_caches[heap->maybe_cache_count++] = *chunk;
@@ -88,12 +106,6 @@ static void find_used_in(struct heap *heap, struct region *r)
     struct chain chain = chunks_of(r);
     struct chunk chunk;
 
-    if (r->end - r->start > heap->dumped_left)
-        fail("%s: damaged: the core does not have all of the heap at 0x%llx", heap->core->path, (unsigned long long)r->start);
-    heap->dumped_left -= r->end - r->start;
-    r->used = calloc((r->end - r->start) / BYTE_OF_PIECES + 1, 1);
-    if (!r->used)
-        fail("out of memory");
     while (next_chunk(heap->core, &chain, &chunk))
         note(heap, r, &chunk);
 }
@@ -101,6 +113,9 @@ static void find_used_in(struct heap *heap, struct region *r)
 /* Sorts the regions, and reads which of their chunks are in use. */
 void find_used(struct heap *heap)
 {
+    heap->used = calloc(heap->core->file_size / BYTE_OF_PIECES + 1, 1);
+    if (!heap->used)
+        fail("out of memory");
     if (heap->region_count)
         qsort(heap->regions, heap->region_count, sizeof *heap->regions, by_start);
     for (size_t i = 0; i < heap->region_count; i++) {
@@ -132,17 +147,14 @@ int is_used(struct heap *heap, uint64_t at)
 {
     const struct region *r = at % PIECE ? NULL : region_of(heap, at);
 
-    return r && (at >= r->end || is_used_in(r, at));
+    return r && (at >= r->end || is_marked(heap, at));
 }
 
 /* Sets it of a chunk. */
 void set_used(struct heap *heap, uint64_t at, int used)
 {
-    const struct region *r = region_of(heap, at);
-    uint8_t bit = 1 << (at - r->start) / PIECE % 8;
-
-    if (at < r->end)
-        *bits_of(r, at) = used ? *bits_of(r, at) | bit : *bits_of(r, at) & ~bit;
+    if (at < region_of(heap, at)->end)
+        mark(heap, at, used);
 }
 
 /* Whether it is the first chunk of a region. */

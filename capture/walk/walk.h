@@ -84,7 +84,6 @@ struct region {
     uint64_t gap_end;           /* with --partial: from `end` up to here are chunks that nobody knows; else 0 */
     const struct arena *arena;
     struct due due;
-    uint8_t *used;              /* a bit for each 16 bytes: does a chunk in use begin here? */
 };
 
 /* A block with a mapping of its own (malloc/malloc.c, IS_MMAPPED). */
@@ -115,7 +114,7 @@ struct heap {
     uint64_t *in_hand;          /* chunks that a thread is at work on, ascending: neither blocks nor free */
     size_t in_hand_count;
     uint64_t steps_left;        /* more than a right heap needs; a damaged one may lead in circles */
-    uint64_t dumped_left;       /* bytes of writable memory that no region has yet */
+    uint8_t *used;              /* a bit for each 16 bytes of the core: is the size word here one of a chunk in use? */
     uint64_t left_out;          /* bytes of no known chunk */
     struct tally odd_chunks, odd_lists; /* free chunks without their size behind them; lists that lead nowhere */
 };
@@ -165,6 +164,17 @@ static inline int word(struct core *core, uint64_t address, uint64_t *value)
     return 1;
 }
 
+/* Whether the core has the eight bytes at the address, and where in the file. */
+static inline int place_of(struct core *core, uint64_t address, uint64_t *place)
+{
+    uint64_t value;
+
+    if (!word(core, address, &value))
+        return 0;
+    *place = core->window.bytes - core->file + (address - core->window.start);
+    return 1;
+}
+
 int is_word(struct core *core, uint64_t address, uint64_t wanted);
 const uint8_t *map_file(const char *path, uint64_t *size);
 int by_start(const void *a, const void *b);
@@ -207,7 +217,7 @@ void find_thread_heaps(struct heap *heap);
 /* used.c */
 void find_used(struct heap *heap);
 struct chain chunks_of(const struct region *region);
-int is_used_in(const struct region *region, uint64_t at);
+int is_marked(struct heap *heap, uint64_t at);
 int is_in_hand(const struct heap *heap, uint64_t at);
 int begins_region(const struct heap *heap, uint64_t at);
 int is_used(struct heap *heap, uint64_t at);
