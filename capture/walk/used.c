@@ -1,5 +1,5 @@
-/* Which chunks are in use: a bit for each, set by the next chunk's size word, and cleared where a list of free chunks has it. It is found by
- * the place of the chunk's size word in the file, so that memory that was never touched takes none. */
+/* Which chunks are in use: a bit for each, set by the next chunk's size word, and cleared where a list of free chunks has
+ * it. It is found by the place of the chunk's size word in the file, so that memory that was never touched takes none. */
 #include <stdlib.h>
 
 #include "walk.h"
@@ -9,8 +9,8 @@ enum { CHUNK_HEAD = 8, PREV_INUSE = 1, FLAGS = 7, PIECE = 16, BYTE_OF_PIECES = 8
 /* The chunks of a region, all well known. */
 struct chain chunks_of(const struct region *region)
 {
-    return (struct chain){ .at = region->start, .top = region->end, .limit = region->limit, .is_thread = region->arena->first_heap != 0,
-                           .due = region->due };
+    return (struct chain){ .at = region->start, .top = region->end, .limit = region->limit, .due = region->due,
+                           .is_thread = region->arena->first_heap != 0 };
 }
 
 /* The byte that has the chunk's bit, and the bit; or NULL where the core doesn't have its size word. */
@@ -46,7 +46,8 @@ static int is_whole(struct heap *heap, const struct region *r, const struct chun
     return chunk->at == r->due.at || is_word(heap->core, chunk->at + chunk->size, chunk->size) || is_listed(heap->core, chunk->at);
 }
 
-/* Whether a thread has it in hand: the next chunk's size word says that it is free, or is yet to be written, and nothing else says so. */
+/* Whether a thread has it in hand: the next chunk's size word says that it is free, or is yet to be written, and nothing
+ * else says so. */
 static int is_unsettled(struct heap *heap, const struct region *r, const struct chunk *chunk)
 {
     uint64_t next = 0;
@@ -57,8 +58,8 @@ static int is_unsettled(struct heap *heap, const struct region *r, const struct 
     return !(next & PREV_INUSE);
 }
 
-/* Whether registers show that a thread is at work on the chunk, by where it begins, where it ends or where the free one before it begins.
- * Where there are more such chunks than threads can have in hand, the heap is damaged. */
+/* Whether registers show that a thread is at work on the chunk, by where it begins, where it ends or where the free one
+ * before it begins. Where there are more such chunks than threads can have in hand, the heap is damaged. */
 static int is_held(const struct heap *heap, const struct chunk *chunk, uint64_t before)
 {
     const struct core *core = heap->core;
@@ -68,8 +69,9 @@ static int is_held(const struct heap *heap, const struct chunk *chunk, uint64_t 
         && (has_in_hand(core, chunk->at, chunk->at) || has_in_hand(core, end, end) || has_in_hand(core, before, before));
 }
 
-/* Sorts out a chunk that is unsettled: if a thread has it, it is known as one in hand, also if it is a block that realloc makes larger or
- * smaller, since its size word and the next one don't fit each other yet; else it is a block. Gives whether it is a block. */
+/* Sorts out a chunk that is unsettled: if a thread has it, it is known as one in hand, also if it is a block that realloc
+ * makes larger or smaller, since its size word and the next one don't fit each other yet; else it is a block. Gives whether it
+ * is a block. */
 static int settle(struct heap *heap, const struct chunk *chunk)
 {
     uint64_t size = 0;
@@ -113,7 +115,7 @@ static void find_used_in(struct heap *heap, struct region *r)
 /* Sorts the regions, and reads which of their chunks are in use. */
 void find_used(struct heap *heap)
 {
-    heap->used = calloc(heap->core->file_size / BYTE_OF_PIECES + 1, 1);
+    heap->used = calloc(heap->core->file.size / BYTE_OF_PIECES + 1, 1);
     if (!heap->used)
         fail("out of memory");
     if (heap->region_count)

@@ -2,11 +2,9 @@
 #ifndef LEAK_WALK_H
 #define LEAK_WALK_H
 
-#include <stddef.h>
-#include <stdint.h>
 #include <string.h>
 
-enum { PAGE = 4096 };
+#include "../common/common.h"
 
 #define HEAP_BYTES ((uint64_t)64 << 20) /* glibc, malloc/arena.c, HEAP_MAX_SIZE */
 
@@ -16,13 +14,6 @@ struct segment {
     uint64_t run_start, run_end; /* of the writable memory without a gap that it is a part of; equal where it isn't writable */
     const uint8_t *bytes;
     int is_writable, is_code;
-};
-
-/* A part of a file that the process had mapped. An address in it is at `address + bias` in the ELF file. */
-struct part {
-    uint64_t start, end, offset, bias;
-    const char *path;
-    int is_known;
 };
 
 struct range {
@@ -44,15 +35,13 @@ struct window {
 
 struct core {
     const char *path;
-    const uint8_t *file;        /* mapped */
-    uint64_t file_size;
+    struct file file;
     struct window window;
     uint64_t touched;           /* bytes of windows since the file's pages were let go */
     struct segment *segments;   /* by ascending start */
     size_t segment_count;
     const struct segment *near; /* the one that was asked for last, or NULL */
-    struct part *parts;         /* by ascending start */
-    size_t part_count;
+    struct parts parts;
     struct range *ranges;       /* whole mappings of memory without a file, by leak_core's note */
     size_t range_count;
     struct thread *threads;
@@ -69,8 +58,8 @@ struct arena {
     int is_contiguous;
 };
 
-/* A free chunk whose size a stopped thread was just about to write (hand.c): where it begins, or 0, and its size. The chunk before it
- * is in use. */
+/* A free chunk whose size a stopped thread was just about to write (hand.c): where it begins, or 0, and its size. The chunk
+ * before it is in use. */
 struct due {
     uint64_t at, size;
 };
@@ -119,9 +108,9 @@ struct heap {
     struct tally odd_chunks, odd_lists; /* free chunks without their size behind them; lists that lead nowhere */
 };
 
-/* Where a chain of chunks stops: at the top chunk; at a chunk that goes on over the top's begin, as it is just being cut from the top
- * or joined to it; at what was the top before a thread's next heap was begun; at the marker of a heap that is full; at the fences of a
- * main arena; or where no chunk can be. */
+/* Where a chain of chunks stops: at the top chunk; at a chunk that goes on over the top's begin, as it is just being cut
+ * from the top or joined to it; at what was the top before a thread's next heap was begun; at the marker of a heap that is
+ * full; at the fences of a main arena; or where no chunk can be. */
 enum stop { AT_TOP, OVER_TOP, AT_OLD_TOP, AT_MARKER, AT_FENCES, BROKEN };
 
 struct chain {
@@ -140,10 +129,7 @@ struct visitor {
 };
 
 /* leak_walk.c */
-__attribute__((noreturn, format(printf, 1, 2))) void fail(const char *form, ...);
-__attribute__((format(printf, 1, 2))) void warn(const char *form, ...);
 __attribute__((format(printf, 1, 2))) void damaged(const char *form, ...);
-void *grown(void *list, size_t count, size_t each);
 void take_steps(struct heap *heap, uint64_t count, uint64_t near);
 
 /* core.c */
@@ -171,20 +157,14 @@ static inline int place_of(struct core *core, uint64_t address, uint64_t *place)
 
     if (!word(core, address, &value))
         return 0;
-    *place = core->window.bytes - core->file + (address - core->window.start);
+    *place = core->window.bytes - core->file.bytes + (address - core->window.start);
     return 1;
 }
 
 int is_word(struct core *core, uint64_t address, uint64_t wanted);
-const uint8_t *map_file(const char *path, uint64_t *size);
-int by_start(const void *a, const void *b);
-
-/* parts.c */
-void read_notes(struct core *core, const uint8_t *notes, uint64_t size);
-const struct part *part_of(struct core *core, uint64_t address);
 
 /* gaps.c */
-void read_ranges(struct core *core, const uint8_t *note, uint64_t size);
+void read_ranges(struct core *core, const struct note *note);
 void fill_gaps(struct core *core);
 
 /* arenas.c */
@@ -202,7 +182,7 @@ uint64_t find_chain(struct heap *heap, uint64_t from, uint64_t to, uint64_t top,
 void tell_break(struct heap *heap, const char *what, uint64_t start, const struct chain *chain);
 
 /* hand.c */
-void read_registers(struct core *core, const uint8_t *note, uint64_t size);
+void read_registers(struct core *core, const struct note *note);
 int has_in_hand(const struct core *core, uint64_t one, uint64_t other);
 int is_listed(struct core *core, uint64_t chunk);
 struct due due_at(struct core *core, const struct chain *chain);
@@ -236,13 +216,6 @@ void find_mapped(struct heap *heap);
 /* visit.c */
 void visit(struct heap *heap, struct visitor *visitor);
 
-/* output.c */
-void put_text(const char *text);
-void put_bytes(const uint8_t *bytes, uint64_t size);
-void put_number(uint64_t value);
-void put_hex(const char *before, uint64_t value);
-void put_end(void);
-
 /* log.c, after.c */
 struct old_block {
     uint64_t start, size, line; /* size 0: it ends here */
@@ -250,8 +223,7 @@ struct old_block {
 };
 
 struct old_log {
-    const uint8_t *bytes;
-    uint64_t size;
+    struct file file;
     uint64_t arena;             /* the main arena of its process */
     struct old_block *list;     /* live blocks by ascending start */
     size_t count;
