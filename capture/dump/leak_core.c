@@ -76,7 +76,6 @@ static void set_signals(void)
 static const char USAGE[] = "usage: leak_core [--copy FROM TO] PID CORE | leak_core --size PID\n";
 
 static const char HELP[] =
-    "usage: leak_core [--copy FROM TO] PID CORE | leak_core --size PID\n"
     "Writes a core of a process, which stands still for a moment and goes on.\n\n"
     "  PID             the process: one of yours, or as root any\n"
     "  CORE            the file, which gets as large as the memory that is there\n"
@@ -100,7 +99,7 @@ static struct request read_request(int count, char **words)
     else if (count == 6 && !strcmp(words[1], "--copy"))
         request.from = words[2], request.to = words[3], at = 4;
     if (at + (request.asks_size ? 1 : 2) != count) {
-        fputs(is_help(count, words) ? HELP : USAGE, stderr);
+        fprintf(stderr, "%s%s", USAGE, is_help(count, words) ? HELP : "");
         exit(REFUSED);
     }
     long number = strtol(words[at], &rest, 10);

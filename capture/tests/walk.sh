@@ -222,7 +222,7 @@ refused() {
 section what is refused
 refused 'no core' 'not a core file of x86-64' "$kit/README.md"
 refused 'no file' 'No such file or directory' none.core
-refused 'a folder' 'No such device' .
+refused 'a folder' 'Is a directory' .
 refused 'no argument' 'usage: leak_walk'
 refused 'two arguments' 'usage: leak_walk' a b
 refused 'no option' 'usage: leak_walk' --other a
