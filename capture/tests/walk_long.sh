@@ -91,7 +91,7 @@ if [ "$dumps" ]; then
         LD_PRELOAD=$jemalloc unprepared ./walk_leaks
         core_of $process jemalloc
         stop $process
-        refused jemalloc 'another allocator (jemalloc, tcmalloc, musl' jemalloc.core
+        refused jemalloc 'the allocator is libjemalloc.so.2, and only glibc' jemalloc.core
     else
         leave_out jemalloc
     fi
@@ -99,7 +99,7 @@ if [ "$dumps" ]; then
         unprepared redis-server --port 28185 --bind 127.0.0.1 --save '' --appendonly no
         core_of $process redis
         stop $process
-        refused redis 'another allocator (jemalloc, tcmalloc, musl' redis.core
+        refused redis 'the allocator is libjemalloc.so.2, and only glibc' redis.core
     else
         leave_out redis
     fi

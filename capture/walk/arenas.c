@@ -181,8 +181,7 @@ void find_arenas(struct heap *heap)
 
     find_all_bins(heap);
     if (!heap->arena_count)
-        fail("%s: no arena of glibc's malloc: another allocator (jemalloc, tcmalloc, musl's), or malloc was never called; start the "
-             "program by leak_trace, if it is not static", heap->core->path);
+        refuse_heap(heap->core, "arena of glibc's malloc");
     layout = find_layout(heap);
     heap->has_fast_bins = layout != layouts[LAYOUTS - 1];
     for (size_t i = 0; i < heap->arena_count; i++)

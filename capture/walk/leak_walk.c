@@ -32,6 +32,17 @@ void damaged(const char *form, ...)
     is_partial = 1;
 }
 
+/* There is no heap of glibc's malloc, for want of this. */
+void refuse_heap(const struct core *core, const char *wanting)
+{
+    const struct part *part = other_allocator(&core->parts);
+
+    if (part)
+        fail("%s: the allocator is %s, and only glibc's heap can be read: start the program by leak_trace", core->path, name_of(part));
+    fail("%s: no %s: another allocator (jemalloc, tcmalloc, musl's), or malloc was never called; start the program by leak_trace, if "
+         "it is not static", core->path, wanting);
+}
+
 /* Counts steps that a right heap needs few of. */
 void take_steps(struct heap *heap, uint64_t count, uint64_t near)
 {
@@ -66,8 +77,7 @@ static void walk(struct heap *heap)
     find_mapped(heap);
     take_caches(heap);
     if (!heap->region_count && !heap->mapping_count)
-        fail("%s: no chunk in glibc's heap: another allocator (jemalloc, tcmalloc, musl's), or malloc was never called; start the "
-             "program by leak_trace, if it is not static", heap->core->path);
+        refuse_heap(heap->core, "chunk in glibc's heap");
 }
 
 /* Names another allocator, of which the log has nothing. */

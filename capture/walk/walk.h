@@ -130,6 +130,7 @@ struct visitor {
 
 /* leak_walk.c */
 __attribute__((format(printf, 1, 2))) void damaged(const char *form, ...);
+__attribute__((noreturn)) void refuse_heap(const struct core *core, const char *wanting);
 void take_steps(struct heap *heap, uint64_t count, uint64_t near);
 
 /* core.c */
