@@ -24,7 +24,11 @@ def of_page(name):
 
 def of_program(name):
     """The options that the usage of a program has."""
-    text = text_of(SOURCES[name])
+    return of_usage(text_of(SOURCES[name]))
+
+
+def of_usage(text):
+    """The options that the lines of a usage have."""
     return set(OPTION.findall("\n".join(re.findall(r"usage: .*(?:\n +leak_.*)?", text))))
 
 

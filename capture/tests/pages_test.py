@@ -1,6 +1,7 @@
 """Man pages: each has the options that its program has, and no other."""
 import os
 import re
+import subprocess
 import unittest
 
 import options_of
@@ -17,6 +18,16 @@ class Pages(unittest.TestCase):
         for name in options_of.SOURCES:
             with self.subTest(name):
                 self.assertEqual(options_of.of_page(name), options_of.of_program(name))
+
+    def test_a_help_tells_of_each_option(self):
+        for name in [*options_of.SOURCES, "leak_core"]:
+            for word in ("--help", "-h"):
+                with self.subTest(f"{name} {word}"):
+                    found = subprocess.run([os.path.join(options_of.KIT, name), word], capture_output=True, text=True)
+                    self.assertEqual((found.returncode, found.stdout), (2, ""))
+                    self.assertTrue(found.stderr.startswith(f"usage: {name} "))
+                    told = set(re.findall(r"^  (--?[a-z][a-z-]*)", found.stderr, re.MULTILINE))
+                    self.assertEqual(told, options_of.of_usage(found.stderr))
 
     def test_the_page_of_leak_find_has_the_options_of_its_help(self):
         helps = [options_of.of_help(name)[0] for name in (*options_of.SUBCOMMANDS, "program")]

@@ -3,7 +3,7 @@
 #include <string.h>
 #include <unistd.h>
 
-#include "walk.h"
+#include "common.h"
 
 enum { ROOM = 1 << 20, LONGEST = 24 }; /* LONGEST: more than the digits of a number */
 
