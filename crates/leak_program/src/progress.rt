@@ -14,6 +14,7 @@ const BLANK: &str = "                                                  ";
 /// Tells a terminal, on standard error, how far a run has come, once it has taken over two seconds.
 ///
 /// Each line is written over the one before, and the last is wiped out. Nothing else is told by it, and what it writes is no warning.
+#[derive(Drop)]
 pub struct Screen<'a, R: Eprint + Clock> {
     rt: &'a R,
     /// When the run began. `None`: nothing is told.
