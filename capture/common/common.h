@@ -6,6 +6,7 @@
 #include <stdarg.h>
 #include <stddef.h>
 #include <stdint.h>
+#include <string.h>
 
 enum { PAGE = 4096 };
 
@@ -68,10 +69,20 @@ const char *name_of(const struct part *part);
 const struct part *other_allocator(const struct parts *parts);
 
 /* output.c */
-void put_text(const char *text);
 void put_bytes(const uint8_t *bytes, uint64_t size);
 void put_number(uint64_t value);
-void put_hex(const char *before, uint64_t value);
+void put_hex_behind(const char *before, size_t length, uint64_t value);
 void put_end(void);
+
+/* Here, so that the length of a constant is known when this is compiled. */
+static inline void put_text(const char *text)
+{
+    put_bytes((const uint8_t *)text, strlen(text));
+}
+
+static inline void put_hex(const char *before, uint64_t value)
+{
+    put_hex_behind(before, strlen(before), value);
+}
 
 #endif

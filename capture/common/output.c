@@ -42,11 +42,6 @@ void put_bytes(const uint8_t *bytes, uint64_t size)
     used += size;
 }
 
-void put_text(const char *text)
-{
-    put_bytes((const uint8_t *)text, strlen(text));
-}
-
 void put_number(uint64_t value)
 {
     char digits[LONGEST];
@@ -58,9 +53,8 @@ void put_number(uint64_t value)
     put_bytes((const uint8_t *)digits + at, LONGEST - at);
 }
 
-void put_hex(const char *before, uint64_t value)
+void put_hex_behind(const char *before, size_t length, uint64_t value)
 {
-    size_t length = strlen(before);
     int digits = value ? (67 - __builtin_clzll(value)) / 4 : 1; /* each tells four of the 64 - clz bits */
 
     make_room(length + LONGEST);
