@@ -1,7 +1,7 @@
 use Rattle.std.proofs.Common.{◌∙◌, ap, codes, rules}
 use Rattle.std.proofs.lemmas.Result.{IfOk-weaker}
 use Rattle.clap.specs.Words.{new_app}
-use Rattle.leak_request.specs.CommandLine.{reading_rules, with_rules}
+use Rattle.leak_request.specs.CommandLine.{reading_rules, warning_rules, with_rules}
 use Rattle.leak_request.proofs.Lines.{globals_more, line_more}
 use Rattle.leak_request.proofs.command_line.why.Goals as goal
 
@@ -10,11 +10,13 @@ returns-clause-line c =
     let first = line_more {line = new_app (codes "why")} c.in_ok-arg.ensures c.operand.ensures.local c.operand.ensures.rule (search rules) in
     let second = line_more c.in_ok-arg-2.ensures c.operand-2.ensures.local c.operand-2.ensures.rule first in
     let third = line_more c.in_ok-command.ensures c.operand-3.ensures.local c.operand-3.ensures.rule second in
-    IfOk-weaker c.with_reading.result _ _ (λ r is. is ∙ ap (λ a. with_rules a reading_rules) third) c.with_reading.ensures.line
+    let fourth = c.in_ok-command-2.ensures.line ∙ ap (λ a. with_rules a reading_rules) third in
+    IfOk-weaker c.with_warnings.result _ _ (λ r is. is ∙ ap (λ a. with_rules a warning_rules) fourth) c.with_warnings.ensures.line
 
 pub returns-clause-local : goal.returns-clause-local
 returns-clause-local c =
     let first = globals_more c.in_ok-arg.ensures c.operand.ensures.local (search rules) in
     let second = globals_more c.in_ok-arg-2.ensures c.operand-2.ensures.local first in
     let third = globals_more c.in_ok-command.ensures c.operand-3.ensures.local second in
-    IfOk-weaker c.with_reading.result _ _ (λ r is. is ∙ third) c.with_reading.ensures.local
+    let fourth = c.in_ok-command-2.ensures.local ∙ third in
+    IfOk-weaker c.with_warnings.result _ _ (λ r is. is ∙ fourth) c.with_warnings.ensures.local
