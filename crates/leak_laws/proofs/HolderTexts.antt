@@ -1,6 +1,6 @@
 -- Each text of a marked block has a line of holders, and no text has two.
-use Rattle.std.proofs.Common.{◌≡◌, ℕ, zero, suc, ◌+◌, ◌<◌, ◌≤◌, ◌⊎◌, inl, inr, Bool, true, false, ◌&&◌, ◌||◌, ◌==◌, cond, List, [], ◌∷◌, length, map, filter, bytes_eq, Option, None, Some, slice_get, get_or, refl, sym, ap, subst, ◌∙◌, arith}
-use Rattle.std.specs.Prelude.{nat_lt, slice_index_or}
+use Rattle.std.proofs.Common.{◌≡◌, ℕ, zero, suc, ◌+◌, ◌<◌, ◌≤◌, ◌⊎◌, inl, inr, Bool, true, false, ◌&&◌, ◌||◌, cond, List, [], ◌∷◌, length, map, filter, bytes_eq, Option, None, Some, slice_get, get_or, refl, sym, ap, subst, ◌∙◌, arith}
+use Rattle.std.specs.Prelude.{nat_lt}
 use Rattle.std.specs.List.{AllByRecursion, list_any, range_with_len}
 use Rattle.std.specs.List.Sorted.{IsStrictlySortedBy}
 use Rattle.std.specs.Cmp.Lexicographic.{slice_cmp}
@@ -8,22 +8,22 @@ use Rattle.std.specs.Ordering.{nat_cmp}
 use Rattle.std.specs.declared.cmp.Ordering.TheVariants.{Less, Equal}
 use Rattle.std.proofs.lemmas.Bool.{and_from, cases_eq, false_from_ne_true, lt-ltb}
 use Rattle.std.proofs.lemmas.Cmp.{tied_itself}
-use Rattle.std.proofs.lemmas.List.{get_or-map, length-map}
+use Rattle.std.proofs.lemmas.List.{get_or-map}
 use Rattle.std.proofs.lemmas.Slice.Eq.{bytes_eq-Decides}
 use Rattle.leak_blocks.specs.declared.block.Block.{Block}
 use Rattle.leak_blocks.specs.Live.{live_of}
 use Rattle.leak_index.specs.Leads.{Distances}
 use Rattle.leak_roots.specs.declared.skip.Skip.{Skip}
-use Rattle.leak_marks.specs.Reach.{Graph, Reach}
+use Rattle.leak_marks.specs.Reach.{Reach}
 use Rattle.leak_report.specs.Totals.{marked_in, text_at}
 use Rattle.leak_report.proofs.Members.{Has, Has-filter, Has-map, each_filtered, each_implied, each_mapped}
-use Rattle.leak_texts.specs.Numbered.{text_with, texts_of}
+use Rattle.leak_texts.specs.Numbered.{text_with}
 use Rattle.leak_without.specs.Without.{members}
 use Rattle.leak_without.proofs.GoingLemmas.{to_members}
 use Rattle.leak_without.proofs.HeldLemmas.{own_are_held}
 use Rattle.leak_holders.specs.declared.facts.Facts.{Facts}
 use Rattle.leak_holders.specs.declared.holder.Holder.{Holder}
-use Rattle.leak_holders.specs.Holders.{Held, is_counted, rank, ranked, row_of, rows_of, with_blocks}
+use Rattle.leak_holders.specs.Holders.{Held, is_counted, rank, row_of, rows_of, with_blocks}
 use Rattle.leak_holders.specs.Tallies.{facts_of}
 use Rattle.leak_holders.proofs.Ranks.{Has-ranked, each_ranked, rank_total}
 use Rattle.leak_search.specs.Search.{graph_of_one}
@@ -120,24 +120,24 @@ pub marked_have_holders : (core log : List ℕ) (reading : Distances) (skip : Sk
 marked_have_holders core log reading skip found f =
     marked_each (HasHolder log (told_by_holders f).rows) f.set (live_of f.lines)
     (λ i d low is.
-        let hold = plain_rows (graph_of_one core reading skip f.lines) (live_of f.lines) f.numbers f.set (map (λ b. true) (live_of f.lines)) (length f.texts) f.rows f.are in
-        let n = are_numbers log (live_of f.lines) f.texts f.numbers f.numbered f.few in
-        let known : Facts = facts_of (live_of f.lines) f.numbers f.set (map (λ b. true) (live_of f.lines)) in
-        let low_text : get_or f.numbers i 0 < length f.texts = n.of_texts i low in
-        let inside : i < length (graph_of_one core reading skip f.lines).targets = omega (arith, low, one_each core reading skip f.lines) in
-        let reached : Reach (graph_of_one core reading skip f.lines) i = (f.marked.each i low).0 is in
-        let held : hold.held (get_or f.numbers i 0) i ≡ true =
-        (hold.holds (get_or f.numbers i 0) i low_text inside).1 (own_are_held (graph_of_one core reading skip f.lines) (members f.numbers (get_or f.numbers i 0)) i reached (to_members f.numbers (get_or f.numbers i 0) i (omega (arith, low, n.one_each)) refl)) in
-        let some : 0 < (row_of known hold.held (length f.texts) (get_or f.numbers i 0)).blocks =
-        passes_some (λ b. hold.held (get_or f.numbers i 0) b && is_counted known b) 0 (length (live_of f.lines)) i (omega arith) (omega (arith, low))
-        (and_from (hold.held (get_or f.numbers i 0) i) (is_counted known i) held (all_counted (live_of f.lines) i low)) in
-        let there : Has (rows_of known hold.held (length f.texts)) (row_of known hold.held (length f.texts) (get_or f.numbers i 0)) =
-        Has-ranked (with_blocks (map (row_of known hold.held (length f.texts)) (range_with_len 0 (length f.texts)))) (row_of known hold.held (length f.texts) (get_or f.numbers i 0))
-        (Has-filter (λ r. nat_lt 0 r.blocks) (map (row_of known hold.held (length f.texts)) (range_with_len 0 (length f.texts))) (row_of known hold.held (length f.texts) (get_or f.numbers i 0))
-        (Has-map (row_of known hold.held (length f.texts)) (range_with_len 0 (length f.texts)) (get_or f.numbers i 0) (in_range 0 (length f.texts) (get_or f.numbers i 0) (omega arith) (omega (arith, low_text)))) (lt-ltb 0 (row_of known hold.held (length f.texts) (get_or f.numbers i 0)).blocks some)) in
-        let in_rows : Has f.rows (row_of known hold.held (length f.texts) (get_or f.numbers i 0)) = subst (λ (rows : List Holder). Has rows (row_of known hold.held (length f.texts) (get_or f.numbers i 0))) (sym hold.are) there in
-        let name : text_with f.texts (get_or f.numbers i 0) ≡ text_at log (get_or (live_of f.lines) i d).caller =
-        sym (get_or-map (text_with f.texts) f.numbers i 0 [] (omega (arith, low, n.one_each))) ∙ ap (λ (ts : List (List ℕ)). get_or ts i []) f.numbered.same ∙ get_or-map (λ b. text_at log b.caller) (live_of f.lines) i d [] low in
-        any_has (λ h. bytes_eq h.text (text_at log (get_or (live_of f.lines) i d).caller)) (told_by_holders f).rows (told_holder (live_of f.lines) f.texts (row_of known hold.held (length f.texts) (get_or f.numbers i 0)))
-        (Has-map (told_holder (live_of f.lines) f.texts) f.rows (row_of known hold.held (length f.texts) (get_or f.numbers i 0)) in_rows)
-        ((bytes_eq-Decides (text_with f.texts (get_or f.numbers i 0)) (text_at log (get_or (live_of f.lines) i d).caller)).1 name))
+    let hold = plain_rows (graph_of_one core reading skip f.lines) (live_of f.lines) f.numbers f.set (map (λ b. true) (live_of f.lines)) (length f.texts) f.rows f.are in
+    let n = are_numbers log (live_of f.lines) f.texts f.numbers f.numbered f.few in
+    let known : Facts = facts_of (live_of f.lines) f.numbers f.set (map (λ b. true) (live_of f.lines)) in
+    let low_text : get_or f.numbers i 0 < length f.texts = n.of_texts i low in
+    let inside : i < length (graph_of_one core reading skip f.lines).targets = omega (arith, low, one_each core reading skip f.lines) in
+    let reached : Reach (graph_of_one core reading skip f.lines) i = (f.marked.each i low).0 is in
+    let held : hold.held (get_or f.numbers i 0) i ≡ true =
+    (hold.holds (get_or f.numbers i 0) i low_text inside).1 (own_are_held (graph_of_one core reading skip f.lines) (members f.numbers (get_or f.numbers i 0)) i reached (to_members f.numbers (get_or f.numbers i 0) i (omega (arith, low, n.one_each)) refl)) in
+    let some : 0 < (row_of known hold.held (length f.texts) (get_or f.numbers i 0)).blocks =
+    passes_some (λ b. hold.held (get_or f.numbers i 0) b && is_counted known b) 0 (length (live_of f.lines)) i (omega arith) (omega (arith, low))
+    (and_from (hold.held (get_or f.numbers i 0) i) (is_counted known i) held (all_counted (live_of f.lines) i low)) in
+    let there : Has (rows_of known hold.held (length f.texts)) (row_of known hold.held (length f.texts) (get_or f.numbers i 0)) =
+    Has-ranked (with_blocks (map (row_of known hold.held (length f.texts)) (range_with_len 0 (length f.texts)))) (row_of known hold.held (length f.texts) (get_or f.numbers i 0))
+    (Has-filter (λ r. nat_lt 0 r.blocks) (map (row_of known hold.held (length f.texts)) (range_with_len 0 (length f.texts))) (row_of known hold.held (length f.texts) (get_or f.numbers i 0))
+    (Has-map (row_of known hold.held (length f.texts)) (range_with_len 0 (length f.texts)) (get_or f.numbers i 0) (in_range 0 (length f.texts) (get_or f.numbers i 0) (omega arith) (omega (arith, low_text)))) (lt-ltb 0 (row_of known hold.held (length f.texts) (get_or f.numbers i 0)).blocks some)) in
+    let in_rows : Has f.rows (row_of known hold.held (length f.texts) (get_or f.numbers i 0)) = subst (λ (rows : List Holder). Has rows (row_of known hold.held (length f.texts) (get_or f.numbers i 0))) (sym hold.are) there in
+    let name : text_with f.texts (get_or f.numbers i 0) ≡ text_at log (get_or (live_of f.lines) i d).caller =
+    sym (get_or-map (text_with f.texts) f.numbers i 0 [] (omega (arith, low, n.one_each))) ∙ ap (λ (ts : List (List ℕ)). get_or ts i []) f.numbered.same ∙ get_or-map (λ b. text_at log b.caller) (live_of f.lines) i d [] low in
+    any_has (λ h. bytes_eq h.text (text_at log (get_or (live_of f.lines) i d).caller)) (told_by_holders f).rows (told_holder (live_of f.lines) f.texts (row_of known hold.held (length f.texts) (get_or f.numbers i 0)))
+    (Has-map (told_holder (live_of f.lines) f.texts) f.rows (row_of known hold.held (length f.texts) (get_or f.numbers i 0)) in_rows)
+    ((bytes_eq-Decides (text_with f.texts (get_or f.numbers i 0)) (text_at log (get_or (live_of f.lines) i d).caller)).1 name))
