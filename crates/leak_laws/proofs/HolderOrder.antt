@@ -64,10 +64,10 @@ module _ (f : Facts) (held : Held) (texts : ℕ) where
       go true rest = (others, rest)
       go false rest = rest
 
-  rows_sorted : IsStrictlySortedBy rank (rows_of f held texts)
+  pub rows_sorted : IsStrictlySortedBy rank (rows_of f held texts)
   rows_sorted = sorted_ranked (with_blocks (map (row_of f held texts) (range_with_len 0 texts))) (rows_differ 0 texts)
 
-  rows_below : AllByRecursion (λ r. r.text < texts) (rows_of f held texts)
+  pub rows_below : AllByRecursion (λ r. r.text < texts) (rows_of f held texts)
   rows_below =
       each_ranked (λ r. r.text < texts) (with_blocks (map (row_of f held texts) (range_with_len 0 texts)))
       (each_implied (λ r. (r.text < texts) × (nat_lt 0 r.blocks ≡ true)) (λ r. r.text < texts) (λ r h. h.0) (with_blocks (map (row_of f held texts) (range_with_len 0 texts)))

@@ -77,7 +77,7 @@ module _ (p : ℕ → Bool) (size : ℕ → ℕ) where
 
 -- ---- without an earlier log
 
-all_counted : (blocks : List Block) (i : ℕ) → i < length blocks → slice_index_or (map (λ b. true) blocks) i false ≡ true
+pub all_counted : (blocks : List Block) (i : ℕ) → i < length blocks → slice_index_or (map (λ b. true) blocks) i false ≡ true
 all_counted [] i low = absurd (omega arith)
 all_counted (b ∷ blocks) zero low = refl
 all_counted (b ∷ blocks) (suc i) low = all_counted blocks i (omega arith)

@@ -32,3 +32,4 @@ pub mod HolderOrder
 pub mod HeldTexts
 pub mod HeldRunLemmas
 pub mod PartSums
+pub mod HolderTexts

@@ -32,7 +32,7 @@ pub texts_are_one : (given texts others : List (List ℕ)) (numbers more : List 
 texts_are_one given texts others numbers more p q =
     same_elements (slice_cmp nat_cmp) nat_list_cmp_total texts others p.ascending q.ascending (within given texts others numbers more p q) (within given others texts more numbers q p)
 
-one_place : (texts : List (List ℕ)) (k n : ℕ) → IsStrictlySortedBy (slice_cmp nat_cmp) texts → k < length texts → n < length texts → text_with texts k ≡ text_with texts n → k ≡ n
+pub one_place : (texts : List (List ℕ)) (k n : ℕ) → IsStrictlySortedBy (slice_cmp nat_cmp) texts → k < length texts → n < length texts → text_with texts k ≡ text_with texts n → k ≡ n
 one_place texts k n up h i e = ⊎_elim (λ (same : k ≡ n). same) (λ (other : (k < n) ⊎ (n < k)). ⊎_elim below above other) (cases_order k n)
   where
     below : k < n → k ≡ n

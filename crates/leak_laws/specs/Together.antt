@@ -7,7 +7,7 @@ use Rattle.std.specs.Ordering.{nat_cmp, ordering_then}
 use Rattle.std.specs.declared.cmp.Ordering.{Ordering}
 use Rattle.leak_laws.specs.Told.{Told, ToldCaller, ToldLeak}
 
--- how often a leaked block is a head
+-- the lines of the leaked blocks that are heads
 abbrev pub heads_among : List ToldLeak → List ToldLeak
 heads_among leaks = filter (λ l. l.head) leaks
 

@@ -1,6 +1,6 @@
 //! What is held: answers are one, and the lines of a report belong together.
 
-ghost use Rattle.leak_laws.specs.HeldTogether.{HoldersBelongTogether, OwnBlocksAreMarked};
+ghost use Rattle.leak_laws.specs.HeldTogether.{HolderTextsDiffer, HoldersBelongTogether, MarkedHaveHolders, OwnBlocksAreMarked};
 ghost use Rattle.leak_laws.specs.InSums.{InLinesAddUp};
 ghost use Rattle.leak_laws.specs.Held.{AnswersAreOne, AnswersOfWhyAreAsLong, ReportsOfHoldersAreOne};
 
@@ -22,6 +22,12 @@ pub fn answers_of_why_are_as_long()
 pub fn holders_belong_together()
     ensures together { HoldersBelongTogether }
     ensures own { OwnBlocksAreMarked }
+{}
+
+/// No text has two lines in a report on who holds the memory; and without an earlier log each marked block's text has one.
+pub fn texts_have_holders()
+    ensures differ { HolderTextsDiffer }
+    ensures each { MarkedHaveHolders }
 {}
 
 /// The lines of what chosen blocks hold have the sums of the held blocks.
