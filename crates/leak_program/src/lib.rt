@@ -31,4 +31,4 @@ pub use growing::compare_logs;
 pub use holding::tell_holders;
 pub use messages::{message, messages_are_lines};
 pub use sample::search_sample;
-pub use starting::{answer_all, start, status_of};
+pub use starting::{answer_all, start};

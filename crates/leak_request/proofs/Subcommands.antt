@@ -84,12 +84,12 @@ pub mistake_told : (line : App) (words : List Text) (e : Error) (f : UsageFault)
     → IsMistake f (kind_of e) → IsUsageFaultOf words f
 mistake_told line words e (fault.Words text) same kinds is = (
   (λ k text alone. elim (kinds (ap is_simple_and_free same ∙ line_is_free)) [
-      | inl out ↦ is.0 out
-      | inr among ↦ elim (subst (IsAmong (kind_of e)) (ap (λ a. fault_of a words) same ∙ alone) among) [
-          | inl one ↦ is.1 (subst IsText (sym one) text)
-          | inr none ↦ none
-        ]
-    ]),
+    | inl out ↦ is.0 out
+    | inr among ↦ elim (subst (IsAmong (kind_of e)) (ap (λ a. fault_of a words) same ∙ alone) among) [
+      | inl one ↦ is.1 (subst IsText (sym one) text)
+      | inr none ↦ none
+    ]
+  ]),
   λ taken. absurd (line_refused line words e same kinds is.0 taken),
 )
 mistake_told line words e (fault.Displace f) same kinds is = absurd is
