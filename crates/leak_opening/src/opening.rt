@@ -1,6 +1,6 @@
 //! The opening of some paths.
 
-ghost use Rattle.std.specs.Prelude.{IfOk, IfErr, map, string_bytes};
+ghost use Rattle.std.specs.Prelude.{◌≡◌, IfOk, IfErr, length, map, string_bytes};
 ghost use Rattle.leak_opening.specs.Opening.{AreOpened, IsOpenFault};
 
 use crate::fault::{OpenFault, reason_of};
@@ -14,6 +14,7 @@ pub fn open_all<O: Opener>(
     paths: &[String],
 ) -> Result<Vec<O::File>, OpenFault>
     ensures ok { IfOk result (λ files. AreOpened O.opens (map string_bytes paths.now) opener.old files.items opener.new) }
+    ensures count { IfOk result (λ files. length files.items ≡ length paths.now) }
     ensures refused { IfErr result (IsOpenFault O.opens (map string_bytes paths.now) opener.old opener.new) }
 {
     let mut files = Vec::with_capacity(alloc, paths.len())?;

@@ -1,3 +1,4 @@
 mod Lines
+mod Paths
 mod Refusals
 mod SampleLemmas

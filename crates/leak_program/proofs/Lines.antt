@@ -1,5 +1,5 @@
 -- Each message is one line, but for clap's.
-use Rattle.std.proofs.Common.{◌≡◌, ℕ, List, [], ◌∷◌, ◌++◌, codes, decimal, refl, sym, append_assoc, string_bytes}
+use Rattle.std.proofs.Common.{◌≡◌, ℕ, List, [], ◌∷◌, ◌++◌, codes, decimal, false, refl, sym, append_assoc, string_bytes}
 use Rattle.std.specs.Fmt.{digits}
 use Rattle.leak_escapes.specs.Escaped.{AreShown, escaped}
 use Rattle.leak_escapes.proofs.ShownLemmas.{both, escaped_shown, hexadecimal_shown}
@@ -45,11 +45,11 @@ lines Word own = line (failure_text Word) refl
 lines (Usage f) own = usage_line f own
 lines (Open path reason) own =
     line (failure_text (Open path reason))
-    (both (codes "cannot open ") (escaped (string_bytes path) ++ reason_text reason) refl
-    (both (escaped (string_bytes path)) (reason_text reason) (escaped_shown (string_bytes path)) (reason_shown reason)))
+    (both (codes "cannot open " ++ escaped (string_bytes path)) (reason_text reason)
+    (both (codes "cannot open ") (escaped (string_bytes path)) refl (escaped_shown (string_bytes path))) (reason_shown reason))
 lines (Read number path f) own =
     line (failure_text (Read number path f))
-    (both (reader_text number f) (codes ": " ++ escaped (string_bytes path)) (reader_shown number f)
-    (both (codes ": ") (escaped (string_bytes path)) refl (escaped_shown (string_bytes path))))
+    (both (reader_text number f ++ codes ": ") (escaped (string_bytes path))
+    (both (reader_text number f) (codes ": ") (reader_shown number f) refl) (escaped_shown (string_bytes path)))
 lines (Run f) own = line (failure_text (Run f)) (run_shown f)
 lines NoMemory own = line (failure_text NoMemory) refl

@@ -1,5 +1,5 @@
 -- From files that are not opened, and runs without a status, to words that get no answer.
-use Rattle.std.proofs.Common.{◌≡◌, List, Option, None, Some, ℕ, refl, sym, subst, string_bytes}
+use Rattle.std.proofs.Common.{◌≡◌, List, [], Option, None, Some, ℕ, String, Global, refl, sym, subst, string_bytes}
 use Rattle.leak_find.specs.declared.fault.RunFault.{RunFault}
 use Rattle.leak_find.specs.declared.fault.RunFault.TheVariants as run
 use Rattle.leak_find.specs.Streams.{Sink, Source}
@@ -8,10 +8,11 @@ use Rattle.leak_opening.specs.declared.fault.OpenFault.{OpenFault}
 use Rattle.leak_opening.specs.declared.fault.OpenFault.TheVariants as opening
 use Rattle.leak_streams.specs.declared.fault.ReadFault.{ReadFault}
 use Rattle.leak_request.specs.declared.options.Request.{Request}
+use Rattle.leak_request.specs.declared.options.Request.TheVariants.{Text}
 use Rattle.leak_request.specs.Requests.{IsRequestOf}
 use Rattle.leak_program.specs.declared.failure.Failure.{Failure}
 use Rattle.leak_program.specs.declared.failure.Failure.TheVariants.{Word, Usage, Open, Read, Run, NoMemory}
-use Rattle.leak_program.specs.Answer.{IsFailureOf, RunFailsBy, paths_in}
+use Rattle.leak_program.specs.Answer.{FailsRequest, IsCut, IsFailureOf, IsNotShown, RunFailsBy, paths_in}
 use Rattle.leak_program.specs.Failures.{IsNamedBy, IsOfReader, LacksPath, at_opening}
 use Rattle.leak_program.specs.Files.{IsRefusalOf, OfOpened}
 
@@ -26,6 +27,30 @@ refused_by opens source sink words r first last held holds (Open path reason) as
 refused_by opens source sink words r first last held holds (Read n path f) asked fails = record { request = r; asked = asked; fails = fails }
 refused_by opens source sink words r first last held holds (Run fault) asked fails = record { request = r; asked = asked; fails = fails }
 refused_by opens source sink words r first last held holds NoMemory asked fails = fails
+
+-- a text that was not written whole
+cut : {O F W : Type 0} (opens : Opens O F) (source : Source F) (sink : Sink W) (words : List (List ℕ)) (text : String Global) (first : O)
+    (held holds : W) (fault : RunFault) → IsRequestOf words (Text text) → IsCut sink (string_bytes text) held holds fault
+    → FailsRequest opens source sink words first first held holds (Run fault)
+cut opens source sink words text first held holds (run.Read n f) asked fails = absurd fails
+cut opens source sink words text first held holds (run.Find e) asked fails = absurd fails
+cut opens source sink words text first held holds (run.NoBlock a) asked fails = absurd fails
+cut opens source sink words text first held holds (run.Write f) asked fails = record {
+  request = Text text;
+  asked = asked;
+  fails = (record { files = []; opened = refl; holds = fails }, tt);
+}
+
+pub not_shown : {O F W : Type 0} (opens : Opens O F) (source : Source F) (sink : Sink W) (words : List (List ℕ)) (text : String Global) (first : O)
+    (held holds : W) (failure : Failure) → IsRequestOf words (Text text) → IsNotShown sink (string_bytes text) held holds failure
+    → IsFailureOf opens source sink words first first held holds failure
+not_shown opens source sink words text first held holds Word asked fails = absurd fails
+not_shown opens source sink words text first held holds (Usage fault) asked fails = absurd fails
+not_shown opens source sink words text first held holds (Open path reason) asked fails = absurd fails
+not_shown opens source sink words text first held holds (Read n path f) asked fails = absurd fails
+not_shown opens source sink words text first held holds (Run fault) asked fails =
+    cut opens source sink words text first held holds fault asked fails
+not_shown opens source sink words text first held holds NoMemory asked fails = absurd fails
 
 module _ {O F W : Type 0} (opens : Opens O F) (paths : List (List ℕ)) (first last : O) (held holds : W) (fails : RunFault → List F → Type 0) where
   -- files that are not opened

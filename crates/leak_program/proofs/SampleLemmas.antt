@@ -11,11 +11,11 @@ use Rattle.leak_find.proofs.ViewLemmas.{Shows, sees_left}
 shows_all : {W : Type 0} (sink : Sink W) → Shows (λ w. w) sink sink
 shows_all sink = record { whole = λ text before after is. is; cut_off = λ text before after f is. is }
 
-pub over_inputs : {R W V : Type 0} (left : R → Option (List ℕ)) (sink : Sink W) (warner : Sink V) (o : Options) (before after : List R)
-    (inputs : List (Option (List ℕ))) (held holds : W) (heard hears : V) (status : ℕ)
+pub over_inputs : {R W V : Type 0} (left : R → Option (List ℕ)) {sink : Sink W} {warner : Sink V} {o : Options} {before after : List R}
+    {inputs : List (Option (List ℕ))} {held holds : W} {heard hears : V} {status : ℕ}
     → Runs (by_reads (tells left)) sink warner o before after held holds heard hears status → map left before ≡ inputs
     → Runs by_bytes_left sink warner o inputs (map left after) held holds heard hears status
-over_inputs left sink warner o before after inputs held holds heard hears status ran same =
+over_inputs left {sink} {warner} {o} {before} {after} {inputs} {held} {holds} {heard} {hears} {status} ran same =
     subst (λ (b : List (Option (List ℕ))). Runs by_bytes_left sink warner o b (map left after) held holds heard hears status) same
     (runs left (by_reads (tells left)) by_bytes_left (sees_left left) (λ w. w) sink sink (shows_all sink) (λ v. v) warner warner (shows_all warner)
     o before after held holds heard hears status ran)

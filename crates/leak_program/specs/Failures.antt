@@ -1,5 +1,5 @@
 -- What a failure of the program comes from.
-use Rattle.std.specs.Prelude.{◌≡◌, ℕ, zero, suc, List, Option, None, Some, slice_get, string_bytes}
+use Rattle.std.specs.Prelude.{◌≡◌, ℕ, ◌-◌, ◌==◌, List, Option, None, Some, if◌then◌else◌, slice_get, string_bytes}
 use Rattle.leak_find.specs.declared.fault.RunFault.{RunFault}
 use Rattle.leak_find.specs.declared.fault.RunFault.TheVariants as run
 use Rattle.leak_opening.specs.declared.fault.OpenFault.{OpenFault}
@@ -14,8 +14,7 @@ at_opening opening.NoMemory = NoMemory
 
 -- the path with the number, from 1
 abbrev pub path_at : List (List ℕ) → ℕ → Option (List ℕ)
-path_at paths zero = None
-path_at paths (suc i) = slice_get paths i
+path_at paths n = if n == 0 then None else slice_get paths (n - 1)
 
 -- no path has the number of the reader, where the fault is of one
 abbrev pub LacksPath : List (List ℕ) → RunFault → Type 0

@@ -1,5 +1,5 @@
 -- What the program says of a failure on standard error: one line, or clap's own text. Own rule.
-use Rattle.std.specs.Prelude.{◌≡◌, ℕ, List, [], ◌∷◌, ◌++◌, codes, decimal, string_bytes}
+use Rattle.std.specs.Prelude.{◌≡◌, ℕ, List, [], ◌∷◌, ◌++◌, codes, decimal, false, string_bytes}
 use Rattle.std.specs.Fmt.{digits}
 use Rattle.leak_escapes.specs.Escaped.{AreShown, escaped}
 use Rattle.leak_find.specs.declared.fault.RunFault.{RunFault}
@@ -7,6 +7,7 @@ use Rattle.leak_find.specs.declared.fault.RunFault.TheVariants as run
 use Rattle.leak_messages.specs.Inputs.{find_text, read_text, reason_text, write_text}
 use Rattle.leak_messages.specs.Words.{usage_text}
 use Rattle.leak_streams.specs.declared.fault.ReadFault.{ReadFault}
+use Rattle.leak_opening.specs.declared.fault.Reason.{Reason}
 use Rattle.leak_request.specs.declared.fault.UsageFault.{UsageFault}
 use Rattle.leak_request.specs.declared.fault.UsageFault.TheVariants as usage
 use Rattle.leak_program.specs.declared.failure.Failure.{Failure}
@@ -22,12 +23,19 @@ run_text (run.Find e) = find_text e
 run_text (run.NoBlock address) = codes "no live block holds 0x" ++ digits 16 false address
 run_text (run.Write f) = write_text f
 
--- a path is escaped
+-- a file that can't be opened, with its path escaped, and why
+abbrev pub unopened_text : List ℕ → Reason → List ℕ
+unopened_text path reason = (codes "cannot open " ++ escaped path) ++ reason_text reason
+
+-- a reader that was not read to its end, with the path of its file
+abbrev pub unread_text : ℕ → List ℕ → ReadFault → List ℕ
+unread_text number path f = (reader_text number f ++ codes ": ") ++ escaped path
+
 abbrev pub failure_text : Failure → List ℕ
 failure_text Word = codes "a word is not UTF-8"
 failure_text (Usage f) = usage_text f
-failure_text (Open path reason) = codes "cannot open " ++ (escaped (string_bytes path) ++ reason_text reason)
-failure_text (Read number path f) = reader_text number f ++ (codes ": " ++ escaped (string_bytes path))
+failure_text (Open path reason) = unopened_text (string_bytes path) reason
+failure_text (Read number path f) = unread_text number (string_bytes path) f
 failure_text (Run f) = run_text f
 failure_text NoMemory = codes "out of memory"
 

@@ -15,11 +15,23 @@ use std::thread::Threads;
 fn paths_of(alloc: Global, request: &HoldersRequest) -> Result<Vec<String>, AllocError>
     ensures { IfOk result (λ paths. map string_bytes paths.items ≡ paths_of_held request.now) }
 {
-    let mut paths = request.paths.clone()?;
-    if let Some(path) = &request.since {
-        paths.push(path.as_str().to_string(alloc)?)?;
-    }
+    let mut paths = copied(alloc, request.paths.as_slice())?;
+    let Some(path) = &request.since else {
+        return Ok(paths);
+    };
+    paths.push(path.as_str().to_string(alloc)?)?;
     Ok(paths)
+}
+
+/// The same paths.
+fn copied(alloc: Global, paths: &[String]) -> Result<Vec<String>, AllocError>
+    ensures { IfOk result (λ copied. map string_bytes copied.items ≡ map string_bytes paths.now) }
+{
+    let mut copied = Vec::with_capacity(alloc, paths.len())?;
+    for path in paths {
+        copied.push(path.as_str().to_string(alloc)?)?;
+    }
+    Ok(copied)
 }
 
 /// Opens the files of the request in order, and then reads them, writes who holds the memory, or the answer to its question, to the
@@ -49,8 +61,9 @@ pub fn tell_holders<
     ensures silent { IfErr result (λ _. warner.new ≡ warner.old) }
 {
     let alloc = rt.alloc();
-    let paths = paths_of(alloc, request)?;
-    let mut files = open_all(alloc, opener, paths.as_slice())?;
+    let all = paths_of(alloc, request)?;
+    let paths = all.as_slice();
+    let mut files = open_all(alloc, opener, paths)?;
     let sizes = sizes_of::<O>(files.as_slice());
     match run_holders_sized(
         rt,
@@ -64,6 +77,6 @@ pub fn tell_holders<
         warner,
     ) {
         Ok(status) => Ok(status),
-        Err(fault) => Err(named(alloc, paths.as_slice(), fault)),
+        Err(fault) => Err(named(alloc, paths, fault)),
     }
 }

@@ -35,4 +35,4 @@ pub use leak_find::{Progress, Silent};
 pub use messages::{message, messages_are_lines};
 pub use progress::Screen;
 pub use sample::search_sample;
-pub use starting::{answer_all, start, status_of};
+pub use starting::{answer_all, start};

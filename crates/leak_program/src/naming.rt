@@ -17,21 +17,23 @@ pub(crate) fn named(alloc: Global, paths: &[String], fault: RunFault) -> Failure
     let Some(path) = path_of(paths, number) else {
         return Failure::Run(fault);
     };
-    match path.to_string(alloc) {
+    match path.as_str().to_string(alloc) {
         Ok(path) => Failure::Read(number, path, read),
         Err(_) => Failure::NoMemory,
     }
 }
 
 /// The path with the number, from 1.
-fn path_of(paths: &[String], number: u8) -> Option<&str>
-    ensures { option_map (λ path. path.now) result ≡ path_at (map string_bytes paths.now) number }
+#[tactic(auto, using(crate::proofs::Paths::path_past, crate::proofs::Paths::path_within))]
+fn path_of(paths: &[String], number: u8) -> Option<&String>
+    ensures { option_map (λ path. string_bytes path.now) result ≡ path_at (map string_bytes paths.now) number }
 {
     if number == 0 {
         return None;
     }
-    match paths.get(usize::from(number) - 1) {
-        Some(path) => Some(path.as_str()),
-        None => None,
+    let index = usize::from(number) - 1;
+    if index >= paths.len() {
+        return None;
     }
+    Some(&paths[index])
 }

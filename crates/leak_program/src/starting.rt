@@ -2,8 +2,8 @@
 
 ghost use Rattle.std.specs.Prelude.{◌≡◌, IfErr, map, string_bytes};
 ghost use Rattle.std.specs.Process.{exit_status};
-ghost use Rattle.leak_find.specs.Streams.{by_reads, by_writes};
-ghost use Rattle.leak_program.specs.Start.{HasStarted, IsAnswered, IsTold, IsUnread, status_of};
+ghost use Rattle.leak_find.specs.Streams.{IsTried, by_reads, by_writes};
+ghost use Rattle.leak_program.specs.Start.{HasStarted, IsAnswered, IsTold, IsUnread};
 
 use crate::answering::answer;
 use crate::failure::Failure;
@@ -35,14 +35,17 @@ pub fn start<
     ensures { HasStarted O.opens (by_reads O.File.calls) (by_writes W.calls) (by_writes V.calls) opener.old opener.new
         writer.old writer.new warner.old warner.new (exit_status result) }
 {
-    let status = match words_of(rt) {
-        Ok(words) => answer_all(rt, opener, words.as_slice(), progress, writer, warner),
-        Err(failure) => {
-            tell(rt.alloc(), &failure, warner);
-            REFUSED
-        }
-    };
-    ExitCode::from(status)
+    match words_of(rt) {
+        Ok(words) => ExitCode::from(answer_all(
+            rt,
+            opener,
+            words.as_slice(),
+            progress,
+            writer,
+            warner,
+        )),
+        Err(failure) => ExitCode::from(refuse(rt.alloc(), &failure, warner)),
+    }
 }
 
 /// Answers the words, and says on the second writer why there is no answer, if there is none. Gives the exit status.
@@ -56,20 +59,9 @@ pub fn answer_all<
     ensures { IsAnswered O.opens (by_reads O.File.calls) (by_writes W.calls) (by_writes V.calls) (map string_bytes words.now)
         opener.old opener.new writer.old writer.new warner.old warner.new result }
 {
-    let answer = answer(rt, opener, words, progress, writer, warner);
-    if let Err(failure) = &answer {
-        tell(rt.alloc(), failure, warner);
-    }
-    status_of(&answer)
-}
-
-/// The exit status: that of the search, and 2 where there is no report.
-pub fn status_of(answer: &Result<u8, Failure>) -> u8
-    ensures { result ≡ status_of answer.now }
-{
-    match answer {
-        Ok(status) => *status,
-        Err(_) => REFUSED,
+    match answer(rt, opener, words, progress, writer, warner) {
+        Ok(status) => status,
+        Err(failure) => refuse(rt.alloc(), &failure, warner),
     }
 }
 
@@ -94,12 +86,28 @@ fn unread(error: &io::Error) -> Failure
     }
 }
 
-/// Says why there is no report. A refused write leaves nowhere to say so.
+/// Says why there is no report, and gives the status of a refusal.
+fn refuse<V: WriteCalls>(alloc: Global, failure: &Failure, warner: &mut V) -> u8
+    ensures told { IsTold (by_writes V.calls) failure.now warner.old warner.new }
+    ensures status { result ≡ 2 }
+{
+    tell(alloc, failure, warner);
+    REFUSED
+}
+
+/// Says why there is no report.
 fn tell<V: WriteCalls>(alloc: Global, failure: &Failure, warner: &mut V)
     ensures { IsTold (by_writes V.calls) failure.now warner.old warner.new }
 {
-    let _taken = match message(alloc, failure) {
-        Ok(text) => write(&text, warner),
-        Err(_) => write(NO_MEMORY, warner),
-    };
+    match message(alloc, failure) {
+        Ok(text) => say(&text, warner),
+        Err(_) => say(NO_MEMORY, warner),
+    }
+}
+
+/// Hands the text to the writer. A refused write leaves nowhere to say so.
+fn say<V: WriteCalls>(text: &[u8], warner: &mut V)
+    ensures { IsTried (by_writes V.calls) text.now warner.old warner.new }
+{
+    let _taken = write(text, warner);
 }

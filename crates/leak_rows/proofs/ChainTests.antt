@@ -86,17 +86,17 @@ pub answers : (word_at : ℕ → Option ℕ) (index : Index) (p : Places) (block
     → (chain : Chain) → chain.root ≡ root → chain.links.items ≡ links → IsWhy word_at index p block (Some chain)
 answers word_at index p block root links levels t chain same_root same_links = record {
   is_chain =
-    subst (λ (ls : List Link). IsChain word_at index p chain.root ls block) (sym same_links)
-    (subst (λ (r : RootWord). IsChain word_at index p r links block) (sym same_root)
-    (chain_is word_at index p root links block (and_left (is_chain word_at index p root links block) _ t)));
+      subst (λ (ls : List Link). IsChain word_at index p chain.root ls block) (sym same_links)
+      (subst (λ (r : RootWord). IsChain word_at index p r links block) (sym same_root)
+      (chain_is word_at index p root links block (and_left (is_chain word_at index p root links block) _ t)));
   shortest = λ r ls c.
-    let rest = and_right (is_chain word_at index p root links block) _ t in
-    let long : level levels block ≤ length (map (λ l. l.holder) ls) =
-        chain_long (search_graph word_at index p) levels block (map (λ l. l.holder) ls) (and_left (are_levels (search_graph word_at index p) levels) _ rest) (chain_blocks word_at index p r ls block c) in
-    let few : length links ≤ level levels block = leb-true (length links) (level levels block) (and_right (are_levels (search_graph word_at index p) levels) _ rest) in
-    let many : length (map (λ l. l.holder) ls) ≡ length ls = length-map ls (λ l. l.holder) in
-    let same : length chain.links.items ≡ length links = ap (λ l. length l) same_links in
-    omega arith;
+      let rest = and_right (is_chain word_at index p root links block) _ t in
+      let long : level levels block ≤ length (map (λ l. l.holder) ls) =
+      chain_long (search_graph word_at index p) levels block (map (λ l. l.holder) ls) (and_left (are_levels (search_graph word_at index p) levels) _ rest) (chain_blocks word_at index p r ls block c) in
+      let few : length links ≤ level levels block = leb-true (length links) (level levels block) (and_right (are_levels (search_graph word_at index p) levels) _ rest) in
+      let many : length (map (λ l. l.holder) ls) ≡ length ls = length-map ls (λ l. l.holder) in
+      let same : length chain.links.items ≡ length links = ap (λ l. length l) same_links in
+      omega arith;
 }
 
 -- a block outside a set that chains don't leave is leaked

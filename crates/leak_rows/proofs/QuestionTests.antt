@@ -45,18 +45,26 @@ bad_address text t = λ a q. absurd (let e : true ≡ false = sym (passes text a
 
 -- what the text writes
 pub address_is : (digits : List ℕ) (n m : ℕ) → is_address (codes "0x" ++ digits) ≡ true → n ≡ value_of digits → IsAddress (codes "0x" ++ digits) m ↔ (m ≡ n)
-address_is digits n m t e =
-    ((λ q. q.5 ∙ ap value_of (sym (ap (drop {A = ℕ} 2) q.1)) ∙ sym e),
-    (λ s. (digits, refl, leb-true 1 (length digits) (and_left (nat_le 1 (length digits)) _ rest), leb-true (length digits) 16 (and_left (nat_le (length digits) 16) _ (and_right (nat_le 1 (length digits)) _ rest)),
-        and_right (nat_le (length digits) 16) _ (and_right (nat_le 1 (length digits)) _ rest), s ∙ e)))
+address_is digits n m t e = (
+  (λ q. q.5 ∙ ap value_of (sym (ap (drop {A = ℕ} 2) q.1)) ∙ sym e),
+  (λ s. (
+    digits,
+    refl,
+    leb-true 1 (length digits) (and_left (nat_le 1 (length digits)) _ rest),
+    leb-true (length digits) 16 (and_left (nat_le (length digits) 16) _ (and_right (nat_le 1 (length digits)) _ rest)),
+    and_right (nat_le (length digits) 16) _ (and_right (nat_le 1 (length digits)) _ rest),
+    s ∙ e,
+  )),
+)
   where
     rest : (nat_le 1 (length digits) && (nat_le (length digits) 16 && list_all is_digit digits)) ≡ true
     rest = t
 
 pub address_at : (o : Option Text) (digits : List ℕ) (n m : ℕ) → o ≡ Some (codes "0x" ++ digits) → is_address (codes "0x" ++ digits) ≡ true → n ≡ value_of digits → IsSomeAnd o (λ text. IsAddress text m) ↔ (m ≡ n)
-address_at o digits n m e t v =
-    ((λ q. (address_is digits n m t v).0 (subst (λ (x : Option Text). IsSomeAnd x (λ text. IsAddress text m)) e q)),
-    (λ s. subst (λ (x : Option Text). IsSomeAnd x (λ text. IsAddress text m)) (sym e) ((address_is digits n m t v).1 s)))
+address_at o digits n m e t v = (
+  (λ q. (address_is digits n m t v).0 (subst (λ (x : Option Text). IsSomeAnd x (λ text. IsAddress text m)) e q)),
+  (λ s. subst (λ (x : Option Text). IsSomeAnd x (λ text. IsAddress text m)) (sym e) ((address_is digits n m t v).1 s)),
+)
 
 pub good_address : (o : Option Text) (digits : List ℕ) (n : ℕ) → o ≡ Some (codes "0x" ++ digits) → is_address (codes "0x" ++ digits) ≡ true → n ≡ value_of digits → IsSomeAnd o IsBadAddress → ⊥
 good_address o digits n e t v q = subst (λ (x : Option Text). IsSomeAnd x IsBadAddress) e q n ((address_is digits n n t v).1 refl)
@@ -101,15 +109,17 @@ pub record HasWhy (name : Text) (rows : List Row) (paths : List Text) (address :
 
 why_is : (name : Text) (rows : List Row) (paths : List Text) (address : ℕ) (w : Reads) (r : Request) → HasWhy name rows paths address w → IsRequest name rows r ↔ IsWhyAsked paths address w r
 why_is name rows paths address w (Search r) h = ((λ q. not_why r.options.two (sym q.two ∙ h.named)), (λ q. absurd q))
-why_is name rows paths address w (Why r) h =
-    ((λ q. record {
-      two_is = q.1.two;
-      paths_are = paths_from rows (path_ids false) paths r.paths.items h.there q.1.paths;
-      address_is = (address_at (first_of address_id rows) h.digits address r.address h.text h.good h.value).0 q.1.address;
-      reading = reads_from rows w r.options h.reads q.1.reading q.1.ends q.1.freed q.1.links q.1.slack q.1.unwritable q.1.core_limit q.1.log_limit;
-      signs = record { check = q.1.check; other_heap = q.1.other_heap; strict = q.1.strict };
-    }),
-    (λ q. (h.named, record {
+why_is name rows paths address w (Why r) h = (
+  (λ q. record {
+    two_is = q.1.two;
+    paths_are = paths_from rows (path_ids false) paths r.paths.items h.there q.1.paths;
+    address_is = (address_at (first_of address_id rows) h.digits address r.address h.text h.good h.value).0 q.1.address;
+    reading = reads_from rows w r.options h.reads q.1.reading q.1.ends q.1.freed q.1.links q.1.slack q.1.unwritable q.1.core_limit q.1.log_limit;
+    signs = record { check = q.1.check; other_heap = q.1.other_heap; strict = q.1.strict };
+  }),
+  (λ q. (
+    h.named,
+    record {
       two = q.two_is;
       paths = paths_to rows (path_ids false) paths r.paths.items h.there q.paths_are;
       address = (address_at (first_of address_id rows) h.digits address r.address h.text h.good h.value).1 q.address_is;
@@ -124,7 +134,9 @@ why_is name rows paths address w (Why r) h =
       strict = q.signs.strict;
       core_limit = q.reading.core_limit;
       log_limit = q.reading.log_limit;
-    })))
+    },
+  )),
+)
 why_is name rows paths address w (Holders r) h = ((λ q. why_holders (sym h.named ∙ q.0)), (λ q. absurd q))
 why_is name rows paths address w (Grow r) h = ((λ q. why_grow (sym h.named ∙ q.0)), (λ q. absurd q))
 
@@ -173,9 +185,12 @@ sees_why words paths address w list digits numbers taken q lists good value =
 -- an address that is none
 why_address : (name : Text) (rows : List Row) (paths : List Text) (text : Text) → name ≡ why_name → map (λ id. first_of id rows) (path_ids false) ≡ map Some paths → first_of address_id rows ≡ Some text
     → is_address text ≡ false → list_in rows ≡ None → IsRefusedFor name rows fault.Address
-why_address name rows paths text named there is bad list = record { request = no_request; some = λ e. cc;
-    is = inl (named, (lacks, (None, subst (λ (o : Option Text). IsListedBy o None) (sym list) refl), subst (λ (o : Option Text). IsSomeAnd o IsBadAddress) (sym is) (bad_address text bad)));
-    only = λ f q. only f (why_refusal name rows f named q) }
+why_address name rows paths text named there is bad list = record {
+  request = no_request;
+  some = λ e. cc;
+  is = inl (named, (lacks, (None, subst (λ (o : Option Text). IsListedBy o None) (sym list) refl), subst (λ (o : Option Text). IsSomeAnd o IsBadAddress) (sym is) (bad_address text bad)));
+  only = λ f q. only f (why_refusal name rows f named q);
+}
   where
     lacks : WhyLacks rows → ⊥
     lacks l = why_lacks rows paths text there is l
@@ -237,9 +252,9 @@ refuses_why_list words paths text address d v1 v2 v3 v4 v5 numbers taken q is =
 pub sees_grow : (words : List Text) (paths : List Text) (strict : Bool) (numbers : Values) → fault_of command_line (codes "leak_find" ∷ words) ≡ []
     → seen grow_ids (codes "strict" ∷ []) (codes "leak_find" ∷ words) ≡ Some (grow_name, (map Some paths, (flag_value strict ∷ [], numbers))) → AskFor words (IsGrowAsked paths strict)
 sees_grow words paths strict numbers taken q = record {
-    request = λ r. let a = request_at all r s.taken in ((λ x. from r (a.0 x)), (λ x. a.1 (to r x)));
-    taken = λ f x. ⊎_elim (λ e. fault_is f (refusal f e)) (λ e. e) (refused_at all f s.taken x);
-  }
+  request = λ r. let a = request_at all r s.taken in ((λ x. from r (a.0 x)), (λ x. a.1 (to r x)));
+  taken = λ f x. ⊎_elim (λ e. fault_is f (refusal f e)) (λ e. e) (refused_at all f s.taken x);
+}
   where
     all : List Text
     all = codes "leak_find" ∷ words

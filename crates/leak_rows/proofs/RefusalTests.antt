@@ -120,8 +120,12 @@ refuses_list words two paths n text d a b c more taken q numbers is =
 -- a search that is to check another heap
 search_check : (name : Text) (rows : List Row) (two : Bool) (paths : List Text) (n : Planned) → name ≡ name_of two → map (λ id. first_of id rows) (path_ids two) ≡ map Some paths
     → HasPlan rows n → list_in rows ≡ None → ChecksOtherHeap rows → IsRefusedFor name rows fault.Check
-search_check name rows two paths n named there plan list checks = record { request = no_request; some = λ e. cc;
-    is = inr (inr (inr (search_is_other name two named, (lacks, (None, subst (λ (o : Option Text). IsListedBy o None) (sym list) refl), checks)))); only = λ f q. only f (search_refusal name rows two f named q) }
+search_check name rows two paths n named there plan list checks = record {
+  request = no_request;
+  some = λ e. cc;
+  is = inr (inr (inr (search_is_other name two named, (lacks, (None, subst (λ (o : Option Text). IsListedBy o None) (sym list) refl), checks))));
+  only = λ f q. only f (search_refusal name rows two f named q);
+}
   where
     lacks : Lacks name rows → ⊥
     lacks l = search_lacks name rows two paths n named there plan l
@@ -148,4 +152,4 @@ refuses_check words two paths n v1 v2 v3 v4 v5 v8 a b c taken q numbers =
     let all : List Text = codes "leak_find" ∷ words in
     let s : IsSeen (path_ids two) search_ids all (name_of two) (map Some paths) (None ∷ v1 ∷ v2 ∷ v3 ∷ v4 ∷ v5 ∷ flag_value true ∷ flag_value true ∷ v8 ∷ []) (Some a ∷ Some b ∷ Some c ∷ []) = sees (path_ids two) search_ids all _ _ _ _ taken q in
     refused words fault.Check s.taken (search_check (name_in all) (rows_in all) two paths n s.named s.there_is (plan_seen (rows_in all) n a b c s.numbers_are numbers) (value_at 0 _ _ s.values_are)
-        (record { check = value_at 6 _ _ s.values_are; other_heap = value_at 7 _ _ s.values_are }))
+    (record { check = value_at 6 _ _ s.values_are; other_heap = value_at 7 _ _ s.values_are }))

@@ -48,7 +48,11 @@ const LOGS: [LogError; 4] = [
 #[test]
 fn texts_of_inputs_are_those_of_display(rt: HostRuntime) -> Result<(), Fail> {
     let alloc = rt.alloc();
-    let mut errors = vec![in alloc; FindError::NotPrefix, FindError::TooMany, FindError::NoMemory]?;
+    let mut errors = vec![in alloc;
+        FindError::NotPrefix,
+        FindError::TooMany,
+        FindError::NoMemory,
+    ]?;
     for error in CORES {
         errors.push(FindError::Core(1, error))?;
     }

@@ -19,15 +19,35 @@ fn messages_of_failures(rt: HostRuntime) -> Result<(), Fail> {
     let read = ReadFault::TooLong;
     says(&rt, &Failure::Word, "leak_find: a word is not UTF-8\n")?;
     says(&rt, &Failure::NoMemory, "leak_find: out of memory\n")?;
-    says(&rt, &Failure::Read(2, path.clone()?, read), "leak_find: reader 2: too long: a\\n\u{e9}\\\\\n")?;
-    says(&rt, &Failure::Open(path, Reason::Folder), "leak_find: cannot open a\\n\u{e9}\\\\: is a folder\n")?;
+    says(
+        &rt,
+        &Failure::Read(2, path.clone()?, read),
+        "leak_find: reader 2: too long: a\\n\u{e9}\\\\\n",
+    )?;
+    says(
+        &rt,
+        &Failure::Open(path, Reason::Folder),
+        "leak_find: cannot open a\\n\u{e9}\\\\: is a folder\n",
+    )?;
     let unnamed = Failure::Open("a".to_string(alloc)?, Reason::Other);
     says(&rt, &unnamed, "leak_find: cannot open a\n")?;
     let links = Failure::Open("a".to_string(alloc)?, Reason::Links);
-    says(&rt, &links, "leak_find: cannot open a: too many symbolic links\n")?;
+    says(
+        &rt,
+        &links,
+        "leak_find: cannot open a: too many symbolic links\n",
+    )?;
     let words = "error: no\n".to_string(alloc)?;
-    says(&rt, &Failure::Usage(UsageFault::Words(words)), "error: no\n")?;
-    says(&rt, &Failure::Usage(UsageFault::Check), "leak_find: --check: not with --other-heap\n")?;
+    says(
+        &rt,
+        &Failure::Usage(UsageFault::Words(words)),
+        "error: no\n",
+    )?;
+    says(
+        &rt,
+        &Failure::Usage(UsageFault::Check),
+        "leak_find: --check: not with --other-heap\n",
+    )?;
     Ok(())
 }
 
