@@ -23,7 +23,7 @@ pub returns-in-Why-clause-ok : goal.returns-in-Why-clause-ok
 returns-in-Why-clause-ok g c = λ some.
     let asked = subst (IsRequestOf (map string_bytes c.args.words.now)) c.in-Why.is c.in_ok-request.ensures.ok in
     IfOk-weaker c.ask_files.result _ _
-    (λ status told. record { request = Why c.in-Why.request; asked = asked; answers = record { files = told.files; opened = told.opened; holds = (told.holds, refl) } }) c.ask_files.ensures.ok
+    (λ status told. record { request = Why c.in-Why.request; asked = asked; answers = told }) c.ask_files.ensures.ok
 
 pub returns-in-Why-clause-refused : goal.returns-in-Why-clause-refused
 returns-in-Why-clause-refused g c = λ some.
