@@ -17,8 +17,10 @@ use Rattle.leak_holding.specs.Held.{FindsHeld}
 use Rattle.leak_holding.specs.Holders.{FindsHolders}
 use Rattle.leak_find.specs.Grow.{RunsGrow}
 use Rattle.leak_find.specs.Holders.{RunsHolders, Tells, earlier_in, limit_of_held}
-use Rattle.leak_find.specs.Run.{input_at, limit_at, signs_that_count, status_by, warnings_by}
-use Rattle.leak_find.specs.Why.{RunsWhy, status_by_held}
+use Rattle.leak_find.specs.Inputs.{input_at}
+use Rattle.leak_find.specs.Run.{limit_at, signs_that_count, status_by, warnings_by}
+use Rattle.leak_find.specs.Streams.{by_bytes_held, by_bytes_left}
+use Rattle.leak_find.specs.Why.{RunsWhy, leaked_if_not}
 use Rattle.leak_laws.specs.Runs.{AreAlike, AskAlike, HoldAlike}
 use Rattle.leak_laws.proofs.RunLemmas.{inputs_are_one}
 use Rattle.leak_laws.proofs.SameGrowth.{one_growth}
@@ -40,7 +42,8 @@ same_told (Some question) a b core log since x y ask f g =
 
 pub holders_runs_are_one : (a b : Options) (question : Option Question) (before after readers left : List (Option (List ℕ))) (held holds heard hears other others told tells : Option (List ℕ)) (status same : ℕ)
     → AskAlike a b → length before ≡ length readers → HoldAlike (length before) before readers
-    → RunsHolders a question before after held holds heard hears status → RunsHolders b question readers left other others told tells same
+    → RunsHolders by_bytes_left by_bytes_held by_bytes_held a question before after held holds heard hears status
+    → RunsHolders by_bytes_left by_bytes_held by_bytes_held b question readers left other others told tells same
     → AreAlike held holds other others status same
 holders_runs_are_one a b question before after readers left held holds heard hears other others told tells status same ask many hold f g =
     let inputs : f.has_held.inputs ≡ g.has_held.inputs =
@@ -65,7 +68,8 @@ holders_runs_are_one a b question before after readers left held holds heard hea
 
 pub grow_runs_are_one : (a b : GrowOptions) (before after readers left : List (Option (List ℕ))) (held holds heard hears other others told tells : Option (List ℕ)) (status same : ℕ)
     → a.strict ≡ b.strict → HoldAlike 2 before readers
-    → RunsGrow a before after held holds heard hears status → RunsGrow b readers left other others told tells same
+    → RunsGrow by_bytes_left by_bytes_held by_bytes_held a before after held holds heard hears status
+    → RunsGrow by_bytes_left by_bytes_held by_bytes_held b readers left other others told tells same
     → AreAlike held holds other others status same
 grow_runs_are_one a b before after readers left held holds heard hears other others told tells status same strict hold f g =
     let inputs : f.has_grown.inputs ≡ g.has_grown.inputs =
@@ -81,11 +85,12 @@ grow_runs_are_one a b before after readers left held holds heard hears other oth
 
 -- ---- why a block is held
 
-pub why_runs_are_one : (a b : Options) (address : ℕ) (before after readers left : List (Option (List ℕ))) (held holds other others : Option (List ℕ)) (status same : ℕ)
+pub why_runs_are_one : (a b : Options) (address : ℕ) (before after readers left : List (Option (List ℕ))) (held holds heard hears other others told tells : Option (List ℕ)) (status same : ℕ)
     → AskAlike a b → HoldAlike 2 before readers
-    → RunsWhy a address before after held holds status → RunsWhy b address readers left other others same
+    → RunsWhy by_bytes_left by_bytes_held by_bytes_held a address before after held holds heard hears status
+    → RunsWhy by_bytes_left by_bytes_held by_bytes_held b address readers left other others told tells same
     → status ≡ same
-why_runs_are_one a b address before after readers left held holds other others status same ask hold f g =
+why_runs_are_one a b address before after readers left held holds heard hears other others told tells status same ask hold f g =
     let inputs : f.has_told.inputs ≡ g.has_told.inputs =
     inputs_are_one (limit_at a) (limit_at b) before after readers left f.has_told.inputs g.has_told.inputs (f.has_told.count ∙ sym g.has_told.count)
     (subst (λ (n : ℕ). HoldAlike n before readers) (sym f.has_told.count) hold) f.has_told.read g.has_told.read in
@@ -93,4 +98,12 @@ why_runs_are_one a b address before after readers left held holds other others s
     let two = subst (λ (r : Distances). TellsWhy (input_at f.has_told.inputs 0) (input_at f.has_told.inputs 1) r b.skip address g.why) (sym ask.reading) one in
     let three = subst (λ (s : Skip). TellsWhy (input_at f.has_told.inputs 0) (input_at f.has_told.inputs 1) (distances_of a.reading) s address g.why) (sym ask.skip) two in
     let same_held = as_long (input_at f.has_told.inputs 0) (input_at f.has_told.inputs 1) (distances_of a.reading) a.skip address f.why g.why f.has_told.tells three in
-    f.status_is ∙ ap status_by_held same_held.held ∙ sym g.status_is
+    let signs_too = subst (λ (is : List (List ℕ)). AreSigns (input_at is 0 ∷ input_at is 1 ∷ []) g.why.signs.items) (sym inputs) g.has_told.signs in
+    let signs : f.why.signs.items ≡ g.why.signs.items =
+    one_signs (input_at f.has_told.inputs 0 ∷ input_at f.has_told.inputs 1 ∷ []) f.why.signs.items g.why.signs.items f.has_told.signs signs_too in
+    f.status_is
+    ∙ ap (λ (h : Bool). status_by a.strict (leaked_if_not h) (warnings_by a f.why.signs.items)) same_held.held
+    ∙ ap (λ (ss : List Signs). status_by a.strict (leaked_if_not g.why.held) (warnings_by a ss)) signs
+    ∙ ap (λ (heap : Bool). status_by a.strict (leaked_if_not g.why.held) (warnings_of (map (signs_that_count heap) g.why.signs.items))) ask.other_heap
+    ∙ ap (λ (s : Bool). status_by s (leaked_if_not g.why.held) (warnings_by b g.why.signs.items)) ask.strict
+    ∙ sym g.status_is

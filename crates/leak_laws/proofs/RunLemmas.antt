@@ -1,8 +1,7 @@
 -- A run reads its inputs whole, and its report and status are functions of these.
-use Rattle.std.proofs.Common.{◌≡◌, ℕ, zero, suc, ◌<◌, Bool, true, false, List, [], ◌∷◌, ◌++◌, length, get_or, map, Option, None, Some, refl, sym, ap, subst, ◌∙◌, arith, append-nil}
+use Rattle.std.proofs.Common.{◌≡◌, ℕ, zero, suc, ◌<◌, Bool, true, false, List, [], ◌∷◌, ◌++◌, length, map, Option, None, Some, refl, sym, ap, subst, ◌∙◌, arith, append-nil}
 use Rattle.std.specs.Prelude.{nat_lt, if◌then◌else◌}
 use Rattle.std.specs.Io.KnownBytes.{Appends, Consumes, IsAtEnd}
-use Rattle.std.proofs.lemmas.List.{same_lists}
 use Rattle.leak_index.specs.Leads.{Distances}
 use Rattle.leak_index.specs.Readings.{distances_of}
 use Rattle.leak_roots.specs.declared.skip.Skip.{Skip}
@@ -14,7 +13,9 @@ use Rattle.leak_request.specs.declared.options.Options.{Options}
 use Rattle.leak_request.specs.Requests.{file_count}
 use Rattle.leak_search.specs.Search.{FindsOne}
 use Rattle.leak_search.specs.SearchTwo.{FindsTwo}
-use Rattle.leak_find.specs.Run.{AreWithin, Finds, Runs, input_at, left_in, limit_at, signs_that_count, status_by, warnings_by}
+use Rattle.leak_find.specs.Inputs.{AreRead, input_at}
+use Rattle.leak_find.specs.Run.{Finds, Runs, limit_at, signs_that_count, status_by, warnings_by}
+use Rattle.leak_find.specs.Streams.{by_bytes_held, by_bytes_left}
 use Rattle.leak_laws.specs.OneLine.{AreOfOneLine}
 use Rattle.leak_laws.specs.Reports.{IsReport, told_by_one, told_by_two}
 use Rattle.leak_laws.specs.Runs.{AreAlike, AskAlike, HoldAlike, IsRunReport}
@@ -33,24 +34,20 @@ whole all bytes (Some xs) (Some ys) e taken end =
     let same : xs ≡ all = cc in
     sym (append-nil bytes) ∙ ap (λ (t : List ℕ). bytes ++ t) (sym end) ∙ sym taken ∙ same
 
-default : (xs : List (List ℕ)) (i : ℕ) (d : List ℕ) → i < length xs → get_or xs i d ≡ get_or xs i []
-default [] i d low = absurd (omega arith)
-default (x ∷ xs) zero d low = refl
-default (x ∷ xs) (suc i) d low = default xs i d (omega arith)
-
 pub inputs_are_one : (limit other : ℕ → ℕ) (before after readers left : List (Option (List ℕ))) (inputs others : List (List ℕ)) → length inputs ≡ length others → HoldAlike (length inputs) before readers
-    → AreWithin limit before after inputs → AreWithin other readers left others → inputs ≡ others
-inputs_are_one limit other before after readers left inputs others n hold p q = same_lists inputs others n (λ i d low. each i d low)
-  where
-    each : (i : ℕ) (d : List ℕ) → i < length inputs → get_or inputs i d ≡ get_or others i d
-    each i d low =
-        let h = hold i low in
-        let w = p.each i low in
-        let v = q.each i (omega (arith, n)) in
-        default inputs i d low
-        ∙ whole h.0 (input_at inputs i) (left_in before i) (left_in after i) h.1 w.taken w.end
-        ∙ sym (whole h.0 (input_at others i) (left_in readers i) (left_in left i) h.2 v.taken v.end)
-        ∙ sym (default others i d (omega (arith, n)))
+    → AreRead by_bytes_left limit before after inputs → AreRead by_bytes_left other readers left others → inputs ≡ others
+inputs_are_one limit other before after readers left [] [] n hold p q = refl
+inputs_are_one limit other before after readers left [] (y ∷ ys) n hold p q = absurd (omega (arith, n))
+inputs_are_one limit other before after readers left (x ∷ xs) [] n hold p q = absurd (omega (arith, n))
+inputs_are_one limit other [] after readers left (x ∷ xs) (y ∷ ys) n hold p q = absurd p
+inputs_are_one limit other (f ∷ fs) [] readers left (x ∷ xs) (y ∷ ys) n hold p q = absurd p
+inputs_are_one limit other (f ∷ fs) (l ∷ ls) [] left (x ∷ xs) (y ∷ ys) n hold p q = absurd q
+inputs_are_one limit other (f ∷ fs) (l ∷ ls) (g ∷ gs) [] (x ∷ xs) (y ∷ ys) n hold p q = absurd q
+inputs_are_one limit other (f ∷ fs) (l ∷ ls) (g ∷ gs) (m ∷ ms) (x ∷ xs) (y ∷ ys) n hold p q =
+    let h = hold 0 (omega arith) in
+    let first : x ≡ y = whole h.0 x f l h.1 p.0.taken p.0.end ∙ sym (whole h.0 y g m h.2 q.0.taken q.0.end) in
+    let rest : xs ≡ ys = inputs_are_one (λ i. limit (suc i)) (λ i. other (suc i)) fs ls gs ms xs ys (omega (arith, n)) (λ i low. hold (suc i) (omega (arith, low))) p.1 q.1 in
+    cc
 
 -- ---- reports
 
@@ -68,7 +65,8 @@ same_found true a b inputs x y ask f g =
 
 pub runs_are_one : (a b : Options) (before after readers left : List (Option (List ℕ))) (held holds heard hears other others told tells : Option (List ℕ)) (status same : ℕ)
     → AskAlike a b → HoldAlike (file_count a.two) before readers
-    → Runs a before after held holds heard hears status → Runs b readers left other others told tells same
+    → Runs by_bytes_left by_bytes_held by_bytes_held a before after held holds heard hears status
+    → Runs by_bytes_left by_bytes_held by_bytes_held b readers left other others told tells same
     → AreAlike held holds other others status same
 runs_are_one a b before after readers left held holds heard hears other others told tells status same ask hold f g =
     let inputs : f.has_found.inputs ≡ g.has_found.inputs =
@@ -105,7 +103,7 @@ told_lines true o inputs found f = (
 )
 
 pub runs_write_reports : (o : Options) (before after : List (Option (List ℕ))) (held holds heard hears : Option (List ℕ)) (status : ℕ)
-    → Runs o before after held holds heard hears status → (t : Told) × IsRunReport o held holds status t
+    → Runs by_bytes_left by_bytes_held by_bytes_held o before after held holds heard hears status → (t : Told) × IsRunReport o held holds status t
 runs_write_reports o before after held holds heard hears status f =
     let told = told_lines o.two o f.has_found.inputs f.found f.has_found.finds in (
       told.0,

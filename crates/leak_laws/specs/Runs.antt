@@ -1,10 +1,11 @@
 -- What a whole run of a search writes: lines that belong together; and two runs over the same bytes write the same.
-use Rattle.std.specs.Prelude.{◌≡◌, ◌<◌, ℕ, false, List, Option, Some, nat_lt, if◌then◌else◌}
+use Rattle.std.specs.Prelude.{◌≡◌, ◌<◌, ℕ, false, List, Option, None, Some, nat_lt, slice_index_or, if◌then◌else◌}
 use Rattle.std.specs.Io.KnownBytes.{Appends}
 use Rattle.leak_index.specs.Readings.{distances_of}
 use Rattle.leak_request.specs.declared.options.Options.{Options}
 use Rattle.leak_request.specs.Requests.{file_count}
-use Rattle.leak_find.specs.Run.{Runs, left_in}
+use Rattle.leak_find.specs.Run.{Runs}
+use Rattle.leak_find.specs.Streams.{by_bytes_held, by_bytes_left}
 use Rattle.leak_laws.specs.OneLine.{AreOfOneLine}
 use Rattle.leak_laws.specs.Together.{BelongTogether}
 use Rattle.leak_laws.specs.Told.{Told, told_text}
@@ -17,6 +18,10 @@ pub record AskAlike (a b : Options) : Type 0 where
   pub check : a.check ≡ b.check
   pub other_heap : a.other_heap ≡ b.other_heap
   pub strict : a.strict ≡ b.strict
+
+-- the bytes that the reader with the number, from 0, has left, if it tells them
+abbrev pub left_in : List (Option (List ℕ)) → ℕ → Option (List ℕ)
+left_in readers i = slice_index_or readers i None
 
 -- so many readers have the same bytes left as others, and tell them
 abbrev pub HoldAlike : ℕ → List (Option (List ℕ)) → List (Option (List ℕ)) → Type 0
@@ -37,7 +42,8 @@ abbrev pub RunsAreOne : Type 0
 RunsAreOne =
     (a b : Options) (before after readers left : List (Option (List ℕ))) (held holds heard hears other others told tells : Option (List ℕ)) (status same : ℕ)
     → AskAlike a b → HoldAlike (file_count a.two) before readers
-    → Runs a before after held holds heard hears status → Runs b readers left other others told tells same
+    → Runs by_bytes_left by_bytes_held by_bytes_held a before after held holds heard hears status
+    → Runs by_bytes_left by_bytes_held by_bytes_held b readers left other others told tells same
     → AreAlike held holds other others status same
 
 -- what was written has these lines, and the status is 1 if a block leaked, and else 0, unless warnings have a status of their own
@@ -50,4 +56,4 @@ pub record IsRunReport (o : Options) (held holds : Option (List ℕ)) (status : 
 abbrev pub RunsWriteReports : Type 0
 RunsWriteReports =
     (o : Options) (before after : List (Option (List ℕ))) (held holds heard hears : Option (List ℕ)) (status : ℕ)
-    → Runs o before after held holds heard hears status → (t : Told) × IsRunReport o held holds status t
+    → Runs by_bytes_left by_bytes_held by_bytes_held o before after held holds heard hears status → (t : Told) × IsRunReport o held holds status t
