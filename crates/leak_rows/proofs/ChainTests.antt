@@ -1,5 +1,5 @@
 -- Tests of chains of words by computing, and what they show.
-use Rattle.std.proofs.Common.{◌≡◌, ℕ, zero, suc, ◌+◌, ◌<◌, ◌≤◌, Bool, true, false, ◌&&◌, List, [], ◌∷◌, ◌++◌, length, map, get_or, Option, Some, None, slice_get, refl, sym, ap, subst, ◌∙◌, arith}
+use Rattle.std.proofs.Common.{◌≡◌, ℕ, ◌+◌, ◌≤◌, Bool, true, false, ◌&&◌, List, [], ◌∷◌, ◌++◌, length, map, Option, Some, None, slice_get, refl, sym, ap, subst, ◌∙◌, arith}
 use Rattle.std.specs.Prelude.{◌==◌, nat_le, codes}
 use Rattle.std.specs.Option.{option_map_or}
 use Rattle.std.proofs.lemmas.Bool.{leb-true, eqb-true}
@@ -9,14 +9,14 @@ use Rattle.leak_blocks.specs.declared.block.Block.{Block}
 use Rattle.leak_index.specs.Hits.{Index, hits_of}
 use Rattle.leak_notes.specs.declared.sets.RegisterSet.{RegisterSet}
 use Rattle.leak_roots.specs.Places.{Places, memory_places}
-use Rattle.leak_marks.specs.Lists.{Has, has}
+use Rattle.leak_marks.specs.Lists.{has}
 use Rattle.leak_marks.proofs.ListLemmas.{of_has, to_has}
 use Rattle.leak_why.specs.declared.chain.Chain.{Chain}
 use Rattle.leak_why.specs.declared.chain.Link.{Link}
 use Rattle.leak_why.specs.declared.chain.RootPlace.{RootPlace}
 use Rattle.leak_why.specs.declared.chain.RootPlace.TheVariants.{Register, Address}
 use Rattle.leak_why.specs.declared.chain.RootWord.{RootWord}
-use Rattle.leak_why.specs.Chains.{IsChain, IsLink, IsRoot, IsWhy, LiesIn, StandsAt, led_at, search_graph}
+use Rattle.leak_why.specs.Chains.{IsChain, IsLink, IsWhy, StandsAt, led_at, search_graph}
 use Rattle.leak_why.specs.Text.{links_text, numbered_line, root_line, text_of}
 use Rattle.leak_why.proofs.WordLemmas.{chain_blocks}
 use Rattle.leak_rows.proofs.GraphTests.{are_levels, chain_inside, chain_long, is_closed, level}
@@ -86,17 +86,17 @@ pub answers : (word_at : ℕ → Option ℕ) (index : Index) (p : Places) (block
     → (chain : Chain) → chain.root ≡ root → chain.links.items ≡ links → IsWhy word_at index p block (Some chain)
 answers word_at index p block root links levels t chain same_root same_links = record {
   is_chain =
-    subst (λ (ls : List Link). IsChain word_at index p chain.root ls block) (sym same_links)
-    (subst (λ (r : RootWord). IsChain word_at index p r links block) (sym same_root)
-    (chain_is word_at index p root links block (and_left (is_chain word_at index p root links block) _ t)));
+      subst (λ (ls : List Link). IsChain word_at index p chain.root ls block) (sym same_links)
+      (subst (λ (r : RootWord). IsChain word_at index p r links block) (sym same_root)
+      (chain_is word_at index p root links block (and_left (is_chain word_at index p root links block) _ t)));
   shortest = λ r ls c.
-    let rest = and_right (is_chain word_at index p root links block) _ t in
-    let long : level levels block ≤ length (map (λ l. l.holder) ls) =
-        chain_long (search_graph word_at index p) levels block (map (λ l. l.holder) ls) (and_left (are_levels (search_graph word_at index p) levels) _ rest) (chain_blocks word_at index p r ls block c) in
-    let few : length links ≤ level levels block = leb-true (length links) (level levels block) (and_right (are_levels (search_graph word_at index p) levels) _ rest) in
-    let many : length (map (λ l. l.holder) ls) ≡ length ls = length-map ls (λ l. l.holder) in
-    let same : length chain.links.items ≡ length links = ap (λ l. length l) same_links in
-    omega arith;
+      let rest = and_right (is_chain word_at index p root links block) _ t in
+      let long : level levels block ≤ length (map (λ l. l.holder) ls) =
+      chain_long (search_graph word_at index p) levels block (map (λ l. l.holder) ls) (and_left (are_levels (search_graph word_at index p) levels) _ rest) (chain_blocks word_at index p r ls block c) in
+      let few : length links ≤ level levels block = leb-true (length links) (level levels block) (and_right (are_levels (search_graph word_at index p) levels) _ rest) in
+      let many : length (map (λ l. l.holder) ls) ≡ length ls = length-map ls (λ l. l.holder) in
+      let same : length chain.links.items ≡ length links = ap (λ l. length l) same_links in
+      omega arith;
 }
 
 -- a block outside a set that chains don't leave is leaked

@@ -40,7 +40,7 @@ chain_inside g set b [] t c = kept_inside g set b c.0 (each_passes (is_kept g se
 chain_inside g set b (s ∷ before) t c =
     let source : Has set s = chain_inside g set s before t c.2 in
     kept_inside g set b c.0 (each_passes (is_kept g set) (targets_of g s) b
-        (each_passes (λ r. list_all (is_kept g set) (targets_of g r)) set s (and_right (list_all (is_kept g set) g.first) _ t) source) c.1)
+    (each_passes (λ r. list_all (is_kept g set) (targets_of g r)) set s (and_right (list_all (is_kept g set) g.first) _ t) source) c.1)
 
 -- ---- levels
 
@@ -115,8 +115,8 @@ each_reached g done (c ∷ blocks) reached t b h =
     ⊎_elim
     (λ s. subst (Reach g) s this)
     (λ r. each_reached g (c ∷ done) blocks
-        (λ x k. ⊎_elim (λ s. subst (Reach g) s this) (λ m. reached x m) (at_head c done x k))
-        (and_right (is_led g done c) (are_led g (c ∷ done) blocks) t) b r)
+    (λ x k. ⊎_elim (λ s. subst (Reach g) s this) (λ m. reached x m) (at_head c done x k))
+    (and_right (is_led g done c) (are_led g (c ∷ done) blocks) t) b r)
     (at_head c blocks b h)
 
 -- the list has all blocks that chains reach, and no others
@@ -124,9 +124,10 @@ abbrev pub is_reached : Graph → List ℕ → Bool
 is_reached g blocks = is_closed g blocks && are_led g [] blocks
 
 pub reach_is : (g : Graph) (blocks : List ℕ) (b : ℕ) → is_reached g blocks ≡ true → Reach g b ↔ (has blocks b ≡ true)
-reach_is g blocks b t =
-    ((λ r. to_has blocks b (chain_inside g blocks b r.0 (and_left (is_closed g blocks) (are_led g [] blocks) t) r.1)),
-    (λ h. each_reached g [] blocks (λ x k. absurd (none_has x k)) (and_right (is_closed g blocks) (are_led g [] blocks) t) b (of_has blocks b h)))
+reach_is g blocks b t = (
+  (λ r. to_has blocks b (chain_inside g blocks b r.0 (and_left (is_closed g blocks) (are_led g [] blocks) t) r.1)),
+  (λ h. each_reached g [] blocks (λ x k. absurd (none_has x k)) (and_right (is_closed g blocks) (are_led g [] blocks) t) b (of_has blocks b h)),
+)
 
 -- ---- tests of all blocks
 
@@ -146,9 +147,9 @@ pub tests_are : (g : Graph) (blocks : List ℕ) (n : ℕ) → is_reached g block
 tests_are g blocks n t = record {
   len = length-map-range_with_len (has blocks) 0 n;
   each = λ i h.
-    let at : slice_get (tests_of blocks n) i ≡ Some (has blocks i) = test_at (has blocks) n 0 i i h (omega arith) in
-    let is : Reach g i ↔ (has blocks i ≡ true) = reach_is g blocks i t in
-    ((λ s. is.1 (some_true (has blocks i) true (sym at ∙ s))), (λ r. at ∙ ap Some (is.0 r)));
+      let at : slice_get (tests_of blocks n) i ≡ Some (has blocks i) = test_at (has blocks) n 0 i i h (omega arith) in
+      let is : Reach g i ↔ (has blocks i ≡ true) = reach_is g blocks i t in
+      ((λ s. is.1 (some_true (has blocks i) true (sym at ∙ s))), (λ r. at ∙ ap Some (is.0 r)));
 }
 
 same_bool : (x y : Bool) → (x ≡ true → y ≡ true) → (y ≡ true → x ≡ true) → x ≡ y
@@ -175,8 +176,8 @@ same_tests P s t n a b = go s t (a.len ∙ sym b.len)
 pub one_list : (g : Graph) (blocks : List ℕ) (claims : List (List ℕ)) → is_reached g blocks ≡ true → list_all (λ b. times b blocks == 1) blocks ≡ true → claims ≡ blocks ∷ [] → Partitions claims (Reach g)
 one_list g blocks claims t each is = record {
   once = λ b r.
-    let h : Has blocks b = of_has blocks b ((reach_is g blocks b t).0 r) in
-    ap (λ (l : List ℕ). times b l) whole ∙ eqb-true (times b blocks) 1 (each_passes (λ x. times x blocks == 1) blocks b each h);
+      let h : Has blocks b = of_has blocks b ((reach_is g blocks b t).0 r) in
+      ap (λ (l : List ℕ). times b l) whole ∙ eqb-true (times b blocks) 1 (each_passes (λ x. times x blocks == 1) blocks b each h);
   only = λ b h. (reach_is g blocks b t).1 (to_has blocks b (subst (λ (l : List ℕ). Has l b) whole h));
 }
   where

@@ -1,9 +1,8 @@
 -- Chunks of a heap one after another, and whether their blocks fit.
-use Rattle.std.proofs.Common.{◌≡◌, ℕ, zero, suc, ◌+◌, ◌-◌, ◌*◌, ◌/◌, ◌%◌, ◌^◌, ◌<◌, ◌≤◌, max, bit_and, Bool, true, false, not, ◌&&◌, ◌||◌, List, [], ◌∷◌, ◌++◌, length, take, drop, map, Option, Some, None, refl, sym, ap, subst, ◌∙◌, append_assoc, arith, if◌then◌else◌}
+use Rattle.std.proofs.Common.{◌≡◌, ℕ, zero, suc, ◌+◌, ◌-◌, ◌*◌, ◌/◌, ◌%◌, ◌^◌, ◌<◌, ◌≤◌, bit_and, Bool, true, false, not, ◌||◌, List, [], ◌∷◌, ◌++◌, length, take, drop, map, Option, Some, refl, sym, ap, subst, ◌∙◌, append_assoc, arith, if◌then◌else◌}
 use Rattle.std.specs.Prelude.{◌==◌}
 use Rattle.std.specs.Int.{w64, to_le_bytes, from_le_bytes}
 use Rattle.std.specs.List.{AllByRecursion}
-use Rattle.std.specs.Option.{option_map_or}
 use Rattle.std.proofs.lemmas.Bool.{eq-eqb, ne_eqb}
 use Rattle.std.proofs.lemmas.List.{drop_at, length-append}
 use Rattle.std.proofs.lemmas.Nat.{and_mask, and_mod, and_le_r, from_le_bytes-to_le_bytes_8}
@@ -50,7 +49,7 @@ second_is : (before word : ℕ) (rest : List ℕ) → word < 2 ^ 64 → number_a
 unfolding number_at
 second_is before word rest h =
     ap (λ (l : List ℕ). from_le_bytes w64 (take 8 l))
-        (ap (drop {A = ℕ} 8) (append_assoc (to_le_bytes w64 before) (to_le_bytes w64 word) rest) ∙ drop_at (to_le_bytes w64 before) (to_le_bytes w64 word ++ rest) 8 (bytes_long before))
+    (ap (drop {A = ℕ} 8) (append_assoc (to_le_bytes w64 before) (to_le_bytes w64 word) rest) ∙ drop_at (to_le_bytes w64 before) (to_le_bytes w64 word ++ rest) 8 (bytes_long before))
     ∙ from_le_bytes-to_le_bytes_8 word h
 
 -- ---- one chunk
@@ -128,9 +127,9 @@ chunk_fits word_at at top previous c chunks aligned even fits is all run =
     let here : word_at (at + 16 - 8) ≡ Some (size_word previous c) = subst (λ (a : ℕ). word_at a ≡ Some (size_word previous c)) (omega arith) (first_word word_at at top previous (c ∷ chunks) fits (is, all) run) in
     let rest : IsRun word_at (at + size_of c) (heap_bytes c.in_use top chunks) = rest_run word_at at top previous c chunks is run in
     let next : word_at (at + 16 + chunk_size (size_word previous c) - 8) ≡ Some (first_size c.in_use top chunks) =
-        subst (λ (a : ℕ). word_at a ≡ Some (first_size c.in_use top chunks)) (omega arith) (first_word word_at (at + size_of c) top c.in_use chunks fits all rest) in
+    subst (λ (a : ℕ). word_at a ≡ Some (first_size c.in_use top chunks)) (omega arith) (first_word word_at (at + size_of c) top c.in_use chunks fits all rest) in
     let heap : is_heap_chunk_for c.asked (chunk_size (size_word previous c)) ≡ true =
-        subst (λ (n : ℕ). is_heap_chunk_for c.asked n ≡ true) (sym size) (heap_chunk (least_chunk c.asked) c.rests is.few) in
+    subst (λ (n : ℕ). is_heap_chunk_for c.asked n ≡ true) (sym size) (heap_chunk (least_chunk c.asked) c.rests is.few) in
     fits_by word_at (block_at at c) (size_word previous c) (first_size c.in_use top chunks) c.in_use (omega arith) here (not_mapped (size_word previous c) (omega arith)) heap next (first_flag c.in_use top chunks even)
 
 pub all_fit : (word_at : ℕ → Option ℕ) (at top : ℕ) (previous : Bool) (chunks : List Chunk) → at % 16 ≡ 0 → top % 16 ≡ 0 → top + 1 < 2 ^ 64 → AllByRecursion IsChunk chunks

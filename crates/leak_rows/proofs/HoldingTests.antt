@@ -1,5 +1,5 @@
 -- Who holds the memory of a core whose marked blocks are computed.
-use Rattle.std.proofs.Common.{◌≡◌, ◌↔◌, ℕ, zero, suc, ◌+◌, ◌^◌, ◌<◌, Bool, true, false, not, ◌&&◌, List, [], ◌∷◌, length, map, Option, Some, None, refl, sym, ap, subst, ◌∙◌, arith}
+use Rattle.std.proofs.Common.{◌≡◌, ◌↔◌, ℕ, zero, suc, ◌+◌, ◌^◌, ◌<◌, Bool, true, false, not, ◌&&◌, List, [], ◌∷◌, length, map, Option, None, refl, sym, subst, ◌∙◌, arith}
 use Rattle.std.specs.Prelude.{nat_lt, slice_index, slice_index_or, IsTrue}
 use Rattle.std.specs.List.{range_with_len}
 use Rattle.std.proofs.lemmas.Bool.{ltb-true}
@@ -10,7 +10,7 @@ use Rattle.leak_mtrace.proofs.SplitLemmas.{and_left, and_right}
 use Rattle.leak_blocks.specs.declared.block.Block.{Block}
 use Rattle.leak_blocks.specs.Live.{live_of}
 use Rattle.leak_marks.specs.Lists.{has}
-use Rattle.leak_marks.specs.Reach.{Graph, Reach}
+use Rattle.leak_marks.specs.Reach.{Graph}
 use Rattle.leak_without.specs.Without.{IsHeldBy, chosen, members, without}
 use Rattle.leak_texts.specs.Numbered.{AreTexts}
 use Rattle.leak_holders.specs.Examples.{lent}
@@ -18,14 +18,11 @@ use Rattle.leak_holders.specs.Holders.{AreHolders, Held, rows_of}
 use Rattle.leak_holders.specs.Parts.{counted_in, parts_but, parts_by}
 use Rattle.leak_holders.specs.declared.facts.Facts.{Facts}
 use Rattle.leak_holders.specs.declared.holder.Holder.{Holder}
-use Rattle.leak_holders.specs.declared.part.Part.{Part}
-use Rattle.leak_holders.specs.declared.question.Question.{Question}
 use Rattle.leak_holders.specs.declared.question.Side.TheVariants.{In, Of}
 use Rattle.leak_input.specs.Inputs.{IsCore}
 use Rattle.leak_search.specs.Search.{graph_of_one, head_of_one}
 use Rattle.leak_why.specs.Asked.{IsAsked}
-use Rattle.leak_holding.specs.Held.{FindsHeld, both, chosen_with, held_text}
-use Rattle.leak_holding.specs.Holders.{FindsHolders}
+use Rattle.leak_holding.specs.Held.{both, chosen_with, held_text}
 use Rattle.leak_holding.specs.Since.{counted_of, is_continued_from, news_of}
 use Rattle.leak_holding.specs.Text.{holders_text}
 use Rattle.leak_rows.specs.Holding.{AreHoldersOf, IsHeldAs}
@@ -49,11 +46,14 @@ and_is true b e f = f
 and_is false b e f = absurd (let x : false ≡ true = e in cc)
 
 pub held_is : (g : Graph) (set marked outside : List ℕ) (b : ℕ) → is_reached g marked ≡ true → is_reached (without g set) outside ≡ true → IsTrue (is_held marked outside b) ↔ IsHeldBy g set b
-held_is g set marked outside b reached without_it =
-    ((λ t. ((reach_is g marked b reached).1 (and_left (has marked b) (not (has outside b)) t),
-        (λ r. not_has (has outside b) (and_right (has marked b) (not (has outside b)) t) ((reach_is (without g set) outside b without_it).0 r)))),
-    (λ h. and_is (has marked b) (not (has outside b)) ((reach_is g marked b reached).0 h.0)
-        (not_is (has outside b) (λ e. h.1 ((reach_is (without g set) outside b without_it).1 e)))))
+held_is g set marked outside b reached without_it = (
+  (λ t. (
+    (reach_is g marked b reached).1 (and_left (has marked b) (not (has outside b)) t),
+    (λ r. not_has (has outside b) (and_right (has marked b) (not (has outside b)) t) ((reach_is (without g set) outside b without_it).0 r)),
+  )),
+  (λ h. and_is (has marked b) (not (has outside b)) ((reach_is g marked b reached).0 h.0)
+      (not_is (has outside b) (λ e. h.1 ((reach_is (without g set) outside b without_it).1 e)))),
+)
 
 -- for each text from the number on, the blocks that are reached without its blocks
 abbrev pub are_outside : Graph → List ℕ → ℕ → List (List ℕ) → Bool
@@ -100,7 +100,7 @@ facts_of lines since marked numbers = facts_with (live_of lines) numbers (tests_
 pub finds_holders : (core log : List ℕ) (since : Option (List ℕ)) (lines : List Line) (marked : List ℕ) (texts : List (List ℕ)) (numbers : List ℕ) (outside : List (List ℕ)) (report : List ℕ)
     → IsInput core log since lines marked texts numbers outside
     → holders_text (head_of_one core log usual lines) (live_of lines) (news_of since (live_of lines)) (tests_of marked (length (live_of lines))) texts
-        (rows_of (facts_of lines since marked numbers) (held_with marked outside) (length texts)) ≡ report
+    (rows_of (facts_of lines since marked numbers) (held_with marked outside) (length texts)) ≡ report
     → AreHoldersOf core log since report
 finds_holders core log since lines marked texts numbers outside report h told = λ found is. record {
   accepted = h.accepted;
@@ -127,8 +127,8 @@ pub finds_held : (core log : List ℕ) (lines : List Line) (marked : List ℕ) (
     → IsInput core log None lines marked texts numbers outside → IsAsked (live_of lines) address block
     → is_reached (without (graph_of_one core interior usual lines) (chosen (chosen_with numbers block alone))) left ≡ true
     → held_text log (live_of lines) block In (both (chosen_with numbers block alone) (tests_of marked (length (live_of lines))))
-        (both (map (is_held marked left) (range_with_len 0 (length (live_of lines)))) (counted_of None (live_of lines))) texts
-        (parts_by (facts_of lines None marked numbers) (λ b. slice_index_or (map (is_held marked left) (range_with_len 0 (length (live_of lines)))) b false) (length texts)) ≡ report
+    (both (map (is_held marked left) (range_with_len 0 (length (live_of lines)))) (counted_of None (live_of lines))) texts
+    (parts_by (facts_of lines None marked numbers) (λ b. slice_index_or (map (is_held marked left) (range_with_len 0 (length (live_of lines)))) b false) (length texts)) ≡ report
     → length (graph_of_one core interior usual lines).targets ≡ length (live_of lines)
     → IsHeldAs core log (record { address = address; side = In; alone = alone }) report
 finds_held core log lines marked texts numbers outside address block alone left report h asked without_them told all = λ found is. record {
@@ -167,8 +167,8 @@ finds_held core log lines marked texts numbers outside address block alone left 
 pub finds_holding : (core log : List ℕ) (lines : List Line) (marked : List ℕ) (texts : List (List ℕ)) (numbers : List ℕ) (outside : List (List ℕ)) (address block : ℕ) (alone : Bool) (report : List ℕ)
     → IsInput core log None lines marked texts numbers outside → IsAsked (live_of lines) address block
     → held_text log (live_of lines) block Of (both (chosen_with numbers block alone) (tests_of marked (length (live_of lines))))
-        (both (both (chosen_with numbers block alone) (tests_of marked (length (live_of lines)))) (counted_of None (live_of lines))) texts
-        (parts_but (slice_index numbers block) (rows_of (counted_in (facts_of lines None marked numbers) (chosen_with numbers block alone)) (held_with marked outside) (length texts))) ≡ report
+    (both (both (chosen_with numbers block alone) (tests_of marked (length (live_of lines)))) (counted_of None (live_of lines))) texts
+    (parts_but (slice_index numbers block) (rows_of (counted_in (facts_of lines None marked numbers) (chosen_with numbers block alone)) (held_with marked outside) (length texts))) ≡ report
     → IsHeldAs core log (record { address = address; side = Of; alone = alone }) report
 finds_holding core log lines marked texts numbers outside address block alone report h asked told = λ found is. record {
   accepted = h.accepted;

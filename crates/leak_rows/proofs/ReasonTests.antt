@@ -1,5 +1,5 @@
 -- What holds a block of a core whose marked blocks are computed.
-use Rattle.std.proofs.Common.{◌≡◌, ◌↔◌, ◌⊎◌, ℕ, zero, suc, ◌+◌, ◌<◌, ◌≤◌, inl, inr, Bool, true, false, ◌&&◌, ◌||◌, ◌==◌, List, [], ◌∷◌, length, Option, Some, None, refl, sym, ap, subst, ◌∙◌, arith, eq-eqb}
+use Rattle.std.proofs.Common.{◌≡◌, ◌↔◌, ℕ, zero, suc, ◌+◌, ◌<◌, inl, inr, Bool, true, false, ◌&&◌, ◌||◌, ◌==◌, List, [], ◌∷◌, Option, Some, None, refl, sym, ap, subst, ◌∙◌, arith, eq-eqb}
 use Rattle.std.specs.Prelude.{is_some, nat_le, nat_lt, IsSome, slice_index_or}
 use Rattle.std.proofs.lemmas.Bool.{le-leb, lt-ltb}
 use Rattle.leak_elf.specs.Words.{word_of}
@@ -79,9 +79,10 @@ held_is : (core log : List ℕ) (address : ℕ) (lines : List Line) (b c : Block
 held_is core log address lines b c block marked q found f =
     let e : f.lines ≡ lines = logs_are_one log f.lines lines f.is_log q.is_log in
     let i : f.block ≡ block = same_block core log address lines b c block marked q f.lines f.block f.is_log f.asked in
-    let r = reach_is (graph_of_one core interior usual lines) marked block q.reached in
-    ((λ s. r.0 (subst (λ (n : ℕ). Reach (graph_of_one core interior usual lines) n) i (subst (λ (ls : List Line). Reach (graph_of_one core interior usual ls) f.block) e (f.reached.0 s)))),
-    (λ h. f.reached.1 (subst (λ (ls : List Line). Reach (graph_of_one core interior usual ls) f.block) (sym e) (subst (λ (n : ℕ). Reach (graph_of_one core interior usual lines) n) (sym i) (r.1 h)))))
+    let r = reach_is (graph_of_one core interior usual lines) marked block q.reached in (
+      (λ s. r.0 (subst (λ (n : ℕ). Reach (graph_of_one core interior usual lines) n) i (subst (λ (ls : List Line). Reach (graph_of_one core interior usual ls) f.block) e (f.reached.0 s)))),
+      (λ h. f.reached.1 (subst (λ (ls : List Line). Reach (graph_of_one core interior usual ls) f.block) (sym e) (subst (λ (n : ℕ). Reach (graph_of_one core interior usual lines) n) (sym i) (r.1 h)))),
+    )
 
 some_is : (o : Option Chain) → IsSome o → is_some o ≡ true
 some_is None s = s

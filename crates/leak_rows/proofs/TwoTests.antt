@@ -1,11 +1,10 @@
 -- What a search of two cores comes to where the marked blocks are computed.
-use Rattle.std.proofs.Common.{◌≡◌, ◌↔◌, ◌⊎◌, ℕ, zero, suc, ◌+◌, ◌-◌, ◌*◌, ◌%◌, ◌^◌, ◌<◌, ◌≤◌, inl, inr, ⊎_elim, Bool, true, false, not, ◌&&◌, ◌||◌, ◌==◌, List, [], ◌∷◌, ◌++◌, length, Option, Some, None, refl, sym, ap, subst, ◌∙◌, append-nil, arith, eq-eqb, if◌then◌else◌}
-use Rattle.std.specs.Prelude.{nat_le, nat_lt, IsTrue, option_map, find}
+use Rattle.std.proofs.Common.{◌≡◌, ℕ, zero, suc, ◌+◌, ◌-◌, ◌*◌, ◌%◌, ◌^◌, ◌<◌, ◌≤◌, inl, inr, ⊎_elim, Bool, true, false, not, ◌&&◌, ◌||◌, ◌==◌, List, [], ◌∷◌, length, Option, Some, None, refl, sym, ap, subst, ◌∙◌, append-nil, arith, eq-eqb, if◌then◌else◌}
+use Rattle.std.specs.Prelude.{nat_le, nat_lt, option_map, find}
 use Rattle.std.specs.Int.{w64}
 use Rattle.std.specs.List.{AllByRecursion, concat, list_all, list_any, range_with_len}
-use Rattle.std.specs.List.Sorted.{IsStrictlyIncreasing}
 use Rattle.std.specs.Ordering.{nat_cmp}
-use Rattle.std.proofs.lemmas.Bool.{cases_lt, eqb-true, le-ltb, lt-leb, ltb-true}
+use Rattle.std.proofs.lemmas.Bool.{cases_lt, eqb-true, lt-leb, ltb-true}
 use Rattle.std.proofs.lemmas.Cmp.{nat_cmp_total}
 use Rattle.std.proofs.lemmas.Map.Keys.{sorted_from_strictly_increasing}
 use Rattle.leak_elf.specs.Fields.{number_at}
@@ -95,18 +94,20 @@ pub one_differs : (core1 core2 : List ℕ) (s : Segment) (page address : ℕ) �
 unfolding differs
 one_differs core1 core2 s page address one low high from to changed = record {
   ascending = λ k h. absurd (omega arith);
-  each = λ p. ((λ h. ⊎_elim
-      (λ e. subst (λ (q : ℕ). differs (word_of core1) (word_of core2) q ≡ true) e (some_any (λ a. is_changed (word_of core1 a) (word_of core2 a)) 4096 (4096 * page) address from to changed))
-      (λ r. absurd (none_has p r)) (at_head page [] p h)),
+  each = λ p. (
+    (λ h. ⊎_elim
+        (λ e. subst (λ (q : ℕ). differs (word_of core1) (word_of core2) q ≡ true) e (some_any (λ a. is_changed (word_of core1 a) (word_of core2 a)) 4096 (4096 * page) address from to changed))
+        (λ r. absurd (none_has p r)) (at_head page [] p h)),
     (λ t. ⊎_elim
         (λ less. absurd (let e : true ≡ false = sym t ∙ none_any (λ a. is_changed (word_of core1 a) (word_of core2 a)) 4096 (4096 * p) (λ a l u.
-            gone a (before_segment s a (omega (arith, u, less, low)))) in cc))
+        gone a (before_segment s a (omega (arith, u, less, low)))) in cc))
         (λ more. ⊎_elim
-            (λ greater. absurd (let e : true ≡ false = sym t ∙ none_any (λ a. is_changed (word_of core1 a) (word_of core2 a)) 4096 (4096 * p) (λ a l u.
-                gone a (past_segment s a (omega (arith, l, greater, high)))) in cc))
-            (λ other. subst (λ (q : ℕ). Has (page ∷ []) q) (let e : page ≡ p = omega arith in e) (here page []))
-            (cases_lt page p))
-        (cases_lt p page)));
+        (λ greater. absurd (let e : true ≡ false = sym t ∙ none_any (λ a. is_changed (word_of core1 a) (word_of core2 a)) 4096 (4096 * p) (λ a l u.
+        gone a (past_segment s a (omega (arith, l, greater, high)))) in cc))
+        (λ other. subst (λ (q : ℕ). Has (page ∷ []) q) (let e : page ≡ p = omega arith in e) (here page []))
+        (cases_lt page p))
+        (cases_lt p page)),
+  );
 }
   where
     gone : (a : ℕ) → holds_word a s ≡ false → is_changed (word_of core1 a) (word_of core2 a) ≡ false
@@ -216,15 +217,16 @@ finds_later p before now earlier pages marked claimed leaked report h told count
     parts : (claims : List (List ℕ)) → claims ≡ claimed ∷ [] → Partitions claims (λ i. Reach graph i × ¬ Has kept i × ¬ Has fresh i)
     parts claims is = record {
       once = λ b r.
-        let m : has marked b ≡ true = (reach_is graph marked b h.is).0 r.0 in
-        let t = each_passes (λ x. has kept x || (has fresh x || has claimed x)) marked b h.all_others (of_has marked b m) in
-        let c : has claimed b ≡ true = or_three (has kept b) (has fresh b) (has claimed b) t (λ e. r.1 (of_has kept b e)) (λ e. r.2 (of_has fresh b e)) in
-        ap (λ (l : List ℕ). times b l) (whole claims is) ∙ eqb-true (times b claimed) 1 (each_passes (λ x. times x claimed == 1) claimed b h.once (of_has claimed b c));
+          let m : has marked b ≡ true = (reach_is graph marked b h.is).0 r.0 in
+          let t = each_passes (λ x. has kept x || (has fresh x || has claimed x)) marked b h.all_others (of_has marked b m) in
+          let c : has claimed b ≡ true = or_three (has kept b) (has fresh b) (has claimed b) t (λ e. r.1 (of_has kept b e)) (λ e. r.2 (of_has fresh b e)) in
+          ap (λ (l : List ℕ). times b l) (whole claims is) ∙ eqb-true (times b claimed) 1 (each_passes (λ x. times x claimed == 1) claimed b h.once (of_has claimed b c));
       only = λ b c.
-        let t = each_passes (λ x. has marked x && (not (has kept x) && not (has fresh x))) claimed b h.others (subst (λ (l : List ℕ). Has l b) (whole claims is) c) in
-        ((reach_is graph marked b h.is).1 (and_left (has marked b) _ t),
-        (λ k. not_true (has kept b) (and_left (not (has kept b)) _ (and_right (has marked b) _ t)) (to_has kept b k)),
-        (λ k. not_true (has fresh b) (and_right (not (has kept b)) _ (and_right (has marked b) _ t)) (to_has fresh b k)));
+          let t = each_passes (λ x. has marked x && (not (has kept x) && not (has fresh x))) claimed b h.others (subst (λ (l : List ℕ). Has l b) (whole claims is) c) in (
+            (reach_is graph marked b h.is).1 (and_left (has marked b) _ t),
+            (λ k. not_true (has kept b) (and_left (not (has kept b)) _ (and_right (has marked b) _ t)) (to_has kept b k)),
+            (λ k. not_true (has fresh b) (and_right (not (has kept b)) _ (and_right (has marked b) _ t)) (to_has fresh b k)),
+          );
     }
 
     first_lines : {workers : ℕ} {found : Found} (f : FindsTwo p.core1 p.log1 p.core2 p.log2 interior usual false workers found) → before ≡ f.first.lines

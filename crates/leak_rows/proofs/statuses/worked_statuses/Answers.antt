@@ -7,6 +7,18 @@ use Rattle.leak_rows.proofs.statuses.worked_statuses.Goals as goal
 pub returns : goal.returns
 unfolding digits warnings_of
 returns c = record {
-  none = refl; some = refl; many = refl; strict = refl; strict_leaks = refl; warned = refl; warned_leaks = refl; strict_warned = refl; strict_warned_leaks = refl;
-  fits = refl; misfit = refl; misfit_of_other_heap = refl; held = refl; lost = refl;
+  none = refl;
+  some = refl;
+  many = refl;
+  strict = refl;
+  strict_leaks = refl;
+  warned = refl;
+  warned_leaks = refl;
+  strict_warned = refl;
+  strict_warned_leaks = refl;
+  fits = refl;
+  misfit = refl;
+  misfit_of_other_heap = refl;
+  held = refl;
+  lost = refl;
 }

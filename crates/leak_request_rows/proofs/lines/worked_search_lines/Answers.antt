@@ -1,10 +1,10 @@
 -- Each row is computed.
-use Rattle.std.proofs.Common.{◌≡◌, ℕ, ◌^◌, ◌<◌, ◌≤◌, None, Some, refl, inl, inr, codes, List, [], ◌∷◌, arith}
+use Rattle.std.proofs.Common.{None, Some, refl, codes, arith}
 use Rattle.std.specs.Fmt.{digits}
 use Rattle.clap.specs.Faults.{defaults_fault, flags_fault, walk_fault}
 use Rattle.clap.specs.Walk.{bundle_met, walked}
-use Rattle.leak_rows.proofs.RequestTests.{sees_search}
-use Rattle.leak_rows.proofs.requests.worked_search_lines.Goals as goal
+use Rattle.leak_request_rows.proofs.RequestTests.{sees_search}
+use Rattle.leak_request_rows.proofs.lines.worked_search_lines.Goals as goal
 
 pub returns : goal.returns
 unfolding digits defaults_fault flags_fault walk_fault bundle_met walked

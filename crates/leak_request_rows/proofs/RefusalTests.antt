@@ -1,23 +1,19 @@
 -- Why command lines are refused, by the values that clap found.
-use Rattle.std.proofs.Common.{◌≡◌, ◌↔◌, ◌⊎◌, ℕ, ◌<◌, ◌≤◌, inl, inr, ⊎_elim, Bool, true, false, ◌&&◌, List, [], ◌∷◌, ◌++◌, codes, map, length, take, drop, Option, Some, None, refl, sym, ap, subst, ◌∙◌, arith}
-use Rattle.std.specs.Prelude.{nat_le, bytes_eq, slice_index_or, IfSome, IsSomeAnd}
-use Rattle.std.specs.List.{list_all}
-use Rattle.std.proofs.lemmas.Bool.{le-leb}
+use Rattle.std.proofs.Common.{◌≡◌, ◌↔◌, ◌⊎◌, ℕ, inl, inr, ⊎_elim, Bool, true, false, List, [], ◌∷◌, codes, map, Option, Some, None, refl, sym, ap, subst, ◌∙◌}
+use Rattle.std.specs.Prelude.{IfSome, IsSomeAnd}
 use Rattle.clap.specs.Kinds.{Kinds}
-use Rattle.clap.specs.Words.{Row, Text, first_of, subcommand_of}
+use Rattle.clap.specs.Words.{Row, Text, first_of}
 use Rattle.clap.specs.Faults.{fault_of}
-use Rattle.leak_request.specs.Address.{IsAddress, IsBadAddress, is_digit, value_of}
-use Rattle.leak_request.specs.CommandLine.{command_line, grow_name, holders_name, name_of, path_ids, why_name}
+use Rattle.leak_request.specs.CommandLine.{command_line, name_of, path_ids}
 use Rattle.leak_request.specs.Displacements.{displace_fault_of}
-use Rattle.leak_request.specs.Found.{IsGiven}
-use Rattle.leak_request.specs.Requests.{ChecksOtherHeap, IsListFaultAt, IsListTaken, IsListedBy, IsOther, IsRefusedAt, IsRequest, IsRequestOf, IsSearchRefusal, IsUsageFaultOf, Lacks, list_in}
+use Rattle.leak_request.specs.Requests.{ChecksOtherHeap, IsListFaultAt, IsListedBy, IsOther, IsRefusedAt, IsRequest, IsSearchRefusal, IsUsageFaultOf, Lacks, list_in}
 use Rattle.leak_request.specs.declared.fault.DisplaceFault.{DisplaceFault}
 use Rattle.leak_request.specs.declared.fault.UsageFault.{UsageFault}
 use Rattle.leak_request.specs.declared.fault.UsageFault.TheVariants as fault
 use Rattle.leak_request.specs.declared.options.Request.{Request}
 use Rattle.leak_request.specs.declared.options.Request.TheVariants.{Search, Why, Holders, Grow}
-use Rattle.leak_rows.specs.Requests.{AreRefused, AreRefusedByClap, IsText, Planned, Reads, Signed}
-use Rattle.leak_rows.proofs.RequestTests.{AreNumbers, AreTaken, HasFlag, HasPlan, IsSeen, flag_value, given_is, name_in, not_grow, not_holders, not_why, number_ids, plan_seen, refused_at, request_at, rows_in, search_ids, search_lacks, search_refusal, seen, sees, value_at}
+use Rattle.leak_request_rows.specs.Requests.{AreRefused, AreRefusedByClap, IsText, Planned}
+use Rattle.leak_request_rows.proofs.RequestTests.{AreNumbers, AreTaken, HasPlan, IsSeen, flag_value, name_in, not_grow, not_holders, not_why, plan_seen, refused_at, request_at, rows_in, search_ids, search_lacks, search_refusal, seen, sees, value_at}
 
 -- ---- words that clap refuses
 
@@ -120,8 +116,12 @@ refuses_list words two paths n text d a b c more taken q numbers is =
 -- a search that is to check another heap
 search_check : (name : Text) (rows : List Row) (two : Bool) (paths : List Text) (n : Planned) → name ≡ name_of two → map (λ id. first_of id rows) (path_ids two) ≡ map Some paths
     → HasPlan rows n → list_in rows ≡ None → ChecksOtherHeap rows → IsRefusedFor name rows fault.Check
-search_check name rows two paths n named there plan list checks = record { request = no_request; some = λ e. cc;
-    is = inr (inr (inr (search_is_other name two named, (lacks, (None, subst (λ (o : Option Text). IsListedBy o None) (sym list) refl), checks)))); only = λ f q. only f (search_refusal name rows two f named q) }
+search_check name rows two paths n named there plan list checks = record {
+  request = no_request;
+  some = λ e. cc;
+  is = inr (inr (inr (search_is_other name two named, (lacks, (None, subst (λ (o : Option Text). IsListedBy o None) (sym list) refl), checks))));
+  only = λ f q. only f (search_refusal name rows two f named q);
+}
   where
     lacks : Lacks name rows → ⊥
     lacks l = search_lacks name rows two paths n named there plan l
@@ -148,4 +148,4 @@ refuses_check words two paths n v1 v2 v3 v4 v5 v8 a b c taken q numbers =
     let all : List Text = codes "leak_find" ∷ words in
     let s : IsSeen (path_ids two) search_ids all (name_of two) (map Some paths) (None ∷ v1 ∷ v2 ∷ v3 ∷ v4 ∷ v5 ∷ flag_value true ∷ flag_value true ∷ v8 ∷ []) (Some a ∷ Some b ∷ Some c ∷ []) = sees (path_ids two) search_ids all _ _ _ _ taken q in
     refused words fault.Check s.taken (search_check (name_in all) (rows_in all) two paths n s.named s.there_is (plan_seen (rows_in all) n a b c s.numbers_are numbers) (value_at 0 _ _ s.values_are)
-        (record { check = value_at 6 _ _ s.values_are; other_heap = value_at 7 _ _ s.values_are }))
+    (record { check = value_at 6 _ _ s.values_are; other_heap = value_at 7 _ _ s.values_are }))

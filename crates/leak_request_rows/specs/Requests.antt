@@ -1,21 +1,14 @@
 -- Worked command lines: what the words after the program's name ask for, or why they are refused.
 use Rattle.std.specs.Prelude.{◌≡◌, ◌↔◌, ◌⊎◌, ℕ, Bool, true, false, not, List, [], ◌∷◌, codes, map, string_bytes, Option, Some, None}
 use Rattle.clap.specs.Words.{Text}
-use Rattle.leak_holders.specs.declared.question.Question.{Question}
-use Rattle.leak_holders.specs.declared.question.Side.TheVariants.{In, Of}
 use Rattle.leak_index.specs.Readings.{distances_of, listed_by}
-use Rattle.leak_index.specs.declared.error.ReadingError.TheVariants.{TooLarge, TooMany}
 use Rattle.leak_request.specs.Requests.{IsRequestOf, IsUsageFaultOf}
-use Rattle.leak_request.specs.declared.fault.DisplaceFault.TheVariants.{Number, Reading}
 use Rattle.leak_request.specs.declared.fault.UsageFault.{UsageFault}
 use Rattle.leak_request.specs.declared.fault.UsageFault.TheVariants.{Address, Block, Check, Displace, NoMemory, Sides, Words}
-use Rattle.leak_request.specs.declared.options.GrowRequest.{GrowRequest}
-use Rattle.leak_request.specs.declared.options.HoldersRequest.{HoldersRequest}
 use Rattle.leak_request.specs.declared.options.Options.{Options}
 use Rattle.leak_request.specs.declared.options.Request.{Request}
 use Rattle.leak_request.specs.declared.options.Request.TheVariants.{Search, Why, Holders, Grow}
 use Rattle.leak_request.specs.declared.options.SearchRequest.{SearchRequest}
-use Rattle.leak_request.specs.declared.options.WhyRequest.{WhyRequest}
 
 -- the options that say which words keep a block: distances of words, or none where all count, and the flags
 pub record Reads : Type 0 where
@@ -118,25 +111,3 @@ one_input = codes "core.1" ∷ codes "trace.log" ∷ []
 
 abbrev pub two_inputs : List Text
 two_inputs = codes "a" ∷ codes "b" ∷ codes "c" ∷ codes "d" ∷ []
-
-pub record AreWorkedSearchLines : Type 0 where
-  pub one : AskFor (codes "one" ∷ codes "core.1" ∷ codes "trace.log" ∷ []) (IsSearch false one_input by_default plainly unsigned)
-  pub two : AskFor (codes "two" ∷ codes "a" ∷ codes "b" ∷ codes "c" ∷ codes "d" ∷ []) (IsSearch true two_inputs by_default plainly unsigned)
-  pub numbers : AskFor (codes "two" ∷ codes "a" ∷ codes "b" ∷ codes "c" ∷ codes "d" ∷ codes "--piece" ∷ codes "1" ∷ codes "--stack" ∷ codes "0" ∷ [])
-      (IsSearch true two_inputs (record { workers = 4; piece = 1; stack = 0 }) plainly unsigned)
-  pub largest : AskFor (codes "one" ∷ codes "core.1" ∷ codes "trace.log" ∷ codes "--workers=64" ∷ codes "--piece=65536" ∷ codes "--stack=65536" ∷ [])
-      (IsSearch false one_input (record { workers = 64; piece = 65536; stack = 65536 }) plainly unsigned)
-  pub displaced : AskFor (codes "one" ∷ codes "core.1" ∷ codes "trace.log" ∷ codes "--workers" ∷ codes "2" ∷ codes "--displace" ∷ codes "8,16" ∷ [])
-      (IsSearch false one_input (record { workers = 2; piece = 512; stack = 1024 }) (record plainly { listed = Some (8 ∷ 16 ∷ []) }) unsigned)
-  pub options_before_paths : AskFor (codes "one" ∷ codes "--workers" ∷ codes "1" ∷ codes "core.1" ∷ codes "--displace=0" ∷ codes "trace.log" ∷ [])
-      (IsSearch false one_input (record { workers = 1; piece = 512; stack = 1024 }) (record plainly { listed = Some (0 ∷ []) }) unsigned)
-  pub ends : AskFor (codes "one" ∷ codes "core.1" ∷ codes "trace.log" ∷ codes "--skip-ends" ∷ []) (IsSearch false one_input by_default (record plainly { ends = true }) unsigned)
-  pub freed : AskFor (codes "one" ∷ codes "core.1" ∷ codes "trace.log" ∷ codes "--skip-freed" ∷ []) (IsSearch false one_input by_default (record plainly { freed = true }) unsigned)
-  pub links : AskFor (codes "one" ∷ codes "core.1" ∷ codes "trace.log" ∷ codes "--skip-links" ∷ []) (IsSearch false one_input by_default (record plainly { links = true }) unsigned)
-  pub slack : AskFor (codes "one" ∷ codes "core.1" ∷ codes "trace.log" ∷ codes "--skip-slack" ∷ []) (IsSearch false one_input by_default (record plainly { slack = true }) unsigned)
-  pub all_memory : AskFor (codes "one" ∷ codes "core.1" ∷ codes "trace.log" ∷ codes "--all-memory" ∷ []) (IsSearch false one_input by_default (record plainly { all_memory = true }) unsigned)
-  pub check : AskFor (codes "one" ∷ codes "core.1" ∷ codes "trace.log" ∷ codes "--check" ∷ []) (IsSearch false one_input by_default plainly (record unsigned { check = true }))
-  pub other_heap : AskFor (codes "one" ∷ codes "core.1" ∷ codes "trace.log" ∷ codes "--other-heap" ∷ []) (IsSearch false one_input by_default plainly (record unsigned { other_heap = true }))
-  pub strict : AskFor (codes "one" ∷ codes "core.1" ∷ codes "trace.log" ∷ codes "--strict" ∷ []) (IsSearch false one_input by_default plainly (record unsigned { strict = true }))
-  pub all : AskFor (codes "two" ∷ codes "a" ∷ codes "b" ∷ codes "c" ∷ codes "d" ∷ codes "--skip-ends" ∷ codes "--skip-freed" ∷ codes "--skip-links" ∷ codes "--skip-slack" ∷ codes "--all-memory" ∷ codes "--check" ∷ codes "--strict" ∷ codes "--displace=24" ∷ [])
-      (IsSearch true two_inputs by_default (with_all (24 ∷ [])) (record { check = true; other_heap = false; strict = true }))

@@ -1,6 +1,6 @@
 -- What command lines ask of who holds the memory, by the values that clap found.
 use Rattle.std.proofs.Common.{◌≡◌, ◌↔◌, ◌⊎◌, ℕ, inl, inr, ⊎_elim, Bool, true, false, List, [], ◌∷◌, ◌++◌, codes, map, Option, Some, None, refl, sym, ap, subst, ◌∙◌}
-use Rattle.std.specs.Prelude.{option_map, string_bytes, IsSome, IsSomeAnd}
+use Rattle.std.specs.Prelude.{IsSome, IsSomeAnd}
 use Rattle.clap.specs.Words.{Row, Text, first_of}
 use Rattle.clap.specs.Faults.{fault_of}
 use Rattle.leak_holders.specs.declared.question.Question.{Question}
@@ -8,21 +8,21 @@ use Rattle.leak_holders.specs.declared.question.Side.{Side}
 use Rattle.leak_holders.specs.declared.question.Side.TheVariants as side
 use Rattle.leak_index.specs.Readings.{distances_of, listed_by}
 use Rattle.leak_request.specs.Address.{IsAddress, IsBadAddress, value_of}
-use Rattle.leak_request.specs.CommandLine.{command_line, grow_name, holders_name, path_ids, why_name}
+use Rattle.leak_request.specs.CommandLine.{command_line, holders_name, path_ids}
 use Rattle.leak_request.specs.Displacements.{displace_fault_of}
 use Rattle.leak_request.specs.Found.{IsGiven}
 use Rattle.leak_request.specs.Questions.{Asks, AsksBadAddress, AsksBothSides, AsksNoSide, IsQuestionAt, IsQuestionFault, other_id, side_id}
-use Rattle.leak_request.specs.Requests.{HoldersLacks, IsHoldersRefusal, IsHoldersRequest, IsListTaken, IsListedBy, IsRefusedAt, IsRequest, list_in}
+use Rattle.leak_request.specs.Requests.{HoldersLacks, IsHoldersRefusal, IsListTaken, IsListedBy, IsRefusedAt, IsRequest, list_in}
 use Rattle.leak_request.specs.declared.fault.DisplaceFault.{DisplaceFault}
 use Rattle.leak_request.specs.declared.fault.UsageFault.{UsageFault}
 use Rattle.leak_request.specs.declared.fault.UsageFault.TheVariants as fault
 use Rattle.leak_request.specs.declared.options.Request.{Request}
 use Rattle.leak_request.specs.declared.options.Request.TheVariants.{Search, Why, Holders, Grow}
-use Rattle.leak_rows.specs.Requests.{AskFor, AreRefused, Planned, Reads, Signed}
-use Rattle.leak_rows.specs.Questions.{IsHoldersAsked, IsHoldersFor}
-use Rattle.leak_rows.proofs.RequestTests.{AreNumbers, HasFlag, HasPlan, HasReads, IsListOf, IsSeen, Values, flag_from, flag_text, flag_to, flag_value, given_is, list_is, name_in, no_list_fault, none_lacks, not_from, not_holders, not_to, number_ids, paths_from, paths_to, plan_from, plan_lacks, plan_seen, plan_to, reading_values, reads_seen, refused_at, request_at, rows_in, seen, sees, value_at}
-use Rattle.leak_rows.proofs.RefusalTests.{IsRefusedFor, fault_at, no_displace, not_taken, refused, same_displace}
-use Rattle.leak_rows.proofs.QuestionTests.{address_at, bad_address, good_address, holders_grow, is_address, reads_from, why_holders}
+use Rattle.leak_request_rows.specs.Requests.{AskFor, AreRefused, Planned, Reads, Signed}
+use Rattle.leak_request_rows.specs.Questions.{IsHoldersAsked}
+use Rattle.leak_request_rows.proofs.RequestTests.{AreNumbers, HasFlag, HasPlan, HasReads, IsListOf, IsSeen, Values, flag_from, flag_to, flag_value, given_is, list_is, name_in, no_list_fault, none_lacks, not_holders, not_to, paths_from, paths_to, plan_from, plan_lacks, plan_seen, plan_to, reading_values, reads_seen, refused_at, request_at, rows_in, seen, sees, value_at}
+use Rattle.leak_request_rows.proofs.RefusalTests.{IsRefusedFor, fault_at, no_displace, not_taken, refused, same_displace}
+use Rattle.leak_request_rows.proofs.QuestionTests.{address_at, bad_address, good_address, holders_grow, is_address, reads_from, why_holders}
 
 -- ---- questions
 
@@ -136,17 +136,19 @@ holders_is : (name : Text) (rows : List Row) (paths : List Text) (since : Option
     → IsRequest name rows r ↔ IsHoldersAsked paths since question n w s r
 holders_is name rows paths since question n w s (Search r) h = ((λ q. not_holders r.options.two (sym q.two ∙ h.named)), (λ q. absurd q))
 holders_is name rows paths since question n w s (Why r) h = ((λ q. why_holders (sym q.0 ∙ h.named)), (λ q. absurd q))
-holders_is name rows paths since question n w s (Holders r) h =
-    ((λ q. record {
-      two_is = q.1.two;
-      paths_are = paths_from rows (path_ids false) paths r.paths.items h.there q.1.paths;
-      since_is = q.1.since ∙ h.since_is;
-      question_is = (h.asks.is r.question).0 q.1.question;
-      plan = plan_from rows n r.options h.plan q.1.numbers;
-      reading = reads_from rows w r.options h.reads q.1.reading q.1.ends q.1.freed q.1.links q.1.slack q.1.unwritable q.1.core_limit q.1.log_limit;
-      signs = record { check = q.1.check ∙ sym h.check; other_heap = flag_from rows (codes "other-heap") r.options.other_heap s.other_heap h.other_heap q.1.other_heap; strict = flag_from rows (codes "strict") r.options.strict s.strict h.strict q.1.strict };
-    }),
-    (λ q. (h.named, record {
+holders_is name rows paths since question n w s (Holders r) h = (
+  (λ q. record {
+    two_is = q.1.two;
+    paths_are = paths_from rows (path_ids false) paths r.paths.items h.there q.1.paths;
+    since_is = q.1.since ∙ h.since_is;
+    question_is = (h.asks.is r.question).0 q.1.question;
+    plan = plan_from rows n r.options h.plan q.1.numbers;
+    reading = reads_from rows w r.options h.reads q.1.reading q.1.ends q.1.freed q.1.links q.1.slack q.1.unwritable q.1.core_limit q.1.log_limit;
+    signs = record { check = q.1.check ∙ sym h.check; other_heap = flag_from rows (codes "other-heap") r.options.other_heap s.other_heap h.other_heap q.1.other_heap; strict = flag_from rows (codes "strict") r.options.strict s.strict h.strict q.1.strict };
+  }),
+  (λ q. (
+    h.named,
+    record {
       two = q.two_is;
       paths = paths_to rows (path_ids false) paths r.paths.items h.there q.paths_are;
       since = q.since_is ∙ sym h.since_is;
@@ -163,7 +165,9 @@ holders_is name rows paths since question n w s (Holders r) h =
       strict = flag_to rows (codes "strict") r.options.strict s.strict h.strict q.signs.strict;
       core_limit = q.reading.core_limit;
       log_limit = q.reading.log_limit;
-    })))
+    },
+  )),
+)
 holders_is name rows paths since question n w s (Grow r) h = ((λ q. holders_grow (sym h.named ∙ q.0)), (λ q. absurd q))
 
 holders_refusal : (name : Text) (rows : List Row) (f : UsageFault) → name ≡ holders_name → IsRefusedAt name rows f → IsHoldersRefusal rows f
@@ -204,7 +208,7 @@ pub sees_holders : (words : List Text) (paths : List Text) (since : Option Text)
 sees_holders words paths since question n w s list held holding alone a b c taken q lists numbers check asks =
     let all : List Text = codes "leak_find" ∷ words in
     let x : IsSeen (path_ids false) holders_ids all holders_name (map Some paths) (reading_values list w (flag_value s.other_heap ∷ flag_value s.strict ∷ since ∷ held ∷ holding ∷ flag_value alone ∷ [])) (Some a ∷ Some b ∷ Some c ∷ []) =
-        sees (path_ids false) holders_ids all _ _ _ _ taken q in
+    sees (path_ids false) holders_ids all _ _ _ _ taken q in
     let h : HasHolders (name_in all) (rows_in all) paths since question n w s = record {
       named = x.named;
       there = x.there_is;
@@ -250,8 +254,12 @@ of_question rows fault.NoMemory of lacks list q = absurd of
 
 holders_question : (name : Text) (rows : List Row) (paths : List Text) (n : Planned) (reason : UsageFault) → name ≡ holders_name → map (λ id. first_of id rows) (path_ids false) ≡ map Some paths → HasPlan rows n → list_in rows ≡ None
     → IsOfQuestion reason → IsRefusedQuestion rows reason → IsRefusedFor name rows reason
-holders_question name rows paths n reason named there plan list of h = record { request = no_request; some = λ e. subst IsOfQuestion e of;
-    is = inr (inl (named, of_question rows reason of lacks (None, subst (λ (o : Option Text). IsListedBy o None) (sym list) refl) h.is)); only = λ f q. only f (holders_refusal name rows f named q) }
+holders_question name rows paths n reason named there plan list of h = record {
+  request = no_request;
+  some = λ e. subst IsOfQuestion e of;
+  is = inr (inl (named, of_question rows reason of lacks (None, subst (λ (o : Option Text). IsListedBy o None) (sym list) refl) h.is));
+  only = λ f q. only f (holders_refusal name rows f named q);
+}
   where
     lacks : HoldersLacks rows → ⊥
     lacks l = holders_lacks rows paths n there plan l
@@ -278,9 +286,9 @@ pub refuses_question : (words : List Text) (paths : List Text) (n : Planned) (re
 refuses_question words paths n reason held holding alone v1 v2 v3 v4 v5 v6 v7 v8 a b c taken q numbers of h =
     let all : List Text = codes "leak_find" ∷ words in
     let x : IsSeen (path_ids false) holders_ids all holders_name (map Some paths) (None ∷ v1 ∷ v2 ∷ v3 ∷ v4 ∷ v5 ∷ v6 ∷ v7 ∷ v8 ∷ held ∷ holding ∷ flag_value alone ∷ []) (Some a ∷ Some b ∷ Some c ∷ []) =
-        sees (path_ids false) holders_ids all _ _ _ _ taken q in
+    sees (path_ids false) holders_ids all _ _ _ _ taken q in
     refused words reason x.taken (holders_question (name_in all) (rows_in all) paths n reason x.named x.there_is (plan_seen (rows_in all) n a b c x.numbers_are numbers) (value_at 0 _ _ x.values_are) of
-        (h (rows_in all) (value_at 9 _ _ x.values_are) (value_at 10 _ _ x.values_are) (value_at 11 _ _ x.values_are)))
+    (h (rows_in all) (value_at 9 _ _ x.values_are) (value_at 10 _ _ x.values_are) (value_at 11 _ _ x.values_are)))
 
 -- both sides are asked for
 pub refuses_sides : (rows : List Row) (one other : Text) (alone : Bool) → first_of (codes "in") rows ≡ Some one → first_of (codes "of") rows ≡ Some other → HasFlag rows (codes "block") alone → IsRefusedQuestion rows fault.Sides

@@ -1,6 +1,6 @@
 //! Worked command lines: what they ask for, or why they are refused.
-ghost use Rattle.leak_rows.specs.Requests.{AreWorkedSearchLines};
-ghost use Rattle.leak_rows.specs.Questions.{AreWorkedGrowLines, AreWorkedHoldersLines, AreWorkedRefusals, AreWorkedWhyLines};
+ghost use Rattle.leak_request_rows.specs.SearchLines.{AreWorkedSearchLines};
+ghost use Rattle.leak_request_rows.specs.QuestionLines.{AreWorkedGrowLines, AreWorkedHoldersLines, AreWorkedRefusals, AreWorkedWhyLines};
 
 /// Command lines that ask for a search.
 pub fn worked_search_lines()

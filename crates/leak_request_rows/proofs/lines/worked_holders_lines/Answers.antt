@@ -1,15 +1,15 @@
 -- Each row is computed.
-use Rattle.std.proofs.Common.{◌≡◌, ℕ, ◌^◌, ◌<◌, ◌≤◌, true, false, None, Some, refl, inl, inr, codes, List, [], ◌∷◌, arith}
+use Rattle.std.proofs.Common.{true, false, None, Some, refl, codes, [], ◌∷◌, arith}
 use Rattle.std.specs.Fmt.{digits}
 use Rattle.clap.specs.Faults.{defaults_fault, flags_fault, walk_fault}
 use Rattle.clap.specs.Walk.{bundle_met, walked}
 use Rattle.leak_holders.specs.declared.question.Side.TheVariants.{In, Of}
 use Rattle.leak_request.specs.declared.fault.DisplaceFault.TheVariants.{Number}
 use Rattle.leak_request.specs.declared.fault.UsageFault.TheVariants.{Address, Block, Sides}
-use Rattle.leak_rows.specs.Requests.{by_default, one_input}
-use Rattle.leak_rows.proofs.RefusalTests.{refused_by_clap}
-use Rattle.leak_rows.proofs.HoldersTests.{asks_question, no_question, refuses_block, refuses_held, refuses_holders_list, refuses_question, refuses_sides, sees_holders}
-use Rattle.leak_rows.proofs.requests.worked_holders_lines.Goals as goal
+use Rattle.leak_request_rows.specs.Requests.{by_default, one_input}
+use Rattle.leak_request_rows.proofs.RefusalTests.{refused_by_clap}
+use Rattle.leak_request_rows.proofs.HoldersTests.{asks_question, no_question, refuses_block, refuses_held, refuses_holders_list, refuses_question, refuses_sides, sees_holders}
+use Rattle.leak_request_rows.proofs.lines.worked_holders_lines.Goals as goal
 
 pub returns : goal.returns
 unfolding digits defaults_fault flags_fault walk_fault bundle_met walked

@@ -1,34 +1,34 @@
 -- What the other command lines ask for, by the values that clap found.
-use Rattle.std.proofs.Common.{◌≡◌, ◌↔◌, ◌⊎◌, ℕ, ◌<◌, ◌≤◌, inl, inr, ⊎_elim, Bool, true, false, not, ◌&&◌, List, [], ◌∷◌, ◌++◌, codes, map, length, take, drop, Option, Some, None, refl, sym, ap, subst, ◌∙◌, arith}
-use Rattle.std.specs.Prelude.{nat_le, bytes_eq, option_map, slice_index_or, string_bytes, IsSome, IsSomeAnd, IfSome}
+use Rattle.std.proofs.Common.{◌≡◌, ◌↔◌, ◌⊎◌, ℕ, inl, inr, ⊎_elim, Bool, true, false, ◌&&◌, List, [], ◌∷◌, ◌++◌, codes, map, length, take, drop, Option, Some, None, refl, sym, ap, subst, ◌∙◌, arith}
+use Rattle.std.specs.Prelude.{nat_le, bytes_eq, IsSomeAnd}
 use Rattle.std.specs.List.{list_all}
 use Rattle.std.proofs.lemmas.Bool.{le-leb, leb-true}
 use Rattle.clap.specs.Words.{Row, Text, first_of}
 use Rattle.clap.specs.Faults.{fault_of}
-use Rattle.leak_mtrace.proofs.SplitLemmas.{and_left, and_right}
-use Rattle.leak_holders.specs.declared.question.Question.{Question}
-use Rattle.leak_holders.specs.declared.question.Side.{Side}
-use Rattle.leak_holders.specs.declared.question.Side.TheVariants as side
 use Rattle.leak_index.specs.Readings.{distances_of, listed_by}
 use Rattle.leak_request.specs.Address.{IsAddress, IsBadAddress, is_digit, value_of}
-use Rattle.leak_request.specs.CommandLine.{address_id, command_line, grow_ids, grow_name, holders_name, name_of, path_ids, why_name}
+use Rattle.leak_request.specs.CommandLine.{address_id, command_line, grow_ids, grow_name, holders_name, path_ids, why_name}
 use Rattle.leak_request.specs.Displacements.{displace_fault_of}
 use Rattle.leak_request.specs.Found.{IsGiven}
-use Rattle.leak_request.specs.Questions.{Asks, IsQuestionAt, IsQuestionFault, other_id, side_id}
-use Rattle.leak_request.specs.Requests.{AreAt, HoldersLacks, IsGrowRefusal, IsGrowRequest, IsHoldersRefusal, IsHoldersRequest, IsListTaken, IsListedBy, IsRefusedAt, IsRequest, IsUsageFaultOf, IsWhyRefusal, IsWhyRequest, WhyLacks, list_in}
+use Rattle.leak_request.specs.Requests.{IsGrowRefusal, IsListedBy, IsRefusedAt, IsRequest, IsWhyRefusal, WhyLacks, list_in}
 use Rattle.leak_request.specs.declared.fault.DisplaceFault.{DisplaceFault}
 use Rattle.leak_request.specs.declared.fault.UsageFault.{UsageFault}
 use Rattle.leak_request.specs.declared.fault.UsageFault.TheVariants as fault
-use Rattle.leak_request.specs.declared.options.GrowRequest.{GrowRequest}
-use Rattle.leak_request.specs.declared.options.HoldersRequest.{HoldersRequest}
 use Rattle.leak_request.specs.declared.options.Options.{Options}
 use Rattle.leak_request.specs.declared.options.Request.{Request}
 use Rattle.leak_request.specs.declared.options.Request.TheVariants.{Search, Why, Holders, Grow}
-use Rattle.leak_request.specs.declared.options.WhyRequest.{WhyRequest}
-use Rattle.leak_rows.specs.Requests.{AskFor, AreReadAs, AreRefused, AreSigned, Planned, Reads, Signed, unsigned}
-use Rattle.leak_rows.specs.Questions.{IsGrowAsked, IsGrowFor, IsHoldersAsked, IsHoldersFor, IsWhyAsked, IsWhyFor}
-use Rattle.leak_rows.proofs.RequestTests.{AreNumbers, AreTaken, HasFlag, HasList, HasPlan, HasReads, IsListOf, IsSeen, Values, flag_from, flag_text, flag_to, flag_value, given_is, letters, list_is, name_in, no_list_fault, none_lacks, not_from, not_grow, not_holders, not_to, not_why, number_ids, paths_from, paths_to, plan_from, plan_lacks, plan_seen, plan_to, reading_ids, reading_values, reads_seen, refused_at, request_at, rows_in, seen, sees, value_at}
-use Rattle.leak_rows.proofs.RefusalTests.{IsRefusedFor, fault_at, no_displace, not_taken, refused, same_displace}
+use Rattle.leak_request_rows.specs.Requests.{AskFor, AreReadAs, AreRefused, Reads}
+use Rattle.leak_request_rows.specs.Questions.{IsGrowAsked, IsWhyAsked}
+use Rattle.leak_request_rows.proofs.RequestTests.{HasFlag, HasReads, IsListOf, IsSeen, Values, flag_from, flag_to, flag_value, letters, list_is, name_in, no_list_fault, none_lacks, not_from, not_grow, not_to, not_why, paths_from, paths_to, reading_values, reads_seen, refused_at, request_at, rows_in, seen, sees, value_at}
+use Rattle.leak_request_rows.proofs.RefusalTests.{IsRefusedFor, fault_at, no_displace, not_taken, refused, same_displace}
+
+and_left : (x y : Bool) → (x && y) ≡ true → x ≡ true
+and_left true y e = refl
+and_left false y e = e
+
+and_right : (x y : Bool) → (x && y) ≡ true → y ≡ true
+and_right true y e = e
+and_right false y e = absurd (let f : false ≡ true = e in cc)
 
 -- ---- addresses
 
@@ -45,18 +45,26 @@ bad_address text t = λ a q. absurd (let e : true ≡ false = sym (passes text a
 
 -- what the text writes
 pub address_is : (digits : List ℕ) (n m : ℕ) → is_address (codes "0x" ++ digits) ≡ true → n ≡ value_of digits → IsAddress (codes "0x" ++ digits) m ↔ (m ≡ n)
-address_is digits n m t e =
-    ((λ q. q.5 ∙ ap value_of (sym (ap (drop {A = ℕ} 2) q.1)) ∙ sym e),
-    (λ s. (digits, refl, leb-true 1 (length digits) (and_left (nat_le 1 (length digits)) _ rest), leb-true (length digits) 16 (and_left (nat_le (length digits) 16) _ (and_right (nat_le 1 (length digits)) _ rest)),
-        and_right (nat_le (length digits) 16) _ (and_right (nat_le 1 (length digits)) _ rest), s ∙ e)))
+address_is digits n m t e = (
+  (λ q. q.5 ∙ ap value_of (sym (ap (drop {A = ℕ} 2) q.1)) ∙ sym e),
+  (λ s. (
+    digits,
+    refl,
+    leb-true 1 (length digits) (and_left (nat_le 1 (length digits)) _ rest),
+    leb-true (length digits) 16 (and_left (nat_le (length digits) 16) _ (and_right (nat_le 1 (length digits)) _ rest)),
+    and_right (nat_le (length digits) 16) _ (and_right (nat_le 1 (length digits)) _ rest),
+    s ∙ e,
+  )),
+)
   where
     rest : (nat_le 1 (length digits) && (nat_le (length digits) 16 && list_all is_digit digits)) ≡ true
     rest = t
 
 pub address_at : (o : Option Text) (digits : List ℕ) (n m : ℕ) → o ≡ Some (codes "0x" ++ digits) → is_address (codes "0x" ++ digits) ≡ true → n ≡ value_of digits → IsSomeAnd o (λ text. IsAddress text m) ↔ (m ≡ n)
-address_at o digits n m e t v =
-    ((λ q. (address_is digits n m t v).0 (subst (λ (x : Option Text). IsSomeAnd x (λ text. IsAddress text m)) e q)),
-    (λ s. subst (λ (x : Option Text). IsSomeAnd x (λ text. IsAddress text m)) (sym e) ((address_is digits n m t v).1 s)))
+address_at o digits n m e t v = (
+  (λ q. (address_is digits n m t v).0 (subst (λ (x : Option Text). IsSomeAnd x (λ text. IsAddress text m)) e q)),
+  (λ s. subst (λ (x : Option Text). IsSomeAnd x (λ text. IsAddress text m)) (sym e) ((address_is digits n m t v).1 s)),
+)
 
 pub good_address : (o : Option Text) (digits : List ℕ) (n : ℕ) → o ≡ Some (codes "0x" ++ digits) → is_address (codes "0x" ++ digits) ≡ true → n ≡ value_of digits → IsSomeAnd o IsBadAddress → ⊥
 good_address o digits n e t v q = subst (λ (x : Option Text). IsSomeAnd x IsBadAddress) e q n ((address_is digits n n t v).1 refl)
@@ -101,15 +109,17 @@ pub record HasWhy (name : Text) (rows : List Row) (paths : List Text) (address :
 
 why_is : (name : Text) (rows : List Row) (paths : List Text) (address : ℕ) (w : Reads) (r : Request) → HasWhy name rows paths address w → IsRequest name rows r ↔ IsWhyAsked paths address w r
 why_is name rows paths address w (Search r) h = ((λ q. not_why r.options.two (sym q.two ∙ h.named)), (λ q. absurd q))
-why_is name rows paths address w (Why r) h =
-    ((λ q. record {
-      two_is = q.1.two;
-      paths_are = paths_from rows (path_ids false) paths r.paths.items h.there q.1.paths;
-      address_is = (address_at (first_of address_id rows) h.digits address r.address h.text h.good h.value).0 q.1.address;
-      reading = reads_from rows w r.options h.reads q.1.reading q.1.ends q.1.freed q.1.links q.1.slack q.1.unwritable q.1.core_limit q.1.log_limit;
-      signs = record { check = q.1.check; other_heap = q.1.other_heap; strict = q.1.strict };
-    }),
-    (λ q. (h.named, record {
+why_is name rows paths address w (Why r) h = (
+  (λ q. record {
+    two_is = q.1.two;
+    paths_are = paths_from rows (path_ids false) paths r.paths.items h.there q.1.paths;
+    address_is = (address_at (first_of address_id rows) h.digits address r.address h.text h.good h.value).0 q.1.address;
+    reading = reads_from rows w r.options h.reads q.1.reading q.1.ends q.1.freed q.1.links q.1.slack q.1.unwritable q.1.core_limit q.1.log_limit;
+    signs = record { check = q.1.check; other_heap = q.1.other_heap; strict = q.1.strict };
+  }),
+  (λ q. (
+    h.named,
+    record {
       two = q.two_is;
       paths = paths_to rows (path_ids false) paths r.paths.items h.there q.paths_are;
       address = (address_at (first_of address_id rows) h.digits address r.address h.text h.good h.value).1 q.address_is;
@@ -124,7 +134,9 @@ why_is name rows paths address w (Why r) h =
       strict = q.signs.strict;
       core_limit = q.reading.core_limit;
       log_limit = q.reading.log_limit;
-    })))
+    },
+  )),
+)
 why_is name rows paths address w (Holders r) h = ((λ q. why_holders (sym h.named ∙ q.0)), (λ q. absurd q))
 why_is name rows paths address w (Grow r) h = ((λ q. why_grow (sym h.named ∙ q.0)), (λ q. absurd q))
 
@@ -173,9 +185,12 @@ sees_why words paths address w list digits numbers taken q lists good value =
 -- an address that is none
 why_address : (name : Text) (rows : List Row) (paths : List Text) (text : Text) → name ≡ why_name → map (λ id. first_of id rows) (path_ids false) ≡ map Some paths → first_of address_id rows ≡ Some text
     → is_address text ≡ false → list_in rows ≡ None → IsRefusedFor name rows fault.Address
-why_address name rows paths text named there is bad list = record { request = no_request; some = λ e. cc;
-    is = inl (named, (lacks, (None, subst (λ (o : Option Text). IsListedBy o None) (sym list) refl), subst (λ (o : Option Text). IsSomeAnd o IsBadAddress) (sym is) (bad_address text bad)));
-    only = λ f q. only f (why_refusal name rows f named q) }
+why_address name rows paths text named there is bad list = record {
+  request = no_request;
+  some = λ e. cc;
+  is = inl (named, (lacks, (None, subst (λ (o : Option Text). IsListedBy o None) (sym list) refl), subst (λ (o : Option Text). IsSomeAnd o IsBadAddress) (sym is) (bad_address text bad)));
+  only = λ f q. only f (why_refusal name rows f named q);
+}
   where
     lacks : WhyLacks rows → ⊥
     lacks l = why_lacks rows paths text there is l
@@ -237,9 +252,9 @@ refuses_why_list words paths text address d v1 v2 v3 v4 v5 numbers taken q is =
 pub sees_grow : (words : List Text) (paths : List Text) (strict : Bool) (numbers : Values) → fault_of command_line (codes "leak_find" ∷ words) ≡ []
     → seen grow_ids (codes "strict" ∷ []) (codes "leak_find" ∷ words) ≡ Some (grow_name, (map Some paths, (flag_value strict ∷ [], numbers))) → AskFor words (IsGrowAsked paths strict)
 sees_grow words paths strict numbers taken q = record {
-    request = λ r. let a = request_at all r s.taken in ((λ x. from r (a.0 x)), (λ x. a.1 (to r x)));
-    taken = λ f x. ⊎_elim (λ e. fault_is f (refusal f e)) (λ e. e) (refused_at all f s.taken x);
-  }
+  request = λ r. let a = request_at all r s.taken in ((λ x. from r (a.0 x)), (λ x. a.1 (to r x)));
+  taken = λ f x. ⊎_elim (λ e. fault_is f (refusal f e)) (λ e. e) (refused_at all f s.taken x);
+}
   where
     all : List Text
     all = codes "leak_find" ∷ words

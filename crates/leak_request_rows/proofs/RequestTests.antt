@@ -20,7 +20,7 @@ use Rattle.leak_request.specs.declared.options.Options.{Options}
 use Rattle.leak_request.specs.declared.options.Request.{Request}
 use Rattle.leak_request.specs.declared.options.Request.TheVariants.{Search, Why, Holders, Grow}
 use Rattle.leak_request.specs.declared.options.SearchRequest.{SearchRequest}
-use Rattle.leak_rows.specs.Requests.{AskFor, AreReadAs, ArePlanned, AreSigned, IsSearch, IsSearchFor, Planned, Reads, Signed}
+use Rattle.leak_request_rows.specs.Requests.{AskFor, ArePlanned, IsSearch, IsSearchFor, Planned, Reads, Signed}
 
 -- ---- what clap found for the words
 
@@ -86,9 +86,10 @@ pub value_at : (k : ℕ) (xs ys : Values) → xs ≡ ys → slice_index_or xs k 
 value_at k xs ys e = ap (λ (l : Values). slice_index_or l k None) e
 
 pub request_at : (words : List Text) (r : Request) → AreTaken words → IsRequestOf words r ↔ IsRequest (name_in words) (rows_in words) r
-request_at words r t =
-    ((λ q. subst (λ (o : Option (Text × List Row)). IsSomeAnd o (λ met. IsRequest met.0 met.1 r)) t.met q.request),
-    (λ q. record { taken = t.taken; request = subst (λ (o : Option (Text × List Row)). IsSomeAnd o (λ met. IsRequest met.0 met.1 r)) (sym t.met) q }))
+request_at words r t = (
+  (λ q. subst (λ (o : Option (Text × List Row)). IsSomeAnd o (λ met. IsRequest met.0 met.1 r)) t.met q.request),
+  (λ q. record { taken = t.taken; request = subst (λ (o : Option (Text × List Row)). IsSomeAnd o (λ met. IsRequest met.0 met.1 r)) (sym t.met) q }),
+)
 
 pub refused_at : (words : List Text) (f : UsageFault) → AreTaken words → IsUsageFaultOf words f → IsRefusedAt (name_in words) (rows_in words) f ⊎ (f ≡ fault.NoMemory)
 refused_at words (fault.Words text) t q = inl (subst (λ (o : Option (Text × List Row)). IfSome o (λ met. IsRefusedAt met.0 met.1 (fault.Words text))) t.met (q t.taken))
@@ -109,10 +110,11 @@ pub record HasNumber (rows : List Row) (id : Text) (n : ℕ) : Type 0 where
   pub small : n < 2 ^ 64
 
 number_is : (rows : List Row) (id : Text) (n m : ℕ) → HasNumber rows id n → IsNumberAt rows id m ↔ (m ≡ n)
-number_is rows id n m h =
-    ((λ q. (subst (λ (o : Option Text). IsSomeAnd o (Writes m)) h.is q).1 ∙ ap (digits_value 10) h.writes ∙ (decimal_is_IsNumeral n h.small).1),
-    (λ e. subst (λ (o : Option Text). IsSomeAnd o (Writes m)) (sym h.is)
-        (subst (IsNumeral 10) (sym h.writes) (decimal_is_IsNumeral n h.small).0, e ∙ sym (ap (digits_value 10) h.writes ∙ (decimal_is_IsNumeral n h.small).1))))
+number_is rows id n m h = (
+  (λ q. (subst (λ (o : Option Text). IsSomeAnd o (Writes m)) h.is q).1 ∙ ap (digits_value 10) h.writes ∙ (decimal_is_IsNumeral n h.small).1),
+  (λ e. subst (λ (o : Option Text). IsSomeAnd o (Writes m)) (sym h.is)
+      (subst (IsNumeral 10) (sym h.writes) (decimal_is_IsNumeral n h.small).0, e ∙ sym (ap (digits_value 10) h.writes ∙ (decimal_is_IsNumeral n h.small).1))),
+)
 
 -- there is no list of displacements, or one that lists these
 abbrev pub HasList : List Row → Option (List ℕ) → Type 0
@@ -383,9 +385,9 @@ asks_search words two paths n w s t h =
     let all : List Text = codes "leak_find" ∷ words in
     record {
       request = λ r.
-        let a = request_at all r t in
-        let b = search_is (name_in all) (rows_in all) two paths n w s r h in
-        ((λ q. b.0 (a.0 q)), (λ q. a.1 (b.1 q)));
+          let a = request_at all r t in
+          let b = search_is (name_in all) (rows_in all) two paths n w s r h in
+          ((λ q. b.0 (a.0 q)), (λ q. a.1 (b.1 q)));
       taken = λ f q. ⊎_elim (λ e. search_taken (name_in all) (rows_in all) two paths n w s f h (search_refusal (name_in all) (rows_in all) two f h.named e)) (λ e. e) (refused_at all f t q);
     }
 

@@ -1,13 +1,13 @@
 -- Each row is computed.
-use Rattle.std.proofs.Common.{◌≡◌, ℕ, ◌^◌, ◌<◌, ◌≤◌, true, false, None, Some, refl, inl, inr, codes, List, [], ◌∷◌, arith}
+use Rattle.std.proofs.Common.{false, Some, refl, codes, [], ◌∷◌, arith}
 use Rattle.std.specs.Fmt.{digits}
 use Rattle.clap.specs.Faults.{defaults_fault, flags_fault, walk_fault}
 use Rattle.clap.specs.Walk.{bundle_met, walked}
 use Rattle.leak_index.specs.declared.error.ReadingError.TheVariants.{TooLarge, TooMany}
 use Rattle.leak_request.specs.declared.fault.DisplaceFault.TheVariants.{Number, Reading}
-use Rattle.leak_rows.specs.Requests.{by_default, one_input}
-use Rattle.leak_rows.proofs.RefusalTests.{refused_by_clap, refuses_check, refuses_list}
-use Rattle.leak_rows.proofs.requests.worked_refusals.Goals as goal
+use Rattle.leak_request_rows.specs.Requests.{by_default, one_input}
+use Rattle.leak_request_rows.proofs.RefusalTests.{refused_by_clap, refuses_check, refuses_list}
+use Rattle.leak_request_rows.proofs.lines.worked_refusals.Goals as goal
 
 pub returns : goal.returns
 unfolding digits defaults_fault flags_fault walk_fault bundle_met walked
