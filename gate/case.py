@@ -59,11 +59,12 @@ def two(name, reason, first, second, report, options="--other-heap", warnings=""
     return case(name, reason, line, files, report, warnings, wanted)
 
 
-def why(name, reason, core, log, address, answer, options=""):
-    """A question what holds the block of the address: status 1 where it leaked."""
+def why(name, reason, core, log, address, answer, options="", warnings="", status=None):
+    """A question what holds the block of the address: status 1 if it leaked. Without warnings the heap is another's than glibc's."""
     files = {"core.k": core, "trace.log": log}
-    status = 1 if answer.endswith("\nleaked\n") else 0
-    return case(name, reason, f"why core.k trace.log {address} {options}", files, answer, "", status)
+    wanted = (1 if answer.endswith("\nleaked\n") else 0) if status is None else status
+    given = options if warnings else f"{options} --other-heap"
+    return case(name, reason, f"why core.k trace.log {address} {given}", files, answer, warnings, wanted)
 
 
 def refused(name, reason, line, files, text):

@@ -20,6 +20,8 @@ from typing import NamedTuple
 
 ROOT = os.path.dirname(os.path.dirname(os.path.abspath(__file__)))
 OUT = "crates/leak_cli/out"
+# In CI the wrong bodies of a crate that is as it was when all of them were refused are not tried again.
+RECORDED = " --recorded" if os.environ.get("CI") == "true" else ""
 
 
 class Step(NamedTuple):
@@ -40,10 +42,11 @@ PHASES = (
     Phase("proofs", 110, (), (Step("rt ci", ""),)),
     Phase("wrong", 90, ("crates/*/out/rlib",), (
         Step("python3 gate/wrong_bodies_test.py"),
-        Step("python3 gate/wrong_bodies.py", "wrong bodies: "))),
+        Step(f"python3 gate/wrong_bodies.py{RECORDED}", "wrong bodies: "))),
     Phase("cases", 5, (f"{OUT}/leak_cli", f"{OUT}/leak_cli.by-rattle"), (
         Step("python3 gate/phases_test.py"),
         Step("python3 gate/cases_test.py"),
+        Step(f"python3 gate/terminal.py {OUT}/leak_cli {OUT}/leak_cli.by-rattle", "terminal: "),
         Step(f"python3 gate/cases.py {OUT}/leak_cli {OUT}/leak_cli.by-rattle", "cases: "))),
     Phase("capture", 30, (f"{OUT}/leak_cli",), (
         Step("make -C capture"),

@@ -1,7 +1,7 @@
 """What grew between two logs of one process: the worked examples of docs/EXAMPLES.md, warnings, and what is refused."""
 
 from case import case, refused
-from texts import displaced, no_block, torn, unknown
+from texts import displaced, no_block, torn, unknown, unopened
 
 LINE = "grow log.1 log.2"
 FIRST = "@ a:[0x1] + 0x10100 0x20\n"
@@ -69,8 +69,8 @@ def of_refusals():
     ]
     found = [refused(f"grow: {name}", "the first fault", LINE, {"log.1": first, "log.2": second}, text)
              for name, first, second, text in rows]
-    return [*found, refused("grow: no second log", "all files are opened first", LINE, {"log.1": FIRST}, "cannot open log.2"),
-            refused("grow: no log", "the first path is told", LINE, {}, "cannot open log.1")]
+    return [*found, refused("grow: no second log", "all files are opened first", LINE, {"log.1": FIRST}, unopened("log.2")),
+            refused("grow: no log", "the first path is told", LINE, {}, unopened("log.1"))]
 
 
 def cases():

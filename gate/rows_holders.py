@@ -5,7 +5,7 @@ They are run with --other-heap, since the sample has no heap of glibc's: so ther
 
 from case import by_plans, case, refused
 from cores import ONE_BLOCK, TWO_BLOCKS, at, core, field, rbx, word, words
-from texts import displaced, misfits, no_block, torn, unknown
+from texts import displaced, misfits, no_block, torn, unknown, unopened
 
 LINE = "holders core.k trace.log"
 CHAIN = "@ a:[0x1] + 0x10100 0x20\n@ b:[0x2] + 0x10200 0x10\n"
@@ -123,7 +123,7 @@ def of_refusals():
         ("a bad log", {"trace.log": ONE_BLOCK + "+ 0x10200\n"}, "input 1: log: line 2 is not an mtrace line"),
     ]
     found = [refused(f"holders: {name}", "as by a search", LINE, {**good, **files}, text) for name, files, text in rows]
-    missing = refused("holders: no log", "all files are opened first", LINE, {"core.k": core()}, "cannot open trace.log")
+    missing = refused("holders: no log", "all files are opened first", LINE, {"core.k": core()}, unopened("trace.log"))
     return [*found, missing]
 
 

@@ -9,7 +9,7 @@ from case import PLANS, case, refused, with_plan
 from cores import ONE_BLOCK, TWO_BLOCKS, core, rbx, word, words
 from heaps import Heap, answer, holders_since
 from rows_holders import CHAIN, DIAMOND, IN_TURNS, LEADS, LINKS, LIST, SEVENTY, TURNS
-from texts import misfits, no_block, torn
+from texts import misfits, no_block, torn, unopened
 
 LINE = "holders core.k trace.log"
 SIDES = ("--in", "--of")
@@ -193,10 +193,10 @@ def of_files():
     since, other = "--since earlier.log", "@ ./a.out:[0x401136] + 0x10200 0x20\n"
     prefix, none = "log 1 is not a prefix of log 2", "no live block holds 0x10300"
     rows = [
-        ("no core", since, without("core.k"), "cannot open core.k"),
-        ("no log", since, without("trace.log"), "cannot open trace.log"),
-        ("no earlier log", since, without("earlier.log"), "cannot open earlier.log"),
-        ("no earlier log and no block", f"{since} --in 0x10300", without("earlier.log"), "cannot open earlier.log"),
+        ("no core", since, without("core.k"), unopened("core.k")),
+        ("no log", since, without("trace.log"), unopened("trace.log")),
+        ("no earlier log", since, without("earlier.log"), unopened("earlier.log")),
+        ("no earlier log and no block", f"{since} --in 0x10300", without("earlier.log"), unopened("earlier.log")),
         ("a bad log and another earlier log", since, {**good, "trace.log": ONE_BLOCK + "+ 0x10200\n", "earlier.log": other},
          "input 1: log: line 2 is not an mtrace line"),
         ("another earlier log", since, {**good, "earlier.log": other}, prefix),

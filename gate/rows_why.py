@@ -3,6 +3,7 @@
 from case import refused, why
 from cores import (ONE_BLOCK, TWO_BLOCKS, at, chain, core, field, first, in_thread, little, rbx, second_thread, state, threads,
                    vectors, word, words)
+from texts import displaced, misfits, torn, unknown
 
 ONE = "0x10100 32 1 ./a.out:[0x401136]"
 FOUR = "+ 0x10100 0x20\n+ 0x10200 0x20\n+ 0x10300 0x20\n+ 0x10400 0x20\n"
@@ -130,6 +131,28 @@ def of_options():
     return [why(f"why: {name}", "the words that count are those of the options", *row) for name, *row in rows]
 
 
+def of_warnings():
+    """Warnings of a core and a log that don't belong together, and what --strict and --other-heap make of them."""
+    odd = "- 0x1\n+ 0x100f0 0x20\n" + ONE_BLOCK + "+"
+    held, leaked = directly(ONE, "0x10008", 0x10100), told(ONE, "leaked")
+    one, other = core(word(0x10008, 0x10100)), core()
+    line = directly("0x10100 32 3 ./a.out:[0x401136]", "0x10008", 0x10100)
+    signs = torn() + unknown(1) + displaced(1)
+    rows = [
+        ("held", one, ONE_BLOCK, held, "", misfits(1, 1), 0), ("leaked", other, ONE_BLOCK, leaked, "", misfits(1, 1), 1),
+        ("held, strict", one, ONE_BLOCK, held, "--strict", misfits(1, 1), 3),
+        ("leaked, strict", other, ONE_BLOCK, leaked, "--strict", misfits(1, 1), 3),
+        ("held, strict, of another heap", one, ONE_BLOCK, held, "--strict", "", 0),
+        ("leaked, strict, of another heap", other, ONE_BLOCK, leaked, "--strict", "", 1),
+        ("each sign", one, odd, line, "", signs + misfits(1, 1), 0),
+        ("each sign but of the heap", one, odd, line, "--other-heap", signs, 0),
+        ("each sign but of the heap, strict", one, odd, line, "--strict --other-heap", signs, 3),
+    ]
+    return [why(f"why warns: {name}", "of the block and of the log, as a search does", image, log, "0x10100", text, options, warned,
+                status)
+            for name, image, log, text, options, warned, status in rows]
+
+
 def of_refusals():
     """Addresses that no live block holds, and what comes before them."""
     files = {"core.k": core(), "trace.log": ONE_BLOCK}
@@ -160,4 +183,4 @@ def of_words():
 
 def cases():
     """All questions."""
-    return of_addresses() + of_chains() + of_registers() + of_options() + of_refusals() + of_words()
+    return of_addresses() + of_chains() + of_registers() + of_options() + of_warnings() + of_refusals() + of_words()

@@ -11,6 +11,7 @@ from cores import ONE_BLOCK, core, word
 from texts import held, lost, misfits
 
 HELP = Path(__file__).parent / "help"
+VERSION = "leak_find 0.1.0\n"
 PROGRAM = "leak_find <COMMAND>"
 USAGE = {"one": "<CORE> <LOG>", "two": "<CORE1> <LOG1> <CORE2> <LOG2>", "why": "<CORE> <LOG> <ADDRESS>",
          "holders": "<CORE> <LOG>", "grow": "<LOG1> <LOG2>"}
@@ -36,13 +37,14 @@ def bad(name, line, error, usage="", tip=""):
 
 
 def of_help():
-    """Help goes to standard error, with status 2: it is no request."""
+    """Help and the version are asked for: they go to standard output, with status 0."""
     rows = [("--help", "program"), ("-h", "program"), ("help", "program"), ("one --help", "one"), ("two -h", "two"),
             ("why --help", "why"), ("holders --help", "holders"), ("grow -h", "grow"),
             ("help one", "one"), ("help two", "two"), ("help why", "why"), ("help holders", "holders"), ("help grow", "grow"), ("one core.k trace.log --help", "one"),
             ("one --help --nonsense", "one")]
-    return [case(f"help: {line}", "help is no request", line, {}, "", (HELP / f"{name}.txt").read_bytes(), 2) for line,
-            name in rows]
+    found = [case(f"help: {line}", "help is asked for", line, {}, (HELP / f"{name}.txt").read_bytes()) for line, name in rows]
+    return found + [case(f"version: {line}", "the version is asked for", line, {}, VERSION) for line in
+                    ("--version", "-V", "--version one", "-V --nonsense")]
 
 
 def of_sample():
@@ -55,10 +57,24 @@ def of_subcommands():
     return [
         bad("another subcommand", "three a b", "unrecognized subcommand 'three'", PROGRAM),
         bad("an empty word", [""], "unrecognized subcommand ''", PROGRAM),
-        bad("a version", "--version", "unexpected argument '--version' found", PROGRAM),
-        bad("a short version", "-V", "unexpected argument '-V' found", PROGRAM),
+        bad("a version of a subcommand", ONE + "--version", "unexpected argument '--version' found", usage_of("one", ""),
+            "to pass '--version' as a value, use '-- --version'"),
         bad("an option before", "--workers 2 " + ONE, "unexpected argument '--workers' found", PROGRAM,
             "'one --workers' exists"),
+    ]
+
+
+def of_control_characters():
+    """Clap shows words as they are. One with a control character is escaped first, so that no word forges a line."""
+    forged, told = "x\nleak_find: warning: input 1: forged", "x\\nleak_find: warning: input 1: forged"
+    return [
+        bad("a subcommand with a line end", [forged], f"unrecognized subcommand '{told}'", PROGRAM),
+        bad("a path more with a line end", ["one", "a", "b", forged], f"unexpected argument '{told}' found", usage_of("one")),
+        bad("an option with an escape", ["one", "a", "b", "--\x1b[2K"], "unexpected argument '--\\x1b[2K' found", usage_of("one", ""),
+            "to pass '--\\x1b[2K' as a value, use '-- --\\x1b[2K'"),
+        bad("workers of a line end", ["one", "a", "b", "--workers", "1\n2"],
+            "invalid value '1\\n2' for '--workers <N>': invalid digit found in string"),
+        bad("a backslash alone", ["a\\nb"], "unrecognized subcommand 'a\\nb'", PROGRAM),
     ]
 
 
@@ -110,7 +126,7 @@ def of_flags():
         found.append(bad(f"{flag} with a value", f"{ONE}{flag}=true",
                          f"unexpected value 'true' for '{flag}' found; no more were expected",
                          usage_of("one", f" {flag}")))
-    for option in ("--workers", "--strict", "--check", "--other-heap"):
+    for option in ("--workers", "--check", "--since"):
         found.append(bad(f"why with {option}", f"why a b 0x1 {option}", f"unexpected argument '{option}' found",
                          usage_of("why", ""),
                          f"to pass '{option}' as a value, use '-- {option}'"))
@@ -178,5 +194,5 @@ def of_taken_words():
 
 def cases():
     """All command lines."""
-    tables = (of_help, of_sample, of_subcommands, of_paths, of_numbers, of_flags, of_lists, of_taken_words)
+    tables = (of_help, of_sample, of_subcommands, of_control_characters, of_paths, of_numbers, of_flags, of_lists, of_taken_words)
     return [each for table in tables for each in table()]

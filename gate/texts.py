@@ -37,6 +37,11 @@ def refusal(text):
     return f"leak_find: {text}\n"
 
 
+def unopened(path, reason="no such file"):
+    """The text of a file that can't be opened."""
+    return f"cannot open {path}: {reason}"
+
+
 def warning(text, number=1):
     """The line of a warning of the input with the number."""
     return f"leak_find: warning: input {number}: {text}\n"

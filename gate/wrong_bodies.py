@@ -1,11 +1,14 @@
 #!/usr/bin/env python3
 """Tries the wrong bodies of crates/NAME/wrong/: the prover must refuse each, for what it means.
 
-    wrong_bodies.py [--lanes N] [CRATE..]
+    wrong_bodies.py [--lanes N] [--recorded | --record] [CRATE..]
 
 It stands on the libraries that `rt ci` left in crates/*/out. At most one wrong body a function goes into a batch, and
 one check tries a batch; each body is judged by its own function. What a batch doesn't tell is tried alone. Each check
-runs on a copy of its crate, so the repository never changes. The last line is 'wrong bodies: N passed, M failed'.
+runs on a copy of its crate, so only --record changes the repository. The last line is 'wrong bodies: N passed, M failed'.
+
+With --record, crates all of whose wrong bodies are refused go into gate/refused.txt. With --recorded, a crate that is
+there as it is now is not tried again, but for one batch of each of two crates, which the commit's hash chooses.
 """
 import os
 import shutil
@@ -18,10 +21,10 @@ import time
 from concurrent.futures import ThreadPoolExecutor
 
 import judging
+import record
 from edits import Fault, batch_of, read_edit, texts_with
 from judging import FOR_CALLEE, REFUSED, Output
 
-PARTS = ("src", "specs", "proofs")
 # Their checks take longest, though they are not the largest.
 DEAREST = ("leak_search", "leak_request", "leak_pool")
 # Seconds that one check may take, and bytes of memory that a lane wants.
@@ -75,6 +78,7 @@ class Crate:
     def __init__(self, root, name, libraries, rattle, room):
         self.name, self.folder, self.kept = name, f"{root}/crates/{name}", f"{room}/{name}"
         self.command = command(root, name, libraries, rattle, self.kept)
+        self.sum = record.sum_of(root, name, libraries, below(libraries, name))
         self.edits, self.faults = [], []
         for file in sorted(os.listdir(f"{self.folder}/wrong")):
             try:
@@ -87,13 +91,13 @@ class Crate:
 
     def weight(self):
         """Returns by what the longest work comes first: the dearest, and then the bytes of a crate's texts."""
-        walked = [(at, files) for part in PARTS for at, _, files in os.walk(f"{self.folder}/{part}")]
+        walked = [(at, files) for part in record.PARTS for at, _, files in os.walk(f"{self.folder}/{part}")]
         return self.name in DEAREST, sum(os.path.getsize(f"{at}/{it}") for at, files in walked for it in files)
 
     def check(self, edits):
         """Returns what a check of a copy of the crate with these edits says."""
         with tempfile.TemporaryDirectory(prefix="wrong-") as copy:
-            for part in PARTS:
+            for part in record.PARTS:
                 if os.path.isdir(f"{self.folder}/{part}"):
                     shutil.copytree(f"{self.folder}/{part}", f"{copy}/{part}")
             for path, text in texts_with(self.folder, edits).items():
@@ -169,7 +173,32 @@ def lanes():
     return max(1, min(len(os.sched_getaffinity(0)), free // EACH))
 
 
-def run(root, names, number):
+def left_to_try(crates, known, commit):
+    """Returns the crates that the record doesn't know as they are, and two others, which the commit chooses, with one batch each."""
+    told = [it for it in crates if known.get(it.name) == (len(it.edits), it.sum)]
+    for it in told:
+        print(f"-- {it.name}: {len(it.edits)} wrong bodies were refused before, by {record.FILE}", flush=True)
+    chosen = []
+    for _ in range(min(2, len(told))):
+        commit, at = divmod(commit, len(told))
+        chosen.append(told.pop(at))
+    for it in chosen:
+        commit, at = divmod(commit, len(it.edits))
+        it.edits = batch_of(it.edits[at:] + it.edits[:at])
+    return [it for it in crates if it not in told]
+
+
+def recorded(root, crates, found):
+    """Writes into the record which of the crates have all their wrong bodies refused, as found."""
+    known = record.read(root)
+    for it in crates:
+        known.pop(it.name, None)
+        if it.edits and not it.faults and all(found.get(str(edit), (FAULT,))[0] == REFUSED for edit in it.edits):
+            known[it.name] = (len(it.edits), it.sum)
+    record.write(root, {name: row for name, row in known.items() if os.path.isdir(f"{root}/crates/{name}/wrong")})
+
+
+def run(root, names, number, mode=None):
     """Tries the crates' wrong bodies side by side and returns what became of each, by crate and name."""
     found, printing, rattle, libraries = {}, threading.Lock(), kit(), libraries_of(root)
 
@@ -191,18 +220,24 @@ def run(root, names, number):
                 crates.append(Crate(root, name, libraries, rattle, room))
             except (Fault, OSError, KeyError) as fault:
                 tell(name, FAULT, repr(fault))
+        if mode == "--recorded":
+            crates = left_to_try(crates, record.read(root), record.commit_of(root))
         list(pool.map(guarded, sorted(crates, key=Crate.weight, reverse=True)))
+        if mode == "--record":
+            recorded(root, crates, found)
     return found
 
 
 def main(words):
     """Runs the script and returns its status."""
     root = os.path.dirname(os.path.dirname(os.path.abspath(__file__)))
-    number = lanes()
+    number, mode = lanes(), None
     if words[:1] == ["--lanes"]:
         number, words = int(words[1]), words[2:]
+    if words[:1] in (["--recorded"], ["--record"]):
+        mode, words = words[0], words[1:]
     names = words or sorted(it for it in os.listdir(f"{root}/crates") if os.path.isdir(f"{root}/crates/{it}/wrong"))
-    kinds = [kind for kind, _ in run(root, names, number).values()]
+    kinds = [kind for kind, _ in run(root, names, number, mode).values()]
     passed = kinds.count(REFUSED)
     print(f"wrong bodies: {passed} passed, {len(kinds) - passed} failed")
     return 1 if passed < len(kinds) or not passed else 0

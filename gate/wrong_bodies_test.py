@@ -2,14 +2,20 @@
 """Shows that wrong_bodies.py tells a refused body from one that is harmless, that can't be tried, or that is mistaken.
 
 It tries edits of a crate that it writes itself, in two batches, and reads a few outputs of checks that are written here.
+It shows too that the record of refused ones speaks of a crate only as long as nothing that its checks read has changed.
 The last line is 'test of the script: N passed, M failed'.
 """
+import contextlib
+import copy
+import io
 import os
 import sys
 import tempfile
+import types
 
+import record
 import wrong_bodies
-from edits import Fault, read_edit
+from edits import Edit, Fault, read_edit
 from judging import FOR_CALLEE, NAME_ALONE, PROVED, REFUSED, UNTOLD, Output, disturbed
 from wrong_bodies import FAULT, NOT_REFUSED
 
@@ -91,10 +97,13 @@ def write_crate(root, edits):
 
 
 def tried(edits):
-    """Returns what a run over these edits came to, by their names."""
+    """Returns what a run over these edits came to, by their names, and whether the crate then stands in the record."""
     with tempfile.TemporaryDirectory(prefix="wrong-test-") as root:
         write_crate(root, edits)
-        return {it.partition("/")[2].removesuffix(".edit"): kind for it, (kind, _) in wrong_bodies.run(root, ["sums"], 1).items()}
+        os.mkdir(f"{root}/gate")
+        record.write(root, {"sums": (1, "old")})
+        told = wrong_bodies.run(root, ["sums"], 1, "--record")
+        return {it.partition("/")[2].removesuffix(".edit"): kind for it, (kind, _) in told.items()}, "sums" in record.read(root)
 
 
 def mistakes():
@@ -110,10 +119,51 @@ def mistakes():
     return found
 
 
+def changed(root, path, text):
+    """Writes a file of the repository, and returns the checksum of the crate `sums` then."""
+    os.makedirs(os.path.dirname(f"{root}/{path}"), exist_ok=True)
+    with open(f"{root}/{path}", "w", encoding="utf-8") as it:
+        it.write(text)
+    libraries = wrong_bodies.libraries_of(root)
+    return record.sum_of(root, "sums", libraries, wrong_bodies.below(libraries, "sums"))
+
+
+def facts_of_sums():
+    """Returns which changes of a repository change the checksum of its crate."""
+    with tempfile.TemporaryDirectory(prefix="wrong-test-") as root:
+        write_crate(root, WRONG)
+        sums = [changed(root, "crates.txt", "sums: low\nlow:\nother: sums\n")]
+        for path in ("crates/low/src/lib.rt", "crates/sums/specs/A.antt", "crates/sums/proofs/A.antt", "crates/sums/wrong/b.edit", "crates/low/proofs/A.antt"):
+            sums += [changed(root, path, "-- one"), changed(root, path, "-- two")]
+        for name in sorted(os.listdir(f"{root}/crates/sums/wrong"))[:1]:
+            sums.append(changed(root, f"crates/sums/wrong/{name}", "function: next"))
+        sums.append(changed(root, "crates.txt", "sums: low more\nlow:\nother: sums\n"))
+        same = [changed(root, it, "-- one") for it in ("crates/other/src/lib.rt", "crates/low/wrong/a.edit", "README.md", "crates/sums/out/a")]
+        found = {"what a check reads changes the checksum": len(set(sums)) == len(sums)}
+        return found | {"what no check reads does not": set(same) == set(sums[-1:])}
+
+
+def facts_of_record():
+    """Returns what a record of three crates leaves to try."""
+    crates = [types.SimpleNamespace(name=it, sum=f"sum of {it}", edits=[Edit(it, str(n), f"f{n // 2}", [], False) for n in range(6)]) for it in "abc"]
+    whole = {it.name: (6, it.sum) for it in crates}
+    with contextlib.redirect_stdout(io.StringIO()):
+        fresh = wrong_bodies.left_to_try(copy.deepcopy(crates), {}, 7)
+        same = wrong_bodies.left_to_try(copy.deepcopy(crates), whole, 7)
+        other = wrong_bodies.left_to_try(copy.deepcopy(crates), whole, 8)
+        moved = wrong_bodies.left_to_try(copy.deepcopy(crates), {**whole, "b": (6, "another"), "c": (5, "sum of c")}, 7)
+    found = {"without a record all are tried": [len(it.edits) for it in fresh] == [6, 6, 6]}
+    found["of recorded crates two are tried, a batch of each"] = [len(it.edits) for it in same] == [3, 3]
+    found["the commit chooses which"] = [it.name for it in same] != [it.name for it in other]
+    found["a crate that changed is tried whole"] = [(it.name, len(it.edits)) for it in moved] == [("a", 3), ("b", 6), ("c", 6)]
+    return found
+
+
 def facts():
     """Returns what is shown, by its name: whether it holds."""
-    mixed = tried({**WRONG, **HARMLESS})
-    unread = tried({**WRONG, **HARMLESS, **UNREAD, **MISTAKEN})
+    refused, kept = tried(WRONG)
+    mixed, mixed_kept = tried({**WRONG, **HARMLESS})
+    unread, _ = tried({**WRONG, **HARMLESS, **UNREAD, **MISTAKEN})
     output = Output("sums", SAID)
     found = {f"{it} is refused in a batch": mixed[it] == REFUSED for it in WRONG}
     found |= {f"{it} is not refused beside wrong callees": mixed[it] == NOT_REFUSED for it in HARMLESS}
@@ -125,7 +175,9 @@ def facts():
     found["an unedited function that fails disturbs"] = disturbed(output, ["one", "two", "four", "six"]) == "sums::halves::both: `returns`: the two types differ"
     found["callees disturb nothing"] = disturbed(output, ["one", "two", "four", "six", "halves::both"]) is None
     found["a check that was cut off tells nothing"] = not Output("sums", SAID.rpartition("only=")[0]).is_told()
-    return found
+    found["a crate whose bodies are all refused is recorded"] = kept and set(refused.values()) == {REFUSED}
+    found["a crate with a harmless body is not, though it was"] = not mixed_kept
+    return found | facts_of_sums() | facts_of_record()
 
 
 def main():

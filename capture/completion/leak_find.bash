@@ -5,10 +5,11 @@ _leak_options() {
     local skips='--skip-freed --skip-links --skip-slack --skip-ends --all-memory --displace'
     local search="$skips --other-heap --strict --workers --piece --stack"
     case $1 in
-    leak_find | help) echo '-h --help' ;;
+    leak_find) echo '-h --help -V --version' ;;
+    help) echo '-h --help' ;;
     one | two) echo "$search --check -h --help" ;;
     holders) echo "$search --in --of --block --since -h --help" ;;
-    why) echo "$skips -h --help" ;;
+    why) echo "$skips --other-heap --strict -h --help" ;;
     grow) echo '--strict -h --help' ;;
     leak_trace) echo '-o -d -m -w -k -e --list --remove' ;;
     leak_dump) echo '--after --core --size' ;;

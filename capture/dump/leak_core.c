@@ -73,6 +73,21 @@ static void set_signals(void)
         signal(ignored[i], SIG_IGN);
 }
 
+static const char USAGE[] = "usage: leak_core [--copy FROM TO] PID CORE | leak_core --size PID\n";
+
+static const char HELP[] =
+    "Writes a core of a process, which stands still for a moment and goes on.\n\n"
+    "  PID             the process: one of yours, or as root any\n"
+    "  CORE            the file, which gets as large as the memory that is there\n"
+    "  --copy FROM TO  copies a file too, at the same moment\n"
+    "  --size          says how many bytes the core would have, and writes nothing\n\n"
+    "status: 0, or 2 with a line on standard error and no file\n";
+
+static bool is_help(int count, char **words)
+{
+    return count == 2 && (!strcmp(words[1], "--help") || !strcmp(words[1], "-h"));
+}
+
 static struct request read_request(int count, char **words)
 {
     struct request request = { 0 };
@@ -84,12 +99,12 @@ static struct request read_request(int count, char **words)
     else if (count == 6 && !strcmp(words[1], "--copy"))
         request.from = words[2], request.to = words[3], at = 4;
     if (at + (request.asks_size ? 1 : 2) != count) {
-        fputs("usage: leak_core [--copy FROM TO] PID CORE | leak_core --size PID\n", stderr);
+        fprintf(stderr, "%s%s", USAGE, is_help(count, words) ? HELP : "");
         exit(REFUSED);
     }
     long number = strtol(words[at], &rest, 10);
     if (number <= 0 || number != (pid_t)number || *rest)
-        fail("%s is no number of a process", words[at]);
+        fail("'%s' is no number of a process", words[at]);
     request.process = number;
     request.core = words[at + 1];
     return request;

@@ -40,8 +40,8 @@ void add_region(struct regions *regions, uint64_t start, uint64_t end, bool is_f
     regions->list[regions->count++] = (struct region){ start, end, is_file };
 }
 
-/* The pages from `start` to `end` but those of `no_pages`. Gives whether the kernel can say. It goes on behind the last page found, for `walk_end` may lie before that (Linux 6.18: where more
- * than one of the kernel's own buffers was filled). */
+/* The pages from `start` to `end` but those of `no_pages`. Gives whether the kernel can say. It goes on behind the last page
+ * found, for `walk_end` may lie before that (Linux 6.18: where more than one of the kernel's own buffers was filled). */
 static bool scan(int pagemap, uint64_t start, uint64_t end, uint64_t no_pages, struct regions *regions)
 {
     static struct page_region found[REGIONS];

@@ -110,7 +110,8 @@ void tell_untraced(struct table_head *head, uint64_t pid, const char *program)
     child->pid = pid;
 }
 
-/* Says that this process goes on as another program. Where that one is traced it removes this table. A child of vfork has none. */
+/* Says that this process goes on as another program. Where that one is traced it removes this table. A child of vfork has
+ * none. */
 static void tell_exec(const char *program, int is_traced)
 {
     if (!tracing())

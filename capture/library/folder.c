@@ -15,7 +15,8 @@
 
 #include "trace.h"
 
-/* The process of a table by its name, or 0 where it is not the name of one. `pattern` is what follows the folder in `table_name`. */
+/* The process of a table by its name, or 0 where it is not the name of one. `pattern` is what follows the folder in
+ * `table_name`. */
 static pid_t process_of(const char *name, const char *pattern)
 {
     const char *pid = strstr(pattern, "%p"), *behind = pid ? pid + 2 : "";

@@ -1,5 +1,5 @@
-/* Memory that the program keeps out of cores (MADV_DONTDUMP). A core by the kernel or by gdb lacks it, and what it alone holds would
- * be named: so the table says where it is. A call by libc itself is not seen. */
+/* Memory that the program keeps out of cores (MADV_DONTDUMP). A core by the kernel or by gdb lacks it, and what it alone
+ * holds would be named: so the table says where it is. A call by libc itself is not seen. */
 #define _GNU_SOURCE
 #include <sys/mman.h>
 #include <sys/syscall.h>

@@ -24,8 +24,8 @@ int frees_wipe, tables_stay, execs_are_traced;
 uint64_t most_megabytes;
 static struct stat first_error;
 
-/* Says in one line why there is no table, or by errno where `why` is null. Standard error is written to only while it is the file that it was
- * at the start: a daemon may have put a connection, or its data, in that place. */
+/* Says in one line why there is no table, or by errno where `why` is null. Standard error is written to only while it is the
+ * file that it was at the start: a daemon may have put a connection, or its data, in that place. */
 void complain(const char *what, const char *why)
 {
     struct stat error;

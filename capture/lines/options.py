@@ -4,6 +4,21 @@ from typing import NamedTuple
 
 USAGE = """usage: leak_lines [-n N] [--suppress FILE].. [--exit-code] [--folded | --json | --html FILE] [REPORT]
        leak_lines --since OLD [--no-lines] [-n N] [--suppress FILE].. [--exit-code] [NEW]"""
+HELP = USAGE + """
+Copies a report of leak_find, with its rows as a table by function, file and line.
+
+  REPORT           the report, or standard input
+  -n N             shows the first N rows
+  --suppress FILE  leaves out the rows that a suppression in the file names
+  --exit-code      status 1 if leaks are left, 2 if the report is not whole
+  --since OLD      compares with an older report
+  --no-lines       with it: a function is the same though its lines have moved
+  --folded         stacks for flame graphs
+  --json           a document for programs
+  --html FILE      writes a page
+
+status: 0, or 1 as above; 2 if there is no answer, with a line on standard error"""
+HELP_WORDS = ("-h", "--help")
 VALUED = ("--suppress", "--since", "--html")
 FORMS = {"--folded": "folded", "--json": "json"}
 FLAGS = ("--exit-code", "--no-lines")
@@ -62,6 +77,8 @@ def read(words):
         word = words.pop(0)
         if word == "--":
             break
+        if word in HELP_WORDS:
+            raise Refused(HELP)
         options = with_option(options, *valued(word, words))
     if len(words) > 1 or (options.form != "table" if options.since is not None else not options.has_lines):
         raise Refused(USAGE)

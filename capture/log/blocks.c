@@ -1,6 +1,5 @@
 /* The blocks of a table, and those that an earlier log leaves live. */
 #define _GNU_SOURCE
-#include <stdio.h>
 #include <stdlib.h>
 #include <string.h>
 
@@ -13,7 +12,7 @@ int by_stamp(const void *a, const void *b)
     return (x->stamp > y->stamp) - (x->stamp < y->stamp);
 }
 
-int by_start(const void *a, const void *b)
+static int by_start_and_stamp(const void *a, const void *b)
 {
     const struct block *x = a, *y = b;
 
@@ -27,7 +26,7 @@ static size_t keep_newest(struct blocks *blocks, int even_empty)
     size_t left = 0, count = blocks->count;
     struct block *list = blocks->list;
 
-    qsort(list, count, sizeof *list, by_start);
+    qsort(list, count, sizeof *list, by_start_and_stamp);
     for (size_t i = 0; i < count; i++)
         if ((i + 1 == count || list[i + 1].start != list[i].start) && (list[i].size || even_empty))
             list[left++] = list[i];
@@ -40,16 +39,16 @@ static const struct table_head *head_of(struct file file, const struct core *cor
     const struct table_head *head = (const void *)file.bytes;
 
     if (file.size < HEAD_BYTES || memcmp(head->magic, TABLE_MAGIC, sizeof head->magic))
-        fail(file.path, "not a table of leak_trace");
+        fail("%s: not a table of leak_trace", file.path);
     if (head->depth < 1 || head->depth > MAX_DEPTH
         || head->used > (file.size - HEAD_BYTES) / 8 / (ENTRY_CALLERS + head->depth)
         || head->leaves_at > file.size || head->leaves_at % 8
         || head->leaves > (file.size - head->leaves_at) / 8 / LEAF_WORDS)
-        fail(file.path, "the table is cut off");
-    for (size_t i = 0; i < core->part_count; i++)
-        if (core->parts[i].start == head->base && !core->parts[i].offset)
+        fail("%s: the table is cut off", file.path);
+    for (size_t i = 0; i < core->parts.count; i++)
+        if (core->parts.list[i].start == head->base && !core->parts.list[i].offset)
             return head;
-    fail(file.path, "the table is not of this core's process");
+    fail("%s: the table is not of this core's process", file.path);
 }
 
 struct blocks read_table(struct file file, const struct core *core)
@@ -75,21 +74,15 @@ struct blocks read_table(struct file file, const struct core *core)
     blocks.kept_out = kept_out_bytes(core, head);
     blocks.is_more_kept_out = head->kept_out_missed && !core->is_whole;
     if (head->missed)
-        fprintf(stderr, "leak_log: %llu blocks found no place in the table (%s): leaks among them are not named\n",
-                (unsigned long long)head->missed, head->refused ? strerror(head->refused) : "it is full");
+        warn("%llu blocks found no place in the table (%s): leaks among them are not named", (unsigned long long)head->missed,
+             head->refused ? strerror(head->refused) : "it is full");
     if (moving)
-        fprintf(stderr, "leak_log: %zu blocks are just being moved by realloc: nobody knows where to, so that the log "
-                "has no freed memory, and --skip-freed changes little\n", moving);
+        warn("%zu blocks are just being moved by realloc: nobody knows where to, so that the log has no freed memory, and "
+             "--skip-freed changes little", moving);
     blocks.knows_freed = !moving && !head->missed;
     if (dropped)
-        fprintf(stderr, "leak_log: %zu blocks were freed behind leak_trace's back: others of those may be named "
-                "wrongly\n", dropped);
+        warn("%zu blocks were freed behind leak_trace's back: others of those may be named wrongly", dropped);
     return blocks;
-}
-
-static int begins(const char *at, const char *stop, const char *with)
-{
-    return (size_t)(stop - at) > strlen(with) && !memcmp(at, with, strlen(with));
 }
 
 /* What an earlier log of leak_log leaves live: of each start the last line, where it allocates. */
@@ -102,8 +95,7 @@ struct blocks read_log(struct file file)
     int is_ours = 0;
 
     for (; at < end; at = stop + 1) {
-        if (!(stop = memchr(at, '\n', end - at)))
-            fail(file.path, "the log ends in the middle of a line");
+        stop = end_of_line(file, at);
         const char *where = memrchr(at, ']', stop - at), *start = where ? where + strlen(came) : at + strlen(went);
         if (begins(at, stop, remark) && !begins(at, stop, head))
             continue;
@@ -117,10 +109,10 @@ struct blocks read_log(struct file file)
             blocks.list[blocks.count] = (struct block){ strtoull(start, NULL, 16), where != NULL, blocks.count, NULL };
             blocks.count++;
         } else if (where || !begins(at, stop, freed))
-            fail(file.path, "not a log of leak_log");
+            fail("%s: not a log of leak_log", file.path);
     }
     if (!is_ours)
-        fail(file.path, "not a log of leak_log");
+        fail("%s: not a log of leak_log", file.path);
     keep_newest(&blocks, 0);
     return blocks;
 }

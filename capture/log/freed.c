@@ -1,5 +1,4 @@
 /* Freed memory: what was ever in a block of less than 128 KiB, and is in none now. */
-#include <stdio.h>
 #include <stdlib.h>
 
 #include "log.h"
@@ -55,32 +54,47 @@ static int by_region(const void *a, const void *b)
     return (x < y) - (x > y);   /* they are complemented */
 }
 
+/* The used leaves of the table, by ascending region. Gives how many. */
+static size_t find_leaves(struct file file, const uint64_t ***leaves)
+{
+    const struct table_head *head = (const void *)file.bytes;
+    const uint64_t *leaf = (const uint64_t *)(file.bytes + head->leaves_at);
+    size_t count = 0;
+
+    for (uint64_t i = 0; i < head->leaves; i++, leaf += LEAF_WORDS)
+        if (*leaf) {
+            *leaves = grown(*leaves, count, sizeof **leaves);
+            (*leaves)[count++] = leaf;
+        }
+    if (count)
+        qsort(*leaves, count, sizeof **leaves, by_region);
+    return count;
+}
+
+/* Looks at both words of each piece that has a bit. */
+static void look_at_leaf(struct walk *walk, const uint64_t *leaf)
+{
+    for (uint64_t piece = 0; piece < LEAF_BITS; piece++) {
+        uint64_t bits = leaf[1 + piece / 64] >> piece % 64;
+        if (!bits) {
+            piece |= 63;
+            continue;
+        }
+        piece += __builtin_ctzll(bits);
+        look_at(walk, (~leaf[0] << REGION_BITS) + (piece << PIECE_BITS));
+        look_at(walk, (~leaf[0] << REGION_BITS) + (piece << PIECE_BITS) + 8);
+    }
+}
+
 /* Writes what is free, given all live blocks by ascending start. */
 void write_freed(struct file file, const struct blocks *live)
 {
-    const struct table_head *head = (const void *)file.bytes;
-    const uint64_t *first = (const uint64_t *)(file.bytes + head->leaves_at), **leaves = NULL;
+    const uint64_t **leaves = NULL;
     struct walk walk = { .live = live };
-    size_t count = 0;
+    size_t count = find_leaves(file, &leaves);
 
-    for (uint64_t i = 0; i < head->leaves; i++)
-        if (first[i * LEAF_WORDS]) {
-            leaves = grown(leaves, count, sizeof *leaves);
-            leaves[count++] = first + i * LEAF_WORDS;
-        }
-    if (count)
-        qsort(leaves, count, sizeof *leaves, by_region);
     for (size_t i = 0; i < count; i++)
-        for (uint64_t piece = 0; piece < LEAF_BITS; piece++) {
-            uint64_t bits = leaves[i][1 + piece / 64] >> piece % 64;
-            if (!bits) {
-                piece |= 63;
-                continue;
-            }
-            piece += __builtin_ctzll(bits);
-            look_at(&walk, (~leaves[i][0] << REGION_BITS) + (piece << PIECE_BITS));
-            look_at(&walk, (~leaves[i][0] << REGION_BITS) + (piece << PIECE_BITS) + 8);
-        }
+        look_at_leaf(&walk, leaves[i]);
     write_row(&walk);
     free(leaves);
 }

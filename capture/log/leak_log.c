@@ -1,51 +1,17 @@
 /* leak_log CORE TABLE [--after LOG]: writes the blocks of a table that leak_trace.so kept as a log in the
  * format of glibc's mtrace, for leak_find, and before them what memory was freed. With --after it writes LOG
  * first, which it made of an earlier table of the same process, and then what came and went since. */
-#include <errno.h>
-#include <fcntl.h>
-#include <stdio.h>
 #include <stdlib.h>
 #include <string.h>
-#include <sys/mman.h>
-#include <sys/stat.h>
-#include <unistd.h>
 
 #include "log.h"
 
-void fail(const char *what, const char *why)
-{
-    fprintf(stderr, "leak_log: %s: %s\n", what, why);
-    exit(2);
-}
-
-/* The list, with room for one more. */
-void *grown(void *list, size_t count, size_t each)
-{
-    if (count & (count - 1))
-        return list;
-    list = realloc(list, (count ? 2 * count : 1) * each);
-    if (!list)
-        fail("memory", strerror(errno));
-    return list;
-}
-
-struct file open_file(const char *path)
-{
-    struct file file = { (const uint8_t *)"", 0, path };
-    struct stat about;
-    int descriptor = open(path, O_RDONLY);
-
-    if (descriptor < 0 || fstat(descriptor, &about))
-        fail(path, strerror(errno));
-    if (about.st_size) {
-        file.bytes = mmap(NULL, about.st_size, PROT_READ, MAP_PRIVATE, descriptor, 0);
-        file.size = about.st_size;
-        if (file.bytes == MAP_FAILED)
-            fail(path, strerror(errno));
-    }
-    close(descriptor);
-    return file;
-}
+const char program[] = "leak_log", usage[] = "usage: leak_log CORE TABLE [--after LOG]\n", help[] =
+    "Writes to standard output a log of the blocks that a table of leak_trace has, for leak_find. leak_dump calls it.\n\n"
+    "  CORE         a core of the process, of the moment of the table\n"
+    "  TABLE        a copy of the table\n"
+    "  --after LOG  writes LOG first, made of an earlier table of the same process, and then what came and went since\n\n"
+    "status: 0, or 2 if there is no log, with a line on standard error\n";
 
 /* Writes the ends of the old blocks that are gone, and gives the new ones. A block of the earlier log is live
  * still where the later table has its start with a stamp of that time. Both ascend by start. */
@@ -59,8 +25,10 @@ static struct blocks write_ends(const struct blocks *old, const struct blocks *b
         int gone = k == blocks->count || (i < old->count && was->start < is->start);
         int came = i == old->count || (k < blocks->count && is->start < was->start);
         int anew = !gone && !came && is->stamp > old->moment;
-        if (gone || anew)
-            printf("- 0x%llx\n", (unsigned long long)was->start);
+        if (gone || anew) {
+            put_hex("- 0x", was->start);
+            put_text("\n");
+        }
         if (came || anew) {
             fresh.list = grown(fresh.list, fresh.count, sizeof *fresh.list);
             fresh.list[fresh.count++] = *is;
@@ -71,16 +39,23 @@ static struct blocks write_ends(const struct blocks *old, const struct blocks *b
     return fresh;
 }
 
+static void put_remark(const char *what, uint64_t number)
+{
+    put_text("= leak_log ");
+    put_text(what);
+    put_number(number);
+    put_text("\n");
+}
+
 /* Says by a remark of the log, and to the user, that the core lacks memory. */
 static void tell_kept_out(const struct blocks *blocks)
 {
-    unsigned long long bytes = blocks->kept_out;
-
-    if (!bytes && !blocks->is_more_kept_out)
+    if (!blocks->kept_out && !blocks->is_more_kept_out)
         return;
-    printf("= leak_log kept out %llu\n", bytes);
-    fprintf(stderr, "leak_log: the program keeps %s%llu bytes out of cores (MADV_DONTDUMP), which this core lacks, though it may not say so "
-            "(undumped): what they alone hold is named; leak_core has them\n", blocks->is_more_kept_out ? "more than " : "", bytes);
+    put_remark("kept out ", blocks->kept_out);
+    warn("the program keeps %s%llu bytes out of cores (MADV_DONTDUMP), which this core lacks, though it may not say so (undumped): "
+         "what they alone hold is named; leak_core has them", blocks->is_more_kept_out ? "more than " : "",
+         (unsigned long long)blocks->kept_out);
 }
 
 /* Do blocks stand side by side, one in a hundred at least? glibc keeps 8 bytes between two. Those with one start are one. */
@@ -96,41 +71,47 @@ static int stand_side_by_side(const struct blocks *blocks)
 /* Says by a remark of the log, and to the user, that the heap is not glibc's: by the name of a library, or else by its blocks. */
 static void tell_allocator(const struct core *core, const struct blocks *blocks)
 {
-    const char *name = other_allocator(core);
+    const struct part *part = other_allocator(&core->parts);
+    const char *name = part ? name_of(part) : stand_side_by_side(blocks) ? "unknown" : NULL;
 
-    if (!name && stand_side_by_side(blocks))
-        name = "unknown";
     if (!name)
         return;
-    printf("= leak_log allocator %s\n", name);
-    fprintf(stderr, "leak_log: the allocator is %s: search with --other-heap --skip-ends\n", name);
+    put_text("= leak_log allocator ");
+    put_text(name);
+    put_text("\n");
+    warn("the allocator is %s: search with --other-heap --skip-ends", name);
 }
 
-int main(int count, char **arguments)
+/* Writes the earlier log and the ends of its blocks, and gives the new blocks. */
+static struct blocks write_old_log(const char *path, const struct blocks *blocks)
 {
-    int is_later = count == 5 && !strcmp(arguments[3], "--after");
+    struct file log = map_file(path);
+    struct blocks old = read_log(log), fresh;
 
-    if (count != 3 && !is_later) {
-        fputs("usage: leak_log CORE TABLE [--after LOG]\n", stderr);
-        return 2;
-    }
-    struct core core = read_core(open_file(arguments[1]));
-    struct file table = open_file(arguments[2]);
-    struct blocks blocks = read_table(table, &core), fresh = blocks;
-    if (is_later) {
-        struct file log = open_file(arguments[4]);
-        struct blocks old = read_log(log);
-        if (old.base != blocks.base)
-            fail(log.path, "the earlier log is of another process");
-        fwrite(log.bytes, 1, log.size, stdout);
-        fresh = write_ends(&old, &blocks);
-        if (fresh.moment < old.moment)
-            fresh.moment = old.moment;
-    }
-    printf("= leak_log moment 0x%llx table 0x%llx\n", (unsigned long long)fresh.moment,
-           (unsigned long long)fresh.base);
+    if (old.base != blocks->base)
+        fail("%s: the earlier log is of another process", path);
+    put_bytes(log.bytes, log.size);
+    fresh = write_ends(&old, blocks);
+    if (fresh.moment < old.moment)
+        fresh.moment = old.moment;
+    return fresh;
+}
+
+int main(int count, char **words)
+{
+    int is_later = count == 5 && !strcmp(words[3], "--after");
+
+    if (count != 3 && !is_later)
+        refuse_words(count, words);
+    struct core core = read_core(words[1]);
+    struct file table = map_file(words[2]);
+    struct blocks blocks = read_table(table, &core), fresh = is_later ? write_old_log(words[4], &blocks) : blocks;
+
+    put_hex("= leak_log moment 0x", fresh.moment);
+    put_hex(" table 0x", fresh.base);
+    put_text("\n");
     if (blocks.missed)
-        printf("= leak_log missed %llu\n", (unsigned long long)blocks.missed);
+        put_remark("missed ", blocks.missed);
     tell_kept_out(&blocks);
     tell_allocator(&core, &blocks);
     if (blocks.knows_freed)
@@ -139,7 +120,6 @@ int main(int count, char **arguments)
         qsort(fresh.list, fresh.count, sizeof *fresh.list, by_stamp);
     for (size_t i = 0; i < fresh.count; i++)
         print_block(&core, fresh.list + i, fresh.depth);
-    if (fflush(stdout) || ferror(stdout))
-        fail("standard output", strerror(errno));
+    put_end();
     return 0;
 }

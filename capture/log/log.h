@@ -2,30 +2,13 @@
 #ifndef LEAK_LOG_H
 #define LEAK_LOG_H
 
-#include <elf.h>
-#include <stddef.h>
-#include <stdint.h>
-
+#include "../common/common.h"
 #include "../table.h"
 
-struct file {
-    const uint8_t *bytes;
-    uint64_t size;
-    const char *path;
-};
-
-/* A part of a file that the process had mapped. An address in it is at `address + bias` in the ELF file. */
-struct part {
-    uint64_t start, end, offset, bias;
-    const char *path;
-    int known;
-};
-
 struct core {
-    struct part *parts;         /* by ascending start */
-    size_t part_count;
-    const Elf64_Phdr *segments;
-    size_t segment_count;
+    struct file file;
+    struct headers headers;
+    struct parts parts;
     int is_whole;               /* by leak_core, which has what the program keeps out of cores */
 };
 
@@ -47,24 +30,15 @@ struct blocks {
     int is_more_kept_out;       /* are there more of them, of which the table does not say where? */
 };
 
-/* leak_log.c */
-__attribute__((noreturn)) void fail(const char *what, const char *why);
-void *grown(void *list, size_t count, size_t each);
-struct file open_file(const char *path);
-
 /* core.c */
-struct core read_core(struct file file);
-const char *other_allocator(const struct core *core);
+struct core read_core(const char *path);
 void tell_undumped(const struct core *core, const struct table_head *head);
 uint64_t kept_out_bytes(const struct core *core, const struct table_head *head);
 
 /* place.c */
-void put_text(const char *text);
-void put_hex(const char *before, uint64_t value);
-void print_block(const struct core *core, const struct block *block, uint64_t depth);
+void print_block(struct core *core, const struct block *block, uint64_t depth);
 
 /* blocks.c */
-int by_start(const void *a, const void *b);
 int by_stamp(const void *a, const void *b);
 struct blocks read_table(struct file file, const struct core *core);
 struct blocks read_log(struct file file);

@@ -24,7 +24,7 @@ def offered(*words, folder=None):
 def wanted(name):
     """The options of a command, by its man page, or of a subcommand, by its help."""
     if name == "leak_find":
-        return {"-h", "--help"}
+        return {"-h", "--help", "-V", "--version"}
     return options_of.of_help(name)[0] if name in options_of.SUBCOMMANDS else options_of.of_page(name)
 
 

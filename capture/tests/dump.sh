@@ -121,7 +121,9 @@ else
     leave_out 'a process of another user: only root may run one'
 fi
 verdict 'no process' 'leak_core: no process 4194304' "$("$kit/leak_core" 4194304 none.core 2>&1)"
-verdict 'no number' 'leak_core: 12x is no number of a process' "$("$kit/leak_core" 12x none.core 2>&1)"
+[ "$(cat /proc/2/comm 2> /dev/null)" != kthreadd ] ||
+    verdict 'a thread of the kernel' 'leak_core: process 2 has no memory of its own: it is a thread of the kernel, or ends' "$("$kit/leak_core" 2 none.core 2>&1)"
+verdict 'no number' "leak_core: '12x' is no number of a process" "$("$kit/leak_core" 12x none.core 2>&1)"
 kill -STOP "$kinds"
 until_true 5 has_states "$kinds" "$(echo "$before" | tr S T)"
 core_of "$kinds" stopped.core

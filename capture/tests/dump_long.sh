@@ -4,12 +4,17 @@
 . "$(dirname "$0")/common.sh"
 chmod 755 .
 
+# memory_of PID: how many bytes of it are in memory, or swapped out.
+memory_of() { awk '/^(Rss|Swap):/ { kilobytes += $2 } END { print kilobytes * 1024 }' "/proc/$1/smaps_rollup"; }
+
 # serve NAME PID: dumps a process that serves, and compares what gdb finds in the core with what there is.
 serve() {
-    local there threads
-    there=$(awk '/^(Rss|Swap):/ { kilobytes += $2 } END { print kilobytes * 1024 }' "/proc/$2/smaps_rollup")
+    local there later threads
+    there=$(memory_of "$2")
     threads=$(ls "/proc/$2/task" | wc -l)
     limited 300 "$kit/leak_core" "$2" "$1.core" 2> said || cat said
+    later=$(memory_of "$2") # it goes on taking and giving back
+    [ "$later" -le "$there" ] || there=$later
     echo "     $1: $(stat -c %s "$1.core") bytes, of $there that are there and $(awk '/^VmSize/ { print $2 }' "/proc/$2/status") kB mapped;" \
         "standstill $(sed -n 's/.*stood still for //p' said)"
     grep -v 'stood still' said

@@ -26,7 +26,7 @@ refused() {
 }
 usage='usage: leak_lines [-n N] [--suppress FILE].. [--exit-code] [--folded | --json | --html FILE] [REPORT]
        leak_lines --since OLD [--no-lines] [-n N] [--suppress FILE].. [--exit-code] [NEW]'
-for words in '-n' '-n 0' '-n x' '-n -1' '-x' '--help' 'one two'; do
+for words in '-n' '-n 0' '-n x' '-n -1' '-x' 'one two'; do
     verdict "refused: $words" "2 0 $usage" "$(refused $words)"
 done
 verdict 'no such report' '2 0 leak_lines: none.report: No such file or directory' "$(refused none.report)"

@@ -8,7 +8,7 @@ SUBCOMMANDS = ("one", "two", "why", "holders", "grow")
 SOURCES = {"leak_trace": "leak_trace", "leak_dump": "leak_dump", "leak_report": "leak_report", "leak_lines": "lines/options.py",
         "leak_log": "log/leak_log.c", "leak_walk": "walk/leak_walk.c"}
 OPTION = re.compile(r"(?<![\w/-])--?[a-z][a-z-]*")
-PAGE_OPTION = re.compile(r"(?:\\fB|^\.B [a-z_]+ (?=-))(--?[a-z][a-z-]*)", re.MULTILINE)
+PAGE_OPTION = re.compile(r"(?:\\fB|^\.B [a-z_]+ (?=-))(--?[a-zA-Z][a-z-]*)", re.MULTILINE)
 
 
 def text_of(*path):
@@ -24,14 +24,18 @@ def of_page(name):
 
 def of_program(name):
     """The options that the usage of a program has."""
-    text = text_of(SOURCES[name])
+    return of_usage(text_of(SOURCES[name]))
+
+
+def of_usage(text):
+    """The options that the lines of a usage have."""
     return set(OPTION.findall("\n".join(re.findall(r"usage: .*(?:\n +leak_.*)?", text))))
 
 
 def of_help(subcommand):
-    """The options of a subcommand of leak_find, and those that take a value."""
+    """The options of a subcommand of leak_find, or of the program itself, and those that take a value."""
     with open(os.path.join(HELP, subcommand + ".txt"), encoding="utf-8") as file:
         lines = [line for line in file if line.startswith("  ")]
-    found = [re.match(r" +(?:(-[a-z]), )?(--[a-z-]+)( <)?", line) for line in lines]
+    found = [re.match(r" +(?:(-[a-zA-Z]), )?(--[a-z-]+)( <)?", line) for line in lines]
     found = [match for match in found if match]
     return {word for match in found for word in match.groups()[:2] if word}, {match[2] for match in found if match[3]}

@@ -1,6 +1,7 @@
 """Man pages: each has the options that its program has, and no other."""
 import os
 import re
+import subprocess
 import unittest
 
 import options_of
@@ -18,8 +19,18 @@ class Pages(unittest.TestCase):
             with self.subTest(name):
                 self.assertEqual(options_of.of_page(name), options_of.of_program(name))
 
+    def test_a_help_tells_of_each_option(self):
+        for name in [*options_of.SOURCES, "leak_core"]:
+            for word in ("--help", "-h"):
+                with self.subTest(f"{name} {word}"):
+                    found = subprocess.run([os.path.join(options_of.KIT, name), word], capture_output=True, text=True)
+                    self.assertEqual((found.returncode, found.stdout), (2, ""))
+                    self.assertTrue(found.stderr.startswith(f"usage: {name} "))
+                    told = set(re.findall(r"^  (--?[a-z][a-z-]*)", found.stderr, re.MULTILINE))
+                    self.assertEqual(told, options_of.of_usage(found.stderr))
+
     def test_the_page_of_leak_find_has_the_options_of_its_help(self):
-        helps = [options_of.of_help(name)[0] for name in options_of.SUBCOMMANDS]
+        helps = [options_of.of_help(name)[0] for name in (*options_of.SUBCOMMANDS, "program")]
         self.assertEqual(options_of.of_page("leak_find"), set().union(*helps))
 
     def test_the_page_of_leak_find_has_the_subcommands_of_its_help(self):
@@ -37,7 +48,7 @@ class Pages(unittest.TestCase):
         self.assertEqual(taken["one"], set(listed[:-4]))
         self.assertEqual(taken["two"], set(listed[:-4]))
         self.assertEqual(taken["holders"], set(listed) - {"--check"})
-        self.assertEqual(taken["why"], set(listed[:listed.index("--displace") + 1]))
+        self.assertEqual(taken["why"], {*listed[:listed.index("--displace") + 1], "--other-heap", "--strict"})
         self.assertEqual(taken["grow"], {"--strict"})
 
 

@@ -60,7 +60,30 @@ if [ "$dumps_core" ]; then
     rm -f core core.*
 fi
 reported none 999999999
-verdict 'no such process' 2 $status
+verdict 'no such process' '2 leak_dump: no process 999999999' "$status $(cat none.said)"
+reported word 12x
+verdict 'no process and no file' "2 leak_report: '12x' is no number of a process, and no file that can be read" "$status $(cat word.said)"
+while read -r what wanted; do
+    reported kind "$what"
+    verdict "no core: $what" "2 leak_dump: $what $wanted" "$status $(cat kind.said)"
+done << END
+$kit/README.md is no core
+$kit/leak_core is a program or a library, and no core
+$work is a folder
+END
+gzip -c "$kit/README.md" > packed.core
+reported kind packed.core
+verdict 'a core that is compressed' '2 leak_dump: packed.core is compressed: unpack it first, as coredumpctl dump does' "$status $(cat kind.said)"
+LEAK_FIND=/nonexistent reported kind $$
+verdict 'no leak_find' '2 leak_report: LEAK_FIND is /nonexistent, which is no program' "$status $(cat kind.said)"
+printf '#!/bin/sh\nexit 137\n' > ends && chmod +x ends
+if [ "$attaches" ]; then
+    unprepared ./walk_leaks
+    LEAK_FIND=$PWD/ends reported kind $process
+    verdict 'a search that is killed' '2 leak_report: leak_find ended with status 137: there is no whole report' "$status $(tail -n 1 kind.said)"
+    verdict 'no folder that goes is named' 0 "$(grep -c leak_report\\. kind.said)"
+    stop $process
+fi
 reported nothing
 verdict 'no word' 'usage: leak_report [--keep DIR] [--after DIR] [--list] [-n N] PID | CORE [TABLE]' "$(cat nothing.said)"
 reported odd --other 1
@@ -69,5 +92,5 @@ for number in '' 0 x 1x -1 1000000000000000000000; do
     reported number -n "$number" 999999999
     verdict "-n '$number'" "2 usage: leak_report [--keep DIR] [--after DIR] [--list] [-n N] PID | CORE [TABLE]" "$status $(cat number.said)"
 done
-verdict 'no output where it refuses' '' "$(cat none.out nothing.out odd.out number.out)"
+verdict 'no output where it refuses' '' "$(cat none.out nothing.out odd.out number.out word.out kind.out)"
 unset LEAK_FIND

@@ -91,7 +91,7 @@ if [ "$dumps" ]; then
         LD_PRELOAD=$jemalloc unprepared ./walk_leaks
         core_of $process jemalloc
         stop $process
-        refused jemalloc 'another allocator (jemalloc, tcmalloc, musl' jemalloc.core
+        refused jemalloc 'the allocator is libjemalloc.so.2, and only glibc' jemalloc.core
     else
         leave_out jemalloc
     fi
@@ -99,7 +99,7 @@ if [ "$dumps" ]; then
         unprepared redis-server --port 28185 --bind 127.0.0.1 --save '' --appendonly no
         core_of $process redis
         stop $process
-        refused redis 'another allocator (jemalloc, tcmalloc, musl' redis.core
+        refused redis 'the allocator is libjemalloc.so.2, and only glibc' redis.core
     else
         leave_out redis
     fi
@@ -124,13 +124,14 @@ killed() {
 }
 
 section 1,000 mutations under sanitizers
-if [ "$dumps_core" ] && gcc -O1 -g -std=gnu11 -fsanitize=address,undefined -fno-sanitize-recover=undefined "$kit"/walk/*.c -o sanitized 2> sanitized.said; then
+if [ "$dumps_core" ] && gcc -O1 -g -std=gnu11 -fsanitize=address,undefined -fno-sanitize-recover=undefined "$kit"/walk/*.c "$kit"/common/*.c -o sanitized 2> sanitized.said; then
     killed leaks ./walk_leaks
     killed types ./walk_types
     killed perl perl -e 'my %h; $h{$_} = "x" x $_ for 1 .. 999; <STDIN>'
     killed bash bash -c 'x=$(seq 9999); read y'
     killed python /usr/bin/python3 -c 'import sys; x = [str(i) for i in range(9999)]; sys.stdin.readline()'
-    python3 "$kit/tests/walk_mutate.py" "${MUTATIONS:-1000}" "$walk" ./sanitized *.killed > mutations
+    gcc -shared -fPIC -O1 -o memory.so "$kit/tests/walk_memory.c"
+    python3 "$kit/tests/walk_mutate.py" "${MUTATIONS:-1000}" "$walk" ./sanitized ./memory.so *.killed > mutations
     verdict 'mutations and cuts' 0 $?
     tail -n 5 mutations
 fi
@@ -140,10 +141,18 @@ build walk_many.c
 unprepared ./walk_many 10000000
 core_of $process many
 stop $process
-start_time=$(date +%s%N)
-"$walk" many.core > many.log 2> many.said
-verdict 'ten million blocks' 0 $?
-echo "     $(((($(date +%s%N) - start_time)) / 1000000)) ms by the clock; $(cat many.said)"
+python3 - "$walk" many.core > many.used 2> many.said << 'END'
+import resource, subprocess, sys, time
+began = time.monotonic()
+status = subprocess.run(sys.argv[1:], stdout=open("many.log", "wb")).returncode
+used = resource.getrusage(resource.RUSAGE_CHILDREN)
+print(status, used.ru_maxrss * 1024, int(1000 * (used.ru_utime + used.ru_stime)), int(1000 * (time.monotonic() - began)))
+END
+read -r status bytes processor_ms clock_ms < many.used
+verdict 'ten million blocks' 0 "$status"
+echo "     $clock_ms ms by the clock, $processor_ms of a processor, at most $bytes bytes in memory; $(cat many.said)"
+verdict 'at most 4 s of a processor, and 300 MB with what is in memory of the core' 'yes yes' \
+    "$([ "$processor_ms" -le 4000 ] && echo yes) $([ "$bytes" -le 300000000 ] && echo yes)"
 verdict 'each in the log' yes "$([ "$(grep -c '^@' many.log)" -ge 10000000 ] && echo yes)"
 rm -f many.core many.log
 complete=1

@@ -1,10 +1,11 @@
-"""walk_mutate.py COUNT WALK SANITIZED CORE..: so many times takes one of the cores, damages it or cuts it off at random, and runs leak_walk and its
-build with -fsanitize=address,undefined over it. Each must end within 10 seconds, with 0, 1 or 2, with no finding, without output where it is 2, and
-leak_walk with less address space than twice the core's size and 16 MiB, which has the C library too. The first damage is by the seed SEED of the environment, or 1."""
+"""walk_mutate.py COUNT WALK SANITIZED MEMORY CORE..: so many times takes one of the cores, damages it or cuts it off at random, and runs leak_walk and its
+build with -fsanitize=address,undefined over it. Each must end within 10 seconds, with 0, 1 or 2, with no finding, without output where it is 2. What
+leak_walk allocates, which the preloaded library MEMORY counts, and the mapped core must be twice the core's size at most. The first damage is by the seed
+SEED of the environment, or 1."""
 import os, random, struct, subprocess, sys, tempfile
 
-count, walk, sanitized, cores = int(sys.argv[1]), sys.argv[2], sys.argv[3], sys.argv[4:]
-SECONDS, FOUND, SPARE = 10, 99, 16 << 20
+count, walk, sanitized, memory, cores = int(sys.argv[1]), sys.argv[2], sys.argv[3], os.path.abspath(sys.argv[4]), sys.argv[5:]
+SECONDS, FOUND = 10, 99
 environment = dict(os.environ, ASAN_OPTIONS=f"exitcode={FOUND}:detect_leaks=0", UBSAN_OPTIONS=f"halt_on_error=1:exitcode={FOUND}")
 
 def writable(data):
@@ -41,12 +42,11 @@ def mutate(data, chance):
             data[chance.randrange(64 + 56 * 200)] = chance.randrange(256)
     return data[:chance.randrange(len(data))] if kind == 5 else data
 
-def run(program, path, options, limit):
-    """What was wrong, or nothing. The limit is one of addresses, since the memory that a child took is counted with its parent's."""
+def run(program, path, options, more):
+    """What was wrong, or nothing."""
     with open(path + ".out", "wb") as out, open(path + ".said", "wb") as said:
         try:
-            status = subprocess.run(["sh", "-c", f'{f"ulimit -v {limit // 1024};" if limit else ""} exec "$@"', "-", program, *options, path],
-                                    stdout=out, stderr=said, env=environment, timeout=SECONDS).returncode
+            status = subprocess.run([program, *options, path], stdout=out, stderr=said, env={**environment, **more}, timeout=SECONDS).returncode
         except subprocess.TimeoutExpired:
             return f"more than {SECONDS} s"
     text = open(path + ".said", "rb").read()
@@ -57,7 +57,17 @@ def run(program, path, options, limit):
         return "output beside a refusal"
     return "" if status != 2 or text.startswith(b"leak_walk: ") else f"no reason: {text}"
 
-statuses, bad = {}, 0
+def run_counted(path, options, size):
+    """The same of leak_walk itself, and that it allocates no more than the core's size."""
+    global most
+    wrong = run(walk, path, options, {"LD_PRELOAD": memory, "MEMORY": path + ".memory"})
+    if wrong:
+        return wrong
+    allocated = int(open(path + ".memory").read())
+    most = max(most, allocated / max(size, 1))
+    return f"{allocated} bytes allocated, for a core of {size}" if allocated > size else ""
+
+statuses, bad, most = {}, 0, 0
 with tempfile.TemporaryDirectory() as folder:
     for i in range(count):
         chance = random.Random(int(os.environ.get("SEED", "1")) * 1000003 + i)
@@ -66,9 +76,9 @@ with tempfile.TemporaryDirectory() as folder:
         with open(path, "wb") as copy:
             copy.write(data)
         options = ["--partial"] if chance.random() < 0.5 else []
-        wrong = run(sanitized, path, options, None) or run(walk, path, options, 2 * len(data) + SPARE)
+        wrong = run(sanitized, path, options, {}) or run_counted(path, options, len(data))
         if wrong:
             bad += 1
             print(f"mutation {i} of {core}: {wrong}", flush=True)
-print(f"{count} mutations, {bad} wrong; statuses of both builds {dict(sorted(statuses.items()))}")
+print(f"{count} mutations, {bad} wrong; statuses of both builds {dict(sorted(statuses.items()))}; at most {most:.4f} of the core's size allocated")
 sys.exit(bad != 0)

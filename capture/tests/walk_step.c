@@ -8,7 +8,7 @@ static int said;
 static struct block found[MOST], freed[MOST], own[MOST];
 static int found_count, freed_count, own_count, extra_count;
 static struct user_regs_struct registers;
-static long moments, refused, missing, over, lost, many, unsaid, misfits, most_maps, least_maps = MOST_MAPS;
+static long moments, refused, missing, over, lost, many, unsaid, misfits, left_out, most_maps, least_maps = MOST_MAPS;
 
 static int by_start(const void *a, const void *b)
 {
@@ -78,14 +78,17 @@ static void count_extra(void)
         its_own += find(found, found_count, own[i].start) != NULL;
     extra_count = found_count - held - its_own;
 }
-/* Blocks that the next chunk says are free, but for the one that realloc has: it says so of that one while it makes it larger. */
+/* Whether a block fits the core, as leak_find has it. */
+static int fits(const struct block *b)
+{
+    uint64_t head = core_word(b->start - 8), size = head & ~(uint64_t)7, least = (b->size + 8 + 15) & ~(uint64_t)15;
+    if (head & 2) return size >= b->size + 16 && size < b->size + 16 + PAGE_BYTES + 16;
+    return size >= (least < 32 ? 32 : least) && size <= least + 32 && core_word(b->start + size - 8) & 1;
+}
 static void count_misfits(void)
 {
-    for (int i = 0; i < found_count; i++) {
-        uint64_t head = core_word(found[i].start - 8), size = head & ~(uint64_t)7;
-        int fits = head & 2 || core_word(found[i].start + size - 8) & 1;
-        if (!fits && found[i].start != truth->moving.start) misfits++, tell("misfit", found[i].start);
-    }
+    for (int i = 0; i < found_count; i++)
+        if (!fits(found + i)) misfits++, tell("misfit", found[i].start);
 }
 static void compare(void)
 {
@@ -98,14 +101,15 @@ static void compare(void)
     if (extra_count > IN_HAND) many++, tell("too many", extra_count);
     count_misfits();
 }
-/* A block that realloc has is there under its old address or the one that realloc gives in the end: which, is known only then. */
-static int gone; /* moments of this call at which it wasn't at the old one, but something more was there */
+/* A block that realloc has is there under its old address or the one that realloc gives in the end, or it is left out, if the core has it
+ * half made: its size word leads to one that does not say that it is in use. Then its memory is not freed either. */
 static void follow(void)
 {
-    if (truth->moving.start && !is_there(&truth->moving)) {
-        if (extra_count > 0) gone++;
-        else lost++, tell("realloc's", truth->moving.start);
-    }
+    const struct block moving = truth->moving;
+    uint64_t head = moving.start ? core_word(moving.start - 8) : 0;
+    if (!moving.start || is_there(&moving)) return;
+    if (!(head & 2 || core_word(moving.start + (head & ~(uint64_t)7) - 8) & 1) && !is_over(&moving)) left_out++;
+    else if (extra_count <= 0) lost++, tell("realloc's", moving.start);
 }
 /* The moment without registers: a walk that is not right without them must say so. */
 static void without_registers(void)
@@ -198,8 +202,8 @@ int main(int argc, char **argv)
         if (is_call) read_maps(thread, registers.rsp), begin_core();
         if (truth->inside && !is_repeated && copy_memory() | is_call) look();
     }
-    printf("%ld instructions, %ld moments, %ld of them refused without registers; %ld mappings come and go\n", steps, moments, unsaid,
-           most_maps - least_maps);
+    printf("%ld instructions, %ld moments, %ld of them refused without registers; %ld mappings come and go; realloc's block left out %ld times\n", steps,
+           moments, unsaid, most_maps - least_maps, left_out);
     printf("refused %ld missing %ld freed %ld lost %ld more %ld misfits %ld\n", refused, missing, over, lost, many, misfits);
     return !moments || refused + missing + over + lost + many + misfits;
 }

@@ -5,11 +5,6 @@
 
 #include "walk.h"
 
-static int begins(const char *at, const char *stop, const char *with)
-{
-    return (size_t)(stop - at) > strlen(with) && !memcmp(at, with, strlen(with));
-}
-
 static int by_start_and_line(const void *a, const void *b)
 {
     const struct old_block *x = a, *y = b;
@@ -74,16 +69,12 @@ static void keep_live(struct old_log *log)
 
 struct old_log read_old_log(const char *path)
 {
-    struct old_log log = { 0 };
-    const char *at, *stop, *end;
+    struct old_log log = { .file = map_file(path) };
+    const char *at = (const char *)log.file.bytes, *stop, *end = at + log.file.size;
     uint64_t freed = 0;
 
-    log.bytes = map_file(path, &log.size);
-    end = (const char *)log.bytes + log.size;
-    for (at = (const char *)log.bytes; at < end; at = stop + 1) {
-        stop = memchr(at, '\n', end - at);
-        if (!stop)
-            fail("%s: the log ends in the middle of a line", path);
+    for (; at < end; at = stop + 1) {
+        stop = end_of_line(log.file, at);
         if (!read_line(&log, at, stop, &freed))
             fail("%s: not a log of leak_walk", path);
     }
@@ -121,7 +112,7 @@ void write_old_log(struct heap *heap, struct old_log *old)
     struct matcher m = { .visitor = { match, pass }, .old = old };
 
     visit(heap, &m.visitor);
-    put_bytes(old->bytes, old->size);
+    put_bytes(old->file.bytes, old->file.size);
     for (size_t i = 0; i < old->count; i++)
         if (!old->list[i].is_same) {
             put_hex("- 0x", old->list[i].start);

@@ -7,11 +7,12 @@
 /* NBINS - 1; and how many may be out of order, since a core can be taken while a thread links or unlinks chunks. */
 enum { BINS = 127, MAY_BE_ODD = 7 };
 
-/* Offsets in the arena from its word `top`. bin_at() takes a bin for a chunk, whose fd and bk are at 16 and 24: so the first bin's chunk
- * begins at `top` itself. */
+/* Offsets in the arena from its word `top`. bin_at() takes a bin for a chunk, whose fd and bk are at 16 and 24: so the first
+ * bin's chunk begins at `top` itself. */
 enum { BIN_BYTES = 16, FD = 16, BK = 24, TO_NEXT = 2064, TO_SYSTEM_MEM = 2088, TO_END = 2104 };
 
-/* From an arena's start to `top`: glibc 2.27 on, with ten fast bins; 2.26, without the word have_fastchunks; and without fast bins. */
+/* From an arena's start to `top`: glibc 2.27 on, with ten fast bins; 2.26, without the word have_fastchunks; and without
+ * fast bins. */
 static const uint64_t layouts[] = { 96, 88, 8 };
 enum { LAYOUTS = sizeof layouts / sizeof *layouts };
 
@@ -44,14 +45,14 @@ static int has_bins(struct core *core, uint64_t top_at)
 }
 
 /* Finds arenas by their last bin, which holds no chunk: its two words are its own address. */
-static void find_in(struct heap *heap, const struct segment *s)
+static void find_bins(struct heap *heap, const struct segment *s)
 {
     enum { TO_LAST_BIN = BIN_BYTES * (BINS - 1) };
+    uint64_t at = (s->start + 7) & -(uint64_t)8, value;
 
-    for (uint64_t at = -s->start % 8; s->size >= BIN_BYTES && at <= s->size - BIN_BYTES; at += 8) {
-        uint64_t bin = s->start + at - FD, pair[2];
-        memcpy(pair, s->bytes + at, sizeof pair);
-        if (pair[0] != bin || pair[1] != bin || bin < TO_LAST_BIN || !has_bins(heap->core, bin - TO_LAST_BIN))
+    for (; at - s->start < s->size && word(heap->core, at, &value); at += 8) {
+        uint64_t bin = at - FD;
+        if (value != bin || bin < TO_LAST_BIN || !is_word(heap->core, bin + BK, bin) || !has_bins(heap->core, bin - TO_LAST_BIN))
             continue;
         heap->arenas = grown(heap->arenas, heap->arena_count, sizeof *heap->arenas);
         heap->arenas[heap->arena_count++] = (struct arena){ .top_at = bin - TO_LAST_BIN };
@@ -78,7 +79,8 @@ const struct arena *arena_at(const struct heap *heap, uint64_t start)
     return heap->arena_count ? by_top(heap, start + (heap->arenas[0].top_at - heap->arenas[0].start)) : NULL;
 }
 
-/* The arena that tells one process from another: the main arena of the C library that was mapped first, which is at the highest address. */
+/* The arena that tells one process from another: the main arena of the C library that was mapped first, which is at the
+ * highest address. */
 const struct arena *main_arena(const struct heap *heap)
 {
     size_t i = heap->arena_count - 1;
@@ -166,16 +168,20 @@ static void read_arena(struct heap *heap, struct arena *a, uint64_t layout)
         a->first_heap = first_heap;
 }
 
+static void find_all_bins(struct heap *heap)
+{
+    for (size_t i = 0; i < heap->core->segment_count; i++)
+        if (heap->core->segments[i].is_writable)
+            find_bins(heap, heap->core->segments + i);
+}
+
 void find_arenas(struct heap *heap)
 {
     uint64_t layout;
 
-    for (size_t i = 0; i < heap->core->segment_count; i++)
-        if (heap->core->segments[i].is_writable)
-            find_in(heap, heap->core->segments + i);
+    find_all_bins(heap);
     if (!heap->arena_count)
-        fail("%s: no arena of glibc's malloc: another allocator (jemalloc, tcmalloc, musl's), or malloc was never called; start the "
-             "program by leak_trace, if it is not static", heap->core->path);
+        refuse_heap(heap->core, "arena of glibc's malloc");
     layout = find_layout(heap);
     heap->has_fast_bins = layout != layouts[LAYOUTS - 1];
     for (size_t i = 0; i < heap->arena_count; i++)

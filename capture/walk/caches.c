@@ -49,13 +49,20 @@ static int read_cache(struct heap *heap, struct cache *c)
     return filled;
 }
 
-/* Makes of what lists may still take what they have: an empty one may take all. */
+/* How many chunks an empty list may take. */
+static uint64_t most_of(const struct cache *c)
+{
+    for (uint64_t i = 0; i < c->shape->bins; i++)
+        if (!c->first[i])
+            return c->count[i];
+    return USUAL_COUNT;
+}
+
+/* Makes of what lists may still take what they have. */
 static void turn_counts(struct cache *c)
 {
-    uint64_t most = USUAL_COUNT;
+    uint64_t most = most_of(c);
 
-    for (uint64_t i = c->shape->bins; i--;)
-        most = c->first[i] ? most : c->count[i];
     for (uint64_t i = 0; i < c->shape->bins; i++)
         c->count[i] = c->count[i] <= most ? most - c->count[i] : ODD;
 }
@@ -70,7 +77,8 @@ static int is_of_size(struct heap *heap, uint64_t block, uint64_t bin)
     return is_used(heap, block - TO_BLOCK) && (!size_of(bin) || size_at(heap, block - TO_BLOCK) == size_of(bin));
 }
 
-/* Whether each list begins with a block of its size, and has chunks where its count says so, but for one that is just being changed. */
+/* Whether each list begins with a block of its size, and has chunks where its count says so, but for one that is just being
+ * changed. */
 static int looks_right(struct heap *heap, const struct cache *c)
 {
     int odd = 0;
@@ -97,7 +105,7 @@ static int take_list(struct heap *heap, struct cache *c, uint64_t bin)
     return !block;
 }
 
-static void put_back(struct heap *heap, const struct cache *c, uint64_t bin)
+static void put_list_back(struct heap *heap, const struct cache *c, uint64_t bin)
 {
     uint64_t block = c->first[bin], link;
 
@@ -105,6 +113,12 @@ static void put_back(struct heap *heap, const struct cache *c, uint64_t bin)
         set_used(heap, block - TO_BLOCK, 1);
         block = revealed(block, link, c->is_safe);
     }
+}
+
+static void put_back(struct heap *heap, const struct cache *c, uint64_t bins)
+{
+    while (bins--)
+        put_list_back(heap, c, bins);
 }
 
 /* Takes all lists, or none. Of those whose links say nothing by themselves each must be as long as its count. */
@@ -121,12 +135,12 @@ static int take_lists(struct heap *heap, struct cache *c)
     if (is_well && odd <= (c->is_safe || c->key ? 1 : 0))
         return 1;
     take_steps(heap, steps, c->block);
-    while (i--)
-        put_back(heap, c, i);
+    put_back(heap, c, i);
     return 0;
 }
 
-/* Whether the block is a cache of this shape; then its chunks are taken. The empty one of a thread is the first chunk of its arena. */
+/* Whether the block is a cache of this shape; then its chunks are taken. The empty one of a thread is the first chunk of its
+ * arena. */
 static int take_as(struct heap *heap, uint64_t block, const struct shape *shape, int is_safe, int is_first)
 {
     struct cache c = { .block = block, .shape = shape, .is_safe = is_safe };

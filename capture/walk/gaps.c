@@ -8,12 +8,12 @@
 enum { WORD = 8 };
 
 /* The note: start and end of each writable mapping of private memory without a file. */
-void read_ranges(struct core *core, const uint8_t *note, uint64_t size)
+void read_ranges(struct core *core, const struct note *note)
 {
-    for (uint64_t at = 0; size - at >= 2 * WORD; at += 2 * WORD) {
+    for (uint64_t at = 0; note->size - at >= 2 * WORD; at += 2 * WORD) {
         struct range range;
-        memcpy(&range.start, note + at, WORD);
-        memcpy(&range.end, note + at + WORD, WORD);
+        memcpy(&range.start, note->bytes + at, WORD);
+        memcpy(&range.end, note->bytes + at + WORD, WORD);
         core->ranges = grown(core->ranges, core->range_count, sizeof *core->ranges);
         core->ranges[core->range_count++] = range;
     }
@@ -25,8 +25,8 @@ static void add_gap(struct core *core, uint64_t start, uint64_t end)
     core->segments[core->segment_count++] = (struct segment){ .start = start, .end = end, .is_writable = 1 };
 }
 
-/* Adds a segment without bytes for each gap of the range between the first `count` segments, from `next` on; gives the first segment
- * that ends behind the range. */
+/* Adds a segment without bytes for each gap of the range between the first `count` segments, from `next` on; gives the first
+ * segment that ends behind the range. */
 static size_t fill_range(struct core *core, struct range range, size_t count, size_t next)
 {
     uint64_t at = range.start;

@@ -1,7 +1,7 @@
-/* What a stopped thread was about to write. To cut a chunk, or to join free ones, malloc writes several words, and a thread can stop
- * between any two of them: then the size word of the new free chunk is what memory had there before. But the thread still has
- * the chunk's address and its size in registers, since it was to store them next (glibc, malloc/malloc.c, set_head). */
-#include <elf.h>
+/* What a stopped thread was about to write. To cut a chunk, or to join free ones, malloc writes several words, and a thread
+ * can stop between any two of them: then the size word of the new free chunk is what memory had there before. But the thread
+ * still has the chunk's address and its size in registers, since it was to store them next (glibc, malloc/malloc.c, set_head).
+ * */
 #include <sys/procfs.h>
 
 #include "walk.h"
@@ -14,15 +14,15 @@ static size_t hint_of(uint64_t address)
 }
 
 /* Of a thread's status (Linux, struct elf_prstatus), its registers. */
-void read_registers(struct core *core, const uint8_t *note, uint64_t size)
+void read_registers(struct core *core, const struct note *note)
 {
     struct thread *thread;
 
-    if (size < offsetof(struct elf_prstatus, pr_reg) + sizeof thread->words)
+    if (note->size < offsetof(struct elf_prstatus, pr_reg) + sizeof thread->words)
         return;
     core->threads = grown(core->threads, core->thread_count, sizeof *core->threads);
     thread = core->threads + core->thread_count++;
-    memcpy(thread->words, note + offsetof(struct elf_prstatus, pr_reg), sizeof thread->words);
+    memcpy(thread->words, note->bytes + offsetof(struct elf_prstatus, pr_reg), sizeof thread->words);
     for (size_t i = 0; i < REGISTERS; i++)
         core->hints[hint_of(thread->words[i])] = 1;
 }
@@ -71,8 +71,8 @@ static int is_whole(struct core *core, uint64_t at, uint64_t size)
     return size >= LEAST && is_word(core, at + size, size) && word(core, at + size + CHUNK_HEAD, &next) && !(next & PREV_INUSE);
 }
 
-/* By the chunk's end: malloc has put the rest of a free chunk into a list, and behind the rest stands yet the size of the whole; or
- * realloc has the block before, the rest, its end and its head, and no list has the rest. */
+/* By the chunk's end: malloc has put the rest of a free chunk into a list, and behind the rest stands yet the size of the
+ * whole; or realloc has the block before, the rest, its end and its head, and no list has the rest. */
 static enum evidence evidence_of(struct core *core, const struct chain *chain, const struct thread *thread, uint64_t head)
 {
     uint64_t at = chain->at, size = head & ~(uint64_t)FLAGS, end = at + size, next, now;
@@ -131,32 +131,33 @@ static int try_here(struct heap *heap, struct chain *chain, enum evidence least)
 
 enum { MOST_PLACES = 32 };
 
-/* The last places of the chain that registers have, from the last one on. Gives how many. */
+/* The places of the chain that registers have. Gives how many there are: the last ones are kept, each at its number modulo
+ * MOST_PLACES. */
 static size_t find_places(struct heap *heap, struct chain chain, struct chain *places)
 {
-    struct chain last[MOST_PLACES];
     struct chunk chunk;
-    size_t count = 0, i = 0;
+    size_t count = 0;
     uint64_t before = chain.count;
 
     do
         if (heap->core->hints[hint_of(chain.at)])
-            last[count++ % MOST_PLACES] = chain;
+            places[count++ % MOST_PLACES] = chain;
     while (next_chunk(heap->core, &chain, &chunk));
     take_steps(heap, chain.count - before, chain.at);
-    for (; i < count && i < MOST_PLACES; i++)
-        places[i] = last[(count - 1 - i) % MOST_PLACES];
-    return i;
+    return count;
 }
 
-/* The chain that begins so and breaks, with what may be due on its way, if it ends well with that; else as it breaks. */
+/* The chain that begins so and breaks, with what may be due on its way, from the last place on, if it ends well with that;
+ * else as it breaks. */
 struct chain mended(struct heap *heap, const struct chain *start, const struct chain *broken)
 {
     struct chain places[MOST_PLACES];
-    size_t count = find_places(heap, *start, places);
+    size_t all = find_places(heap, *start, places), count = all < MOST_PLACES ? all : MOST_PLACES;
 
-    for (size_t i = 0; i < 2 * count; i++)
-        if (try_here(heap, places + i % count, i < count ? STRONG : WEAK))
-            return places[i % count];
+    for (size_t i = 0; i < 2 * count; i++) {
+        struct chain *place = places + (all - 1 - i % count) % MOST_PLACES;
+        if (try_here(heap, place, i < count ? STRONG : WEAK))
+            return *place;
+    }
     return *broken;
 }

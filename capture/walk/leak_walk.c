@@ -1,43 +1,23 @@
-/* leak_walk [--partial] [--quiet] [--after LOG] CORE: walks the heap of glibc's malloc inside a core, and writes a log in mtrace's
- * format for leak_find: which blocks were in use, and which memory was free. It needs no symbols and no version, and the process
- * no preparation. With --after it writes LOG first, which it made of an earlier core of the same process, and then what came and
- * went since. */
-#include <stdarg.h>
+/* leak_walk [--partial] [--quiet] [--after LOG] CORE: walks the heap of glibc's malloc inside a core, and writes a log in
+ * mtrace's format for leak_find: which blocks were in use, and which memory was free. It needs no symbols and no version, and
+ * the process no preparation. With --after it writes LOG first, which it made of an earlier core of the same process, and then
+ * what came and went since. */
 #include <stdio.h>
 #include <stdlib.h>
-#include <string.h>
 
 #include "walk.h"
 
 enum { COMPLETE = 0, PARTIAL = 1, REFUSED = 2 };
 
+const char program[] = "leak_walk", usage[] = "usage: leak_walk [--partial] [--quiet] [--after LOG] CORE\n", help[] =
+    "Writes to standard output a log of the blocks that were in use in the heap of glibc's malloc, for leak_find.\n\n"
+    "  CORE         a core of the process: by leak_core, gcore or the kernel\n"
+    "  --after LOG  writes LOG first, made of an earlier core of the same process, and then what came and went since\n"
+    "  --partial    goes on if the heap is damaged, and says what is left out\n"
+    "  --quiet      does not say how many blocks, arenas and free chunks there are\n\n"
+    "status: 0; 1 if --partial left something out; 2 if there is no log, with a line on standard error\n";
+
 static int may_be_partial, is_partial;
-
-static void say(const char *form, va_list list)
-{
-    fputs("leak_walk: ", stderr);
-    vfprintf(stderr, form, list);
-    fputc('\n', stderr);
-}
-
-void warn(const char *form, ...)
-{
-    va_list list;
-
-    va_start(list, form);
-    say(form, list);
-    va_end(list);
-}
-
-void fail(const char *form, ...)
-{
-    va_list list;
-
-    va_start(list, form);
-    say(form, list);
-    va_end(list);
-    exit(REFUSED);
-}
 
 /* Says what can't be read, and ends, or with --partial goes on. */
 void damaged(const char *form, ...)
@@ -52,15 +32,15 @@ void damaged(const char *form, ...)
     is_partial = 1;
 }
 
-/* The list, with room for one more. */
-void *grown(void *list, size_t count, size_t each)
+/* There is no heap of glibc's malloc, for want of this. */
+void refuse_heap(const struct core *core, const char *wanting)
 {
-    if (count & (count - 1))
-        return list;
-    list = realloc(list, (count ? 2 * count : 1) * each);
-    if (!list)
-        fail("out of memory");
-    return list;
+    const struct part *part = other_allocator(&core->parts);
+
+    if (part)
+        fail("%s: the allocator is %s, and only glibc's heap can be read: start the program by leak_trace", core->path, name_of(part));
+    fail("%s: no %s: another allocator (jemalloc, tcmalloc, musl's), or malloc was never called; start the program by leak_trace, if "
+         "it is not static", core->path, wanting);
 }
 
 /* Counts steps that a right heap needs few of. */
@@ -75,11 +55,12 @@ void take_steps(struct heap *heap, uint64_t count, uint64_t near)
 static void set_steps(struct heap *heap)
 {
     enum { LEAST_CHUNK = 32, TRIES = 1 << 20 };
+    uint64_t dumped = 0;
 
     for (size_t i = 0; i < heap->core->segment_count; i++)
         if (heap->core->segments[i].is_writable)
-            heap->dumped_left += heap->core->segments[i].size;
-    heap->steps_left = 2 * (heap->dumped_left / LEAST_CHUNK) + TRIES;
+            dumped += heap->core->segments[i].size;
+    heap->steps_left = 2 * (dumped / LEAST_CHUNK) + TRIES;
 }
 
 /* Finds all chunks, and which are in use. */
@@ -96,22 +77,16 @@ static void walk(struct heap *heap)
     find_mapped(heap);
     take_caches(heap);
     if (!heap->region_count && !heap->mapping_count)
-        fail("%s: no chunk in glibc's heap: another allocator (jemalloc, tcmalloc, musl's), or malloc was never called; start the "
-             "program by leak_trace, if it is not static", heap->core->path);
+        refuse_heap(heap->core, "chunk in glibc's heap");
 }
 
 /* Names another allocator, of which the log has nothing. */
 static void tell_others(const struct core *core)
 {
-    static const char *const names[] = { "libjemalloc", "libtcmalloc", "libmimalloc" };
+    const struct part *part = other_allocator(&core->parts);
 
-    for (size_t i = 0; i < core->part_count * 3; i++) {
-        const struct part *part = core->parts + i / 3;
-        if (strstr(part->path, names[i % 3]) && !part->offset) {
-            warn("%s: its blocks are not in the log", part->path);
-            return;
-        }
-    }
+    if (part)
+        warn("%s: its blocks are not in the log", part->path);
 }
 
 static void tell(const struct heap *heap)
@@ -149,10 +124,8 @@ int main(int count, char **words)
     const char *earlier = NULL, *path = read_arguments(count, words, &is_quiet, &earlier);
     struct old_log old = { 0 };
 
-    if (!path) {
-        fputs("usage: leak_walk [--partial] [--quiet] [--after LOG] CORE\n", stderr);
-        return REFUSED;
-    }
+    if (!path)
+        refuse_words(count, words);
     struct core core = read_core(path);
     struct heap heap = { .core = &core };
     walk(&heap);

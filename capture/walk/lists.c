@@ -9,8 +9,8 @@ uint64_t revealed(uint64_t place, uint64_t link, int is_safe)
     return is_safe ? place >> PAGE_BITS ^ link : link;
 }
 
-/* Takes the chunks of the list as free, and gives how many; the list ends where no chunk in use of this size is. One that leads in a
- * circle where no chunk is known ends with the steps. */
+/* Takes the chunks of the list as free, and gives how many; the list ends where no chunk in use of this size is. One that
+ * leads in a circle where no chunk is known ends with the steps. */
 static uint64_t take(struct heap *heap, uint64_t at, uint64_t size, int is_safe, int *ends_well)
 {
     uint64_t count = 0, link;

@@ -13,12 +13,13 @@ struct writer {
     struct totals totals;
 };
 
-/* By its first word, where that is an address in a mapped file: of a C++ object its class's table, of others what tells their kind. An
- * address of code is written one further, as a caller's return address would be: so leak_lines tells the right function. */
+/* By its first word, where that is an address in a mapped file: of a C++ object its class's table, of others what tells
+ * their kind. An address of code is written one further, as a caller's return address would be: so leak_lines tells the right
+ * function. */
 static void put_what(struct heap *heap, uint64_t start, uint64_t size)
 {
     uint64_t first;
-    const struct part *part = word(heap->core, start, &first) ? part_of(heap->core, first) : NULL;
+    const struct part *part = word(heap->core, start, &first) ? part_of(&heap->core->parts, first) : NULL;
     const struct segment *s = part ? segment_at(heap->core, first) : NULL;
 
     if (part) {

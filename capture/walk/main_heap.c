@@ -1,5 +1,5 @@
-/* The memory of a main arena: what sbrk gave, in one piece or more, and pieces that were mapped in its stead (glibc, malloc/malloc.c,
- * sysmalloc). */
+/* The memory of a main arena: what sbrk gave, in one piece or more, and pieces that were mapped in its stead (glibc,
+ * malloc/malloc.c, sysmalloc). */
 #include "walk.h"
 
 enum { CHUNK_HEAD = 8, PREV_INUSE = 1, FLAGS = 7, LEAST = 32, ALIGNMENT = 16, FENCES = 32 };
@@ -40,8 +40,8 @@ static void find_rest(struct heap *heap, uint64_t from, uint64_t limit, const st
     while (chain.stop == AT_FENCES) {
         uint64_t start = find_chain(heap, from, arena->top, arena->top, &chain);
         if (start == UINT64_MAX) {
-            damaged("%s: damaged: no chain of chunks from above 0x%llx reaches the top 0x%llx", heap->core->path, (unsigned long long)from,
-                    (unsigned long long)arena->top);
+            damaged("%s: damaged: no chain of chunks from above 0x%llx reaches the top 0x%llx", heap->core->path,
+                    (unsigned long long)from, (unsigned long long)arena->top);
             heap->left_out += arena->top - from;
             return;
         }
@@ -64,8 +64,8 @@ static struct chain chain_to(struct heap *heap, const struct arena *arena, uint6
     return chain.at <= arena->top ? run_chain(heap, chain) : chain;
 }
 
-/* A heap by sbrk is as large as the arena says, and ends with the top. While the memory or the top is just being changed one of both is not
- * right yet, but the memory's own end may be. */
+/* A heap by sbrk is as large as the arena says, and ends with the top. While the memory or the top is just being changed one
+ * of both is not right yet, but the memory's own end may be. */
 static void find_contiguous(struct heap *heap, const struct arena *arena, uint64_t limit, const struct segment *s)
 {
     uint64_t other = s->run_end;

@@ -9,7 +9,8 @@ static uint64_t mapped_end(struct heap *heap, uint64_t start, uint64_t behind, u
 {
     uint64_t head, size, room = limit - start;
 
-    if (room < behind + TO_BLOCK || !is_word(heap->core, start + behind, behind) || !word(heap->core, start + behind + CHUNK_HEAD, &head))
+    if (room < behind + TO_BLOCK || !is_word(heap->core, start + behind, behind)
+        || !word(heap->core, start + behind + CHUNK_HEAD, &head))
         return 0;
     size = head & ~(uint64_t)FLAGS;
     if ((head & FLAGS) != IS_MMAPPED || size < TO_BLOCK || size > room - behind || (behind + size) % PAGE)

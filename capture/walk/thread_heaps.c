@@ -1,4 +1,5 @@
-/* Heaps of threads' arenas (glibc, malloc/arena.c, heap_info): they begin at multiples of HEAP_MAX_SIZE with the address of their arena. */
+/* Heaps of threads' arenas (glibc, malloc/arena.c, heap_info): they begin at multiples of HEAP_MAX_SIZE with the address of
+ * their arena. */
 #include "walk.h"
 
 enum { TO_SIZE = 16, ALIGNMENT = 16, CHUNK_HEAD = 8 };
@@ -7,6 +8,11 @@ enum { TO_SIZE = 16, ALIGNMENT = 16, CHUNK_HEAD = 8 };
 uint64_t head_bytes(const struct arena *arena)
 {
     return arena->start - arena->first_heap;
+}
+
+static uint64_t aligned(uint64_t address, uint64_t alignment)
+{
+    return (address + alignment - 1) & -alignment;
 }
 
 /* Whether no word was written from here to there yet. */
@@ -19,8 +25,8 @@ static int is_fresh(struct heap *heap, uint64_t from, uint64_t to)
     return at == to;
 }
 
-/* Whether the heap has no chunk yet: its arena is just being made, and its first top is the first bin; or the arena takes this heap next,
- * and its top is yet in the one before. */
+/* Whether the heap has no chunk yet: its arena is just being made, and its first top is the first bin; or the arena takes
+ * this heap next, and its top is yet in the one before. */
 static int is_begun(struct heap *heap, const struct arena *arena, uint64_t top, uint64_t start, uint64_t limit)
 {
     return arena->top == arena->top_at || (!top && is_word(heap->core, start + CHUNK_HEAD, 0) && is_fresh(heap, start, limit));
@@ -46,7 +52,7 @@ static void end_full(struct region *region, const struct chain *chain)
 
 static void add_heap(struct heap *heap, uint64_t base, const struct arena *arena)
 {
-    uint64_t size, start = base == arena->first_heap ? (end_of(arena) + ALIGNMENT - 1) & -(uint64_t)ALIGNMENT : base + head_bytes(arena);
+    uint64_t size, start = base == arena->first_heap ? aligned(end_of(arena), ALIGNMENT) : base + head_bytes(arena);
     uint64_t top = (arena->top & -HEAP_BYTES) == base ? arena->top : 0;
 
     if (!word(heap->core, base + TO_SIZE, &size) || size % PAGE || size > HEAP_BYTES || size < start - base || top > base + size) {
@@ -69,7 +75,7 @@ static void add_heap(struct heap *heap, uint64_t base, const struct arena *arena
 
 static void find_heaps_in(struct heap *heap, const struct segment *s)
 {
-    for (uint64_t base = (s->start + HEAP_BYTES - 1) & -HEAP_BYTES; base >= s->start && base - s->start < s->size; base += HEAP_BYTES) {
+    for (uint64_t base = aligned(s->start, HEAP_BYTES); base >= s->start && base - s->start < s->size; base += HEAP_BYTES) {
         uint64_t start;
         const struct arena *arena = word(heap->core, base, &start) ? arena_at(heap, start) : NULL;
         if (arena && arena->first_heap)

@@ -1,4 +1,5 @@
-/* Which chunks are in use: a bit for each, set by the next chunk's size word, and cleared where a list of free chunks has it. */
+/* Which chunks are in use: a bit for each, set by the next chunk's size word, and cleared where a list of free chunks has
+ * it. It is found by the place of the chunk's size word in the file, so that memory that was never touched takes none. */
 #include <stdlib.h>
 
 #include "walk.h"
@@ -8,18 +9,35 @@ enum { CHUNK_HEAD = 8, PREV_INUSE = 1, FLAGS = 7, PIECE = 16, BYTE_OF_PIECES = 8
 /* The chunks of a region, all well known. */
 struct chain chunks_of(const struct region *region)
 {
-    return (struct chain){ .at = region->start, .top = region->end, .limit = region->limit, .is_thread = region->arena->first_heap != 0,
-                           .due = region->due };
+    return (struct chain){ .at = region->start, .top = region->end, .limit = region->limit, .due = region->due,
+                           .is_thread = region->arena->first_heap != 0 };
 }
 
-static uint8_t *bits_of(const struct region *r, uint64_t at)
+/* The byte that has the chunk's bit, and the bit; or NULL where the core doesn't have its size word. */
+static uint8_t *bits_of(struct heap *heap, uint64_t at, uint8_t *bit)
 {
-    return r->used + (at - r->start) / BYTE_OF_PIECES;
+    uint64_t place;
+
+    if (!place_of(heap->core, at + CHUNK_HEAD, &place))
+        return NULL;
+    *bit = 1 << place / PIECE % 8;
+    return heap->used + place / BYTE_OF_PIECES;
 }
 
-int is_used_in(const struct region *r, uint64_t at)
+/* Whether the chunk there, which is known, is in use. */
+int is_marked(struct heap *heap, uint64_t at)
 {
-    return *bits_of(r, at) >> (at - r->start) / PIECE % 8 & 1;
+    uint8_t bit, *bits = bits_of(heap, at, &bit);
+
+    return bits && *bits & bit;
+}
+
+static void mark(struct heap *heap, uint64_t at, int used)
+{
+    uint8_t bit, *bits = bits_of(heap, at, &bit);
+
+    if (bits)
+        *bits = used ? *bits | bit : *bits & ~bit;
 }
 
 /* Whether a chunk that the next one says is free has its size behind it too, or is in a list. */
@@ -28,7 +46,8 @@ static int is_whole(struct heap *heap, const struct region *r, const struct chun
     return chunk->at == r->due.at || is_word(heap->core, chunk->at + chunk->size, chunk->size) || is_listed(heap->core, chunk->at);
 }
 
-/* Whether a thread has it in hand: the next chunk's size word says that it is free, or is yet to be written, and nothing else says so. */
+/* Whether a thread has it in hand: the next chunk's size word says that it is free, or is yet to be written, and nothing
+ * else says so. */
 static int is_unsettled(struct heap *heap, const struct region *r, const struct chunk *chunk)
 {
     uint64_t next = 0;
@@ -39,30 +58,8 @@ static int is_unsettled(struct heap *heap, const struct region *r, const struct 
     return !(next & PREV_INUSE);
 }
 
-static int has_size(struct heap *heap, uint64_t at, uint64_t size)
-{
-    uint64_t head;
-
-    return word(heap->core, at + CHUNK_HEAD, &head) && (head & ~(uint64_t)FLAGS) == size;
-}
-
-/* Whether a chunk in hand is a block that realloc makes larger or smaller. Inside a larger one is yet the head of the free chunk, or of the
- * top, that it took. Behind the rest of a smaller one the next chunk says that it is in use. */
-static int is_resized(struct heap *heap, const struct region *r, const struct chunk *chunk)
-{
-    uint64_t end = chunk->at + chunk->size, rest = end == r->due.at ? r->due.size : 0, taken, next, at = chunk->at + PIECE;
-
-    if (rest && word(heap->core, end + rest + CHUNK_HEAD, &next) && next & PREV_INUSE)
-        return 1;
-    if (word(heap->core, end + rest, &taken) && taken > rest && taken - rest < chunk->size && has_size(heap, end + rest - taken, taken))
-        return 1;
-    while (at < end && end == r->top && !has_size(heap, at, r->limit - at))
-        at += PIECE;
-    return at < end && end == r->top;
-}
-
-/* Whether registers show that a thread is at work on the chunk, by where it begins, where it ends or where the free one before it begins.
- * Where there are more such chunks than threads can have in hand, the heap is damaged. */
+/* Whether registers show that a thread is at work on the chunk, by where it begins, where it ends or where the free one
+ * before it begins. Where there are more such chunks than threads can have in hand, the heap is damaged. */
 static int is_held(const struct heap *heap, const struct chunk *chunk, uint64_t before)
 {
     const struct core *core = heap->core;
@@ -72,16 +69,17 @@ static int is_held(const struct heap *heap, const struct chunk *chunk, uint64_t 
         && (has_in_hand(core, chunk->at, chunk->at) || has_in_hand(core, end, end) || has_in_hand(core, before, before));
 }
 
-/* Sorts out a chunk that is unsettled: a block, if realloc has it or no thread; else it is known as one in hand. Gives whether it is a
- * block. */
-static int settle(struct heap *heap, const struct region *r, const struct chunk *chunk)
+/* Sorts out a chunk that is unsettled: if a thread has it, it is known as one in hand, also if it is a block that realloc
+ * makes larger or smaller, since its size word and the next one don't fit each other yet; else it is a block. Gives whether it
+ * is a block. */
+static int settle(struct heap *heap, const struct chunk *chunk)
 {
     uint64_t size = 0;
 
     if (!chunk->is_used && !heap->odd_chunks.count++)
         heap->odd_chunks.first = chunk->at;
     word(heap->core, chunk->at, &size);
-    if (is_resized(heap, r, chunk) || !is_held(heap, chunk, chunk->at - size))
+    if (!is_held(heap, chunk, chunk->at - size))
         return 1;
     heap->in_hand = grown(heap->in_hand, heap->in_hand_count, sizeof *heap->in_hand);
     heap->in_hand[heap->in_hand_count++] = chunk->at;
@@ -96,8 +94,8 @@ int is_in_hand(const struct heap *heap, uint64_t at)
 
 static void note(struct heap *heap, struct region *r, const struct chunk *chunk)
 {
-    if (is_unsettled(heap, r, chunk) ? settle(heap, r, chunk) : chunk->is_used) {
-        *bits_of(r, chunk->at) |= 1 << (chunk->at - r->start) / PIECE % 8;
+    if (is_unsettled(heap, r, chunk) ? settle(heap, chunk) : chunk->is_used) {
+        mark(heap, chunk->at, 1);
         if (may_be_cache(chunk->size)) {
             heap->maybe_caches = grown(heap->maybe_caches, heap->maybe_cache_count, sizeof *heap->maybe_caches);
             heap->maybe_caches[heap->maybe_cache_count++] = *chunk;
@@ -110,12 +108,6 @@ static void find_used_in(struct heap *heap, struct region *r)
     struct chain chain = chunks_of(r);
     struct chunk chunk;
 
-    if (r->end - r->start > heap->dumped_left)
-        fail("%s: damaged: the core does not have all of the heap at 0x%llx", heap->core->path, (unsigned long long)r->start);
-    heap->dumped_left -= r->end - r->start;
-    r->used = calloc((r->end - r->start) / BYTE_OF_PIECES + 1, 1);
-    if (!r->used)
-        fail("out of memory");
     while (next_chunk(heap->core, &chain, &chunk))
         note(heap, r, &chunk);
 }
@@ -123,6 +115,9 @@ static void find_used_in(struct heap *heap, struct region *r)
 /* Sorts the regions, and reads which of their chunks are in use. */
 void find_used(struct heap *heap)
 {
+    heap->used = calloc(heap->core->file.size / BYTE_OF_PIECES + 1, 1);
+    if (!heap->used)
+        fail("out of memory");
     if (heap->region_count)
         qsort(heap->regions, heap->region_count, sizeof *heap->regions, by_start);
     for (size_t i = 0; i < heap->region_count; i++) {
@@ -154,17 +149,14 @@ int is_used(struct heap *heap, uint64_t at)
 {
     const struct region *r = at % PIECE ? NULL : region_of(heap, at);
 
-    return r && (at >= r->end || is_used_in(r, at));
+    return r && (at >= r->end || is_marked(heap, at));
 }
 
 /* Sets it of a chunk. */
 void set_used(struct heap *heap, uint64_t at, int used)
 {
-    const struct region *r = region_of(heap, at);
-    uint8_t bit = 1 << (at - r->start) / PIECE % 8;
-
-    if (at < r->end)
-        *bits_of(r, at) = used ? *bits_of(r, at) | bit : *bits_of(r, at) & ~bit;
+    if (at < region_of(heap, at)->end)
+        mark(heap, at, used);
 }
 
 /* Whether it is the first chunk of a region. */

@@ -11,7 +11,7 @@ static void visit_chunks(struct heap *heap, const struct region *r, struct visit
 
     while (next_chunk(heap->core, &chain, &chunk)) {
         uint64_t start = chunk.at + TO_BLOCK, end = chunk.at + chunk.size + LAST_WORD;
-        if (chunk.size > FENCE && is_used_in(r, chunk.at))
+        if (chunk.size > FENCE && is_marked(heap, chunk.at))
             v->block(v, start, end - start);
         else if (chunk.size > FENCE && !is_in_hand(heap, chunk.at))
             v->unused(v, start, end);

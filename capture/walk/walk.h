@@ -2,11 +2,9 @@
 #ifndef LEAK_WALK_H
 #define LEAK_WALK_H
 
-#include <stddef.h>
-#include <stdint.h>
 #include <string.h>
 
-enum { PAGE = 4096 };
+#include "../common/common.h"
 
 #define HEAP_BYTES ((uint64_t)64 << 20) /* glibc, malloc/arena.c, HEAP_MAX_SIZE */
 
@@ -16,13 +14,6 @@ struct segment {
     uint64_t run_start, run_end; /* of the writable memory without a gap that it is a part of; equal where it isn't writable */
     const uint8_t *bytes;
     int is_writable, is_code;
-};
-
-/* A part of a file that the process had mapped. An address in it is at `address + bias` in the ELF file. */
-struct part {
-    uint64_t start, end, offset, bias;
-    const char *path;
-    int is_known;
 };
 
 struct range {
@@ -36,13 +27,21 @@ struct thread {
     uint64_t words[REGISTERS];
 };
 
+/* The part of a segment that words were read from last. */
+struct window {
+    uint64_t start, places;     /* how many addresses from start on a word begins at */
+    const uint8_t *bytes;
+};
+
 struct core {
     const char *path;
+    struct file file;
+    struct window window;
+    uint64_t touched;           /* bytes of windows since the file's pages were let go */
     struct segment *segments;   /* by ascending start */
     size_t segment_count;
     const struct segment *near; /* the one that was asked for last, or NULL */
-    struct part *parts;         /* by ascending start */
-    size_t part_count;
+    struct parts parts;
     struct range *ranges;       /* whole mappings of memory without a file, by leak_core's note */
     size_t range_count;
     struct thread *threads;
@@ -59,8 +58,8 @@ struct arena {
     int is_contiguous;
 };
 
-/* A free chunk whose size a stopped thread was just about to write (hand.c): where it begins, or 0, and its size. The chunk before it
- * is in use. */
+/* A free chunk whose size a stopped thread was just about to write (hand.c): where it begins, or 0, and its size. The chunk
+ * before it is in use. */
 struct due {
     uint64_t at, size;
 };
@@ -74,7 +73,6 @@ struct region {
     uint64_t gap_end;           /* with --partial: from `end` up to here are chunks that nobody knows; else 0 */
     const struct arena *arena;
     struct due due;
-    uint8_t *used;              /* a bit for each 16 bytes: does a chunk in use begin here? */
 };
 
 /* A block with a mapping of its own (malloc/malloc.c, IS_MMAPPED). */
@@ -105,14 +103,14 @@ struct heap {
     uint64_t *in_hand;          /* chunks that a thread is at work on, ascending: neither blocks nor free */
     size_t in_hand_count;
     uint64_t steps_left;        /* more than a right heap needs; a damaged one may lead in circles */
-    uint64_t dumped_left;       /* bytes of writable memory that no region has yet */
+    uint8_t *used;              /* a bit for each 16 bytes of the core: is the size word here one of a chunk in use? */
     uint64_t left_out;          /* bytes of no known chunk */
     struct tally odd_chunks, odd_lists; /* free chunks without their size behind them; lists that lead nowhere */
 };
 
-/* Where a chain of chunks stops: at the top chunk; at a chunk that goes on over the top's begin, as it is just being cut from the top
- * or joined to it; at what was the top before a thread's next heap was begun; at the marker of a heap that is full; at the fences of a
- * main arena; or where no chunk can be. */
+/* Where a chain of chunks stops: at the top chunk; at a chunk that goes on over the top's begin, as it is just being cut
+ * from the top or joined to it; at what was the top before a thread's next heap was begun; at the marker of a heap that is
+ * full; at the fences of a main arena; or where no chunk can be. */
 enum stop { AT_TOP, OVER_TOP, AT_OLD_TOP, AT_MARKER, AT_FENCES, BROKEN };
 
 struct chain {
@@ -131,10 +129,8 @@ struct visitor {
 };
 
 /* leak_walk.c */
-__attribute__((noreturn, format(printf, 1, 2))) void fail(const char *form, ...);
-__attribute__((format(printf, 1, 2))) void warn(const char *form, ...);
 __attribute__((format(printf, 1, 2))) void damaged(const char *form, ...);
-void *grown(void *list, size_t count, size_t each);
+__attribute__((noreturn)) void refuse_heap(const struct core *core, const char *wanting);
 void take_steps(struct heap *heap, uint64_t count, uint64_t near);
 
 /* core.c */
@@ -142,29 +138,34 @@ struct core read_core(const char *path);
 size_t first_behind(const struct core *core, uint64_t address);
 const struct segment *segment_at(struct core *core, uint64_t address);
 
+int word_elsewhere(struct core *core, uint64_t address, uint64_t *value);
+
 /* Whether the core has the eight bytes at the address, and which. */
 static inline int word(struct core *core, uint64_t address, uint64_t *value)
 {
-    const struct segment *s = core->near;
+    uint64_t at = address - core->window.start;
 
-    if (!s || address < s->start || address >= s->end)
-        s = segment_at(core, address);
-    if (!s || s->size < sizeof *value || address - s->start > s->size - sizeof *value)
+    if (at >= core->window.places)
+        return word_elsewhere(core, address, value);
+    memcpy(value, core->window.bytes + at, sizeof *value);
+    return 1;
+}
+
+/* Whether the core has the eight bytes at the address, and where in the file. */
+static inline int place_of(struct core *core, uint64_t address, uint64_t *place)
+{
+    uint64_t value;
+
+    if (!word(core, address, &value))
         return 0;
-    memcpy(value, s->bytes + (address - s->start), sizeof *value);
+    *place = core->window.bytes - core->file.bytes + (address - core->window.start);
     return 1;
 }
 
 int is_word(struct core *core, uint64_t address, uint64_t wanted);
-const uint8_t *map_file(const char *path, uint64_t *size);
-int by_start(const void *a, const void *b);
-
-/* parts.c */
-void read_notes(struct core *core, const uint8_t *notes, uint64_t size);
-const struct part *part_of(struct core *core, uint64_t address);
 
 /* gaps.c */
-void read_ranges(struct core *core, const uint8_t *note, uint64_t size);
+void read_ranges(struct core *core, const struct note *note);
 void fill_gaps(struct core *core);
 
 /* arenas.c */
@@ -182,7 +183,7 @@ uint64_t find_chain(struct heap *heap, uint64_t from, uint64_t to, uint64_t top,
 void tell_break(struct heap *heap, const char *what, uint64_t start, const struct chain *chain);
 
 /* hand.c */
-void read_registers(struct core *core, const uint8_t *note, uint64_t size);
+void read_registers(struct core *core, const struct note *note);
 int has_in_hand(const struct core *core, uint64_t one, uint64_t other);
 int is_listed(struct core *core, uint64_t chunk);
 struct due due_at(struct core *core, const struct chain *chain);
@@ -197,7 +198,7 @@ void find_thread_heaps(struct heap *heap);
 /* used.c */
 void find_used(struct heap *heap);
 struct chain chunks_of(const struct region *region);
-int is_used_in(const struct region *region, uint64_t at);
+int is_marked(struct heap *heap, uint64_t at);
 int is_in_hand(const struct heap *heap, uint64_t at);
 int begins_region(const struct heap *heap, uint64_t at);
 int is_used(struct heap *heap, uint64_t at);
@@ -216,13 +217,6 @@ void find_mapped(struct heap *heap);
 /* visit.c */
 void visit(struct heap *heap, struct visitor *visitor);
 
-/* output.c */
-void put_text(const char *text);
-void put_bytes(const uint8_t *bytes, uint64_t size);
-void put_number(uint64_t value);
-void put_hex(const char *before, uint64_t value);
-void put_end(void);
-
 /* log.c, after.c */
 struct old_block {
     uint64_t start, size, line; /* size 0: it ends here */
@@ -230,8 +224,7 @@ struct old_block {
 };
 
 struct old_log {
-    const uint8_t *bytes;
-    uint64_t size;
+    struct file file;
     uint64_t arena;             /* the main arena of its process */
     struct old_block *list;     /* live blocks by ascending start */
     size_t count;

@@ -1,6 +1,5 @@
 -- Runs that tell who holds the memory, or are asked about some blocks.
-use Rattle.std.proofs.Common.{◌≡◌, ◌≢◌, ◌⊎◌, ℕ, ◌+◌, ◌≤◌, ◌<◌, List, [], ◌∷◌, length, map, Option, None, ap, subst, inl, inr, arith}
-use Rattle.std.proofs.lemmas.List.{length-map}
+use Rattle.std.proofs.Common.{◌≡◌, ◌≢◌, ◌⊎◌, ℕ, ◌+◌, ◌≤◌, ◌<◌, List, [], ◌∷◌, length, Option, None, ap, subst, inl, inr, arith}
 use Rattle.leak_holders.specs.declared.question.Question.{Question}
 use Rattle.leak_request.specs.declared.options.Options.{Options}
 use Rattle.leak_input.specs.Signs.{AreSigns}
@@ -12,36 +11,36 @@ use Rattle.leak_holding.specs.declared.finding.Holding.{Holding}
 use Rattle.leak_holding.specs.Holders.{IsFaultOfHolders}
 use Rattle.leak_find.specs.declared.fault.RunFault.{RunFault}
 use Rattle.leak_find.specs.declared.fault.RunFault.TheVariants.{Read, Find, NoBlock, Write}
-use Rattle.leak_find.specs.Run.{IsReaderFault, input_at, left_in}
+use Rattle.leak_find.specs.Streams.{Source}
+use Rattle.leak_find.specs.Inputs.{AreRead, IsReaderFault, input_at}
 use Rattle.leak_find.specs.Why.{at_asking}
 use Rattle.leak_find.specs.Holders.{AreAllInputs, HasHeld, IsHeldFindFault, IsHeldReadFault, IsHoldFault, IsNotTold, Tells, earlier_in, limit_of_held}
-use Rattle.leak_find.proofs.RunLemmas.{SoFar, stopped_within}
+use Rattle.leak_find.proofs.InputLemmas.{stopped_within}
 
 -- ---- two readers or three
 
-module _ {A : Type 0} (known : A → Option (List ℕ)) (readers : List A) where
-  pub two_at_least : (length readers ≡ 2) ⊎ (length readers ≡ 3) → 2 ≤ length (map known readers)
-  two_at_least (inl two) = let same = length-map readers known in omega (arith, two, same)
-  two_at_least (inr three) = let same = length-map readers known in omega (arith, three, same)
+pub two_at_least : (readers : ℕ) → (readers ≡ 2) ⊎ (readers ≡ 3) → 2 ≤ readers
+two_at_least readers (inl two) = omega (arith, two)
+two_at_least readers (inr three) = omega (arith, three)
 
-  pub just_two : (n : ℕ) → (length readers ≡ 2) ⊎ (length readers ≡ 3) → n ≡ length readers → n < 3 → 2 ≡ length (map known readers)
-  just_two n (inl two) count less = let same = length-map readers known in omega (arith, two, same)
-  just_two n (inr three) count less = absurd (omega (arith, three, count, less))
+pub just_two : (readers n : ℕ) → (readers ≡ 2) ⊎ (readers ≡ 3) → n ≡ readers → n < 3 → 2 ≡ readers
+just_two readers n (inl two) count less = omega (arith, two)
+just_two readers n (inr three) count less = absurd (omega (arith, three, count, less))
 
-  pub just_three : (n : ℕ) → (length readers ≡ 2) ⊎ (length readers ≡ 3) → n ≡ length readers → 3 ≤ n → 3 ≡ length (map known readers)
-  just_three n (inl two) count more = absurd (omega (arith, two, count, more))
-  just_three n (inr three) count more = let same = length-map readers known in omega (arith, three, same)
+pub just_three : (readers n : ℕ) → (readers ≡ 2) ⊎ (readers ≡ 3) → n ≡ readers → 3 ≤ n → 3 ≡ readers
+just_three readers n (inl two) count more = absurd (omega (arith, two, count, more))
+just_three readers n (inr three) count more = omega (arith, three)
 
 -- ---- inputs, and the answer for them
 
-pub held_stopped : (o : Options) (before mid after : List (Option (List ℕ))) (inputs : List (List ℕ)) (e : RunFault) → SoFar (limit_of_held o) before mid inputs
-    → length inputs + 1 ≤ length before → IsReaderFault mid after (length inputs) (limit_of_held o (length inputs)) e
-    → ((i : ℕ) → i ≢ length inputs → left_in after i ≡ left_in mid i) → IsHeldReadFault o before after e
-held_stopped o before mid after inputs (Read number e) so_far few fault others =
-    stopped_within (limit_of_held o) (length before) before mid after inputs number e so_far few fault others
-held_stopped o before mid after inputs (Find e) so_far few fault others = absurd fault
-held_stopped o before mid after inputs (NoBlock a) so_far few fault others = absurd fault
-held_stopped o before mid after inputs (Write f) so_far few fault others = absurd fault
+pub held_stopped : {R : Type 0} (source : Source R) (o : Options) (before mid after : List R) (inputs : List (List ℕ)) (e : RunFault)
+    → AreRead source (limit_of_held o) before mid inputs → length inputs + 1 ≤ length before
+    → IsReaderFault source (length inputs) (limit_of_held o (length inputs)) mid after e → IsHeldReadFault source o before after e
+held_stopped source o before mid after inputs (Read number e) so_far few fault =
+    stopped_within source (limit_of_held o) (length before) before mid after inputs number e so_far few fault
+held_stopped source o before mid after inputs (Find e) so_far few fault = absurd fault
+held_stopped source o before mid after inputs (NoBlock a) so_far few fault = absurd fault
+held_stopped source o before mid after inputs (Write f) so_far few fault = absurd fault
 
 -- no answer where nothing is asked of some blocks
 pub not_told : (core log : List ℕ) (since : Option (List ℕ)) (e : FindError) → (e ≢ NoMemory → IsFaultOfHolders core log since e)
@@ -49,16 +48,16 @@ pub not_told : (core log : List ℕ) (since : Option (List ℕ)) (e : FindError)
 not_told core log since e fault other = fault (λ same. other (ap Refused same))
 
 -- a reader that was not read to its end refuses the run
-pub hold_stopped : (o : Options) (question : Option Question) (before after : List (Option (List ℕ))) (e : RunFault) → IsHeldReadFault o before after e
-    → IsHoldFault o question before after e
-hold_stopped o question before after (Read number e) fault = fault
-hold_stopped o question before after (Find e) fault = absurd fault
-hold_stopped o question before after (NoBlock a) fault = absurd fault
-hold_stopped o question before after (Write f) fault = absurd fault
+pub hold_stopped : {R : Type 0} (source : Source R) (o : Options) (question : Option Question) (before after : List R) (e : RunFault)
+    → IsHeldReadFault source o before after e → IsHoldFault source o question before after e
+hold_stopped source o question before after (Read number e) fault = fault
+hold_stopped source o question before after (Find e) fault = absurd fault
+hold_stopped source o question before after (NoBlock a) fault = absurd fault
+hold_stopped source o question before after (Write f) fault = absurd fault
 
-module _ (o : Options) (question : Option Question) (before after : List (Option (List ℕ))) (inputs : List (List ℕ)) (core log : List ℕ) (since : Option (List ℕ))
-    (are : AreAllInputs o before after inputs) (core_is : core ≡ input_at inputs 0) (log_is : log ≡ input_at inputs 1) (since_is : since ≡ earlier_in inputs) where
-  pub has_held : (holding : Holding) → Tells question o core log since holding → AreSigns (core ∷ log ∷ []) holding.signs.items → HasHeld o question before after holding
+module _ {R : Type 0} (source : Source R) (o : Options) (question : Option Question) (before after : List R) (inputs : List (List ℕ)) (core log : List ℕ) (since : Option (List ℕ))
+    (are : AreAllInputs source o before after inputs) (core_is : core ≡ input_at inputs 0) (log_is : log ≡ input_at inputs 1) (since_is : since ≡ earlier_in inputs) where
+  pub has_held : (holding : Holding) → Tells question o core log since holding → AreSigns (core ∷ log ∷ []) holding.signs.items → HasHeld source o question before after holding
   has_held holding tells signs = record {
     inputs = inputs;
     are = are;
@@ -69,7 +68,7 @@ module _ (o : Options) (question : Option Question) (before after : List (Option
         (subst (λ (c : List ℕ). AreSigns (c ∷ log ∷ []) holding.signs.items) core_is signs);
   }
 
-  held_fault : (e : WhyError) → (e ≢ Refused NoMemory → IsNotTold question core log since e) → IsHeldFindFault o question before after e
+  held_fault : (e : WhyError) → (e ≢ Refused NoMemory → IsNotTold question core log since e) → IsHeldFindFault source o question before after e
   held_fault e fault = record {
     inputs = inputs;
     are = are;
@@ -78,6 +77,6 @@ module _ (o : Options) (question : Option Question) (before after : List (Option
         (subst (λ (c : List ℕ). IsNotTold question c log since e) core_is (fault other)));
   }
 
-  pub hold_fault : (e : WhyError) → (e ≢ Refused NoMemory → IsNotTold question core log since e) → IsHoldFault o question before after (at_asking e)
+  pub hold_fault : (e : WhyError) → (e ≢ Refused NoMemory → IsNotTold question core log since e) → IsHoldFault source o question before after (at_asking e)
   hold_fault (Refused e) fault = held_fault (Refused e) fault
   hold_fault (Missing a) fault = held_fault (Missing a) fault

@@ -1,5 +1,8 @@
+pub mod Streams
+pub mod Inputs
 pub mod Run
 pub mod Why
 pub mod Grow
 pub mod HeldInputs
 pub mod Holders
+pub mod Laws

@@ -1,8 +1,7 @@
 //! Why the program ends without a report.
 
-use leak_readers::ReadFault;
-use leak_report::WriteFault;
 use leak_search::FindError;
+use leak_streams::{ReadFault, WriteFault};
 use thiserror::Error;
 
 /// Why a run gives no status, in the order in which the reasons are tried. Only where a block is asked for can it be missing.

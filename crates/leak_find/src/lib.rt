@@ -7,11 +7,15 @@
 //!
 //! [`find_alone`] searches one core on the caller's thread, [`find_one`] by worker threads, under the same promise, and
 //! [`find_two`] searches a later core from what an earlier one says. [`find_why`] tells why a block is held. These stand
-//! in `leak_search`, where it is also said what a leak, a root and a chain are. [`run`] and [`run_why`] do
-//! the same from readers to writers: how inputs are read is said in `leak_readers`, and what a run comes to in
-//! `specs/Run.antt` and `specs/Why.antt`. [`run_sized`] and [`run_why_sized`] are told how many bytes the readers have, and so are
-//! [`run_holders_sized`], which tells who holds the memory or what some blocks hold (`specs/Holders.antt`), and [`run_grow_sized`], which tells what grew
-//! between two logs (`specs/Grow.antt`).
+//! in `leak_search`, where it is also said what a leak, a root and a chain are. [`run_sized`] and [`run_why_sized`] do
+//! the same from readers to writers, [`run_holders_sized`] tells who holds the memory or what some blocks hold, and
+//! [`run_grow_sized`] what grew between two logs.
+//!
+//! What a run does to its readers and writers is said in `specs/Run.antt`, `Why.antt`, `Holders.antt` and `Grow.antt`, over
+//! what is known of reading one and of writing to one (`specs/Streams.antt`). The runs promise it by each call of a reader
+//! and of a writer (`leak_streams`), so also of a file, of whose bytes no contract knows. [`run`] and [`run_why`], which have
+//! no sizes, promise it by the bytes that a reader has left and a writer holds; [`runs_tell`] is the law that each promise by
+//! calls is one by bytes too.
 //!
 //! An allocation of 32 bytes, and a core in which no word leads to it:
 //!
@@ -33,19 +37,20 @@ mod asking;
 mod fault;
 mod growing;
 mod holding;
+mod laws;
 mod running;
 
 pub use asking::{run_why, run_why_sized};
 pub use fault::RunFault;
 pub use growing::run_grow_sized;
 pub use holding::run_holders_sized;
+pub use laws::runs_tell;
 pub use leak_growth::{Grown, find_growth};
 pub use leak_holders::{Question, Side};
-pub use leak_holding::{Files, Holding, find_held, find_holders};
+pub use leak_holding::{Files, Holding, Progress, Silent, find_held, find_holders};
 pub use leak_index::{Reading, ReadingError};
 pub use leak_pool::{Gate, Open, Plan, PlanError};
-pub use leak_readers::{ReadFault, read_all};
-pub use leak_report::{Signs, WriteFault, warnings, write};
+pub use leak_report::{Signs, warnings};
 pub use leak_request::{
     CORE_LIMIT, DisplaceFault, GrowOptions, GrowRequest, HoldersRequest, LOG_LIMIT, Options,
     Request, SearchRequest, UsageFault, WhyRequest, read_displace, request,
@@ -54,4 +59,5 @@ pub use leak_roots::Skip;
 pub use leak_search::{
     FindError, Found, Why, WhyError, find_alone, find_one, find_two, find_why, leaked_stay_leaked,
 };
+pub use leak_streams::{ReadCalls, ReadFault, WriteCalls, WriteFault, read_all, write};
 pub use running::{run, run_sized};

@@ -1,4 +1,5 @@
 pub mod Holders
+pub mod Words
 pub mod Tallies
 pub mod Parts
 pub mod Laws

@@ -1,4 +1,5 @@
 pub mod Since
+pub mod Links
 pub mod Scenes
 pub mod Text
 pub mod Rows

@@ -1,5 +1,5 @@
 -- What a question knows of an input: what is marked, the texts of callers, and which blocks are counted.
-use Rattle.std.specs.Prelude.{◌≡◌, ℕ, ◌^◌, ◌<◌, ◌≤◌, Bool, List, [], length, Option}
+use Rattle.std.specs.Prelude.{◌≡◌, ℕ, ◌^◌, ◌<◌, ◌≤◌, List, [], length, Option}
 use Rattle.leak_elf.specs.Words.{word_of}
 use Rattle.leak_mtrace.specs.declared.line.Line.{Line}
 use Rattle.leak_index.specs.Hits.{Index}
@@ -12,8 +12,10 @@ use Rattle.leak_holders.specs.declared.facts.Facts.{Facts}
 use Rattle.leak_input.specs.declared.error.FindError.{FindError}
 use Rattle.leak_input.specs.declared.error.FindError.TheVariants.{TooMany}
 use Rattle.leak_input.specs.declared.inputs.Input.{Input}
+use Rattle.leak_input.specs.declared.marking.Ground.{Ground}
 use Rattle.leak_input.specs.Inputs.{AreRootsFor, IsInput}
 use Rattle.leak_holding.specs.declared.scene.Scene.{Scene}
+use Rattle.leak_holding.specs.Links.{AreLinksOf}
 use Rattle.leak_holding.specs.Since.{counted_of}
 
 -- what leads to what in the input
@@ -24,11 +26,16 @@ graph_with input index places = graph_of (word_of input.image) index (led_by_roo
 abbrev pub IsMany : ℕ → FindError → Type 0
 IsMany blocks e = (e ≡ TooMany) × (2 ^ 32 ≤ blocks)
 
+-- root words and lookup are those of the input
+pub record IsGroundOf (reading : Distances) (input : Input) (ground : Ground) : Type 0 where
+  pub lookup : ground.lookup ≡ record { blocks = input.live.blocks; reading = reading }
+  pub roots : (lines : List Line) → IsInput lines input → AreRootsFor lines input ground.roots
+
 pub record IsSceneOf (log : List ℕ) (since : Option (List ℕ)) (reading : Distances) (input : Input) (scene : Scene) : Type 0 where
-  pub lookup : scene.ground.lookup ≡ record { blocks = input.live.blocks; reading = reading }
-  pub roots : (lines : List Line) → IsInput lines input → AreRootsFor lines input scene.ground.roots
+  pub of : IsGroundOf reading input scene.ground.now
+  pub listed : AreLinksOf input scene.ground.now scene.links
   pub few : length input.live.blocks < 2 ^ 32
-  pub marked : IsSet scene.set.items (length input.live.blocks) (Reach (graph_with input scene.ground.lookup scene.ground.roots))
+  pub marked : IsSet scene.set.items (length input.live.blocks) (Reach (graph_with input scene.ground.now.lookup scene.ground.now.roots))
   pub numbered : AreTexts log input.live.blocks (bytes_each scene.texts.texts.items) scene.texts.numbers.items
   pub counted : scene.counted.items ≡ counted_of since input.live.blocks
 

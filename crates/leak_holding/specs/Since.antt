@@ -1,5 +1,5 @@
 -- Which blocks are counted: all, or those of later lines than an earlier log has (own rule, as for two cores).
-use Rattle.std.specs.Prelude.{ℕ, Bool, true, List, length, map, count_by, nat_lt, ◌==◌, Option, None, Some, option_map}
+use Rattle.std.specs.Prelude.{ℕ, Bool, true, List, map, count_by, nat_lt, ◌==◌, Option, None, Some, option_map}
 use denote.Ref.{Bor}
 use Rattle.leak_mtrace.specs.Log.{is_continued_by}
 use Rattle.leak_blocks.specs.declared.block.Block.{Block}

@@ -16,10 +16,10 @@ use crate::finding::Holding;
 use crate::held::held_of;
 use crate::scene::{Scene, facts_of, scene_of};
 use crate::since::is_continued;
-use leak_holders::Question;
+use leak_holders::{Crew, Progress, Question};
 use leak_index::Reading;
-use leak_input::{FindError, Input, Workers, oddities_of_one, read_input};
-use leak_pool::{Gate, Plan};
+use leak_input::{FindError, Input, ground_of, oddities_of_one, read_input};
+use leak_pool::Plan;
 use leak_roots::Skip;
 use leak_search::WhyError;
 use leak_why::block_at;
@@ -29,13 +29,13 @@ use std::thread::Threads;
 /// Searches a core and its log, and answers a question about the live block of an address, or about all blocks of its text.
 ///
 /// What these hold are the blocks that no chain of words reaches without passing one of them, by the texts of their callers. Who holds them
-/// are the other texts without whose blocks no chain reaches one of them. The answer doesn't depend on the plan, on the gate, or on how the
-/// workers meet.
+/// are the other texts without whose blocks no chain reaches one of them. The answer doesn't depend on the plan, on the progress, or on how
+/// the workers meet.
 ///
 /// # Errors
 ///
 /// As [`find_holders`](crate::find_holders), and then `NoBlock` if no live block has a byte at the address, or begins there.
-pub fn find_held<R: Threads + Sync, G: Gate + Sync>(
+pub fn find_held<R: Threads + Sync, P: Progress>(
     rt: &R,
     alloc: Global,
     files: &Files,
@@ -43,7 +43,7 @@ pub fn find_held<R: Threads + Sync, G: Gate + Sync>(
     reading: Reading,
     skip: Skip,
     plan: Plan,
-    gate: &G,
+    progress: &P,
 ) -> Result<Holding, WhyError>
     ensures ok { IfOk result (FindsHeld files.now.core.now files.now.log.now
         (earlier files.now.since) (distances_of reading) skip question) }
@@ -57,12 +57,13 @@ pub fn find_held<R: Threads + Sync, G: Gate + Sync>(
         return Err(WhyError::Find(FindError::NotPrefix));
     }
     let oddities = oddities_of_one(alloc, &input, false)?;
-    let workers = Workers { rt, plan, gate };
-    let scene = scene_of(&workers, alloc, &input, files, reading)?;
+    let ground = ground_of(alloc, &input, reading)?;
+    let crew = Crew::new(rt, plan.workers(), progress);
+    let scene = scene_of(rt, alloc, &input, &ground, files, crew.workers)?;
     let Some(block) = block_at(&input.live, question.address) else {
         return Err(WhyError::NoBlock(question.address));
     };
-    let report = answer(&workers, alloc, &input, &scene, files.log, question, block)?;
+    let report = answer(&crew, alloc, &input, &scene, files.log, question, block)?;
     Ok(Holding {
         report,
         signs: oddities.signs,
@@ -70,8 +71,8 @@ pub fn find_held<R: Threads + Sync, G: Gate + Sync>(
 }
 
 /// The answer about the block with the number, or about all blocks of its text.
-fn answer<R: Threads + Sync, G: Gate + Sync>(
-    workers: &Workers<'_, R, G>,
+fn answer<R: Threads + Sync, P: Progress>(
+    crew: &Crew<'_, R, P>,
     alloc: Global,
     input: &Input,
     scene: &Scene,
@@ -84,15 +85,16 @@ fn answer<R: Threads + Sync, G: Gate + Sync>(
     ensures memory { IfErr result (λ e. e ≡ FindError.NoMemory) }
     ensures answer { IfOk result (λ out. IsAnswerOf log.now input.now scene.now question block out.items) }
 {
-    let texts = scene.texts.texts.as_slice();
+    let (live, texts) = (&input.live, scene.texts.texts.as_slice());
     let facts = facts_of(&*input, &*scene);
     let chosen = chosen(alloc, facts.numbers, block, question.alone)?;
     let own = in_both(alloc, chosen.as_slice(), facts.reached)?;
     let held = held_of(
-        workers,
+        crew,
         alloc,
         input,
-        &scene.ground,
+        scene.ground,
+        &scene.links,
         &facts,
         texts.len() as u32,
         question.side,
@@ -100,15 +102,6 @@ fn answer<R: Threads + Sync, G: Gate + Sync>(
         facts.numbers[block],
     )?;
     let own = own.as_slice();
-    let report = held_text_of(
-        alloc,
-        &input.live,
-        log,
-        block,
-        question.side,
-        own,
-        &held,
-        texts,
-    )?;
+    let report = held_text_of(alloc, live, log, block, question.side, own, &held, texts)?;
     Ok(report)
 }

@@ -11,12 +11,14 @@ use crate::ranking::rows_of;
 use crate::scene::{facts_of, scene_of};
 use crate::since::{is_continued, new};
 use crate::telling::text;
+use leak_holders::{Crew, Progress};
 use leak_index::Reading;
-use leak_input::{FindError, Workers, head_of, oddities_of_one, read_input};
-use leak_pool::{Gate, Plan};
+use leak_input::{FindError, ground_of, head_of, oddities_of_one, read_input};
+use leak_pool::Plan;
 use leak_report::Signs;
 use leak_roots::Skip;
 use std::alloc::Global;
+use std::thread::Threads;
 
 /// Who holds the memory.
 #[derive(Drop)]
@@ -29,21 +31,21 @@ pub struct Holding {
 
 /// Searches a core and its log, and tells which texts of callers hold the blocks that chains of words reach.
 ///
-/// Which words lead to a block, `reading` says. The report doesn't depend on the plan, on the gate, or on how the workers
-/// meet. What each block leads to is listed once, and then marked over once for each 64 texts.
+/// Which words lead to a block, `reading` says. What each block leads to is listed once, and then marked over: once for all blocks, and once
+/// for each 64 texts. The progress is told of these. The report doesn't depend on the plan, on the progress, or on how the workers meet.
 ///
 /// # Errors
 ///
 /// `Core`, `Notes`, `Log`, with input number 1; then `NotPrefix` if the earlier log's complete lines don't begin the log; then `TooMany`.
 /// `NoMemory` can come at any time. Threads that can't be had are no error: the caller does their share.
-pub fn find_holders<R: std::thread::Threads + Sync, G: Gate + Sync>(
+pub fn find_holders<R: Threads + Sync, P: Progress>(
     rt: &R,
     alloc: Global,
     files: &Files,
     reading: Reading,
     skip: Skip,
     plan: Plan,
-    gate: &G,
+    progress: &P,
 ) -> Result<Holding, FindError>
     ensures ok { IfOk result (FindsHolders files.now.core.now files.now.log.now
         (earlier files.now.since) (distances_of reading) skip) }
@@ -57,22 +59,16 @@ pub fn find_holders<R: std::thread::Threads + Sync, G: Gate + Sync>(
         return Err(FindError::NotPrefix);
     }
     let oddities = oddities_of_one(alloc, &input, false)?;
-    let workers = Workers { rt, plan, gate };
-    let scene = scene_of(&workers, alloc, &input, files, reading)?;
-    let facts = facts_of(&input, &scene);
-    let texts = scene.texts.texts.as_slice();
-    let rows = rows_of(&workers, alloc, &input, &scene.ground, &facts, texts.len())?;
-    let head = head_of(&input, &scene.ground.roots, None);
+    let ground = ground_of(alloc, &input, reading)?;
+    let crew = Crew::new(rt, plan.workers(), progress);
+    let scene = scene_of(rt, alloc, &input, &ground, files, crew.workers)?;
+    let (ground, links) = (scene.ground, &scene.links);
+    let (facts, texts) = (facts_of(&input, &scene), scene.texts.texts.as_slice());
+    let rows = rows_of(&crew, alloc, &input, ground, links, &facts, texts.len())?;
+    let head = head_of(&input, &ground.roots, None);
     let new = new(files.since, facts.counted);
-    let report = text(
-        alloc,
-        &head,
-        &input.live,
-        &facts,
-        new,
-        texts,
-        rows.as_slice(),
-    )?;
+    let rows = rows.as_slice();
+    let report = text(alloc, &head, &input.live, &facts, new, texts, rows)?;
     Ok(Holding {
         report,
         signs: oddities.signs,

@@ -14,16 +14,16 @@
 //!
 //! ```text
 //! use leak_elf::core_k;
-//! use leak_holding::{Files, find_holders};
+//! use leak_holding::{Files, Silent, find_holders};
 //! use leak_index::Reading;
-//! use leak_pool::{Open, Plan};
+//! use leak_pool::Plan;
 //! use leak_roots::Skip;
 //!
 //! let core = core_k(alloc, &[(0x10008, 0x10100)])?;
 //! let log = b"@ ./a.out:[0x401136] + 0x10100 0x20\n";
 //! let files = Files { core: &core, log, since: None };
 //! let plan = Plan::new(4, 1024, 256)?;
-//! let found = find_holders(rt, alloc, &files, Reading::interior(), Skip::usual(), plan, &Open)?;
+//! let found = find_holders(rt, alloc, &files, Reading::interior(), Skip::usual(), plan, &Silent)?;
 //! // Its last line is 'holder 1 32 1 32 0 0x10100 ./a.out:[0x401136]'
 //! ```
 //!
@@ -36,6 +36,7 @@ mod choosing;
 mod files;
 mod finding;
 mod held;
+mod links;
 mod ranking;
 mod scene;
 mod since;
@@ -44,3 +45,4 @@ mod telling;
 pub use asking::find_held;
 pub use files::Files;
 pub use finding::{Holding, find_holders};
+pub use leak_holders::{Progress, Silent};

@@ -1,19 +1,17 @@
 //! What is marked, and which blocks are counted.
 
-ghost use Rattle.std.specs.Prelude.{◌≢◌, ◌<◌, ◌^◌, length, IfOk, IfErr};
-ghost use Rattle.leak_index.specs.Readings.{distances_of};
+ghost use Rattle.std.specs.Prelude.{◌≡◌, ◌≢◌, ◌<◌, ◌^◌, length, IfOk, IfErr};
+ghost use Rattle.leak_index.specs.Leads.{Distances};
 ghost use Rattle.leak_report.specs.Totals.{bytes_of};
 ghost use Rattle.leak_input.specs.Inputs.{IsRead};
-ghost use Rattle.leak_holding.specs.Scenes.{AreFactsOf, IsMany, IsSceneOf};
+ghost use Rattle.leak_holding.specs.Scenes.{AreFactsOf, IsGroundOf, IsMany, IsSceneOf};
 ghost use Rattle.leak_holding.specs.Since.{earlier};
 
 use crate::files::Files;
-use crate::ranking::mark;
+use crate::links::{Links, links_of, mark};
 use crate::since::counted;
 use leak_holders::Facts;
-use leak_index::Reading;
-use leak_input::{FindError, Ground, Input, Workers, ground_of};
-use leak_pool::Gate;
+use leak_input::{FindError, Ground, Input};
 use leak_texts::{Texts, number_texts};
 use std::alloc::Global;
 use std::thread::Threads;
@@ -21,7 +19,8 @@ use std::thread::Threads;
 /// What a question needs to know of an input besides its words.
 #[derive(Drop)]
 pub(crate) struct Scene<'a, 'b> {
-    pub(crate) ground: Ground<'a>,
+    pub(crate) ground: &'a Ground<'a>,
+    pub(crate) links: Links<'a>,
     /// For each block, whether a chain reaches it.
     pub(crate) set: Vec<bool>,
     /// The texts of the callers, and the number of each block's.
@@ -30,30 +29,35 @@ pub(crate) struct Scene<'a, 'b> {
     pub(crate) counted: Vec<bool>,
 }
 
-/// Marks an input, which was read of the files, numbers its texts, and says which blocks are counted.
+/// Lists what the words of an input lead to, which was read of the files, marks it over that, numbers its texts, and says which blocks are
+/// counted.
 ///
 /// # Errors
 ///
 /// `TooMany` if it has more than 2^32 - 1 live blocks. `NoMemory` can come at any time.
-pub(crate) fn scene_of<'a, 'b, R: Threads + Sync, G: Gate + Sync>(
-    workers: &Workers<'_, R, G>,
+pub(crate) fn scene_of<'a, 'b, R: Threads + Sync>(
+    rt: &R,
     alloc: Global,
-    input: &'a Input<'_>,
+    input: &'a Input<'a>,
+    ground: &'a Ground<'a>,
     files: &Files<'b>,
-    reading: Reading,
+    workers: u32,
 ) -> Result<Scene<'a, 'b>, FindError>
-    requires { IsRead files.now.core.now files.now.log.now input.now }
-    ensures ok { IfOk result (IsSceneOf files.now.log.now (earlier files.now.since)
-        (distances_of reading) input.now) }
+    requires read { IsRead files.now.core.now files.now.log.now input.now }
+    requires some { 0 < workers }
+    requires same_blocks { ground.now.lookup.blocks ≡ input.now.live.blocks }
+    ensures ok { IfOk result (λ scene. (reading : Distances) → IsGroundOf reading input.now ground.now
+        → IsSceneOf files.now.log.now (earlier files.now.since) reading input.now scene) }
     ensures refused { IfErr result (λ e. e ≢ FindError.NoMemory
         → IsMany (length input.now.live.blocks) e) }
 {
-    let ground = ground_of(alloc, input, reading)?;
-    let set = mark(workers, alloc, input, &ground)?;
+    let links = links_of(rt, alloc, input, ground, workers)?;
+    let set = mark(alloc, input, ground, &links)?;
     let texts = number_texts(alloc, input.live.blocks(), files.log)?;
     let counted = counted(alloc, files.since, input.live.blocks())?;
     Ok(Scene {
         ground,
+        links,
         set,
         texts,
         counted,

@@ -1,6 +1,6 @@
 //! An input: a core, and the log of its allocations.
 
-ghost use Rattle.std.specs.Prelude.{◌≡◌, ◌≢◌, List, [], IfOk, IfErr};
+ghost use Rattle.std.specs.Prelude.{◌≡◌, ◌≢◌, List, [], IfOk, IfErr, length};
 ghost use Rattle.leak_blocks.specs.declared.small.Span.{Span};
 ghost use Rattle.leak_mtrace.specs.declared.line.Line.{Line};
 ghost use Rattle.leak_mtrace.specs.Log.{IsFirstFault};
@@ -61,6 +61,7 @@ pub fn read_input<'a>(
 ) -> Result<Input<'a>, FindError>
     ensures ok { IfOk result (IsRead core.now log.now) }
     ensures skip { IfOk result (λ input. input.skip ≡ skip) }
+    ensures core_len { IfOk result (λ input. input.core_len ≡ length core.now) }
     ensures refused { IfErr result (λ e. e ≢ FindError.NoMemory
         → IsInputFault number core.now log.now e) }
 {

@@ -1,27 +1,55 @@
--- From files that are not searched to words that get no report.
-use Rattle.std.proofs.Common.{◌≡◌, List, Option, None, Some, ℕ, Result, Ok, Err, IfErr, refl}
-use Rattle.std.specs.Io.KnownBytes.{Keeps}
+-- From files that are not opened, and runs without a status, to words that get no answer.
+use Rattle.std.proofs.Common.{◌≡◌, List, Option, None, Some, ℕ, refl, sym, subst, string_bytes}
+use Rattle.leak_find.specs.declared.fault.RunFault.{RunFault}
+use Rattle.leak_find.specs.declared.fault.RunFault.TheVariants as run
+use Rattle.leak_find.specs.Streams.{Sink, Source}
+use Rattle.leak_opening.specs.Opening.{IsOpenFault, Opens}
+use Rattle.leak_opening.specs.declared.fault.OpenFault.{OpenFault}
+use Rattle.leak_opening.specs.declared.fault.OpenFault.TheVariants as opening
+use Rattle.leak_streams.specs.declared.fault.ReadFault.{ReadFault}
 use Rattle.leak_request.specs.declared.options.Request.{Request}
 use Rattle.leak_request.specs.Requests.{IsRequestOf}
 use Rattle.leak_program.specs.declared.failure.Failure.{Failure}
-use Rattle.leak_program.specs.declared.failure.Failure.TheVariants.{Word, Usage, Open, Run, NoMemory}
+use Rattle.leak_program.specs.declared.failure.Failure.TheVariants.{Word, Usage, Open, Read, Run, NoMemory}
 use Rattle.leak_program.specs.Answer.{IsFailureOf, RunFailsBy, paths_in}
-use Rattle.leak_program.specs.Files.{IsRefusalOf}
+use Rattle.leak_program.specs.Failures.{IsNamedBy, IsOfReader, LacksPath, at_opening}
+use Rattle.leak_program.specs.Files.{IsRefusalOf, OfOpened}
 
 -- what refuses the files of a request refuses the words that make it
-pub refused_by : (words : List (List ℕ)) (r : Request) (held holds : Option (List ℕ)) (failure : Failure) → IsRequestOf words r
-    → IsRefusalOf (RunFailsBy r held holds) (paths_in r) held holds failure → IsFailureOf words held holds failure
-refused_by words r held holds Word asked fails = absurd fails
-refused_by words r held holds (Usage fault) asked fails = absurd fails
-refused_by words r held holds (Open path) asked fails = record { request = r; asked = asked; fails = fails }
-refused_by words r held holds (Run fault) asked fails = record { request = r; asked = asked; fails = fails }
-refused_by words r held holds NoMemory asked fails = record { request = r; asked = asked; fails = fails }
+pub refused_by : {O F W : Type 0} (opens : Opens O F) (source : Source F) (sink : Sink W) (words : List (List ℕ)) (r : Request) (first last : O)
+    (held holds : W) (failure : Failure) → IsRequestOf words r
+    → IsRefusalOf opens (paths_in r) first last held holds (RunFailsBy source sink r held holds) failure
+    → IsFailureOf opens source sink words first last held holds failure
+refused_by opens source sink words r first last held holds Word asked fails = absurd fails
+refused_by opens source sink words r first last held holds (Usage fault) asked fails = absurd fails
+refused_by opens source sink words r first last held holds (Open path reason) asked fails = record { request = r; asked = asked; fails = fails }
+refused_by opens source sink words r first last held holds (Read n path f) asked fails = record { request = r; asked = asked; fails = fails }
+refused_by opens source sink words r first last held holds (Run fault) asked fails = record { request = r; asked = asked; fails = fails }
+refused_by opens source sink words r first last held holds NoMemory asked fails = fails
 
--- a writer that is given nothing keeps what it holds
-pub kept : (held : Option (List ℕ)) → Keeps held held
-kept None = tt
-kept (Some bytes) = refl
+module _ {O F W : Type 0} (opens : Opens O F) (paths : List (List ℕ)) (first last : O) (held holds : W) (fails : RunFault → List F → Type 0) where
+  -- files that are not opened
+  pub unopened : (fault : OpenFault) (failure : Failure) → failure ≡ at_opening fault → holds ≡ held → IsOpenFault opens paths first last fault
+      → IsRefusalOf opens paths first last held holds fails failure
+  unopened (opening.Refused path reason) failure told same refused =
+      subst (IsRefusalOf opens paths first last held holds fails) (sym told) (same, refused)
+  unopened opening.NoMemory failure told same refused = subst (IsRefusalOf opens paths first last held holds fails) (sym told) same
 
-pub kept_err : {T E : Type 0} (result : Result T E) (held : Option (List ℕ)) → IfErr result (λ _. Keeps held held)
-kept_err (Ok value) held = tt
-kept_err (Err e) held = kept held
+  kept : (fault : RunFault) → IsOfReader fault → OfOpened opens paths first last (fails fault)
+      → ((n : ℕ) (f : ReadFault) (files : List F) → fails (run.Read n f) files → holds ≡ held) → holds ≡ held
+  kept (run.Read n f) reader of keeps = keeps n f of.files of.holds
+  kept (run.Find e) reader of keeps = absurd reader
+  kept (run.NoBlock a) reader of keeps = absurd reader
+  kept (run.Write f) reader of keeps = absurd reader
+
+  -- a run without a status, by the path of the reader that is at fault
+  pub told : (fault : RunFault) (failure : Failure) → IsNamedBy paths fault failure → OfOpened opens paths first last (fails fault)
+      → ((n : ℕ) (f : ReadFault) (files : List F) → fails (run.Read n f) files → holds ≡ held)
+      → IsRefusalOf opens paths first last held holds fails failure
+  told fault Word named of keeps = absurd named
+  told fault (Usage f) named of keeps = absurd named
+  told fault (Open path reason) named of keeps = absurd named
+  told fault (Read n path f) named of keeps = (subst (λ e. OfOpened opens paths first last (fails e)) named.0 of, named.1)
+  told fault (Run g) named of keeps =
+      (subst (λ e. OfOpened opens paths first last (fails e)) (sym named.0) of, subst (LacksPath paths) (sym named.0) named.1)
+  told fault NoMemory named of keeps = kept fault named of keeps

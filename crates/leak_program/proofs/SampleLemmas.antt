@@ -1,9 +1,21 @@
--- The run over the sample's readers.
-use Rattle.std.proofs.Common.{◌≡◌, subst, List, Option, ℕ}
+-- The run over the sample's readers, by their bytes.
+use Rattle.std.proofs.Common.{◌≡◌, subst, List, map, Option, ℕ}
+use Rattle.leak_streams.proofs.Consumed.{tells}
 use Rattle.leak_request.specs.declared.options.Options.{Options}
 use Rattle.leak_find.specs.Run.{Runs}
+use Rattle.leak_find.specs.Streams.{Sink, by_bytes_left, by_reads}
+use Rattle.leak_find.proofs.RunViews.{runs}
+use Rattle.leak_find.proofs.ViewLemmas.{Shows, sees_left}
 
-pub over_inputs : {o : Options} {before after inputs : List (Option (List ℕ))} {held holds heard hears : Option (List ℕ)} {status : ℕ} → Runs o before after held holds heard hears status
-    → before ≡ inputs → Runs o inputs after held holds heard hears status
-over_inputs {o} {before} {after} {inputs} {held} {holds} {heard} {hears} {status} runs same =
-    subst (λ (b : List (Option (List ℕ))). Runs o b after held holds heard hears status) same runs
+-- a sink, as it is
+shows_all : {W : Type 0} (sink : Sink W) → Shows (λ w. w) sink sink
+shows_all sink = record { whole = λ text before after is. is; cut_off = λ text before after f is. is }
+
+pub over_inputs : {R W V : Type 0} (left : R → Option (List ℕ)) (sink : Sink W) (warner : Sink V) (o : Options) (before after : List R)
+    (inputs : List (Option (List ℕ))) (held holds : W) (heard hears : V) (status : ℕ)
+    → Runs (by_reads (tells left)) sink warner o before after held holds heard hears status → map left before ≡ inputs
+    → Runs by_bytes_left sink warner o inputs (map left after) held holds heard hears status
+over_inputs left sink warner o before after inputs held holds heard hears status ran same =
+    subst (λ (b : List (Option (List ℕ))). Runs by_bytes_left sink warner o b (map left after) held holds heard hears status) same
+    (runs left (by_reads (tells left)) by_bytes_left (sees_left left) (λ w. w) sink sink (shows_all sink) (λ v. v) warner warner (shows_all warner)
+    o before after held holds heard hears status ran)

@@ -1,3 +1,6 @@
 pub mod Answer
+pub mod Failures
 pub mod Files
+pub mod Messages
 pub mod Sample
+pub mod Start

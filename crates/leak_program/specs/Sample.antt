@@ -4,6 +4,7 @@ use Rattle.leak_elf.specs.Sample.{sample_with}
 use Rattle.leak_index.specs.Readings.{distances_of}
 use Rattle.leak_request.specs.declared.options.Options.{Options}
 use Rattle.leak_find.specs.Run.{Runs}
+use Rattle.leak_find.specs.Streams.{Sink, by_bytes_left}
 
 -- the log of one allocation of 32 bytes
 abbrev pub sample_log : List ℕ
@@ -15,11 +16,13 @@ sample_inputs = Some (sample_with ((0x10008, 0x10100) ∷ [])) ∷ Some sample_l
 
 -- the sample, which has no heap, was searched as one core with an interior reading and as without options,
 -- and the report was written
-pub record SearchesSample (held holds heard hears : Option (List ℕ)) (status : ℕ) : Type 0 where
+pub record SearchesSample {W V : Type 0} (sink : Sink W) (warner : Sink V) (held holds : W) (heard hears : V) (status : ℕ) : Type 0 where
   pub options : Options
   pub one : options.two ≡ false
   pub interior : distances_of options.reading ≡ record { listed = None; skips_ends = false }
   pub usual : options.skip ≡ record { freed = false; slack = false; links = false; unwritable = true }
   pub no_heap : options.other_heap ≡ true
+  pub unchecked : options.check ≡ false
+  pub lenient : options.strict ≡ false
   pub after : List (Option (List ℕ))
-  pub runs : Runs options sample_inputs after held holds heard hears status
+  pub runs : Runs by_bytes_left sink warner options sample_inputs after held holds heard hears status

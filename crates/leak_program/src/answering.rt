@@ -1,8 +1,8 @@
 //! What the program answers to the words of a command line.
 
-ghost use Rattle.std.specs.Prelude.{◌<◌, ◌≤◌, IfOk, IfErr, length, map, string_bytes};
-ghost use Rattle.std.specs.Io.KnownBytes.{Keeps};
-ghost use Rattle.leak_program.specs.Answer.{Answers, IsFailureOf};
+ghost use Rattle.std.specs.Prelude.{◌≡◌, ◌<◌, ◌≤◌, IfOk, IfErr, length, map, string_bytes};
+ghost use Rattle.leak_find.specs.Streams.{by_reads, by_writes};
+ghost use Rattle.leak_program.specs.Answer.{Answers, IsFailureOf, IsNotShown};
 ghost use Rattle.leak_program.specs.Sample.{SearchesSample};
 
 use crate::asking::ask_files;
@@ -11,42 +11,64 @@ use crate::files::search_files;
 use crate::growing::compare_logs;
 use crate::holding::tell_holders;
 use crate::sample::search_sample;
-use leak_find::{Request, request};
-use std::io::Write;
-use std::rt::Files;
+use leak_find::{Progress, Request, RunFault, WriteCalls, request, write};
+use leak_opening::Opener;
 use std::thread::Threads;
 
 /// Searches what the words ask for, which begin with the program's name, writes the report to the first writer and then
 /// the warnings to the second, and gives the status: 0 where nothing leaked, and 1 otherwise; with `--strict`, 3 where
-/// there is a warning. Where the words ask what holds a block, the answer is written to the first writer, and the status
-/// is 0 where the block is held, and 1 where it leaked. Where they ask who holds the memory, or what grew, the answer is
-/// written to the first writer and the warnings to the second, and the status is 0, or 3 by `--strict`.
+/// there is a warning. Where the words ask what holds a block, answer and warnings are written so too, and the status is 0
+/// where the block is held, and 1 where it leaked, or 3 by `--strict`. Where they ask who holds the memory, or what grew, the
+/// answer and the warnings are written so too, and the status is 0, or 3 by `--strict`. Where they ask for
+/// help, or for the version, the text is written to the first writer, and the status is 0.
 ///
-/// Where no word follows the name, a sample is searched. After a refusal nothing is written, unless it is the writer
-/// that failed.
-pub fn answer<R: Files + AllocGlobal + Threads + Sync, W: Write, V: Write>(
+/// The progress is told how far a question who holds the memory has come, which changes nothing of all this. Where no word follows
+/// the name, a sample is searched. After a refusal nothing is written, unless it is the writer that failed.
+pub fn answer<
+    R: AllocGlobal + Threads + Sync,
+    O: Opener,
+    P: Progress,
+    W: WriteCalls,
+    V: WriteCalls,
+>(
     rt: &R,
+    opener: &mut O,
     words: &[String],
+    progress: &P,
     writer: &mut W,
     warner: &mut V,
 ) -> Result<u8, Failure>
     ensures sample { length words.now < 2
-        → IfOk result (SearchesSample (W.contents writer.old) (W.contents writer.new)
-        (V.contents warner.old) (V.contents warner.new)) }
+        → IfOk result (SearchesSample (by_writes W.calls) (by_writes V.calls)
+        writer.old writer.new warner.old warner.new) }
     ensures ok { 2 ≤ length words.now → IfOk result
-        (Answers (map string_bytes words.now) (W.contents writer.old) (W.contents writer.new)
-        (V.contents warner.old) (V.contents warner.new)) }
+        (Answers O.opens (by_reads O.File.calls) (by_writes W.calls) (by_writes V.calls) (map string_bytes words.now)
+        opener.old opener.new writer.old writer.new warner.old warner.new) }
     ensures refused { 2 ≤ length words.now → IfErr result
-        (IsFailureOf (map string_bytes words.now) (W.contents writer.old) (W.contents writer.new)) }
-    ensures silent { IfErr result (λ _. Keeps (V.contents warner.old) (V.contents warner.new)) }
+        (IsFailureOf O.opens (by_reads O.File.calls) (by_writes W.calls) (map string_bytes words.now)
+        opener.old opener.new writer.old writer.new) }
+    ensures silent { IfErr result (λ _. warner.new ≡ warner.old) }
 {
     if words.len() < 2 {
         return search_sample(rt, writer, warner);
     }
-    match request(rt.alloc(), words)? {
-        Request::Search(request) => search_files(rt, &request, writer, warner),
-        Request::Why(request) => ask_files(rt, &request, writer),
-        Request::Holders(request) => tell_holders(rt, &request, writer, warner),
-        Request::Grow(request) => compare_logs(rt, &request, writer, warner),
+    let alloc = rt.alloc();
+    match request(alloc, words)? {
+        Request::Search(request) => search_files(rt, opener, &request, writer, warner),
+        Request::Why(request) => ask_files(alloc, opener, &request, writer, warner),
+        Request::Holders(request) => tell_holders(rt, opener, &request, progress, writer, warner),
+        Request::Grow(request) => compare_logs(alloc, opener, &request, writer, warner),
+        Request::Text(text) => show(text.as_str(), writer),
+    }
+}
+
+/// Writes the text that was asked for.
+fn show<W: WriteCalls>(text: &str, writer: &mut W) -> Result<u8, Failure>
+    ensures ok { IfOk result (λ status. (status ≡ 0) × (by_writes W.calls).whole text.now writer.old writer.new) }
+    ensures refused { IfErr result (IsNotShown (by_writes W.calls) text.now writer.old writer.new) }
+{
+    match write(text.as_bytes(), writer) {
+        Ok(()) => Ok(0),
+        Err(fault) => Err(Failure::Run(RunFault::Write(fault))),
     }
 }

@@ -1,29 +1,27 @@
 //! Why the program gives no report.
 
 ghost use Rattle.std.specs.Prelude.{◌≡◌};
+ghost use Rattle.leak_program.specs.Failures.{at_opening};
 ghost use Rattle.leak_program.specs.declared.failure.Failure.TheVariants.{NoMemory, Usage};
 
-use leak_find::{RunFault, UsageFault};
+use leak_find::{ReadFault, RunFault, UsageFault};
+use leak_opening::{OpenFault, Reason};
 use std::alloc::{AllocError, AllocFailed};
-use thiserror::Error;
 
 /// Why the program gives no report, in the order in which the reasons are tried.
-#[derive(Debug, Drop, Error)]
+#[derive(Debug, Drop)]
 pub enum Failure {
     /// A word of the command line is not UTF-8.
-    #[error("a word is not UTF-8")]
     Word,
     /// The words are no request.
-    #[error("{0}")]
     Usage(UsageFault),
-    /// The file with the path can't be opened. No file was read.
-    #[error("cannot open {0}")]
-    Open(String),
-    /// The run has no status.
-    #[error("{0}")]
+    /// The file with the path can't be opened, for the reason. No file was read.
+    Open(String, Reason),
+    /// The reader with the number, from 1, whose file has the path, was not read to its end. Nothing was written.
+    Read(u8, String, ReadFault),
+    /// The run has no status, for another reason.
     Run(RunFault),
     /// An allocation failed.
-    #[error("out of memory")]
     NoMemory,
 }
 
@@ -32,6 +30,17 @@ impl From<UsageFault> for Failure {
 
     fn from(fault: UsageFault) -> Failure {
         Failure::Usage(fault)
+    }
+}
+
+impl From<OpenFault> for Failure {
+    ghost from_gives = { λ fault failure. failure ≡ at_opening fault };
+
+    fn from(fault: OpenFault) -> Failure {
+        match fault {
+            OpenFault::Refused(path, reason) => Failure::Open(path, reason),
+            OpenFault::NoMemory => Failure::NoMemory,
+        }
     }
 }
 

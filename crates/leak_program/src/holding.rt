@@ -1,61 +1,69 @@
 //! The question who holds the memory, asked of files.
 
-ghost use Rattle.std.specs.Prelude.{◌≡◌, IfOk, IfErr, false, length, option_map, string_bytes};
-ghost use Rattle.std.specs.Io.KnownBytes.{Keeps};
-ghost use Rattle.leak_program.specs.Files.{HoldsFiles, IsHoldersFailure, IsOpenFault, files_for, paths_of_held};
+ghost use Rattle.std.specs.Prelude.{◌≡◌, IfOk, IfErr, length, map, string_bytes};
+ghost use Rattle.leak_find.specs.Streams.{by_reads, by_writes};
+ghost use Rattle.leak_program.specs.Files.{FailsHeld, HoldsFiles, IsRefusalOf, OfOpened, paths_of_held};
 
 use crate::failure::Failure;
-use crate::files::{opened, opened_one, sizes_of};
-use leak_find::{HoldersRequest, run_holders_sized};
-use std::io::Write;
-use std::rt::Files;
+use crate::naming::named;
+use leak_find::{HoldersRequest, Progress, WriteCalls, run_holders_sized};
+use leak_opening::{Opener, open_all, sizes_of};
+use std::alloc::{AllocError, Global};
 use std::thread::Threads;
 
-/// The files of the request, opened in order, up to the first that can't be opened.
-fn files_of<R: Files + AllocGlobal>(
-    rt: &R,
-    request: &HoldersRequest,
-) -> Result<Vec<R::File>, Failure>
-    requires { length request.now.paths.items ≡ 2 }
-    ensures ok { IfOk result (λ files. length files.items ≡ files_for (option_map string_bytes request.now.since)) }
-    ensures refused { IfErr result (IsOpenFault (paths_of_held request.now)) }
+/// The paths of the files of the request, in order.
+fn paths_of(alloc: Global, request: &HoldersRequest) -> Result<Vec<String>, AllocError>
+    ensures { IfOk result (λ paths. map string_bytes paths.items ≡ paths_of_held request.now) }
 {
-    let mut files = opened(rt, request.paths.as_slice())?;
+    let mut paths = request.paths.clone()?;
     if let Some(path) = &request.since {
-        files.push(opened_one(rt, path)?)?;
+        paths.push(path.as_str().to_string(alloc)?)?;
     }
-    Ok(files)
+    Ok(paths)
 }
 
 /// Opens the files of the request in order, and then reads them, writes who holds the memory, or the answer to its question, to the
-/// first writer and the warnings to the second.
-pub fn tell_holders<R: Files + AllocGlobal + Threads + Sync, W: Write, V: Write>(
+/// first writer and the warnings to the second. What the progress is told changes nothing of all this.
+pub fn tell_holders<
+    R: AllocGlobal + Threads + Sync,
+    O: Opener,
+    P: Progress,
+    W: WriteCalls,
+    V: WriteCalls,
+>(
     rt: &R,
+    opener: &mut O,
     request: &HoldersRequest,
+    progress: &P,
     writer: &mut W,
     warner: &mut V,
 ) -> Result<u8, Failure>
     requires { length request.now.paths.items ≡ 2 }
-    ensures ok { IfOk result
-        (HoldsFiles request.now (W.contents writer.old) (W.contents writer.new)
-        (V.contents warner.old) (V.contents warner.new)) }
+    ensures ok { IfOk result (λ status. OfOpened O.opens (paths_of_held request.now) opener.old opener.new
+        (HoldsFiles (by_reads O.File.calls) (by_writes W.calls) (by_writes V.calls) request.now
+        writer.old writer.new warner.old warner.new status)) }
     ensures refused { IfErr result
-        (IsHoldersFailure request.now (W.contents writer.old) (W.contents writer.new)) }
-    ensures silent { IfErr result (λ _. Keeps (V.contents warner.old) (V.contents warner.new)) }
+        (IsRefusalOf O.opens (paths_of_held request.now) opener.old opener.new
+        writer.old writer.new
+        (FailsHeld (by_reads O.File.calls) (by_writes W.calls) request.now writer.old writer.new)) }
+    ensures silent { IfErr result (λ _. warner.new ≡ warner.old) }
 {
-    let mut files = files_of(rt, request)?;
-    let sizes = sizes_of(files.as_slice());
+    let alloc = rt.alloc();
+    let paths = paths_of(alloc, request)?;
+    let mut files = open_all(alloc, opener, paths.as_slice())?;
+    let sizes = sizes_of::<O>(files.as_slice());
     match run_holders_sized(
         rt,
-        rt.alloc(),
+        alloc,
         files.as_mut_slice(),
         &sizes,
         &request.options,
         request.question,
+        progress,
         writer,
         warner,
     ) {
         Ok(status) => Ok(status),
-        Err(fault) => Err(Failure::Run(fault)),
+        Err(fault) => Err(named(alloc, paths.as_slice(), fault)),
     }
 }

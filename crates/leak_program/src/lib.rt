@@ -1,14 +1,16 @@
 //! The program, but for its `main`: from the words of a command line to a report and an exit status.
 //!
-//! [`start`] is all that `main` calls: it takes the words, prints the report or, on standard error, why there is none,
-//! and gives the status. [`answer`] does what the words ask for and writes to any writer: it searches files
-//! ([`search_files`]), asks what holds a block in them ([`ask_files`]), who holds the memory ([`tell_holders`]) or
-//! what grew between two logs ([`compare_logs`]) or, where no word follows the program's name, searches a sample from memory
-//! ([`search_sample`]). A [`Failure`] says why there is no report.
+//! [`start`] is all that `main` calls: it takes the words, writes the report to one writer and the warnings, or why there is no
+//! report, to another, and gives the status. [`answer_all`] does so for any words, and [`answer`] without telling a refusal: it
+//! searches files ([`search_files`]), asks what holds a block in them ([`ask_files`]), who holds the memory ([`tell_holders`]) or
+//! what grew between two logs ([`compare_logs`]), writes the text of help, or, where no word follows the program's name, searches a
+//! sample from memory ([`search_sample`]). A [`Failure`] says why there is no report, and [`message`] how it is told. A [`Screen`]
+//! tells a terminal how far a run has come.
 //!
-//! No contract can say what a file holds. Where files are searched, the contracts say that some bytes were read and
-//! searched by the options of the words, that just the report of these was written, and that the status is that of the
-//! report. That the bytes are those of the files, in order, is shown by the programs that run this crate over files.
+//! Files are opened by an `Opener` of leak_opening. The contracts say that each path of the request was opened once, in order, before
+//! any was read, that the files so opened were searched by the options of the words, that just the report of what they held was
+//! written, and that the status is that of the report. That an opened file is that of its path no contract can say; runs over files
+//! show it.
 #![tactic(auto)]
 
 mod answering;
@@ -17,6 +19,9 @@ mod failure;
 mod files;
 mod growing;
 mod holding;
+mod messages;
+mod naming;
+mod progress;
 mod sample;
 mod starting;
 
@@ -26,5 +31,8 @@ pub use failure::Failure;
 pub use files::search_files;
 pub use growing::compare_logs;
 pub use holding::tell_holders;
+pub use leak_find::{Progress, Silent};
+pub use messages::{message, messages_are_lines};
+pub use progress::Screen;
 pub use sample::search_sample;
-pub use starting::{start, status_of};
+pub use starting::{answer_all, start, status_of};

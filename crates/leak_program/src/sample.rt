@@ -1,27 +1,26 @@
 //! The search of a sample from memory.
 
-ghost use Rattle.std.specs.Prelude.{IfOk, IfErr};
-ghost use Rattle.std.specs.Io.KnownBytes.{Keeps};
+ghost use Rattle.std.specs.Prelude.{◌≡◌, IfOk, IfErr};
+ghost use Rattle.leak_find.specs.Streams.{by_writes};
 ghost use Rattle.leak_program.specs.Sample.{SearchesSample};
 
 use crate::failure::Failure;
 use leak_elf::core_k;
-use leak_find::{CORE_LIMIT, LOG_LIMIT, Options, Plan, Reading, Skip, run};
-use std::io::Write;
+use leak_find::{CORE_LIMIT, LOG_LIMIT, Options, Plan, Reading, Skip, WriteCalls, run_sized};
 use std::thread::Threads;
 
 /// One allocation of 32 bytes.
 const LOG: &str = "@ ./a.out:[0x401136] + 0x10100 0x20\n";
 
 /// Searches a core in which one word leads to one allocated block: nothing leaked. The core has no heap of glibc's.
-pub fn search_sample<R: AllocGlobal + Threads + Sync, W: Write, V: Write>(
+pub fn search_sample<R: AllocGlobal + Threads + Sync, W: WriteCalls, V: WriteCalls>(
     rt: &R,
     writer: &mut W,
     warner: &mut V,
 ) -> Result<u8, Failure>
-    ensures ok { IfOk result (SearchesSample (W.contents writer.old) (W.contents writer.new)
-        (V.contents warner.old) (V.contents warner.new)) }
-    ensures silent { IfErr result (λ _. Keeps (V.contents warner.old) (V.contents warner.new)) }
+    ensures ok { IfOk result (SearchesSample (by_writes W.calls) (by_writes V.calls)
+        writer.old writer.new warner.old warner.new) }
+    ensures silent { IfErr result (λ _. warner.new ≡ warner.old) }
 {
     let alloc = rt.alloc();
     let core = core_k(alloc, [(0x10008, 0x10100)].as_slice())?;
@@ -37,7 +36,7 @@ pub fn search_sample<R: AllocGlobal + Threads + Sync, W: Write, V: Write>(
         core_limit: CORE_LIMIT,
         log_limit: LOG_LIMIT,
     };
-    match run(rt, alloc, &mut readers, &options, writer, warner) {
+    match run_sized(rt, alloc, &mut readers, &[], &options, writer, warner) {
         Ok(status) => Ok(status),
         Err(fault) => Err(Failure::Run(fault)),
     }

@@ -1,37 +1,71 @@
 //! The start of the program, and its exit status.
 
-ghost use Rattle.std.specs.Prelude.{◌≡◌, IfOk, IfErr};
+ghost use Rattle.std.specs.Prelude.{◌≡◌, IfErr, map, string_bytes};
+ghost use Rattle.std.specs.Process.{exit_status};
+ghost use Rattle.leak_find.specs.Streams.{by_reads, by_writes};
+ghost use Rattle.leak_program.specs.Start.{HasStarted, IsAnswered, IsTold, IsUnread, status_of};
 
 use crate::answering::answer;
 use crate::failure::Failure;
-use leak_find::UsageFault;
-use std::io::Write;
+use crate::messages::message;
+use leak_find::{Progress, WriteCalls, write};
+use leak_opening::Opener;
+use std::alloc::Global;
 use std::process::ExitCode;
-use std::rt::{Env, Files};
+use std::rt::Env;
 use std::thread::Threads;
 use std::{env, io};
 
 /// The status of a refusal.
 const REFUSED: u8 = 2;
 
-/// Does what the words of the program's command line ask for, and prints the report or, on standard error, why there
-/// is none. The warnings go to the writer, which is that of standard error.
-pub fn start<R: Env + Files + Print + Eprint + AllocGlobal + Threads + Sync, W: Write>(
-    rt: &R,
-    warner: &mut W,
-) -> ExitCode {
-    let answer = answer_here(rt, warner);
-    let status = status_of(&answer);
-    if let Err(failure) = answer {
-        tell(rt, failure);
-    }
+/// What is said where no memory is left to say why there is no report.
+const NO_MEMORY: &[u8; 25] = b"leak_find: out of memory\n";
+
+/// Does what the words of the program's command line ask for, over files that the opener gives: the report goes to the first writer,
+/// which is that of standard output, and the warnings, or why there is no report, to the second, which is that of standard error. The
+/// progress is told how far a run has come that may take long.
+pub fn start<
+    R: Env + AllocGlobal + Threads + Sync,
+    O: Opener,
+    P: Progress,
+    W: WriteCalls,
+    V: WriteCalls,
+>(rt: &R, opener: &mut O, progress: &P, writer: &mut W, warner: &mut V) -> ExitCode
+    ensures { HasStarted O.opens (by_reads O.File.calls) (by_writes W.calls) (by_writes V.calls) opener.old opener.new
+        writer.old writer.new warner.old warner.new (exit_status result) }
+{
+    let status = match words_of(rt) {
+        Ok(words) => answer_all(rt, opener, words.as_slice(), progress, writer, warner),
+        Err(failure) => {
+            tell(rt.alloc(), &failure, warner);
+            REFUSED
+        }
+    };
     ExitCode::from(status)
+}
+
+/// Answers the words, and says on the second writer why there is no answer, if there is none. Gives the exit status.
+pub fn answer_all<
+    R: AllocGlobal + Threads + Sync,
+    O: Opener,
+    P: Progress,
+    W: WriteCalls,
+    V: WriteCalls,
+>(rt: &R, opener: &mut O, words: &[String], progress: &P, writer: &mut W, warner: &mut V) -> u8
+    ensures { IsAnswered O.opens (by_reads O.File.calls) (by_writes W.calls) (by_writes V.calls) (map string_bytes words.now)
+        opener.old opener.new writer.old writer.new warner.old warner.new result }
+{
+    let answer = answer(rt, opener, words, progress, writer, warner);
+    if let Err(failure) = &answer {
+        tell(rt.alloc(), failure, warner);
+    }
+    status_of(&answer)
 }
 
 /// The exit status: that of the search, and 2 where there is no report.
 pub fn status_of(answer: &Result<u8, Failure>) -> u8
-    ensures ok { IfOk answer.now (λ status. result ≡ status) }
-    ensures refused { IfErr answer.now (λ failure. result ≡ 2) }
+    ensures { result ≡ status_of answer.now }
 {
     match answer {
         Ok(status) => *status,
@@ -39,20 +73,20 @@ pub fn status_of(answer: &Result<u8, Failure>) -> u8
     }
 }
 
-/// Answers the words of the program's command line, to standard output, with the warnings to the writer.
-fn answer_here<R: Env + Files + Print + AllocGlobal + Threads + Sync, W: Write>(
-    rt: &R,
-    warner: &mut W,
-) -> Result<u8, Failure> {
-    let words: Vec<String> = match env::args(rt) {
-        Ok(words) => words.collect(rt.alloc())?,
-        Err(error) => return Err(unread(&error)),
-    };
-    answer(rt, words.as_slice(), &mut io::writer(rt), warner)
+/// The words of the program's command line.
+fn words_of<R: Env + AllocGlobal>(rt: &R) -> Result<Vec<String>, Failure>
+    ensures { IfErr result IsUnread }
+{
+    match env::args(rt) {
+        Ok(words) => Ok(words.collect(rt.alloc())?),
+        Err(error) => Err(unread(&error)),
+    }
 }
 
 /// Why the words of the command line can't be had.
-fn unread(error: &io::Error) -> Failure {
+fn unread(error: &io::Error) -> Failure
+    ensures { IsUnread result }
+{
     if error.kind() == io::ErrorKind::OutOfMemory {
         Failure::NoMemory
     } else {
@@ -60,11 +94,12 @@ fn unread(error: &io::Error) -> Failure {
     }
 }
 
-/// Says on standard error why there is no report. Clap's text, help too, stands alone.
-fn tell<R: Eprint>(rt: &R, failure: Failure) {
-    // A refused write leaves nowhere to say so.
-    let _written = match failure {
-        Failure::Usage(UsageFault::Words(text)) => eprint!(rt; "{text}"),
-        other => eprintln!(rt; "leak_find: {other}"),
+/// Says why there is no report. A refused write leaves nowhere to say so.
+fn tell<V: WriteCalls>(alloc: Global, failure: &Failure, warner: &mut V)
+    ensures { IsTold (by_writes V.calls) failure.now warner.old warner.new }
+{
+    let _taken = match message(alloc, failure) {
+        Ok(text) => write(&text, warner),
+        Err(_) => write(NO_MEMORY, warner),
     };
 }

@@ -6,7 +6,7 @@ use crate::answer::Answer;
 use crate::samples::core_of;
 use crate::whole::{is_wanting, options};
 use leak_find::{
-    Files, FindError, GrowOptions, Open, Plan, Question, Reading, Side, Skip, WhyError,
+    Files, FindError, GrowOptions, Plan, Question, Reading, Side, Silent, Skip, WhyError,
     find_growth, find_held, find_holders, run_grow_sized, run_holders_sized,
 };
 use std::alloc::Global;
@@ -71,7 +71,7 @@ fn holders_by<R: AllocGlobal + Threads + Sync>(
         log: HELD.as_bytes(),
         since,
     };
-    let answer = match find_holders(rt, rt.alloc(), &files, reading, skip, plan, &Open) {
+    let answer = match find_holders(rt, rt.alloc(), &files, reading, skip, plan, &Silent) {
         Ok(found) => Answer::of(found.report.as_slice() == wanted.as_bytes()),
         Err(error) => Answer::of_refusal(error == FindError::NoMemory),
     };
@@ -111,7 +111,16 @@ fn held_by<R: AllocGlobal + Threads + Sync>(
         log: HELD.as_bytes(),
         since: Some(b""),
     };
-    let answer = match find_held(rt, rt.alloc(), &files, question, reading, skip, plan, &Open) {
+    let answer = match find_held(
+        rt,
+        rt.alloc(),
+        &files,
+        question,
+        reading,
+        skip,
+        plan,
+        &Silent,
+    ) {
         Ok(found) => Answer::of(found.report.as_slice() == wanted.as_bytes()),
         Err(error) => Answer::of_refusal(error == WhyError::Find(FindError::NoMemory)),
     };
@@ -150,16 +159,7 @@ fn runs_by<R: AllocGlobal + Threads + Sync>(
     wanted: &str,
 ) -> Option<Answer> {
     let alloc = rt.alloc();
-    let mut readers = Vec::new(alloc);
-    readers.push(Cursor::new(holding_core(alloc)?)).ok()?;
-    readers
-        .push(Cursor::new(HELD.as_bytes().to_vec(alloc).ok()?))
-        .ok()?;
-    if let Some(log) = since {
-        readers
-            .push(Cursor::new(log.as_bytes().to_vec(alloc).ok()?))
-            .ok()?;
-    }
+    let mut readers = readers_of(alloc, since)?;
     let options = options(false, Plan::new(3, 16, 4).ok()?);
     if readers.len() != 2 && readers.len() != 3 {
         return Some(Answer::Other);
@@ -175,6 +175,7 @@ fn runs_by<R: AllocGlobal + Threads + Sync>(
         &sizes,
         &options,
         question,
+        &Silent,
         &mut written,
         &mut warned,
     ) {
@@ -184,6 +185,21 @@ fn runs_by<R: AllocGlobal + Threads + Sync>(
         ),
     };
     Some(answer)
+}
+
+/// Readers of the core, its log and, if there is one, the earlier log.
+fn readers_of(alloc: Global, since: Option<&str>) -> Option<Vec<Cursor<Vec<u8>>>> {
+    let mut readers = Vec::new(alloc);
+    readers.push(Cursor::new(holding_core(alloc)?)).ok()?;
+    readers
+        .push(Cursor::new(HELD.as_bytes().to_vec(alloc).ok()?))
+        .ok()?;
+    if let Some(log) = since {
+        readers
+            .push(Cursor::new(log.as_bytes().to_vec(alloc).ok()?))
+            .ok()?;
+    }
+    Some(readers)
 }
 
 /// `run_grow_sized` over both logs.

@@ -1,4 +1,3 @@
-pub mod Writes
 pub mod Leaks
 pub mod Joins
 pub mod Listed

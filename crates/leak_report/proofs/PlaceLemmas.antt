@@ -6,11 +6,15 @@ use Rattle.std.specs.Cmp.Lexicographic.{slice_cmp}
 use Rattle.std.specs.declared.cmp.Ordering.TheVariants.{Less, Equal, Greater}
 use Rattle.std.specs.Ordering.{nat_cmp, ordering_then}
 use Rattle.std.proofs.Math.Nat.{mul-le-mul_right}
-use Rattle.std.proofs.lemmas.List.{drop_more, drop_all, get_or-drop}
+use Rattle.std.proofs.lemmas.List.{drop_more, drop_all, get_or-drop, length-drop, take_all}
 use Rattle.std.proofs.lemmas.Bool.{cases_order, lt-ltb, le-ltb}
 use Rattle.std.proofs.lemmas.Cmp.{tied_itself, nat_cmp_total}
 use Rattle.leak_report.specs.Totals.{text_at}
 use Rattle.leak_report.specs.Places.{weight, number_of, place_of}
+
+-- what is left of a text, cut at its end
+pub left_whole : (n : ℕ) (text : List ℕ) → take (length text - n) (drop n text) ≡ drop n text
+left_whole n text = take_all _ _ (omega (arith, length-drop n text))
 
 -- each is a byte
 abbrev pub AreBytes : List ℕ → Type 0

@@ -6,7 +6,6 @@ pub mod Laws
 pub mod Lines
 pub mod Misfits
 pub mod Report
-pub mod Writing
 pub mod Warnings
 pub mod Examples
 pub mod WarningExamples

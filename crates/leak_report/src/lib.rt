@@ -1,13 +1,11 @@
 //! The report of a leak search.
 //!
 //! [`text`] makes the whole report from the live blocks of a log, the set of those that are marked and the numbers of
-//! a [`Head`]. [`Totals`] sums the leaked blocks up by the text of their caller, and [`write`] hands a text to a
-//! writer. The lines and their order are own rule, stated in `specs/Report.antt`; what a live block and its caller are
-//! is said in `leak_blocks`. [`warnings`] makes the lines that tell what is odd about the inputs, from
-//! their [`Signs`].
+//! a [`Head`]. [`Totals`] sums the leaked blocks up by the text of their caller. The lines and their order are own rule,
+//! stated in `specs/Report.antt`; what a live block and its caller are is said in `leak_blocks`. [`warnings`] makes the
+//! lines that tell what is odd about the inputs, from their [`Signs`].
 //!
-//! The contracts say nothing of which blocks are marked, and what a file or a terminal holds after a write is known
-//! for a writer that tells its bytes alone.
+//! The contracts say nothing of which blocks are marked.
 #![tactic(auto)]
 
 mod by_text;
@@ -16,7 +14,6 @@ mod head;
 mod laws;
 mod lines;
 mod misfits;
-mod output;
 mod places;
 mod report;
 mod signs;
@@ -26,7 +23,6 @@ mod warning;
 pub use head::{Head, Two};
 pub use laws::{live_have_callers, rows_are_sums, worked_reports, worked_warnings};
 pub use lines::{caller_text, push_freed, push_head, push_line, push_sizes};
-pub use output::{WriteFault, write};
 pub use report::text;
 pub use signs::Signs;
 pub use totals::{CallerRow, Totals, marked_sizes};

@@ -10,7 +10,7 @@ use Rattle.leak_request.specs.declared.fault.UsageFault.TheVariants as fault
 use Rattle.leak_request.specs.CommandLine.{path_ids}
 use Rattle.leak_request.specs.Requests.{AreAt, HasFiles, IsBadBy, IsRequest, LacksOneOf, Writes, file_count}
 use Rattle.leak_request.specs.declared.options.Request.{Request}
-use Rattle.leak_request.specs.declared.options.Request.TheVariants.{Search, Why, Holders, Grow}
+use Rattle.leak_request.specs.declared.options.Request.TheVariants.{Search, Why, Holders, Grow, Text as Shown}
 
 -- a number that was read is the one that the text writes
 pub number_read : {E : Type 0} (gives : List ℕ → Result ℕ E → Type 0) (r : Option ℕ) (text row : Option (List ℕ)) → text ≡ row
@@ -66,3 +66,4 @@ files_of name rows (Search r) is = paths_of rows r.options.two r.paths.items is.
 files_of name rows (Why r) is = (is.1.two, paths_of rows false r.paths.items is.1.paths)
 files_of name rows (Holders r) is = (is.1.two, paths_of rows false r.paths.items is.1.paths)
 files_of name rows (Grow r) is = sym (length-map r.paths.items _) ∙ ap length is.1.paths
+files_of name rows (Shown text) is = absurd is

@@ -80,7 +80,8 @@ address_id = codes "address"
 
 -- `leak_find why CORE LOG ADDRESS`
 abbrev pub why_line : App
-why_line = with_rules (with_rules (new_app why_name) (map operand_rule (path_ids false ++ address_id ∷ []))) reading_rules
+why_line =
+    with_rules (with_rules (with_rules (new_app why_name) (map operand_rule (path_ids false ++ address_id ∷ []))) reading_rules) warning_rules
 
 -- the subcommand that asks who holds the memory
 abbrev pub holders_name : Text
@@ -104,9 +105,9 @@ grow_ids = codes "log1" ∷ codes "log2" ∷ []
 abbrev pub grow_line : App
 grow_line = with_rules (with_rules (new_app grow_name) (map operand_rule grow_ids)) (flag_rule (codes "strict") ∷ [])
 
--- the subcommand has to be named
+-- the subcommand has to be named, unless the version is asked for
 abbrev pub naming_subcommand : App → App
-naming_subcommand a = record a { top = record a.top { subcommand_required = true } }
+naming_subcommand a = record a { top = record a.top { subcommand_required = true; has_version = true } }
 
 -- the whole command line
 abbrev pub command_line : App

@@ -4,3 +4,4 @@ pub mod Displacements
 pub mod Found
 pub mod Questions
 pub mod Requests
+pub mod Unmatched

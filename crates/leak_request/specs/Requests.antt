@@ -1,9 +1,12 @@
 -- What a command line asks for, by the subcommand that clap met and the rows that it found there. Own rule.
-use Rattle.std.specs.Prelude.{◌≡◌, ◌↔◌, ◌≤◌, ◌<◌, ◌^◌, ◌⊎◌, ℕ, Bool, false, List, [], Option, Some, None, option_map, length, map, codes, String, string_bytes, IfSome, IsSome, IsTrue, IsSomeAnd, IsFalse, if◌then◌else◌}
+use Rattle.std.specs.Prelude.{◌≡◌, ◌↔◌, ◌≤◌, ◌<◌, ◌^◌, ◌⊎◌, ℕ, Bool, false, List, [], ◌∷◌, Option, Some, None, option_map, length, map, codes, String, string_bytes, IfSome, IsSome, IsTrue, IsSomeAnd, IsFalse, if◌then◌else◌}
 use Rattle.std.specs.List.{All}
 use Rattle.std.specs.Str.Parse.{IsNumeral, digits_value, without_leading_plus}
 use Rattle.clap.specs.Words.{Row, Text, first_of, one_of, subcommand_of}
 use Rattle.clap.specs.Faults.{fault_of}
+use Rattle.clap.specs.Words.{IsAmong}
+use Rattle.clap.specs.declared.error.kind.ErrorKind.{ErrorKind}
+use Rattle.clap.specs.declared.error.kind.ErrorKind.TheVariants as kind
 use Rattle.leak_index.specs.Readings.{distances_of, listed_by}
 use Rattle.leak_pool.specs.Plan.{IsBetween, Numbers}
 use Rattle.leak_request.specs.Address.{IsAddress, IsBadAddress}
@@ -17,7 +20,7 @@ use Rattle.leak_request.specs.declared.fault.UsageFault.TheVariants as fault
 use Rattle.leak_request.specs.declared.options.GrowRequest.{GrowRequest}
 use Rattle.leak_request.specs.declared.options.HoldersRequest.{HoldersRequest}
 use Rattle.leak_request.specs.declared.options.Request.{Request}
-use Rattle.leak_request.specs.declared.options.Request.TheVariants.{Search, Why, Holders, Grow}
+use Rattle.leak_request.specs.declared.options.Request.TheVariants.{Search, Why, Holders, Grow, Text as Shown}
 use Rattle.leak_request.specs.declared.options.SearchRequest.{SearchRequest}
 use Rattle.leak_request.specs.declared.options.WhyRequest.{WhyRequest}
 
@@ -74,7 +77,7 @@ pub record IsSearchRequest (name : Text) (rows : List Row) (r : SearchRequest) :
   pub core_limit : r.options.core_limit ≡ 68719476736
   pub log_limit : r.options.log_limit ≡ 4294967296
 
--- the request for what holds a block: nothing is asked for that only a search takes
+-- the request for what holds a block: one core, on one thread, and no misfits are listed
 pub record IsWhyRequest (rows : List Row) (r : WhyRequest) : Type 0 where
   pub two : r.options.two ≡ false
   pub paths : AreAt rows (path_ids false) r.paths.items
@@ -86,8 +89,8 @@ pub record IsWhyRequest (rows : List Row) (r : WhyRequest) : Type 0 where
   pub slack : IsTrue r.options.skip.slack ↔ IsGiven rows (codes "skip-slack")
   pub unwritable : IsFalse r.options.skip.unwritable ↔ IsGiven rows (codes "all-memory")
   pub check : r.options.check ≡ false
-  pub other_heap : r.options.other_heap ≡ false
-  pub strict : r.options.strict ≡ false
+  pub other_heap : IsTrue r.options.other_heap ↔ IsGiven rows (codes "other-heap")
+  pub strict : IsTrue r.options.strict ↔ IsGiven rows (codes "strict")
   pub core_limit : r.options.core_limit ≡ 68719476736
   pub log_limit : r.options.log_limit ≡ 4294967296
 
@@ -122,6 +125,7 @@ IsRequest name rows (Search r) = IsSearchRequest name rows r
 IsRequest name rows (Why r) = (name ≡ why_name) × IsWhyRequest rows r
 IsRequest name rows (Holders r) = (name ≡ holders_name) × IsHoldersRequest rows r
 IsRequest name rows (Grow r) = (name ≡ grow_name) × IsGrowRequest rows r
+IsRequest name rows (Shown text) = ⊥
 
 -- one core is searched or asked unless two are, and each request has a path for each of its files
 abbrev pub HasFiles : Request → Type 0
@@ -129,6 +133,7 @@ HasFiles (Search r) = length r.paths.items ≡ file_count r.options.two
 HasFiles (Why r) = (r.options.two ≡ false) × (length r.paths.items ≡ 2)
 HasFiles (Holders r) = (r.options.two ≡ false) × (length r.paths.items ≡ 2)
 HasFiles (Grow r) = length r.paths.items ≡ 2
+HasFiles (Shown text) = Unit {0}
 
 -- one of the ids has no value
 abbrev pub LacksOneOf : List Row → List Text → Type 0
@@ -225,14 +230,34 @@ IsRefusedAt name rows f =
     ⊎ (((name ≡ grow_name) × IsGrowRefusal rows f) ⊎ (IsOther name × IsSearchRefusal name rows f)))
 
 -- clap takes the words, and the request is that of the subcommand that they name
-pub record IsRequestOf (words : List Text) (r : Request) : Type 0 where
+pub record IsTakenAs (words : List Text) (r : Request) : Type 0 where
   pub taken : fault_of command_line words ≡ []
   pub request : IsSomeAnd (subcommand_of command_line words) (λ met. IsRequest met.0 met.1 r)
 
+-- the kind of what clap answers in place of matches: a text that was asked for
+abbrev pub IsText : ErrorKind → Type 0
+IsText k = (k ≡ kind.DisplayHelp) ⊎ (k ≡ kind.DisplayVersion)
+
+-- clap answers the words with a text that they ask for
+abbrev pub AskForText : List Text → Type 0
+AskForText words = (k : ErrorKind) × IsAmong k (fault_of command_line words) × IsText k
+
+-- what the words ask for
+abbrev pub IsRequestOf : List Text → Request → Type 0
+IsRequestOf words (Search r) = IsTakenAs words (Search r)
+IsRequestOf words (Why r) = IsTakenAs words (Why r)
+IsRequestOf words (Holders r) = IsTakenAs words (Holders r)
+IsRequestOf words (Grow r) = IsTakenAs words (Grow r)
+IsRequestOf words (Shown text) = AskForText words
+
+-- clap has another answer to the words than a text that they ask for
+abbrev pub AskForMore : List Text → Type 0
+AskForMore words = (k : ErrorKind) → IsText k → fault_of command_line words ≡ k ∷ [] → ⊥
+
 -- clap refuses the words, and the text is its own, or takes them, and what it found is refused
 abbrev pub IsUsageFaultOf : List Text → UsageFault → Type 0
-IsUsageFaultOf words (fault.Words text) = fault_of command_line words ≡ []
-    → IfSome (subcommand_of command_line words) (λ met. IsRefusedAt met.0 met.1 (fault.Words text))
+IsUsageFaultOf words (fault.Words text) = AskForMore words × (fault_of command_line words ≡ []
+    → IfSome (subcommand_of command_line words) (λ met. IsRefusedAt met.0 met.1 (fault.Words text)))
 IsUsageFaultOf words (fault.Displace f) = (fault_of command_line words ≡ [])
     × IsSomeAnd (subcommand_of command_line words) (λ met. IsRefusedAt met.0 met.1 (fault.Displace f))
 IsUsageFaultOf words fault.Check = (fault_of command_line words ≡ [])

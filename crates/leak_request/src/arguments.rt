@@ -1,31 +1,25 @@
 //! From a command line to what it asks for.
 
-ghost use Rattle.std.specs.Prelude.{◌≡◌, ◌≢◌, ◌<◌, ◌↔◌, IfOk, IsTrue, IsFalse, IfErr, IfNone, IfSome, OnOk, Bool};
-ghost use Rattle.std.specs.Prelude.{codes, length, map, option_map, string_bytes};
-ghost use Rattle.clap.specs.Words.{first_of, kind_of};
-ghost use Rattle.leak_index.specs.Readings.{distances_of, listed_by};
-ghost use Rattle.leak_request.specs.CommandLine.{grow_ids, name_of, path_ids};
-ghost use Rattle.leak_request.specs.Found.{IsGiven, found_rows};
-ghost use Rattle.leak_request.specs.Requests.{AreAt, AreNumbersAt, IsBadBy, IsListFaultAt, IsListedBy};
-ghost use Rattle.leak_request.specs.Requests.{IsGrowRefusal, IsHoldersRefusal, IsNumberAt, IsRefusedAt, IsSearchRefusal, IsWhyRefusal};
-ghost use Rattle.leak_request.specs.Requests.{LacksNumber, LacksNumberAt, LacksOneOf};
+ghost use Rattle.std.specs.Prelude.{◌≡◌, ◌<◌, IfOk, IfErr, IfNone, IfSome, Bool};
+ghost use Rattle.std.specs.Prelude.{length, map, string_bytes};
+ghost use Rattle.leak_request.specs.CommandLine.{name_of, path_ids};
+ghost use Rattle.leak_request.specs.Found.{found_rows};
+ghost use Rattle.leak_request.specs.Requests.{IsGrowRefusal, IsHoldersRefusal, IsRefusedAt, IsSearchRefusal, IsWhyRefusal};
 ghost use Rattle.leak_request.specs.Requests.{HasFiles, IsGrowRequest, IsHoldersRequest, IsRequest, IsRequestOf, IsSearchRequest};
-ghost use Rattle.leak_request.specs.Requests.{IsUsageFaultOf, IsWhyRequest, list_in};
+ghost use Rattle.leak_request.specs.Requests.{IsUsageFaultOf, IsWhyRequest};
 
 use crate::address::address;
 use crate::asking::question;
 use crate::command_line::command;
-use crate::displacements::read_displace;
-use crate::fault::{DisplaceFault, UsageFault};
+use crate::fault::UsageFault;
+use crate::found::{bad_arguments, is_given, optional, paths, plan, reading, skip, value};
 use crate::options::{
     CORE_LIMIT, GrowOptions, GrowRequest, HoldersRequest, LOG_LIMIT, Options, Request,
     SearchRequest, WhyRequest,
 };
-use clap::error::ErrorKind;
-use clap::{ArgMatches, Error};
-use leak_index::Reading;
+use crate::unmatched::unmatched;
+use clap::ArgMatches;
 use leak_pool::Plan;
-use leak_roots::Skip;
 use std::alloc::{AllocError, Global};
 
 /// The ids of the paths of a search of one core.
@@ -39,9 +33,9 @@ static GROW: [&str; 2] = ["log1", "log2"];
 
 /// Reads the words of a command line, which begin with the program's name.
 ///
-/// The text of a refusal, or of the help that was asked for, is clap's. A list of displacements is refused only where
-/// nothing else is missing, and `--check` with `--other-heap`, `--in` with `--of`, `--block` without both, or an address, only
-/// where the list is not. Own rule: help is no request.
+/// The text of a refusal, of help or of the version is clap's. A list of displacements is refused only where nothing else is
+/// missing, and `--check` with `--other-heap`, `--in` with `--of`, `--block` without both, or an address, only where the list is
+/// not.
 pub fn request(alloc: Global, words: &[String]) -> Result<Request, UsageFault>
     requires { 0 < length words.now }
     ensures ok { IfOk result (IsRequestOf (map string_bytes words.now)) }
@@ -51,7 +45,7 @@ pub fn request(alloc: Global, words: &[String]) -> Result<Request, UsageFault>
     let command = command(alloc)?;
     let matches = match command.try_get_matches_from(words) {
         Ok(matches) => matches,
-        Err(error) => return Err(UsageFault::Words(text_of(alloc, &error)?)),
+        Err(error) => return unmatched(alloc, words, &error),
     };
     match matches.subcommand() {
         Some((name, found)) => request_of(alloc, name, found),
@@ -127,6 +121,7 @@ fn why_request(alloc: Global, found: &ArgMatches) -> Result<WhyRequest, UsageFau
     let Some(address) = address(word.as_bytes()) else {
         return Err(UsageFault::Address);
     };
+    let strict = is_given(found, "strict");
     Ok(WhyRequest {
         paths,
         options: Options {
@@ -134,9 +129,9 @@ fn why_request(alloc: Global, found: &ArgMatches) -> Result<WhyRequest, UsageFau
             reading,
             skip: skip(found),
             plan: Plan::new(1, 1, 0).unwrap(),
-            other_heap: false,
+            other_heap: is_given(found, "other-heap"),
             check: false,
-            strict: false,
+            strict,
             core_limit: CORE_LIMIT,
             log_limit: LOG_LIMIT,
         },
@@ -189,22 +184,6 @@ fn grow_request(alloc: Global, found: &ArgMatches) -> Result<GrowRequest, UsageF
     })
 }
 
-/// What is left out of the root words.
-fn skip(found: &ArgMatches) -> Skip
-    ensures freed { IsTrue result.freed ↔ IsGiven (found_rows found.now) (codes "skip-freed") }
-    ensures links { IsTrue result.links ↔ IsGiven (found_rows found.now) (codes "skip-links") }
-    ensures slack { IsTrue result.slack ↔ IsGiven (found_rows found.now) (codes "skip-slack") }
-    ensures unwritable { IsFalse result.unwritable
-        ↔ IsGiven (found_rows found.now) (codes "all-memory") }
-{
-    Skip {
-        freed: is_given(found, "skip-freed"),
-        links: is_given(found, "skip-links"),
-        slack: is_given(found, "skip-slack"),
-        unwritable: !is_given(found, "all-memory"),
-    }
-}
-
 /// Whether the subcommand with the name searches two cores.
 fn is_two(name: &str) -> Option<bool>
     ensures name { IfSome result (λ two. name.now ≡ name_of two) }
@@ -222,117 +201,4 @@ fn ids_of(two: bool) -> &'static [&'static str]
     ensures { map (λ id. id.now) result.now ≡ path_ids two }
 {
     if two { TWO.as_slice() } else { ONE.as_slice() }
-}
-
-/// The values of the arguments with the ids, in order.
-fn paths(alloc: Global, found: &ArgMatches, ids: &[&str]) -> Result<Vec<String>, UsageFault>
-    ensures ok { IfOk result (λ paths.
-        AreAt (found_rows found.now) (map (λ id. id.now) ids.now) paths.items) }
-    ensures refused { IfErr result (IsBadBy (LacksOneOf (found_rows found.now) (map (λ id. id.now) ids.now))) }
-{
-    let mut paths = Vec::new(alloc);
-    for id in ids {
-        let Some(path) = value(found, id) else {
-            return Err(bad_arguments(alloc));
-        };
-        paths.push(path.to_string(alloc)?)?;
-    }
-    Ok(paths)
-}
-
-fn plan(alloc: Global, found: &ArgMatches) -> Result<Plan, UsageFault>
-    ensures ok { IfOk result (λ p. AreNumbersAt (found_rows found.now) p.workers p.piece p.stack) }
-    ensures refused { IfErr result (IsBadBy (LacksNumber (found_rows found.now))) }
-{
-    let Some(workers) = number(found, "workers") else {
-        return Err(bad_arguments(alloc));
-    };
-    let Some(piece) = number(found, "piece") else {
-        return Err(bad_arguments(alloc));
-    };
-    let Some(stack) = number(found, "stack") else {
-        return Err(bad_arguments(alloc));
-    };
-    match Plan::new(workers, piece, stack) {
-        Ok(plan) => Ok(plan),
-        Err(_) => Err(bad_arguments(alloc)),
-    }
-}
-
-/// The value of the argument, as text that lives on.
-fn optional(alloc: Global, found: &ArgMatches, id: &str) -> Result<Option<String>, AllocError>
-    ensures { IfOk result (λ text. option_map string_bytes text ≡ first_of id.now (found_rows found.now)) }
-{
-    match value(found, id) {
-        Some(text) => Ok(Some(text.to_string(alloc)?)),
-        None => Ok(None),
-    }
-}
-
-/// The value of the argument, as text.
-pub(crate) fn value<'a>(found: &ArgMatches<'a>, id: &str) -> Option<&'a str>
-    ensures { option_map (λ text. text.now) result ≡ first_of id.now (found_rows found.now) }
-{
-    found.get_str(id)
-}
-
-/// The value of the option, as a number.
-fn number(found: &ArgMatches, id: &str) -> Option<u32>
-    ensures some { IfSome result (IsNumberAt (found_rows found.now) id.now) }
-    ensures none { IfNone result (LacksNumberAt (found_rows found.now) id.now) }
-{
-    found.get_one(id)
-}
-
-/// Whether the flag was given.
-pub(crate) fn is_given(found: &ArgMatches, id: &str) -> bool
-    ensures { IsTrue result ↔ IsGiven (found_rows found.now) id.now }
-{
-    matches!(value(found, id), Some("true"))
-}
-
-/// The distances from a block's start at which a word keeps the block.
-fn reading(found: &ArgMatches) -> Result<Reading, DisplaceFault>
-    ensures ok { IfOk result (λ reading.
-        IsListedBy (list_in (found_rows found.now)) (listed_by reading)) }
-    ensures ends { IfOk result (λ reading. IsTrue (distances_of reading).skips_ends
-        ↔ IsGiven (found_rows found.now) (codes "skip-ends")) }
-    ensures refused { IfErr result (IsListFaultAt (found_rows found.now)) }
-{
-    match listed(found) {
-        Ok(listed) => Ok(listed.skip_ends(is_given(found, "skip-ends"))),
-        Err(fault) => Err(fault),
-    }
-}
-
-/// The distances of the list, or all.
-fn listed(found: &ArgMatches) -> Result<Reading, DisplaceFault>
-    ensures ok { IfOk result (λ reading.
-        IsListedBy (list_in (found_rows found.now)) (listed_by reading)) }
-    ensures refused { IfErr result (IsListFaultAt (found_rows found.now)) }
-{
-    match value(found, "displace") {
-        Some(list) => read_displace(list.as_bytes()),
-        None => Ok(Reading::interior()),
-    }
-}
-
-/// The refusal where clap accepts the words, and a subcommand, a path or a number is missing.
-fn bad_arguments(alloc: Global) -> UsageFault
-    ensures { IsBadBy (Unit {0}) result }
-{
-    match "bad arguments".to_string(alloc) {
-        Ok(text) => UsageFault::Words(text),
-        Err(_) => UsageFault::NoMemory,
-    }
-}
-
-/// The text of clap's error: the help that was asked for, or what is wrong with the words.
-fn text_of(alloc: Global, error: &Error) -> Result<String, AllocError>
-    ensures { OnOk result (kind_of error.now ≢ ErrorKind.OutOfMemory) }
-{
-    if error.kind() == ErrorKind::OutOfMemory {
-        return Err(AllocError);
-    }
-    error.to_string(alloc)
 }

@@ -5,8 +5,8 @@ ghost use Rattle.leak_request.specs.Found.{found_rows};
 ghost use Rattle.leak_request.specs.Questions.{IsAskedBy, IsBadFor, IsQuestionAt, IsQuestionFault};
 
 use crate::address::address;
-use crate::arguments::{is_given, value};
 use crate::fault::UsageFault;
+use crate::found::{is_given, value};
 use clap::ArgMatches;
 use leak_holders::{Question, Side};
 

@@ -9,6 +9,9 @@ ghost use Rattle.leak_request.specs.CommandLine.{warning_rules, why_line, with_o
 use clap::{Arg, ArgAction, Command};
 use std::alloc::{AllocError, Global};
 
+/// The version, as `--version` tells it.
+const VERSION: &str = "0.1.0";
+
 /// What help says of a core.
 const CORE: &str = "An x86-64 ELF core, as the kernel or gcore writes it";
 
@@ -84,6 +87,7 @@ pub(crate) fn command<'a>(alloc: Global) -> Result<Command<'a>, AllocError>
 {
     let command = Command::new(alloc, "leak_find")
         .about("Reports the allocated blocks of a dead process that no chain of pointers reaches")
+        .version(VERSION)
         .subcommand_required(true);
     command
         .subcommand(one(alloc)?)?
@@ -137,7 +141,8 @@ fn why<'a>(alloc: Global) -> Result<Command<'a>, AllocError>
         .arg(operand(alloc, "core", "CORE", CORE))?
         .arg(operand(alloc, "log", "LOG", LOG))?
         .arg(operand(alloc, "address", "ADDRESS", ADDRESS))?;
-    with_reading(alloc, command)
+    let command = with_reading(alloc, command)?;
+    with_warnings(alloc, command)
 }
 
 fn holders<'a>(alloc: Global) -> Result<Command<'a>, AllocError>

@@ -21,7 +21,7 @@ pub enum DisplaceFault {
 /// Why the words of a command line are no request, in the order in which the reasons are tried.
 #[derive(Debug, Drop, Error)]
 pub enum UsageFault {
-    /// The words are refused, or ask for help. The text is to be printed alone.
+    /// The words are refused. The text is to be printed alone.
     #[error("{0}")]
     Words(String),
     /// The list of displacements is refused, and nothing else is missing.

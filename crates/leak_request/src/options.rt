@@ -96,4 +96,6 @@ pub enum Request {
     Holders(HoldersRequest),
     /// What grew between two logs.
     Grow(GrowRequest),
+    /// Help, or the version: the text, which is clap's.
+    Text(String),
 }

@@ -1,14 +1,16 @@
 //! Why a block is held, from the bytes of a core and of a log.
 
-ghost use Rattle.std.specs.Prelude.{◌≡◌, ◌≢◌, IfOk, IfErr};
+ghost use Rattle.std.specs.Prelude.{◌≡◌, ◌≢◌, [], ◌∷◌, IfOk, IfErr};
 ghost use Rattle.leak_index.specs.Readings.{distances_of};
+ghost use Rattle.leak_input.specs.Signs.{AreSigns};
 ghost use Rattle.leak_input.specs.declared.error.FindError.TheVariants.{NoMemory};
 ghost use Rattle.leak_search.specs.declared.holding.WhyError.TheVariants.{Find};
 ghost use Rattle.leak_search.specs.Holding.{IsWhyFault, TellsWhy};
 
 use leak_index::{Reading, Sorted};
-use leak_input::{FindError, find_roots, read_input};
+use leak_input::{FindError, find_roots, oddities_of_one, read_input};
 use leak_notes::register_sets;
+use leak_report::Signs;
 use leak_roots::Skip;
 use leak_why::{block_at, text, why};
 use std::alloc::{AllocError, Global};
@@ -21,6 +23,8 @@ pub struct Why {
     pub text: Vec<u8>,
     /// Whether a chain of words leads to the block.
     pub held: bool,
+    /// The signs that the core and the log don't belong together.
+    pub signs: Vec<Signs>,
 }
 
 /// Why it is not told what holds a block, in the order in which the reasons are tried.
@@ -60,6 +64,7 @@ pub fn find_why(
     address: u64,
 ) -> Result<Why, WhyError>
     ensures ok { IfOk result (TellsWhy core.now log.now (distances_of reading) skip address) }
+    ensures signs { IfOk result (λ why. AreSigns (core.now ∷ log.now ∷ []) why.signs.items) }
     ensures refused { IfErr result
         (λ e. e ≢ Find NoMemory → IsWhyFault core.now log.now address e) }
 {
@@ -67,6 +72,7 @@ pub fn find_why(
     let Some(block) = block_at(&input.live, address) else {
         return Err(WhyError::NoBlock(address));
     };
+    let oddities = oddities_of_one(alloc, &input, false)?;
     let roots = find_roots(alloc, &input)?;
     let lookup = Sorted::new(&input.live, reading);
     let chain = why(alloc, &input.image, &lookup, &roots, &input.live, block)?;
@@ -75,5 +81,6 @@ pub fn find_why(
     Ok(Why {
         text,
         held: chain.is_some(),
+        signs: oddities.signs,
     })
 }

@@ -11,7 +11,7 @@ use leak_elf::ElfError;
 use leak_find::{FindError, Options, ReadFault, RunFault, Skip, run};
 use leak_index::Reading;
 use leak_pool::Plan;
-use leak_report::WriteFault;
+use leak_streams::WriteFault;
 use std::alloc::Global;
 use std::test::Fail;
 

@@ -3,7 +3,7 @@
 use crate::comparisons::same;
 use leak_find::{FindError, ReadFault, RunFault};
 use leak_pool::{PlanError, PoolError};
-use leak_report::WriteFault;
+use leak_streams::WriteFault;
 use std::test::Fail;
 
 #[test]

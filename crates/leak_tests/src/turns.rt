@@ -4,7 +4,7 @@ use crate::comparisons::{same, same_in};
 use crate::examples::NOTHING;
 use crate::fakes::{Giver, Source, Taker, Turn};
 use leak_find::{ReadFault, read_all};
-use leak_report::{WriteFault, write};
+use leak_streams::{WriteFault, write};
 use std::test::Fail;
 
 /// Half of the interruptions that end a reading or a writing, and more.

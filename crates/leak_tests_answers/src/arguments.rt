@@ -1,132 +1,9 @@
-use crate::comparisons::{same, same_in};
+use crate::asked::{asked, asks, options, shown, skipping, takes, with_all_memory, without_slack};
+use crate::comparisons::same;
 use leak_index::Reading;
 use leak_pool::Plan;
-use leak_request::{Options, Request, UsageFault, request};
-use leak_roots::Skip;
-use std::alloc::AllocError;
-use std::process::Abort;
+use leak_request::{Options, UsageFault};
 use std::test::*;
-
-/// The answer to the words, which are separated by spaces and follow the program's name.
-fn asked<R: Abort + AllocGlobal>(
-    rt: &R,
-    line: &str,
-) -> Result<Result<Request, UsageFault>, AllocError> {
-    let mut words = vec![in rt.alloc(); "leak_find".to_string(rt.alloc())?]?;
-    for word in line.split(' ') {
-        words.push(word.to_string(rt.alloc())?)?;
-    }
-    assert!(rt; !words.is_empty());
-    Ok(request(rt.alloc(), words.as_slice()))
-}
-
-/// The words with each of the paths behind them.
-fn with_paths(mut text: String, paths: &[String]) -> Result<String, AllocError> {
-    for path in paths {
-        text.push(' ')?;
-        text.push_str(path.as_str())?;
-    }
-    Ok(text)
-}
-
-/// A request in words: its kind, its options, the address of the block that is asked for, and then its paths.
-fn shown<R: AllocGlobal>(rt: &R, request: &Request) -> Result<String, AllocError> {
-    let alloc = rt.alloc();
-    match request {
-        Request::Search(r) => with_paths(
-            format!(in alloc; "search {:?}", r.options)?,
-            r.paths.as_slice(),
-        ),
-        Request::Why(r) => with_paths(
-            format!(in alloc; "why {:?} {}", r.options, r.address)?,
-            r.paths.as_slice(),
-        ),
-        Request::Holders(r) => with_paths(
-            format!(in alloc; "holders {:?}", r.options)?,
-            r.paths.as_slice(),
-        ),
-        Request::Grow(r) => with_paths(
-            format!(in alloc; "grow {:?}", r.options)?,
-            r.paths.as_slice(),
-        ),
-    }
-}
-
-/// The options of a search within the program's limits.
-fn options(two: bool, reading: Reading, plan: Plan) -> Options {
-    Options {
-        two,
-        reading,
-        skip: Skip::usual(),
-        plan,
-        other_heap: false,
-        check: false,
-        strict: false,
-        core_limit: 68_719_476_736,
-        log_limit: 4_294_967_296,
-    }
-}
-
-/// The options with freed memory or links to free chunks left out.
-fn skipping(options: Options, freed: bool, links: bool) -> Options {
-    Options {
-        skip: Skip {
-            freed,
-            links,
-            ..options.skip
-        },
-        ..options
-    }
-}
-
-/// The options with slack left out.
-fn without_slack(options: Options) -> Options {
-    Options {
-        skip: Skip {
-            slack: true,
-            ..options.skip
-        },
-        ..options
-    }
-}
-
-/// The options with all memory taken.
-fn with_all_memory(options: Options) -> Options {
-    Options {
-        skip: Skip {
-            unwritable: false,
-            ..options.skip
-        },
-        ..options
-    }
-}
-
-/// Checks that the words are taken as a request with these options and paths.
-fn takes<R: Abort + AllocGlobal>(
-    rt: &R,
-    line: &str,
-    options: Options,
-    paths: &str,
-) -> Result<(), Fail> {
-    let request = asked(rt, line)??;
-    let want = format!(in rt.alloc(); "search {options:?} {paths}")?;
-    same_in(rt, &line, shown(rt, &request)?.as_str(), want.as_str());
-    Ok(())
-}
-
-/// Checks that the words ask for the block of this address, with these options and paths.
-fn asks<R: Abort + AllocGlobal>(
-    rt: &R,
-    line: &str,
-    options: Options,
-    address: u64,
-    paths: &str,
-) -> Result<(), Fail> {
-    let request = asked(rt, line)??;
-    let want = format!(in rt.alloc(); "why {options:?} {address} {paths}")?;
-    same_in(rt, &line, shown(rt, &request)?.as_str(), want.as_str());
-    Ok(())
-}
 
 #[test]
 fn requests_of_holders_and_growth(rt: HostRuntime) -> Result<(), Fail> {
@@ -174,24 +51,8 @@ fn requests_of_one_core(rt: HostRuntime) -> Result<(), Fail> {
 }
 
 #[test]
-fn requests_with_flags(rt: HostRuntime) -> Result<(), Fail> {
+fn requests_that_leave_words_out(rt: HostRuntime) -> Result<(), Fail> {
     let usual = options(false, Reading::interior(), Plan::new(4, 512, 1024)?);
-    let check = Options {
-        check: true,
-        ..usual
-    };
-    let strict = Options {
-        strict: true,
-        ..usual
-    };
-    let other = Options {
-        other_heap: true,
-        ..usual
-    };
-    let both = Options {
-        strict: true,
-        ..other
-    };
     let without_ends = Options {
         reading: Reading::interior().skip_ends(true),
         ..usual
@@ -215,6 +76,33 @@ fn requests_with_flags(rt: HostRuntime) -> Result<(), Fail> {
             "one --skip-freed a --all-memory b",
             with_all_memory(skipping(usual, true, false)),
         ),
+    ];
+    for (line, wanted) in cases {
+        takes(&rt, line, wanted, "a b")?;
+    }
+    Ok(())
+}
+
+#[test]
+fn requests_with_flags(rt: HostRuntime) -> Result<(), Fail> {
+    let usual = options(false, Reading::interior(), Plan::new(4, 512, 1024)?);
+    let check = Options {
+        check: true,
+        ..usual
+    };
+    let strict = Options {
+        strict: true,
+        ..usual
+    };
+    let other = Options {
+        other_heap: true,
+        ..usual
+    };
+    let both = Options {
+        strict: true,
+        ..other
+    };
+    let cases = [
         ("one a b --check", check),
         ("one a b --strict", strict),
         ("one --other-heap a b", other),
@@ -239,21 +127,33 @@ fn requests_of_two_cores(rt: HostRuntime) -> Result<(), Fail> {
         plan: Plan::new(2, 512, 1024)?,
         ..usual
     };
-    let all = Options {
-        check: true,
-        strict: true,
-        ..skipping(usual, true, true)
+    let without_ends = Options {
+        reading: listed.skip_ends(true),
+        ..narrow
     };
     let cases = [
         ("two a b c d --piece 1 --stack 0", short),
         ("two --workers 2 a b --displace 8,16 c d", narrow),
         (
             "two --workers 2 --skip-ends a b --displace 8,16 c d",
-            Options {
-                reading: listed.skip_ends(true),
-                ..narrow
-            },
+            without_ends,
         ),
+    ];
+    for (line, wanted) in cases {
+        takes(&rt, line, wanted, "a b c d")?;
+    }
+    Ok(())
+}
+
+#[test]
+fn requests_of_two_cores_that_leave_words_out(rt: HostRuntime) -> Result<(), Fail> {
+    let usual = options(true, Reading::interior(), Plan::new(4, 512, 1024)?);
+    let all = Options {
+        check: true,
+        strict: true,
+        ..skipping(usual, true, true)
+    };
+    let cases = [
         ("two a --all-memory b c d", with_all_memory(usual)),
         (
             "two a --skip-slack b --skip-freed c d",

@@ -15,6 +15,10 @@ mod report;
 #[cfg(test)]
 mod why;
 
+// What words ask for, in words.
+#[cfg(test)]
+mod asked;
+
 // Words of the command line.
 #[cfg(test)]
 mod arguments;
@@ -31,6 +35,10 @@ mod search;
 #[cfg(test)]
 mod find;
 
-// What a failure of the program prints, where no case can have it.
+// Texts of faults, and what their own Display writes.
+#[cfg(test)]
+mod messages;
+
+// What the program says of a failure.
 #[cfg(test)]
 mod program;

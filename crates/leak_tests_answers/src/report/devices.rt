@@ -2,7 +2,7 @@
 
 use crate::comparisons::same;
 use crate::report::samples::{NOTHING_ODD, report};
-use leak_report::{WriteFault, write};
+use leak_streams::{WriteFault, write};
 use std::alloc::Global;
 use std::io;
 use std::io::{ErrorKind, Write};

@@ -1,28 +1,24 @@
-use Rattle.std.proofs.Common.{◌≡◌, ◌<◌, ℕ, List, length, take, ap, subst, ◌∙◌}
-use Rattle.std.specs.Io.KnownBytes.{Appends}
+use Rattle.std.proofs.Common.{◌≡◌, ℕ, List, ap, subst, ◌∙◌}
+use Rattle.leak_streams.specs.Writes.{IsWrittenWhole, IsCutOff}
 use Rattle.leak_report.specs.Warnings.{warnings_of}
 use Rattle.leak_find.specs.Run.{status_by}
-use Rattle.leak_find.proofs.RunLemmas.{first_part}
+use Rattle.leak_find.specs.Streams.{IsTried, by_writes}
 use Rattle.leak_find.proofs.growing.run_grow_sized.Goals as goal
 
 pub returns-in-Err-clause-refused : goal.returns-in-Err-clause-refused
 returns-in-Err-clause-refused g c = record {
   grown = c.in_ok-grown.grown;
   has_grown = c.in_ok-grown.ensures.ok;
-  short = subst (λ (text : List ℕ). c.in-Err.fault.written < length text) c.deref.ensures.value c.in-Err.ensures.short;
-  written = subst (λ (text : List ℕ). Appends (g.W.Write.contents c.args.writer.now) (g.W.Write.contents c.write.new.writer) (take c.in-Err.fault.written text)) c.deref.ensures.value c.in-Err.ensures.fault;
+  cut_off = subst (λ (text : List ℕ). IsCutOff g.W.WriteCalls.calls text c.args.writer.now c.write_both.new.writer c.in-Err.fault) c.deref.ensures.value c.in-Err.ensures.cut_off;
 }
 
 pub returns-clause-ok : goal.returns-clause-ok
 returns-clause-ok g c =
-    let made : c.as_bytes.result.now ≡ warnings_of c.in_ok-grown.grown.signs.items = c.as_bytes.ensures.value ∙ c.in-Ok.ensures ∙ ap (λ ss. warnings_of ss) c.as_slice.ensures.value in
     let shown : c.as_str.result.now ≡ warnings_of c.in_ok-grown.grown.signs.items = c.as_str.ensures.value ∙ c.in-Ok.ensures ∙ ap (λ ss. warnings_of ss) c.as_slice.ensures.value in
-    let part = first_part c.write-taken.result (g.V.Write.contents c.args.warner.now) (g.V.Write.contents c.write-taken.new.writer) c.as_bytes.result.now c.write-taken.ensures.ok c.write-taken.ensures.fault in
     record {
       grown = c.in_ok-grown.grown;
       has_grown = c.in_ok-grown.ensures.ok;
-      written = subst (λ (text : List ℕ). Appends (g.W.Write.contents c.args.writer.now) (g.W.Write.contents c.write.new.writer) text) c.deref.ensures.value c.in_default-write.ensures.ok;
-      taken = part.0;
-      warned = subst (λ (text : List ℕ). Appends (g.V.Write.contents c.args.warner.now) (g.V.Write.contents c.write-taken.new.writer) (take part.0 text)) made part.1;
+      written = subst (λ (text : List ℕ). IsWrittenWhole g.W.WriteCalls.calls text c.args.writer.now c.write_both.new.writer) c.deref.ensures.value c.in_default.ensures.ok;
+      warned = subst (λ (text : List ℕ). IsTried (by_writes g.V.WriteCalls.calls) text c.args.warner.now c.write_both.new.warner) shown c.in_default.ensures.warned;
       status_is = c.status_of.ensures ∙ ap (λ text. status_by c.args.options.now.strict 0 text) shown;
     }

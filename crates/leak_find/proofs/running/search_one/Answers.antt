@@ -1,27 +1,40 @@
-use Rattle.std.proofs.Common.{[], ◌∷◌, arith}
+use Rattle.std.proofs.Common.{[], ◌∷◌, arith, refl}
 use Rattle.std.proofs.lemmas.Result.{err_from_is_err_and}
-use Rattle.leak_find.proofs.RunLemmas.{none_yet, one_more, stopped, of_one, found_one, fault_one}
+use Rattle.leak_find.specs.Streams.{by_reads}
+use Rattle.leak_find.specs.Run.{limit_at}
+use Rattle.leak_find.proofs.InputLemmas.{one_more}
+use Rattle.leak_find.proofs.RunLemmas.{stopped, of_one, found_one, fault_one}
 use Rattle.leak_find.proofs.running.search_one.Goals as goal
 
 pub returns-in_err-core-clause-refused : goal.returns-in_err-core-clause-refused
 returns-in_err-core-clause-refused g c =
+    let source = by_reads g.R.ReadCalls.calls in
+    let limit = limit_at c.args.options.now in
     let p = err_from_is_err_and c.from_residual.result c.from_residual.ensures.1 in
-    rw (p.1, p.2) (stopped c.args.options.now _ _ _ [] _ (none_yet _ _) (of_one _ _ c.requires.one (omega arith)) c.in_err-core.ensures.refused c.in_err-core.ensures.others)
+    rw (p.1, p.2) (stopped source c.args.options.now c.args.readers.now c.args.readers.now _ [] _ refl (of_one _ _ c.requires.one (omega arith)) c.in_err-core.ensures.refused)
 
 pub returns-in_err-log-clause-refused : goal.returns-in_err-log-clause-refused
 returns-in_err-log-clause-refused g c =
+    let source = by_reads g.R.ReadCalls.calls in
+    let limit = limit_at c.args.options.now in
+    let read1 = one_more source limit c.args.readers.now c.args.readers.now c.read_reader.new.readers [] c.in_ok-core.core.items refl c.in_ok-core.ensures.ok in
     let p = err_from_is_err_and c.from_residual-in_err-log.result c.from_residual-in_err-log.ensures.1 in
-    rw (p.1, p.2) (stopped c.args.options.now _ _ _ (c.in_ok-core.core.items ∷ []) _ (one_more _ _ _ _ [] _ (none_yet _ _) c.in_ok-core.ensures.ok c.in_ok-core.ensures.others)
-    (of_one _ _ c.requires.one (omega arith)) c.in_err-log.ensures.refused c.in_err-log.ensures.others)
+    rw (p.1, p.2) (stopped source c.args.options.now c.args.readers.now c.read_reader.new.readers _ (c.in_ok-core.core.items ∷ []) _ read1 (of_one _ _ c.requires.one (omega arith)) c.in_err-log.ensures.refused)
 
 pub returns-in-Ok-clause-ok : goal.returns-in-Ok-clause-ok
 returns-in-Ok-clause-ok g c =
-    found_one c.args.options.now _ _ c.in_ok-core.core.items c.in_ok-log.log.items _ _ c.in-Ok.found c.requires.one
-    (one_more _ _ _ _ (c.in_ok-core.core.items ∷ []) _ (one_more _ _ _ _ [] _ (none_yet _ _) c.in_ok-core.ensures.ok c.in_ok-core.ensures.others) c.in_ok-log.ensures.ok c.in_ok-log.ensures.others)
-    c.deref.ensures.value c.deref-2.ensures.value c.in-Ok.ensures.ok c.in-Ok.ensures.signs
+    let source = by_reads g.R.ReadCalls.calls in
+    let limit = limit_at c.args.options.now in
+    let read1 = one_more source limit c.args.readers.now c.args.readers.now c.read_reader.new.readers [] c.in_ok-core.core.items refl c.in_ok-core.ensures.ok in
+    let read2 = one_more source limit c.args.readers.now c.read_reader.new.readers c.read_reader-2.new.readers (c.in_ok-core.core.items ∷ []) c.in_ok-log.log.items read1 c.in_ok-log.ensures.ok in
+    found_one source c.args.options.now c.args.readers.now c.read_reader-2.new.readers c.in_ok-core.core.items c.in_ok-log.log.items _ _ c.in-Ok.found c.requires.one
+    read2 c.deref.ensures.value c.deref-2.ensures.value c.in-Ok.ensures.ok c.in-Ok.ensures.signs
 
 pub returns-clause-refused : goal.returns-clause-refused
 returns-clause-refused g c =
-    fault_one c.args.options.now _ _ c.in_ok-core.core.items c.in_ok-log.log.items _ _ c.in-Err.error c.requires.one
-    (one_more _ _ _ _ (c.in_ok-core.core.items ∷ []) _ (one_more _ _ _ _ [] _ (none_yet _ _) c.in_ok-core.ensures.ok c.in_ok-core.ensures.others) c.in_ok-log.ensures.ok c.in_ok-log.ensures.others)
-    c.deref.ensures.value c.deref-2.ensures.value c.in-Err.ensures.refused
+    let source = by_reads g.R.ReadCalls.calls in
+    let limit = limit_at c.args.options.now in
+    let read1 = one_more source limit c.args.readers.now c.args.readers.now c.read_reader.new.readers [] c.in_ok-core.core.items refl c.in_ok-core.ensures.ok in
+    let read2 = one_more source limit c.args.readers.now c.read_reader.new.readers c.read_reader-2.new.readers (c.in_ok-core.core.items ∷ []) c.in_ok-log.log.items read1 c.in_ok-log.ensures.ok in
+    fault_one source c.args.options.now c.args.readers.now c.read_reader-2.new.readers c.in_ok-core.core.items c.in_ok-log.log.items _ _ c.in-Err.error c.requires.one
+    read2 c.deref.ensures.value c.deref-2.ensures.value c.in-Err.ensures.refused

@@ -1,4 +1,4 @@
-use Rattle.std.proofs.Common.{◌≡◌, ◌++◌, ◌∙◌, ap, codes, List, ℕ}
+use Rattle.std.proofs.Common.{◌++◌, ◌∙◌, ap, codes, List, ℕ}
 use Rattle.leak_blocks.specs.declared.block.Block.{Block}
 use Rattle.leak_texts.specs.Numbered.{bytes_each}
 use Rattle.leak_why.specs.Text.{numbered_line}

@@ -1,4 +1,4 @@
-use Rattle.std.proofs.Common.{◌≡◌, ◌∙◌, ℕ, Bool, List, length, sym, ap, subst, arith}
+use Rattle.std.proofs.Common.{◌∙◌, ℕ, Bool, List, length, sym, ap, subst, arith}
 use Rattle.std.specs.Prelude.{slice_index}
 use denote.Ref.{Bor}
 use Rattle.leak_texts.specs.Numbered.{bytes_each}
@@ -46,7 +46,7 @@ held_text_of-requires-clause-told g c =
     (targets_are _ _ _ _ _ _ k.read k.is_scene)
     (ap length (c.as_slice-2.ensures.value ∙ c.in_ok-chosen.ensures) ∙ chosen_each c.facts_of-facts.result.numbers.now c.args.block c.args.question.alone
     ∙ all.0.numbered ∙ ap length c.facts_of-facts.ensures.of.of_blocks)
-    c.in_ok-held.ensures.held
+    c.in_ok-held.ensures
 
 pub returns-clause-answer : goal.returns-clause-answer
 returns-clause-answer g c =
@@ -62,9 +62,9 @@ returns-clause-answer g c =
       told = told;
       parts = parts;
       held =
-          subst (λ (n : ℕ). AreHeld c.args.question.side (graph_with c.args.input.now c.args.scene.now.ground.lookup c.args.scene.now.ground.roots) facts n set (slice_index facts.numbers.now c.args.block) told parts) long
-          (subst (λ (xs : List Bool). AreHeld c.args.question.side (graph_with c.args.input.now c.args.scene.now.ground.lookup c.args.scene.now.ground.roots) facts (length c.as_slice-texts.result.now) xs (slice_index facts.numbers.now c.args.block) told parts)
-          (c.as_slice-2.ensures.value ∙ c.in_ok-chosen.ensures) c.in_ok-held.ensures.held);
+          subst (λ (n : ℕ). AreHeld c.args.question.side (graph_with c.args.input.now c.args.scene.now.ground.now.lookup c.args.scene.now.ground.now.roots) facts n set (slice_index facts.numbers.now c.args.block) told parts) long
+          (subst (λ (xs : List Bool). AreHeld c.args.question.side (graph_with c.args.input.now c.args.scene.now.ground.now.lookup c.args.scene.now.ground.now.roots) facts (length c.as_slice-texts.result.now) xs (slice_index facts.numbers.now c.args.block) told parts)
+          (c.as_slice-2.ensures.value ∙ c.in_ok-chosen.ensures) c.in_ok-held.ensures);
       is =
           c.in_ok-report.ensures
           ∙ ap (λ (own : List Bool). held_text c.args.log.now c.args.input.now.live.blocks c.args.block c.args.question.side own told (bytes_each c.as_slice-texts.result.now) parts)

@@ -1,4 +1,4 @@
-use Rattle.std.proofs.Common.{◌≡◌, List, length, sym, ap, subst, ◌∙◌}
+use Rattle.std.proofs.Common.{List, length, sym, ap, subst, ◌∙◌}
 use Rattle.leak_blocks.specs.declared.block.Block.{Block}
 use Rattle.leak_report.specs.Totals.{HaveCallersIn}
 use Rattle.leak_texts.specs.Numbered.{AreTexts, bytes_each}
@@ -10,14 +10,14 @@ use Rattle.leak_holding.proofs.scene.scene_of.Goals as goal
 pub number_texts-requires-clause-in_log : goal.number_texts-requires-clause-in_log
 number_texts-requires-clause-in_log g c =
     subst (λ (bs : List Block). HaveCallersIn c.args.files.now.log.now bs) (sym c.blocks-2.ensures.value)
-    (input_callers c.args.files.now.core.now c.args.files.now.log.now c.args.input.now c.requires)
+    (input_callers c.args.files.now.core.now c.args.files.now.log.now c.args.input.now c.requires.read)
 
 pub returns-clause-ok : goal.returns-clause-ok
-returns-clause-ok g c = record {
-  lookup = c.in_ok-ground.ensures.lookup;
-  roots = c.in_ok-ground.ensures.roots;
-  few = few_marked _ (length c.args.input.now.live.blocks) c.in_ok-set.ensures.many;
-  marked = c.in_ok-set.ensures.marks;
+returns-clause-ok g c = λ reading of. record {
+  of = of;
+  listed = c.in_ok-links.ensures.listed;
+  few = few_marked _ (length c.args.input.now.live.blocks) c.in_ok-links.ensures.many;
+  marked = c.in_ok-set.ensures;
   numbered =
       subst (λ (bs : List Block). AreTexts c.args.files.now.log.now bs (bytes_each c.in_ok-texts.texts.texts.items) c.in_ok-texts.texts.numbers.items)
       c.blocks-2.ensures.value c.in_ok-texts.ensures;

@@ -3,6 +3,7 @@ use Rattle.leak_notes.specs.declared.sets.RegisterSet.{RegisterSet}
 use Rattle.leak_why.specs.Text.{text_of}
 use Rattle.leak_input.proofs.InputLemmas.{as_input, input_callers}
 use Rattle.leak_search.proofs.HoldingLemmas.{tells_why, no_block}
+use Rattle.leak_search.proofs.SignLemmas.{are_of_one}
 use Rattle.leak_search.proofs.holding.find_why.Goals as goal
 
 pub returns-in_default-clause-refused : goal.returns-in_default-clause-refused
@@ -18,3 +19,6 @@ returns-clause-ok c =
     c.in-Some.ensures.some c.in_ok-chain.ensures.why c.in_ok-chain.ensures.reach
     (c.in_ok-text.ensures ∙ ap (λ (s : List RegisterSet). text_of c.args.log.now c.in_ok-input.input.live.blocks s c.in-Some.block c.in_ok-chain.chain) (c.as_slice.ensures.value ∙ c.in_ok-sets.ensures))
     c.is_some.ensures
+
+pub returns-clause-signs : goal.returns-clause-signs
+returns-clause-signs c = are_of_one c.args.core.now c.args.log.now c.in_ok-input.input _ c.in_ok-input.ensures.ok c.in_ok-oddities.ensures.signs

@@ -1,0 +1,88 @@
+/* What leak_log and leak_walk share. */
+#ifndef LEAK_COMMON_H
+#define LEAK_COMMON_H
+
+#include <elf.h>
+#include <stdarg.h>
+#include <stddef.h>
+#include <stdint.h>
+#include <string.h>
+
+enum { PAGE = 4096 };
+
+struct file {
+    const uint8_t *bytes;       /* mapped */
+    uint64_t size;
+    const char *path;
+};
+
+/* The program headers of a core (gABI, Program Header). */
+struct headers {
+    const uint8_t *first;
+    uint64_t count;
+};
+
+struct note {
+    uint32_t type;
+    const char *name;           /* up to its 0, which it may lack */
+    uint64_t name_size;
+    const uint8_t *bytes;
+    uint64_t size;
+};
+
+/* A part of a file that the process had mapped. An address in it is at `address + bias` in the ELF file. */
+struct part {
+    uint64_t start, end, offset, bias;
+    const char *path;
+    int is_known;
+};
+
+struct parts {
+    struct part *list;          /* by ascending start, once sorted */
+    size_t count;
+};
+
+/* say.c; each program defines its name and its help */
+extern const char program[], usage[], help[];
+void say(const char *form, va_list values);
+__attribute__((format(printf, 1, 2))) void warn(const char *form, ...);
+__attribute__((noreturn, format(printf, 1, 2))) void fail(const char *form, ...);
+__attribute__((noreturn)) void refuse_words(int count, char **words);
+void *grown(void *list, size_t count, size_t each);
+
+/* file.c */
+struct file map_file(const char *path);
+int begins(const char *at, const char *stop, const char *with);
+const char *end_of_line(struct file log, const char *at);
+
+/* elf.c */
+struct headers headers_of(struct file core);
+Elf64_Phdr header_at(struct file core, struct headers headers, uint64_t number);
+int next_note(const uint8_t **at, const uint8_t *end, struct note *note);
+int is_note(const struct note *note, uint32_t type, const char *name);
+
+/* parts.c */
+int by_start(const void *a, const void *b);
+void add_parts(struct parts *parts, const struct note *note);
+const struct part *part_of(struct parts *parts, uint64_t address);
+const char *name_of(const struct part *part);
+const struct part *other_allocator(const struct parts *parts);
+
+/* output.c */
+void put_bytes(const uint8_t *bytes, uint64_t size);
+void put_number(uint64_t value);
+void put_hex_behind(const char *before, size_t length, uint64_t value);
+void put_end(void);
+
+/* Here, so that the length of a constant is known when this is compiled. */
+static inline void put_text(const char *text)
+{
+    put_bytes((const uint8_t *)text, strlen(text));
+}
+
+static inline void put_hex(const char *before, uint64_t value)
+{
+    put_hex_behind(before, strlen(before), value);
+}
+
+#endif

@@ -1,0 +1,131 @@
+/* Which parts of files the process had mapped (Linux, NT_FILE), and where an address is in such a file. */
+#include <fcntl.h>
+#include <string.h>
+#include <unistd.h>
+
+#include "common.h"
+
+/* Entries of an NT_FILE note: count and page size, then start, end and page of each part, then the names. */
+enum { NOTE_HEAD = 16, NOTE_PART = 24 };
+
+/* All structs that are sorted by this begin with their start. */
+int by_start(const void *a, const void *b)
+{
+    uint64_t x = *(const uint64_t *)a, y = *(const uint64_t *)b;
+
+    return (x > y) - (x < y);
+}
+
+static uint64_t get(const uint8_t *at)
+{
+    uint64_t value;
+
+    memcpy(&value, at, sizeof value);
+    return value;
+}
+
+/* Adds the parts that an NT_FILE note has. */
+void add_parts(struct parts *parts, const struct note *note)
+{
+    uint64_t count = note->size < NOTE_HEAD ? 0 : get(note->bytes);
+    const char *path, *end = (const char *)note->bytes + note->size;
+
+    if (!count || count > (note->size - NOTE_HEAD) / NOTE_PART)
+        return;
+    path = (const char *)note->bytes + NOTE_HEAD + NOTE_PART * count;
+    for (uint64_t i = 0; i < count && path < end && memchr(path, 0, end - path); i++) {
+        const uint8_t *at = note->bytes + NOTE_HEAD + NOTE_PART * i;
+        parts->list = grown(parts->list, parts->count, sizeof *parts->list);
+        if (get(at) < get(at + 8) && !strchr(path, '\n')) /* a line of the log can't have such a name */
+            parts->list[parts->count++] = (struct part){ get(at), get(at + 8), get(at + 16) * get(note->bytes + 8), 0, path, 0 };
+        path += strlen(path) + 1;
+    }
+}
+
+/* The part before this one where the same file begins, or the part itself. */
+static const struct part *first_of(const struct parts *parts, const struct part *part)
+{
+    enum { MOST_PARTS = 64 };   /* an ELF file has a part for each of its few segments */
+
+    for (const struct part *p = part; p >= parts->list && part - p < MOST_PARTS; p--)
+        if (!p->offset && !strcmp(p->path, part->path))
+            return p;
+    return part;
+}
+
+/* The first PT_LOAD header of an ELF file. Gives 0 where it has none. */
+static int first_load(int file, Elf64_Phdr *p)
+{
+    Elf64_Ehdr header;
+    int found = pread(file, &header, sizeof header, 0) == sizeof header && !memcmp(header.e_ident, ELFMAG, SELFMAG);
+
+    for (int i = 0; found && i < header.e_phnum; i++) {
+        if (pread(file, p, sizeof *p, header.e_phoff + i * sizeof *p) != sizeof *p)
+            return 0;
+        if (p->p_type == PT_LOAD)
+            return 1;
+    }
+    return 0;
+}
+
+/* Sets what must be added to an address of the part for the address in the ELF file, by the segment that the file begins
+ * with; else for the offset in the file. */
+static void learn(const struct parts *parts, struct part *part)
+{
+    const struct part *first = first_of(parts, part);
+    int file = open(part->path, O_RDONLY | O_NONBLOCK);
+    Elf64_Phdr p;
+
+    part->is_known = 1;
+    part->bias = part->offset - part->start;
+    if (file < 0)
+        return;
+    if (!first->offset && first_load(file, &p))
+        part->bias = (p.p_vaddr & -(uint64_t)PAGE) - (p.p_offset & -(uint64_t)PAGE) - first->start;
+    close(file);
+}
+
+/* The part that has the address, or NULL. */
+const struct part *part_of(struct parts *parts, uint64_t address)
+{
+    size_t low = 0, high = parts->count;
+
+    if (!high || address < parts->list[0].start)
+        return NULL;
+    while (low < high) {
+        size_t middle = low + (high - low) / 2;
+        if (parts->list[middle].end <= address)
+            low = middle + 1;
+        else
+            high = middle;
+    }
+    if (low == parts->count || parts->list[low].start > address)
+        return NULL;
+    if (!parts->list[low].is_known)
+        learn(parts, parts->list + low);
+    return parts->list + low;
+}
+
+/* The file's name without its folders. */
+const char *name_of(const struct part *part)
+{
+    const char *slash = strrchr(part->path, '/');
+
+    return slash ? slash + 1 : part->path;
+}
+
+/* Whether the file is of an allocator that takes the place of glibc's malloc. */
+static int is_allocator(const char *name)
+{
+    return begins(name, name + strlen(name), "libjemalloc") || begins(name, name + strlen(name), "libtcmalloc")
+        || begins(name, name + strlen(name), "libmimalloc");
+}
+
+/* The first part of a known allocator, or NULL. */
+const struct part *other_allocator(const struct parts *parts)
+{
+    for (size_t i = 0; i < parts->count; i++)
+        if (is_allocator(name_of(parts->list + i)))
+            return parts->list + i;
+    return NULL;
+}

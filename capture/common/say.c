@@ -1,0 +1,54 @@
+/* Messages, each a line of standard error, and the end where one is of a fault. */
+#include <stdio.h>
+#include <stdlib.h>
+#include <string.h>
+
+#include "common.h"
+
+enum { REFUSED = 2 };
+
+void say(const char *form, va_list values)
+{
+    fprintf(stderr, "%s: ", program);
+    vfprintf(stderr, form, values);
+    fputc('\n', stderr);
+}
+
+void warn(const char *form, ...)
+{
+    va_list values;
+
+    va_start(values, form);
+    say(form, values);
+    va_end(values);
+}
+
+void fail(const char *form, ...)
+{
+    va_list values;
+
+    va_start(values, form);
+    say(form, values);
+    va_end(values);
+    exit(REFUSED);
+}
+
+/* The words ask for help, or are wrong. */
+void refuse_words(int count, char **words)
+{
+    fputs(usage, stderr);
+    if (count == 2 && (!strcmp(words[1], "--help") || !strcmp(words[1], "-h")))
+        fputs(help, stderr);
+    exit(REFUSED);
+}
+
+/* The list, with room for one more. */
+void *grown(void *list, size_t count, size_t each)
+{
+    if (count & (count - 1))
+        return list;
+    list = realloc(list, (count ? 2 * count : 1) * each);
+    if (!list)
+        fail("out of memory");
+    return list;
+}

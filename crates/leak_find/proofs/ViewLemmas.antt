@@ -1,0 +1,77 @@
+-- What is known of readers and writers, as seen by one who knows less of them.
+use Rattle.std.proofs.Common.{ℕ, suc, List, [], ◌∷◌, length, map, Option, ap, sym, subst, ◌∙◌, inl, inr}
+use Rattle.std.proofs.lemmas.List.{length-map}
+use Rattle.leak_streams.specs.declared.fault.ReadFault.{ReadFault}
+use Rattle.leak_streams.specs.declared.fault.WriteFault.{WriteFault}
+use Rattle.leak_streams.proofs.Consumed.{stopped, whole_input, tells as tells_left}
+use Rattle.leak_streams.proofs.Appended.{cut_off_appends, cut_off_short, whole_appends, tells as tells_held}
+use Rattle.leak_request.specs.declared.options.Options.{Options}
+use Rattle.leak_find.specs.Streams.{IsTried, Sink, Source, by_bytes_held, by_bytes_left, by_reads, by_writes}
+use Rattle.leak_find.specs.Inputs.{AreRead, AreReadUpTo, IsReadFaultWithin}
+use Rattle.leak_find.specs.Holders.{AreAllInputs, limit_of_held}
+
+-- what is known of a source, of readers as the view has them
+pub record Sees {R S : Type 0} (view : R → S) (source : Source R) (known : Source S) : Type 0 where
+  pub whole : (limit : ℕ) (before after : R) (bytes : List ℕ) → source.whole limit before after bytes → known.whole limit (view before) (view after) bytes
+  pub stopped : (limit : ℕ) (before after : R) (e : ReadFault) → source.stopped limit before after e → known.stopped limit (view before) (view after) e
+
+-- the same of a sink
+pub record Shows {W X : Type 0} (view : W → X) (sink : Sink W) (known : Sink X) : Type 0 where
+  pub whole : (text : List ℕ) (before after : W) → sink.whole text before after → known.whole text (view before) (view after)
+  pub cut_off : (text : List ℕ) (before after : W) (f : WriteFault) → sink.cut_off text before after f → known.cut_off text (view before) (view after) f
+
+-- calls, by the bytes that a reader has left and that a writer holds
+pub sees_left : {R : Type 0} (left : R → Option (List ℕ)) → Sees left (by_reads (tells_left left)) by_bytes_left
+sees_left left = record {
+  whole = λ limit before after bytes. whole_input left limit before after bytes;
+  stopped = λ limit before after e. stopped left limit before after e;
+}
+
+pub shows_held : {W : Type 0} (held : W → Option (List ℕ)) → Shows held (by_writes (tells_held held)) by_bytes_held
+shows_held held = record {
+  whole = λ text before after. whole_appends held text before after;
+  cut_off = λ text before after f cut. (cut_off_short (tells_held held) text before after f cut, cut_off_appends held text before after f cut);
+}
+
+pub tried : {W X : Type 0} (view : W → X) (sink : Sink W) (known : Sink X) (shows : Shows view sink known) (text : List ℕ) (before after : W)
+    → IsTried sink text before after → IsTried known text (view before) (view after)
+tried view sink known shows text before after (inl whole) = inl (shows.whole text before after whole)
+tried view sink known shows text before after (inr cut) = inr (cut.0, shows.cut_off text before after cut.0 cut.1)
+
+module _ {R S : Type 0} (view : R → S) (source : Source R) (known : Source S) (sees : Sees view source known) where
+  pub are_read : (limit : ℕ → ℕ) (before after : List R) (inputs : List (List ℕ)) → AreRead source limit before after inputs
+      → AreRead known limit (map view before) (map view after) inputs
+  are_read limit before after [] read = ap (map view) read
+  are_read limit [] after (x ∷ xs) read = absurd read
+  are_read limit (b ∷ bs) [] (x ∷ xs) read = absurd read
+  are_read limit (b ∷ bs) (a ∷ rest) (x ∷ xs) read = (sees.whole (limit 0) b a x read.0, are_read (λ i. limit (suc i)) bs rest xs read.1)
+
+  up_to : (limit : ℕ → ℕ) (before after : List R) (inputs : List (List ℕ)) (e : ReadFault) → AreReadUpTo source limit before after inputs e
+      → AreReadUpTo known limit (map view before) (map view after) inputs e
+  up_to limit [] after inputs e read = absurd read
+  up_to limit (b ∷ bs) [] inputs e read = absurd read
+  up_to limit (b ∷ bs) (a ∷ rest) [] e read = (sees.stopped (limit 0) b a e read.0, ap (map view) read.1)
+  up_to limit (b ∷ bs) (a ∷ rest) (x ∷ xs) e read = (sees.whole (limit 0) b a x read.0, up_to (λ i. limit (suc i)) bs rest xs e read.1)
+
+  pub fault_within : (limit : ℕ → ℕ) (readers : ℕ) (before after : List R) (number : ℕ) (e : ReadFault) → IsReadFaultWithin source limit readers before after number e
+      → IsReadFaultWithin known limit readers (map view before) (map view after) number e
+  fault_within limit readers before after number e fault = record {
+    inputs = fault.inputs;
+    number_is = fault.number_is;
+    few = fault.few;
+    stopped = up_to limit before after fault.inputs e fault.stopped;
+  }
+
+  pub held_within : (o : Options) (before after : List R) (number : ℕ) (e : ReadFault)
+      → IsReadFaultWithin source (limit_of_held o) (length before) before after number e
+      → IsReadFaultWithin known (limit_of_held o) (length (map view before)) (map view before) (map view after) number e
+  held_within o before after number e fault =
+      subst (λ (n : ℕ). IsReadFaultWithin known (limit_of_held o) n (map view before) (map view after) number e) (sym (length-map before view))
+      (fault_within (limit_of_held o) (length before) before after number e fault)
+
+  pub all_inputs : (o : Options) (before after : List R) (inputs : List (List ℕ)) → AreAllInputs source o before after inputs
+      → AreAllInputs known o (map view before) (map view after) inputs
+  all_inputs o before after inputs are = record {
+    count = are.count ∙ sym (length-map before view);
+    read = are_read (limit_of_held o) before after inputs are.read;
+  }

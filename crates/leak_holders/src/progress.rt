@@ -1,0 +1,47 @@
+//! Who does the work of a call, and who is told how far it has come.
+
+ghost use Rattle.std.specs.Prelude.{◌≡◌};
+
+use std::thread::Threads;
+
+/// Is told how far a call has come: after each marking, on the thread of the caller.
+///
+/// What is told changes nothing of what a call gives.
+pub trait Progress {
+    /// So many texts of all are done.
+    fn tell(&self, done: u64, all: u64);
+
+    /// Nothing more is told: all texts are done, or memory was refused.
+    fn end(&self);
+}
+
+/// Tells nobody.
+#[derive(Clone, Copy, Debug)]
+pub struct Silent;
+
+impl Progress for Silent {
+    fn tell(&self, _done: u64, _all: u64) {}
+
+    fn end(&self) {}
+}
+
+/// The threads of a call, how many may work at once, and who is told of the work.
+#[derive(Drop)]
+pub struct Crew<'a, R: Threads + Sync, P: Progress> {
+    pub rt: &'a R,
+    pub workers: u32,
+    pub progress: &'a P,
+}
+
+impl<'a, R: Threads + Sync, P: Progress> Crew<'a, R, P> {
+    /// A crew of so many workers.
+    pub fn new(rt: &'a R, workers: u32, progress: &'a P) -> Crew<'a, R, P>
+        ensures { result.workers ≡ workers }
+    {
+        Crew {
+            rt,
+            workers,
+            progress,
+        }
+    }
+}

@@ -1,0 +1,120 @@
+-- A run reads its inputs whole, and its report and status are functions of these.
+use Rattle.std.proofs.Common.{◌≡◌, ℕ, zero, suc, ◌<◌, Bool, true, false, List, [], ◌∷◌, ◌++◌, length, get_or, map, Option, None, Some, refl, sym, ap, subst, ◌∙◌, arith, append-nil}
+use Rattle.std.specs.Prelude.{nat_lt, if◌then◌else◌}
+use Rattle.std.specs.Io.KnownBytes.{Appends, Consumes, IsAtEnd}
+use Rattle.std.proofs.lemmas.List.{same_lists}
+use Rattle.leak_index.specs.Leads.{Distances}
+use Rattle.leak_index.specs.Readings.{distances_of}
+use Rattle.leak_roots.specs.declared.skip.Skip.{Skip}
+use Rattle.leak_report.specs.declared.signs.Signs.{Signs}
+use Rattle.leak_report.specs.Warnings.{warnings_of}
+use Rattle.leak_input.specs.declared.found.Found.{Found}
+use Rattle.leak_input.specs.Signs.{AreSigns}
+use Rattle.leak_request.specs.declared.options.Options.{Options}
+use Rattle.leak_request.specs.Requests.{file_count}
+use Rattle.leak_search.specs.Search.{FindsOne}
+use Rattle.leak_search.specs.SearchTwo.{FindsTwo}
+use Rattle.leak_find.specs.Run.{AreWithin, Finds, Runs, input_at, left_in, limit_at, signs_that_count, status_by, warnings_by}
+use Rattle.leak_laws.specs.OneLine.{AreOfOneLine}
+use Rattle.leak_laws.specs.Reports.{IsReport, told_by_one, told_by_two}
+use Rattle.leak_laws.specs.Runs.{AreAlike, AskAlike, HoldAlike, IsRunReport}
+use Rattle.leak_laws.specs.Same.{IsSameReport}
+use Rattle.leak_laws.specs.Told.{Told}
+use Rattle.leak_laws.proofs.SameLemmas.{one_report, one_signs, two_report}
+use Rattle.leak_laws.proofs.SearchReports.{of_one, of_two, one_of_lines, two_of_lines}
+
+-- ---- inputs
+
+-- what a reader had is the input
+whole : (all bytes : List ℕ) (before after : Option (List ℕ)) → before ≡ Some all → Consumes before after bytes → IsAtEnd after → bytes ≡ all
+whole all bytes None after e taken end = cc
+whole all bytes (Some xs) None e taken end = absurd taken
+whole all bytes (Some xs) (Some ys) e taken end =
+    let same : xs ≡ all = cc in
+    sym (append-nil bytes) ∙ ap (λ (t : List ℕ). bytes ++ t) (sym end) ∙ sym taken ∙ same
+
+default : (xs : List (List ℕ)) (i : ℕ) (d : List ℕ) → i < length xs → get_or xs i d ≡ get_or xs i []
+default [] i d low = absurd (omega arith)
+default (x ∷ xs) zero d low = refl
+default (x ∷ xs) (suc i) d low = default xs i d (omega arith)
+
+pub inputs_are_one : (limit other : ℕ → ℕ) (before after readers left : List (Option (List ℕ))) (inputs others : List (List ℕ)) → length inputs ≡ length others → HoldAlike (length inputs) before readers
+    → AreWithin limit before after inputs → AreWithin other readers left others → inputs ≡ others
+inputs_are_one limit other before after readers left inputs others n hold p q = same_lists inputs others n (λ i d low. each i d low)
+  where
+    each : (i : ℕ) (d : List ℕ) → i < length inputs → get_or inputs i d ≡ get_or others i d
+    each i d low =
+        let h = hold i low in
+        let w = p.each i low in
+        let v = q.each i (omega (arith, n)) in
+        default inputs i d low
+        ∙ whole h.0 (input_at inputs i) (left_in before i) (left_in after i) h.1 w.taken w.end
+        ∙ sym (whole h.0 (input_at others i) (left_in readers i) (left_in left i) h.2 v.taken v.end)
+        ∙ sym (default others i d (omega (arith, n)))
+
+-- ---- reports
+
+same_found : (two : Bool) (a b : Options) (inputs : List (List ℕ)) (x y : Found) → AskAlike a b → Finds two a inputs x → Finds two b inputs y → IsSameReport x y
+same_found false a b inputs x y ask f g =
+    let one = subst (λ (r : Distances). FindsOne (input_at inputs 0) (input_at inputs 1) r b.skip b.check b.plan.workers y) (sym ask.reading) g in
+    let two = subst (λ (s : Skip). FindsOne (input_at inputs 0) (input_at inputs 1) (distances_of a.reading) s b.check b.plan.workers y) (sym ask.skip) one in
+    let three = subst (λ (c : Bool). FindsOne (input_at inputs 0) (input_at inputs 1) (distances_of a.reading) a.skip c b.plan.workers y) (sym ask.check) two in
+    one_report (input_at inputs 0) (input_at inputs 1) (distances_of a.reading) a.skip a.check a.plan.workers b.plan.workers x y f three
+same_found true a b inputs x y ask f g =
+    let one = subst (λ (r : Distances). FindsTwo (input_at inputs 0) (input_at inputs 1) (input_at inputs 2) (input_at inputs 3) r b.skip b.check b.plan.workers y) (sym ask.reading) g in
+    let two = subst (λ (s : Skip). FindsTwo (input_at inputs 0) (input_at inputs 1) (input_at inputs 2) (input_at inputs 3) (distances_of a.reading) s b.check b.plan.workers y) (sym ask.skip) one in
+    let three = subst (λ (c : Bool). FindsTwo (input_at inputs 0) (input_at inputs 1) (input_at inputs 2) (input_at inputs 3) (distances_of a.reading) a.skip c b.plan.workers y) (sym ask.check) two in
+    two_report (input_at inputs 0) (input_at inputs 1) (input_at inputs 2) (input_at inputs 3) (distances_of a.reading) a.skip a.check a.plan.workers b.plan.workers x y f three
+
+pub runs_are_one : (a b : Options) (before after readers left : List (Option (List ℕ))) (held holds heard hears other others told tells : Option (List ℕ)) (status same : ℕ)
+    → AskAlike a b → HoldAlike (file_count a.two) before readers
+    → Runs a before after held holds heard hears status → Runs b readers left other others told tells same
+    → AreAlike held holds other others status same
+runs_are_one a b before after readers left held holds heard hears other others told tells status same ask hold f g =
+    let inputs : f.has_found.inputs ≡ g.has_found.inputs =
+    inputs_are_one (limit_at a) (limit_at b) before after readers left f.has_found.inputs g.has_found.inputs (f.has_found.count ∙ ap file_count ask.two ∙ sym g.has_found.count)
+    (subst (λ (n : ℕ). HoldAlike n before readers) (sym f.has_found.count) hold) f.has_found.read g.has_found.read in
+    let finds1 = subst (λ (two : Bool). Finds two b g.has_found.inputs g.found) (sym ask.two) g.has_found.finds in
+    let finds2 = subst (λ (is : List (List ℕ)). Finds a.two b is g.found) (sym inputs) finds1 in
+    let report = same_found a.two a b f.has_found.inputs f.found g.found ask f.has_found.finds finds2 in
+    let signs1 : AreSigns f.has_found.inputs g.found.signs.items = subst (λ (is : List (List ℕ)). AreSigns is g.found.signs.items) (sym inputs) g.has_found.signs in
+    let signs : f.found.signs.items ≡ g.found.signs.items = one_signs f.has_found.inputs f.found.signs.items g.found.signs.items f.has_found.signs signs1 in
+    record {
+      written = record { bytes = f.found.report.items; first = f.written; second = subst (λ (bs : List ℕ). Appends other others bs) (sym report.report) g.written };
+      status_same = f.status_is
+          ∙ ap (λ (n : ℕ). status_by a.strict n (warnings_by a f.found.signs.items)) report.leaked
+          ∙ ap (λ (ss : List Signs). status_by a.strict g.found.leaked (warnings_by a ss)) signs
+          ∙ ap (λ (heap : Bool). status_by a.strict g.found.leaked (warnings_of (map (signs_that_count heap) g.found.signs.items))) ask.other_heap
+          ∙ ap (λ (s : Bool). status_by s g.found.leaked (warnings_by b g.found.signs.items)) ask.strict
+          ∙ sym g.status_is;
+    }
+
+-- ---- what is written
+
+-- the lines that a search's report has
+told_lines : (two : Bool) (o : Options) (inputs : List (List ℕ)) (found : Found) → Finds two o inputs found → (t : Told) × IsReport found t × AreOfOneLine t
+told_lines false o inputs found f = (
+  told_by_one f,
+  of_one (input_at inputs 0) (input_at inputs 1) (distances_of o.reading) o.skip o.check o.plan.workers found f,
+  one_of_lines (input_at inputs 0) (input_at inputs 1) (distances_of o.reading) o.skip o.check o.plan.workers found f,
+)
+told_lines true o inputs found f = (
+  told_by_two f,
+  of_two (input_at inputs 0) (input_at inputs 1) (input_at inputs 2) (input_at inputs 3) (distances_of o.reading) o.skip o.check o.plan.workers found f,
+  two_of_lines (input_at inputs 0) (input_at inputs 1) (input_at inputs 2) (input_at inputs 3) (distances_of o.reading) o.skip o.check o.plan.workers found f,
+)
+
+pub runs_write_reports : (o : Options) (before after : List (Option (List ℕ))) (held holds heard hears : Option (List ℕ)) (status : ℕ)
+    → Runs o before after held holds heard hears status → (t : Told) × IsRunReport o held holds status t
+runs_write_reports o before after held holds heard hears status f =
+    let told = told_lines o.two o f.has_found.inputs f.found f.has_found.finds in (
+      told.0,
+      record {
+        written = subst (λ (bs : List ℕ). Appends held holds bs) told.1.bytes f.written;
+        together = told.1.together;
+        of_lines = told.2;
+        by_leaks = λ lax.
+            f.status_is ∙ ap (λ (s : Bool). status_by s f.found.leaked (warnings_by o f.found.signs.items)) lax
+            ∙ ap (λ (n : ℕ). if nat_lt 0 n then 1 else 0) told.1.leaked;
+      },
+    )

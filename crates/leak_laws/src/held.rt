@@ -1,0 +1,30 @@
+//! What is held: answers are one, and the lines of a report belong together.
+
+ghost use Rattle.leak_laws.specs.HeldTogether.{HoldersBelongTogether, OwnBlocksAreMarked};
+ghost use Rattle.leak_laws.specs.InSums.{InLinesAddUp};
+ghost use Rattle.leak_laws.specs.Held.{AnswersAreOne, AnswersOfWhyAreAsLong, ReportsOfHoldersAreOne};
+
+/// Two accepted reports of who holds the memory, from the same bytes and by the same options, are the same, byte by byte, and so are two
+/// answers to one question about what chosen blocks hold, or who holds them.
+pub fn reports_of_holders_are_one()
+    ensures holders { ReportsOfHoldersAreOne }
+    ensures chosen { AnswersAreOne }
+{}
+
+/// Two answers to why a block is held are of the same block, both say that it is held or neither, and have as many links. (Which of the
+/// shortest chains is told, the contract leaves open.)
+pub fn answers_of_why_are_as_long()
+    ensures { AnswersOfWhyAreAsLong }
+{}
+
+/// The lines of a report on who holds the memory stand in order, and each live block is marked or leaked. Without an earlier log the own
+/// blocks and bytes of all lines have the sums of the marked blocks; no line has more of its own than it holds, or holds more than is marked.
+pub fn holders_belong_together()
+    ensures together { HoldersBelongTogether }
+    ensures own { OwnBlocksAreMarked }
+{}
+
+/// The lines of what chosen blocks hold have the sums of the held blocks.
+pub fn in_lines_add_up()
+    ensures { InLinesAddUp }
+{}

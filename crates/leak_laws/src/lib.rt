@@ -1,0 +1,39 @@
+//! Laws of what the program tells, over the contracts of the calls that tell it. The program does not need them.
+//!
+//! Each is a function that does nothing: its contract is the law.
+//!
+//! - **Answers are functions of the files**: [`reports_are_one`], [`signs_are_one`], [`reports_of_holders_are_one`],
+//!   [`reports_of_growth_are_one`], and of whole runs [`runs_are_one`], [`other_runs_are_one`]. Which of the shortest chains
+//!   is told of a block is open, but not how long it is ([`answers_of_why_are_as_long`]).
+//! - **What leaks by other options**: [`reported_stay_reported`], [`earlier_cores_keep_blocks`].
+//! - **Lines belong together**, as docs/FORMAT.md says: [`lines_belong_together`], [`check_adds_misfits`],
+//!   [`runs_write_reports`], [`holders_belong_together`], [`in_lines_add_up`], [`growths_add_up`].
+//! - **Bytes tell the lines**: [`reports_read_back`], [`texts_are_of_one_line`], [`growth_reads_back`],
+//!   [`holders_read_back`], [`why_reads_back`], [`answers_are_of_lines`].
+//! - **Worked rows**: [`worked_growths`], [`roots_at_zero`].
+//!
+//! What the lines of a report say is in `specs/Told.antt`, and how they belong together in `specs/Together.antt`.
+#![tactic(auto)]
+
+mod answers;
+mod growth;
+mod held;
+mod leaks;
+mod reports;
+mod runs;
+mod same;
+
+pub use answers::{
+    answers_are_of_lines, growth_reads_back, holders_read_back, roots_at_zero, why_reads_back,
+};
+pub use growth::{growths_add_up, reports_of_growth_are_one, worked_growths};
+pub use held::{
+    answers_of_why_are_as_long, holders_belong_together, in_lines_add_up,
+    reports_of_holders_are_one,
+};
+pub use leaks::{earlier_cores_keep_blocks, reported_stay_reported};
+pub use reports::{
+    check_adds_misfits, lines_belong_together, reports_read_back, texts_are_of_one_line,
+};
+pub use runs::{other_runs_are_one, runs_are_one, runs_write_reports};
+pub use same::{reports_are_one, signs_are_one};

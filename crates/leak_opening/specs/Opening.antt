@@ -1,0 +1,37 @@
+-- How paths are opened: each once, in order, up to the first that is refused. Own rule.
+use Rattle.std.specs.Prelude.{◌≡◌, ℕ, List, [], ◌∷◌, ◌++◌, Result, Ok, Err, string_bytes}
+use Rattle.std.specs.IoError.{error_kind}
+use Rattle.std.specs.declared.io.Error.{Error}
+use Rattle.leak_opening.specs.declared.fault.OpenFault.{OpenFault}
+use Rattle.leak_opening.specs.declared.fault.OpenFault.TheVariants.{Refused, NoMemory}
+use Rattle.leak_opening.specs.declared.fault.Reason.{Reason}
+use Rattle.leak_opening.specs.Reasons.{reason_of}
+
+-- what an opening does: the opener before it, the path, the answer, and the opener after it
+abbrev pub Opens : Type 0 → Type 0 → Type 1
+Opens O F = O → List ℕ → Result F Error → O → Type 0
+
+-- each of the paths was opened once, in order, and these are their files
+abbrev pub AreOpened : {O F : Type 0} → Opens O F → List (List ℕ) → O → List F → O → Type 0
+AreOpened opens [] first [] last = last ≡ first
+AreOpened opens [] first (file ∷ files) last = ⊥
+AreOpened opens (path ∷ paths) first [] last = ⊥
+AreOpened {O} opens (path ∷ paths) first (file ∷ files) last =
+    (next : O) × opens first path (Ok file) next × AreOpened opens paths next files last
+
+-- the paths before this one were opened, each once and in order, and this one was refused for the reason; none after it was tried
+pub record IsRefusedAt {O F : Type 0} (opens : Opens O F) (paths : List (List ℕ)) (first last : O) (path : List ℕ) (reason : Reason) : Type 0 where
+  pub earlier : List (List ℕ)
+  pub later : List (List ℕ)
+  pub split : paths ≡ earlier ++ path ∷ later
+  pub files : List F
+  pub before : O
+  pub opened : AreOpened opens earlier first files before
+  pub error : Error
+  pub refused : opens before path (Err error) last
+  pub reason_is : reason ≡ reason_of (error_kind error)
+
+-- why some paths are not opened: the first that is refused, or an allocation failed
+abbrev pub IsOpenFault : {O F : Type 0} → Opens O F → List (List ℕ) → O → O → OpenFault → Type 0
+IsOpenFault opens paths first last (Refused path reason) = IsRefusedAt opens paths first last (string_bytes path) reason
+IsOpenFault opens paths first last NoMemory = Unit {0}

@@ -1,0 +1,5 @@
+use Rattle.leak_program.proofs.Lines.{lines}
+use Rattle.leak_program.proofs.messages.messages_are_lines.Goals as goal
+
+pub returns : goal.returns
+returns c = lines

@@ -1,0 +1,34 @@
+//! Streams: an input is read to its end, and a text is written out.
+//!
+//! [`read_all`] takes all bytes that a reader has, up to a limit, or says why it does not; [`read_sized`] does the same where the
+//! reader is said to have so many bytes. [`write`] hands a text to a writer until all of it is taken. Of a reader or a writer they
+//! know nothing but its single calls, [`ReadCalls`] and [`WriteCalls`], so their contracts name each call that was made, its answer
+//! and the device before and after it: read by read in `specs/Reads.antt`, write by write in `specs/Writes.antt`. Everything that is
+//! `Read` has such reads, and everything that is `Write` such writes.
+//!
+//! What the calls come to where a reader tells the bytes that it has left, and a writer those that it holds, are two laws,
+//! [`reads_tell`] and [`writes_tell`].
+//!
+//! Five bytes within their limit, and one byte over it:
+//!
+//! ```text
+//! use leak_streams::{ReadFault, read_all};
+//!
+//! let mut five: &[u8] = b"abcde";
+//! assert_eq!(rt; read_all(alloc, &mut five, 5)?.as_slice(), b"abcde".as_slice());
+//! let mut five: &[u8] = b"abcde";
+//! assert_eq!(rt; read_all(alloc, &mut five, 4).err(), Some(ReadFault::TooLong));
+//! ```
+//!
+//! The contracts don't say which bytes a file holds, what becomes of those that it took, or how long a call takes.
+#![tactic(auto)]
+
+mod fault;
+mod laws;
+mod readers;
+mod writers;
+
+pub use fault::{ReadFault, WriteFault};
+pub use laws::{reads_tell, writes_tell};
+pub use readers::{ReadCalls, read_all, read_sized};
+pub use writers::{WriteCalls, write};

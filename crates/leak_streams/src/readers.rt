@@ -1,0 +1,134 @@
+//! Reading an input to its end.
+
+ghost use Rattle.std.specs.Prelude.{◌≡◌, ◌<◌, [], IfOk, IfErr};
+ghost use Rattle.std.specs.Io.{ReadsAtMost};
+ghost use Rattle.std.specs.Io.KnownBytes.{ReadConsumes};
+ghost use Rattle.leak_streams.specs.Reads.{Calls, Follows, IsReadWhole, IsGivenUp};
+
+use crate::fault::ReadFault;
+use std::alloc::Global;
+use std::io;
+use std::io::{ErrorKind, Read};
+
+/// How many interrupted reads end the reading.
+const MOST_INTERRUPTIONS: u32 = 1_000_000;
+
+/// How many bytes are asked for at a time.
+const PIECE: usize = 262_144;
+
+/// A reader, by its single reads. Everything that is [`Read`] is one.
+///
+/// Its one ghost member says what a read does. A function that is generic over readers learns nothing else of them, so its contract
+/// can claim nothing of a reader but by the reads that it made.
+pub trait ReadCalls {
+    /// What a read does: the reader before it, the piece as it left it, its answer, and the reader after it.
+    ghost calls: { Calls Self };
+
+    /// Reads some bytes into the front of the piece, and tells how many.
+    fn read_some(&mut self, piece: &mut [u8]) -> io::Result<usize>
+        ensures call { calls self.old piece.new result self.new }
+        ensures bound { ReadsAtMost result piece.new };
+}
+
+impl<R: Read> ReadCalls for R {
+    ghost calls = { λ before piece answer after.
+        ReadConsumes (R.remaining before) (R.remaining after) answer piece
+        × ReadsAtMost answer piece };
+
+    fn read_some(&mut self, piece: &mut [u8]) -> io::Result<usize> {
+        self.read(piece)
+    }
+}
+
+/// Reads all bytes that the reader has, at most `limit` bytes.
+///
+/// What was read before a refusal is dropped.
+pub fn read_all<R: ReadCalls>(
+    alloc: Global,
+    reader: &mut R,
+    limit: u64,
+) -> Result<Vec<u8>, ReadFault>
+    ensures ok { IfOk result (λ v. IsReadWhole R.calls limit reader.old reader.new v.items) }
+    ensures refused { IfErr result (IsGivenUp R.calls limit reader.old reader.new) }
+{
+    read_sized(alloc, reader, limit, 0)
+}
+
+/// Reads as [`read_all`] does, from a reader that is said to have so many bytes. The size changes only time and memory.
+pub fn read_sized<R: ReadCalls>(
+    alloc: Global,
+    reader: &mut R,
+    limit: u64,
+    size: u64,
+) -> Result<Vec<u8>, ReadFault>
+    ensures ok { IfOk result (λ v. IsReadWhole R.calls limit reader.old reader.new v.items) }
+    ensures refused { IfErr result (IsGivenUp R.calls limit reader.old reader.new) }
+{
+    let mut buffer = vec![in alloc; 0u8; PIECE]?;
+    let piece = buffer.as_mut_slice();
+    let mut bytes = list_for(alloc, size.min(limit));
+    let mut interruptions = 0;
+    'reading: loop {
+        let left = limit - bytes.len() as u64;
+        // A byte past the limit shows that there are too many.
+        let room = left.saturating_add(1).min(PIECE as u64) as usize;
+        let answer = reader.read_some(&mut piece[..room]);
+        match turn_after(answer, left, interruptions) {
+            Turn::End => return Ok(bytes),
+            Turn::Bytes(count) => bytes.extend_from_slice(&piece[..count])?,
+            Turn::Again(turns) => interruptions = turns,
+            Turn::Stop(fault) => return Err(fault),
+        }
+    }
+}
+
+/// An empty list with room for so many bytes, or with none where that can't be had.
+///
+/// A size that is said is no promise, so it refuses nothing.
+fn list_for(alloc: Global, size: u64) -> Vec<u8>
+    ensures { result.items ≡ [] }
+{
+    match Vec::with_capacity(alloc, size as usize) {
+        Ok(bytes) => bytes,
+        Err(_) => Vec::new(alloc),
+    }
+}
+
+/// What follows the answer of a read.
+enum Turn {
+    /// The input has ended.
+    End,
+    /// So many bytes were read, within the limit.
+    Bytes(usize),
+    /// One more read was interrupted. So many were by now, and there may be more.
+    Again(u32),
+    /// The reading ends with a fault.
+    Stop(ReadFault),
+}
+
+/// What follows the answer, where the limit leaves so many bytes and so many reads were interrupted before.
+fn turn_after(answer: io::Result<usize>, left: u64, interruptions: u32) -> Turn
+    requires { interruptions < MOST_INTERRUPTIONS }
+    ensures { Follows left interruptions answer result }
+{
+    match answer {
+        Ok(0) => Turn::End,
+        Ok(count) => {
+            if count as u64 > left {
+                return Turn::Stop(ReadFault::TooLong);
+            }
+            Turn::Bytes(count)
+        }
+        Err(error) => {
+            if error.kind() != ErrorKind::Interrupted {
+                return Turn::Stop(ReadFault::Device);
+            }
+            let turns = interruptions + 1;
+            if turns < MOST_INTERRUPTIONS {
+                Turn::Again(turns)
+            } else {
+                Turn::Stop(ReadFault::TooManyTurns)
+            }
+        }
+    }
+}
