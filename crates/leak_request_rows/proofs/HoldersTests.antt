@@ -17,7 +17,7 @@ use Rattle.leak_request.specs.declared.fault.DisplaceFault.{DisplaceFault}
 use Rattle.leak_request.specs.declared.fault.UsageFault.{UsageFault}
 use Rattle.leak_request.specs.declared.fault.UsageFault.TheVariants as fault
 use Rattle.leak_request.specs.declared.options.Request.{Request}
-use Rattle.leak_request.specs.declared.options.Request.TheVariants.{Search, Why, Holders, Grow}
+use Rattle.leak_request.specs.declared.options.Request.TheVariants.{Search, Why, Holders, Grow, Text as Shown}
 use Rattle.leak_request_rows.specs.Requests.{AskFor, AreRefused, Planned, Reads, Signed}
 use Rattle.leak_request_rows.specs.Questions.{IsHoldersAsked}
 use Rattle.leak_request_rows.proofs.RequestTests.{AreNumbers, HasFlag, HasPlan, HasReads, IsListOf, IsSeen, Values, flag_from, flag_to, flag_value, given_is, list_is, name_in, no_list_fault, none_lacks, not_holders, not_to, paths_from, paths_to, plan_from, plan_lacks, plan_seen, plan_to, reading_values, reads_seen, refused_at, request_at, rows_in, seen, sees, value_at}
@@ -169,6 +169,7 @@ holders_is name rows paths since question n w s (Holders r) h = (
   )),
 )
 holders_is name rows paths since question n w s (Grow r) h = ((λ q. holders_grow (sym h.named ∙ q.0)), (λ q. absurd q))
+holders_is name rows paths since question n w s (Shown text) h = ((λ q. absurd q), (λ q. absurd q))
 
 holders_refusal : (name : Text) (rows : List Row) (f : UsageFault) → name ≡ holders_name → IsRefusedAt name rows f → IsHoldersRefusal rows f
 holders_refusal name rows f named (inl q) = absurd (why_holders (sym q.0 ∙ named))
@@ -269,6 +270,7 @@ holders_question name rows paths n reason named there plan list of h = record {
     no_request (Why r) q = why_holders (sym q.0 ∙ named)
     no_request (Holders r) q = h.none r.question q.1.question
     no_request (Grow r) q = holders_grow (sym named ∙ q.0)
+    no_request (Shown t) q = q
 
     only : (f : UsageFault) → IsHoldersRefusal rows f → (f ≡ reason) ⊎ (f ≡ fault.NoMemory)
     only (fault.Words t) q = absurd (lacks q.1)
@@ -366,6 +368,7 @@ holders_list name rows paths n text d named there plan list is = record { reques
     no_request (Why r) q = why_holders (sym q.0 ∙ named)
     no_request (Holders r) q = not_taken rows text d list is _ q.1.reading
     no_request (Grow r) q = holders_grow (sym named ∙ q.0)
+    no_request (Shown t) q = q
 
     only : (f : UsageFault) → IsHoldersRefusal rows f → (f ≡ fault.Displace d) ⊎ (f ≡ fault.NoMemory)
     only (fault.Words t) q = absurd (lacks q.1)

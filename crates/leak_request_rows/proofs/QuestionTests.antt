@@ -16,7 +16,7 @@ use Rattle.leak_request.specs.declared.fault.UsageFault.{UsageFault}
 use Rattle.leak_request.specs.declared.fault.UsageFault.TheVariants as fault
 use Rattle.leak_request.specs.declared.options.Options.{Options}
 use Rattle.leak_request.specs.declared.options.Request.{Request}
-use Rattle.leak_request.specs.declared.options.Request.TheVariants.{Search, Why, Holders, Grow}
+use Rattle.leak_request.specs.declared.options.Request.TheVariants.{Search, Why, Holders, Grow, Text as Shown}
 use Rattle.leak_request_rows.specs.Requests.{AskFor, AreReadAs, AreRefused, Reads}
 use Rattle.leak_request_rows.specs.Questions.{IsGrowAsked, IsWhyAsked}
 use Rattle.leak_request_rows.proofs.RequestTests.{HasFlag, HasReads, IsListOf, IsSeen, Values, flag_from, flag_to, flag_value, letters, list_is, name_in, no_list_fault, none_lacks, not_from, not_grow, not_to, not_why, paths_from, paths_to, reading_values, reads_seen, refused_at, request_at, rows_in, seen, sees, value_at}
@@ -98,7 +98,7 @@ reads_from rows w o h listed ends freed links slack memory core log = record {
 
 -- ---- what holds a block
 
-pub record HasWhy (name : Text) (rows : List Row) (paths : List Text) (address : ℕ) (w : Reads) : Type 0 where
+pub record HasWhy (name : Text) (rows : List Row) (paths : List Text) (address : ℕ) (w : Reads) (s : Signed) : Type 0 where
   pub named : name ≡ why_name
   pub there : map (λ id. first_of id rows) (path_ids false) ≡ map Some paths
   pub digits : List ℕ
@@ -106,16 +106,23 @@ pub record HasWhy (name : Text) (rows : List Row) (paths : List Text) (address :
   pub good : is_address (codes "0x" ++ digits) ≡ true
   pub value : address ≡ value_of digits
   pub reads : HasReads rows w
+  pub check : s.check ≡ false
+  pub other_heap : HasFlag rows (codes "other-heap") s.other_heap
+  pub strict : HasFlag rows (codes "strict") s.strict
 
-why_is : (name : Text) (rows : List Row) (paths : List Text) (address : ℕ) (w : Reads) (r : Request) → HasWhy name rows paths address w → IsRequest name rows r ↔ IsWhyAsked paths address w r
-why_is name rows paths address w (Search r) h = ((λ q. not_why r.options.two (sym q.two ∙ h.named)), (λ q. absurd q))
-why_is name rows paths address w (Why r) h = (
+why_is : (name : Text) (rows : List Row) (paths : List Text) (address : ℕ) (w : Reads) (s : Signed) (r : Request) → HasWhy name rows paths address w s → IsRequest name rows r ↔ IsWhyAsked paths address w s r
+why_is name rows paths address w s (Search r) h = ((λ q. not_why r.options.two (sym q.two ∙ h.named)), (λ q. absurd q))
+why_is name rows paths address w s (Why r) h = (
   (λ q. record {
     two_is = q.1.two;
     paths_are = paths_from rows (path_ids false) paths r.paths.items h.there q.1.paths;
     address_is = (address_at (first_of address_id rows) h.digits address r.address h.text h.good h.value).0 q.1.address;
     reading = reads_from rows w r.options h.reads q.1.reading q.1.ends q.1.freed q.1.links q.1.slack q.1.unwritable q.1.core_limit q.1.log_limit;
-    signs = record { check = q.1.check; other_heap = q.1.other_heap; strict = q.1.strict };
+    signs = record {
+      check = q.1.check ∙ sym h.check;
+      other_heap = flag_from rows (codes "other-heap") r.options.other_heap s.other_heap h.other_heap q.1.other_heap;
+      strict = flag_from rows (codes "strict") r.options.strict s.strict h.strict q.1.strict;
+    };
   }),
   (λ q. (
     h.named,
@@ -129,16 +136,17 @@ why_is name rows paths address w (Why r) h = (
       links = flag_to rows (codes "skip-links") r.options.skip.links w.links h.reads.links q.reading.links;
       slack = flag_to rows (codes "skip-slack") r.options.skip.slack w.slack h.reads.slack q.reading.slack;
       unwritable = not_to rows (codes "all-memory") r.options.skip.unwritable w.all_memory h.reads.all_memory q.reading.unwritable;
-      check = q.signs.check;
-      other_heap = q.signs.other_heap;
-      strict = q.signs.strict;
+      check = q.signs.check ∙ h.check;
+      other_heap = flag_to rows (codes "other-heap") r.options.other_heap s.other_heap h.other_heap q.signs.other_heap;
+      strict = flag_to rows (codes "strict") r.options.strict s.strict h.strict q.signs.strict;
       core_limit = q.reading.core_limit;
       log_limit = q.reading.log_limit;
     },
   )),
 )
-why_is name rows paths address w (Holders r) h = ((λ q. why_holders (sym h.named ∙ q.0)), (λ q. absurd q))
-why_is name rows paths address w (Grow r) h = ((λ q. why_grow (sym h.named ∙ q.0)), (λ q. absurd q))
+why_is name rows paths address w s (Holders r) h = ((λ q. why_holders (sym h.named ∙ q.0)), (λ q. absurd q))
+why_is name rows paths address w s (Grow r) h = ((λ q. why_grow (sym h.named ∙ q.0)), (λ q. absurd q))
+why_is name rows paths address w s (Shown text) h = ((λ q. absurd q), (λ q. absurd q))
 
 why_refusal : (name : Text) (rows : List Row) (f : UsageFault) → name ≡ why_name → IsRefusedAt name rows f → IsWhyRefusal rows f
 why_refusal name rows f named (inl q) = q.1
@@ -150,36 +158,46 @@ why_lacks : (rows : List Row) (paths : List Text) (text : Text) → map (λ id. 
 why_lacks rows paths text there is (inl q) = none_lacks rows (path_ids false) paths there q
 why_lacks rows paths text there is (inr q) = let e : Some text ≡ None = sym is ∙ q in cc
 
-why_taken : (name : Text) (rows : List Row) (paths : List Text) (address : ℕ) (w : Reads) (f : UsageFault) → HasWhy name rows paths address w → IsWhyRefusal rows f → f ≡ fault.NoMemory
-why_taken name rows paths address w (fault.Words t) h q = absurd (why_lacks rows paths (codes "0x" ++ h.digits) h.there h.text q.1)
-why_taken name rows paths address w (fault.Displace f) h q = absurd (no_list_fault rows w.listed h.reads.list f q.1)
-why_taken name rows paths address w fault.Check h q = absurd q
-why_taken name rows paths address w fault.Sides h q = absurd q
-why_taken name rows paths address w fault.Block h q = absurd q
-why_taken name rows paths address w fault.Address h q = absurd (good_address (first_of address_id rows) h.digits address h.text h.good h.value q.2)
-why_taken name rows paths address w fault.NoMemory h q = refl
+why_taken : (name : Text) (rows : List Row) (paths : List Text) (address : ℕ) (w : Reads) (s : Signed) (f : UsageFault) → HasWhy name rows paths address w s → IsWhyRefusal rows f → f ≡ fault.NoMemory
+why_taken name rows paths address w s (fault.Words t) h q = absurd (why_lacks rows paths (codes "0x" ++ h.digits) h.there h.text q.1)
+why_taken name rows paths address w s (fault.Displace f) h q = absurd (no_list_fault rows w.listed h.reads.list f q.1)
+why_taken name rows paths address w s fault.Check h q = absurd q
+why_taken name rows paths address w s fault.Sides h q = absurd q
+why_taken name rows paths address w s fault.Block h q = absurd q
+why_taken name rows paths address w s fault.Address h q = absurd (good_address (first_of address_id rows) h.digits address h.text h.good h.value q.2)
+why_taken name rows paths address w s fault.NoMemory h q = refl
+
+abbrev pub address_ids : List Text
+address_ids = codes "displace" ∷ codes "skip-ends" ∷ codes "skip-freed" ∷ codes "skip-links" ∷ codes "skip-slack" ∷ codes "all-memory" ∷ codes "address" ∷ []
 
 abbrev pub why_ids : List Text
-why_ids = codes "displace" ∷ codes "skip-ends" ∷ codes "skip-freed" ∷ codes "skip-links" ∷ codes "skip-slack" ∷ codes "all-memory" ∷ codes "address" ∷ []
+why_ids = codes "displace" ∷ codes "skip-ends" ∷ codes "skip-freed" ∷ codes "skip-links" ∷ codes "skip-slack" ∷ codes "all-memory" ∷ codes "address"
+    ∷ codes "other-heap" ∷ codes "strict" ∷ []
 
-pub sees_why : (words : List Text) (paths : List Text) (address : ℕ) (w : Reads) (list : Option Text) (digits : List ℕ) (numbers : Values) → fault_of command_line (codes "leak_find" ∷ words) ≡ []
-    → seen (path_ids false) why_ids (codes "leak_find" ∷ words) ≡ Some (why_name, (map Some paths, (reading_values list w (Some (codes "0x" ++ digits) ∷ []), numbers)))
-    → IsListOf list w.listed → is_address (codes "0x" ++ digits) ≡ true → address ≡ value_of digits → AskFor words (IsWhyAsked paths address w)
-sees_why words paths address w list digits numbers taken q lists good value =
+abbrev pub why_values : Option Text → Reads → List ℕ → Signed → Values
+why_values list w digits s = reading_values list w (Some (codes "0x" ++ digits) ∷ flag_value s.other_heap ∷ flag_value s.strict ∷ [])
+
+pub sees_why : (words : List Text) (paths : List Text) (address : ℕ) (w : Reads) (s : Signed) (list : Option Text) (digits : List ℕ) (numbers : Values) → fault_of command_line (codes "leak_find" ∷ words) ≡ []
+    → seen (path_ids false) why_ids (codes "leak_find" ∷ words) ≡ Some (why_name, (map Some paths, (why_values list w digits s, numbers)))
+    → IsListOf list w.listed → is_address (codes "0x" ++ digits) ≡ true → address ≡ value_of digits → s.check ≡ false → AskFor words (IsWhyAsked paths address w s)
+sees_why words paths address w s list digits numbers taken q lists good value check =
     let all : List Text = codes "leak_find" ∷ words in
-    let s : IsSeen (path_ids false) why_ids all why_name (map Some paths) (reading_values list w (Some (codes "0x" ++ digits) ∷ [])) numbers = sees (path_ids false) why_ids all _ _ _ _ taken q in
-    let h : HasWhy (name_in all) (rows_in all) paths address w = record {
-      named = s.named;
-      there = s.there_is;
+    let x : IsSeen (path_ids false) why_ids all why_name (map Some paths) (why_values list w digits s) numbers = sees (path_ids false) why_ids all _ _ _ _ taken q in
+    let h : HasWhy (name_in all) (rows_in all) paths address w s = record {
+      named = x.named;
+      there = x.there_is;
       digits = digits;
-      text = value_at 6 _ _ s.values_are;
+      text = value_at 6 _ _ x.values_are;
       good = good;
       value = value;
-      reads = reads_seen (rows_in all) (codes "address" ∷ []) list w _ s.values_are lists;
+      reads = reads_seen (rows_in all) (codes "address" ∷ codes "other-heap" ∷ codes "strict" ∷ []) list w _ x.values_are lists;
+      check = check;
+      other_heap = value_at 7 _ _ x.values_are;
+      strict = value_at 8 _ _ x.values_are;
     } in
     record {
-      request = λ r. let a = request_at all r s.taken in let b = why_is (name_in all) (rows_in all) paths address w r h in ((λ x. b.0 (a.0 x)), (λ x. a.1 (b.1 x)));
-      taken = λ f x. ⊎_elim (λ e. why_taken (name_in all) (rows_in all) paths address w f h (why_refusal (name_in all) (rows_in all) f h.named e)) (λ e. e) (refused_at all f s.taken x);
+      request = λ r. let a = request_at all r x.taken in let b = why_is (name_in all) (rows_in all) paths address w s r h in ((λ k. b.0 (a.0 k)), (λ k. a.1 (b.1 k)));
+      taken = λ f k. ⊎_elim (λ e. why_taken (name_in all) (rows_in all) paths address w s f h (why_refusal (name_in all) (rows_in all) f h.named e)) (λ e. e) (refused_at all f x.taken k);
     }
 
 -- an address that is none
@@ -200,6 +218,7 @@ why_address name rows paths text named there is bad list = record {
     no_request (Why r) q = bad_address text bad r.address (subst (λ (o : Option Text). IsSomeAnd o (λ t. IsAddress t r.address)) is q.1.address)
     no_request (Holders r) q = why_holders (sym named ∙ q.0)
     no_request (Grow r) q = why_grow (sym named ∙ q.0)
+    no_request (Shown t) q = q
 
     only : (f : UsageFault) → IsWhyRefusal rows f → (f ≡ fault.Address) ⊎ (f ≡ fault.NoMemory)
     only (fault.Words t) q = absurd (lacks q.1)
@@ -211,10 +230,10 @@ why_address name rows paths text named there is bad list = record {
     only fault.NoMemory q = inr refl
 
 pub refuses_address : (words : List Text) (paths : List Text) (text : Text) (v1 v2 v3 v4 v5 : Option Text) (numbers : Values) → fault_of command_line (codes "leak_find" ∷ words) ≡ []
-    → seen (path_ids false) why_ids (codes "leak_find" ∷ words) ≡ Some (why_name, (map Some paths, (None ∷ v1 ∷ v2 ∷ v3 ∷ v4 ∷ v5 ∷ Some text ∷ [], numbers))) → is_address text ≡ false → AreRefused words fault.Address
+    → seen (path_ids false) address_ids (codes "leak_find" ∷ words) ≡ Some (why_name, (map Some paths, (None ∷ v1 ∷ v2 ∷ v3 ∷ v4 ∷ v5 ∷ Some text ∷ [], numbers))) → is_address text ≡ false → AreRefused words fault.Address
 refuses_address words paths text v1 v2 v3 v4 v5 numbers taken q bad =
     let all : List Text = codes "leak_find" ∷ words in
-    let s : IsSeen (path_ids false) why_ids all why_name (map Some paths) (None ∷ v1 ∷ v2 ∷ v3 ∷ v4 ∷ v5 ∷ Some text ∷ []) numbers = sees (path_ids false) why_ids all _ _ _ _ taken q in
+    let s : IsSeen (path_ids false) address_ids all why_name (map Some paths) (None ∷ v1 ∷ v2 ∷ v3 ∷ v4 ∷ v5 ∷ Some text ∷ []) numbers = sees (path_ids false) address_ids all _ _ _ _ taken q in
     refused words fault.Address s.taken (why_address (name_in all) (rows_in all) paths text s.named s.there_is (value_at 6 _ _ s.values_are) bad (value_at 0 _ _ s.values_are))
 
 -- a list that is refused, whatever the address is
@@ -230,6 +249,7 @@ why_list name rows paths text address d named there at list is = record { reques
     no_request (Why r) q = not_taken rows text d list is _ q.1.reading
     no_request (Holders r) q = why_holders (sym named ∙ q.0)
     no_request (Grow r) q = why_grow (sym named ∙ q.0)
+    no_request (Shown t) q = q
 
     only : (f : UsageFault) → IsWhyRefusal rows f → (f ≡ fault.Displace d) ⊎ (f ≡ fault.NoMemory)
     only (fault.Words t) q = absurd (lacks q.1)
@@ -241,10 +261,10 @@ why_list name rows paths text address d named there at list is = record { reques
     only fault.NoMemory q = inr refl
 
 pub refuses_why_list : (words : List Text) (paths : List Text) (text address : Text) (d : DisplaceFault) (v1 v2 v3 v4 v5 : Option Text) (numbers : Values) → fault_of command_line (codes "leak_find" ∷ words) ≡ []
-    → seen (path_ids false) why_ids (codes "leak_find" ∷ words) ≡ Some (why_name, (map Some paths, (Some text ∷ v1 ∷ v2 ∷ v3 ∷ v4 ∷ v5 ∷ Some address ∷ [], numbers))) → displace_fault_of text ≡ Some d → AreRefused words (fault.Displace d)
+    → seen (path_ids false) address_ids (codes "leak_find" ∷ words) ≡ Some (why_name, (map Some paths, (Some text ∷ v1 ∷ v2 ∷ v3 ∷ v4 ∷ v5 ∷ Some address ∷ [], numbers))) → displace_fault_of text ≡ Some d → AreRefused words (fault.Displace d)
 refuses_why_list words paths text address d v1 v2 v3 v4 v5 numbers taken q is =
     let all : List Text = codes "leak_find" ∷ words in
-    let s : IsSeen (path_ids false) why_ids all why_name (map Some paths) (Some text ∷ v1 ∷ v2 ∷ v3 ∷ v4 ∷ v5 ∷ Some address ∷ []) numbers = sees (path_ids false) why_ids all _ _ _ _ taken q in
+    let s : IsSeen (path_ids false) address_ids all why_name (map Some paths) (Some text ∷ v1 ∷ v2 ∷ v3 ∷ v4 ∷ v5 ∷ Some address ∷ []) numbers = sees (path_ids false) address_ids all _ _ _ _ taken q in
     refused words (fault.Displace d) s.taken (why_list (name_in all) (rows_in all) paths text address d s.named s.there_is (value_at 6 _ _ s.values_are) (value_at 0 _ _ s.values_are) is)
 
 -- ---- what grew
@@ -270,12 +290,14 @@ sees_grow words paths strict numbers taken q = record {
     from (Why r) x = why_grow (sym x.0 ∙ s.named)
     from (Holders r) x = holders_grow (sym x.0 ∙ s.named)
     from (Grow r) x = record { paths_are = paths_from (rows_in all) grow_ids paths r.paths.items s.there_is x.1.paths; strict_is = flag_from (rows_in all) (codes "strict") r.options.strict strict flag x.1.strict; log_limit = x.1.log_limit }
+    from (Shown t) x = absurd x
 
     to : (r : Request) → IsGrowAsked paths strict r → IsRequest (name_in all) (rows_in all) r
     to (Search r) x = absurd x
     to (Why r) x = absurd x
     to (Holders r) x = absurd x
     to (Grow r) x = (s.named, record { paths = paths_to (rows_in all) grow_ids paths r.paths.items s.there_is x.paths_are; strict = flag_to (rows_in all) (codes "strict") r.options.strict strict flag x.strict_is; log_limit = x.log_limit })
+    to (Shown t) x = absurd x
 
     refusal : (f : UsageFault) → IsRefusedAt (name_in all) (rows_in all) f → IsGrowRefusal (rows_in all) f
     refusal f (inl x) = absurd (why_grow (sym x.0 ∙ s.named))

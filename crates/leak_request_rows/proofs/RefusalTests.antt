@@ -1,25 +1,62 @@
 -- Why command lines are refused, by the values that clap found.
-use Rattle.std.proofs.Common.{◌≡◌, ◌↔◌, ◌⊎◌, ℕ, inl, inr, ⊎_elim, Bool, true, false, List, [], ◌∷◌, codes, map, Option, Some, None, refl, sym, ap, subst, ◌∙◌}
+use Rattle.std.proofs.Common.{◌≡◌, ◌↔◌, ◌⊎◌, ℕ, inl, inr, ⊎_elim, Bool, true, false, not, ◌&&◌, List, [], ◌∷◌, codes, map, Option, Some, None, refl, sym, ap, subst, ◌∙◌}
 use Rattle.std.specs.Prelude.{IfSome, IsSomeAnd}
-use Rattle.clap.specs.Kinds.{Kinds}
+use Rattle.clap.specs.Kinds.{IsAmong, Kinds}
+use Rattle.clap.specs.declared.error.kind.ErrorKind.{ErrorKind}
+use Rattle.clap.specs.declared.error.kind.ErrorKind.TheVariants as kind
 use Rattle.clap.specs.Words.{Row, Text, first_of}
 use Rattle.clap.specs.Faults.{fault_of}
 use Rattle.leak_request.specs.CommandLine.{command_line, name_of, path_ids}
 use Rattle.leak_request.specs.Displacements.{displace_fault_of}
-use Rattle.leak_request.specs.Requests.{ChecksOtherHeap, IsListFaultAt, IsListedBy, IsOther, IsRefusedAt, IsRequest, IsSearchRefusal, IsUsageFaultOf, Lacks, list_in}
+use Rattle.leak_request.specs.Requests.{ChecksOtherHeap, IsListFaultAt, IsListedBy, IsOther, IsRefusedAt, IsRequest, IsRequestOf, IsSearchRefusal, IsText as IsTextKind, IsUsageFaultOf, Lacks, list_in}
 use Rattle.leak_request.specs.declared.fault.DisplaceFault.{DisplaceFault}
 use Rattle.leak_request.specs.declared.fault.UsageFault.{UsageFault}
 use Rattle.leak_request.specs.declared.fault.UsageFault.TheVariants as fault
 use Rattle.leak_request.specs.declared.options.Request.{Request}
-use Rattle.leak_request.specs.declared.options.Request.TheVariants.{Search, Why, Holders, Grow}
-use Rattle.leak_request_rows.specs.Requests.{AreRefused, AreRefusedByClap, IsText, Planned}
+use Rattle.leak_request.specs.declared.options.Request.TheVariants.{Search, Why, Holders, Grow, Text as Shown}
+use Rattle.leak_request_rows.specs.Requests.{AreRefused, AreRefusedByClap, AskFor, IsShown, IsText, Planned}
 use Rattle.leak_request_rows.proofs.RequestTests.{AreNumbers, AreTaken, HasPlan, IsSeen, flag_value, name_in, not_grow, not_holders, not_why, plan_seen, refused_at, request_at, rows_in, search_ids, search_lacks, search_refusal, seen, sees, value_at}
 
--- ---- words that clap refuses
+-- ---- words that clap refuses, or answers with a text
 
-pub clap_refuses : (words : List Text) → (fault_of command_line (codes "leak_find" ∷ words) ≡ [] → ⊥) → AreRefusedByClap words
-clap_refuses words never = record { request = λ r q. never q.taken; only = λ f q. go f q }
+-- the kind of a text that is asked for
+abbrev pub is_text : ErrorKind → Bool
+is_text kind.DisplayHelp = true
+is_text kind.DisplayVersion = true
+is_text k = false
+
+text_kind : (k : ErrorKind) → IsTextKind k → is_text k ≡ true
+text_kind k (inl e) = subst (λ (x : ErrorKind). is_text x ≡ true) (sym e) refl
+text_kind k (inr e) = subst (λ (x : ErrorKind). is_text x ≡ true) (sym e) refl
+
+-- there is a kind, and none is of a text
+abbrev pub are_plain : Kinds → Bool
+are_plain [] = true
+are_plain (k ∷ ks) = not (is_text k) && are_plain ks
+
+not_text : (t : Bool) (rest : Bool) → (not t && rest) ≡ true → t ≡ true → ⊥
+not_text true rest e h = let x : false ≡ true = e in cc
+not_text false rest e h = let x : false ≡ true = h in cc
+
+rest_plain : (t : Bool) (rest : Bool) → (not t && rest) ≡ true → rest ≡ true
+rest_plain true rest e = absurd (let x : false ≡ true = e in cc)
+rest_plain false rest e = e
+
+none_plain : (kinds : Kinds) (k : ErrorKind) → are_plain kinds ≡ true → IsAmong k kinds → IsTextKind k → ⊥
+none_plain [] k t among text = among
+none_plain (x ∷ xs) k t (inl e) text = not_text (is_text x) (are_plain xs) t (subst (λ (y : ErrorKind). is_text y ≡ true) e (text_kind k text))
+none_plain (x ∷ xs) k t (inr among) text = none_plain xs k (rest_plain (is_text x) (are_plain xs) t) among text
+
+pub clap_refuses : (words : List Text) → (fault_of command_line (codes "leak_find" ∷ words) ≡ [] → ⊥) → are_plain (fault_of command_line (codes "leak_find" ∷ words)) ≡ true → AreRefusedByClap words
+clap_refuses words never plain = record { request = λ r q. request r q; only = λ f q. go f q }
   where
+    request : (r : Request) → IsRequestOf (codes "leak_find" ∷ words) r → ⊥
+    request (Search r) q = never q.taken
+    request (Why r) q = never q.taken
+    request (Holders r) q = never q.taken
+    request (Grow r) q = never q.taken
+    request (Shown text) q = none_plain (fault_of command_line (codes "leak_find" ∷ words)) q.0 plain q.1 q.2
+
     go : (f : UsageFault) → IsUsageFaultOf (codes "leak_find" ∷ words) f → IsText f ⊎ (f ≡ fault.NoMemory)
     go (fault.Words text) q = inl tt
     go (fault.Displace f) q = absurd (never q.0)
@@ -29,19 +66,46 @@ clap_refuses words never = record { request = λ r q. never q.taken; only = λ f
     go fault.Address q = absurd (never q.0)
     go fault.NoMemory q = inr refl
 
--- the first kind of refusal, if there is one
+-- there is a kind of refusal
 abbrev pub is_refused : Kinds → Bool
 is_refused [] = false
 is_refused (k ∷ ks) = true
 
-pub refused_by_clap : (words : List Text) → is_refused (fault_of command_line (codes "leak_find" ∷ words)) ≡ true → AreRefusedByClap words
-refused_by_clap words t = clap_refuses words (λ e. let x : true ≡ false = sym t ∙ ap is_refused e in cc)
+pub refused_by_clap : (words : List Text) → (is_refused (fault_of command_line (codes "leak_find" ∷ words)) && are_plain (fault_of command_line (codes "leak_find" ∷ words))) ≡ true → AreRefusedByClap words
+refused_by_clap words t = go (fault_of command_line (codes "leak_find" ∷ words)) refl t
+  where
+    go : (kinds : Kinds) → fault_of command_line (codes "leak_find" ∷ words) ≡ kinds → (is_refused kinds && are_plain kinds) ≡ true → AreRefusedByClap words
+    go [] e h = absurd (let x : false ≡ true = h in cc)
+    go (k ∷ ks) e h = clap_refuses words (λ none. let x : k ∷ ks ≡ [] = sym e ∙ none in cc) (ap are_plain e ∙ h)
+
+-- clap answers with a text alone
+pub shows : (words : List Text) (k : ErrorKind) → IsTextKind k → fault_of command_line (codes "leak_find" ∷ words) ≡ k ∷ [] → AskFor words IsShown
+shows words k text is = record { request = λ r. go r; taken = λ f q. fault_is f q }
+  where
+    never : fault_of command_line (codes "leak_find" ∷ words) ≡ [] → ⊥
+    never none = let x : k ∷ [] ≡ [] = sym is ∙ none in cc
+
+    go : (r : Request) → IsRequestOf (codes "leak_find" ∷ words) r ↔ IsShown r
+    go (Search r) = ((λ q. absurd (never q.taken)), (λ q. absurd q))
+    go (Why r) = ((λ q. absurd (never q.taken)), (λ q. absurd q))
+    go (Holders r) = ((λ q. absurd (never q.taken)), (λ q. absurd q))
+    go (Grow r) = ((λ q. absurd (never q.taken)), (λ q. absurd q))
+    go (Shown t) = ((λ q. tt), (λ q. (k, subst (IsAmong k) (sym is) (inl refl), text)))
+
+    fault_is : (f : UsageFault) → IsUsageFaultOf (codes "leak_find" ∷ words) f → f ≡ fault.NoMemory
+    fault_is (fault.Words t) q = absurd (q.0 k text is)
+    fault_is (fault.Displace f) q = absurd (never q.0)
+    fault_is fault.Check q = absurd (never q.0)
+    fault_is fault.Sides q = absurd (never q.0)
+    fault_is fault.Block q = absurd (never q.0)
+    fault_is fault.Address q = absurd (never q.0)
+    fault_is fault.NoMemory q = refl
 
 -- ---- words that clap takes, and that are refused by what it found
 
 -- to be refused for this is to be refused for what was found
 pub refusal_at : (words : List Text) (f : UsageFault) → AreTaken words → (f ≡ fault.NoMemory → ⊥) → IsRefusedAt (name_in words) (rows_in words) f → IsUsageFaultOf words f
-refusal_at words (fault.Words text) t some q = λ e. subst (λ (o : Option (Text × List Row)). IfSome o (λ met. IsRefusedAt met.0 met.1 (fault.Words text))) (sym t.met) q
+refusal_at words (fault.Words text) t some q = ((λ k text e. let x : [] ≡ k ∷ [] = sym t.taken ∙ e in cc), λ e. subst (λ (o : Option (Text × List Row)). IfSome o (λ met. IsRefusedAt met.0 met.1 (fault.Words text))) (sym t.met) q)
 refusal_at words (fault.Displace f) t some q = (t.taken, subst (λ (o : Option (Text × List Row)). IsSomeAnd o (λ met. IsRefusedAt met.0 met.1 (fault.Displace f))) (sym t.met) q)
 refusal_at words fault.Check t some q = (t.taken, subst (λ (o : Option (Text × List Row)). IsSomeAnd o (λ met. IsRefusedAt met.0 met.1 fault.Check)) (sym t.met) q)
 refusal_at words fault.Sides t some q = (t.taken, subst (λ (o : Option (Text × List Row)). IsSomeAnd o (λ met. IsRefusedAt met.0 met.1 fault.Sides)) (sym t.met) q)
@@ -95,6 +159,7 @@ search_list name rows two paths n text d named there plan list is = record { req
     no_request (Why r) q = not_why two (sym named ∙ q.0)
     no_request (Holders r) q = not_holders two (sym named ∙ q.0)
     no_request (Grow r) q = not_grow two (sym named ∙ q.0)
+    no_request (Shown t) q = q
 
     only : (f : UsageFault) → IsSearchRefusal name rows f → (f ≡ fault.Displace d) ⊎ (f ≡ fault.NoMemory)
     only (fault.Words t) q = absurd (lacks q.1)
@@ -131,6 +196,7 @@ search_check name rows two paths n named there plan list checks = record {
     no_request (Why r) q = not_why two (sym named ∙ q.0)
     no_request (Holders r) q = not_holders two (sym named ∙ q.0)
     no_request (Grow r) q = not_grow two (sym named ∙ q.0)
+    no_request (Shown t) q = q
 
     only : (f : UsageFault) → IsSearchRefusal name rows f → (f ≡ fault.Check) ⊎ (f ≡ fault.NoMemory)
     only (fault.Words t) q = absurd (lacks q.1)

@@ -8,17 +8,18 @@ use Rattle.std.proofs.lemmas.Fmt.{decimal_is_IsNumeral}
 use Rattle.std.proofs.lemmas.List.Elements.{All-cons, All-nil}
 use Rattle.clap.specs.Words.{Row, Text, first_of, one_of, subcommand_of}
 use Rattle.clap.specs.Faults.{fault_of}
+use Rattle.clap.specs.Words.{IsAmong}
 use Rattle.leak_index.specs.Readings.{distances_of, listed_by}
 use Rattle.leak_pool.specs.Plan.{IsBetween}
 use Rattle.leak_request.specs.CommandLine.{command_line, grow_name, holders_name, name_of, path_ids, why_name}
 use Rattle.leak_request.specs.Displacements.{displace_fault_of, displacements_of}
 use Rattle.leak_request.specs.Found.{IsGiven}
-use Rattle.leak_request.specs.Requests.{AreAt, AreNumbersAt, IsListedBy, IsListFaultAt, IsNumberAt, IsRefusedAt, IsRequest, IsRequestOf, IsSearchRefusal, IsSearchRequest, IsUsageFaultOf, Lacks, LacksNumber, LacksOneOf, Writes, list_in}
+use Rattle.leak_request.specs.Requests.{AreAt, AreNumbersAt, IsListedBy, IsListFaultAt, IsNumberAt, IsRefusedAt, IsRequest, IsRequestOf, IsSearchRefusal, IsTakenAs, IsSearchRequest, IsUsageFaultOf, Lacks, LacksNumber, LacksOneOf, Writes, list_in}
 use Rattle.leak_request.specs.declared.fault.UsageFault.{UsageFault}
 use Rattle.leak_request.specs.declared.fault.UsageFault.TheVariants as fault
 use Rattle.leak_request.specs.declared.options.Options.{Options}
 use Rattle.leak_request.specs.declared.options.Request.{Request}
-use Rattle.leak_request.specs.declared.options.Request.TheVariants.{Search, Why, Holders, Grow}
+use Rattle.leak_request.specs.declared.options.Request.TheVariants.{Search, Why, Holders, Grow, Text as Shown}
 use Rattle.leak_request.specs.declared.options.SearchRequest.{SearchRequest}
 use Rattle.leak_request_rows.specs.Requests.{AskFor, ArePlanned, IsSearch, IsSearchFor, Planned, Reads, Signed}
 
@@ -85,14 +86,21 @@ sees paths ids words name there values numbers taken q = go (subcommand_of comma
 pub value_at : (k : ℕ) (xs ys : Values) → xs ≡ ys → slice_index_or xs k None ≡ slice_index_or ys k None
 value_at k xs ys e = ap (λ (l : Values). slice_index_or l k None) e
 
-pub request_at : (words : List Text) (r : Request) → AreTaken words → IsRequestOf words r ↔ IsRequest (name_in words) (rows_in words) r
-request_at words r t = (
+taken_at : (words : List Text) (r : Request) → AreTaken words → IsTakenAs words r ↔ IsRequest (name_in words) (rows_in words) r
+taken_at words r t = (
   (λ q. subst (λ (o : Option (Text × List Row)). IsSomeAnd o (λ met. IsRequest met.0 met.1 r)) t.met q.request),
   (λ q. record { taken = t.taken; request = subst (λ (o : Option (Text × List Row)). IsSomeAnd o (λ met. IsRequest met.0 met.1 r)) (sym t.met) q }),
 )
 
+pub request_at : (words : List Text) (r : Request) → AreTaken words → IsRequestOf words r ↔ IsRequest (name_in words) (rows_in words) r
+request_at words (Search r) t = taken_at words (Search r) t
+request_at words (Why r) t = taken_at words (Why r) t
+request_at words (Holders r) t = taken_at words (Holders r) t
+request_at words (Grow r) t = taken_at words (Grow r) t
+request_at words (Shown text) t = ((λ q. subst (IsAmong q.0) t.taken q.1), (λ q. absurd q))
+
 pub refused_at : (words : List Text) (f : UsageFault) → AreTaken words → IsUsageFaultOf words f → IsRefusedAt (name_in words) (rows_in words) f ⊎ (f ≡ fault.NoMemory)
-refused_at words (fault.Words text) t q = inl (subst (λ (o : Option (Text × List Row)). IfSome o (λ met. IsRefusedAt met.0 met.1 (fault.Words text))) t.met (q t.taken))
+refused_at words (fault.Words text) t q = inl (subst (λ (o : Option (Text × List Row)). IfSome o (λ met. IsRefusedAt met.0 met.1 (fault.Words text))) t.met (q.1 t.taken))
 refused_at words (fault.Displace f) t q = inl (subst (λ (o : Option (Text × List Row)). IsSomeAnd o (λ met. IsRefusedAt met.0 met.1 (fault.Displace f))) t.met q.1)
 refused_at words fault.Check t q = inl (subst (λ (o : Option (Text × List Row)). IsSomeAnd o (λ met. IsRefusedAt met.0 met.1 fault.Check)) t.met q.1)
 refused_at words fault.Sides t q = inl (subst (λ (o : Option (Text × List Row)). IsSomeAnd o (λ met. IsRefusedAt met.0 met.1 fault.Sides)) t.met q.1)
@@ -350,6 +358,7 @@ search_is name rows two paths n w s (Search r) h = ((λ q. search_from name rows
 search_is name rows two paths n w s (Why r) h = ((λ q. not_why two (sym h.named ∙ q.0)), (λ q. absurd q))
 search_is name rows two paths n w s (Holders r) h = ((λ q. not_holders two (sym h.named ∙ q.0)), (λ q. absurd q))
 search_is name rows two paths n w s (Grow r) h = ((λ q. not_grow two (sym h.named ∙ q.0)), (λ q. absurd q))
+search_is name rows two paths n w s (Shown text) h = ((λ q. absurd q), (λ q. absurd q))
 
 -- nothing that a search takes is lacking
 pub search_lacks : (name : Text) (rows : List Row) (two : Bool) (paths : List Text) (n : Planned) → name ≡ name_of two → map (λ id. first_of id rows) (path_ids two) ≡ map Some paths → HasPlan rows n

@@ -18,11 +18,11 @@ abbrev pub why : List Text → List Text
 why words = after_input (codes "why") words
 
 pub record AreWorkedWhyLines : Type 0 where
-  pub address : AskFor (why (codes "0x10100" ∷ [])) (IsWhyAsked one_input 0x10100 plainly)
-  pub both_cases : AskFor (why (codes "0xaBcDeF0123456789" ∷ [])) (IsWhyAsked one_input 0xabcdef0123456789 plainly)
-  pub one_digit : AskFor (why (codes "0x0" ∷ [])) (IsWhyAsked one_input 0 plainly)
+  pub address : AskFor (why (codes "0x10100" ∷ [])) (IsWhyAsked one_input 0x10100 plainly unsigned)
+  pub both_cases : AskFor (why (codes "0xaBcDeF0123456789" ∷ [])) (IsWhyAsked one_input 0xabcdef0123456789 plainly unsigned)
+  pub one_digit : AskFor (why (codes "0x0" ∷ [])) (IsWhyAsked one_input 0 plainly unsigned)
   pub all : AskFor (why (codes "0x10100" ∷ codes "--skip-ends" ∷ codes "--skip-freed" ∷ codes "--skip-links" ∷ codes "--skip-slack" ∷ codes "--all-memory" ∷ codes "--displace=8,16" ∷ []))
-      (IsWhyAsked one_input 0x10100 (with_all (8 ∷ 16 ∷ [])))
+      (IsWhyAsked one_input 0x10100 (with_all (8 ∷ 16 ∷ [])) unsigned)
   pub decimal_address : AreRefused (why (codes "10100" ∷ [])) Address
   pub no_digit : AreRefused (why (codes "0x" ∷ [])) Address
   pub seventeen_digits : AreRefused (why (codes "0x00000000000010100" ∷ [])) Address
@@ -31,7 +31,9 @@ pub record AreWorkedWhyLines : Type 0 where
   pub list_first : AreRefused (why (codes "10100" ∷ codes "--displace" ∷ codes "8,,16" ∷ [])) (Displace (Number 1))
   pub no_address : AreRefusedByClap (why [])
   pub no_workers : AreRefusedByClap (why (codes "0x10100" ∷ codes "--workers" ∷ codes "2" ∷ []))
-  pub no_strict : AreRefusedByClap (why (codes "0x10100" ∷ codes "--strict" ∷ []))
+  pub strict : AskFor (why (codes "0x10100" ∷ codes "--strict" ∷ [])) (IsWhyAsked one_input 0x10100 plainly (record unsigned { strict = true }))
+  pub other_heap : AskFor (why (codes "--other-heap" ∷ codes "0x10100" ∷ [])) (IsWhyAsked one_input 0x10100 plainly (record unsigned { other_heap = true }))
+  pub no_check : AreRefusedByClap (why (codes "0x10100" ∷ codes "--check" ∷ []))
 
 abbrev pub one : List Text → List Text
 one words = after_input (codes "one") words

@@ -5,23 +5,24 @@ use Rattle.leak_holders.specs.declared.question.Question.{Question}
 use Rattle.leak_request.specs.declared.options.GrowRequest.{GrowRequest}
 use Rattle.leak_request.specs.declared.options.HoldersRequest.{HoldersRequest}
 use Rattle.leak_request.specs.declared.options.Request.{Request}
-use Rattle.leak_request.specs.declared.options.Request.TheVariants.{Search, Why, Holders, Grow}
+use Rattle.leak_request.specs.declared.options.Request.TheVariants.{Search, Why, Holders, Grow, Text as Shown}
 use Rattle.leak_request.specs.declared.options.WhyRequest.{WhyRequest}
-use Rattle.leak_request_rows.specs.Requests.{ArePlanned, AreReadAs, AreSigned, Planned, Reads, Signed, unsigned}
+use Rattle.leak_request_rows.specs.Requests.{ArePlanned, AreReadAs, AreSigned, Planned, Reads, Signed}
 
 -- what holds the block of an address
-pub record IsWhyFor (paths : List Text) (address : ℕ) (w : Reads) (r : WhyRequest) : Type 0 where
+pub record IsWhyFor (paths : List Text) (address : ℕ) (w : Reads) (s : Signed) (r : WhyRequest) : Type 0 where
   pub two_is : r.options.two ≡ false
   pub paths_are : map string_bytes r.paths.items ≡ paths
   pub address_is : r.address ≡ address
   pub reading : AreReadAs w r.options
-  pub signs : AreSigned unsigned r.options
+  pub signs : AreSigned s r.options
 
-abbrev pub IsWhyAsked : List Text → ℕ → Reads → Request → Type 0
-IsWhyAsked paths address w (Search r) = ⊥
-IsWhyAsked paths address w (Why r) = IsWhyFor paths address w r
-IsWhyAsked paths address w (Holders r) = ⊥
-IsWhyAsked paths address w (Grow r) = ⊥
+abbrev pub IsWhyAsked : List Text → ℕ → Reads → Signed → Request → Type 0
+IsWhyAsked paths address w s (Search r) = ⊥
+IsWhyAsked paths address w s (Why r) = IsWhyFor paths address w s r
+IsWhyAsked paths address w s (Holders r) = ⊥
+IsWhyAsked paths address w s (Grow r) = ⊥
+IsWhyAsked paths address w s (Shown text) = ⊥
 
 -- who holds the memory, with an earlier log or none, and a question or none
 pub record IsHoldersFor (paths : List Text) (since : Option Text) (question : Option Question) (n : Planned) (w : Reads) (s : Signed) (r : HoldersRequest) : Type 0 where
@@ -38,6 +39,7 @@ IsHoldersAsked paths since question n w s (Search r) = ⊥
 IsHoldersAsked paths since question n w s (Why r) = ⊥
 IsHoldersAsked paths since question n w s (Holders r) = IsHoldersFor paths since question n w s r
 IsHoldersAsked paths since question n w s (Grow r) = ⊥
+IsHoldersAsked paths since question n w s (Shown text) = ⊥
 
 -- what grew
 pub record IsGrowFor (paths : List Text) (strict : Bool) (r : GrowRequest) : Type 0 where
@@ -50,3 +52,4 @@ IsGrowAsked paths strict (Search r) = ⊥
 IsGrowAsked paths strict (Why r) = ⊥
 IsGrowAsked paths strict (Holders r) = ⊥
 IsGrowAsked paths strict (Grow r) = IsGrowFor paths strict r
+IsGrowAsked paths strict (Shown text) = ⊥

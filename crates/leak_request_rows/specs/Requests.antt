@@ -7,7 +7,7 @@ use Rattle.leak_request.specs.declared.fault.UsageFault.{UsageFault}
 use Rattle.leak_request.specs.declared.fault.UsageFault.TheVariants.{Address, Block, Check, Displace, NoMemory, Sides, Words}
 use Rattle.leak_request.specs.declared.options.Options.{Options}
 use Rattle.leak_request.specs.declared.options.Request.{Request}
-use Rattle.leak_request.specs.declared.options.Request.TheVariants.{Search, Why, Holders, Grow}
+use Rattle.leak_request.specs.declared.options.Request.TheVariants.{Search, Why, Holders, Grow, Text as Shown}
 use Rattle.leak_request.specs.declared.options.SearchRequest.{SearchRequest}
 
 -- the options that say which words keep a block: distances of words, or none where all count, and the flags
@@ -78,6 +78,15 @@ IsSearch two paths n w s (Search r) = IsSearchFor two paths n w s r
 IsSearch two paths n w s (Why r) = ⊥
 IsSearch two paths n w s (Holders r) = ⊥
 IsSearch two paths n w s (Grow r) = ⊥
+IsSearch two paths n w s (Shown text) = ⊥
+
+-- a text that the words ask for, as help
+abbrev pub IsShown : Request → Type 0
+IsShown (Search r) = ⊥
+IsShown (Why r) = ⊥
+IsShown (Holders r) = ⊥
+IsShown (Grow r) = ⊥
+IsShown (Shown text) = Unit {0}
 
 -- The words ask for this alone, and are refused only if memory is.
 pub record AskFor (words : List Text) (Is : Request → Type 0) : Type 0 where

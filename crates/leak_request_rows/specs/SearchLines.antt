@@ -1,6 +1,6 @@
 -- Worked command lines of a search: the defaults, each option alone, and many together.
 use Rattle.std.specs.Prelude.{true, false, [], ◌∷◌, codes, Some}
-use Rattle.leak_request_rows.specs.Requests.{AskFor, IsSearch, by_default, one_input, plainly, two_inputs, unsigned, with_all}
+use Rattle.leak_request_rows.specs.Requests.{AskFor, IsSearch, IsShown, by_default, one_input, plainly, two_inputs, unsigned, with_all}
 
 pub record AreWorkedSearchLines : Type 0 where
   pub one : AskFor (codes "one" ∷ codes "core.1" ∷ codes "trace.log" ∷ []) (IsSearch false one_input by_default plainly unsigned)
@@ -23,3 +23,9 @@ pub record AreWorkedSearchLines : Type 0 where
   pub strict : AskFor (codes "one" ∷ codes "core.1" ∷ codes "trace.log" ∷ codes "--strict" ∷ []) (IsSearch false one_input by_default plainly (record unsigned { strict = true }))
   pub all : AskFor (codes "two" ∷ codes "a" ∷ codes "b" ∷ codes "c" ∷ codes "d" ∷ codes "--skip-ends" ∷ codes "--skip-freed" ∷ codes "--skip-links" ∷ codes "--skip-slack" ∷ codes "--all-memory" ∷ codes "--check" ∷ codes "--strict" ∷ codes "--displace=24" ∷ [])
       (IsSearch true two_inputs by_default (with_all (24 ∷ [])) (record { check = true; other_heap = false; strict = true }))
+
+-- lines that ask for a text
+pub record AreWorkedTexts : Type 0 where
+  pub help : AskFor (codes "--help" ∷ []) IsShown
+  pub version : AskFor (codes "--version" ∷ []) IsShown
+  pub help_of_one : AskFor (codes "one" ∷ codes "--help" ∷ []) IsShown

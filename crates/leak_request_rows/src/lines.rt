@@ -1,5 +1,5 @@
 //! Worked command lines: what they ask for, or why they are refused.
-ghost use Rattle.leak_request_rows.specs.SearchLines.{AreWorkedSearchLines};
+ghost use Rattle.leak_request_rows.specs.SearchLines.{AreWorkedSearchLines, AreWorkedTexts};
 ghost use Rattle.leak_request_rows.specs.QuestionLines.{AreWorkedGrowLines, AreWorkedHoldersLines, AreWorkedRefusals, AreWorkedWhyLines};
 
 /// Command lines that ask for a search.
@@ -25,4 +25,9 @@ pub fn worked_grow_lines()
 /// Searches that are refused.
 pub fn worked_refusals()
     ensures { AreWorkedRefusals }
+{}
+
+/// Command lines that ask for help or for the version.
+pub fn worked_texts()
+    ensures { AreWorkedTexts }
 {}

@@ -12,10 +12,10 @@ use Rattle.leak_request_rows.proofs.lines.worked_why_lines.Goals as goal
 pub returns : goal.returns
 unfolding digits defaults_fault flags_fault walk_fault bundle_met walked
 returns c = record {
-  address = sees_why _ _ _ _ None (codes "10100") (None ∷ None ∷ None ∷ []) refl refl refl refl refl;
-  both_cases = sees_why _ _ _ _ None (codes "aBcDeF0123456789") (None ∷ None ∷ None ∷ []) refl refl refl refl refl;
-  one_digit = sees_why _ _ _ _ None (codes "0") (None ∷ None ∷ None ∷ []) refl refl refl refl refl;
-  all = sees_why _ _ _ _ (Some (codes "8,16")) (codes "10100") (None ∷ None ∷ None ∷ []) refl refl (refl, refl) refl refl;
+  address = sees_why _ _ _ _ _ None (codes "10100") (None ∷ None ∷ None ∷ []) refl refl refl refl refl refl;
+  both_cases = sees_why _ _ _ _ _ None (codes "aBcDeF0123456789") (None ∷ None ∷ None ∷ []) refl refl refl refl refl refl;
+  one_digit = sees_why _ _ _ _ _ None (codes "0") (None ∷ None ∷ None ∷ []) refl refl refl refl refl refl;
+  all = sees_why _ _ _ _ _ (Some (codes "8,16")) (codes "10100") (None ∷ None ∷ None ∷ []) refl refl (refl, refl) refl refl refl;
   decimal_address = refuses_address _ one_input (codes "10100") (Some (codes "false")) (Some (codes "false")) (Some (codes "false")) (Some (codes "false")) (Some (codes "false")) (None ∷ None ∷ None ∷ []) refl refl refl;
   no_digit = refuses_address _ one_input (codes "0x") (Some (codes "false")) (Some (codes "false")) (Some (codes "false")) (Some (codes "false")) (Some (codes "false")) (None ∷ None ∷ None ∷ []) refl refl refl;
   seventeen_digits = refuses_address _ one_input (codes "0x00000000000010100") (Some (codes "false")) (Some (codes "false")) (Some (codes "false")) (Some (codes "false")) (Some (codes "false")) (None ∷ None ∷ None ∷ []) refl refl refl;
@@ -24,5 +24,7 @@ returns c = record {
   list_first = refuses_why_list _ one_input (codes "8,,16") (codes "10100") (Number 1) (Some (codes "false")) (Some (codes "false")) (Some (codes "false")) (Some (codes "false")) (Some (codes "false")) (None ∷ None ∷ None ∷ []) refl refl refl;
   no_address = refused_by_clap _ refl;
   no_workers = refused_by_clap _ refl;
-  no_strict = refused_by_clap _ refl;
+  strict = sees_why _ _ _ _ _ None (codes "10100") (None ∷ None ∷ None ∷ []) refl refl refl refl refl refl;
+  other_heap = sees_why _ _ _ _ _ None (codes "10100") (None ∷ None ∷ None ∷ []) refl refl refl refl refl refl;
+  no_check = refused_by_clap _ refl;
 }
