@@ -1,5 +1,5 @@
 -- Tests of chains of words by computing, and what they show.
-use Rattle.std.proofs.Common.{◌≡◌, ℕ, zero, suc, ◌+◌, ◌<◌, ◌≤◌, Bool, true, false, ◌&&◌, List, [], ◌∷◌, ◌++◌, length, map, get_or, Option, Some, None, slice_get, refl, sym, ap, subst, ◌∙◌, arith}
+use Rattle.std.proofs.Common.{◌≡◌, ℕ, ◌+◌, ◌≤◌, Bool, true, false, ◌&&◌, List, [], ◌∷◌, ◌++◌, length, map, Option, Some, None, slice_get, refl, sym, ap, subst, ◌∙◌, arith}
 use Rattle.std.specs.Prelude.{◌==◌, nat_le, codes}
 use Rattle.std.specs.Option.{option_map_or}
 use Rattle.std.proofs.lemmas.Bool.{leb-true, eqb-true}
@@ -9,14 +9,14 @@ use Rattle.leak_blocks.specs.declared.block.Block.{Block}
 use Rattle.leak_index.specs.Hits.{Index, hits_of}
 use Rattle.leak_notes.specs.declared.sets.RegisterSet.{RegisterSet}
 use Rattle.leak_roots.specs.Places.{Places, memory_places}
-use Rattle.leak_marks.specs.Lists.{Has, has}
+use Rattle.leak_marks.specs.Lists.{has}
 use Rattle.leak_marks.proofs.ListLemmas.{of_has, to_has}
 use Rattle.leak_why.specs.declared.chain.Chain.{Chain}
 use Rattle.leak_why.specs.declared.chain.Link.{Link}
 use Rattle.leak_why.specs.declared.chain.RootPlace.{RootPlace}
 use Rattle.leak_why.specs.declared.chain.RootPlace.TheVariants.{Register, Address}
 use Rattle.leak_why.specs.declared.chain.RootWord.{RootWord}
-use Rattle.leak_why.specs.Chains.{IsChain, IsLink, IsRoot, IsWhy, LiesIn, StandsAt, led_at, search_graph}
+use Rattle.leak_why.specs.Chains.{IsChain, IsLink, IsWhy, StandsAt, led_at, search_graph}
 use Rattle.leak_why.specs.Text.{links_text, numbered_line, root_line, text_of}
 use Rattle.leak_why.proofs.WordLemmas.{chain_blocks}
 use Rattle.leak_rows.proofs.GraphTests.{are_levels, chain_inside, chain_long, is_closed, level}

@@ -1,5 +1,5 @@
 -- The lines of worked logs, read by the grammar.
-use Rattle.std.proofs.Common.{◌≡◌, ℕ, ◌+◌, ◌^◌, ◌<◌, ◌≤◌, inl, inr, refl, codes, List, [], ◌∷◌, ◌++◌, arith}
+use Rattle.std.proofs.Common.{◌≡◌, ℕ, ◌+◌, ◌^◌, ◌≤◌, inl, inr, refl, codes, List, [], ◌∷◌, ◌++◌, arith}
 use Rattle.leak_mtrace.specs.declared.line.Kind.{Kind}
 use Rattle.leak_mtrace.specs.declared.line.Kind.TheVariants.{Alloc, Free}
 use Rattle.leak_mtrace.specs.declared.line.Line.{Line}

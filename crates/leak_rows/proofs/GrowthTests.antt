@@ -1,5 +1,5 @@
 -- What grew between two logs whose lines are known.
-use Rattle.std.proofs.Common.{◌≡◌, ℕ, ◌+◌, ◌^◌, ◌<◌, Bool, true, List, [], ◌∷◌, ◌++◌, length, refl, sym, ap, ap₂, subst, ◌∙◌}
+use Rattle.std.proofs.Common.{◌≡◌, ℕ, ◌+◌, ◌^◌, true, List, [], ◌∷◌, ◌++◌, length, sym, ap₂, ◌∙◌}
 use Rattle.std.specs.Prelude.{nat_lt}
 use Rattle.std.proofs.lemmas.Bool.{ltb-true}
 use Rattle.leak_mtrace.specs.declared.line.Line.{Line}
@@ -7,9 +7,8 @@ use Rattle.leak_mtrace.specs.Log.{IsLog, is_continued_by}
 use Rattle.leak_mtrace.proofs.SameLogLemmas.{logs_are_one}
 use Rattle.leak_blocks.specs.Live.{live_of}
 use Rattle.leak_report.specs.declared.signs.Signs.{Signs}
-use Rattle.leak_growth.specs.Growth.{FindsGrowth, log_signs}
+use Rattle.leak_growth.specs.Growth.{log_signs}
 use Rattle.leak_growth.specs.Report.{growth_text}
-use Rattle.leak_growth.specs.declared.growth.Grown.{Grown}
 use Rattle.leak_rows.specs.Growth.{HaveGrown}
 
 pub have_grown : (log1 log2 : List ℕ) (before now after : List Line) (s t : Signs) (report : List ℕ) → IsLog log1 before → IsLog log2 now → is_continued_by log1 log2 ≡ true → now ≡ before ++ after

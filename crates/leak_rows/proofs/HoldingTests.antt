@@ -1,5 +1,5 @@
 -- Who holds the memory of a core whose marked blocks are computed.
-use Rattle.std.proofs.Common.{◌≡◌, ◌↔◌, ℕ, zero, suc, ◌+◌, ◌^◌, ◌<◌, Bool, true, false, not, ◌&&◌, List, [], ◌∷◌, length, map, Option, Some, None, refl, sym, ap, subst, ◌∙◌, arith}
+use Rattle.std.proofs.Common.{◌≡◌, ◌↔◌, ℕ, zero, suc, ◌+◌, ◌^◌, ◌<◌, Bool, true, false, not, ◌&&◌, List, [], ◌∷◌, length, map, Option, None, refl, sym, subst, ◌∙◌, arith}
 use Rattle.std.specs.Prelude.{nat_lt, slice_index, slice_index_or, IsTrue}
 use Rattle.std.specs.List.{range_with_len}
 use Rattle.std.proofs.lemmas.Bool.{ltb-true}
@@ -10,7 +10,7 @@ use Rattle.leak_mtrace.proofs.SplitLemmas.{and_left, and_right}
 use Rattle.leak_blocks.specs.declared.block.Block.{Block}
 use Rattle.leak_blocks.specs.Live.{live_of}
 use Rattle.leak_marks.specs.Lists.{has}
-use Rattle.leak_marks.specs.Reach.{Graph, Reach}
+use Rattle.leak_marks.specs.Reach.{Graph}
 use Rattle.leak_without.specs.Without.{IsHeldBy, chosen, members, without}
 use Rattle.leak_texts.specs.Numbered.{AreTexts}
 use Rattle.leak_holders.specs.Examples.{lent}
@@ -18,14 +18,11 @@ use Rattle.leak_holders.specs.Holders.{AreHolders, Held, rows_of}
 use Rattle.leak_holders.specs.Parts.{counted_in, parts_but, parts_by}
 use Rattle.leak_holders.specs.declared.facts.Facts.{Facts}
 use Rattle.leak_holders.specs.declared.holder.Holder.{Holder}
-use Rattle.leak_holders.specs.declared.part.Part.{Part}
-use Rattle.leak_holders.specs.declared.question.Question.{Question}
 use Rattle.leak_holders.specs.declared.question.Side.TheVariants.{In, Of}
 use Rattle.leak_input.specs.Inputs.{IsCore}
 use Rattle.leak_search.specs.Search.{graph_of_one, head_of_one}
 use Rattle.leak_why.specs.Asked.{IsAsked}
-use Rattle.leak_holding.specs.Held.{FindsHeld, both, chosen_with, held_text}
-use Rattle.leak_holding.specs.Holders.{FindsHolders}
+use Rattle.leak_holding.specs.Held.{both, chosen_with, held_text}
 use Rattle.leak_holding.specs.Since.{counted_of, is_continued_from, news_of}
 use Rattle.leak_holding.specs.Text.{holders_text}
 use Rattle.leak_rows.specs.Holding.{AreHoldersOf, IsHeldAs}

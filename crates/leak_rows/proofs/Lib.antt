@@ -3,10 +3,6 @@ pub mod GraphTests
 pub mod ChainTests
 pub mod SearchTests
 pub mod Logs
-pub mod RequestTests
-pub mod RefusalTests
-pub mod QuestionTests
-pub mod HoldersTests
 pub mod GrowthLogs
 pub mod GrowthTests
 pub mod ReasonTests

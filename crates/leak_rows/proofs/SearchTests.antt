@@ -1,5 +1,5 @@
 -- What a search of one core comes to where the marked blocks are computed.
-use Rattle.std.proofs.Common.{◌≡◌, ◌==◌, ℕ, ◌^◌, ◌<◌, Bool, true, List, [], ◌∷◌, length, None, refl, sym, ap, subst, ◌∙◌}
+use Rattle.std.proofs.Common.{◌≡◌, ◌==◌, ℕ, ◌^◌, Bool, true, List, length, sym, ap, subst, ◌∙◌}
 use Rattle.std.specs.Prelude.{nat_lt}
 use Rattle.std.specs.List.{list_all}
 use Rattle.std.proofs.lemmas.Bool.{ltb-true}
@@ -17,7 +17,7 @@ use Rattle.leak_report.specs.Totals.{leaked_in}
 use Rattle.leak_input.specs.declared.found.Found.{Found}
 use Rattle.leak_input.specs.Inputs.{IsCore}
 use Rattle.leak_input.specs.Signs.{fits_told}
-use Rattle.leak_search.specs.Search.{FindsOne, claims_of, graph_of_one, head_of_one, index_of}
+use Rattle.leak_search.specs.Search.{claims_of, graph_of_one, head_of_one, index_of}
 use Rattle.leak_rows.specs.Searches.{Finds, Search}
 use Rattle.leak_rows.proofs.GraphTests.{is_reached, one_list, same_tests, tests_are, tests_of}
 

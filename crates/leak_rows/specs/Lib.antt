@@ -1,11 +1,11 @@
 pub mod Heap
+pub mod WorkedHeap
 pub mod Chains
+pub mod Distances
 pub mod Told
 pub mod Searches
-pub mod Requests
-pub mod Questions
-pub mod Statuses
-pub mod Growth
+pub mod TwoSearches
 pub mod Reasons
 pub mod Holding
-pub mod TwoSearches
+pub mod Growth
+pub mod Statuses

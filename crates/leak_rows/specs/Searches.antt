@@ -1,6 +1,6 @@
 -- Worked searches, from the bytes of cores and logs: a core of a few words, the log of its blocks, and the report that the definition
 -- of a search allows. A search with one worker claims all marked blocks by one list.
-use Rattle.std.specs.Prelude.{◌≡◌, ℕ, ◌*◌, Bool, true, false, List, [], ◌∷◌, ◌++◌, codes, flat_map, length, Option, Some, None}
+use Rattle.std.specs.Prelude.{◌≡◌, ℕ, ◌*◌, Bool, true, false, List, [], ◌∷◌, ◌++◌, codes, flat_map, length, None}
 use Rattle.std.specs.Int.{w64, to_le_bytes}
 use Rattle.leak_elf.specs.Sample.{file_header, note_entry, program_header}
 use Rattle.leak_index.specs.Leads.{Distances}

@@ -3,7 +3,7 @@ use Rattle.std.specs.Prelude.{◌≡◌, true, false, [], ◌∷◌, codes}
 use Rattle.leak_report.specs.Warnings.{warnings_of}
 use Rattle.leak_report.specs.declared.signs.Signs.{Signs}
 use Rattle.leak_find.specs.Run.{signs_that_count, status_by}
-use Rattle.leak_find.specs.Why.{status_by_held}
+use Rattle.leak_find.specs.Why.{leaked_if_not}
 
 -- the signs of a core that fits its log, and of one with a block that doesn't
 abbrev pub well : Signs
@@ -25,5 +25,7 @@ pub record AreWorkedStatuses : Type 0 where
   pub fits : status_by true 0 (warnings_of (well ∷ [])) ≡ 0
   pub misfit : status_by true 0 (warnings_of (odd ∷ [])) ≡ 3
   pub misfit_of_other_heap : status_by true 0 (warnings_of (signs_that_count true odd ∷ [])) ≡ 0
-  pub held : status_by_held true ≡ 0
-  pub lost : status_by_held false ≡ 1
+  pub held : status_by false (leaked_if_not true) [] ≡ 0
+  pub lost : status_by false (leaked_if_not false) [] ≡ 1
+  pub held_in_an_odd_core : status_by true (leaked_if_not true) (warnings_of (odd ∷ [])) ≡ 3
+  pub lost_in_an_odd_core : status_by false (leaked_if_not false) (warnings_of (odd ∷ [])) ≡ 1

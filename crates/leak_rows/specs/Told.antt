@@ -1,5 +1,5 @@
 -- How worked chains are told: the text of an answer, the names of registers, and the block that an address asks for.
-use Rattle.std.specs.Prelude.{◌≡◌, ℕ, ◌==◌, List, [], ◌∷◌, ◌++◌, codes, count_by, length, Some, None}
+use Rattle.std.specs.Prelude.{◌≡◌, ℕ, ◌==◌, List, [], ◌∷◌, codes, count_by, length, Some, None}
 use Rattle.leak_blocks.specs.declared.block.Block.{Block}
 use Rattle.leak_notes.specs.declared.sets.RegisterSet.{RegisterSet}
 use Rattle.leak_notes.specs.declared.sets.RegisterSet.TheVariants.{Status, Vector, State}
@@ -8,7 +8,8 @@ use Rattle.leak_why.specs.declared.chain.Link.{Link}
 use Rattle.leak_why.specs.declared.chain.RootWord.{RootWord}
 use Rattle.leak_why.specs.Asked.{AreNotAsked, IsAsked}
 use Rattle.leak_why.specs.Text.{register_text, text_of}
-use Rattle.leak_rows.specs.Chains.{Scene, at, block, half_blocks, in_register, link, row_links, row_of, two_blocks}
+use Rattle.leak_rows.specs.Chains.{at, block, in_register, link, two_blocks}
+use Rattle.leak_rows.specs.Distances.{row_links, row_of}
 
 -- the answer for the block, of a chain with the root word and the links, has the text
 abbrev pub IsToldAs : List ℕ → List Block → List RegisterSet → ℕ → RootWord → List Link → List ℕ → Type 0

@@ -1,5 +1,6 @@
 //! Worked chains that hold a block, and how they are told.
-ghost use Rattle.leak_rows.specs.Chains.{AreWorkedChains, AreWorkedDistances, IsWorkedRow};
+ghost use Rattle.leak_rows.specs.Chains.{AreWorkedChains};
+ghost use Rattle.leak_rows.specs.Distances.{AreWorkedDistances, IsWorkedRow};
 ghost use Rattle.leak_rows.specs.Told.{AreAskedBlocks, AreRegisterNames, AreWorkedTexts, IsToldWhole};
 
 /// What holds some blocks.

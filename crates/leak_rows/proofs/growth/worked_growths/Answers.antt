@@ -1,5 +1,5 @@
 -- Each row is computed, but for the lines of its logs.
-use Rattle.std.proofs.Common.{refl, [], ◌∷◌}
+use Rattle.std.proofs.Common.{refl, []}
 use Rattle.std.specs.Fmt.{digits}
 use Rattle.leak_blocks.specs.Live.{live_of, replay_of}
 use Rattle.leak_growth.specs.Report.{growths_of, report_of}

@@ -1,5 +1,5 @@
 -- Each row is computed, but for the lines of its log.
-use Rattle.std.proofs.Common.{◌≡◌, ℕ, ◌<◌, inl, inr, refl, true, false, List, [], ◌∷◌, codes, length, None, lit<, arith}
+use Rattle.std.proofs.Common.{ℕ, ◌<◌, inr, refl, List, [], ◌∷◌, codes, lit<, arith}
 use Rattle.std.specs.List.{Contains}
 use Rattle.std.specs.List.Sorted.{IsStrictlySortedBy}
 use Rattle.std.proofs.lemmas.List.Elements.{All-nil, All-cons}
@@ -19,7 +19,6 @@ use Rattle.leak_roots.specs.Roots.{freed_places, has_roots, outside_places, root
 use Rattle.leak_scan.specs.Heads.{heads_of}
 use Rattle.leak_scan.specs.Targets.{block_targets, targets_of}
 use Rattle.leak_pool.specs.Marking.{graph_of}
-use Rattle.leak_blocks.specs.declared.block.Block.{Block}
 use Rattle.leak_why.specs.Asked.{IsAsked}
 use Rattle.leak_texts.specs.Numbered.{AreTexts}
 use Rattle.leak_holding.specs.Held.{held_text}

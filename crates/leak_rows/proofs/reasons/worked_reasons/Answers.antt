@@ -1,5 +1,5 @@
 -- Each row is computed, but for the lines of its log.
-use Rattle.std.proofs.Common.{◌≡◌, ℕ, ◌+◌, ◌<◌, ◌≤◌, inl, inr, refl, true, false, List, [], ◌∷◌, length, codes, None, arith}
+use Rattle.std.proofs.Common.{◌≡◌, ℕ, ◌+◌, ◌<◌, ◌≤◌, inl, inr, refl, List, [], ◌∷◌, codes, None, arith}
 use Rattle.std.specs.Fmt.{digits}
 use Rattle.leak_elf.specs.Fields.{number_at}
 use Rattle.leak_elf.specs.Headers.{headers, header_at}
@@ -18,17 +18,14 @@ use Rattle.leak_scan.specs.Heads.{heads_of}
 use Rattle.leak_scan.specs.Targets.{block_targets, targets_of}
 use Rattle.leak_pool.specs.Marking.{graph_of}
 use Rattle.leak_blocks.specs.declared.block.Block.{Block}
-use Rattle.leak_roots.specs.Places.{AreRanges, Places}
-use Rattle.leak_roots.specs.Roots.{AreRootsOf}
+use Rattle.leak_roots.specs.Places.{AreRanges}
 use Rattle.leak_why.specs.Asked.{IsAsked}
 use Rattle.leak_why.specs.Text.{text_of as answer_of}
-use Rattle.leak_input.specs.Inputs.{IsCore}
 use Rattle.leak_rows.specs.Chains.{in_rbx, places, zero_registers}
-use Rattle.leak_rows.specs.Reasons.{rbx_core}
 use Rattle.leak_rows.specs.Searches.{core_of, two_core, two_log}
 use Rattle.leak_rows.proofs.ChainTests.{answers, leaked, told}
 use Rattle.leak_rows.proofs.Logs.{two_is, two_lines}
-use Rattle.leak_rows.proofs.ReasonTests.{IsQuestion, first_asked, none_asked, second_asked, tells_held, tells_lost}
+use Rattle.leak_rows.proofs.ReasonTests.{first_asked, none_asked, second_asked, tells_held, tells_lost}
 use Rattle.leak_rows.proofs.reasons.worked_reasons.Goals as goal
 
 abbrev first_block : Block

@@ -1,5 +1,5 @@
 -- Each row is computed, but for the lines of its logs and the pages that differ.
-use Rattle.std.proofs.Common.{◌≡◌, ℕ, ◌+◌, ◌*◌, ◌<◌, ◌≤◌, refl, true, List, [], ◌∷◌, arith}
+use Rattle.std.proofs.Common.{refl, true, [], ◌∷◌, arith}
 use Rattle.std.specs.Fmt.{digits}
 use Rattle.leak_elf.specs.Fields.{number_at}
 use Rattle.leak_elf.specs.Headers.{headers, header_at}

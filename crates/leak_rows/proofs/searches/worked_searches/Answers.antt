@@ -1,5 +1,5 @@
 -- Each row is computed, but for the lines of its log.
-use Rattle.std.proofs.Common.{refl, List, [], ◌∷◌}
+use Rattle.std.proofs.Common.{refl}
 use Rattle.std.specs.Fmt.{digits}
 use Rattle.leak_elf.specs.Fields.{number_at}
 use Rattle.leak_elf.specs.Headers.{headers, header_at}

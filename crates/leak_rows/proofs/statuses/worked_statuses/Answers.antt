@@ -20,5 +20,7 @@ returns c = record {
   misfit = refl;
   misfit_of_other_heap = refl;
   held = refl;
+  held_in_an_odd_core = refl;
+  lost_in_an_odd_core = refl;
   lost = refl;
 }

@@ -1,5 +1,5 @@
 -- Each row is computed: a chain, and levels of the blocks, or a set that chains don't leave.
-use Rattle.std.proofs.Common.{refl, List, [], ◌∷◌}
+use Rattle.std.proofs.Common.{refl, [], ◌∷◌}
 use Rattle.leak_index.specs.Hits.{hits_of}
 use Rattle.leak_elf.specs.Words.{words_between}
 use Rattle.leak_scan.specs.Targets.{block_targets, targets_of}

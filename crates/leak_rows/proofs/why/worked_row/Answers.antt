@@ -1,6 +1,6 @@
 -- Each row is computed: a chain, and levels of the blocks, or a set that chains don't leave.
-use Rattle.std.proofs.Common.{refl, List, [], ◌∷◌}
-use Rattle.std.proofs.Common.{ap, ◌∙◌, ◌==◌}
+use Rattle.std.proofs.Common.{refl}
+use Rattle.std.proofs.Common.{ap, ◌==◌}
 use Rattle.std.specs.Prelude.{count_by}
 use Rattle.std.specs.Fmt.{digits}
 use Rattle.std.specs.List.{range_with_len}

@@ -1,0 +1,4 @@
+pub mod RequestTests
+pub mod RefusalTests
+pub mod QuestionTests
+pub mod HoldersTests

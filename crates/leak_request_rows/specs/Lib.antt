@@ -1,0 +1,4 @@
+pub mod Requests
+pub mod SearchLines
+pub mod Questions
+pub mod QuestionLines
