@@ -4,5 +4,6 @@ pub mod RunLemmas
 pub mod GrowLemmas
 pub mod HoldersLemmas
 pub mod ViewLemmas
+pub mod ReadViews
 pub mod RunViews
 pub mod TellLemmas

@@ -3,97 +3,18 @@ use Rattle.std.proofs.Common.{ℕ, List, map, Option, ap}
 use Rattle.leak_request.specs.declared.options.Options.{Options}
 use Rattle.leak_request.specs.declared.options.GrowOptions.{GrowOptions}
 use Rattle.leak_holders.specs.declared.question.Question.{Question}
-use Rattle.leak_input.specs.declared.error.FindError.{FindError}
-use Rattle.leak_input.specs.declared.found.Found.{Found}
-use Rattle.leak_growth.specs.declared.growth.Grown.{Grown}
-use Rattle.leak_search.specs.declared.holding.Why.{Why}
-use Rattle.leak_search.specs.declared.holding.WhyError.{WhyError}
 use Rattle.leak_search.specs.declared.holding.WhyError.TheVariants.{Find as Refused, NoBlock as Missing}
-use Rattle.leak_holding.specs.declared.finding.Holding.{Holding}
 use Rattle.leak_request.specs.Requests.{file_count}
 use Rattle.leak_report.specs.Warnings.{warnings_of}
 use Rattle.leak_find.specs.declared.fault.RunFault.{RunFault}
 use Rattle.leak_find.specs.declared.fault.RunFault.TheVariants.{Read, Find, NoBlock, Write}
 use Rattle.leak_find.specs.Streams.{Sink, Source}
-use Rattle.leak_find.specs.Run.{HasFound, IsFindFault, IsRunFault, Runs, limit_at, warnings_by}
-use Rattle.leak_find.specs.Why.{HasTold, IsHoldingFault, IsWhyRunFault, RunsWhy}
-use Rattle.leak_find.specs.Holders.{HasHeld, IsHeldFindFault, IsHoldersRunFault, RunsHolders}
-use Rattle.leak_find.specs.Grow.{HasGrown, IsGrowRunFault, IsGrowthFault, RunsGrow}
-use Rattle.leak_find.proofs.ViewLemmas.{Sees, Shows, all_inputs, are_read, fault_within, held_within, tried}
-
--- ---- what was read
-
-module _ {R S : Type 0} (view : R → S) (source : Source R) (known : Source S) (sees : Sees view source known) where
-  found : (o : Options) (before after : List R) (f : Found) → HasFound source o before after f → HasFound known o (map view before) (map view after) f
-  found o before after f has = record {
-    inputs = has.inputs;
-    count = has.count;
-    read = are_read view source known sees (limit_at o) before after has.inputs has.read;
-    finds = has.finds;
-    signs = has.signs;
-  }
-
-  find_fault : (o : Options) (before after : List R) (e : FindError) → IsFindFault source o before after e → IsFindFault known o (map view before) (map view after) e
-  find_fault o before after e has = record {
-    inputs = has.inputs;
-    count = has.count;
-    read = are_read view source known sees (limit_at o) before after has.inputs has.read;
-    fault = has.fault;
-  }
-
-  told : (o : Options) (address : ℕ) (before after : List R) (why : Why) → HasTold source o address before after why
-      → HasTold known o address (map view before) (map view after) why
-  told o address before after why has = record {
-    inputs = has.inputs;
-    count = has.count;
-    read = are_read view source known sees (limit_at o) before after has.inputs has.read;
-    tells = has.tells;
-  }
-
-  holding_fault : (o : Options) (address : ℕ) (before after : List R) (e : WhyError) → IsHoldingFault source o address before after e
-      → IsHoldingFault known o address (map view before) (map view after) e
-  holding_fault o address before after e has = record {
-    inputs = has.inputs;
-    count = has.count;
-    read = are_read view source known sees (limit_at o) before after has.inputs has.read;
-    fault = has.fault;
-  }
-
-  held : (o : Options) (question : Option Question) (before after : List R) (holding : Holding) → HasHeld source o question before after holding
-      → HasHeld known o question (map view before) (map view after) holding
-  held o question before after holding has = record {
-    inputs = has.inputs;
-    are = all_inputs view source known sees o before after has.inputs has.are;
-    tells = has.tells;
-    signs = has.signs;
-  }
-
-  held_fault : (o : Options) (question : Option Question) (before after : List R) (e : WhyError) → IsHeldFindFault source o question before after e
-      → IsHeldFindFault known o question (map view before) (map view after) e
-  held_fault o question before after e has = record {
-    inputs = has.inputs;
-    are = all_inputs view source known sees o before after has.inputs has.are;
-    fault = has.fault;
-  }
-
-  grown : (o : GrowOptions) (before after : List R) (g : Grown) → HasGrown source o before after g → HasGrown known o (map view before) (map view after) g
-  grown o before after g has = record {
-    inputs = has.inputs;
-    count = has.count;
-    read = are_read view source known sees (λ i. o.log_limit) before after has.inputs has.read;
-    finds = has.finds;
-  }
-
-  growth_fault : (o : GrowOptions) (before after : List R) (e : FindError) → IsGrowthFault source o before after e
-      → IsGrowthFault known o (map view before) (map view after) e
-  growth_fault o before after e has = record {
-    inputs = has.inputs;
-    count = has.count;
-    read = are_read view source known sees (λ i. o.log_limit) before after has.inputs has.read;
-    fault = has.fault;
-  }
-
--- ---- what was written
+use Rattle.leak_find.specs.Run.{IsRunFault, Runs, limit_at, warnings_by}
+use Rattle.leak_find.specs.Why.{IsWhyRunFault, RunsWhy}
+use Rattle.leak_find.specs.Holders.{IsHoldersRunFault, RunsHolders}
+use Rattle.leak_find.specs.Grow.{IsGrowRunFault, RunsGrow}
+use Rattle.leak_find.proofs.ViewLemmas.{Sees, Shows, fault_within, held_within, tried}
+use Rattle.leak_find.proofs.ReadViews.{find_fault, found, grown, growth_fault, held, held_fault, holding_fault, told}
 
 module _ {R S W X : Type 0} (view : R → S) (source : Source R) (known : Source S) (sees : Sees view source known)
     (look : W → X) (sink : Sink W) (shown : Sink X) (shows : Shows look sink shown) where
