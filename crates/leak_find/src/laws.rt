@@ -12,7 +12,8 @@ pub fn runs_tell<R: Read, W: Write, V: Write>()
         (by_writes ⟦<W as WriteCalls>⟧.calls) W.contents
         (by_writes ⟦<V as WriteCalls>⟧.calls) V.contents }
     ensures why { RunsWhyTell (by_reads ⟦<R as ReadCalls>⟧.calls) R.remaining
-        (by_writes ⟦<W as WriteCalls>⟧.calls) W.contents }
+        (by_writes ⟦<W as WriteCalls>⟧.calls) W.contents
+        (by_writes ⟦<V as WriteCalls>⟧.calls) V.contents }
     ensures holders { RunsHoldersTell (by_reads ⟦<R as ReadCalls>⟧.calls) R.remaining
         (by_writes ⟦<W as WriteCalls>⟧.calls) W.contents
         (by_writes ⟦<V as WriteCalls>⟧.calls) V.contents }

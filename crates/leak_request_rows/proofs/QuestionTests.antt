@@ -17,7 +17,7 @@ use Rattle.leak_request.specs.declared.fault.UsageFault.TheVariants as fault
 use Rattle.leak_request.specs.declared.options.Options.{Options}
 use Rattle.leak_request.specs.declared.options.Request.{Request}
 use Rattle.leak_request.specs.declared.options.Request.TheVariants.{Search, Why, Holders, Grow, Text as Shown}
-use Rattle.leak_request_rows.specs.Requests.{AskFor, AreReadAs, AreRefused, Reads}
+use Rattle.leak_request_rows.specs.Requests.{AskFor, AreReadAs, AreRefused, Reads, Signed}
 use Rattle.leak_request_rows.specs.Questions.{IsGrowAsked, IsWhyAsked}
 use Rattle.leak_request_rows.proofs.RequestTests.{HasFlag, HasReads, IsListOf, IsSeen, Values, flag_from, flag_to, flag_value, letters, list_is, name_in, no_list_fault, none_lacks, not_from, not_grow, not_to, not_why, paths_from, paths_to, reading_values, reads_seen, refused_at, request_at, rows_in, seen, sees, value_at}
 use Rattle.leak_request_rows.proofs.RefusalTests.{IsRefusedFor, fault_at, no_displace, not_taken, refused, same_displace}

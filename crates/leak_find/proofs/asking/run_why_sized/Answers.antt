@@ -2,6 +2,7 @@ use Rattle.std.proofs.Common.{◌≡◌, ℕ, List, ap, subst, ◌∙◌}
 use Rattle.leak_streams.specs.Writes.{IsWrittenWhole, IsCutOff}
 use Rattle.leak_find.specs.Run.{status_by, warnings_by}
 use Rattle.leak_find.specs.Streams.{IsTried, by_writes}
+use Rattle.leak_find.specs.Why.{leaked_if_not}
 use Rattle.leak_find.proofs.asking.run_why_sized.Goals as goal
 
 pub returns-in-Err-clause-refused : goal.returns-in-Err-clause-refused
@@ -14,10 +15,13 @@ returns-in-Err-clause-refused g c = record {
 pub returns-clause-ok : goal.returns-clause-ok
 returns-clause-ok g c =
     let shown : c.as_str.result.now ≡ warnings_by c.args.options.now c.in_ok-why.why.signs.items = c.as_str.ensures.value ∙ c.in-Ok.ensures ∙ ap (λ ss. warnings_by c.args.options.now ss) c.as_slice.ensures.value in
+    let again : c.as_str-2.result.now ≡ warnings_by c.args.options.now c.in_ok-why.why.signs.items = c.as_str-2.ensures.value ∙ c.in-Ok.ensures ∙ ap (λ ss. warnings_by c.args.options.now ss) c.as_slice.ensures.value in
     record {
       why = c.in_ok-why.why;
       has_told = c.in_ok-why.ensures.ok;
-      written = subst (λ (text : List ℕ). IsWrittenWhole g.W.WriteCalls.calls text c.args.writer.now c.write_both.new.writer) c.deref.ensures.value c.in_default.ensures.ok;
-      warned = subst (λ (text : List ℕ). IsTried (by_writes g.V.WriteCalls.calls) text c.args.warner.now c.write_both.new.warner) shown c.in_default.ensures.warned;
-      status_is = c.status_of.ensures ∙ ap (λ text. status_by c.args.options.now.strict c.leaked_if_not.result text) shown;
+      written = subst (λ (text : List ℕ). IsWrittenWhole g.W.WriteCalls.calls text c.args.writer.now c.write_both.new.writer) c.deref.ensures.value c.in_default-write_both.ensures.ok;
+      warned = subst (λ (text : List ℕ). IsTried (by_writes g.V.WriteCalls.calls) text c.args.warner.now c.write_both.new.warner) shown c.in_default-write_both.ensures.warned;
+      status_is = c.status_of.ensures
+          ∙ ap (λ (n : ℕ). status_by c.args.options.now.strict n c.as_str-2.result.now) c.leaked_if_not.ensures
+          ∙ ap (λ text. status_by c.args.options.now.strict (leaked_if_not c.in_ok-why.why.held) text) again;
     }

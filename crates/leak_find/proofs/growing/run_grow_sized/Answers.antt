@@ -15,10 +15,11 @@ returns-in-Err-clause-refused g c = record {
 pub returns-clause-ok : goal.returns-clause-ok
 returns-clause-ok g c =
     let shown : c.as_str.result.now ≡ warnings_of c.in_ok-grown.grown.signs.items = c.as_str.ensures.value ∙ c.in-Ok.ensures ∙ ap (λ ss. warnings_of ss) c.as_slice.ensures.value in
+    let again : c.as_str-2.result.now ≡ warnings_of c.in_ok-grown.grown.signs.items = c.as_str-2.ensures.value ∙ c.in-Ok.ensures ∙ ap (λ ss. warnings_of ss) c.as_slice.ensures.value in
     record {
       grown = c.in_ok-grown.grown;
       has_grown = c.in_ok-grown.ensures.ok;
-      written = subst (λ (text : List ℕ). IsWrittenWhole g.W.WriteCalls.calls text c.args.writer.now c.write_both.new.writer) c.deref.ensures.value c.in_default.ensures.ok;
-      warned = subst (λ (text : List ℕ). IsTried (by_writes g.V.WriteCalls.calls) text c.args.warner.now c.write_both.new.warner) shown c.in_default.ensures.warned;
-      status_is = c.status_of.ensures ∙ ap (λ text. status_by c.args.options.now.strict 0 text) shown;
+      written = subst (λ (text : List ℕ). IsWrittenWhole g.W.WriteCalls.calls text c.args.writer.now c.write_both.new.writer) c.deref.ensures.value c.in_default-write_both.ensures.ok;
+      warned = subst (λ (text : List ℕ). IsTried (by_writes g.V.WriteCalls.calls) text c.args.warner.now c.write_both.new.warner) shown c.in_default-write_both.ensures.warned;
+      status_is = c.status_of.ensures ∙ ap (λ text. status_by c.args.options.now.strict 0 text) again;
     }
