@@ -18,7 +18,7 @@ use Rattle.leak_report.proofs.Members.{each_from_All, each_implied, each_mapped}
 use Rattle.leak_holders.specs.declared.facts.Facts.{Facts}
 use Rattle.leak_holders.specs.Holders.{AreComplete, AreReached}
 use Rattle.leak_holders.specs.Laws.{AreRowsOf, IsBounded, reached_of}
-use Rattle.leak_holders.specs.Tallies.{facts_of}
+use Rattle.leak_holders.specs.Words.{facts_of}
 use Rattle.leak_holders.proofs.AddedUp.{are_bounded, own_add_up}
 use Rattle.leak_search.specs.Search.{graph_of_one}
 use Rattle.leak_holding.specs.declared.finding.Holding.{Holding}

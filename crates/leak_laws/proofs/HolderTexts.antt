@@ -24,7 +24,7 @@ use Rattle.leak_without.proofs.HeldLemmas.{own_are_held}
 use Rattle.leak_holders.specs.declared.facts.Facts.{Facts}
 use Rattle.leak_holders.specs.declared.holder.Holder.{Holder}
 use Rattle.leak_holders.specs.Holders.{Held, is_counted, rank, row_of, rows_of, with_blocks}
-use Rattle.leak_holders.specs.Tallies.{facts_of}
+use Rattle.leak_holders.specs.Words.{facts_of}
 use Rattle.leak_holders.proofs.Ranks.{Has-ranked, each_ranked, rank_total}
 use Rattle.leak_search.specs.Search.{graph_of_one}
 use Rattle.leak_holding.specs.declared.finding.Holding.{Holding}

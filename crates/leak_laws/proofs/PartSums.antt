@@ -18,7 +18,7 @@ use Rattle.leak_holders.specs.declared.question.Side.{Side}
 use Rattle.leak_holders.specs.declared.question.Side.TheVariants.{In}
 use Rattle.leak_holders.specs.Holders.{is_counted, size_of, text_of}
 use Rattle.leak_holders.specs.Parts.{held_of, part_of, parts_by, parts_with_blocks, placed_part, rank_of_parts, ranked_parts}
-use Rattle.leak_holders.specs.Tallies.{facts_of}
+use Rattle.leak_holders.specs.Words.{facts_of}
 use Rattle.leak_search.specs.Search.{graph_of_one}
 use Rattle.leak_holding.specs.declared.finding.Holding.{Holding}
 use Rattle.leak_holding.specs.Held.{AreHeld, FindsHeld, both, chosen_with}

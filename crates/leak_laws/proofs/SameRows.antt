@@ -11,7 +11,7 @@ use Rattle.leak_holders.specs.declared.question.Side.{Side}
 use Rattle.leak_holders.specs.declared.question.Side.TheVariants.{In, Of}
 use Rattle.leak_holders.specs.Holders.{AreHolders, Held, below, blocks_with, bytes_of, held_by, is_counted, is_own, is_within, own_of, ranked, row_of, rows_of, with_blocks}
 use Rattle.leak_holders.specs.Parts.{counted_in, parts_but, parts_by}
-use Rattle.leak_holders.specs.Tallies.{facts_of}
+use Rattle.leak_holders.specs.Words.{facts_of}
 use Rattle.leak_holders.proofs.Numbers.{filter_same}
 use Rattle.leak_holding.specs.Held.{AreHeld, AreHeldIn, AreHeldOf, both}
 use Rattle.leak_holding.specs.Rows.{AreKnown, AreRows}

@@ -417,10 +417,11 @@ fn why_of(alloc: Global, sizes: Option<&[u64]>) -> Option<Answer> {
         return Some(Answer::Other);
     }
     let mut written: Vec<u8> = Vec::with_capacity(alloc, 1000).ok()?;
-    let readers = readers.as_mut_slice();
+    let mut told: Vec<u8> = Vec::with_capacity(alloc, 1000).ok()?;
+    let (readers, out, warner) = (readers.as_mut_slice(), &mut written, &mut told);
     let answer = match sizes {
-        Some(sizes) => run_why_sized(alloc, readers, sizes, &options, 0x10200, &mut written),
-        None => run_why(alloc, readers, &options, 0x10200, &mut written),
+        Some(sizes) => run_why_sized(alloc, readers, sizes, &options, 0x10200, out, warner),
+        None => run_why(alloc, readers, &options, 0x10200, out, warner),
     };
     let answer = match answer {
         Ok(status) => Answer::of(status == 0 && written.as_slice() == ASKED.as_bytes()),

@@ -40,8 +40,9 @@ fn asked_for_zero(
     let options = options(core_limit, 35)?;
     let mut readers = [core, log.as_bytes()];
     let mut out: Vec<u8> = Vec::new(alloc);
-    let answer = run_why(alloc, &mut readers, &options, 0, &mut out);
-    Ok((answer, out.is_empty()))
+    let mut told: Vec<u8> = Vec::new(alloc);
+    let answer = run_why(alloc, &mut readers, &options, 0, &mut out, &mut told);
+    Ok((answer, out.is_empty() && told.is_empty()))
 }
 
 #[test]
@@ -72,9 +73,18 @@ fn a_writer_that_fails_has_the_first_bytes(rt: HostRuntime) -> Result<(), Fail> 
         Source::slow(rt.alloc(), ONE_BLOCK.as_bytes(), 5)?,
     ];
     let mut out = Sink::of(rt.alloc(), 7);
+    let mut told: Vec<u8> = Vec::new(rt.alloc());
     let options = options(8192, 36)?;
-    let answer = run_why(rt.alloc(), &mut readers, &options, 0x10100, &mut out);
+    let answer = run_why(
+        rt.alloc(),
+        &mut readers,
+        &options,
+        0x10100,
+        &mut out,
+        &mut told,
+    );
     same(&rt, answer, Err(RunFault::Write(WriteFault { written: 7 })));
     same(&rt, out.held.as_slice(), b"asked 0".as_slice());
+    assert!(rt; told.is_empty());
     Ok(())
 }

@@ -122,10 +122,20 @@ fn a_question_with_sizes_gives_the_answer_without(rt: HostRuntime) -> Result<(),
         let mut readers = [core.as_slice(), ONE_BLOCK.as_slice()];
         let mut out: Vec<u8> = Vec::new(alloc);
         let options = options(36)?;
-        let status = run_why_sized(alloc, &mut readers, sizes, &options, 0x1011F, &mut out)?;
+        let mut told: Vec<u8> = Vec::new(alloc);
+        let status = run_why_sized(
+            alloc,
+            &mut readers,
+            sizes,
+            &options,
+            0x1011F,
+            &mut out,
+            &mut told,
+        )?;
         same_in(&rt, &sizes, status, 1);
         let wanted = b"asked 0x10100 32 1 ./a.out:[0x401136]\nleaked\n";
         same_in(&rt, &sizes, out.as_slice(), wanted.as_slice());
+        same_in(&rt, &sizes, told.as_slice(), b"".as_slice());
     }
     Ok(())
 }
