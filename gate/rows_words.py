@@ -126,7 +126,7 @@ def of_flags():
         found.append(bad(f"{flag} with a value", f"{ONE}{flag}=true",
                          f"unexpected value 'true' for '{flag}' found; no more were expected",
                          usage_of("one", f" {flag}")))
-    for option in ("--workers", "--check", "--since"):
+    for option in ("--workers", "--check"):
         found.append(bad(f"why with {option}", f"why a b 0x1 {option}", f"unexpected argument '{option}' found",
                          usage_of("why", ""),
                          f"to pass '{option}' as a value, use '-- {option}'"))
