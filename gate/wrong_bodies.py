@@ -7,7 +7,7 @@ It stands on the libraries that `rt ci` left in crates/*/out. At most one wrong 
 one check tries a batch; each body is judged by its own function. What a batch doesn't tell is tried alone. Each check
 runs on a copy of its crate, so only --record changes the repository. The last line is 'wrong bodies: N passed, M failed'.
 
-With --record, crates all of whose wrong bodies are refused go into gate/refused.txt. With --recorded, a crate that is
+With --record, each crate all of whose wrong bodies are refused goes into gate/refused.txt. With --recorded, a crate that is
 there as it is now is not tried again, but for one batch of each of two crates, which the commit's hash chooses.
 """
 import os
@@ -212,6 +212,10 @@ def run(root, names, number, mode=None):
             try_crate(crate, tell)
         except Exception as fault:  # (a fault of this script is no refusal, and fails the run)
             tell(crate.name, FAULT, repr(fault))
+        if mode == "--record":
+            # (at once, so that a run that is ended loses no crate)
+            with printing:
+                recorded(root, [crate], found)
 
     with tempfile.TemporaryDirectory(prefix="wrong-kept-") as room, ThreadPoolExecutor(number) as pool:
         crates = []
@@ -223,8 +227,6 @@ def run(root, names, number, mode=None):
         if mode == "--recorded":
             crates = left_to_try(crates, record.read(root), record.commit_of(root))
         list(pool.map(guarded, sorted(crates, key=Crate.weight, reverse=True)))
-        if mode == "--record":
-            recorded(root, crates, found)
     return found
 
 
