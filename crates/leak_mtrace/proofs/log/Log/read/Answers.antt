@@ -1,0 +1,1 @@
+-- From what the calls promise.
