@@ -1,7 +1,7 @@
 //! Worked inputs of the definitions, computed; and what a small model of a heap says of its blocks.
 //!
 //! Each function does nothing: its contract is a law about definitions of the crates below. The worked values were made by hand from
-//! the rules, not by the program. They show that the definitions that contracts cite mean what they are to mean:
+//! the rules, not by the program. They show that the definitions that contracts cite mean what they should:
 //!
 //! - what holds a block, by chains of words in some memory: each kind of root word, chains through other blocks up to one of a
 //!   hundred, distances that count and ends that don't, links to free chunks, and blocks to which no chain leads; the texts of
