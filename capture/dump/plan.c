@@ -4,8 +4,8 @@
  * was never touched is zero, and a page of a file that was not written is as in the file, where a debugger finds it by the note
  * NT_FILE. So leak_find, which counts as `undumped` what a writable segment lists without having it, counts just what is
  * missing: files that are mapped shared, devices, and pages that can't be read. The kernel's core differs in two points. It lists
- * whole mappings, so memory of a kind that it leaves out counts, touched or not. And it has a file's writable mapping whole where
- * a page of it was written, and else lists it; here it is the written pages. Text is not writable, and counts in neither core.
+ * whole mappings, so memory of a kind that it leaves out counts, touched or not. And it has all of a file's writable mapping if
+ * a page of it was written, and otherwise lists it; here it is the written pages. Text is not writable, and counts in neither core.
  *
  * No gap between two runs is filled, since a page costs as much as 73 headers. */
 #include <elf.h>
@@ -15,7 +15,7 @@
 
 static const uint64_t MOST_OF_VDSO = 16 * PAGE;
 
-/* Adds to the last segment where it goes on there alike. */
+/* Adds to the last segment if it goes on there alike. */
 void add_segment(struct plan *plan, struct segment segment)
 {
     struct segment *last = plan->count ? plan->segments + plan->count - 1 : NULL;
@@ -42,7 +42,7 @@ static bool is_elf(pid_t witness, uint64_t address)
     return read_memory(witness, address, magic, SELFMAG) == SELFMAG && !memcmp(magic, ELFMAG, SELFMAG);
 }
 
-/* The part of a region that lies in the mapping. Of a file's pages that were not written the first is taken where it is the head
+/* The part of a region that lies in the mapping. Of a file's pages that were not written the first is taken if it is the head
  * of an ELF file: debuggers read there which build of a file it is. */
 static void add_pages(struct plan *plan, pid_t witness, const struct mapping *mapping, const struct region *region)
 {

@@ -11,14 +11,14 @@
 
 enum { GRAIN_BITS = 6, CELL_BITS = REGION_BITS - GRAIN_BITS, CELLS = 1 << CELL_BITS, PROBES = 64, NEAR = 4 };
 
-/* A cell is 0 (never used), or REMOVED (look on behind it), or the number of an entry with the top bit. */
+/* A cell is 0 (never used), or REMOVED (look on after it), or the number of an entry with the top bit. */
 #define REMOVED 1u
 #define IN_USE 0x80000000u
 
 struct finder *finder;
 struct area cell_pages = { .end = 1ull << 40, .bytes = CELLS * sizeof(uint32_t), .first_bits = PAGE_BITS_AT_FIRST, .is_private = 1 };
 
-/* Memory that is zero, takes room where it is touched, is in no core, and is zero again in a child of fork. */
+/* Memory that is zero, takes room only when it is touched, is in no core, and is zero again in a child of fork. */
 void *private_memory(uint64_t bytes)
 {
     void *map = mmap(NULL, bytes, PROT_READ | PROT_WRITE, MAP_PRIVATE | MAP_ANONYMOUS | MAP_NORESERVE, -1, 0);
@@ -65,7 +65,7 @@ static void leave_page(int64_t number)
 
 struct records page_records = { make_page, leave_page, 0 };
 
-/* The cells of a region, its first page of them, its second, .. , or null. Where one is wanted and none is there, it is made. */
+/* The cells of a region, its first page of them, its second, .. , or null. If one is wanted and none is there, it is made. */
 static inline _Atomic uint32_t *page_of(uint64_t region, unsigned turn, int is_wanted)
 {
     uint64_t key = region | (uint64_t)turn << 32, cell = get(directory_cell(&finder->cells, key, 0));
@@ -103,7 +103,7 @@ static _Atomic uint32_t *find(uintptr_t start)
     return NULL;
 }
 
-/* Makes a block's entry findable. False where all its cells are taken, or no memory is had for more.
+/* Makes a block's entry findable. False if all its cells are taken, or no memory is had for more.
  *
  * An entry of the same start may be there: an allocator calls its own public calls, or a free passed the
  * library by. It is replaced. */
@@ -150,8 +150,8 @@ void insert(uintptr_t start, size_t size, uint64_t stamp, const uintptr_t *calle
     atomic_fetch_add((_Atomic uint64_t *)&table.head->missed, 1);
 }
 
-/* Writes the first word of a block's entry, after which it is listed no longer, and makes it unfindable. Gives
- * the entry's number, or -1 where the block was not there, and copies the entry, no longer complemented, where
+/* Writes the first word of a block's entry, after which it is no longer listed, and makes it unfindable. Gives
+ * the entry's number, or -1 if the block was not there, and copies the entry, no longer complemented, if
  * `copy` is not null. */
 static inline int64_t unlist(uintptr_t start, uint64_t *copy, uint64_t first)
 {

@@ -15,7 +15,7 @@
 
 #include "trace.h"
 
-/* The process of a table by its name, or 0 where it is not the name of one. `pattern` is what follows the folder in
+/* The process of a table by its name, or 0 if it is not the name of one. `pattern` is what follows the folder in
  * `table_name`. */
 static pid_t process_of(const char *name, const char *pattern)
 {
@@ -45,7 +45,7 @@ static int is_left(int folder, const char *name, pid_t process)
         && head.state != TABLE_RUNS;
 }
 
-/* The bytes that a table takes. What is left behind is removed, and counts where that is not allowed. */
+/* The bytes that a table takes. What is left behind is removed, and counts if that is not allowed. */
 static uint64_t bytes_of(int folder, const char *name, pid_t process)
 {
     struct stat about;

@@ -22,7 +22,7 @@ uint64_t most_blocks;
 
 static __thread uint32_t thread_number;
 
-/* Writes the path of this process's table, and removes a file that stands there: it is of a dead process
+/* Writes the path of this process's table, and removes a file that is there: it is of a dead process
  * with this pid, or of what this process was before exec. */
 static int make_file(void)
 {
@@ -35,8 +35,8 @@ static int make_file(void)
     return open(table_path, O_RDWR | O_CREAT | O_EXCL | O_NOFOLLOW | O_CLOEXEC, 0600);
 }
 
-/* Sets the file's length, of `bytes` or, where so much is not granted, of a half, a quarter, down to `least`. It takes no room
- * before it is written to. 0 where nothing is granted. */
+/* Sets the file's length, of `bytes` or, if that much is not granted, of a half, a quarter, down to `least`. It takes no room
+ * before it is written to. 0 if nothing is granted. */
 static uint64_t set_length(int file, uint64_t bytes, uint64_t least)
 {
     struct rlimit limit;
@@ -56,7 +56,7 @@ static uint64_t first_bytes(const struct area *area, uint64_t most)
     return bytes < most ? bytes : most;
 }
 
-/* Maps the first part of the area, with `before` bytes in front of it. 0 where memory or the disk is full. */
+/* Maps the first part of the area, with `before` bytes in front of it. 0 if memory or the disk is full. */
 static void *map_first(struct area *area, int file, uint64_t before)
 {
     uint64_t bytes = before + first_bytes(area, area->end - area->at);
@@ -107,7 +107,7 @@ static uint64_t start_time(void)
 
     shut(file);
     line[bytes < 0 ? 0 : bytes] = 0;
-    char *at = strrchr(line, ')');          /* behind the name, which may have blanks */
+    char *at = strrchr(line, ')');          /* after the name, which may have blanks */
     for (; at && fields < 21; fields++)
         at = strchr(at + 1, ' ');
     return at ? strtoull(at, NULL, 10) : 0;
@@ -162,8 +162,8 @@ void close_table(struct table *old)
     munmap(old->head, HEAD_BYTES);
 }
 
-/* Removes the table of a process that ends in order: there is no core to read with it. Where the process gave up its rights to do
- * so, or has another root by now, the file gives back what it takes but for its head. */
+/* Removes the table of a process that ends in order: there is no core to read with it. If the process gave up its rights to do
+ * so, or has another root by now, the file gives back what it takes, except its head. */
 void remove_table(void)
 {
     if (!tracing() || tables_stay || table.head->pid != (uint64_t)getpid() || !unlink(table_path))
@@ -228,7 +228,7 @@ static int64_t new_entry(void)
     return first;
 }
 
-/* The number of an unused entry, or -1 where there is none left. */
+/* The number of an unused entry, or -1 if there is none left. */
 int64_t take_entry(void)
 {
     struct unused *own = own_stack(), *stack = own;
@@ -243,7 +243,7 @@ int64_t take_entry(void)
     return new_entry();
 }
 
-/* The number of a new leaf, or -1 where there is no room for one. */
+/* The number of a new leaf, or -1 if there is no room for one. */
 int64_t new_leaf(void)
 {
     _Atomic uint64_t *leaves = (_Atomic uint64_t *)&table.head->leaves;

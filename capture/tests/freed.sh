@@ -48,7 +48,7 @@ settle "$child"
 freed freed-child freed.c "$child"
 stop $process $child
 
-# Where a block is just being moved, or one found no place in the table, no memory is said to be free.
+# If a block is just being moved, or one found no place in the table, no memory is said to be free.
 if [ "$attaches" ]; then
     build moving.c
     gcc -O1 -shared -fPIC "$kit/tests/stopped.c" -o stopped.so

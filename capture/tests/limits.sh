@@ -1,4 +1,4 @@
-# A program that limits its own memory must run as it does untraced. Where its table can't grow any more it lives on, and the
+# A program that limits its own memory must run as it does untraced. If its table can't grow any more it lives on, and the
 # log says how many blocks are missing.
 section a limit of memory that the program sets
 build limited.c

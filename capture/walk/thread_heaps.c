@@ -32,7 +32,7 @@ static int is_begun(struct heap *heap, const struct arena *arena, uint64_t top, 
     return arena->top == arena->top_at || (!top && is_word(heap->core, start + CHUNK_HEAD, 0) && is_fresh(heap, start, limit));
 }
 
-/* What is known of the heap's chunks, where the chain of them breaks. */
+/* What is known of the heap's chunks, if the chain of them breaks. */
 static void break_off(struct heap *heap, struct region *region, const struct chain *chain)
 {
     tell_break(heap, "a thread's heap", region->start, chain);
