@@ -75,7 +75,7 @@ extern const char *table_name;      /* the path, with %p for the pid */
 extern const char *program_name;
 extern uint64_t most_blocks;
 
-/* close(), which the program or another library may have a version of its own of. */
+/* close(): the program or another library may have a version of its own. */
 static inline void shut(int file)
 {
     syscall(SYS_close, file);

@@ -22,7 +22,7 @@ verdict 'a second log after such a one' 'unknown 0 displaced 0 torn 0' \
 stop $process
 rm -f full.core full2.core
 
-# With few first cells in its directories the library soon needs the further ones, which else are for heaps above 2 GiB.
+# With few first cells in its directories the library soon needs the further ones, which otherwise are for heaps above 2 GiB.
 section a heap of many regions
 mkdir -p few && cp "$kit/leak_trace" few
 gcc -std=gnu11 -O2 -g -DFEW_CELLS -fPIC -fvisibility=hidden -ftls-model=initial-exec -shared -static-libgcc -Wl,-z,initfirst \

@@ -10,7 +10,7 @@ build walk_stepped.c
 build walk_sparse.c
 walk=$kit/leak_walk
 
-# walked NAME [MORE]: the log of the heap of NAME.core against the table's log. So many blocks may be in the heap alone.
+# walked NAME [MORE]: the log of the heap of NAME.core against the table's log. MORE blocks may be in the heap alone.
 walked() {
     local said
     verdict "$1: its log is by the table" 1 "$(grep -c '^= leak_log moment' "$1.log")"

@@ -90,7 +90,7 @@ const struct arena *main_arena(const struct heap *heap)
     return heap->arenas + i;
 }
 
-/* Behind the arena's own words. */
+/* After the arena's own words. */
 uint64_t end_of(const struct arena *arena)
 {
     return arena->top_at + TO_END;

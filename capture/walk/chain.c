@@ -90,7 +90,7 @@ struct chain run_as_is(struct heap *heap, struct chain chain)
     return run(heap, chain, 0);
 }
 
-/* The chain that goes on over the top's begin, if a thread has that in hand: malloc that cuts a chunk from the top, free
+/* The chain that goes on over the top's beginning, if a thread has that in hand: malloc that cuts a chunk from the top, free
  * that joins one to it, or realloc whose block just grew into it, and is in use up to where the top will be. */
 static struct chain over_top(struct heap *heap, struct chain chain)
 {

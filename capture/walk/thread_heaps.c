@@ -26,7 +26,7 @@ static int is_fresh(struct heap *heap, uint64_t from, uint64_t to)
 }
 
 /* Whether the heap has no chunk yet: its arena is just being made, and its first top is the first bin; or the arena takes
- * this heap next, and its top is yet in the one before. */
+ * this heap next, and its top is still in the one before. */
 static int is_begun(struct heap *heap, const struct arena *arena, uint64_t top, uint64_t start, uint64_t limit)
 {
     return arena->top == arena->top_at || (!top && is_word(heap->core, start + CHUNK_HEAD, 0) && is_fresh(heap, start, limit));

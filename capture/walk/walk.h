@@ -68,7 +68,7 @@ struct due {
  * arena has one region for each of its heaps. */
 struct region {
     uint64_t start, end;        /* of the chunks */
-    uint64_t top;               /* the chunk at the end that is yet unused, or 0 */
+    uint64_t top;               /* the chunk at the end that is still unused, or 0 */
     uint64_t limit;             /* the end of the memory */
     uint64_t gap_end;           /* with --partial: from `end` up to here are chunks that nobody knows; else 0 */
     const struct arena *arena;
@@ -108,7 +108,7 @@ struct heap {
     struct tally odd_chunks, odd_lists; /* free chunks without their size after them; lists that lead nowhere */
 };
 
-/* Where a chain of chunks stops: at the top chunk; at a chunk that goes on over the top's begin, as it is just being cut
+/* Where a chain of chunks stops: at the top chunk; at a chunk that goes on over the top's beginning, as it is just being cut
  * from the top or joined to it; at what was the top before a thread's next heap was begun; at the marker of a heap that is
  * full; at the fences of a main arena; or where no chunk can be. */
 enum stop { AT_TOP, OVER_TOP, AT_OLD_TOP, AT_MARKER, AT_FENCES, BROKEN };
