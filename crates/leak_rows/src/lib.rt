@@ -13,7 +13,8 @@
 //! - exit statuses (`worked_statuses`).
 //!
 //! [`blocks_fit_if_in_use`] is about every heap that a list of chunks lays out as bytes: a block fits it exactly if its chunk is in
-//! use. The model has no mappings, and no chunk of a fast bin or of a thread's cache, which are free and say that they are in use.
+//! use. So it has no misfit if the live blocks are those of its chunks in use ([`live_heaps_fit`]); [`worked_heap`] computes one such heap.
+//! The model has no mappings, and no chunk of a fast bin or of a thread's cache, which are free and say that they are in use.
 //!
 //! Shortest chains are checked by levels that no word skips, reached blocks by a list in which each is led to by one before it.
 #![tactic(auto)]
