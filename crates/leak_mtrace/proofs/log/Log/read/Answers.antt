@@ -1,1 +1,1 @@
--- From what the calls promise.
+-- No goal needs an answer.
