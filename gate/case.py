@@ -40,7 +40,7 @@ def case(name, reason, line, files, stdout="", stderr="", status=0, places=None)
 
 
 def status_of(report):
-    """0 where the report says that nothing leaked, and 1 otherwise."""
+    """0 if the report says that nothing leaked, and 1 otherwise."""
     return 0 if "\nleaked 0 " in report else 1
 
 
@@ -78,5 +78,5 @@ def by_plans(cases):
 
 
 def with_plan(given, plan):
-    """The case by a plan: no answer rests on it."""
+    """The case by a plan: no answer depends on it."""
     return replace(given, name=f"{given.name}, {plan}", words=given.words + words_of(plan))

@@ -57,7 +57,7 @@ def changes(folder, files):
 
 
 def command_of(case, program):
-    """The words of the run, through a shell where a stream is to be closed. The program is called by its usual name."""
+    """The words of the run, through a shell if a stream is to be closed. The program is called by its usual name."""
     closed = closings(case)
     return ["sh", "-c", f'exec "$0" "$@" {closed}', program, *case.words] if closed else ["leak_find", *case.words]
 
@@ -82,7 +82,7 @@ def start(case, program, folder):
 
 
 def ended(process, seconds):
-    """What the run wrote, or None where it has to be killed."""
+    """What the run wrote, or None if it has to be killed."""
     try:
         return process.communicate(timeout=seconds)
     except subprocess.TimeoutExpired:
@@ -100,7 +100,7 @@ def difference(title, wanted, got):
 
 
 def lines_of(content):
-    """The lines of bytes, so that each byte can be seen. What follows the last line feed is a line where it is not empty."""
+    """The lines of bytes, so that each byte can be seen. What follows the last line feed is a line if it is not empty."""
     *whole, rest = content.split(b"\n")
     return [repr(line + b"\n")[2:-1] for line in whole] + ([repr(rest)[2:-1]] if rest else [])
 

@@ -1,5 +1,5 @@
 #!/usr/bin/env python3
-"""Shows that cases.py fails where a run is not as its case says, by shell scripts in place of the program.
+"""Shows that cases.py fails if a run is not as its case says, by shell scripts in place of the program.
 
     python3 gate/cases_test.py
 
@@ -118,7 +118,7 @@ def whole_runs(folder):
 
 
 def with_cases(given, run):
-    """What the call gives where these are all cases."""
+    """What the call gives if these are all cases."""
     kept, rows.all_cases = rows.all_cases, lambda: given
     try:
         return run()

@@ -6,16 +6,16 @@ A part is a function that changes the bytes of a core. The later part wins.
 import struct
 
 SIZE = 8192          # bytes of the sample core
-SEGMENT = 0x1000     # where its segment stands in the file
+SEGMENT = 0x1000     # where its segment is in the file
 START = 0x10000      # the address of the segment
-NOTES = 176          # where its part of notes stands
-HEADERS = 64         # where its program headers stand
+NOTES = 176          # where its part of notes is
+HEADERS = 64         # where its program headers are
 ONE_BLOCK = "@ ./a.out:[0x401136] + 0x10100 0x20\n"
 TWO_BLOCKS = "+ 0x10100 0x20\n+ 0x10200 0x10\n"
 
 
 def little(value, size=8):
-    """The number in so many bytes, the least first."""
+    """The number in this many bytes, the lowest first."""
     return value.to_bytes(size, "little")
 
 
@@ -30,7 +30,7 @@ def status_entry():
 
 
 def file_header(count):
-    """The header of a core with so many program headers."""
+    """The header of a core with this many program headers."""
     start = b"\x7fELF\x02\x01\x01" + bytes(9) + little(4, 2) + little(62, 2) + little(1, 4)
     return start + bytes(8) + little(HEADERS) + bytes(12) + little(64, 2) + little(56, 2) + little(count, 2) + bytes(6)
 
@@ -46,7 +46,7 @@ def core(*parts):
 
 
 def core_of_three(third, *parts):
-    """The sample core with a third program header, before the notes, which then stand at 232."""
+    """The sample core with a third program header, before the notes, which are then at 232."""
     image = bytearray(SIZE)
     image[0:64] = file_header(3)
     image[64:120] = header(4, 0, 232, 0, 356, 0)
@@ -71,7 +71,7 @@ def at(offset, content):
 
 
 def field(offset, value, size):
-    """A number of so many bytes at the file offset."""
+    """A number of this many bytes at the file offset."""
     return at(offset, little(value, size))
 
 
@@ -104,12 +104,12 @@ def read_only():
 
 
 def dumped(count):
-    """So many bytes of the segment are in the file: its p_filesz."""
+    """This many bytes of the segment are in the file: its p_filesz."""
     return field(152, count, 8)
 
 
 def notes(count):
-    """The part of notes has so many bytes: its p_filesz."""
+    """The part of notes has this many bytes: its p_filesz."""
     return field(96, count, 8)
 
 
@@ -119,7 +119,7 @@ def other_note():
 
 
 def first(count):
-    """Only so many bytes are left of the file."""
+    """Only this many bytes are left of the file."""
     def change(image):
         del image[count:]
     return change
@@ -135,7 +135,7 @@ def second_thread(r15):
 
 
 def vectors():
-    """A vector entry (type 2, 512 bytes) at 532: its st0 stands at 584, its xmm0 at 712, and xmm15 ends at 968."""
+    """A vector entry (type 2, 512 bytes) at 532: its st0 is at 584, its xmm0 at 712, and xmm15 ends at 968."""
     def change(image):
         notes(888)(image)
         image[532:552] = fields(b"CORE", 512, 2)
@@ -148,7 +148,7 @@ def fields(name, size, kind):
 
 
 def state(size, name=b"LINUX", kind=0x202):
-    """A state entry of so many bytes at 532: its descriptor begins at 552."""
+    """A state entry of this many bytes at 532: its descriptor begins at 552."""
     def change(image):
         notes(376 + size)(image)
         image[532:552] = fields(name, size, kind)
@@ -156,7 +156,7 @@ def state(size, name=b"LINUX", kind=0x202):
 
 
 def threads(count, size):
-    """So many threads, each with a status, a vector entry and a state entry of so many bytes, in a part behind the segment."""
+    """`count` threads, each with a status, a vector entry and a state entry of `size` bytes, in a part after the segment."""
     def change(image):
         zeros = status_entry() + fields(b"CORE", 512, 2) + bytes(512) + fields(b"LINUX", size, 0x202) + bytes(size)
         image[72:80] = little(SIZE)
@@ -166,13 +166,13 @@ def threads(count, size):
 
 
 def in_thread(number, size, kind, offset):
-    """Where a byte of a descriptor stands, with `threads`: of the thread with the number from 1, by the kind of its entry."""
+    """Where a byte of a descriptor is, with `threads`: of the thread with the number from 1, by the kind of its entry."""
     begins = {"status": 20, "vector": 376, "state": 908}[kind]
     return SIZE + (number - 1) * (908 + size) + begins + offset
 
 
 def section_count(offset, count):
-    """The number of program headers stands in section header 0, which begins at the offset."""
+    """The number of program headers is in section header 0, which begins at the offset."""
     def change(image):
         image[40:48] = little(offset)
         image[56:58] = b"\xff\xff"
@@ -181,7 +181,7 @@ def section_count(offset, count):
 
 
 def chain():
-    """A core and a log of a hundred blocks of 16 bytes, each but the last holding the start of the next."""
+    """A core and a log of a hundred blocks of 16 bytes, each except the last holding the start of the next."""
     starts = [0x10200 + 0x20 * i for i in range(100)]
     links = [word(start, start + 0x20) for start in starts[:-1]]
     log = "".join(f"+ {start:#x} 0x10\n" for start in starts)

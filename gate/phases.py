@@ -1,10 +1,10 @@
 """phases.py [PART [WORD..]]: passes everything, phase by phase, or one part alone, and counts it all together.
 
 A phase is a row of shell commands. One that counts must end its standard output with `NAME: N passed, M failed`, with the NAME
-that is its own; of the others only the status counts, and only where it is not 0. A phase has a time limit, so that a hang says
+that is its own; of the others only the status counts, and only if it is not 0. A phase has a time limit, so that a hang says
 where it is. The words after PART go to the last command of the part.
 
-The last line is `N passed, M failed`, the sum. The status is 0 where nothing failed, 1 where something did, and 2 where PART
+The last line is `N passed, M failed`, the sum. The status is 0 if nothing failed, 1 if something did, and 2 if PART
 names no phase.
 """
 import glob
@@ -25,13 +25,13 @@ RECORDED = " --recorded" if os.environ.get("CI") == "true" else ""
 
 
 class Step(NamedTuple):
-    """A shell command, and the words that stand before its count; None where it counts nothing, and must end with status 0."""
+    """A shell command, and the words that come before its count; None if it counts nothing, and must end with status 0."""
     command: str
     count: str | None = None
 
 
 class Phase(NamedTuple):
-    """A part: its time limit in minutes, the files that it stands on as patterns, and its steps."""
+    """A part: its time limit in minutes, the files that it depends on as patterns, and its steps."""
     name: str
     minutes: float
     stands_on: tuple
@@ -56,7 +56,7 @@ PHASES = (
 
 
 class Result(NamedTuple):
-    """What a phase or a step passed and failed, and why it failed where the count does not say so."""
+    """What a phase or a step passed and failed, and why it failed if the count does not say so."""
     passed: int = 0
     failed: int = 0
     faults: tuple = ()
@@ -74,7 +74,7 @@ def fault(text):
 
 
 def say(text):
-    """Writes a line at once, so that it stands where it belongs among those of the commands."""
+    """Writes a line at once, so that it is where it belongs among those of the commands."""
     print(text, flush=True)
 
 
@@ -101,7 +101,7 @@ def stop_group(process):
 
 
 def run(command, seconds):
-    """Runs a shell command in the top folder. Gives its status, or None where the time was up, and its last line."""
+    """Runs a shell command in the top folder. Gives its status, or None if the time was up, and its last line."""
     process = subprocess.Popen(["sh", "-c", command], cwd=ROOT, stdin=subprocess.DEVNULL, stdout=subprocess.PIPE,
                                start_new_session=True)
     lines = []
@@ -113,7 +113,7 @@ def run(command, seconds):
         status = None
     finally:
         stop_group(process)
-    reader.join(timeout=10)  # a program in another session may hold the pipe for ever
+    reader.join(timeout=10)  # a program in another session may hold the pipe forever
     return status, "".join(lines)
 
 

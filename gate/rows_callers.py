@@ -38,7 +38,7 @@ def of_equal_bytes():
 
 
 def of_more_blocks():
-    """A caller has one row, wherever its blocks stand."""
+    """A caller has one row, wherever its blocks are."""
     return [
         lost_blocks("in turn", "two blocks of one caller have more bytes", ["./b:[0x1]", "./a:1", "./a:2", "./a:1"],
                     [("./a:1", 2), ("./a:2", 1), ("./b:[0x1]", 1)]),
@@ -57,7 +57,7 @@ def of_one_head():
 
 
 def of_odd_bytes():
-    """A caller that is no UTF-8, and one of each byte but the line feed. It ends at its last bracket, so that one stands last."""
+    """A caller that is no UTF-8, and one of each byte but the line feed. It ends at its last bracket, so that one is last."""
     found = []
     every = bytes(byte for byte in range(256) if byte not in b"\n]") + b"]"
     for name, text in (("no UTF-8", b"\xff\xfe"), ("each byte", every)):

@@ -1,4 +1,4 @@
-"""Searches with --skip-ends: the address one past a block's last byte leads to it no more.
+"""Searches with --skip-ends: the address one past a block's last byte no longer leads to it.
 
 The word at 0x10008 is a root. The block of 32 bytes at 0x10100 ends at 0x10120, where another may begin.
 """
@@ -23,7 +23,7 @@ CHAIN = words((0x10008, 0x10200), (0x10200, 0x10120))
 
 
 def first_lost(blocks, size, **others):
-    """The report where of so many blocks with so many bytes in all the one at 0x10100 leaked, and the others are marked."""
+    """The report of this many blocks with this many bytes in all, if the one at 0x10100 leaked and the others are marked."""
     return report((blocks, size), (blocks - 1, size - 32), (1, 32), 1, "caller 1 32 1 ?", "leak 0x10100 32 1 head ?", **others)
 
 
@@ -56,7 +56,7 @@ def of_one_word():
 
 
 def of_chains():
-    """Ends in words of blocks: they lead on no more, and hold no leaked block."""
+    """Ends in words of blocks: they no longer lead on, and hold no leaked block."""
     holder, second = core(word(0x10200, 0x10120)), "leak 0x10200 16 2 head ?"
     return [
         one("ends: a chain by the start of a neighbor", "the word of the third block leads to both", core(CHAIN), THREE_BLOCKS,

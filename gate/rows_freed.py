@@ -12,7 +12,7 @@ FREED = "--other-heap --skip-freed"
 
 
 def leaked(line, freed, address=0x10200, **others):
-    """The report where the one block that is left leaked."""
+    """The report if the one block that is left leaked."""
     lines = ("caller 1 16 1 ?", f"leak {address:#x} 16 {line} head ?")
     return report((1, 16), (0, 0), (1, 16), 1, *lines, freed=freed, **others)
 

@@ -37,7 +37,7 @@ def holders(name, reason, image, log, text, options="--other-heap", warnings="",
 
 
 def all_reached(blocks, *rows, **others):
-    """The report where each block is reached."""
+    """The report if each block is reached."""
     return told(blocks, blocks, (0, 0), *rows, **others)
 
 

@@ -17,7 +17,7 @@ BOTH = "--other-heap --skip-links --skip-freed"
 
 
 def lost(size=32, **others):
-    """The report where the block at 0x10100 leaked."""
+    """The report if the block at 0x10100 leaked."""
     return report((1, size), (0, 0), (1, size), 1, f"caller 1 {size} 1 ?", f"leak 0x10100 {size} 1 head ?", **others)
 
 

@@ -10,7 +10,7 @@ from rows_why import ONE, directly, told
 from texts import all_marked, held, lost, report
 
 ALL = "--other-heap --all-memory"
-PLACE = 0x800  # where the other segment stands in the file, and how many bytes it has
+PLACE = 0x800  # where the other segment is in the file, and how many bytes it has
 HELD = word(0x10008, 0x10100)
 UNWRITABLE = {"read-only": 4, "without rights": 0, "to be run": 5, "to be run alone": 1}
 WRITABLE = {"writable": 6, "writable alone": 2, "of all rights": 7}

@@ -105,7 +105,7 @@ def of_callers():
 
 
 def of_vectors():
-    """A word in the vector entry, beside its registers and in them: st0 stands at 584, xmm0 at 712, and xmm15 ends at 968."""
+    """A word in the vector entry, beside its registers and in them: st0 is at 584, xmm0 at 712, and xmm15 ends at 968."""
     rows = [("low half of st0", 584, held()), ("high half of st7", 704, held()), ("low half of xmm0", 712, held()),
             ("high half of xmm0", 720, held()), ("low half of xmm15", 952, held()), ("high half of xmm15", 960, held()),
             ("before st0", 576, lost()), ("after xmm15", 968, lost()), ("first word of the entry", 552, lost())]
@@ -114,7 +114,7 @@ def of_vectors():
 
 
 def of_states():
-    """A word in the state entry, of several sizes: its header ends at 576, and a word counts where it stands whole."""
+    """A word in the state entry, of several sizes: its header ends at 576, and a word counts if it is complete."""
     rows = [("first upper half of ymm0", state(2696), 576, held()), ("last upper half of ymm15", state(2696), 824, held()),
             ("a word of AVX-512", state(2696), 1152, held()), ("the last word", state(2696), 2688, held()),
             ("last word of the header", state(2696), 568, lost()), ("what it repeats of xmm0", state(2696), 160, lost()),
@@ -149,13 +149,13 @@ def of_headers():
 
 
 def many_headers():
-    """The sample with a root word and 70,000 program headers behind it."""
+    """The sample with a root word and 70,000 program headers after it."""
     sample = core(word(0x10008, 0x10100), section_count(600, 70_000), at(32, little(8192)))
     return sample + core()[64:176] + bytes(56 * 69_998)
 
 
 def many_segments(value):
-    """The sample with 70,000 segments more of one word each, all at file offset 4096, where it is 0, but the last at 1000."""
+    """The sample with 70,000 segments more of one word each, all at file offset 4096, where the word is 0, except the last, at 1000."""
     sample = core(section_count(600, 70_002), at(32, little(8192)), at(1000, little(value)))
     places = [4096] * 69_999 + [1000]
     return sample + core()[64:176] + b"".join(header(1, 6, place, 0x1000000 + 4096 * i, 8, 8) for i, place in enumerate(places))

@@ -12,7 +12,7 @@ from rows_why import directly, told
 from texts import report
 
 LOG = "+ 0x10100 0x20\n+ 0x10200 0x28\n+ 0x10300 0x20\n+ 0x10400 0x20\n+ 0x10500 0x20\n- 0x10500\n+ 0x10600 0x20\n"
-PLACE = 0x800  # where the read-only segment at 0x20000 stands in the file, and how many bytes it has
+PLACE = 0x800  # where the read-only segment at 0x20000 is in the file, and how many bytes it has
 # The block, its size and line; the option; whether the block is held without it; and the place and value of the word.
 BLOCKS = ((0x10100, 32, 1, "--skip-freed", True, 0x10508, 0x10100),
           (0x10200, 40, 2, "--skip-links", True, 0x10018, 0x10220),
@@ -35,7 +35,7 @@ def image():
 
 
 def is_held(block, options):
-    """Whether the block is held where these options are given."""
+    """Whether the block is held if these options are given."""
     return block[4] != (block[3] in options)
 
 

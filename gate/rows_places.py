@@ -80,7 +80,7 @@ def of_denied():
 
 
 def of_names():
-    """Names of files. One refusal is one line: control characters and backslashes of a path are escaped, and all else stands as it is."""
+    """Names of files. One refusal is one line: control characters and backslashes of a path are escaped, and all else stays as it is."""
     log = {"trace.log": ONE_BLOCK}
     odd = "a b\tc\u00e9"
     escaped = [("a line end", FORGED, "core\\nleak_find: warning: input 1: forged"), ("a carriage return", "a\rb", "a\\rb"),
@@ -113,7 +113,7 @@ def of_names():
 
 
 def of_streams():
-    """Where the report can't be written there is no warning; where warnings can't be written the report and the status stand."""
+    """If the report can't be written there is no warning; if warnings can't be written the report and the status stay."""
     line, failed = "one core.k trace.log --strict", refusal("write failed after 0 bytes")
     none = "nothing of the report was taken"
     answer = "asked 0x10100 32 1 ./a.out:[0x401136]\nroot 0x10008 holds 0x10100\nblock 0x10100 32 1 ./a.out:[0x401136]\n"

@@ -40,7 +40,7 @@ def text_of(lines):
 
 
 def asked(name, reason, image, log, options, lines, since=None, warnings="", status=0):
-    """A question, with an earlier log where there is one."""
+    """A question, with an earlier log if there is one."""
     files = {"core.k": image, "trace.log": log}
     if since is not None:
         files["earlier.log"], options = since, f"{options} --since earlier.log"
@@ -70,7 +70,7 @@ def worked():
 
 
 def worked_since():
-    """Answers by hand where only later blocks count."""
+    """Answers by hand if only later blocks count."""
     image, two_lines = core(words(*LINKS)), "".join(LIST.splitlines(True)[:5])
     log = "@ a:[0x1] + 0x10100 0x20\n@ b:[0x2] + 0x10200 0x10\n"
     linked = core(words((0x10008, 0x10100), (0x10100, 0x10200)))
@@ -123,7 +123,7 @@ def by_definition():
 
 
 def since_by_definition(name, heap, image, log):
-    """The whole report where later blocks alone count."""
+    """The whole report if only later blocks count."""
     first, lines = earlier(log)
     total = sum(block.size for block in heap.blocks)
     head = [f"blocks {len(heap.blocks)} bytes {total}", "undumped 0", "unknown 0 displaced 0 torn 0"]

@@ -22,12 +22,12 @@ def image(*set_words, holds=0x10100):
 
 
 def lost(size=8, line=2, **others):
-    """The report where the block at 0x10200 leaked, and the other, of that size, is held."""
+    """The report if the block at 0x10200 leaked, and the other, of that size, is held."""
     return report((2, 16 + size), (1, size), (1, 16), 1, "caller 1 16 1 ?", f"leak 0x10200 16 {line} head ?", **others)
 
 
 def held(size=8, **others):
-    """The report where both blocks are held."""
+    """The report if both blocks are held."""
     return report((2, 16 + size), (2, 16 + size), (0, 0), 0, **others)
 
 

@@ -18,7 +18,7 @@ def told(asked, *lines):
 
 
 def directly(block, place, value):
-    """The answer where a root word leads to the block."""
+    """The answer if a root word leads to the block."""
     return told(block, f"root {place} holds {value:#x}", f"block {block}")
 
 

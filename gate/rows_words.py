@@ -178,7 +178,7 @@ def of_lists():
 
 
 def of_taken_words():
-    """Where options stand, and words that begin with a dash."""
+    """The places of options, and words that begin with a dash."""
     files, warned = {"-a": core(word(0x10008, 0x10110)), "-b": ONE_BLOCK}, misfits(1, 1)
     image = core(word(0x10008, 0x10110))
     lines = ["one --workers=64 --piece=65536 --stack=65536 -- -a -b", "one --workers 1 --piece=1 --stack 0 -- -a -b"]

@@ -31,7 +31,7 @@ def wanted():
 
 
 def log():
-    """So many blocks of a byte, each of a caller of its own."""
+    """This many blocks of a byte, each of a caller of its own."""
     return "".join(f"@ ./a.out:[0x{number:x}] + 0x{0x10100 + 2 * number:x} 0x1\n" for number in range(TEXTS)).encode()
 
 

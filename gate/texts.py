@@ -17,18 +17,18 @@ def report(blocks, marked, leaked, heads, *lines, undumped=0, signs=(0, 0, 0), f
 
 
 def lost(**others):
-    """The report where the one block leaked."""
+    """The report if the one block leaked."""
     caller = "caller 1 32 1 ./a.out:[0x401136]"
     return report((1, 32), (0, 0), (1, 32), 1, caller, "leak 0x10100 32 1 head ./a.out:[0x401136]", **others)
 
 
 def held(**others):
-    """The report where the one block is marked."""
+    """The report if the one block is marked."""
     return report((1, 32), (1, 32), (0, 0), 0, **others)
 
 
 def all_marked(blocks, size, **others):
-    """The report where each block is marked."""
+    """The report if each block is marked."""
     return report((blocks, size), (blocks, size), (0, 0), 0, **others)
 
 

@@ -8,7 +8,7 @@ static int has(struct file file, uint64_t at, uint64_t size)
     return at <= file.size && size <= file.size - at;
 }
 
-/* How many there are: by the first section header where they are too many for the file's header (gABI, extended numbering). */
+/* How many there are: by the first section header if they are too many for the file's header (gABI, extended numbering). */
 static uint64_t count_of(struct file core, const Elf64_Ehdr *header)
 {
     Elf64_Shdr section;
@@ -38,7 +38,7 @@ struct headers headers_of(struct file core)
     return (struct headers){ core.bytes + header.e_phoff, count };
 }
 
-/* A header, of which the file has what it says where that is asked for: memory and notes. */
+/* A header, of which the file has what it says if that is asked for: memory and notes. */
 Elf64_Phdr header_at(struct file core, struct headers headers, uint64_t number)
 {
     Elf64_Phdr p;
@@ -49,7 +49,7 @@ Elf64_Phdr header_at(struct file core, struct headers headers, uint64_t number)
     return p;
 }
 
-/* Reads the note at `*at`, and goes on behind it. Gives 0 where there is none. */
+/* Reads the note at `*at`, and goes on after it. Gives 0 if there is none. */
 int next_note(const uint8_t **at, const uint8_t *end, struct note *note)
 {
     Elf64_Nhdr head;

@@ -1,4 +1,4 @@
-/* Files, mapped whole, and lines of earlier logs. */
+/* Files, mapped completely, and lines of earlier logs. */
 #include <errno.h>
 #include <fcntl.h>
 #include <string.h>
@@ -32,7 +32,7 @@ int begins(const char *at, const char *stop, const char *with)
     return (size_t)(stop - at) > strlen(with) && !memcmp(at, with, strlen(with));
 }
 
-/* Where the line ends that begins there. A log that was made whole has an end of its last line too. */
+/* Where the line ends that begins there. A log that was made completely has an end of its last line too. */
 const char *end_of_line(struct file log, const char *at)
 {
     const char *stop = memchr(at, '\n', (const char *)log.bytes + log.size - at);

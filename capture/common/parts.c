@@ -53,7 +53,7 @@ static const struct part *first_of(const struct parts *parts, const struct part 
     return part;
 }
 
-/* The first PT_LOAD header of an ELF file. Gives 0 where it has none. */
+/* The first PT_LOAD header of an ELF file. Gives 0 if it has none. */
 static int first_load(int file, Elf64_Phdr *p)
 {
     Elf64_Ehdr header;

@@ -1,4 +1,4 @@
-/* Messages, each a line of standard error, and the end where one is of a fault. */
+/* Messages, each a line of standard error, and the end if one is of a fault. */
 #include <stdio.h>
 #include <stdlib.h>
 #include <string.h>

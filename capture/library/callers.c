@@ -14,7 +14,7 @@ struct walk {
     size_t depth, wanted;
 };
 
-/* A frame that the unwinder found. From the caller on, which stands in the walk already, each is kept. */
+/* A frame that the unwinder found. From the caller on, which is in the walk already, each is kept. */
 static _Unwind_Reason_Code take_frame(struct _Unwind_Context *context, void *into)
 {
     struct walk *walk = into;
@@ -25,7 +25,7 @@ static _Unwind_Reason_Code take_frame(struct _Unwind_Context *context, void *int
     return walk->depth < walk->wanted ? _URC_NO_REASON : _URC_NORMAL_STOP;
 }
 
-/* The rule of a frame, remembered from an earlier walk where it can be. */
+/* The rule of a frame, remembered from an earlier walk if it can be. */
 static uint64_t rule_of(uintptr_t address)
 {
     struct rule_cell *cell = &finder->rules[(address * 0x9E3779B97F4A7C15ull) >> 52];
@@ -67,7 +67,7 @@ static void take_stack(struct walk *walk, struct caller caller)
     }
 }
 
-/* Another library may come to stand where one was. */
+/* Another library may be mapped where one was. */
 void forget_rules(void)
 {
     for (int k = 0; tracing() && k < RULES; k++)

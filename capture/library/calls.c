@@ -16,7 +16,7 @@
 #define REAL(call) static __typeof__(call) *real_##call;
 CALLS(REAL)
 
-/* Finds the real calls, malloc as the last. dlsym may allocate, and takes it well where it gets nothing. */
+/* Finds the real calls, malloc as the last. dlsym may allocate, and copes if it gets nothing. */
 static int resolve(void)
 {
     static __thread int resolving;

@@ -80,8 +80,8 @@ static size_t length_of(char *const *environment)
     return count;
 }
 
-/* Writes the environment, with our variables where they are missing, into `list`. A value of LD_PRELOAD that has other libraries
- * than ours goes on behind ours, in `preload`. */
+/* Writes the environment, with our variables if they are missing, into `list`. A value of LD_PRELOAD that has other libraries
+ * than ours goes on after ours, in `preload`. */
 static void add_variables(char *const *environment, char **list, char *preload)
 {
     size_t count = 0;
@@ -110,7 +110,7 @@ void tell_untraced(struct table_head *head, uint64_t pid, const char *program)
     child->pid = pid;
 }
 
-/* Says that this process goes on as another program. Where that one is traced it removes this table. A child of vfork has
+/* Says that this process goes on as another program. If that one is traced it removes this table. A child of vfork has
  * none. */
 static void tell_exec(const char *program, int is_traced)
 {

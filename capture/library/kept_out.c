@@ -27,7 +27,7 @@ static void keep_out(uint64_t start, uint64_t bytes)
     atomic_fetch_add((_Atomic uint64_t *)&table.head->kept_out_missed, 1);
 }
 
-/* Takes the memory out of what is kept out: a place may lose its begin, its end, both, or its middle. */
+/* Takes the memory out of what is kept out: a place may lose its beginning, its end, both, or its middle. */
 static void let_in(uint64_t start, uint64_t end)
 {
     for (int i = 0; i < MOST_KEPT_OUT; i++) {

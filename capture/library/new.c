@@ -6,7 +6,7 @@
 
 #include "trace.h"
 
-/* The operator that stands behind this one. A C program may have loaded a library of C++ for that library
+/* The operator that comes after this one. A C program may have loaded a library of C++ for that library
  * alone: then it is in none of the scopes that RTLD_NEXT searches. */
 static void *next_operator(const char *symbol)
 {

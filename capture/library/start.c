@@ -5,7 +5,7 @@
  * LEAK_TRACE_BLOCKS    for how many live blocks there is room (default 64 Mi)
  * LEAK_TRACE_FORK      0: a child of fork is not traced
  * LEAK_TRACE_WIPE      1: a block is set to 0 before it is freed, so that no stale word in it hides a leak
- * LEAK_TRACE_KEEP      1: the table stays where the process ends by itself
+ * LEAK_TRACE_KEEP      1: the table stays if the process ends by itself
  * LEAK_TRACE_EXEC      1: these variables and LD_PRELOAD are handed on to programs that are run without them
  * LEAK_TRACE_LIMIT     how many megabytes all tables of a folder may take (default a quarter of its file system) */
 #define _GNU_SOURCE
@@ -24,7 +24,7 @@ int frees_wipe, tables_stay, execs_are_traced;
 uint64_t most_megabytes;
 static struct stat first_error;
 
-/* Says in one line why there is no table, or by errno where `why` is null. Standard error is written to only while it is the
+/* Says in one line why there is no table, or by errno if `why` is null. Standard error is written to only while it is the
  * file that it was at the start: a daemon may have put a connection, or its data, in that place. */
 void complain(const char *what, const char *why)
 {

@@ -21,7 +21,7 @@ struct caller {
     uintptr_t address, rbp, stack;
 };
 
-/* The caller of the function that this stands in. */
+/* The caller of the function that this is in. */
 #define CALLER() (struct caller){ (uintptr_t)__builtin_return_address(0), \
         *(uintptr_t *)__builtin_frame_address(0), (uintptr_t)__builtin_frame_address(0) + 16 }
 
@@ -36,7 +36,7 @@ struct area {
     uint32_t bytes, first_bits;     /* of a record */
     int is_private;
     _Atomic uint32_t full;
-    _Atomic uintptr_t extents[EXTENTS];     /* where its record 0 would lie; 0 where it is not there yet */
+    _Atomic uintptr_t extents[EXTENTS];     /* where its record 0 would lie; 0 if it is not there yet */
 };
 
 static inline unsigned extent_of(uint64_t number, unsigned first_bits)
@@ -75,7 +75,7 @@ extern const char *table_name;      /* the path, with %p for the pid */
 extern const char *program_name;
 extern uint64_t most_blocks;
 
-/* close(), which the program or another library may have a version of its own of. */
+/* close(): the program or another library may have a version of its own. */
 static inline void shut(int file)
 {
     syscall(SYS_close, file);
@@ -110,7 +110,7 @@ static inline void put(_Atomic uint64_t *word, uint64_t value)
 
 /* ---- directory.c: from a region of the heap to a record ---- */
 
-/* A cell is 0 (never used), or a key of 36 bits and below it the number of a record. Where the first cells are taken, there are
+/* A cell is 0 (never used), or a key of 36 bits and below it the number of a record. If the first cells are taken, there are
  * more, which are mapped then. */
 #ifdef FEW_CELLS        /* for a test */
 enum { DIRECTORY_BITS = 10 };

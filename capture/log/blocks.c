@@ -19,7 +19,7 @@ static int by_start_and_stamp(const void *a, const void *b)
     return x->start != y->start ? (x->start < y->start ? -1 : 1) : by_stamp(a, b);
 }
 
-/* Sorts by start, and keeps of the blocks with one start the newest, where it is one (its size is not 0 or
+/* Sorts by start, and keeps of the blocks with one start the newest, if it is one (its size is not 0 or
  * `even_empty` is set). Gives how many are dropped. */
 static size_t keep_newest(struct blocks *blocks, int even_empty)
 {
@@ -85,7 +85,7 @@ struct blocks read_table(struct file file, const struct core *core)
     return blocks;
 }
 
-/* What an earlier log of leak_log leaves live: of each start the last line, where it allocates. */
+/* What an earlier log of leak_log leaves live: of each start the last line, if it allocates. */
 struct blocks read_log(struct file file)
 {
     static const char head[] = "= leak_log moment 0x", base[] = " table 0x", came[] = "] + 0x", went[] = "- 0x", freed[] = "+ 0x",

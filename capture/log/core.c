@@ -59,7 +59,7 @@ void tell_undumped(const struct core *core, const struct table_head *head)
              (unsigned long long)all, (unsigned long long)own, (unsigned long long)(all - own));
 }
 
-/* The bytes from `start` to `end` of which the core has no contents, where no two segments overlap. */
+/* The bytes from `start` to `end` of which the core has no contents, if no two segments overlap. */
 static uint64_t missing_between(const struct core *core, uint64_t start, uint64_t end)
 {
     uint64_t missing = end - start;

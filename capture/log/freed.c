@@ -8,12 +8,12 @@ enum { MOST = SMALL_BELOW - 16 };
 
 struct walk {
     const struct blocks *live;
-    size_t next;                /* the first live block that lies behind the words that were looked at */
+    size_t next;                /* the first live block that lies after the words that were looked at */
     uint64_t covered;           /* the end of those before */
     uint64_t from, to;          /* free words in a row */
 };
 
-/* A single word is left out: it is mostly the size that glibc keeps between two blocks, and there is one behind
+/* A single word is left out: it is mostly the size that glibc keeps between two blocks, and there is one after
  * every second block. */
 static void write_row(const struct walk *walk)
 {
@@ -28,7 +28,7 @@ static void write_row(const struct walk *walk)
     }
 }
 
-/* A word that was in a block once: it is free where no block has a byte of it now. One of size 0 counts as one byte. */
+/* A word that was in a block once: it is free if no block has a byte of it now. One of size 0 counts as one byte. */
 static void look_at(struct walk *walk, uint64_t word)
 {
     const struct block *block = walk->live->list + walk->next;

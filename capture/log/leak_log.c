@@ -13,8 +13,8 @@ const char program[] = "leak_log", usage[] = "usage: leak_log CORE TABLE [--afte
     "  --after LOG  writes LOG first, made of an earlier table of the same process, and then what came and went since\n\n"
     "status: 0, or 2 if there is no log, with a line on standard error\n";
 
-/* Writes the ends of the old blocks that are gone, and gives the new ones. A block of the earlier log is live
- * still where the later table has its start with a stamp of that time. Both ascend by start. */
+/* Writes the ends of the old blocks that are gone, and gives the new ones. A block of the earlier log is still
+ * live if the later table has its start with a stamp of that time. Both ascend by start. */
 static struct blocks write_ends(const struct blocks *old, const struct blocks *blocks)
 {
     struct blocks fresh = *blocks;
@@ -58,7 +58,7 @@ static void tell_kept_out(const struct blocks *blocks)
          (unsigned long long)blocks->kept_out);
 }
 
-/* Do blocks stand side by side, one in a hundred at least? glibc keeps 8 bytes between two. Those with one start are one. */
+/* Are blocks side by side, one in a hundred at least? glibc keeps 8 bytes between two. Those with one start are one. */
 static int stand_side_by_side(const struct blocks *blocks)
 {
     size_t count = 0;

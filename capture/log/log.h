@@ -26,7 +26,7 @@ struct blocks {
     uint64_t base;              /* where the process has its table */
     int knows_freed;            /* is what is in none of them free? */
     uint64_t missed;            /* blocks that found no place in the table */
-    uint64_t kept_out;          /* bytes that the core lacks since the program keeps them out */
+    uint64_t kept_out;          /* bytes that the core lacks because the program keeps them out */
     int is_more_kept_out;       /* are there more of them, of which the table does not say where? */
 };
 

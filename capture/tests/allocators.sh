@@ -10,7 +10,7 @@ found() {
     awk 'NR == FNR { lost[$1]; next } $1 == "leak" { if ($2 in lost) found++; else others++ } END { print found + 0, others + 0 }' lost heap.report
 }
 
-# judge_heap NAME LIBRARY OPTIONS LEAST: with the options that leak_dump tells, so many blocks at least are found, and no others. Where
+# judge_heap NAME LIBRARY OPTIONS LEAST: with the options that leak_dump tells, this many blocks at least are found, and no others. If
 # more than the ends of blocks hide some, the allocator's own records do.
 judge_heap() {
     LD_PRELOAD=$2 start ./allocators "$work/lost"

@@ -1,5 +1,5 @@
 # What the test scripts share. LEAK_FIND names leak_find; without it the one that is installed or built is taken.
-# The last line of a script is `capture: N passed, M failed`, also where it ends before its end, which is one failure.
+# The last line of a script is `capture: N passed, M failed`, even if it ends before its end, which is one failure.
 kit=$(readlink -f "$(dirname "${BASH_SOURCE[0]}")/..")
 work=$(mktemp -d)
 passed=0
@@ -42,7 +42,7 @@ leave_out() {
     left_out=$((left_out + 1))
 }
 
-# limited SECONDS COMMAND..: ends it where it takes longer.
+# limited SECONDS COMMAND..: ends it if it takes longer.
 limited() { timeout -k 5 "$@" < /dev/null; }
 
 built=$kit/../crates/leak_cli/out/leak_cli
@@ -79,7 +79,7 @@ build() {
         { cat "$work/cc" >&2; exit 1; }
 }
 
-# until_true SECONDS COMMAND..: waits until the command succeeds, for so many seconds at most.
+# until_true SECONDS COMMAND..: waits until the command succeeds, for this many seconds at most.
 until_true() {
     local end=$((SECONDS + $1))
     shift
@@ -103,7 +103,7 @@ settle() {
     echo "process $1 does not come to rest" >&2
 }
 
-# start PROGRAM ARGS..: runs it traced in the background, gives its id in `process`, and waits until it rests, or so many
+# start PROGRAM ARGS..: runs it traced in the background, gives its id in `process`, and waits until it rests, or as many
 # seconds as `wait` says.
 start() {
     (cd "$work" && exec "$kit/leak_trace" $options "$@") &
@@ -127,7 +127,7 @@ in_steps() { tr ' ' '\n' | awk 'NF { print $1 % 32 == 8 ? $1 - 16 : $1 }' | sort
 # The kernel's core in the working folder, by whatever name.
 kernel_core() { ls core core.* 2> /dev/null | head -n 1; }
 
-# May a process of ours be stopped, and does the kernel write a core where a process dies?
+# May a process of ours be stopped, and does the kernel write a core if a process dies?
 sleep 60 &
 started[$!]=1
 limited 60 "$kit/leak_core" --size $! > "$work/size" && attaches=1 || attaches=
@@ -151,7 +151,7 @@ dump_killed() {
 }
 is_dead() { ! grep -qs '^State:.*[^ZX] (' "/proc/$1/status"; }
 
-# dump [--after NAME1] PID NAME: by leak_dump, or where it may not stop it by killing the process. Where the library takes
+# dump [--after NAME1] PID NAME: by leak_dump, or, if it may not stop it, by killing the process. If the library takes
 # more of the disk than its tables and 4 GB, a core has what it should not have.
 dump() {
     local name=${!#} largest

@@ -78,7 +78,7 @@ int main(void)
     madvise(make("dontdump", MAP_PRIVATE | MAP_ANONYMOUS), PAGES * PAGE, MADV_DONTDUMP);
     mprotect(make("readonly", MAP_PRIVATE | MAP_ANONYMOUS), PAGES * PAGE, PROT_READ);
     mprotect(make("none", MAP_PRIVATE | MAP_ANONYMOUS), PAGES * PAGE, PROT_NONE);
-    /* Memory that was only read shows the kernel's page of zeros, also where its pages are huge. */
+    /* Memory that was only read shows the kernel's page of zeros, even if its pages are huge. */
     char *zeros = mmap(NULL, 64 << 20, PROT_READ | PROT_WRITE, MAP_PRIVATE | MAP_ANONYMOUS | MAP_NORESERVE, -1, 0);
     madvise(zeros, 32 << 20, MADV_HUGEPAGE);
     for (int i = 0; i < 64 << 20; i += PAGE)

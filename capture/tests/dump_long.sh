@@ -28,7 +28,7 @@ serve() {
     echo "     $(grep '^undumped' "$1.report")"
     rm -f "$1.core"
 }
-# Shared memory is in the core also where another process wrote it.
+# Shared memory is in the core even if another process wrote it.
 shared_more=0
 
 if command -v mariadbd > /dev/null; then

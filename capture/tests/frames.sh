@@ -26,7 +26,7 @@ callers_of() {
     rm -f "$by.core" "$by.kernel"
 }
 
-# deep NAME PROGRAM..: what a program allocates may hang on how fast its child answers, so it may differ in one run, but not in three.
+# deep NAME PROGRAM..: what a program allocates may depend on how fast its child answers, so it may differ in one run, but not in three.
 deep() {
     local name=$1 differ
     shift

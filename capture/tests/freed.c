@@ -1,5 +1,5 @@
 /* expect: 45 61 77 93 109 125 141 157 */
-/* The only pointers to what is lost stay behind in freed memory, which leak_find --skip-freed leaves out. `freed child` does
+/* The only pointers to what is lost are left in freed memory, which leak_find --skip-freed leaves out. `freed child` does
  * it in a child of fork, which also frees what the parent allocated. */
 #include <malloc.h>
 #include <pthread.h>
@@ -7,7 +7,7 @@
 static void *volatile held[100];
 static int count;
 enum { MANY = 17 };
-/* What is held behind a block keeps it from the top of the heap. */
+/* What is held after a block keeps it from the top of the heap. */
 static void *volatile *before_a_held_block(void *block) { held[count++] = malloc(100); return block; }
 __attribute__((noinline)) static void **begin(void)
 {
@@ -58,7 +58,7 @@ __attribute__((noinline)) static void last_word(void)
     p[2] = malloc(157);
     free((void *)p);
 }
-/* From 128 KiB on freed memory is left alone, also where it is not mapped by itself. It comes last, for memory that was
+/* From 128 KiB on freed memory is left alone, even if it is not mapped by itself. It comes last, for memory that was
  * never in a small block. */
 __attribute__((noinline)) static void large(void)
 {

@@ -10,8 +10,8 @@ skipped() {
     echo "$(named "$1.report")and $(named "$1.skipped")"
 }
 
-# whole NAME: of a log, that the first search's report is that of the log without its freed memory, but for the
-# numbers of the lines.
+# whole NAME: the first search's report is that of the log without its freed memory, except for the numbers of
+# lines.
 whole() {
     awk '/^\+ / { getline; next } { print }' "$1.log" > "$1.bare.log"
     diff <(sed 's/^\(leak [^ ]* [^ ]*\) [0-9]*/\1/' "$1.report") \
@@ -48,7 +48,7 @@ settle "$child"
 freed freed-child freed.c "$child"
 stop $process $child
 
-# Where a block is just being moved, or one found no place in the table, no memory is said to be free.
+# If a block is just being moved, or one found no place in the table, no memory is said to be free.
 if [ "$attaches" ]; then
     build moving.c
     gcc -O1 -shared -fPIC "$kit/tests/stopped.c" -o stopped.so

@@ -1,4 +1,4 @@
-# A program that limits its own memory must run as it does untraced. Where its table can't grow any more it lives on, and the
+# A program that limits its own memory must run as it does untraced. If its table can't grow any more it lives on, and the
 # log says how many blocks are missing.
 section a limit of memory that the program sets
 build limited.c
@@ -22,7 +22,7 @@ verdict 'a second log after such a one' 'unknown 0 displaced 0 torn 0' \
 stop $process
 rm -f full.core full2.core
 
-# With few first cells in its directories the library soon needs the further ones, which else are for heaps above 2 GiB.
+# With few first cells in its directories the library soon needs the further ones, which otherwise are for heaps above 2 GiB.
 section a heap of many regions
 mkdir -p few && cp "$kit/leak_trace" few
 gcc -std=gnu11 -O2 -g -DFEW_CELLS -fPIC -fvisibility=hidden -ftls-model=initial-exec -shared -static-libgcc -Wl,-z,initfirst \

@@ -43,7 +43,7 @@ printf '%s\n' 'marked 4 bytes 96' 'held   share  blocks   own  within  address  
 verdict 'hostile names are only text' "$(cat hostile.wanted)" "$("$kit/leak_lines" hostile.report)"
 verdict 'nothing of them ran' no "$([ -e hostile.ran ] && echo yes || echo no)"
 
-# Of a log by leak_walk: the word in an object is 16 bytes behind its class's table.
+# Of a log by leak_walk: the word in an object is 16 bytes after the start of its class's table.
 build walk_types.cc
 echo 'heads 3' > classes.report
 nm walk_types | awk '/_ZTVN6shapes/ { print $1 }' | while read -r table; do
@@ -63,7 +63,7 @@ asks() {
         printf 'caller 1 1 %s:[0x%x]\n' "$work/$1" $((0x$start + 0x$size / 2))
     done
 }
-# hidden NAME: as it is told where no symbol has the address.
+# hidden NAME: as it is told if no symbol has the address.
 hidden() { printf 'stripped.so+0x%x\n' $((0x$(nm -S whole.so | awk -v name="$1" '$4 == name { print $1, "+ 0x" $2, "/ 2" }' | sed 's/ +/ +/'))); }
 asks whole.so | "$kit/leak_lines" | awk 'NR > 1 { print $3 }' | tr '\n' ' ' > whole.names
 asks stripped.so | "$kit/leak_lines" | awk 'NR > 1 { print $3 }' | tr '\n' ' ' > stripped.names

@@ -1,4 +1,4 @@
-# leak_lines: names from separate debug files and from .gnu_debugdata, and none where no symbol's size has the address.
+# leak_lines: names from separate debug files and from .gnu_debugdata, and none if no symbol's size has the address.
 section names in debug files
 python3 -B "$kit/tests/lines_symbols_test.py" 2> symbols_test.said
 status=$?

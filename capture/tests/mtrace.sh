@@ -15,7 +15,7 @@ both() {
     sleep 1
 }
 
-# compare NAME [EARLIER]: so many blocks may be in the table alone, which were there before mtrace() was called.
+# compare NAME [EARLIER]: this many blocks may be in the table alone, which were there before mtrace() was called.
 compare() {
     local name=$1 table=$work/table.$process said
     sleep 1

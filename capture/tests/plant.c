@@ -76,7 +76,7 @@ static void write_down(void)
     syscall(SYS_close, file);
 }
 
-/* Plants where this is one of the first calls of its kind in this process, and gives the call on. */
+/* Plants if this is one of the first calls of its kind in this process, and gives the call on. */
 static void plant_at(int kind)
 {
     if (owner != getpid()) {

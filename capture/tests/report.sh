@@ -1,4 +1,4 @@
-# leak_report: a process that nobody prepared, the kernel's core of one, two moments, a table where there is one, and what is refused.
+# leak_report: a process that nobody prepared, the kernel's core of one, two moments, a table if there is one, and what is refused.
 section leak_report
 [ -x walk_leaks ] || build walk_leaks.c
 [ -x plain ] || build plain.c

@@ -3,15 +3,15 @@
 # stops at each instruction, threads, two dumps, crashes, and what keeps a program from being traced. `run.sh --quick`
 # leaves out what takes long. LEAK_FIND names leak_find. The last line is `capture: N passed, M failed`.
 #
-# Dumps are taken by leak_core, which must be allowed to stop a process of ours. Where it is not (a container without
+# Dumps are taken by leak_core, which must be allowed to stop a process of ours. If it is not (a container without
 # SYS_PTRACE, kernel.yama.ptrace_scope above 0), the tests kill each program and take the kernel's core, and leave out
-# what needs a process that goes on living. Where the kernel writes no core into the working folder either, all that
+# what needs a process that goes on living. If the kernel writes no core into the working folder either, all that
 # needs a dump is left out.
 . "$(dirname "$0")/common.sh"
 quick=
 [ "${1-}" = --quick ] && quick=1
 
-# part NAME [DUMPS]: runs NAME.sh, where the dumps can be had that it needs.
+# part NAME [DUMPS]: runs NAME.sh, if the dumps can be had that it needs.
 part() {
     if [ $# = 1 ] || [ "$2" ]; then
         . "$kit/tests/$1.sh"

@@ -1,5 +1,5 @@
 /* expect: 45 61 */
-/* The pointer to what is lost stays behind in freed memory: only leak_trace -w lets that be seen. */
+/* The pointer to what is lost is left in freed memory: only leak_trace -w lets that be seen. */
 #include "lose.h"
 static void *volatile held[3];
 int main(void)

@@ -1,5 +1,5 @@
 #!/bin/bash
-# How long leak_core holds a process: of 100 MB and of 1 GiB of random bytes, DUMPS dumps each (three). By hand, on a machine that is else at rest.
+# How long leak_core holds a process: of 100 MB and of 1 GiB of random bytes, DUMPS dumps each (three). By hand, on a machine that is otherwise idle.
 . "$(dirname "$0")/common.sh"
 [ "$attaches" ] || { leave_out 'dumps of living processes'; complete=1; exit; }
 echo "     $(nproc) processors, load $(cut -d ' ' -f 1-3 /proc/loadavg), Linux $(uname -r), $(df -T . | awk 'NR == 2 { print $2 }')"

@@ -1,4 +1,4 @@
-/* An allocator that stands in front of glibc's, and whose realloc rests before it returns. */
+/* An allocator in front of glibc's, and whose realloc rests before it returns. */
 #define _GNU_SOURCE
 #include <dlfcn.h>
 #include <poll.h>

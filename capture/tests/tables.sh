@@ -1,4 +1,4 @@
-# A crash, and the tables that dead processes leave behind.
+# A crash, and the tables that dead processes leave.
 section a crash, and the tables of dead processes
 rm -f table.*
 build crash.c

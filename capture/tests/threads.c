@@ -1,4 +1,4 @@
-/* Six threads that allocate and free; what a thread holds stands in `slots`, set after malloc and cleared before free. */
+/* Six threads that allocate and free; what a thread holds is in `slots`, set after malloc and cleared before free. */
 #include <pthread.h>
 #include "lose.h"
 enum { THREADS = 6, SLOTS = 512 };

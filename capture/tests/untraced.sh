@@ -1,4 +1,4 @@
-# Where no table can be had the program runs on, with one line at most.
+# If no table can be had the program runs on, with one line at most.
 section limits
 build hello.c
 untraced() {

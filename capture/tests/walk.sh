@@ -10,7 +10,7 @@ build walk_stepped.c
 build walk_sparse.c
 walk=$kit/leak_walk
 
-# walked NAME [MORE]: the log of the heap of NAME.core against the table's log. So many blocks may be in the heap alone.
+# walked NAME [MORE]: the log of the heap of NAME.core against the table's log. MORE blocks may be in the heap alone.
 walked() {
     local said
     verdict "$1: its log is by the table" 1 "$(grep -c '^= leak_log moment' "$1.log")"
@@ -22,7 +22,7 @@ walked() {
     verdict "$1: misfits" 'misfits 0' "$(find_leaks one --check "$1.core" "$1.walk" 2>&1 | grep '^misfits')"
 }
 
-# traced NAME PROGRAM..: runs it under leak_trace, by the command `run_by` where there is one, with standard input held open, and compares.
+# traced NAME PROGRAM..: runs it under leak_trace, by the command `run_by` if there is one, with standard input held open, and compares.
 traced() {
     local name=$1
     shift
@@ -78,7 +78,7 @@ storms=${STORMS:-0}
 [ "$storms" != 0 ] || leave_out 'programs that are killed at any moment: STORMS=50 makes fifty'
 [ "$dumps_core" ] || { leave_out 'cores of any moment: the kernel writes none here'; storms=0; }
 
-# storms_of NAME ARGUMENT..: walk_storm, killed so many times; the kernel's core as it stands and its table have the same blocks. KEEP names a
+# storms_of NAME ARGUMENT..: walk_storm, killed this many times; the kernel's core as it is and its table have the same blocks. KEEP names a
 # folder for the cores of which that isn't so.
 storms_of() {
     local name=$1 bad=0 was_bad one

@@ -151,7 +151,7 @@ static pid_t start(const char *path, char **words)
     }
     return thread;
 }
-/* Steps once. Gives 0 where the program ended; `kinds` of what was executed: a call of the kernel, or a step of a repeated one. */
+/* Steps once. Gives 0 if the program ended; `kinds` of what was executed: a call of the kernel, or a step of a repeated one. */
 static int step(pid_t thread, int *is_call, int *is_repeated)
 {
     int status;

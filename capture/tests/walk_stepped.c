@@ -1,6 +1,6 @@
 /* The program that walk_step steps. By the first argument it takes its blocks from the main arena, or as a thread from one of its own; with
  * "sbrk" from the main arena while it takes memory by sbrk too; with "heaps" from a thread's arena that takes and gives back whole
- * heaps. It begins with malloc's first call in that arena where "fresh" is the last argument. */
+ * heaps. It begins with malloc's first call in that arena if "fresh" is the last argument. */
 #include "walk_step.h"
 #include <malloc.h>
 
@@ -25,7 +25,7 @@ static size_t some_size(void)
     default: return draw() % 120;
     }
 }
-/* Words that look like sizes of chunks: what was free may be cut where such a word stands. */
+/* Words that look like sizes of chunks: what was free may be cut where such a word is. */
 static void fill(uint64_t *words, size_t size)
 {
     enum { MOST = 100000, CHUNKS = 64, ALIGNMENT = 16 };

@@ -54,7 +54,7 @@ static int read_line(struct old_log *log, const char *at, const char *stop, uint
     return 1;
 }
 
-/* Sorts by start, and keeps of each start the last line, where that is a block. */
+/* Sorts by start, and keeps of each start the last line, if that is a block. */
 static void keep_live(struct old_log *log)
 {
     size_t left = 0;

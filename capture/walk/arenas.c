@@ -90,13 +90,13 @@ const struct arena *main_arena(const struct heap *heap)
     return heap->arenas + i;
 }
 
-/* Behind the arena's own words. */
+/* After the arena's own words. */
 uint64_t end_of(const struct arena *arena)
 {
     return arena->top_at + TO_END;
 }
 
-/* How many arenas lead by `next` to an arena, where this is the layout. */
+/* How many arenas lead by `next` to an arena, if this is the layout. */
 static size_t ring_of(const struct heap *heap, uint64_t layout)
 {
     size_t count = 0;

@@ -13,7 +13,7 @@ struct shape {
 static const struct shape shapes[] = {
     { 0x250, 64, 64, 1, 0, 1 },     /* glibc 2.26 to 2.29 */
     { 0x290, 128, 64, 2, 0, 1 },    /* 2.30 to 2.41; links are plain up to 2.31 */
-    { 0x300, 152, 76, 2, 1, 0 },    /* 2.42 on, with lists for large blocks behind the 64 for small ones */
+    { 0x300, 152, 76, 2, 1, 0 },    /* 2.42 on, with lists for large blocks after the 64 for small ones */
 };
 
 enum { SHAPES = sizeof shapes / sizeof *shapes, MOST_BINS = 76, SMALL_BINS = 64, USUAL_COUNT = 7, ODD = 1 << 16 };
@@ -23,7 +23,7 @@ struct cache {
     uint64_t block;
     const struct shape *shape;
     int is_safe;
-    uint64_t key;               /* the second word of each cached block up to 2.33, where it is known, or 0 */
+    uint64_t key;               /* the second word of each cached block up to 2.33, if it is known, or 0 */
     uint64_t first[MOST_BINS], count[MOST_BINS], taken[MOST_BINS];
 };
 
@@ -35,7 +35,7 @@ static uint64_t count_at(struct heap *heap, const struct cache *c, uint64_t bin)
     return value >> 8 * (at % 8) & (c->shape->count_bytes == 1 ? UINT8_MAX : UINT16_MAX);
 }
 
-/* Reads the cache. Gives how many of its lists have chunks, or -1 where it is cut off. */
+/* Reads the cache. Gives how many of its lists have chunks, or -1 if it is cut off. */
 static int read_cache(struct heap *heap, struct cache *c)
 {
     int filled = 0;
@@ -77,7 +77,7 @@ static int is_of_size(struct heap *heap, uint64_t block, uint64_t bin)
     return is_used(heap, block - TO_BLOCK) && (!size_of(bin) || size_at(heap, block - TO_BLOCK) == size_of(bin));
 }
 
-/* Whether each list begins with a block of its size, and has chunks where its count says so, but for one that is just being
+/* Whether each list begins with a block of its size, and has chunks if its count says so, except one that is just being
  * changed. */
 static int looks_right(struct heap *heap, const struct cache *c)
 {
@@ -193,7 +193,7 @@ static void take_caches_in_chunks(struct heap *heap)
     }
 }
 
-/* A cache has a mapping of its own where M_MMAP_THRESHOLD is small. */
+/* A cache has a mapping of its own if M_MMAP_THRESHOLD is small. */
 static int is_mapped_cache(struct heap *heap, const struct mapping *m)
 {
     int found = 0;

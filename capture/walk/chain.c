@@ -39,7 +39,7 @@ static int is_end(struct core *core, struct chain *chain)
     return 1;
 }
 
-/* Goes to the next chunk, and gives it; or 0 where the chain stops. */
+/* Goes to the next chunk, and gives it; or 0 if the chain stops. */
 int next_chunk(struct core *core, struct chain *chain, struct chunk *chunk)
 {
     uint64_t head = 0, size, after, at = chain->at;
@@ -72,7 +72,7 @@ int ends_well(const struct chain *chain)
     return chain->stop != BROKEN && chain->stop != OVER_TOP;
 }
 
-/* The chain as it stops; or where `looks`, with what is surely due on its way. */
+/* The chain as it stops; or, if `looks`, with what is surely due on its way. */
 static struct chain run(struct heap *heap, struct chain chain, int looks)
 {
     struct chunk chunk;
@@ -90,7 +90,7 @@ struct chain run_as_is(struct heap *heap, struct chain chain)
     return run(heap, chain, 0);
 }
 
-/* The chain that goes on over the top's begin, if a thread has that in hand: malloc that cuts a chunk from the top, free
+/* The chain that goes on over the top's beginning, if a thread has that in hand: malloc that cuts a chunk from the top, free
  * that joins one to it, or realloc whose block just grew into it, and is in use up to where the top will be. */
 static struct chain over_top(struct heap *heap, struct chain chain)
 {

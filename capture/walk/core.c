@@ -77,7 +77,7 @@ struct core read_core(const char *path)
     return core;
 }
 
-/* The number of the first segment that ends behind the address. */
+/* The number of the first segment that ends after the address. */
 size_t first_behind(const struct core *core, uint64_t address)
 {
     size_t low = 0, high = core->segment_count;

@@ -26,7 +26,7 @@ static void add_gap(struct core *core, uint64_t start, uint64_t end)
 }
 
 /* Adds a segment without bytes for each gap of the range between the first `count` segments, from `next` on; gives the first
- * segment that ends behind the range. */
+ * segment that ends after the range. */
 static size_t fill_range(struct core *core, struct range range, size_t count, size_t next)
 {
     uint64_t at = range.start;

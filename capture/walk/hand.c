@@ -63,7 +63,7 @@ int is_listed(struct core *core, uint64_t chunk)
 /* What speaks for a chunk of some size here: nothing; that the next one says it is free; or as much as no other memory has. */
 enum evidence { NONE, WEAK, STRONG };
 
-/* Whether a chunk is free up to its end: its size stands behind it, and the next one says so. */
+/* Whether a chunk is free up to its end: its size is after it, and the next one says so. */
 static int is_whole(struct core *core, uint64_t at, uint64_t size)
 {
     uint64_t next;
@@ -71,7 +71,7 @@ static int is_whole(struct core *core, uint64_t at, uint64_t size)
     return size >= LEAST && is_word(core, at + size, size) && word(core, at + size + CHUNK_HEAD, &next) && !(next & PREV_INUSE);
 }
 
-/* By the chunk's end: malloc has put the rest of a free chunk into a list, and behind the rest stands yet the size of the
+/* By the chunk's end: malloc has put the rest of a free chunk into a list, and after the rest there is still the size of the
  * whole; or realloc has the block before, the rest, its end and its head, and no list has the rest. */
 static enum evidence evidence_of(struct core *core, const struct chain *chain, const struct thread *thread, uint64_t head)
 {

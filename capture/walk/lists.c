@@ -3,7 +3,7 @@
 
 enum { FAST_BINS = 10, LINK = 16, LEAST = 32, STEP = 16, PAGE_BITS = 12 };
 
-/* What a link says that stands at `place`. From glibc 2.32 on it is disguised by its place (PROTECT_PTR). */
+/* What the link at `place` says. From glibc 2.32 on it is encoded by its place (PROTECT_PTR). */
 uint64_t revealed(uint64_t place, uint64_t link, int is_safe)
 {
     return is_safe ? place >> PAGE_BITS ^ link : link;

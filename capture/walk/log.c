@@ -13,7 +13,7 @@ struct writer {
     struct totals totals;
 };
 
-/* By its first word, where that is an address in a mapped file: of a C++ object its class's table, of others what tells
+/* By its first word, if that is an address in a mapped file: of a C++ object its class's table, of others what tells
  * their kind. An address of code is written one further, as a caller's return address would be: so leak_lines tells the right
  * function. */
 static void put_what(struct heap *heap, uint64_t start, uint64_t size)

@@ -32,7 +32,7 @@ static void add_broken(struct heap *heap, uint64_t start, const struct chain *ch
     heap->left_out += arena->top - end;
 }
 
-/* After fences: others took memory by sbrk, and the heap goes on behind it. */
+/* After fences: others took memory by sbrk, and the heap goes on after it. */
 static void find_rest(struct heap *heap, uint64_t from, uint64_t limit, const struct arena *arena)
 {
     struct chain chain = { .stop = AT_FENCES };
@@ -122,7 +122,7 @@ void find_main_heap(struct heap *heap, const struct arena *arena)
         return;
     }
     size = head & ~(uint64_t)FLAGS;
-    /* Pages that were never touched may be missing in a core, so the memory may go on behind the segment. */
+    /* Pages that were never touched may be missing in a core, so the memory may go on after the segment. */
     limit = (head & FLAGS) == PREV_INUSE && size >= LEAST && size <= arena->system_mem && (arena->top + size) % ALIGNMENT == 0
         ? arena->top + size : s->run_end;
     if (arena->is_contiguous)

@@ -1,10 +1,10 @@
 /* Blocks with a mapping of their own (glibc, malloc/malloc.c, sysmalloc_mmap): a chunk at a page's start whose size word says so,
- * up to the end of a page. The chunk of an aligned block stands further on, and its first word says how far. */
+ * up to the end of a page. The chunk of an aligned block is further on, and its first word says how far. */
 #include "walk.h"
 
 enum { IS_MMAPPED = 2, FLAGS = 7, CHUNK_HEAD = 8, TO_BLOCK = 16, LEAST_ALIGNMENT = 64 };
 
-/* The end of the mapping where such a chunk is so far behind its start; else 0. */
+/* The end of the mapping, if such a chunk is this far after its start; else 0. */
 static uint64_t mapped_end(struct heap *heap, uint64_t start, uint64_t behind, uint64_t limit)
 {
     uint64_t head, size, room = limit - start;
@@ -48,7 +48,7 @@ static uint64_t aligned(struct heap *heap, uint64_t start, uint64_t to, uint64_t
     return end ? add_mapping(heap, start, block - TO_BLOCK - start, end) : 0;
 }
 
-/* The end of the mapping that begins at the page, or 0 where none does. */
+/* The end of the mapping that begins at the page, or 0 if none does. */
 static uint64_t mapping_at(struct heap *heap, uint64_t start, uint64_t limit)
 {
     uint64_t end = slightly_aligned(heap, start, limit), head;
@@ -63,7 +63,7 @@ static uint64_t mapping_at(struct heap *heap, uint64_t start, uint64_t limit)
     return end ? add_mapping(heap, start, 0, end) : 0;
 }
 
-/* Looks at each page of [from, to), which has no region. Gives where the last mapping ends, if that is behind `to`. */
+/* Looks at each page of [from, to), which has no region. Gives where the last mapping ends, if that is after `to`. */
 static uint64_t find_between(struct heap *heap, uint64_t from, uint64_t to, uint64_t limit)
 {
     uint64_t at = (from + PAGE - 1) & -(uint64_t)PAGE;

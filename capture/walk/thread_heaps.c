@@ -26,13 +26,13 @@ static int is_fresh(struct heap *heap, uint64_t from, uint64_t to)
 }
 
 /* Whether the heap has no chunk yet: its arena is just being made, and its first top is the first bin; or the arena takes
- * this heap next, and its top is yet in the one before. */
+ * this heap next, and its top is still in the one before. */
 static int is_begun(struct heap *heap, const struct arena *arena, uint64_t top, uint64_t start, uint64_t limit)
 {
     return arena->top == arena->top_at || (!top && is_word(heap->core, start + CHUNK_HEAD, 0) && is_fresh(heap, start, limit));
 }
 
-/* What is known of the heap's chunks, where the chain of them breaks. */
+/* What is known of the heap's chunks, if the chain of them breaks. */
 static void break_off(struct heap *heap, struct region *region, const struct chain *chain)
 {
     tell_break(heap, "a thread's heap", region->start, chain);

@@ -1,4 +1,4 @@
-/* Which chunks are in use: a bit for each, set by the next chunk's size word, and cleared where a list of free chunks has
+/* Which chunks are in use: a bit for each, set by the next chunk's size word, and cleared if a list of free chunks has
  * it. It is found by the place of the chunk's size word in the file, so that memory that was never touched takes none. */
 #include <stdlib.h>
 
@@ -13,7 +13,7 @@ struct chain chunks_of(const struct region *region)
                            .is_thread = region->arena->first_heap != 0 };
 }
 
-/* The byte that has the chunk's bit, and the bit; or NULL where the core doesn't have its size word. */
+/* The byte that has the chunk's bit, and the bit; or NULL if the core doesn't have its size word. */
 static uint8_t *bits_of(struct heap *heap, uint64_t at, uint8_t *bit)
 {
     uint64_t place;
@@ -40,7 +40,7 @@ static void mark(struct heap *heap, uint64_t at, int used)
         *bits = used ? *bits | bit : *bits & ~bit;
 }
 
-/* Whether a chunk that the next one says is free has its size behind it too, or is in a list. */
+/* Whether a chunk that the next one says is free has its size after it too, or is in a list. */
 static int is_whole(struct heap *heap, const struct region *r, const struct chunk *chunk)
 {
     return chunk->at == r->due.at || is_word(heap->core, chunk->at + chunk->size, chunk->size) || is_listed(heap->core, chunk->at);
@@ -59,7 +59,7 @@ static int is_unsettled(struct heap *heap, const struct region *r, const struct 
 }
 
 /* Whether registers show that a thread is at work on the chunk, by where it begins, where it ends or where the free one
- * before it begins. Where there are more such chunks than threads can have in hand, the heap is damaged. */
+ * before it begins. If there are more such chunks than threads can have in hand, the heap is damaged. */
 static int is_held(const struct heap *heap, const struct chunk *chunk, uint64_t before)
 {
     const struct core *core = heap->core;
@@ -144,7 +144,7 @@ static const struct region *region_of(const struct heap *heap, uint64_t at)
     return heap->regions + low - 1;
 }
 
-/* Whether a chunk in use begins there. Where no chunk is known one may: a list that leads there is not wrong. */
+/* Whether a chunk in use begins there. If no chunk is known there, one may: a list that leads there is not wrong. */
 int is_used(struct heap *heap, uint64_t at)
 {
     const struct region *r = at % PIECE ? NULL : region_of(heap, at);

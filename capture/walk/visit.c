@@ -1,4 +1,4 @@
-/* All memory of malloc, by ascending address but for main arenas' own words, which lie in the C library. */
+/* All memory of malloc, by ascending address, except main arenas' own words, which lie in the C library. */
 #include "walk.h"
 
 enum { TO_BLOCK = 16, LAST_WORD = 8, FENCE = 16 };

@@ -11,7 +11,7 @@
 /* A segment of the core (gABI, Program Header, PT_LOAD): the bytes from start on are dumped, the rest up to the end is not. */
 struct segment {
     uint64_t start, size, end;
-    uint64_t run_start, run_end; /* of the writable memory without a gap that it is a part of; equal where it isn't writable */
+    uint64_t run_start, run_end; /* of the writable memory without a gap that it is a part of; equal if it isn't writable */
     const uint8_t *bytes;
     int is_writable, is_code;
 };
@@ -52,7 +52,7 @@ struct core {
 /* glibc, malloc/malloc.c, struct malloc_state: one arena. */
 struct arena {
     uint64_t start;
-    uint64_t top_at;            /* where its word `top` stands */
+    uint64_t top_at;            /* where its word `top` is */
     uint64_t top, system_mem;
     uint64_t first_heap;        /* of a thread's arena (malloc/arena.c, heap_info); 0 of a main arena */
     int is_contiguous;
@@ -68,7 +68,7 @@ struct due {
  * arena has one region for each of its heaps. */
 struct region {
     uint64_t start, end;        /* of the chunks */
-    uint64_t top;               /* the chunk at the end that is yet unused, or 0 */
+    uint64_t top;               /* the chunk at the end that is still unused, or 0 */
     uint64_t limit;             /* the end of the memory */
     uint64_t gap_end;           /* with --partial: from `end` up to here are chunks that nobody knows; else 0 */
     const struct arena *arena;
@@ -105,10 +105,10 @@ struct heap {
     uint64_t steps_left;        /* more than a right heap needs; a damaged one may lead in circles */
     uint8_t *used;              /* a bit for each 16 bytes of the core: is the size word here one of a chunk in use? */
     uint64_t left_out;          /* bytes of no known chunk */
-    struct tally odd_chunks, odd_lists; /* free chunks without their size behind them; lists that lead nowhere */
+    struct tally odd_chunks, odd_lists; /* free chunks without their size after them; lists that lead nowhere */
 };
 
-/* Where a chain of chunks stops: at the top chunk; at a chunk that goes on over the top's begin, as it is just being cut
+/* Where a chain of chunks stops: at the top chunk; at a chunk that goes on over the top's beginning, as it is just being cut
  * from the top or joined to it; at what was the top before a thread's next heap was begun; at the marker of a heap that is
  * full; at the fences of a main arena; or where no chunk can be. */
 enum stop { AT_TOP, OVER_TOP, AT_OLD_TOP, AT_MARKER, AT_FENCES, BROKEN };

@@ -168,6 +168,6 @@ entries_many : (bs : List Block) → length (entries_of bs) ≡ length bs
 entries_many [] = refl
 entries_many (b ∷ bs) = ap (λ (n : ℕ). suc n) (entries_many bs)
 
--- so many fewer
+-- as many fewer as are met
 pub fewer_by : (x : Line) (before after : List (ℕ × ℕ)) (blocks : List Block) → before ≡ entries_of blocks → after ≡ entries_of (unmet x blocks) → length after + count_by (meets x) blocks ≡ length before
 fewer_by x before after blocks e f = omega (arith, ap length e, ap length f, entries_many blocks, entries_many (unmet x blocks), counted x blocks)

@@ -78,7 +78,7 @@ not_ended k x h a = go (overlap x k) (subst (λ (t : Bool). not (t && overlap x 
     go true e = absurd (true≢false (sym e))
     go false e = refl
 
--- the live blocks of the lines after k's are apart from k's, where none of those lines ends it
+-- the live blocks of the lines after k's are apart from k's, if none of those lines ends it
 after_apart : (k : Line) (p q xs : List Line) → not (list_any (ends k) xs) ≡ true → AllByRecursion (AreApart (block_of (length p + 1) k)) (filter_map live_block (moments_after q xs))
 after_apart k p q [] h = tt
 after_apart k p q (x ∷ xs) h = go (is_allocation x) (not (list_any (ends x) xs)) refl (after_apart k p (q ++ x ∷ []) xs (not_or_right (ends k x) (list_any (ends k) xs) h))

@@ -132,7 +132,7 @@ rest_counted allocated blocks numbers n a within k e =
 pub first_gathered : (allocated blocks first : List Block) (numbers : List ℕ) (n : ℕ) → AreNumbered allocated numbers blocks → n ≤ length numbers → first ≡ take n blocks → length first ≡ n
 first_gathered allocated blocks first numbers n a within f = ap length f ∙ length-take-le n blocks (subst (λ (m : ℕ). n ≤ m) (as_many allocated blocks numbers a) within)
 
--- the first were gathered, and stand in the place of as many
+-- the first were gathered, and replace as many
 pub all_gathered : (allocated blocks first : List Block) (numbers : List ℕ) (n : ℕ) → AreNumbered allocated numbers blocks → n ≤ length numbers → CountUp n (drop n numbers) → length numbers ≡ length allocated → first ≡ take n blocks → first ++ drop (length first) allocated ≡ blocks
 all_gathered allocated blocks first numbers n a within k e f =
     let long : length first ≡ n = first_gathered allocated blocks first numbers n a within f in

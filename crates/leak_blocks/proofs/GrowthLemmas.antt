@@ -18,7 +18,7 @@ use Rattle.leak_blocks.proofs.DisjointLemmas.{pairs_apart}
 abbrev pub live_from : List Line → List Line → List Block
 live_from before lines = filter_map live_block (moments_after before lines)
 
--- the block of the line, where it is an allocation
+-- the block of the line, if it is an allocation
 abbrev pub new_block : ℕ → Line → List Block
 new_block number x = if is_allocation x then block_of number x ∷ [] else []
 

@@ -1,3 +1,4 @@
+-- The lemmas of this crate, by subject.
 pub mod DisjointLemmas
 pub mod OrderLemmas
 pub mod GrowthLemmas

@@ -1,4 +1,4 @@
--- Blocks that lie one above the other, with others below and above them.
+-- Blocks that are one above the other, with others below and above them.
 use Rattle.std.proofs.Common.{◌≡◌, ◌≢◌, ℕ, ◌+◌, ◌<◌, ◌≤◌, max, ◌⊎◌, inl, inr, Bool, true, false, not, ◌&&◌, ◌||◌, cond, refl, sym, subst, ap, ◌∙◌, List, [], ◌∷◌, ◌++◌, length, map, filter, take, drop, slice_get, Some, None, append-nil, zero, suc, ◌-◌, append_assoc, arith, nat_lt, ◌==◌}
 use Rattle.std.specs.List.{list_any, AllByRecursion}
 use Rattle.std.specs.Ordering.{nat_cmp, is_le}
@@ -128,7 +128,7 @@ none_begins : (a : ℕ) (bs : List Block) → AllByRecursion (λ b. b.start ≢ 
 none_begins a [] h = refl
 none_begins a (b ∷ bs) h = ap (λ (t : Bool). t || list_any (λ c. c.start == a) bs) (not_same b.start a h.0) ∙ none_begins a bs h.1
 
--- one of them begins there where one that isn't between does
+-- one of them begins there if and only if one that isn't between does
 pub begins_apart : (a : ℕ) (xs ys zs : List Block) → AllByRecursion (λ b. b.start ≢ a) ys → list_any (λ b. b.start == a) ((xs ++ ys) ++ zs) ≡ list_any (λ b. b.start == a) (xs ++ zs)
 begins_apart a xs ys zs h =
     any_append (λ b. b.start == a) (xs ++ ys) zs ∙ ap (λ (t : Bool). t || list_any (λ b. b.start == a) zs) (any_append (λ b. b.start == a) xs ys ∙ ap (λ (t : Bool). list_any (λ b. b.start == a) xs || t) (none_begins a ys h) ∙ or_false (list_any (λ b. b.start == a) xs))

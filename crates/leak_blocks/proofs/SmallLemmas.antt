@@ -47,7 +47,7 @@ or_twice : (x y : Bool) → (x || (x || y)) ≡ (x || y)
 or_twice true y = refl
 or_twice false y = refl
 
--- where one span meets or touches another that begins no later, the joined one has the addresses of both
+-- if one span meets or touches another that begins no later, the joined one has the addresses of both
 joined : (a : ℕ) (s t u : Span) → s.first ≤ t.first → t.first ≤ s.last + 1 → u.first ≡ s.first → u.last ≡ max s.last t.last → holds a u ≡ (holds a s || holds a t)
 joined a s t u l m f g =
     elim (cases_lt a s.first) [
@@ -91,7 +91,7 @@ apart_widen : (spans : List Span) (s u : Span) → AreApart (spans ++ s ∷ []) 
 apart_widen [] s u h e l = (let f = h.0 in omega arith, tt, tt)
 apart_widen (x ∷ spans) s u h e l = (h.0, all_last (λ (t : Span). x.last + 1 < t.first) spans s u h.1 (λ f. omega arith), apart_widen spans s u h.2 e l)
 
--- a range more, behind the last
+-- one more range, after the last
 apart_push : (spans : List Span) (s t : Span) → AreApart (spans ++ s ∷ []) → t.first ≤ t.last → s.last + 1 < t.first → AreApart ((spans ++ s ∷ []) ++ t ∷ [])
 apart_push [] s t h o l = (h.0, (l, tt), (o, tt, tt))
 apart_push (x ∷ spans) s t h o l =
@@ -134,7 +134,7 @@ merged_wider spans first i ranges open' later d merged h near f l =
       low = λ k e m n. let b = merged.low k e (omega arith) n in omega arith;
     }
 
--- the next span begins behind it
+-- the next span begins after it
 pub merged_next : (spans : List Span) (first : Span) (i : ℕ) (ranges : List Span) (open' : Span) (d : Span) → AreMerged spans first i ranges open' → AreSpans spans → IsNonDecreasingBy (λ s. s.first) spans → i < length spans
     → open'.last + 1 < (get_or spans i d).first → AreMerged spans first (i + 1) (ranges ++ open' ∷ []) (get_or spans i d)
 merged_next spans first i ranges open' d merged each ascending h far =

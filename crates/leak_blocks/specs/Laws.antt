@@ -8,7 +8,7 @@ use Rattle.leak_blocks.specs.Span.{AreAddressed, AreDisjoint}
 use Rattle.leak_blocks.specs.Live.{is_allocation, block_of, live_of, replay_of}
 use Rattle.leak_blocks.specs.Steps.{ends_block, misses, after_line}
 
--- their spans have no address in common, and they stand by ascending start
+-- their spans have no address in common, and they are sorted by ascending start
 abbrev pub LiveAreDisjoint : Type 0
 LiveAreDisjoint = (lines : List Line) → AreDisjoint (live_of lines)
 
@@ -25,7 +25,7 @@ pub record IsOfLine (lines : List Line) (b : Block) : Type 0 where
 abbrev pub LiveAreOfLines : Type 0
 LiveAreOfLines = (lines : List Line) → AllByRecursion (IsOfLine lines) (live_of lines)
 
--- where no line's block ends past the address space, each live block has its addresses in 64 bits
+-- if no line's block ends past the address space, each live block has its addresses in 64 bits
 abbrev pub LiveAreAddressed : Type 0
 LiveAreAddressed = (lines : List Line) → LinesFit lines → AreAddressed (live_of lines)
 

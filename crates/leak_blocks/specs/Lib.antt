@@ -1,3 +1,4 @@
+-- The definitions of this crate, by subject.
 pub mod Span
 pub mod Live
 pub mod Steps

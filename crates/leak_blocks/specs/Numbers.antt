@@ -20,7 +20,7 @@ pub record IsNumberOf (allocated : List Block) (b c : Block) : Type 0 where
 abbrev pub IsNumbered : List Block → Block → Type 0
 IsNumbered allocated b = (c : Block) × IsNumberOf allocated b c
 
--- each of them stands for the block at its place
+-- each of them stands for the block at the same index
 abbrev pub AreNumbersOf : List Block → List Block → List Block → Type 0
 AreNumbersOf allocated [] [] = ⊤
 AreNumbersOf allocated [] (c ∷ cs) = ⊥
@@ -80,7 +80,7 @@ pub record AreNumbered (allocated : List Block) (numbers : List ℕ) (blocks : L
 abbrev pub HaveBlocks : List Block → List ℕ → Type 0
 HaveBlocks allocated numbers = (blocks : List Block) × AreNumbered allocated numbers blocks
 
--- of these
+-- the built blocks are those with these numbers
 abbrev pub AreBlocksOf : List Block → List ℕ → List Block → Type 0
 AreBlocksOf allocated numbers built = (blocks : List Block) → AreNumbered allocated numbers blocks → built ≡ blocks
 
@@ -93,7 +93,7 @@ CountUp first (n ∷ ns) = (n ≡ first) × CountUp (first + 1) ns
 abbrev pub places_of : List Line → List (ℕ × ℕ)
 places_of lines = map (λ x. (x.addr, x.size)) (filter is_allocation lines)
 
--- the blocks have those
+-- the blocks have these addresses and sizes
 abbrev pub HavePlacesOf : List Line → List Block → Type 0
 HavePlacesOf lines blocks = map (λ b. (b.start, b.size)) blocks ≡ places_of lines
 

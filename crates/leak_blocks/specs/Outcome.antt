@@ -7,7 +7,7 @@ use Rattle.leak_blocks.specs.declared.small.Span.{Span}
 use Rattle.leak_blocks.specs.Live.{replay_of}
 use Rattle.leak_blocks.specs.Small.{small_spans_of, CoverSame}
 
--- the bytes have these lines, and come to their live blocks and to what stands after the last line feed
+-- the bytes have these lines, and come to their live blocks and to what follows the last line feed
 pub record ComesTo (bytes : List ℕ) (lines : List Line) (replayed : Replayed) : Type 0 where
   pub is_log : IsLog bytes lines
   pub callers : CallersAreIn bytes lines

@@ -1,4 +1,4 @@
--- The state of a replay between two lines: a map of live blocks, and a run of others that lie one above the other.
+-- The state of a replay between two lines: a map of live blocks, and a run of others that are one above the other.
 use Rattle.std.specs.Prelude.{◌≡◌, ℕ, ◌+◌, ◌<◌, ◌≤◌, ◌⊎◌, Bool, true, false, List, [], ◌∷◌, map, length, ◌++◌}
 use Rattle.std.specs.List.{AllByRecursion}
 use Rattle.leak_mtrace.specs.declared.line.Line.{Line}

@@ -1,6 +1,6 @@
 -- The addresses of small allocations. Own rule: freed memory of a heap serves later blocks of that heap alone. From
 -- 131,072 bytes on glibc's malloc maps a block by itself (its first M_MMAP_THRESHOLD), and memory that is given back to
--- the system then may serve anything, as a stack.
+-- the system then may serve anything, such as a stack.
 use Rattle.std.specs.Prelude.{◌≡◌, ℕ, ◌+◌, ◌-◌, ◌<◌, ◌≤◌, max, Bool, ◌&&◌, nat_lt, nat_le, List, [], ◌∷◌, map, filter, ⊤}
 use Rattle.std.specs.List.{All, AllByRecursion, list_any}
 use Rattle.leak_mtrace.specs.declared.line.Line.{Line}
@@ -12,7 +12,7 @@ use Rattle.leak_blocks.specs.Live.{is_allocation}
 abbrev pub is_small : Line → Bool
 is_small x = is_allocation x && nat_lt x.size 131072
 
--- the addresses of an allocation at this address and of this size; one of no bytes has its first address
+-- the addresses of an allocation at this address and of this size; an allocation of 0 bytes has its first address
 abbrev pub span_at : ℕ → ℕ → Span
 span_at start size = record { first = start; last = start + (max size 1 - 1) }
 

@@ -18,7 +18,7 @@ ends_block x b = (is_give_back x && (x.addr == b.start)) || (is_allocation x && 
 abbrev pub left_by : Line → List Block → List Block
 left_by x blocks = filter (λ b. not (ends_block x b)) blocks
 
--- the blocks after the line of this number, where these are the blocks before it
+-- the blocks after the line of this number, if these are the blocks before it
 abbrev pub after_line : ℕ → Line → List Block → List Block
 after_line number x blocks = if is_allocation x then among (block_of number x) (left_by x blocks) else left_by x blocks
 

@@ -12,13 +12,13 @@ use leak_mtrace::Line;
 use std::alloc::AllocError;
 use std::collections::btree_map::Range;
 
-/// How far above the last allocation another may begin and still be taken as one of many at ascending addresses.
+/// How far above the last allocation another may begin and still count as one of many at ascending addresses.
 const NEAR_BYTES: u64 = 1 << 20;
 
 /// A replay between two lines.
 ///
 /// Programs often allocate at ascending addresses for a while. So the blocks that were allocated last, one above the
-/// other, are kept in a list beside the map, the run. They are put in the map only when another allocation or a
+/// other, are kept in a list beside the map: the run. They are put in the map only when another allocation or a
 /// give-back needs it.
 #[derive(Drop)]
 pub(crate) struct Course<'a> {
@@ -50,7 +50,7 @@ pub(crate) fn place(
     Ok(())
 }
 
-/// The start of the first block at this address or above it. Without one, the last address of all.
+/// The start of the first block at this address or above it. If there is none, the last address of all.
 fn limit(numbers: &Numbers<'_>, allocated: &[Block], last: u64) -> u64
     requires { HasBlocks allocated.now numbers.now.entries }
     ensures { IsLimitOf allocated.now numbers.now.entries last result }
@@ -73,7 +73,7 @@ fn append(joined: &mut Vec<usize>, entries: Range<'_, u64, usize>) -> Result<(),
 
 /// The numbers of the run's allocations and those of the map, by the starts of their blocks.
 ///
-/// The run's list has room for all, so that none is made beside a full arena.
+/// It uses the run's list, which has room for all, so that no list is made beside a full arena.
 pub(crate) fn joined(
     numbers: &Numbers<'_>,
     allocated: &[Block],
@@ -151,7 +151,7 @@ impl Course<'_> {
         place(&mut self.numbers, self.allocated.as_slice(), &self.run)?;
         self.run.clear();
         self.displaced += displace(&mut self.numbers, self.allocated.as_slice(), line);
-        // An allocation below the last, or far from it, is spared the search: few follow right above it.
+        // If it is below the last or far from it, no limit is searched for: few allocations follow right above such a one.
         let near = line.addr.wrapping_sub(self.low) < NEAR_BYTES;
         let high = if near {
             limit(&self.numbers, self.allocated.as_slice(), last)

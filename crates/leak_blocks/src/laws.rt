@@ -2,7 +2,7 @@
 ghost use Rattle.leak_blocks.specs.Examples.{AreWorkedLogs};
 ghost use Rattle.leak_blocks.specs.Laws.{LiveAreDisjoint, LiveAreOfLines, LiveAreAddressed, LiveAreOneALine, LiveWereLive, ReplaysLineByLine};
 
-/// The live blocks of a log have no address in common, and stand by ascending start.
+/// The live blocks of a log have no address in common, and are sorted by ascending start.
 pub fn live_are_disjoint()
     ensures { LiveAreDisjoint }
 {}

@@ -6,7 +6,7 @@
 //! the addresses of small allocations. glibc's mtrace says what a line reports; which line ends which block is own rule, stated
 //! in `specs/Live.antt` over pairs of lines. [`Live`] keeps callers as ranges of the log's bytes, and no bytes.
 //!
-//! The contracts don't say that the log is complete, nor that its lines stand in the order of the calls.
+//! The contracts don't say that the log is complete, nor that its lines are in the order of the calls.
 #![tactic(auto)]
 
 mod block;

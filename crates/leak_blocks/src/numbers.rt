@@ -9,7 +9,7 @@ use std::collections::BTreeMap;
 
 /// The allocations that no line so far ends: for the start of each, its number, counted from 0.
 ///
-/// Its nodes lie in an arena, since a heap may keep them, once freed, while the blocks are made.
+/// Its nodes are in an arena, since a heap may keep freed nodes while the blocks are made.
 pub(crate) type Numbers<'a> = BTreeMap<u64, usize, &'a Bump>;
 
 /// The allocation with this number.

@@ -32,8 +32,8 @@ pub(crate) fn is_give_back(line: &Line) -> bool
 }
 
 impl Course<'_> {
-    /// Goes over the next line, and then over others until few of the arena's bytes are left. Returns how many lines are
-    /// behind it then.
+    /// Goes over the next line, and then over others until few of the arena's bytes are left. Returns how many lines it has
+    /// gone over then.
     fn go_over(&mut self, arena: &Bump, lines: &[Line], next: usize) -> Result<usize, AllocError>
         requires in_log { next < length lines.now }
         requires fit { LinesFit lines.now }
@@ -113,7 +113,7 @@ pub fn replay(alloc: Global, log: &Log) -> Result<Live, AllocError>
 pub struct Replayed {
     /// The live blocks.
     pub live: Live,
-    /// How many lines are torn: 1 where something follows the last line feed, and 0 otherwise.
+    /// How many lines are torn: 1 if something follows the last line feed, and 0 otherwise.
     pub torn: u64,
     /// How many bytes the complete lines take, the last line feed included.
     pub whole_len: usize,
@@ -138,7 +138,7 @@ fn go_through(alloc: Global, bytes: &[u8]) -> Result<(Stage, Reader<'_>), LogErr
     Ok((stage, reader))
 }
 
-/// What the log comes to, whose end both have come to.
+/// What the log comes to, when the replay and the reader have come to its end.
 fn outcome_of(alloc: Global, stage: Stage, reader: &Reader<'_>) -> Result<Replayed, AllocError>
     requires { AreAtEnd reader.now stage }
     ensures { IfOk result (λ replayed. (lines : List Line) → HasReadAll reader.now lines

@@ -49,7 +49,7 @@ fn is_small(line: &Line) -> bool
     is_allocation(line) && line.size < MAPPED_BYTES
 }
 
-/// The addresses of an allocation at this address and of this size. One of no bytes has its first address.
+/// The addresses of an allocation at this address and of this size. An allocation of 0 bytes has its first address.
 fn span_at(start: u64, size: u64) -> Span
     requires { start + size < 2 ^ 64 }
     ensures { result ≡ span_at start size }
@@ -60,7 +60,7 @@ fn span_at(start: u64, size: u64) -> Span
     }
 }
 
-/// Adds a span, or lengthens the last one where both begin at one address.
+/// Adds a span, or lengthens the last one if both begin at one address.
 fn add(spans: &mut Vec<Span>, span: Span) -> Result<(), AllocError>
     requires each { AreSpans spans.old.items }
     requires one { span.first ≤ span.last }
@@ -85,7 +85,7 @@ fn add(spans: &mut Vec<Span>, span: Span) -> Result<(), AllocError>
     Ok(())
 }
 
-/// Spans that have the addresses of the small allocations. A place that is used again at once has one of them.
+/// Spans that have the addresses of the small allocations. An address that is used again at once has one of them.
 fn spans_of(alloc: Global, lines: &[Line]) -> Result<Vec<Span>, AllocError>
     requires { LinesFit lines.now }
     ensures each { IfOk result (λ spans. AreSpans spans.items) }
@@ -115,7 +115,7 @@ fn block_spans(alloc: Global, blocks: &[Block]) -> Result<Vec<Span>, AllocError>
     Ok(spans)
 }
 
-/// Puts the spans by ascending first address.
+/// Sorts the spans by ascending first address.
 fn sort(spans: &mut Vec<Span>)
     requires { AreSpans spans.old.items }
     ensures ascending { IsNonDecreasingBy (λ s. s.first) spans.new.items }

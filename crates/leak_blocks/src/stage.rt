@@ -13,18 +13,18 @@ use bumpalo::Bump;
 use std::alloc::{AllocError, Global};
 use std::collections::BTreeMap;
 
-/// What a node takes for each allocation, where it is as empty as it may be, and a quarter more.
+/// The bytes of a node for each allocation, if it is as empty as it may be, and a quarter more.
 const NODE_BYTES: usize = 48;
 
 /// More than what one allocation may take: a node at each level of the tree.
 const PATH_BYTES: usize = 8192;
 
-/// The bytes of an arena for the nodes of so many allocations.
+/// The bytes of an arena for the nodes of this many allocations.
 pub(crate) fn arena_bytes(allocations: usize) -> usize {
     node_bytes(allocations).saturating_add(PATH_BYTES)
 }
 
-/// The bytes of an arena that the nodes of so many further allocations may take.
+/// The bytes of an arena that the nodes of this many further allocations may take.
 fn node_bytes(allocations: usize) -> usize {
     allocations
         .saturating_mul(NODE_BYTES)
@@ -43,7 +43,7 @@ pub(crate) struct Stage {
 }
 
 impl Stage {
-    /// Before the first line, with room for so many allocations.
+    /// Before the first line, with room for this many allocations.
     pub(crate) fn new(alloc: Global, allocations: usize) -> Result<Stage, AllocError>
         ensures { IfOk result (λ stage. IsStageAfter [] stage) }
     {
@@ -57,8 +57,8 @@ impl Stage {
 
     /// Goes on with the map in this arena.
     ///
-    /// An arena uses no freed node again. So the allocations are placed in a new one, which is at most four fifths full
-    /// then, where the lines would fill the old one.
+    /// An arena never uses a freed node again. So when the lines would fill the old one, the allocations are placed in a new
+    /// one, which is then at most four fifths full.
     pub(crate) fn begin(self, arena: &Bump) -> Result<Course<'_>, AllocError>
         requires { (lines : List Line) × IsStageAfter lines self }
         ensures { IfOk result (λ course. (lines : List Line)
@@ -145,7 +145,7 @@ fn replace_first(blocks: &mut [Block], first: &[Block])
     blocks[..first.len()].copy_from_slice(first);
 }
 
-/// The blocks of the allocations with these numbers. Where all are live, only those that aren't at their places are copied.
+/// The blocks of the allocations with these numbers. If all are live, only those that aren't at their places are copied.
 fn blocks_of(
     alloc: Global,
     allocated: Vec<Block>,

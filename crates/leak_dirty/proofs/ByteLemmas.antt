@@ -41,7 +41,7 @@ same_eight xs ys at bx by lx ly e =
     sym (le_bytes_8 (take 8 (drop at xs)) (number_at w64 xs at) (eight_long xs at bx lx) (eight_bytes xs at bx lx) (number_of_eight xs at))
     ∙ le_bytes_8 (take 8 (drop at ys)) (number_at w64 xs at) (eight_long ys at by ly) (eight_bytes ys at by ly) (e ∙ number_of_eight ys at)
 
--- ---- bytes are the same where their words are
+-- ---- bytes are the same if their words are
 
 pub same_bytes : (n : ℕ) (xs ys : List ℕ) → AreBytes xs → AreBytes ys → 8 * n ≤ length xs → 8 * n ≤ length ys →
     ((k : ℕ) → k < n → number_at w64 xs (8 * k) ≡ number_at w64 ys (8 * k)) → take (8 * n) xs ≡ take (8 * n) ys

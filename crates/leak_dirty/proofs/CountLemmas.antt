@@ -22,7 +22,7 @@ few_words f from (suc count) = go (f from) (few_words f (from + 1) count)
     go None h = omega arith
     go (Some w) h = omega arith
 
--- words that stand one after another, and the others
+-- consecutive words, and the others
 pub count_more : (f : ℕ → Option ℕ) → IsAligned f → (n from count : ℕ) → ((k : ℕ) → k < n → IsSome (f (from + 8 * k))) → 8 * n ≤ count + 7 →
     length (words_from f from count) ≡ n + length (words_from f (from + 8 * n) (count - 8 * n))
 count_more f aligned zero from count some few = ap length (same_range f from (from + 8 * 0) count (count - 8 * 0) (omega arith) (omega arith)) ∙ omega arith
@@ -44,14 +44,14 @@ count_on_from f at addr end found count total aligned low high none some few so_
     let last = ap length (same_range f (addr + 8 * found) (addr + 8 * found) (end - addr - 8 * found) (end - (addr + 8 * found)) refl (omega arith)) in
     omega arith
 
--- no more words stand before the end
+-- no more words come before the end
 pub count_ends : (f : ℕ → Option ℕ) (at end count total : ℕ) → ((a : ℕ) → at ≤ a → a < end → f a ≡ None) → count + length (words_from f at (end - at)) ≡ total → count ≡ total
 count_ends f at end count total none so_far =
     let empty = ap length (nothing_in f at (end - at) (λ a l u. none a l (omega (arith, l, u)))) in
     let zero_len : length (words_from f at (end - at)) ≡ 0 = empty in
     omega arith
 
--- the words that were found stand in the run, or there is one
+-- the words that were found are in the run, or there is one
 pub found_words : (f : ℕ → Option ℕ) (addr found : ℕ) (run : List ℕ) → IsRun f addr run → IsSome (f addr) → ((k : ℕ) → 0 < k → k < found → 8 * k + 8 ≤ length run) → (k : ℕ) → k < found → IsSome (f (addr + 8 * k))
 found_words f addr found run is_run first fits zero h = subst (λ (a : ℕ). IsSome (f a)) (let e : addr ≡ addr + 8 * 0 = omega arith in e) first
 found_words f addr found run is_run first fits (suc k) h = subst (λ (o : Option ℕ). IsSome o) (sym (is_run (suc k) (fits (suc k) (omega arith) h))) refl

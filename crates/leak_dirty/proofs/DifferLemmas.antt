@@ -55,7 +55,7 @@ module _ (before now : ℕ → Option ℕ) (page : ℕ) where
       let b : (4096 * page ≤ r.0) × (r.0 < 4096 * page + 4096) = of_range 4096 (4096 * page) r.0 r.1 in
       (r.0, b.0, b.1, r.2)
 
-  -- the words of a page stand at 512 addresses
+  -- the words of a page are at 512 addresses
   pub same_words : ((a : ℕ) → IsSome (now a) → a % 8 ≡ 0) → ((k : ℕ) → k < 512 → is_changed (before (4096 * page + 8 * k)) (now (4096 * page + 8 * k)) ≡ false) → differs before now page ≡ false
   same_words aligned h = differs_none (λ a low high. dite (ℕ_discrete (a % 8) 0)
       (λ z.
@@ -68,7 +68,7 @@ module _ (before now : ℕ → Option ℕ) (page : ℕ) where
       no_word {a = a} None e h = ap (λ (o : Option ℕ). is_changed (before a) o) e
       no_word (Some v) e h = absurd (h (subst (λ (o : Option ℕ). IsSome o) (sym e) refl))
 
-  -- where both have the page in a run, by the numbers in the runs
+  -- if both have the page in a run, by the numbers in the runs
   module _ (run_before run_now : List ℕ) (is_before : IsRun before (4096 * page) run_before) (is_now : IsRun now (4096 * page) run_now) (long_before : 4096 ≤ length run_before) (long_now : 4096 ≤ length run_now) where
     in_runs : (k : ℕ) → k < 512 → (u v : ℕ) → u ≡ number_at w64 run_before (8 * k) → v ≡ number_at w64 run_now (8 * k) → is_changed (before (4096 * page + 8 * k)) (now (4096 * page + 8 * k)) ≡ not (u == v)
     in_runs k h u v e f =

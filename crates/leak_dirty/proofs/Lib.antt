@@ -1,3 +1,4 @@
+-- The lemmas of this crate, by subject.
 pub mod LineLemmas
 pub mod NumberLemmas
 pub mod CarryLemmas

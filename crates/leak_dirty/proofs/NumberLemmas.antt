@@ -57,7 +57,7 @@ to_numbers n test (c ∷ blocks) (suc k) j b e p s = go (test c) (to_numbers (n 
     go true h = there n (numbers_from (n + 1) test blocks) j h
     go false h = h
 
--- the number of the next block, where it passes
+-- the number of the next block, if it passes
 numbers_next : (n : ℕ) (test : Block → Bool) (blocks : List Block) (k : ℕ) (d : Block) → k < length blocks →
     numbers_from n test (take (suc k) blocks) ≡ numbers_from n test (take k blocks) ++ (if test (get_or blocks k d) then (n + k) ∷ [] else [])
 numbers_next n test [] k d h = absurd (omega arith)
@@ -116,7 +116,7 @@ to_marked (s ∷ set) (c ∷ blocks) (suc n) b m e = go (s && (c.line == b.line)
 
 -- ---- a list of numbers that grows block by block
 
--- the list with the number, where the block's line has the test's answer
+-- the list with the number, if the block's line has the test's answer
 pub numbers_kept : (test : ℕ → Bool) (blocks : List Block) (k : ℕ) (d : Block) (numbers longer : List ℕ) (t : Bool) → k < length blocks →
     numbers ≡ numbers_from 0 (λ b. test b.line) (take k blocks) → t ≡ test (get_or blocks k d).line → longer ≡ (if t then numbers ++ k ∷ [] else numbers) →
     longer ≡ numbers_from 0 (λ b. test b.line) (take (k + 1) blocks)

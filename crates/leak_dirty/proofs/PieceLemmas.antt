@@ -30,7 +30,7 @@ filter_next p a (suc n) = go (p a)
     go true e = ap (λ (xs : List ℕ). a ∷ xs) e
     go false e = e
 
--- the list with the next page, where it passes
+-- the list with the next page, if it passes
 pub filter_more : (p : ℕ → Bool) (from n page : ℕ) (found pages longer : List ℕ) (t : Bool) → page ≡ from + n → pages ≡ found ++ filter p (range_with_len from n) → t ≡ p page →
     longer ≡ (if t then pages ++ page ∷ [] else pages) → longer ≡ found ++ filter p (range_with_len from (n + 1))
 filter_more p from n page found pages longer t place so_far is e =

@@ -78,7 +78,7 @@ map_at f (y ∷ xs) (suc n) x d e = map_at f xs n x d e
 
 -- ---- words
 
--- a word that has not changed stood there before
+-- a word that has not changed was there before
 same_word : (o : Option ℕ) (w : ℕ) → is_changed o (Some w) ≡ false → o ≡ Some w
 same_word None w h = absurd (true≢false h)
 same_word (Some v) w h = ap Some (same_number v w (go (v == w) h))

@@ -13,7 +13,7 @@ is_changed before None = false
 is_changed None (Some w) = true
 is_changed (Some v) (Some w) = not (v == w)
 
--- a page of 4096 addresses differs where some word of the later core in it is not that of the earlier core
+-- a page of 4096 addresses differs if some word of the later core in it is not that of the earlier core
 unfoldable pub differs : (ℕ → Option ℕ) → (ℕ → Option ℕ) → ℕ → Bool
 differs word_before word_now page =
     list_any (λ a. is_changed (word_before a) (word_now a)) (range_with_len (4096 * page) 4096)

@@ -9,7 +9,7 @@ use Rattle.leak_blocks.specs.Live.{live_of}
 use Rattle.leak_marks.specs.Lists.{Has}
 use Rattle.leak_dirty.specs.declared.kept.Carry.{Carry}
 
--- the numbers of the blocks that pass the test, where the first has the number n
+-- the numbers of the blocks that pass the test, if the first has the number n
 abbrev pub numbers_from : ℕ → (Block → Bool) → List Block → List ℕ
 numbers_from n test [] = []
 numbers_from n test (b ∷ blocks) =
@@ -38,13 +38,13 @@ fresh_of lines_before now = numbers_from 0 (λ b. nat_lt lines_before b.line) no
 unfoldable pub absent_of : List Block → List Block → List ℕ
 absent_of before now = numbers_from 0 (λ b. not (has_line before b.line)) now
 
--- where the earlier log begins the later one, these are the fresh ones
+-- if the earlier log begins the later one, these are the fresh ones
 abbrev pub AbsentAreFresh : Type 0
 AbsentAreFresh = (before after : List Line) →
     absent_of (live_of before) (live_of (before ++ after))
     ≡ fresh_of (length before) (live_of (before ++ after))
 
--- two ascending lists of numbers of blocks, of so many blocks, that have no number in common
+-- two ascending lists of numbers of blocks, of this many blocks, that have no number in common
 pub record IsCarry (blocks : ℕ) (c : Carry) : Type 0 where
   pub kept_ascend : IsStrictlyIncreasing c.kept.items
   pub fresh_ascend : IsStrictlyIncreasing c.fresh.items

@@ -1,3 +1,4 @@
+-- The definitions of this crate, by subject.
 pub mod Differing
 pub mod Pieces
 pub mod Kept

@@ -65,13 +65,13 @@ SameWordsLeadWithin =
     → Has (kept_of (live_of before) set (live_of (before ++ after))) j
     ⊎ Has (fresh_of (length before) (live_of (before ++ after))) j
 
--- a start that marks the kept and the fresh blocks, and scans the kept ones again on the pages and the fresh ones whole
+-- a start that marks the kept and the fresh blocks; it scans the kept ones again on the pages, and all of the fresh ones
 pub record IsStartWith (c : Carry) (s : Start) : Type 0 where
   pub marked : (b : ℕ) → Has s.marked.items b ↔ (Has c.kept.items b ⊎ Has c.fresh.items b)
   pub rescan : s.rescan.items
       ≡ map (λ b. (b, Differing)) c.kept.items ++ map (λ b. (b, Whole)) c.fresh.items
 
--- What marking again comes to. Where the words of kept blocks off the pages lead to kept and fresh blocks alone, the
+-- What marking again comes to. If the words of kept blocks off the pages lead to kept and fresh blocks alone, the
 -- set is what chains of the two cores reach, and the claims partition what of it is neither kept nor fresh.
 pub record IsRetrace (word_now : ℕ → Option ℕ) (index : Index) (places : Places) (pages : List ℕ)
     (c : Carry) (workers : ℕ) (r : Retraced) : Type 0 where

@@ -52,10 +52,10 @@ fn runs_differ(before: &[u8], now: &[u8]) -> bool
     before[..4096] != now[..4096]
 }
 
-/// Adds the pages that differ, of those from the page on that both cores have whole, each in one run, or of this page
+/// Adds the pages that differ, of those from the page on that both cores have completely, each in one run, or of this page
 /// alone. Gives the first page that was not looked at.
 ///
-/// A page that no run holds whole is asked word by word, as at the edges of segments.
+/// A page that no run holds completely, as at the edges of segments, is compared word by word.
 fn push_differing(
     pages: &mut Vec<u64>,
     first: &Image,
@@ -138,7 +138,7 @@ fn joined(alloc: Global, lists: &[Vec<u64>]) -> Result<Vec<u64>, AllocError>
 
 /// Finds the pages of the later core on which some word is not in the earlier core with the same value.
 ///
-/// A page that the earlier core lacks differs where the later core has a word on it. A page of which the later core
+/// A page that the earlier core lacks differs if the later core has a word on it. A page of which the later core
 /// has no word doesn't differ.
 pub fn differing<R: Threads + Sync>(
     rt: &R,

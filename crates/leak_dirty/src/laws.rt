@@ -3,7 +3,7 @@ ghost use Rattle.leak_dirty.specs.Kept.{AbsentAreFresh};
 ghost use Rattle.leak_dirty.specs.Retrace.{SameWordsLeadWithin};
 ghost use Rattle.leak_dirty.specs.Examples.{AreWorkedCores};
 
-/// Where one log begins another, a block whose line is that of no live block of the first comes after the first.
+/// If one log begins another, a block whose line is that of no live block of the first comes after the first.
 pub fn absent_are_fresh()
     ensures { AbsentAreFresh }
 {}

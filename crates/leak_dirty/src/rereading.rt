@@ -30,7 +30,7 @@ fn count_in<W: Words>(words: &W, from: u64, end: u64) -> u64
     count
 }
 
-/// How many words of the block stand on listed pages.
+/// How many words of the block are on listed pages.
 fn count_on<W: Words>(words: &W, block: &Block, pages: &Pages) -> u64
     requires { block.now.start + block.now.size < 2 ^ 64 }
     ensures { result ≡ length (block_words_on (W.word_at words.now) pages.now block.now) }
@@ -48,7 +48,7 @@ fn count_on<W: Words>(words: &W, block: &Block, pages: &Pages) -> u64
     count
 }
 
-/// How many words the numbered blocks have on the pages. It asks for no word on other pages.
+/// How many words the numbered blocks have on the pages. It reads no word on other pages.
 pub(crate) fn count_words<W: Words>(
     words: &W,
     blocks: &[Block],

@@ -20,7 +20,7 @@ use std::thread::Threads;
 pub struct Retraced {
     /// The marked blocks, and who claimed those that are neither kept nor fresh.
     pub marked: Marked,
-    /// How many words of kept blocks stand on the pages that differ, changed or not.
+    /// How many words of kept blocks are on the pages that differ, changed or not.
     pub reread: u64,
 }
 
@@ -47,7 +47,7 @@ fn push_parts(parts: &mut Vec<(u32, Part)>, blocks: &[u32], part: Part) -> Resul
 }
 
 /// The state to mark from: kept and fresh blocks are marked. Of the kept ones only the differing pages are scanned
-/// again, since their other words lead to no block outside the start; the fresh ones are scanned whole.
+/// again, since their other words lead to no block outside the start; of the fresh ones all words are scanned.
 fn start_of(alloc: Global, carry: &Carry) -> Result<Start, AllocError>
     ensures marked { IfOk result (λ s.
         IsPermutation (carry.now.kept.items ++ carry.now.fresh.items) s.marked.items) }

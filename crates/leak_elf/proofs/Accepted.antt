@@ -28,7 +28,7 @@ four false false true d w x y z e = absurd cc
 four false false false true w x y z e = absurd cc
 four false false false false w x y z e = (refl, refl, refl, refl)
 
--- what a header without a fault is, where it has addresses
+-- what a header without a fault is, if it has addresses
 pub record Fine (file : List ℕ) (before : List Header) (h : Header) : Type 0 where
   pub sizes : h.filesz ≤ h.memsz
   pub high : h.vaddr + h.memsz < 2 ^ 64
@@ -54,7 +54,7 @@ fine file before i h l e =
 Beside : Segment → Segment → Type 0
 Beside s t = (s.vaddr + s.memsz ≤ t.vaddr) ⊎ (t.vaddr + t.memsz ≤ s.vaddr)
 
--- where a segment comes to stand
+-- the place at which a segment is put
 pub record Place (s : Segment) (xs : List Segment) : Type 0 where
   pub at : ℕ
   pub bound : at ≤ length xs

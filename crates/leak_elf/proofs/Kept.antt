@@ -26,7 +26,7 @@ kept_more hs i d l =
     (elim t as (λ v. ascending (kept (take i hs)) (map segment_of (cond v (h ∷ []) [])) ≡ cond v (by_address (segment_of h) (kept (take i hs))) (kept (take i hs))) [ true ↦ refl | false ↦ refl ]) in
     rw (filter_more has_addresses hs i d l) (step (has_addresses h))
 
--- what stands at an index once s is among xs
+-- the item at an index once s is put among xs
 before_place : (s : Segment) (xs : List Segment) (i k : ℕ) (d : Segment) → i ≤ length xs → k < i → get_or (insert xs i s) k d ≡ get_or xs k d
 before_place s xs zero k d b l = absurd (omega arith)
 before_place s [] (suc i) k d b l = absurd (omega arith)

@@ -1,3 +1,4 @@
+-- The lemmas of this crate, by subject.
 pub mod Accepted
 pub mod Faults
 pub mod Held

@@ -98,7 +98,7 @@ meet_step hs k d l =
     let h = get_or hs k d in
     ap any_meet (kept_more hs k d l) ∙ step_by h (take k hs) (is_load h) (ltb 0 h.memsz) refl refl
 
--- where no two of the first headers meet, none overlaps an earlier one
+-- if no two of the first headers meet, none overlaps an earlier one
 pub all_apart : (hs : List Header) (n : ℕ) (d : Header) → n ≤ length hs → meet_within hs n ≡ false → (k : ℕ) → k < n → overlaps (take k hs) (get_or hs k d) ≡ false
 all_apart hs zero d b e k l = absurd (omega arith)
 all_apart hs (suc n) d b e k l =

@@ -94,7 +94,7 @@ sized file before (h ∷ hs) i e =
 empty : Segment
 empty = record { vaddr = 0; memsz = 0; offset = 0; filesz = 0; writable = false }
 
--- a segment that holds the word, with the address and the offset of the header's
+-- a segment that holds the word, and has the address and the offset of the header
 abbrev alike : ℕ → Header → Segment → Bool
 alike a h s = holds_word a s && (eqb s.vaddr h.vaddr && eqb s.offset h.offset)
 

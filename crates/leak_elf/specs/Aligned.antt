@@ -1,4 +1,4 @@
--- The words of a file stand at multiples of 8.
+-- The words of a file are at multiples of 8.
 use Rattle.std.proofs.Common.{◌≡◌, ℕ, ◌%◌, Bool, true, false, refl, List, None, IsSome, option_map, find, ◌==◌, if◌then◌else◌, ◌+◌, ◌-◌, eqb→eq, sym, true≢false}
 use Rattle.std.specs.Bool.{passes}
 use Rattle.std.specs.Int.{w64}

@@ -2,7 +2,7 @@
 use Rattle.std.specs.Prelude.{ℕ, ◌+◌, List, slice_range}
 use Rattle.std.specs.Int.{Width, w16, w32, w64, byte_len, from_le_bytes}
 
--- the number of the width that stands at the offset
+-- the number of the width at the offset
 unfoldable pub number_at : Width → List ℕ → ℕ → ℕ
 number_at w file offset = from_le_bytes w (slice_range file offset (offset + byte_len w))
 
@@ -25,6 +25,6 @@ e_phentsize file = number_at w16 file 54
 abbrev pub e_phnum : List ℕ → ℕ
 e_phnum file = number_at w16 file 56
 
--- sh_info of section header 0, which stands at e_shoff
+-- sh_info of section header 0, which is at e_shoff
 abbrev pub sh_info : List ℕ → ℕ
 sh_info file = number_at w32 file (e_shoff file + 44)

@@ -16,15 +16,15 @@ header_at file at = record {
   memsz = number_at w64 file (at + 40);
 }
 
--- so many headers one after another, from the offset on
+-- this many headers one after another, from the offset on
 abbrev pub table_at : List ℕ → ℕ → ℕ → List Header
 table_at file start n = map (λ i. header_at file (start + 56 * i)) (range_with_len 0 n)
 
--- extended numbering (PN_XNUM): the number of program headers stands in section header 0
+-- extended numbering (PN_XNUM): the number of program headers is in section header 0
 abbrev pub is_extended : List ℕ → Bool
 is_extended file = e_phnum file == 0xffff
 
--- section header 0, of 64 bytes, is not in the file; where e_shoff is 0 there is none
+-- section header 0, of 64 bytes, is not in the file; if e_shoff is 0 there is none
 abbrev pub lacks_section_header : List ℕ → Bool
 lacks_section_header file = e_shoff file == 0 || nat_lt (length file) (e_shoff file + 64)
 
@@ -32,7 +32,7 @@ lacks_section_header file = e_shoff file == 0 || nat_lt (length file) (e_shoff f
 abbrev pub header_count : List ℕ → ℕ
 header_count file = if is_extended file then sh_info file else e_phnum file
 
--- that number, where the file has it
+-- that number, if the file has it
 abbrev pub found_count : List ℕ → Option ℕ
 found_count file = if is_extended file && lacks_section_header file then None else Some (header_count file)
 

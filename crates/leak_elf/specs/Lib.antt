@@ -1,3 +1,4 @@
+-- The definitions of this crate, by subject.
 pub mod Fields
 pub mod Headers
 pub mod Plain

@@ -1,5 +1,5 @@
--- Refusals and words once more, over the program headers alone: each header is set against those before it in the
--- file, and a word is looked for in the headers as they stand (System V gABI, elf(5)).
+-- Refusals and words once more, over the program headers alone: each header is compared with those before it in the
+-- file, and a word is looked for in the headers as they are (System V gABI, elf(5)).
 use Rattle.std.specs.Prelude.{◌≡◌, ℕ, ◌+◌, ◌-◌, ◌%◌, Bool, ◌&&◌, List, ◌++◌, take, find, ◌==◌, if◌then◌else◌, Option, None, option_map}
 use Rattle.std.specs.Int.{w64}
 use Rattle.std.specs.List.{flat_map, enumerate_from}
@@ -19,7 +19,7 @@ plain_fault_of file = first_fault (file_faults file ++ flat_map (λ h. header_fa
 abbrev pub header_holds : ℕ → Header → Bool
 header_holds a h = is_load h && holds_word a (segment_of h)
 
--- the word at an address that is a multiple of 8, where one PT_LOAD header holds its bytes
+-- the word at an address that is a multiple of 8, if one PT_LOAD header holds its bytes
 unfoldable pub plain_word_of : List ℕ → ℕ → Option ℕ
 plain_word_of file a =
     if a % 8 == 0 then option_map (λ h. number_at w64 file (h.offset + (a - h.vaddr))) (find (header_holds a) (headers file))

@@ -65,7 +65,7 @@ faults_from file before i (h ∷ hs) = option_or (header_fault file before i h) 
 unfoldable pub fault_of : List ℕ → Option ElfError
 fault_of file = option_or (file_fault file) (faults_from file [] 0 (headers file))
 
--- the overlap of the first header, of so many, that has an address in common with an earlier one
+-- the overlap of the first of this many headers that has an address in common with an earlier one
 pub record IsMeetingBefore (hs : List Header) (count : ℕ) (e : ElfError) : Type 0 where
   pub at : ℕ
   pub is : e ≡ Overlap at

@@ -2,7 +2,7 @@
 use Rattle.std.specs.Prelude.{◌≡◌, ◌≤◌, ℕ, ◌+◌, ◌-◌, ◌%◌, List, [], ◌∷◌, ◌++◌, take, drop, length, replicate}
 use Rattle.std.specs.Int.{w16, w32, w64, to_le_bytes}
 
--- so many zero bytes
+-- this many zero bytes
 unfoldable pub zeros : ℕ → List ℕ
 zeros n = replicate n 0
 
@@ -10,7 +10,7 @@ zeros n = replicate n 0
 abbrev pub patched : List ℕ → ℕ → List ℕ → List ℕ
 patched file offset bytes = take offset file ++ bytes ++ drop (offset + length bytes) file
 
--- the file header of a core with so many program headers, which stand after it
+-- the file header of a core with this many program headers, which follow it
 unfoldable pub file_header : ℕ → List ℕ
 file_header phnum =
     (0x7f ∷ 0x45 ∷ 0x4c ∷ 0x46 ∷ 2 ∷ 1 ∷ 1 ∷ []) ++ zeros 9
@@ -35,7 +35,7 @@ front =
 unfoldable pub sample : List ℕ
 sample = front ++ zeros 4096
 
--- the same with a third program header, which stands before the notes
+-- the same with a third program header, which comes before the notes
 unfoldable pub sample_of_three : List ℕ → List ℕ
 sample_of_three third =
     file_header 3 ++ program_header 4 0 232 0 356 0 4 ++ program_header 1 6 4096 0x10000 4096 4096 4096 ++ third
@@ -47,7 +47,7 @@ pub record IsSampleAddress (addr : ℕ) : Type 0 where
   pub from_start : 0x10000 ≤ addr
   pub to_end : addr ≤ 0x10ff8
 
--- the core with the words set one after another: the word at an address of the segment stands 0xf000 before it
+-- the core with the words set one after another: the offset of a word of the segment is its address less 0xf000
 abbrev pub with_words : List ℕ → List (ℕ × ℕ) → List ℕ
 with_words file [] = file
 with_words file (w ∷ ws) = with_words (patched file (w.0 - 0xf000) (to_le_bytes w64 w.1)) ws

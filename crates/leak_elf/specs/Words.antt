@@ -19,7 +19,7 @@ places from to = range_with_len from (to - 7 - from)
 unfoldable pub words_between : (ℕ → Option ℕ) → ℕ → ℕ → List ℕ
 words_between word_at from to = filter_map word_at (places from to)
 
--- each whole group of 8 bytes is the word at its address
+-- each complete group of 8 bytes is the word at its address
 abbrev pub IsRun : (ℕ → Option ℕ) → ℕ → List ℕ → Type 0
 IsRun word_at from bytes = (k : ℕ) → 8 * k + 8 ≤ length bytes → word_at (from + 8 * k) ≡ Some (number_at w64 bytes (8 * k))
 
@@ -27,7 +27,7 @@ IsRun word_at from bytes = (k : ℕ) → 8 * k + 8 ≤ length bytes → word_at 
 abbrev pub holds_word : ℕ → Segment → Bool
 holds_word a s = nat_le s.vaddr a && nat_le (a + 8) (s.vaddr + s.filesz)
 
--- the word at an address that is a multiple of 8, where one segment holds its bytes
+-- the word at an address that is a multiple of 8, if one segment holds its bytes
 unfoldable pub word_in : List ℕ → List Segment → ℕ → Option ℕ
 word_in file segments a =
     if a % 8 == 0 then option_map (λ s. number_at w64 file (s.offset + (a - s.vaddr))) (find (holds_word a) segments)

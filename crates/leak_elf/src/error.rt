@@ -8,8 +8,8 @@ use thiserror::Error;
 
 /// Why a file is not read as a core, in the order in which the reasons are tried.
 ///
-/// The first ten are reasons of the file header, in this order. Then each program header is tried in the
-/// order of the file, each for the next four in this order. Program headers count from 0.
+/// The first ten are about the file header. Then the program headers are tried in the order of the
+/// file, each for the next four. Program headers count from 0.
 #[derive(Clone, Copy, Debug, PartialEq, Eq, Error)]
 pub enum ElfError {
     /// The file has less than the 64 bytes of a file header.
@@ -36,7 +36,7 @@ pub enum ElfError {
     /// A program header doesn't have 56 bytes.
     #[error("program header size is not 56")]
     EntrySize,
-    /// The number of program headers stands in section header 0 (PN_XNUM), which is not in the file.
+    /// The number of program headers is in section header 0 (PN_XNUM), which is not in the file.
     #[error("section header 0 is missing or cut off")]
     Extended,
     /// The program headers end past the end of the file.

@@ -34,7 +34,7 @@ pub(crate) fn u64_at(bytes: &[u8], at: usize) -> u64
     LittleEndian::read_u64(&bytes[at..at + 8])
 }
 
-/// The bytes of the file from the offset on. Where there are none, the offset may lie past its end.
+/// The bytes of the file from the offset on. If there are none, the offset may lie past its end.
 pub(crate) fn bytes_from(core: &[u8], offset: u64, filesz: u64) -> &[u8]
     requires { 0 < filesz → offset + filesz ≤ length core.now }
     ensures bytes { result.now ≡ bytes_at core.now offset filesz }

@@ -20,7 +20,7 @@ pub(crate) const PF_W: u32 = 2;
 pub(crate) const ET_CORE: u16 = 4;
 /// The machine of an x86-64 file.
 pub(crate) const EM_X86_64: u16 = 62;
-/// The count that says that the number of program headers stands in section header 0.
+/// The count that says that the number of program headers is in section header 0.
 const PN_XNUM: u16 = 0xffff;
 
 /// The size in bytes of a file header.
@@ -65,7 +65,7 @@ fn read_header(core: &[u8], at: usize) -> Header
 
 /// How many program headers the file has, if that can be read.
 ///
-/// Where `e_phnum` is PN_XNUM, the number is `sh_info` of section header 0 (gABI, extended numbering).
+/// If `e_phnum` is PN_XNUM, the number is `sh_info` of section header 0 (gABI, extended numbering).
 /// In all other files `e_shoff` is not looked at.
 pub(crate) fn count_headers(core: &[u8]) -> Option<usize>
     requires { 64 ≤ length core.now }

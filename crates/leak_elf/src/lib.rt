@@ -6,7 +6,7 @@
 //!
 //! The rules are those of the System V gABI and elf(5). Bytes past the file size of a segment are
 //! not in the file, so they are no words, and no zeros are made up for them. Of section headers only
-//! the number of program headers is read, where there are too many for the file header to number.
+//! the number of program headers is read, if there are too many for the file header to number.
 //! What the contracts don't say is whether the file is a true picture of a process.
 #![tactic(auto)]
 

@@ -92,7 +92,7 @@ fn meet(alloc: Global, headers: &[Header], count: usize) -> Result<bool, AllocEr
 
 /// The first header that has an address in common with an earlier one.
 ///
-/// Each test sorts the segments anew. So the search halves the headers.
+/// Each test sorts the segments anew, so the first overlap is found by halving the headers.
 fn first_overlap(alloc: Global, headers: &[Header], count: usize) -> Result<usize, AllocError>
     requires bound { count ≤ length headers.now }
     requires meet { meet_within headers.now count ≡ true }

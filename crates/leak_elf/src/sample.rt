@@ -7,7 +7,7 @@ ghost use Rattle.leak_elf.specs.Sample.{patched, with_words, zeros, file_header,
 use crate::header::{EM_X86_64, ET_CORE, Header, PT_LOAD, PT_NOTE};
 use std::alloc::{AllocError, Global};
 
-/// How far past its file offset a word of the segment has its address.
+/// The address of a word of the segment, less its file offset.
 const SHIFT: u64 = 0xf000;
 
 /// A core file of one thread and one writable segment, with the words set, each as an address and
@@ -75,7 +75,7 @@ fn zero_core(alloc: Global) -> Result<Vec<u8>, AllocError>
     Ok(core)
 }
 
-/// Appends the file header of a core with so many program headers, which stand after it.
+/// Appends the file header of a core with this many program headers, which follow it.
 #[tactic(auto, unfolding(crate::specs::Sample::file_header))]
 fn push_file_header(core: &mut Vec<u8>, count: u16) -> Result<(), AllocError>
     ensures { OnOk result (core.new.items ≡ core.old.items ++ file_header count) }

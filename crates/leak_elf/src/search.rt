@@ -58,7 +58,7 @@ fn find_next_in(segment: Segment, from: u64) -> Option<u64>
 }
 
 /// For each segment, the number of the first segment at or after it that holds a word, or the number of
-/// segments where there is none.
+/// segments if there is none.
 pub(crate) fn find_holders(alloc: Global, segments: &[Segment]) -> Result<Vec<usize>, AllocError>
     requires { AreKept segments.now }
     ensures { IfOk result (λ v. AreHolders segments.now v.items) }

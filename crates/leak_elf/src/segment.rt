@@ -8,7 +8,7 @@ ghost use Rattle.leak_elf.specs.Segments.{kept_of, IsAscending, AreKept, segment
 use crate::header::{Header, PF_W, PT_LOAD, PT_NOTE};
 use std::alloc::{AllocError, Global};
 
-/// A part of the address space, and where its dumped bytes stand in the file (gABI, PT_LOAD).
+/// A part of the address space, and where its dumped bytes are in the file (gABI, PT_LOAD).
 #[derive(Clone, Copy, Debug, PartialEq, Eq)]
 pub struct Segment {
     /// The first address.
@@ -19,14 +19,14 @@ pub struct Segment {
     pub offset: u64,
     /// How many bytes are dumped: those of its first addresses. The others are not in the file.
     pub filesz: u64,
-    /// If the process could write it.
+    /// Whether the process could write it.
     pub writable: bool,
 }
 
 /// A part of the file that holds notes (gABI, PT_NOTE).
 #[derive(Clone, Copy, Debug, PartialEq, Eq)]
 pub struct NotePart {
-    /// The file offset of its first byte. Where `filesz` is 0 it may lie past the end of the file.
+    /// The file offset of its first byte. If `filesz` is 0 it may lie past the end of the file.
     pub offset: u64,
     /// Its size in bytes.
     pub filesz: u64,
@@ -47,7 +47,7 @@ fn read_segment(header: Header) -> Segment
 
 /// The segments that have addresses, by ascending address.
 ///
-/// They are sorted at once, since headers may stand in any order.
+/// They are sorted at once, since headers may be in any order.
 pub(crate) fn kept_segments(alloc: Global, headers: &[Header]) -> Result<Vec<Segment>, AllocError>
     ensures items { IfOk result (λ v. v.items ≡ kept_of headers.now) }
     ensures ascending { IfOk result (λ v. IsAscending v.items) }

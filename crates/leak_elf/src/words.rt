@@ -18,8 +18,8 @@ pub trait Words {
         ensures least { IsNextReadable (word_at self.now) from result }
         ensures place { IfSome result (λ addr. (addr % 8 ≡ 0) × (addr + 8 ≤ 2 ^ 64)) };
 
-    /// Bytes of words that stand one after another from the address on. There may be more such
-    /// words than it gives, and by default it gives none: a caller asks `word` for the others.
+    /// Bytes of consecutive words from the address on. It may give fewer than there are, by default none:
+    /// a caller asks `word` for the others.
     fn run(&self, from: u64) -> &[u8]
         ensures { IsRun (word_at self.now) from result.now }
     {

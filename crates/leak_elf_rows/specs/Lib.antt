@@ -1,1 +1,2 @@
+-- The definitions of this crate, by subject.
 pub mod Values

@@ -11,7 +11,7 @@ use Rattle.leak_elf.specs.Sample.{sample, sample_with, patched, sample_of_three,
 abbrev pub with_section : List ℕ → ℕ → ℕ → List ℕ
 with_section file e_shoff sh_info = patched (patched file 40 (to_le_bytes w64 e_shoff)) (e_shoff + 44) (to_le_bytes w32 sh_info)
 
--- the sample, whose number of program headers stands there
+-- the sample, with its number of program headers there
 abbrev pub extended : ℕ → ℕ → List ℕ
 extended e_shoff sh_info = with_section (patched sample 56 (to_le_bytes w16 0xffff)) e_shoff sh_info
 

@@ -1,4 +1,4 @@
--- No text has a control character.
+-- Escaped text has no control character.
 use Rattle.std.proofs.Common.{rules, arith, ◌≡◌, ◌∙◌, ap, sym, ℕ, ◌+◌, ◌-◌, ◌<◌, ◌≤◌, ◌/◌, ◌%◌, ◌==◌, ◌&&◌, ◌||◌, not, Bool, true, false, suc, zero, List, [], ◌∷◌, ◌++◌, flat_map, decimal, refl, nat_lt}
 use Rattle.std.proofs.lemmas.Bool.{cond_both}
 use Rattle.std.proofs.lemmas.Nat.{mod_below}

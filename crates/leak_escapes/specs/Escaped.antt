@@ -1,5 +1,5 @@
 -- Text from outside, as one line of a message shows it. Own rule, after the escapes of Rust: each byte below 32, 127 and the
--- backslash are written by a backslash and what follows it, so that the text can be read back; all others stand as they are.
+-- backslash are written by a backslash and what follows it, so that the text can be read back; all others stay as they are.
 use Rattle.std.specs.Prelude.{◌≡◌, ℕ, ◌+◌, ◌-◌, ◌/◌, ◌%◌, Bool, not, true, ◌==◌, ◌||◌, List, [], ◌∷◌, flat_map, nat_lt, if◌then◌else◌}
 use Rattle.std.specs.List.{list_all}
 

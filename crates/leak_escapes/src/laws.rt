@@ -2,7 +2,7 @@
 
 ghost use Rattle.leak_escapes.specs.Escaped.{EscapedIsShown};
 
-/// Text from outside has no control character where it is escaped, and so no line end.
+/// Text from outside has no control character once it is escaped, and so no line end.
 pub fn escaped_text_is_shown()
     ensures { EscapedIsShown }
 {}

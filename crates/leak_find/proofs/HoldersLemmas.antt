@@ -42,7 +42,7 @@ held_stopped source o before mid after inputs (Find e) so_far few fault = absurd
 held_stopped source o before mid after inputs (NoBlock a) so_far few fault = absurd fault
 held_stopped source o before mid after inputs (Write f) so_far few fault = absurd fault
 
--- no answer where nothing is asked of some blocks
+-- no answer if nothing is asked of some blocks
 pub not_told : (core log : List ℕ) (since : Option (List ℕ)) (e : FindError) → (e ≢ NoMemory → IsFaultOfHolders core log since e)
     → Refused e ≢ Refused NoMemory → IsNotTold None core log since (Refused e)
 not_told core log since e fault other = fault (λ same. other (ap Refused same))

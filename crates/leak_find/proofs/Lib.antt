@@ -1,3 +1,4 @@
+-- The lemmas of this crate, by subject.
 pub mod InputLemmas
 pub mod TriedLemmas
 pub mod RunLemmas

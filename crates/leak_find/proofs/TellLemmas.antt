@@ -1,4 +1,4 @@
--- What runs come to by the bytes of their streams, where the streams tell them.
+-- What runs come to by the bytes of their streams, if the streams tell them.
 use Rattle.std.proofs.Common.{ℕ, List, Option}
 use Rattle.leak_streams.proofs.Consumed.{tells as tells_left}
 use Rattle.leak_streams.proofs.Appended.{tells as tells_held}

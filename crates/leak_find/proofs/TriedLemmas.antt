@@ -1,4 +1,4 @@
--- A text that was written, whole or up to a fault.
+-- A text that was written, completely or up to a fault.
 use Rattle.std.proofs.Common.{ℕ, List, inl, inr}
 use Rattle.std.specs.Prelude.{Result, Ok, Err, OnOk, IfErr}
 use Rattle.leak_streams.specs.declared.fault.WriteFault.{WriteFault}

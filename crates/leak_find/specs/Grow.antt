@@ -44,7 +44,7 @@ pub record RunsGrow {R W V : Type 0} (source : Source R) (sink : Sink W) (warner
   pub warned : IsTried warner (warnings_of grown.signs.items) heard hears
   pub status_is : status ≡ status_by o.strict 0 (warnings_of grown.signs.items)
 
--- the answer was made, and was not written whole
+-- the answer was made, and was not written completely
 pub record IsGrowWriteFault {R W : Type 0} (source : Source R) (sink : Sink W) (o : GrowOptions) (before after : List R)
     (held holds : W) (f : WriteFault) : Type 0 where
   pub grown : Grown

@@ -21,14 +21,14 @@ use Rattle.leak_find.specs.Run.{status_by, warnings_by}
 abbrev pub limit_of_held : Options → ℕ → ℕ
 limit_of_held o i = if i == 0 then o.core_limit else o.log_limit
 
--- the earlier log, where there is a third input
+-- the earlier log, if there is a third input
 abbrev pub earlier_in : List (List ℕ) → Option (List ℕ)
 earlier_in [] = None
 earlier_in (core ∷ []) = None
 earlier_in (core ∷ log ∷ []) = None
 earlier_in (core ∷ log ∷ since ∷ others) = Some since
 
--- who holds the memory, or, where there is a question, its answer
+-- who holds the memory, or, if there is a question, its answer
 abbrev pub Tells : Option Question → Options → List ℕ → List ℕ → Option (List ℕ) → Holding → Type 0
 Tells None o core log since holding = FindsHolders core log since (distances_of o.reading) o.skip holding
 Tells (Some question) o core log since holding = FindsHeld core log since (distances_of o.reading) o.skip question holding
@@ -83,7 +83,7 @@ pub record RunsHolders {R W V : Type 0} (source : Source R) (sink : Sink W) (war
   pub warned : IsTried warner (warnings_by o holding.signs.items) heard hears
   pub status_is : status ≡ status_by o.strict 0 (warnings_by o holding.signs.items)
 
--- the answer was made, and was not written whole
+-- the answer was made, and was not written completely
 pub record IsHoldersWriteFault {R W : Type 0} (source : Source R) (sink : Sink W) (o : Options) (question : Option Question)
     (before after : List R) (held holds : W) (f : WriteFault) : Type 0 where
   pub holding : Holding

@@ -9,7 +9,7 @@ use Rattle.leak_find.specs.Streams.{Source}
 abbrev pub input_at : List (List ℕ) → ℕ → List ℕ
 input_at inputs i = slice_index_or inputs i []
 
--- the first readers held these inputs, and each was read to its end; what each may hold, the limits tell by its number. The readers
+-- the first readers held these inputs, and each was read to its end; the limits tell by its number what each may hold. The readers
 -- after them are those that they were.
 abbrev pub AreRead : {R : Type 0} → Source R → (ℕ → ℕ) → List R → List R → List (List ℕ) → Type 0
 AreRead source limit before after [] = after ≡ before
@@ -27,7 +27,7 @@ AreReadUpTo source limit (first ∷ before) (last ∷ after) [] e =
 AreReadUpTo source limit (first ∷ before) (last ∷ after) (bytes ∷ inputs) e =
     source.whole (limit 0) first last bytes × AreReadUpTo source (λ i. limit (suc i)) before after inputs e
 
--- of so many readers, the one with the number, from 1, is the first that was not read to its end
+-- of this many readers, the one with the number, from 1, is the first that was not read to its end
 pub record IsReadFaultWithin {R : Type 0} (source : Source R) (limit : ℕ → ℕ) (readers : ℕ) (before after : List R)
     (number : ℕ) (e : ReadFault) : Type 0 where
   pub inputs : List (List ℕ)

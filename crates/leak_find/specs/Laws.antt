@@ -1,4 +1,4 @@
--- What runs come to where readers tell the bytes that they have left, and writers those that they hold.
+-- What runs come to if readers tell the bytes that they have left, and writers those that they hold.
 use Rattle.std.specs.Prelude.{ℕ, List, map, Option}
 use Rattle.leak_request.specs.declared.options.Options.{Options}
 use Rattle.leak_request.specs.declared.options.GrowOptions.{GrowOptions}

@@ -1,3 +1,4 @@
+-- The definitions of this crate, by subject.
 pub mod Streams
 pub mod Inputs
 pub mod Run

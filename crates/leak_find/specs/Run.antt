@@ -46,7 +46,7 @@ pub record HasFound {R : Type 0} (source : Source R) (o : Options) (before after
   pub finds : Finds o.two o inputs found
   pub signs : AreSigns inputs found.signs.items
 
--- the signs that count: of another heap than glibc's no misfit does
+-- the signs that count: if the heap is another than glibc's, no misfit does
 abbrev pub signs_that_count : Bool → Signs → Signs
 signs_that_count other_heap s = record s { misfits = if other_heap then 0 else s.misfits }
 
@@ -54,7 +54,7 @@ signs_that_count other_heap s = record s { misfits = if other_heap then 0 else s
 abbrev pub warnings_by : Options → List Signs → List ℕ
 warnings_by o signs = warnings_of (map (signs_that_count o.other_heap) signs)
 
--- 3 where a warning counts, else whether something leaked
+-- 3 if a warning counts, else whether something leaked
 abbrev pub status_by : Bool → ℕ → List ℕ → ℕ
 status_by strict leaked warnings =
     if strict && nat_lt 0 (length warnings) then 3 else (if nat_lt 0 leaked then 1 else 0)
@@ -80,7 +80,7 @@ pub record IsFindFault {R : Type 0} (source : Source R) (o : Options) (before af
   pub read : AreRead source (limit_at o) before after inputs
   pub fault : e ≢ NoMemory → IsFaultOf o.two inputs e
 
--- the search was made, and its report was not written whole
+-- the search was made, and its report was not written completely
 pub record IsWriteFault {R W : Type 0} (source : Source R) (sink : Sink W) (o : Options) (before after : List R)
     (held holds : W) (f : WriteFault) : Type 0 where
   pub found : Found

@@ -12,7 +12,7 @@ pub record Source (R : Type 0) : Type 1 where
   pub whole : ℕ → R → R → List ℕ → Type 0
   pub stopped : ℕ → R → R → ReadFault → Type 0
 
--- what is known of a writer that a text was written to: the text, the writer before and after, and the fault if it was not taken whole
+-- what is known of a writer that a text was written to: the text, the writer before and after, and the fault if it was not all taken
 pub record Sink (W : Type 0) : Type 1 where
   pub whole : List ℕ → W → W → Type 0
   pub cut_off : List ℕ → W → W → WriteFault → Type 0
@@ -37,6 +37,6 @@ by_bytes_held = record {
   cut_off = λ text before after f. (f.written < length text) × Appends before after (take f.written text);
 }
 
--- the text was written, and the writer took it whole or up to a fault
+-- the text was written, and the writer took all of it, or some up to a fault
 abbrev pub IsTried : {W : Type 0} → Sink W → List ℕ → W → W → Type 0
 IsTried sink text before after = sink.whole text before after ⊎ ((f : WriteFault) × sink.cut_off text before after f)

@@ -57,7 +57,7 @@ pub record RunsWhy {R W V : Type 0} (source : Source R) (sink : Sink W) (warner 
   pub warned : IsTried warner (warnings_by o why.signs.items) heard hears
   pub status_is : status ≡ status_by o.strict (leaked_if_not why.held) (warnings_by o why.signs.items)
 
--- the answer was made, and was not written whole
+-- the answer was made, and was not written completely
 pub record IsWhyWriteFault {R W : Type 0} (source : Source R) (sink : Sink W) (o : Options) (address : ℕ) (before after : List R)
     (held holds : W) (f : WriteFault) : Type 0 where
   pub why : Why

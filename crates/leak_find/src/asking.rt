@@ -73,7 +73,7 @@ pub fn run_why<R: Read, W: Write, V: Write>(
     run_why_sized(alloc, readers, &[], options, address, writer, warner)
 }
 
-/// Runs as [`run_why`] does, with readers that are said to have so many bytes, as those of [`run_sized`](crate::run_sized)
+/// Runs as [`run_why`] does, with readers that are said to have these sizes, as those of [`run_sized`](crate::run_sized)
 /// are, and promises of readers and writers by each of their calls.
 pub fn run_why_sized<R: ReadCalls, W: WriteCalls, V: WriteCalls>(
     alloc: Global,

@@ -4,7 +4,7 @@ use leak_search::FindError;
 use leak_streams::{ReadFault, WriteFault};
 use thiserror::Error;
 
-/// Why a run gives no status, in the order in which the reasons are tried. Only where a block is asked for can it be missing.
+/// Why a run gives no status, in the order in which the reasons are tried. A block can be missing only if one is asked for.
 #[derive(Clone, Copy, Debug, PartialEq, Eq, Error)]
 pub enum RunFault {
     /// The reader with the number, from 1, was not read to its end. Nothing was written.
@@ -16,7 +16,7 @@ pub enum RunFault {
     /// No live block has a byte at the address, or begins there. Nothing was written.
     #[error("no live block holds 0x{0:x}")]
     NoBlock(u64),
-    /// The report, or the answer, was not written whole.
+    /// The report, or the answer, was not written completely.
     #[error("{0}")]
     Write(WriteFault),
 }

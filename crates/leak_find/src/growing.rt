@@ -35,10 +35,10 @@ fn compare<R: ReadCalls>(
 }
 
 /// Reads an earlier and a later log of one process, writes what grew between them to the first writer and then the warnings to
-/// the second: 0, or 3 where the options are strict and there is a warning.
+/// the second: 0, or 3 if the options are strict and there is a warning.
 ///
 /// Both logs are read in order before anything is written. After a refusal the readers are where the reads left them, and the
-/// second writer was not written to. Where the second writer fails, it has a first part of the warnings, and the status is the
+/// second writer was not written to. If the second writer fails, it has a first part of the warnings, and the status is the
 /// same. The sizes are those that the readers are said to have, as of [`run_sized`](crate::run_sized).
 pub fn run_grow_sized<R: ReadCalls, W: WriteCalls, V: WriteCalls>(
     alloc: Global,

@@ -30,7 +30,7 @@ struct Inputs {
     since: Option<Vec<u8>>,
 }
 
-/// Reads a core, its log, and the earlier log, where there is a third reader.
+/// Reads a core, its log, and the earlier log, if there is a third reader.
 fn read_inputs<R: ReadCalls>(
     alloc: Global,
     readers: &mut [R],
@@ -122,11 +122,11 @@ fn hold<T: Threads + Sync, P: Progress, R: ReadCalls>(
     }
 }
 
-/// Reads a core and its log, and an earlier log where there is a third reader. Writes who holds the memory, or the answer to the
-/// question, to the first writer and then the warnings to the second: 0, or 3 where the options are strict and there is a warning.
+/// Reads a core and its log, and an earlier log if there is a third reader. Writes who holds the memory, or the answer to the
+/// question, to the first writer and then the warnings to the second: 0, or 3 if the options are strict and there is a warning.
 ///
 /// All are read in order before anything is written. After a refusal the readers are where the reads left them, and the second
-/// writer was not written to. Where the second writer fails, it has a first part of the warnings, and the status is the same. The
+/// writer was not written to. If the second writer fails, it has a first part of the warnings, and the status is the same. The
 /// sizes are those that the readers are said to have, as of [`run_sized`](crate::run_sized). What the progress is told changes
 /// nothing of all this.
 pub fn run_holders_sized<

@@ -6,7 +6,7 @@ ghost use Rattle.leak_find.specs.Laws.{RunsTell, RunsWhyTell, RunsHoldersTell, R
 use leak_streams::{ReadCalls, WriteCalls};
 use std::io::{Read, Write};
 
-/// What runs come to where the readers tell the bytes that they have left, and the writers those that they hold.
+/// What runs come to if the readers tell the bytes that they have left, and the writers those that they hold.
 pub fn runs_tell<R: Read, W: Write, V: Write>()
     ensures run { RunsTell (by_reads ⟦<R as ReadCalls>⟧.calls) R.remaining
         (by_writes ⟦<W as WriteCalls>⟧.calls) W.contents

@@ -3,15 +3,15 @@
 //! For every accepted input, every number of workers and every cutting of the work, the report is that of one thread: the
 //! live blocks to which no chain of words leads from the roots or, with two cores, from the kept and new blocks. Each
 //! other marked block is claimed by exactly one worker, and no block that can be reached in the second core is reported.
-//! Where an input is not accepted, the answer is the first refusal by the order of [`FindError`].
+//! If an input is not accepted, the answer is the first refusal by the order of [`FindError`].
 //!
 //! [`find_alone`] searches one core on the caller's thread, [`find_one`] by worker threads, under the same promise, and
-//! [`find_two`] searches a later core from what an earlier one says. [`find_why`] tells why a block is held. These stand
-//! in `leak_search`, where it is also said what a leak, a root and a chain are. [`run_sized`] and [`run_why_sized`] do
+//! [`find_two`] searches a later core from what an earlier one says. [`find_why`] tells why a block is held. These are
+//! in `leak_search`, which also says what a leak, a root and a chain are. [`run_sized`] and [`run_why_sized`] do
 //! the same from readers to writers, [`run_holders_sized`] tells who holds the memory or what some blocks hold, and
 //! [`run_grow_sized`] what grew between two logs.
 //!
-//! What a run does to its readers and writers is said in `specs/Run.antt`, `Why.antt`, `Holders.antt` and `Grow.antt`, over
+//! `specs/Run.antt`, `Why.antt`, `Holders.antt` and `Grow.antt` say what a run does to its readers and writers, over
 //! what is known of reading one and of writing to one (`specs/Streams.antt`). The runs promise it by each call of a reader
 //! and of a writer (`leak_streams`), so also of a file, of whose bytes no contract knows. [`run`] and [`run_why`], which have
 //! no sizes, promise it by the bytes that a reader has left and a writer holds; [`runs_tell`] is the law that each promise by

@@ -136,7 +136,7 @@ fn search<T: Threads + Sync, R: ReadCalls>(
 fn heeded(alloc: Global, other_heap: bool, signs: &[Signs]) -> Result<Vec<Signs>, AllocError>
     ensures { IfOk result (λ heeded. heeded.items ≡ map (signs_that_count other_heap) signs.now) }
 {
-    // A list that is collected may do without the room that it asks for first.
+    // Not collected: that could go on after its first request for room was refused.
     let mut heeded = Vec::with_capacity(alloc, signs.len())?;
     for input in signs {
         let misfits = if other_heap { 0 } else { input.misfits };
@@ -170,7 +170,7 @@ pub(crate) fn status_of(strict: bool, leaked: u64, warnings: &str) -> u8
     }
 }
 
-/// Writes a report, and then its warnings: the report stands, whatever becomes of these.
+/// Writes a report, and then its warnings: the report stays, whatever becomes of these.
 pub(crate) fn write_both<W: WriteCalls, V: WriteCalls>(
     report: &[u8],
     warnings: &str,
@@ -188,11 +188,11 @@ pub(crate) fn write_both<W: WriteCalls, V: WriteCalls>(
 }
 
 /// Reads a core and its log, or two of each (core 1, log 1, core 2, log 2), searches them, writes the report to the
-/// first writer and then the warnings to the second: 0 where nothing leaked, and 1 otherwise; where the options are
+/// first writer and then the warnings to the second: 0 if nothing leaked, and 1 otherwise; if the options are
 /// strict and there is a warning, 3.
 ///
 /// All inputs are read in order before the search is made, and report and warnings are made before anything is written.
-/// After a refusal the readers are where the reads left them, and the second writer was not written to. Where the second
+/// After a refusal the readers are where the reads left them, and the second writer was not written to. If the second
 /// writer fails, it has a first part of the warnings, and the status is the same.
 pub fn run<T: Threads + Sync, R: Read, W: Write, V: Write>(
     rt: &T,
@@ -215,12 +215,12 @@ pub fn run<T: Threads + Sync, R: Read, W: Write, V: Write>(
     run_sized(rt, alloc, readers, &[], options, writer, warner)
 }
 
-/// Runs as [`run`] does, with readers that are said to have so many bytes, in their order; 0, as a size that is missing,
-/// says nothing. A list has the said size from the start, at most its limit, where that memory can be had. Nothing else
-/// rests on a size.
+/// Runs as [`run`] does, with readers that are said to have these sizes, in their order; 0, as a size that is missing,
+/// says nothing. A list has the said size from the start, at most its limit, if that memory can be had. Nothing else
+/// depends on a size.
 ///
 /// What it promises of readers and writers it promises by each of their calls. [`runs_tell`](crate::runs_tell) is the law
-/// that says what these come to where readers and writers tell their bytes.
+/// that says what these come to if readers and writers tell their bytes.
 pub fn run_sized<T: Threads + Sync, R: ReadCalls, W: WriteCalls, V: WriteCalls>(
     rt: &T,
     alloc: Global,

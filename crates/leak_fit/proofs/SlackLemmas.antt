@@ -114,7 +114,7 @@ or_assoc : (x y z : Bool) → ((x || y) || z) ≡ (x || (y || z))
 or_assoc true y z = refl
 or_assoc false y z = refl
 
--- where one span meets or touches another that begins no later, the joined one has the addresses of both
+-- if one span meets or touches another that begins no later, the joined one has the addresses of both
 joined : (a : ℕ) (s t u : Span) → s.first ≤ t.first → t.first ≤ s.last + 1 → u.first ≡ s.first → u.last ≡ max s.last t.last → holds a u ≡ (holds a s || holds a t)
 joined a s t u l m f g =
     elim (cases_lt a s.first) [
@@ -158,7 +158,7 @@ pub apart_longer : (spans : List Span) (s u : Span) → AreApart (spans ++ s ∷
 apart_longer [] s u h e l = (let f = h.0 in omega arith, tt, tt)
 apart_longer (x ∷ spans) s u h e l = (h.0, all_last (λ (t : Span). x.last + 1 < t.first) spans s u h.1 (λ f. omega arith), apart_longer spans s u h.2 e l)
 
--- a range more, behind the last
+-- one more range, after the last
 pub apart_push : (spans : List Span) (s t : Span) → AreApart (spans ++ s ∷ []) → t.first ≤ t.last → s.last + 1 < t.first → AreApart ((spans ++ s ∷ []) ++ t ∷ [])
 apart_push [] s t h o l = (h.0, (l, tt), (o, tt, tt))
 apart_push (x ∷ spans) s t h o l =

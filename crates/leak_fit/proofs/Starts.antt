@@ -1,4 +1,4 @@
--- Whether a block begins at an address is told by the first block that doesn't begin before it.
+-- Whether a block begins at an address: the first block that doesn't begin before it tells.
 use Rattle.std.proofs.Common.{◌≡◌, ℕ, ◌^◌, ◌<◌, ◌≤◌, true, false, List, length, ◌==◌, ⊎_elim, sym, ◌∙◌, arith}
 use Rattle.std.proofs.lemmas.Bool.{eq-eqb, ne_eqb}
 use Rattle.std.proofs.lemmas.Bool.Decides.{eqb_tells}
@@ -10,7 +10,7 @@ use Rattle.leak_index.specs.Ranks.{IsCountBelow, none, start_of}
 use Rattle.leak_index.proofs.Near.{ascending, at_number, either}
 use Rattle.leak_fit.specs.FreeLinks.{has_start}
 
--- where no block begins at the address, by number
+-- no block begins at the address, by number
 none_starts : (blocks : List Block) (a : ℕ) → ((k : ℕ) → k < length blocks → ¬ (start_of blocks k ≡ a)) → has_start blocks a ≡ false
 none_starts blocks a h = list_any_none (λ b. b.start == a) blocks (All-from_get_or (λ b. (b.start == a) ≡ false) blocks none (λ k l. ne_eqb (start_of blocks k) a (h k l)))
 

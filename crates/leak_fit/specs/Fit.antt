@@ -1,5 +1,5 @@
 -- Whether a core has a chunk in use of a live block's size (glibc's malloc, `struct malloc_chunk`). In the 8 bytes before
--- each block stands its chunk's size word: the size of the chunk in bytes, whose three lowest bits are flags.
+-- each block is its chunk's size word: the size of the chunk in bytes, whose three lowest bits are flags.
 use Rattle.std.specs.Prelude.{ℕ, ◌+◌, ◌-◌, ◌*◌, ◌/◌, ◌%◌, max, Bool, false, not, ◌&&◌, ◌||◌, ◌==◌, nat_le, nat_lt, if◌then◌else◌, List, map, filter, Option}
 use Rattle.std.specs.Int.Bits.{bit_and}
 use Rattle.std.specs.Option.{option_map_or}

@@ -7,7 +7,7 @@ use Rattle.std.specs.Option.{option_map_or}
 use Rattle.leak_blocks.specs.declared.block.Block.{Block}
 use Rattle.leak_fit.specs.Fit.{is_previous_in_use, is_mapped, chunk_size, least_chunk}
 
--- the header of the chunk after the block's, where the block's is the least for its size
+-- the header of the chunk after the block's, if the block's is the least for its size
 abbrev pub next_header : Block → ℕ
 next_header b = b.start + least_chunk b.size - 16
 
@@ -23,12 +23,12 @@ has_least_chunk word_at b = option_map_or (is_least_chunk_for b.size) (word_at (
 abbrev pub has_start : List Block → ℕ → Bool
 has_start blocks a = list_any (λ b. b.start == a) blocks
 
--- there is an address, and it is so many bytes before the place
+-- there is an address, and it is that many bytes before the place
 abbrev pub is_before : Option ℕ → ℕ → ℕ → Bool
 is_before address bytes place = option_map_or (λ a. a + bytes == place) address false
 
 -- The list of the chunk with the header leads back to the place. In a chunk, as in a list's own head, the word that leads to
--- the next chunk stands 16 bytes after the header, and the word that leads to the chunk before 24 bytes after it.
+-- the next chunk is 16 bytes after the header, and the word that leads to the chunk before is 24 bytes after it.
 abbrev pub leads_back : (ℕ → Option ℕ) → ℕ → ℕ → Bool
 leads_back word_at header place =
     is_before (word_at (header + 24)) 16 place || is_before (word_at (header + 16)) 24 place

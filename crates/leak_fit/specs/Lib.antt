@@ -1,3 +1,4 @@
+-- The definitions of this crate, by subject.
 pub mod Fit
 pub mod Rows
 pub mod FreeLinks

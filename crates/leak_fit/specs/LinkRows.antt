@@ -12,7 +12,7 @@ block start size = record { start = start; size = size; line = 1; caller = (0, 0
 abbrev pub block_of_32 : Block
 block_of_32 = block 0x10100 0x20
 
--- whether the word 0x10120 at the place 0x10008 is a link as far as that block goes, where it alone is live
+-- whether the word 0x10120 at the place 0x10008 is a link as far as that block goes, if it alone is live
 abbrev pub links : List (ℕ × ℕ) → Bool
 links set = is_free_link_past (word_there set) (block_of_32 ∷ []) 0x10008 0x10120 0
 

@@ -8,8 +8,8 @@ use Rattle.leak_blocks.specs.declared.block.Block.{Block}
 use Rattle.leak_blocks.specs.declared.small.Span.{Span}
 use Rattle.leak_fit.specs.Fit.{chunk_size, fits_core, is_mapped}
 
--- Where what a block can have ends, excluded, by its chunk's size word. The chunk begins 16 bytes before the block. In a
--- heap the block has the first word of the next chunk's header too, which is of use only while its own chunk is free.
+-- The end, excluded, of what a block can have, by its chunk's size word. The chunk begins 16 bytes before the block. In a
+-- heap the block also has the first word of the next chunk's header, which malloc uses only while the block's own chunk is free.
 abbrev pub chunk_end : Block → ℕ → ℕ
 chunk_end b word = b.start + chunk_size word - (if is_mapped word then 16 else 8)
 

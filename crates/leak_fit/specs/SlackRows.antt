@@ -14,7 +14,7 @@ span first last = record { first = first; last = last }
 abbrev pub slack : List (ℕ × ℕ) → ℕ → Option Span
 slack set size = slack_of (word_there set) (block 0x10100 size)
 
--- a chunk of 32 bytes there, after which the next one says that it is in use
+-- a chunk of 32 bytes there; the next chunk says that it is in use
 abbrev pub chunk_of_32 : List (ℕ × ℕ)
 chunk_of_32 = (0x100f8, 0x21) ∷ (0x10118, 0x1) ∷ []
 

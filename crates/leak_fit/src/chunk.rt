@@ -36,14 +36,14 @@ impl SizeWord {
     }
 }
 
-/// Whether a mapping of so many bytes is what malloc takes for a block of the size.
+/// Whether malloc takes a mapping of `chunk` bytes for a block of `size` bytes.
 pub(crate) fn is_mapping_for(size: u64, chunk: u64) -> bool
     ensures { result ≡ is_mapping_for size chunk }
 {
     chunk >= size && (16..4128).contains(&(chunk - size))
 }
 
-/// Whether a chunk of so many bytes in a heap is one that malloc takes for a block of the size.
+/// Whether malloc takes a chunk of `chunk` bytes in a heap for a block of `size` bytes.
 pub(crate) fn is_heap_chunk_for(size: u64, chunk: u64) -> bool
     ensures { result ≡ is_heap_chunk_for size chunk }
 {

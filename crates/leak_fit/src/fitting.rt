@@ -9,11 +9,11 @@ use std::alloc::{AllocError, Global};
 
 /// For each live block, whether the memory has a chunk in use of its size.
 ///
-/// It asks for at most two words for each block.
+/// It reads at most two words for each block.
 pub fn fits<W: Words>(alloc: Global, words: &W, live: &Live) -> Result<Vec<bool>, AllocError>
     ensures { IfOk result (λ fits. fits.items ≡ fits_of (W.word_at words.now) live.now.blocks) }
 {
-    // A list that is collected may do without the room that it asks for first.
+    // Not collected: that could go on after its first request for room was refused.
     let blocks = live.blocks();
     let mut fits = Vec::with_capacity(alloc, blocks.len())?;
     for block in blocks {
@@ -44,7 +44,7 @@ fn fits_core<W: Words>(words: &W, block: &Block) -> bool
     }
 }
 
-/// Whether the size word, which stands before the block, is that of a chunk in use of the block's size.
+/// Whether the size word, which is the word before the block, is that of a chunk in use of the block's size.
 pub(crate) fn fits_word<W: Words>(words: &W, block: &Block, word: SizeWord) -> bool
     requires { 8 ≤ block.now.start }
     ensures { result ≡ fits_word (W.word_at words.now) block.now word.0 }
@@ -56,20 +56,20 @@ pub(crate) fn fits_word<W: Words>(words: &W, block: &Block, word: SizeWord) -> b
     is_heap_chunk_for(block.size, chunk) && follows_one_in_use(words, block.start - 8, chunk)
 }
 
-/// Whether the word so many bytes after the address is a size word by which the chunk before is in use.
+/// Whether the word that many bytes after the address is a size word which says that the chunk before it is in use.
 fn follows_one_in_use<W: Words>(words: &W, addr: u64, bytes: u64) -> bool
     ensures { result ≡ follows_one_in_use (W.word_at words.now) (addr + bytes) }
 {
     word_after(words, addr, bytes).is_some_and(|word| SizeWord(word).is_previous_in_use())
 }
 
-/// The word so many bytes after the address, if there is one.
+/// The word that many bytes after the address, if there is one.
 pub(crate) fn word_after<W: Words>(words: &W, addr: u64, bytes: u64) -> Option<u64>
     ensures { result ≡ W.word_at words.now (addr + bytes) }
 {
     match addr.checked_add(bytes) {
         Some(place) => words.word(place),
-        // No word begins at the last address, nor after it, and this says so.
+        // No word begins at the last address, nor after it, so this gives none.
         None => words.next(u64::MAX),
     }
 }

@@ -13,19 +13,19 @@ use leak_index::Hits;
 
 /// How many bytes before its block a chunk's header begins.
 const HEADER: u64 = 16;
-/// How many bytes after a header the chunk's size word stands.
+/// How many bytes after a header the chunk's size word is.
 const SIZE: u64 = 8;
-/// How many bytes after a header the word stands that leads to the next chunk of a list.
+/// How many bytes after a header the word is that leads to the next chunk of a list.
 const NEXT: u64 = 16;
-/// How many bytes after a header the word stands that leads to the chunk before it in a list.
+/// How many bytes after a header the word is that leads to the chunk before it in a list.
 const PREVIOUS: u64 = 24;
 /// The size of a page, in bytes.
 const PAGE: u64 = 4096;
 
-/// Whether the word, which stands in memory at the place, is malloc's link to a free chunk as far as the block with the
-/// number goes: it leads into the block, or to its end, only since the header of the chunk after it is there.
+/// Whether the word, which is in memory at the place, is malloc's link to a free chunk as far as the block with the number
+/// goes: it leads to the block only because the header of the chunk after the block is there.
 ///
-/// It asks for at most four words, and for none where the word is no such header's address.
+/// It reads at most four words, and none if the word is not the address of such a header.
 pub fn is_free_link<W: Words>(words: &W, live: &Live, place: u64, word: u64, block: usize) -> bool
     ensures { result ≡ is_free_link_past (W.word_at words.now) live.now.blocks place word block }
 {
@@ -36,7 +36,7 @@ pub fn is_free_link<W: Words>(words: &W, live: &Live, place: u64, word: u64, blo
     }
 }
 
-/// Of the blocks that a word leads to, those as far as which it is no link to a free chunk. The word stands in memory at
+/// The blocks that a word leads to, without those for which it is a link to a free chunk. The word is in memory at
 /// the place.
 pub fn without_free_links<W: Words>(
     words: &W,
@@ -69,7 +69,7 @@ pub fn without_free_links<W: Words>(
     }
 }
 
-/// Whether the word at the place is a link to a free chunk as far as the block goes, which is one of the live ones.
+/// Whether the word at the place is a link to a free chunk as far as the block goes, a live one.
 #[tactic(auto, unfolding(crate::specs::FreeLinks::is_free_link))]
 fn is_free_link_of<W: Words>(
     words: &W,
@@ -91,7 +91,7 @@ fn is_free_link_of<W: Words>(
         && links_to_free(words, blocks, place, word)
 }
 
-/// Whether the word is the address of the header after the block's chunk, where that is the least for its size.
+/// Whether the word is the address of the header after the block's chunk, if that is the least for its size.
 fn is_next_header(word: u64, block: &Block) -> bool
     requires { 16 ≤ block.now.start }
     ensures { result ≡ (word == next_header block.now) }
@@ -135,13 +135,13 @@ fn links_to_free<W: Words>(words: &W, blocks: &[Block], place: u64, word: u64) -
     leads_back(words, word, place) || is_top(words, word)
 }
 
-/// Whether a live block begins so many bytes after the address.
+/// Whether a live block begins that many bytes after the address.
 fn has_start(blocks: &[Block], addr: u64, bytes: u64) -> bool
     requires addressed { AreAddressed blocks.now }
     requires disjoint { AreDisjoint blocks.now }
     ensures { result ≡ has_start blocks.now (addr + bytes) }
 {
-    // A block begins by the last address.
+    // No block begins past the last address.
     let Some(start) = addr.checked_add(bytes) else {
         return false;
     };
@@ -165,7 +165,7 @@ fn leads_back<W: Words>(words: &W, header: u64, place: u64) -> bool
         || is_before(word_after(words, header, NEXT), PREVIOUS, place)
 }
 
-/// Whether there is an address, and it is so many bytes before the place.
+/// Whether there is an address, and it is that many bytes before the place.
 fn is_before(address: Option<u64>, bytes: u64, place: u64) -> bool
     ensures { result ≡ is_before address bytes place }
 {

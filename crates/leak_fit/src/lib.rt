@@ -1,12 +1,12 @@
 //! Signs that a core and a log do not belong together: live blocks of which the core has no chunk in use.
 //!
-//! glibc's malloc keeps the size of each chunk in front of the block that it serves, and in the next chunk whether this
+//! glibc's malloc keeps the size of each chunk before the block that it serves, and in the next chunk whether this
 //! one is in use. [`fits`] compares that with the live blocks of a log: a block that the core's heap does not have as the
 //! log has it was given back, or is of another moment or another process.
 //!
 //! By the same words [`is_free_link`] tells a link of malloc to a free chunk from a pointer of the program:
-//! the words of malloc's lists, and its pointers to the tops of heaps, are addresses of headers, which stand in the last bytes
-//! of the block before them, or one past its end. [`without_free_links`] takes such a block from the ones that a word leads to.
+//! the words of malloc's lists, and its pointers to the tops of heaps, are addresses of headers, which are in the last bytes
+//! of the block before them, or one past its end. [`without_free_links`] removes such a block from those that a word leads to.
 //!
 //! And they tell the slack of a block: the bytes that malloc gave it beyond those that were asked for. [`slack_spans`] finds that of
 //! all live blocks that fit.

@@ -12,7 +12,7 @@ use leak_elf::Words;
 use std::alloc::{AllocError, Global};
 use std::marker::Model;
 
-/// How many bytes before its block a mapping begins, so that it ends as many before the block's start and its size together.
+/// How many bytes before its block a mapping begins. So it ends this many bytes before the block's start plus the chunk's size.
 const BEFORE_BLOCK: u64 = 16;
 /// The same in a heap, where a block also has the first word of the next chunk's header.
 const BEFORE_BLOCK_IN_HEAP: u64 = 8;
@@ -83,7 +83,7 @@ fn slack_of<W: Words>(words: &W, block: &Block) -> Option<Span>
     slack_by(block, SizeWord(word))
 }
 
-/// Adds a span that begins where the others do, or later. Where it meets the last of them, that one is lengthened.
+/// Adds a span that begins where the others do, or later. If it meets the last of them, that one is lengthened.
 fn add(spans: &mut Vec<Span>, span: Span) -> Result<(), AllocError>
     requires apart { AreApart spans.old.items }
     requires later { BeginBy span.first spans.old.items }
@@ -112,7 +112,7 @@ fn add(spans: &mut Vec<Span>, span: Span) -> Result<(), AllocError>
 
 /// The slack of the live blocks that fit the memory.
 ///
-/// It asks for at most two words for each block.
+/// It reads at most two words for each block.
 pub fn slack_spans<W: Words>(
     alloc: Global,
     words: &W,

@@ -1,3 +1,4 @@
+-- The lemmas of this crate, by subject.
 pub mod RowLemmas
 pub mod SumLemmas
 pub mod RankLemmas

@@ -10,7 +10,7 @@ use Rattle.std.proofs.lemmas.Cmp.{tied_itself}
 use Rattle.leak_report.proofs.Members.{Has, each_implied}
 use Rattle.leak_growth.specs.Rows.{placed, ranked}
 
--- what `placed` gives, by how the element stands to the first
+-- what `placed` gives, by how the element compares with the first
 abbrev at_first : {X : Type 0} → (X → X → Ordering) → X → X → List X → Ordering → List X
 at_first R x y ys o = elim o [ Less ↦ x ∷ y ∷ ys | Equal ↦ y ∷ ys | Greater ↦ y ∷ placed R x ys ]
 

@@ -10,7 +10,7 @@ use Rattle.leak_texts.specs.Numbered.{texts_of}
 use Rattle.leak_growth.specs.Rows.{Growth, new_of, with_text, sizes_of, rank, has_changed, ranked}
 use Rattle.leak_growth.specs.Lines.{counts_line, growth_line}
 
--- what became of the blocks with the text, of those live in log 1 and in log 2, where log 1 has so many lines
+-- what became of the blocks with the text, of those live in log 1 and in log 2, if log 1 has this many lines
 abbrev pub growth_with : List ℕ → List Block → List ℕ → List Block → ℕ → List ℕ → Growth
 growth_with log1 earlier log2 later after text = record {
   text = text;
@@ -31,7 +31,7 @@ sums_of_logs earlier later torn after =
     blocks_line (codes "then") earlier.blocks ++ blocks_line (codes "now") later.blocks ++ blocks_line (codes "new") (new_of after later.blocks)
     ++ counts_line later.unknown later.displaced torn
 
--- the report of what two logs come to, where log 1 has so many lines
+-- the report of what two logs come to, if log 1 has this many lines
 unfoldable pub report_of : List ℕ → Replay → List ℕ → Replay → ℕ → ℕ → List ℕ
 report_of log1 earlier log2 later torn after =
     sums_of_logs earlier later torn after ++ flat_map growth_line (growths_of log1 earlier.blocks log2 later.blocks after)

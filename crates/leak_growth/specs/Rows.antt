@@ -12,7 +12,7 @@ use Rattle.leak_texts.specs.Numbered.{text_with, texts_of}
 use Rattle.leak_growth.specs.declared.rows.Row.{Row}
 use Rattle.leak_growth.specs.declared.summing.Sizes.{Sizes}
 
--- the blocks of lines after so many
+-- the blocks whose line comes after this many
 abbrev pub new_of : ℕ → List Block → List Block
 new_of after blocks = filter (λ b. nat_lt after b.line) blocks
 
@@ -27,7 +27,7 @@ sizes_of blocks = record { blocks = length blocks; bytes = bytes_of blocks }
 abbrev pub with_block : Sizes → Block → Sizes
 with_block s b = record { blocks = s.blocks + 1; bytes = s.bytes + b.size }
 
--- for each text its blocks in sum, of those of lines after so many
+-- for each text its blocks in sum, of those whose line comes after this many
 abbrev pub sums_of : List ℕ → List Block → ℕ → List (List ℕ) → List Sizes
 sums_of log blocks after texts = map (λ t. sizes_of (with_text log t (new_of after blocks))) texts
 
@@ -56,7 +56,7 @@ rank r s = ordering_then (nat_cmp (raised_growth s.earlier s.later) (raised_grow
 abbrev pub has_changed : Sizes → Sizes → Sizes → Bool
 has_changed earlier later new = not (new.blocks == 0) || not (later.blocks == earlier.blocks)
 
--- the element at its place among ranked ones, where it isn't there yet
+-- the element at its place among ranked ones, if it isn't there yet
 abbrev pub placed : {X : Type 0} → (X → X → Ordering) → X → List X → List X
 placed R x [] = x ∷ []
 placed R x (y ∷ ys) = elim (R x y) [ Less ↦ x ∷ y ∷ ys | Equal ↦ y ∷ ys | Greater ↦ y ∷ placed R x ys ]

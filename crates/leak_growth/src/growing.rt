@@ -10,7 +10,7 @@ use leak_blocks::Block;
 use leak_texts::{number, push_texts};
 use std::alloc::{AllocError, Global};
 
-/// The rows of two logs, of which the first has so many lines.
+/// The rows of two logs, of which the first has this many lines.
 pub(crate) fn growths<'a>(
     alloc: Global,
     log1: &'a [u8],

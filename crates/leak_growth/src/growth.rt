@@ -30,7 +30,7 @@ fn at_log(number: u8, error: LogError) -> FindError
     }
 }
 
-/// Whether the log's complete lines, which take so many of its bytes, begin the later log.
+/// Whether the log's complete lines, which take `whole_len` of its bytes, begin the later log.
 fn is_continued(log: &[u8], whole_len: usize, later: &[u8]) -> bool
     requires { whole_len ≡ whole_len_of log.now }
     ensures { result ≡ is_continued_by log.now later.now }
@@ -73,7 +73,7 @@ fn both_signs(alloc: Global, first: &Replayed, second: &Replayed) -> Result<Vec<
 ///
 /// # Errors
 ///
-/// `Log` with number 1, then with number 2, then `NotPrefix`, then `TooMany` where both logs together have more than 2^32 - 1 live
+/// `Log` with number 1, then with number 2, then `NotPrefix`, then `TooMany` if both logs together have more than 2^32 - 1 live
 /// blocks. `NoMemory` can come at any time.
 pub fn find_growth(alloc: Global, log1: &[u8], log2: &[u8]) -> Result<Grown, FindError>
     ensures ok { IfOk result (FindsGrowth log1.now log2.now) }

@@ -29,7 +29,7 @@ pub(crate) fn push_counts(
     writeln!(out, "unknown {unknown} displaced {displaced} torn {torn}")
 }
 
-/// Appends by how much bytes grew, with a sign where they became fewer.
+/// Appends by how much bytes grew, with a sign if they became fewer.
 fn push_growth(out: &mut String, earlier: u64, later: u64) -> Result<(), AllocError>
     ensures { OnOk result (string_bytes out.new ≡ string_bytes out.old ++ growth_of earlier later) }
 {

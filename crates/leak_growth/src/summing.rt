@@ -28,7 +28,7 @@ fn longer(sum: Sizes, block: &Block) -> Sizes
     }
 }
 
-/// The blocks of each text in sum, of those that are of lines after so many.
+/// The blocks of each text in sum, of those whose line comes after this many.
 pub(crate) fn sums(
     alloc: Global,
     texts: &[&[u8]],
@@ -55,7 +55,7 @@ pub(crate) fn sums(
     Ok(sums)
 }
 
-/// The blocks of lines after so many in sum.
+/// The blocks whose line comes after this many, in sum.
 pub(crate) fn sum_of(blocks: &[Block], after: usize) -> Sizes
     requires { bytes_of blocks.now < 2 ^ 64 }
     ensures { result ≡ sizes_of (new_of after blocks.now) }

@@ -1,3 +1,4 @@
+-- The lemmas of this crate, by subject.
 pub mod Numbers
 pub mod Bits
 pub mod Owning

@@ -1,3 +1,4 @@
+-- The definitions of this crate, by subject.
 pub mod Holders
 pub mod Words
 pub mod Tallies

@@ -8,7 +8,7 @@ use std::thread::Threads;
 ///
 /// What is told changes nothing of what a call gives.
 pub trait Progress {
-    /// So many texts of all are done.
+    /// `done` of `all` texts are done.
     fn tell(&self, done: u64, all: u64);
 
     /// Nothing more is told: all texts are done, or memory was refused.
@@ -34,7 +34,7 @@ pub struct Crew<'a, R: Threads + Sync, P: Progress> {
 }
 
 impl<'a, R: Threads + Sync, P: Progress> Crew<'a, R, P> {
-    /// A crew of so many workers.
+    /// A crew of this many workers.
     pub fn new(rt: &'a R, workers: u32, progress: &'a P) -> Crew<'a, R, P>
         ensures { result.workers ≡ workers }
     {

@@ -1,3 +1,4 @@
+-- The lemmas of this crate, by subject.
 pub mod TextLemmas
 pub mod NumberLemmas
 pub mod RowLemmas

@@ -25,7 +25,7 @@ tied Greater e = cc
 same_text : (x y : List ℕ) → eq_by_cmp (slice_cmp nat_cmp) x y ≡ true → x ≡ y
 same_text x y e = exact_bytes x y (tied (slice_cmp nat_cmp x y) e)
 
--- each text is one of the given, and none stands twice
+-- each text is one of the given, and none is there twice
 few_texts : (given texts : List (List ℕ)) (numbers : List ℕ) → AreNumbered given texts numbers → length texts ≤ length given
 few_texts given texts numbers are =
     length-le_from_is_member (eq_by_cmp_equiv nat_list_cmp_total) texts given (IsDistinct-from_sorted (slice_cmp nat_cmp) texts are.ascending)

@@ -1,3 +1,4 @@
+-- The definitions of this crate, by subject.
 pub mod Since
 pub mod Links
 pub mod Scenes

@@ -12,7 +12,7 @@ use Rattle.leak_holders.specs.declared.holder.Holder.{Holder}
 abbrev pub start_of : List Block → ℕ → ℕ
 start_of blocks b = (slice_index_or blocks b (record { start = 0; size = 0; line = 0; caller = (0, 0) })).start
 
--- a holder's line up to the text. The address is that of its first reached block, for who asks why it is held.
+-- a holder's line up to the text. The address is that of its first reached block, for the question why it is held.
 abbrev pub holder_front : Holder → ℕ → List ℕ
 holder_front row start =
     codes "holder " ++ (decimal row.blocks ++ (codes " " ++ (decimal row.bytes ++ (codes " " ++ (decimal row.own ++ (codes " "
@@ -40,7 +40,7 @@ sums_of head blocks news set =
 unfoldable pub holders_text : Head → List Block → Option (List Bool) → List Bool → List (List ℕ) → List Holder → List ℕ
 holders_text head blocks news set texts rows = sums_of head blocks news set ++ flat_map (line_of blocks texts) rows
 
--- the row tells of one of so many blocks, and of one of so many texts
+-- the row tells of one of `blocks` blocks, and of one of `texts` texts
 pub record IsRowOf (blocks texts : ℕ) (row : Holder) : Type 0 where
   pub block : row.block < blocks
   pub text : row.text < texts

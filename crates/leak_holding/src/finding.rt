@@ -31,7 +31,7 @@ pub struct Holding {
 
 /// Searches a core and its log, and tells which texts of callers hold the blocks that chains of words reach.
 ///
-/// Which words lead to a block, `reading` says. What each block leads to is listed once, and then marked over: once for all blocks, and once
+/// `reading` says which words lead to a block. What each block leads to is listed once, and then marked over: once for all blocks, and once
 /// for each 64 texts. The progress is told of these. The report doesn't depend on the plan, on the progress, or on how the workers meet.
 ///
 /// # Errors

@@ -3,11 +3,11 @@
 //! Blocks go by the text of their caller in the log. A text holds a block if a chain of words reaches the block from the roots,
 //! and no chain does so without passing a block of that text. [`find_holders`] searches a core and its log, and tells for each
 //! text that holds a block how many it holds and how many bytes they have, how many of its own blocks are reached, how many
-//! other texts hold all of these, and the address of the first of them, for who asks why it is held. With an earlier log of the same
-//! process ([`Files`]) only blocks of later lines are counted.
+//! other texts hold all of these, and the address of the first of them, for the question why it is held. With an earlier log of the
+//! same process ([`Files`]) only blocks of later lines are counted.
 //!
-//! What the report says is stated in `specs/Holders.antt`, and its lines in `specs/Text.antt`. For every accepted input, every
-//! number of workers and every cutting of the work the report is the same. Where an input is not accepted, the answer is the
+//! `specs/Holders.antt` says what the report tells, and `specs/Text.antt` has its lines. For every accepted input, every
+//! number of workers and every cutting of the work the report is the same. If an input is not accepted, the answer is the
 //! first refusal by the order of [`FindError`](leak_input::FindError).
 //!
 //! A block of 32 bytes that a word of writable memory leads to:

@@ -23,7 +23,7 @@ pub(crate) struct Links<'a> {
     pub(crate) first: Vec<u32>,
 }
 
-/// Lists what the words of an input lead to, by so many workers.
+/// Lists what the words of an input lead to, by this many workers.
 ///
 /// # Errors
 ///

@@ -29,8 +29,8 @@ pub(crate) struct Scene<'a, 'b> {
     pub(crate) counted: Vec<bool>,
 }
 
-/// Lists what the words of an input lead to, which was read of the files, marks it over that, numbers its texts, and says which blocks are
-/// counted.
+/// Lists what the words of an input lead to, marks its blocks over these lists, numbers its texts, and says which blocks are counted. The
+/// input was read from the files.
 ///
 /// # Errors
 ///

@@ -61,7 +61,7 @@ pub(crate) fn new<'a>(since: Option<&[u8]>, counted: &'a [bool]) -> Option<&'a [
     }
 }
 
-/// For each block, whether it is of a line after so many.
+/// For each block, whether its line comes after this many.
 fn later(alloc: Global, blocks: &[Block], lines: usize) -> Result<Vec<bool>, AllocError>
     ensures { IfOk result (λ later. later.items ≡ map (λ b. nat_lt lines b.line) blocks.now) }
 {

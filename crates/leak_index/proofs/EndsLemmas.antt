@@ -1,4 +1,4 @@
--- Where ends are left out, a word leads to fewer blocks.
+-- If ends are left out, a word leads to fewer blocks.
 use Rattle.std.proofs.Common.{◌≡◌, ℕ, ◌+◌, ◌-◌, ◌<◌, ◌≤◌, Bool, true, false, ◌&&◌, refl, inl, inr, List, [], ◌∷◌, length, arith, nat_le, if◌then◌else◌, Option}
 use Rattle.std.proofs.lemmas.Bool.{le-leb}
 use Rattle.std.proofs.lemmas.List.Elements.{Contains-append_left, Contains-append_right, Contains-append_cases}
@@ -25,7 +25,7 @@ both_true : (x y : Bool) → x ≡ true → y ≡ true → (x && y) ≡ true
 both_true true y e f = f
 both_true false y e f = absurd cc
 
--- what a word leads to without ends it leads to with them
+-- a block to which a word leads without ends it leads to with them
 pub leads_more : (listed : Option (List ℕ)) (w : ℕ) (b : Block) → leads (by true listed) w b ≡ true → leads (by false listed) w b ≡ true
 leads_more listed w b led =
     let low : b.start ≤ w = from_start (by true listed) w b led in

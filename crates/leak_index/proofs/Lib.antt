@@ -1,3 +1,4 @@
+-- The lemmas of this crate, by subject.
 pub mod EndsLemmas
 pub mod Few
 pub mod Listed

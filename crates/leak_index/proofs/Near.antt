@@ -38,12 +38,12 @@ behind_end r w b h = ap (λ t. t && allows r.listed (w - b.start)) (and_false (n
 skipped : (n : ℕ) (r : Distances) (b : Block) (bs : List Block) (w : ℕ) → leads r w b ≡ false → hits_from n r (b ∷ bs) w ≡ hits_from (n + 1) r bs w
 skipped n r b bs w h = ap (λ t. if t then n ∷ hits_from (n + 1) r bs w else hits_from (n + 1) r bs w) h
 
--- none of a list, where each begins after the word
+-- none of a list, if each begins after the word
 pub none_below : (n : ℕ) (r : Distances) (bs : List Block) (w : ℕ) → AllByRecursion (λ b. w < b.start) bs → hits_from n r bs w ≡ []
 none_below n r [] w h = refl
 none_below n r (b ∷ bs) w h = skipped n r b bs w (before_start r w b h.0) ∙ none_below (n + 1) r bs w h.1
 
--- none of a list, where each ends before the word
+-- none of a list, if each ends before the word
 pub none_above : (n : ℕ) (r : Distances) (bs : List Block) (w : ℕ) → AllByRecursion (λ b. b.start + b.size < w) bs → hits_from n r bs w ≡ []
 none_above n r [] w h = refl
 none_above n r (b ∷ bs) w h = skipped n r b bs w (behind_end r w b h.0) ∙ none_above (n + 1) r bs w h.1
@@ -60,7 +60,7 @@ all_before high w (b ∷ bs) h below = (omega (arith, below.0), all_before high 
 
 -- ---- by number
 
--- where the others begin after the word, by number
+-- the others begin after the word, by number
 by_number : (w : ℕ) (bs : List Block) → ((k : ℕ) (d : Block) → k < length bs → w < (slice_index_or bs k d).start) → AllByRecursion (λ b. w < b.start) bs
 by_number w [] h = tt
 by_number w (b ∷ bs) h = (h 0 b (omega arith), by_number w bs (λ k d l. h (suc k) d (omega (arith, l))))
@@ -70,7 +70,7 @@ at_number P [] k d all h = absurd (omega (arith, h))
 at_number P (b ∷ bs) zero d all h = all.0
 at_number P (b ∷ bs) (suc k) d all h = at_number P bs k d all.1 (omega (arith, h))
 
--- blocks that stand apart ascend by start
+-- blocks that are apart ascend by start
 pub ascending : (bs : List Block) → AreDisjoint bs → IsNonDecreasingBy (λ (b : Block). b.start) bs
 ascending [] apart i j d h l = absurd (omega (arith, l))
 ascending (b ∷ bs) apart zero zero d h l = omega arith
@@ -80,7 +80,7 @@ ascending (b ∷ bs) apart (suc i) (suc j) d h l = ascending bs apart.1 i j d (o
 
 -- ---- the last two
 
--- the numbers of two blocks, each where the word leads to it
+-- the numbers of two blocks, each if the word leads to it
 abbrev pub near : Bool → Bool → ℕ → ℕ → List ℕ
 near true true i j = i ∷ j ∷ []
 near true false i j = i ∷ []
@@ -182,7 +182,7 @@ only_from n r (b ∷ bs) w (suc number) apart only =
     ∙ only_from (n + 1) r bs w number apart.1 others
     ∙ ap (λ k. k ∷ []) (omega arith)
 
--- a word at the start of a block leads to it alone, where each block before it ends before the word
+-- a word at the start of a block leads to it alone, if each block before it ends before the word
 pub found_only : (r : Distances) (bs : List Block) (w number : ℕ) → AreDisjoint bs → IsOnlyStart bs w number → number ∷ [] ≡ hits_from 0 r bs w
 found_only r bs w number apart only =
     let none : 0 + number ≡ number = omega arith in

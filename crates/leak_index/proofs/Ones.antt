@@ -21,7 +21,7 @@ ones_shifted bits m k =
 from_none : (q p r b : ℕ) → q ≡ 0 → q * p + r ≡ b → r < p → b < p
 from_none q p r b none split low = let e : 0 * p + r ≡ b = subst (λ (n : ℕ). n * p + r ≡ b) none split in omega arith
 
--- where all set bits are among the g lowest, the number has no more
+-- if all set bits are among the g lowest, the number has no more
 pub all_low : (bits g : ℕ) → count_ones bits ≤ count_ones (bits % 2 ^ g) → bits < 2 ^ g
 all_low bits g h =
     let whole : count_ones bits ≡ count_ones (bits / 2 ^ g) + count_ones (bits % 2 ^ g) = ap count_ones (sym (shr_split bits g)) ∙ ones_cat g (bits / 2 ^ g) (bits % 2 ^ g) (mod_below bits (2 ^ g) (pow_pos g)) in

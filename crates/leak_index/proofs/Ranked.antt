@@ -23,7 +23,7 @@ row_count bs w ones row aligned is e =
     subst (λ (m : ℕ). IsCountUpTo bs w (row.first + m)) (sym e)
     (up_to bs w (1024 * (w / 1024) + 16 * (w / 16 % 64 + 1)) _ aligned (omega arith) (is.counts (w / 16 % 64 + 1) (omega arith)))
 
--- and where the bit of its granule is set, the last of them begins there
+-- and if the bit of its granule is set, the last of them begins there
 pub row_start : (bs : List Block) (w ones : ℕ) (row : Row) → AreAligned bs → IsRow bs (length bs) (w / 1024) row → row.apart ≡ true → w % 16 ≡ 0 → row.bits / 2 ^ (w / 16 % 64) % 2 ≡ 1 → ones ≡ count_ones (row.bits % 2 ^ (w / 16 % 64 + 1)) →
     (1 ≤ row.first + ones) × IsOnlyStart bs w (row.first + ones - 1)
 row_start bs w ones row aligned is t exact set e = (

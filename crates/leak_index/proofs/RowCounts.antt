@@ -125,7 +125,7 @@ with_bit bs n bit row stands apart aligned h fits bit_is told old =
 
 -- ---- the count for an address
 
--- where each block starts at a multiple of 16, those below the end of the address's granule begin at the address or before it
+-- if each block starts at a multiple of 16, those below the end of the address's granule begin at the address or before it
 pub up_to : (bs : List Block) (address below count : ℕ) → AreAligned bs → below ≡ 16 * (address / 16) + 16 → IsCountBelow bs (length bs) below count → IsCountUpTo bs address count
 up_to bs address below count aligned is up = record {
   bound = up.bound;

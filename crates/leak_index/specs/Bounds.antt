@@ -1,4 +1,4 @@
--- Blocks that stand apart, with bounds of the words that can lead to one.
+-- Blocks that are apart, with bounds of the words that can lead to one.
 use Rattle.std.specs.Prelude.{ℕ, ◌+◌, ◌<◌, ◌≤◌, List, length, slice_index_or}
 use Rattle.std.specs.List.{AllByRecursion}
 use Rattle.leak_blocks.specs.declared.block.Block.{Block}
@@ -9,7 +9,7 @@ pub record AreWithin (blocks : List Block) (low high : ℕ) : Type 0 where
   pub above : AllByRecursion (λ b. low ≤ b.start) blocks
   pub below : AllByRecursion (λ b. b.start + b.size ≤ high) blocks
 
--- so many blocks begin at the address or before it, and the others after it
+-- this many blocks begin at the address or before it, and the others after it
 pub record IsCountUpTo (blocks : List Block) (address count : ℕ) : Type 0 where
   pub bound : count ≤ length blocks
   pub within : (k : ℕ) (d : Block) → k < count → (slice_index_or blocks k d).start ≤ address

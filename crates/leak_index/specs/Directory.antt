@@ -21,7 +21,7 @@ pub record IsDirectory (blocks : List Block) (pages firsts : List ℕ) : Type 0 
   pub first : (e : ℕ) → e < length pages → IsFirstIn blocks (slice_index_or pages e 0) (slice_index_or firsts e 0)
   pub complete : (k : ℕ) (d : Block) → k < length blocks → Contains pages (page_of (slice_index_or blocks k d))
 
--- so many of the pages are not above the page
+-- this many of the pages are not above the page
 pub record AreUpTo (pages : List ℕ) (page count : ℕ) : Type 0 where
   pub bound : count ≤ length pages
   pub within : (k : ℕ) (d : ℕ) → k < count → slice_index_or pages k d ≤ page

@@ -10,7 +10,7 @@ pub record Index : Type 0 where
   pub blocks : List Block
   pub reading : Distances
 
--- the numbers of the blocks that the word leads to, where the first block of the list has the number n
+-- the numbers of the blocks that the word leads to, if the first block of the list has the number n
 abbrev pub hits_from : ℕ → Distances → List Block → ℕ → List ℕ
 hits_from n reading [] word = []
 hits_from n reading (b ∷ blocks) word = if leads reading word b then n ∷ hits_from (n + 1) reading blocks word else hits_from (n + 1) reading blocks word

@@ -9,7 +9,7 @@ use Rattle.leak_index.specs.Hits.{Index, hits_of}
 abbrev pub index_by : Bool → Option (List ℕ) → List Block → Index
 index_by skips_ends listed blocks = record { blocks = blocks; reading = record { listed = listed; skips_ends = skips_ends } }
 
--- a word leads to one block at most where ends are left out
+-- a word leads to one block at most if ends are left out
 abbrev pub OneAtMost : Type 0
 OneAtMost = (listed : Option (List ℕ)) (blocks : List Block) (word : ℕ)
     → AreDisjoint blocks → length (hits_of (index_by true listed blocks) word) ≤ 1

@@ -13,7 +13,7 @@ abbrev pub allows : Option (List ℕ) → ℕ → Bool
 allows None distance = true
 allows (Some listed) distance = (distance == 0) || list_any (λ d. d == distance) listed
 
--- the word is not past one past the block's end; or, where ends are left out, not past its last byte, and of an empty block
+-- the word is not past one past the block's end; or, if ends are left out, not past its last byte, and of an empty block
 -- not past its start
 abbrev pub is_up_to_end : Bool → ℕ → Block → Bool
 is_up_to_end false word b = nat_le word (b.start + b.size)

@@ -1,3 +1,4 @@
+-- The definitions of this crate, by subject.
 pub mod Leads
 pub mod Readings
 pub mod Hits

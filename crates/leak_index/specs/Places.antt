@@ -5,7 +5,7 @@ use Rattle.leak_index.specs.declared.place.Place.{Place}
 use Rattle.leak_index.specs.declared.place.Place.TheVariants.{Start, After}
 use Rattle.leak_index.specs.Bounds.{IsCountUpTo}
 
--- the address is the start of the block with the number, and each block before that ends before it
+-- the address is the start of the block with the number, and each block before that one ends before it
 pub record IsOnlyStart (blocks : List Block) (address number : ℕ) : Type 0 where
   pub inside : number < length blocks
   pub here : (d : Block) → (slice_index_or blocks number d).start ≡ address

@@ -6,7 +6,7 @@ use Rattle.leak_blocks.specs.declared.block.Block.{Block}
 use Rattle.leak_index.specs.declared.ranks.Ranks.{Ranks}
 use Rattle.leak_index.specs.declared.ranks.Row.{Row}
 
--- no block, where a number is out of range
+-- what stands for a block whose number is out of range
 abbrev pub none : Block
 none = record { start = 0; size = 0; line = 0; caller = (0, 0) }
 
@@ -21,7 +21,7 @@ row_of blocks k = start_of blocks k / 1024
 abbrev pub stop_of : List Block → ℕ → ℕ
 stop_of blocks k = (slice_index_or blocks k none).start + (slice_index_or blocks k none).size
 
--- each block before the one with the number ends before that begins
+-- each block before the one with the number ends before that one begins
 pub record IsApart (blocks : List Block) (number : ℕ) : Type 0 where
   pub each : (k : ℕ) → k < number → stop_of blocks k < start_of blocks number
 
@@ -29,19 +29,19 @@ pub record IsApart (blocks : List Block) (number : ℕ) : Type 0 where
 pub record AreAligned (blocks : List Block) : Type 0 where
   pub each : (k : ℕ) → k < length blocks → start_of blocks k % 16 ≡ 0
 
--- of the first n blocks, so many begin below the address, and the others at it or after it
+-- of the first n blocks, this many begin below the address, and the others at it or after it
 pub record IsCountBelow (blocks : List Block) (n address count : ℕ) : Type 0 where
   pub bound : count ≤ n
   pub below : (k : ℕ) → k < count → start_of blocks k < address
   pub above : (k : ℕ) → count ≤ k → k < n → address ≤ start_of blocks k
 
 -- how many of the first n blocks begin below each granule of the row with the number, and below its end, and whether all
--- that begin in it stand apart from those before them
+-- that begin in it are apart from those before them
 pub record IsRow (blocks : List Block) (n number : ℕ) (row : Row) : Type 0 where
   pub counts : (g : ℕ) → g ≤ 64 → IsCountBelow blocks n (1024 * number + 16 * g) (row.first + count_ones (row.bits % 2 ^ g))
   pub apart : row.apart ≡ true → (k : ℕ) → k < n → row_of blocks k ≡ number → IsApart blocks k
 
--- where the run ends in the list of rows, of which there are so many
+-- where the run ends in the list of `total` rows
 abbrev pub end_of : List ℕ → ℕ → ℕ → ℕ
 end_of places total run = slice_index_or places (run + 1) total
 
@@ -52,7 +52,7 @@ pub record AreRuns (numbers places : List ℕ) (total : ℕ) : Type 0 where
   pub filled : (e : ℕ) → e < length numbers → slice_index_or places e 0 < end_of places total e
   pub inside : (e : ℕ) → e < length numbers → end_of places total e ≤ total
 
--- the number of the row that stands at the place, in the run
+-- the number of the row at the place, in the run
 abbrev pub number_at : List ℕ → List ℕ → ℕ → ℕ → ℕ
 number_at numbers places e i = slice_index_or numbers e 0 + (i - slice_index_or places e 0)
 

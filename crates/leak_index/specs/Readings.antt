@@ -6,7 +6,7 @@ use Rattle.leak_index.specs.declared.reading.Reading.{Reading}
 use Rattle.leak_index.specs.declared.error.ReadingError.{ReadingError}
 use Rattle.leak_index.specs.declared.error.ReadingError.TheVariants.{TooMany, TooLarge}
 
--- the listed displacements, or none where all distances count
+-- the listed displacements, or none if all distances count
 abbrev pub listed_by : Reading → Option (List ℕ)
 listed_by r = if r.interior then None else Some (take r.count r.values)
 

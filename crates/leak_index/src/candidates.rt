@@ -71,8 +71,8 @@ impl<'a> Candidates<'a> {
         word < self.low || self.high < word
     }
 
-    /// The blocks that the word leads to, given where it is among them. To the start of a block each reading allows it to
-    /// lead, so that no block is read there.
+    /// The blocks that the word leads to, given where it is among them. Each reading lets a word lead to the block that
+    /// starts at it, so that no block is read there.
     #[inline(always)]
     pub(crate) fn hits_at(&self, word: u64, place: Place) -> Hits
         requires { IsPlace self.now.blocks word place }

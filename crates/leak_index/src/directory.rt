@@ -18,13 +18,13 @@ const PAGE: u64 = 4096;
 pub(crate) struct Directory {
     pages: Vec<u64>,
     firsts: Vec<usize>,
-    /// A help in finding entries. No answer rests on it.
+    /// Helps to find entries. No answer depends on it.
     runs: Vec<Run>,
 }
 
 /// An entry, counted from 0, whose page doesn't follow that of the entry before.
 ///
-/// Where blocks are small there are few: the entry of a page is then found by its distance from one of them.
+/// If blocks are small there are few of these: the entry of a page is then found by its distance from one of them.
 #[derive(Clone, Copy)]
 struct Run {
     page: u64,
@@ -98,8 +98,8 @@ impl Directory {
         count_all(self.pages.as_slice(), page)
     }
 
-    /// A guess at the last entry whose page is at or below the given one: right where the pages of its run follow one
-    /// another. Nothing is promised of it, and the caller tests it.
+    /// A guess at the last entry whose page is at or below the given one: right if the pages of its run follow one
+    /// another. Nothing is promised of it, so the caller tests it.
     fn guess(&self, page: u64) -> usize {
         let runs = self.runs.partition_point(|run| run.page <= page);
         if runs == 0 {
@@ -143,7 +143,7 @@ fn is_last(pages: &[u64], entry: usize, page: u64) -> bool
     entry == pages.len() - 1 || page < pages[entry + 1]
 }
 
-/// How many of the pages are not above the page, where a guess failed.
+/// How many of the pages are not above the page, after a guess failed.
 #[cold]
 #[inline(never)]
 fn count_all(pages: &[u64], page: u64) -> usize

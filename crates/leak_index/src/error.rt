@@ -7,7 +7,7 @@ pub enum ReadingError {
     /// The list has more than 16 values.
     #[error("more than 16 values")]
     TooMany,
-    /// The value with the number is over 65,535 and the first such. Values count from 0.
+    /// The value with the number is the first over 65,535. Values count from 0.
     #[error("item {0} is over 65535")]
     TooLarge(usize),
 }

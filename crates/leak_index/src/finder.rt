@@ -10,8 +10,8 @@ use crate::ranks::{Ranks, are_aligned};
 use leak_blocks::Block;
 use std::alloc::{AllocError, Global};
 
-/// Finds where an address is among blocks: by rows where each block starts at a multiple of 16, as those of glibc do, and
-/// otherwise by pages. Of 4294967296 blocks or more it goes by pages too, since a row counts up to that.
+/// Finds where an address is among blocks: by rows if each block starts at a multiple of 16, as those of glibc do, and
+/// otherwise by pages. From 4294967296 blocks on it goes by pages too, since the count of a row has 32 bits.
 #[derive(Drop)]
 pub(crate) enum Finder {
     Rows(Ranks),

@@ -12,7 +12,7 @@ pub fn at_most_two()
         AreDisjoint index.blocks → length (hits_of index word) ≤ 2 }
 {}
 
-/// Where ends are left out, a word leads to one block at most, and to none to which it doesn't lead otherwise.
+/// If ends are left out, a word leads to one block at most, and to none to which it doesn't lead otherwise.
 pub fn ends_left_out()
     ensures one { OneAtMost }
     ensures fewer { FewerHits }

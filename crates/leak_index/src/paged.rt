@@ -12,8 +12,8 @@ use leak_blocks::Live;
 use std::alloc::{AllocError, Global};
 use std::marker::Model;
 
-/// A lookup by what stands at the word's address: in rows of 1024 addresses where each block starts at a multiple of
-/// 16, and otherwise in the pages in which blocks start.
+/// A lookup by the word's address: in rows of 1024 addresses if each block starts at a multiple of 16, and otherwise in
+/// the pages in which blocks start.
 ///
 /// It borrows the blocks. It takes memory for the rows or pages near their starts, however long the blocks are.
 #[derive(Drop)]

@@ -5,6 +5,6 @@
 pub(crate) enum Place {
     /// It is the start of the block with the number, and each block before that ends before it.
     Start(usize),
-    /// So many blocks begin at it or before it.
+    /// This many blocks begin at it or before it.
     After(usize),
 }

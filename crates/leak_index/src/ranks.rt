@@ -13,7 +13,7 @@ use std::alloc::{AllocError, Global};
 const ROW: u64 = 1024;
 /// How many addresses a granule has. A row has 64 granules, and no two blocks start in one.
 const GRANULE: u64 = 16;
-/// How many rows in which no block starts may stand side by side.
+/// How many rows in which no block starts may follow one another.
 const GAP: u64 = 64;
 
 /// What a row says of the blocks that start in it.
@@ -95,7 +95,7 @@ impl Ranks {
         Ok(ranks)
     }
 
-    /// Takes in the block with the number, the first that isn't yet.
+    /// Adds the block with the number, the first that isn't in the rows yet.
     fn add(&mut self, blocks: &[Block], number: usize) -> Result<(), AllocError>
         requires disjoint { AreDisjoint blocks.now }
         requires aligned { AreAligned blocks.now }
@@ -137,7 +137,7 @@ impl Ranks {
         Ok(())
     }
 
-    /// Makes one more row of the last run. So many blocks start before it.
+    /// Makes one more row of the last run. `first` blocks start before it.
     fn pad(&mut self, blocks: &[Block], first: u32) -> Result<(), AllocError>
         requires made { IsMadeTo blocks.now first self.old }
         requires some { 0 < length self.old.numbers.items }
@@ -155,7 +155,7 @@ impl Ranks {
         Ok(())
     }
 
-    /// Begins a run with the row with the number. So many blocks start before it.
+    /// Begins a run with the row with the number. `first` blocks start before it.
     fn open(&mut self, blocks: &[Block], row: u64, first: u32) -> Result<(), AllocError>
         requires made { IsMadeTo blocks.now first self.old }
         requires rest { self.old.next ≤ row }
@@ -211,7 +211,7 @@ impl Ranks {
     }
 }
 
-/// Whether each block before the one with the number ends before that begins.
+/// Whether each block before the one with the number ends before that one begins.
 fn is_apart(blocks: &[Block], number: usize) -> bool
     requires disjoint { AreDisjoint blocks.now }
     requires inside { number < length blocks.now }
@@ -224,7 +224,7 @@ fn is_apart(blocks: &[Block], number: usize) -> bool
     blocks[number].start - before.start > before.size
 }
 
-/// How many of the lowest bits are set, of which there are so many.
+/// How many of the `many` lowest bits are set.
 #[inline(always)]
 fn ones_below(bits: u64, many: u64) -> usize
     requires some { 0 < many }

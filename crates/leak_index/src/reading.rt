@@ -32,7 +32,7 @@ impl Reading {
         }
     }
 
-    /// The distance 0 and the listed ones. A value may stand in the list more than once.
+    /// The distance 0 and the listed ones. A value may be in the list more than once.
     pub fn displaced(values: &[u64]) -> Result<Reading, ReadingError>
         ensures ok { IfOk result (λ reading.
             (distances_of reading ≡ record { listed = Some values.now; skips_ends = false })
@@ -57,10 +57,10 @@ impl Reading {
         })
     }
 
-    /// The same distances, with the block's size left out or not; but an empty block's start counts either way.
+    /// The same distances, with the block's size left out or not. The start of an empty block counts either way.
     ///
-    /// Allocators that lay blocks side by side have each block begin at the end of the one before. A word that leads there
-    /// is then a pointer to the second block, and seldom one to the end of the first.
+    /// Allocators that lay blocks side by side have each block begin at the end of the one before. There a word that leads to
+    /// an end is a pointer to the second block, and seldom one to the end of the first.
     pub fn skip_ends(self, skip: bool) -> Reading
         ensures { distances_of result ≡ record { listed = listed_by self; skips_ends = skip } }
     {

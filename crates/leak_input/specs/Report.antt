@@ -21,7 +21,7 @@ head_with input places two = record {
   two = two;
 }
 
--- the report of an input that was read, with the blocks that are marked and, where misfits are told, those that fit; the
+-- the report of an input that was read, with the blocks that are marked and, if misfits are told, those that fit; the
 -- heads are those of its core
 abbrev pub text_with : Head → Input → Index → List Bool → Option (List Bool) → List ℕ → List ℕ
 text_with head input index set fits log =

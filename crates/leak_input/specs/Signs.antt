@@ -28,7 +28,7 @@ signs_with input = record {
   misfits = count_by not (fits_of (word_of input.image) input.live.blocks);
 }
 
--- for each live block of the lines, whether it fits the core, where a report is to tell the misfits
+-- for each live block of the lines, whether it fits the core, if a report is to tell the misfits
 abbrev pub fits_told : Bool → List ℕ → List Line → Option (List Bool)
 fits_told check core lines = if check then Some (fits_of (word_of core) (live_of lines)) else None
 

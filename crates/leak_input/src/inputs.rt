@@ -89,7 +89,7 @@ pub fn read_input<'a>(
     })
 }
 
-/// The root words of an input without those in slack, where its search leaves these out.
+/// The root words of an input without those in slack, if its search leaves these out.
 fn without_slack(alloc: Global, input: &Input, roots: Roots) -> Result<Roots, AllocError>
     ensures { (spans : List Span) → let input = input.now in let skip = input.skip in
         AreRootsOf skip.unwritable input.image input.live.blocks spans [] roots

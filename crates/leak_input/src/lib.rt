@@ -5,7 +5,7 @@
 //! [`mark_input`] marks blocks by workers. [`oddities_of_one`] and [`oddities_of_two`] tell what is odd about inputs,
 //! [`head_of`] the numbers of a report's first lines, and [`report_of`] makes the report of what is marked.
 //!
-//! What an accepted input is, and which of its faults comes first, is said in `specs/Inputs.antt`.
+//! `specs/Inputs.antt` says what an accepted input is, and which of its faults comes first.
 //!
 //! A core and a log, read, and what its report begins with:
 //!
@@ -20,7 +20,7 @@
 //! assert_eq!(rt; head_of(&input, &roots, None).undumped, 0);
 //! ```
 //!
-//! The contracts don't say which blocks leak: that is what the searches of leak_search promise, which stand on this crate.
+//! The contracts don't say which blocks leak: the searches of leak_search, which build on this crate, promise that.
 #![tactic(auto)]
 
 mod error;

@@ -16,7 +16,7 @@ pub struct Inputs<'a, 'b> {
     pub second: Input<'b>,
 }
 
-/// Whether the log's complete lines, which take so many of its bytes, begin the later log.
+/// Whether the log's complete lines, which take `whole_len` of its bytes, begin the later log.
 fn is_continued(log: &[u8], whole_len: usize, later: &[u8]) -> bool
     requires { whole_len ≡ whole_len_of log.now }
     ensures { result ≡ is_continued_by log.now later.now }
@@ -29,7 +29,7 @@ fn is_continued(log: &[u8], whole_len: usize, later: &[u8]) -> bool
 ///
 /// # Errors
 ///
-/// `Core`, `Notes`, `Log` with number 1, then the same with number 2, then `NotPrefix`, then `TooMany` where a log has more
+/// `Core`, `Notes`, `Log` with number 1, then the same with number 2, then `NotPrefix`, then `TooMany` if a log has more
 /// than 2^32 - 1 live blocks. `NoMemory` can come at any time.
 pub fn read_two<'a, 'b>(
     alloc: Global,

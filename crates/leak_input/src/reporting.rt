@@ -42,7 +42,7 @@ pub fn head_of(input: &Input, roots: &Roots, two: Option<Two>) -> Head
     }
 }
 
-/// The report of an input whose blocks are marked. Which of the others are heads, the words of its core tell. Where it is
+/// The report of an input whose blocks are marked. The words of its core tell which of the others are heads. If it is
 /// known which blocks fit, it tells the misfits.
 pub fn report_of<L: Lookup>(
     alloc: Global,

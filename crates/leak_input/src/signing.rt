@@ -15,11 +15,11 @@ use std::alloc::{AllocError, Global};
 pub struct Oddities {
     /// The signs of each input, in order.
     pub signs: Vec<Signs>,
-    /// For each live block of the last input, whether it fits its core, where the report is to tell that.
+    /// For each live block of the last input, whether it fits its core, if the report is to tell that.
     pub fits: Option<Vec<bool>>,
 }
 
-/// Adds the signs that the input's core and log don't belong together. It gives which of its live blocks fit.
+/// Adds the signs that the input's core and log don't belong together. Returns which of its live blocks fit.
 fn add_signs(alloc: Global, signs: &mut Vec<Signs>, input: &Input) -> Result<Vec<bool>, AllocError>
     ensures signs { IfOk result (λ _.
         signs.new.items ≡ signs.old.items ++ signs_with input.now ∷ []) }
@@ -37,7 +37,7 @@ fn add_signs(alloc: Global, signs: &mut Vec<Signs>, input: &Input) -> Result<Vec
     Ok(fits)
 }
 
-/// What is odd about one input. Which of its blocks fit is kept where that is asked for.
+/// What is odd about one input. Which of its blocks fit is kept if that is asked for.
 pub fn oddities_of_one(alloc: Global, input: &Input, check: bool) -> Result<Oddities, AllocError>
     ensures signs { IfOk result (λ odd. odd.signs.items ≡ signs_with input.now ∷ []) }
     ensures fits { IfOk result (λ odd.
@@ -49,7 +49,7 @@ pub fn oddities_of_one(alloc: Global, input: &Input, check: bool) -> Result<Oddi
     Ok(Oddities { signs, fits })
 }
 
-/// What is odd about two inputs. Which blocks of the second fit is kept where that is asked for.
+/// What is odd about two inputs. Which blocks of the second fit is kept if that is asked for.
 pub fn oddities_of_two(
     alloc: Global,
     first: &Input,

@@ -33,7 +33,7 @@ use Rattle.leak_laws.proofs.TextSums.{sum_map}
 -- ---- numbers of blocks, and blocks
 
 module _ (p : ℕ → Bool) (size : ℕ → ℕ) where
-  -- the numbers from a on pass where the blocks are marked, and have their sizes
+  -- the numbers from a on pass if the blocks are marked, and have their sizes
   pub record Tell (a : ℕ) (set : List Bool) (blocks : List Block) : Type 0 where
     pub tests : (i : ℕ) → i < length set → p (a + i) ≡ slice_index_or set i false
     pub sizes : (i : ℕ) (d : Block) → i < length blocks → size (a + i) ≡ (slice_index_or blocks i d).size

@@ -1,3 +1,4 @@
+-- The lemmas of this crate, by subject.
 pub mod Lists
 pub mod SameLemmas
 pub mod TextSums

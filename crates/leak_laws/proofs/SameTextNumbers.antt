@@ -1,4 +1,4 @@
--- The texts of given blocks, and the numbers of these, are one: the texts stand in strict order.
+-- The texts of given blocks, and the numbers of these, are one: the texts are in strict order.
 use Rattle.std.proofs.Common.{◌≡◌, ℕ, zero, suc, ◌<◌, ◌⊎◌, inl, inr, ⊎_elim, List, [], ◌∷◌, length, map, get_or, refl, sym, ap, subst, ◌∙◌, arith}
 use Rattle.std.specs.List.{AllByRecursion, Contains}
 use Rattle.std.specs.List.Sorted.{IsStrictlySortedBy}

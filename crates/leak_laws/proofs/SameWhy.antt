@@ -34,7 +34,7 @@ use Rattle.leak_laws.specs.Held.{AreAsLong}
 use Rattle.leak_laws.proofs.SameRows.{bool_same}
 use Rattle.leak_laws.proofs.SameHeld.{asked_is_one}
 
--- the same root words stand at both places
+-- the same root words are at both places
 pub record AreSamePlaces (p q : Places) : Type 0 where
   pub registers : p.registers ≡ q.registers
   pub memory : memory_places p.memory ≡ memory_places q.memory

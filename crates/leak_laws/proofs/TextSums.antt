@@ -1,4 +1,4 @@
--- Sums by text: where texts differ, what has a text counts under one of them.
+-- Sums by text: if texts differ, what has a text counts under one of them.
 use Rattle.std.proofs.Common.{◌≡◌, ℕ, ◌+◌, inl, inr, Bool, true, false, cond, List, [], ◌∷◌, length, map, filter, sum_by, bytes_eq, refl, sym, ap, subst, ◌∙◌, arith}
 use Rattle.std.specs.Prelude.{⊤}
 use Rattle.std.specs.List.{AllByRecursion}

@@ -21,7 +21,7 @@ AnswersAreOne =
     (core log : List ℕ) (since : Option (List ℕ)) (reading : Distances) (skip : Skip) (question : Question) (a b : Holding)
     → FindsHeld core log since reading skip question a → FindsHeld core log since reading skip question b → a.report.items ≡ b.report.items
 
--- how many links the answer's chain has, where there is one
+-- how many links the answer's chain has, if there is one
 abbrev pub links_of : {core log : List ℕ} {reading : Distances} {skip : Skip} {address : ℕ} {why : Why}
     → TellsWhy core log reading skip address why → Option ℕ
 links_of t = option_map (λ chain. length chain.links.items) t.chain

@@ -1,4 +1,4 @@
--- The texts of the other reports and answers stand on one line each.
+-- The texts of the other reports and answers are on one line each.
 use Rattle.std.specs.Prelude.{◌≡◌, ℕ, List, length, Option, IfSome}
 use Rattle.std.specs.List.{AllByRecursion}
 use Rattle.leak_notes.specs.Sets.{sets_of}

@@ -42,7 +42,7 @@ pub record LeadsToNoMore (few many : Distances) : Type 0 where
   pub listed : AllowNoMore few.listed many.listed
   pub ends : IsTrue many.skips_ends → IsTrue few.skips_ends
 
--- What leaks in one core if no more is left out, and by a reading with no fewer displacements, leaks else too.
+-- What leaks in one core if no more is left out, and by a reading with no fewer displacements, leaks otherwise too.
 abbrev pub LeakedInOneStay : Type 0
 LeakedInOneStay =
     (core log : List ℕ) (few many : Distances) (less more : Skip) (check other : Bool) (workers others : ℕ) (a b : Found)

@@ -1,3 +1,4 @@
+-- The definitions of this crate, by subject.
 pub mod Same
 pub mod Leaks
 pub mod Growth

@@ -1,4 +1,4 @@
--- The text of a caller stands on one line.
+-- The text of a caller is on one line.
 use Rattle.std.specs.Prelude.{ℕ, Bool, List}
 use Rattle.std.specs.List.{AllByRecursion}
 use Rattle.leak_mtrace.specs.declared.line.Line.{Line}

@@ -23,7 +23,7 @@ pub record AskAlike (a b : Options) : Type 0 where
 abbrev pub left_in : List (Option (List ℕ)) → ℕ → Option (List ℕ)
 left_in readers i = slice_index_or readers i None
 
--- so many readers have the same bytes left as others, and tell them
+-- this many readers have the same bytes left as others, and tell them
 abbrev pub HoldAlike : ℕ → List (Option (List ℕ)) → List (Option (List ℕ)) → Type 0
 HoldAlike count readers others = (i : ℕ) → i < count → (bytes : List ℕ) × (left_in readers i ≡ Some bytes) × (left_in others i ≡ Some bytes)
 
@@ -46,7 +46,7 @@ RunsAreOne =
     → Runs by_bytes_left by_bytes_held by_bytes_held b readers left other others told tells same
     → AreAlike held holds other others status same
 
--- what was written has these lines, and the status is 1 if a block leaked, and else 0, unless warnings have a status of their own
+-- what was written has these lines, and the status is 1 if a block leaked, and otherwise 0, unless warnings have a status of their own
 pub record IsRunReport (o : Options) (held holds : Option (List ℕ)) (status : ℕ) (t : Told) : Type 0 where
   pub written : Appends held holds (told_text t)
   pub together : BelongTogether t

@@ -42,7 +42,7 @@ why_told t = entry_text (codes "asked") t.asked ++ chain_text t.chain
 abbrev pub entry_at : List ℕ → List Block → ℕ → ToldEntry
 entry_at log blocks i = told_entry log (slice_index_or blocks i (record { start = 0; size = 0; line = 0; caller = (0, 0) }))
 
--- the block that the root leads to, where these links lead on to the one with the number
+-- the block that the root leads to, if these links lead on to the one with the number
 abbrev pub first_by : List Link → ℕ → ℕ
 first_by [] block = block
 first_by (link ∷ links) block = first_by links link.holder

@@ -1,4 +1,4 @@
--- A root word may stand at the address 0: the sample core, with its segment there.
+-- A root word may be at the address 0: the sample core, with its segment there.
 use Rattle.std.specs.Prelude.{◌≡◌, ℕ, List, [], codes, None, Some}
 use Rattle.std.specs.Int.{w64, to_le_bytes}
 use Rattle.leak_elf.specs.Refusals.{fault_of}

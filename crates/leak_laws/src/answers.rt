@@ -1,4 +1,4 @@
-//! The other reports and answers, for who reads them.
+//! The other reports and answers, for those who read them.
 
 ghost use Rattle.leak_laws.specs.HeldOneLine.{AnswersAreOfLines, GrowthIsOfLines, HoldersAreOfLines, WhyIsOfLines};
 ghost use Rattle.leak_laws.specs.ToldAnswers.{AnswersAreTold, AnswersReadBack};
@@ -35,7 +35,7 @@ pub fn answers_are_of_lines()
     ensures why { WhyIsOfLines }
 {}
 
-/// A root word may stand at the address 0, where docs/FORMAT.md has `0x0`: addresses of blocks are above 0.
+/// A root word may be at the address 0, for which docs/FORMAT.md has `0x0`: addresses of blocks are above 0.
 pub fn roots_at_zero()
     ensures { AreAtZero }
 {}

@@ -11,13 +11,13 @@ pub fn reports_of_holders_are_one()
     ensures chosen { AnswersAreOne }
 {}
 
-/// Two answers to why a block is held are of the same block, both say that it is held or neither, and have as many links. (Which of the
-/// shortest chains is told, the contract leaves open.)
+/// Two answers to why a block is held are of the same block, both say that it is held or neither, and have as many links. (The contract
+/// leaves open which of the shortest chains is told.)
 pub fn answers_of_why_are_as_long()
     ensures { AnswersOfWhyAreAsLong }
 {}
 
-/// The lines of a report on who holds the memory stand in order, and each live block is marked or leaked. Without an earlier log the own
+/// The lines of a report on who holds the memory are in order, and each live block is marked or leaked. Without an earlier log the own
 /// blocks and bytes of all lines have the sums of the marked blocks; no line has more of its own than it holds, or holds more than is marked.
 pub fn holders_belong_together()
     ensures together { HoldersBelongTogether }

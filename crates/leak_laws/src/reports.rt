@@ -1,4 +1,4 @@
-//! Reports, for who reads them.
+//! Reports, for those who read them.
 
 ghost use Rattle.leak_laws.specs.OneLine.{ReportsOfOneAreOfLines, ReportsOfTwoAreOfLines, TextsAreOfOneLine};
 ghost use Rattle.leak_laws.specs.Reports.{CheckAddsMisfits, CheckAddsMisfitsOfTwo, ReportsAreTold, ReportsOfOneBelongTogether, ReportsOfTwoBelongTogether};
@@ -12,7 +12,8 @@ pub fn reports_read_back()
 {}
 
 /// The lines of a report belong together, as docs/FORMAT.md says: each live block is marked or leaked, and numbers of lines and their
-/// sums are those that the first lines say; lines stand in order, and none twice. The exit status goes by the number of leaked blocks.
+/// sums are those that the first lines say; lines are in order, and none is there twice. The exit status goes by the number of leaked
+/// blocks.
 pub fn lines_belong_together()
     ensures one { ReportsOfOneBelongTogether }
     ensures two { ReportsOfTwoBelongTogether }

@@ -37,7 +37,7 @@ pub or_assoc : (x y z : Bool) → ((x || y) || z) ≡ (x || (y || z))
 or_assoc true y z = refl
 or_assoc false y z = refl
 
--- x before y, where z is between
+-- x before y, if z is between
 pub or_between : (x y z : Bool) → ((x || z) || y) ≡ ((x || y) || z)
 or_between true y z = refl
 or_between false true true = refl

@@ -59,7 +59,7 @@ mark_says s ms ls b m is inside read says =
     let same : m ≡ has (concat ls) b = read ∙ get_or_default ms b m false there ∙ says b there in
     subst (λ (x : ClaimState). IsTrue m ↔ IsClaimed x.lists b) is ((λ t. of_has (concat ls) b (sym same ∙ t)), (λ h. same ∙ to_has (concat ls) b h))
 
--- where it is clear the block is not claimed, and the attempt wins
+-- if it is clear the block is not claimed, and the attempt wins
 pub won_where_clear : (b : ℕ) (m : Bool) (lists : List (List ℕ)) → m ≡ false → (IsTrue m ↔ IsClaimed lists b) → IsTrue true ↔ ¬ IsClaimed lists b
 won_where_clear b m lists clear says = ((λ _ h. true≢false (sym (says.1 h) ∙ clear)), (λ _. refl))
 
@@ -71,7 +71,7 @@ module _ {A : Type 0} (items : A → List ℕ) (len room : A → ℕ) where
   abbrev pub Fit : List Bool → A → Type 0
   Fit ms v = (len v ≤ count_by (λ m. m) ms) × (length ms ≤ room v)
 
-  -- where the block is not marked there is room for it
+  -- if the block is not marked there is room for it
   pub room_there : (ms : List Bool) (vs : List A) (w b : ℕ) (v : A) → v ≡ get_or vs w v → w < length vs → b < length ms → get_or ms b false ≡ false → All (Fit ms) vs → len v < room v
   room_there ms vs w b v is within inside clear all =
       let r = set_count_room ms b inside clear in

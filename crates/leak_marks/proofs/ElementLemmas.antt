@@ -1,4 +1,4 @@
--- What stands in lists that are made from others, and where.
+-- What is in lists that are made from others, and where.
 use Rattle.std.proofs.Common.{◌≡◌, ℕ, zero, suc, ◌<◌, Bool, true, false, cond, List, [], ◌∷◌, IsTrue, length, get_or, map, filter, refl, sym, subst, ⊎_elim, arith, le_of_suc-le-suc, flat_map}
 use Rattle.leak_marks.specs.Lists.{Has}
 use Rattle.leak_marks.proofs.ListLemmas.{none_has, here, there, at_head, has_front, has_back, of_append}

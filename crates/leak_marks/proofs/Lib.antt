@@ -1,3 +1,4 @@
+-- The lemmas of this crate, by subject.
 pub mod BoolLemmas
 pub mod ListLemmas
 pub mod ElementLemmas

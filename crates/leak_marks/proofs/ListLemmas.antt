@@ -1,4 +1,4 @@
--- How often numbers stand in lists.
+-- How often numbers are in lists.
 use Rattle.std.proofs.Common.{◌≡◌, ◌≢◌, ◌⊎◌, ◌↔◌, ℕ, zero, suc, ◌+◌, ◌<◌, ◌≤◌, Bool, true, false, ◌||◌, List, [], ◌∷◌, ◌++◌, ◌==◌, if◌then◌else◌, IsTrue, IsFalse, length, get_or, set, refl, sym, ap, ◌∙◌, subst, inl, inr, ⊎_elim, true≢false, arith, eq-eqb, ne_eqb, le_of_suc-le-suc}
 use mathlib.Core.Logic.{dite}
 use native.Mathlib.Decide.{ℕ_discrete}
@@ -25,7 +25,7 @@ push_same xs b = times-append b xs (b ∷ []) ∙ ap (λ (n : ℕ). times b xs +
 pub push_other : (xs : List ℕ) (x b : ℕ) → x ≢ b → times x (xs ++ b ∷ []) ≡ times x xs
 push_other xs x b ne = let r = times-append x xs (b ∷ []) in let z = times_other x b ne in omega arith
 
--- ---- what stands in a list
+-- ---- what is in a list
 
 pub none_has : (x : ℕ) → ¬ Has [] x
 none_has x h = omega arith
@@ -36,7 +36,7 @@ here b xs = let e = times_one b in let p = times-append b (b ∷ []) xs in omega
 pub there : (x : ℕ) (xs : List ℕ) (b : ℕ) → Has xs b → Has (x ∷ xs) b
 there x xs b h = let p = times-append b (x ∷ []) xs in omega arith
 
--- where b is of the longer list
+-- of a block in the longer list: it is the first, or in the shorter one
 pub at_head : (x : ℕ) (xs : List ℕ) (b : ℕ) → Has (x ∷ xs) b → (x ≡ b) ⊎ Has xs b
 at_head x xs b h = go (x == b) refl h
   where
@@ -111,7 +111,7 @@ times_concat_append b [] ms = omega arith
 times_concat_append b (l ∷ ls) ms =
     let p = times-append b l (concat (ls ++ ms)) in let q = times_concat_append b ls ms in let r = times-append b l (concat ls) in omega arith
 
--- what stands in one of the lists stands in them together
+-- what is in one of the lists is in them together
 pub has_concat : (lists : List (List ℕ)) (k x : ℕ) → Has (get_or lists k []) x → Has (concat lists) x
 has_concat [] k x h = absurd (omega arith)
 has_concat (l ∷ ls) zero x h = has_front l (concat ls) x h
@@ -151,7 +151,7 @@ within_append xs ys us vs f g x h = ⊎_elim (λ a. has_front us vs x (f x a)) (
 pub within_push : (xs ys : List ℕ) (b : ℕ) → Within xs ys → Within (xs ++ b ∷ []) (ys ++ b ∷ [])
 within_push xs ys b f = within_append xs (b ∷ []) ys (b ∷ []) f (within_refl (b ∷ []))
 
--- ---- lists in which no number stands twice
+-- ---- lists in which no number is twice
 
 pub distinct_nil : IsDistinct []
 distinct_nil x = omega arith
@@ -166,7 +166,7 @@ distinct_front xs ys d x = let p = times-append x xs ys in let a = d x in omega 
 pub distinct_back : (xs ys : List ℕ) → IsDistinct (xs ++ ys) → IsDistinct ys
 distinct_back xs ys d x = let p = times-append x xs ys in let a = d x in omega arith
 
--- what stands in the front of such a list does not stand after it
+-- what is in the front of such a list is not after it
 pub distinct_apart : (xs ys : List ℕ) → IsDistinct (xs ++ ys) → (x : ℕ) → Has xs x → ¬ Has ys x
 distinct_apart xs ys d x h k = let p = times-append x xs ys in let a = d x in omega arith
 

@@ -31,7 +31,7 @@ fits_later : (words later : List ℕ) (v : View) → ((c : ℕ) → mark_of word
 fits_later words later v stays h = record { among = h.among; set = λ b x. stays b (h.set b x); idle = h.idle }
 
 module _ (blocks : ℕ) (s : St) (h : Kept blocks s) (id : ℕ) (v : View) (at : get_elem? s.views id ≡ some v) where
-  -- a step keeps the rule where the marks change as the claims do, and none is cleared
+  -- a step keeps the rule if the marks change as the claims do, and none is cleared
   pub kept_turn : (later : List ℕ) (w : View) → length later ≡ length s.words
       → ((c : ℕ) → mark_of later c + times c v.claims ≡ mark_of s.words c + times c w.claims)
       → ((c : ℕ) → mark_of s.words c ≡ 1 → mark_of later c ≡ 1)
@@ -165,7 +165,7 @@ module _ (blocks slots id b : ℕ) (m : Sat) (inside : b < blocks) (share : 0 < 
         λ _. (refl, (λ z. absurd (dirty z)), (λ _. refl)),
       ))
 
--- the fact that the claims of a joined list stand in it once is read at a load
+-- the fact that the claims of a joined list are in it once is read at a load
 pub checks : (blocks slots id word : ℕ) (m : Sat) → Allows (Kept blocks) slots id m word (λ n. n) (λ n m'. checked (step slots word 0 0 none) m n m')
 checks blocks slots id word m s h _ at _ = (
   m.0,

@@ -79,7 +79,7 @@ pub look_sound : (slots b word n : ℕ) (m m' : Sat) → word ≡ b / 64 → loo
 look_sound slots b word n m m' e told w d = let t = told (sym e) in let l = bit_at-lt n (b % 64) in
     dite (ℕ_discrete (bit_at n (b % 64)) 0) (λ z. sound_same m m' t.0 (t.1 z).0 w d) (λ nz. sound_noted m m' b t.0 (t.2 (omega arith)) w d)
 
--- the same, where the step names the block by b'
+-- the same, if the step names the block by b'
 pub looks_at_named : (blocks slots id b b' word : ℕ) (m : Sat) → b ≡ b' → 0 < m.0.share → b < blocks → word ≡ b / 64
     → Allows (Kept blocks) slots id m word (λ n. n) (λ n m'. looked b' (step slots word 0 0 none) m n m')
 looks_at_named blocks slots id b b' word m is share inside e = subst

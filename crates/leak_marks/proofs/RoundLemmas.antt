@@ -91,7 +91,7 @@ line_of g k targets item earlier e (b ∷ claims) same led among items out =
       },
     )
 
--- where no target of the run is claimed and none stands in it twice, they all go to the worker's list
+-- if no target of the run is claimed and none is in it twice, they all go to the worker's list
 after_line : (lists : List (List ℕ)) (k : ℕ) (run : List Attempt) → AllByRecursion (λ a. a.worker ≡ k) run → k < length lists
     → ((b : ℕ) → Has (targets_in run) b → Has (concat lists) b → ⊥) → IsDistinct (targets_in run) → after lists run ≡ set lists k (get_or lists k [] ++ targets_in run)
 after_line lists k [] w inside new once = sym (ap (λ (l : List ℕ). set lists k l) (append-nil (get_or lists k [])) ∙ set-get_or lists k [])

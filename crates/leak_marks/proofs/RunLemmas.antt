@@ -43,7 +43,7 @@ has_pushed (l ∷ ls) (suc w) x b h =
 
 -- ---- one attempt
 
--- what stands at the block that is asked about
+-- what is at the block that is asked about
 same_block : (lists : List (List ℕ)) (x b : ℕ) → (x == b) ≡ true → is_claimed lists b ≡ is_claimed lists x
 same_block lists x b e = ap (λ y. is_claimed lists y) (sym (same_number x b e))
 
@@ -66,7 +66,7 @@ length_after lists w x = go (is_claimed lists x)
     go true = refl
     go false = length-set lists w (get_or lists w [] ++ x ∷ [])
 
--- no block stands on the lists more than once
+-- no block is on the lists more than once
 abbrev pub AreOnce : List (List ℕ) → Type 0
 AreOnce lists = (b : ℕ) → times b (concat lists) ≡ cond (is_claimed lists b) 1 0
 

@@ -25,7 +25,7 @@ module _ (f g : View → ℕ) where
   none_left [] h e = refl
   none_left (x ∷ xs) h e = let here : f x ≡ 0 = h 0 x refl (omega arith) in let r : total f xs ≡ 0 = none_left xs (λ j u at. h (suc j) u at) (omega arith) in omega arith
 
-  -- where one view has all of g, and f is 0 wherever g is, it has all of f
+  -- if one view has all of g, and f is 0 wherever g is, it has all of f
   pub alone : (views : List View) (j : ℕ) (v : View) → get_elem? views j ≡ some v → ((k : ℕ) (u : View) → get_elem? views k ≡ some u → g u ≡ 0 → f u ≡ 0) → total g views ≡ g v → total f views ≡ f v
   alone [] j v e h t = absurd (some-ne-none v (sym e))
   alone (x ∷ xs) zero v e h t = let is : f x ≡ f v = ap f (some-injective x v e) in let is' : g x ≡ g v = ap g (some-injective x v e) in

@@ -8,11 +8,11 @@ pub record ClaimState : Type 0 where
   pub blocks : ℕ
   pub lists : List (List ℕ)
 
--- the block stands on some worker's list
+-- the block is on some worker's list
 abbrev pub IsClaimed : List (List ℕ) → ℕ → Type 0
 IsClaimed lists block = Has (concat lists) block
 
--- the lists after an attempt: where the block stood on none, it stands at the end of the worker's
+-- the lists after an attempt: if the block was on none, it is at the end of the worker's
 abbrev pub attempted : List (List ℕ) → ℕ → ℕ → List (List ℕ)
 attempted lists worker block =
     if has (concat lists) block then lists

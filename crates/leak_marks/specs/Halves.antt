@@ -19,7 +19,7 @@ PartsInTurnAreKept = (targets : ℕ → List ℕ) (lower upper before between af
     → IsKept targets (Has lower) before between gained left → IsKept targets (Has upper) between after gained' left'
     → IsKept targets (Has (lower ++ upper)) before after (gained ++ gained') (left ++ left')
 
--- where no worker scans what it claimed, all claims are left
+-- if no worker scans what it claimed, all claims are left
 abbrev pub RoundsAreKept : Type 0
 RoundsAreKept = (targets : ℕ → List ℕ) (items before after : List ℕ) (gained : List (List ℕ))
     → IsKeptInRounds (Has items) before after (concat gained)

@@ -1,3 +1,4 @@
+-- The definitions of this crate, by subject.
 pub mod Lists
 pub mod Reach
 pub mod Claims

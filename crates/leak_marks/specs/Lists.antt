@@ -3,12 +3,12 @@ use Rattle.std.specs.Prelude.{ℕ, ◌+◌, ◌/◌, ◌%◌, ◌<◌, ◌≤◌
 use Rattle.std.specs.Int.{bit_at}
 use Rattle.std.specs.List.{list_any}
 
--- how often x stands in the list
+-- how often x is in the list
 abbrev pub times : ℕ → List ℕ → ℕ
 times x [] = 0
 times x (y ∷ ys) = (if y == x then 1 else 0) + times x ys
 
--- x stands in the list
+-- x is in the list
 abbrev pub Has : List ℕ → ℕ → Type 0
 Has xs x = 0 < times x xs
 
@@ -16,11 +16,11 @@ Has xs x = 0 < times x xs
 abbrev pub has : List ℕ → ℕ → Bool
 has xs x = list_any (λ y. y == x) xs
 
--- no number stands in the list twice
+-- no number is in the list twice
 abbrev pub IsDistinct : List ℕ → Type 0
 IsDistinct xs = (x : ℕ) → times x xs ≤ 1
 
--- each number of the first list stands in the second
+-- each number of the first list is in the second
 abbrev pub Within : List ℕ → List ℕ → Type 0
 Within xs ys = (x : ℕ) → Has xs x → Has ys x
 
@@ -28,6 +28,6 @@ Within xs ys = (x : ℕ) → Has xs x → Has ys x
 abbrev pub mark_of : List ℕ → ℕ → ℕ
 mark_of words b = bit_at (slice_index words (b / 64)) (b % 64)
 
--- the words that hold the marks of so many blocks: at least one
+-- how many words hold the marks of this many blocks: at least one
 abbrev pub word_count : ℕ → ℕ
 word_count blocks = max 1 ((blocks + 63) / 64)

@@ -57,21 +57,21 @@ won v b = view (v.claims ++ b ∷ []) (v.seen ++ b ∷ []) v.share
 abbrev pub noted : View → ℕ → View
 noted v b = view v.claims (v.seen ++ b ∷ []) v.share
 
--- a claim of the block b: it won where the mark was clear, and then b was not seen before
+-- a claim of the block b: it won if the mark was clear, and then b was not seen before
 abbrev pub claimed : Step (Unit {0}) → Sat → ℕ → Sat → Type 0
 claimed st m n m' = (b : ℕ) → b / 64 ≡ st.word → 2 ^ (b % 64) ≡ st.first
     → (m'.1 ≡ m.1)
     × (bit_at n (b % 64) ≡ 0 → (m'.0 ≡ won m.0 b) × ¬ Has m.0.seen b)
     × (bit_at n (b % 64) ≡ 1 → m'.0 ≡ noted m.0 b)
 
--- a look at the block b: it is seen where the mark was set, and else it was not seen before and nothing changed
+-- a look at the block b: it is seen if the mark was set; otherwise it was not seen before and nothing changed
 abbrev pub looked : ℕ → Step (Unit {0}) → Sat → ℕ → Sat → Type 0
 looked b st m n m' = b / 64 ≡ st.word
     → (m'.1 ≡ m.1)
     × (bit_at n (b % 64) ≡ 0 → (m'.0 ≡ m.0) × ¬ Has m.0.seen b)
     × (bit_at n (b % 64) ≡ 1 → m'.0 ≡ noted m.0 b)
 
--- a look that changes nothing: the seat's claims stand in its list once each, and its share is no more than the whole
+-- a look that changes nothing: the seat's claims are in its list once each, and its share is no more than the whole
 abbrev pub checked : Step (Unit {0}) → Sat → ℕ → Sat → Type 0
 checked st m n m' = (m' ≡ m) × IsDistinct m.0.claims × (m.0.share ≤ 4294967296)
 

@@ -1,5 +1,5 @@
 -- Which blocks lead to which, and the blocks that a chain reaches, after bdwgc's marking: an object is
--- accessible where a chain of pointers leads to it from a root. Blocks are numbers.
+-- accessible if a chain of pointers leads to it from a root. Blocks are numbers.
 use Rattle.std.specs.Prelude.{ℕ, List, [], ◌∷◌, slice_index_or}
 use Rattle.leak_marks.specs.Lists.{Has}
 
@@ -15,7 +15,7 @@ abbrev pub targets_of : Graph → ℕ → List ℕ
 targets_of graph block = slice_index_or graph.targets block []
 
 -- Each block of the list is outside the given ones, the first is led to by a root word, and each next by
--- a word of the one before. The last block of the chain stands first in the list.
+-- a word of the one before. The last block of the chain comes first in the list.
 abbrev pub IsChain : Graph → List ℕ → Type 0
 IsChain graph [] = ⊥
 IsChain graph (block ∷ []) = ¬ Has graph.given block × Has graph.first block

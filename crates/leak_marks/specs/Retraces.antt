@@ -16,7 +16,7 @@ pub record AreEnough (targets : List (List ℕ)) (start parts : List ℕ) : Type
   pub of_start : (b : ℕ) → Has parts b → (s : ℕ) × Has start s × Has (slice_index_or targets s []) b
   pub enough : (s b : ℕ) → Has start s → Has (slice_index_or targets s []) b → Has parts b ⊎ Has start b
 
--- a chain of all ends at the block exactly where it is of the start or the retrace reaches it
+-- a chain of all ends at the block exactly if it is of the start or the retrace reaches it
 abbrev pub RetraceIsWhole : Type 0
 RetraceIsWhole = (roots : List ℕ) (targets : List (List ℕ)) (start parts : List ℕ) → AreEnough targets start parts → (b : ℕ) →
     Reach (whole_graph roots targets start) b ↔ (Has start b ⊎ Reach (retrace_graph roots targets start parts) b)

@@ -21,19 +21,19 @@ pub record IsKept (targets : ℕ → List ℕ) (item : ℕ → Type 0) (before a
   pub fresh : (b : ℕ) → Has (concat gained) b → Has before b → ⊥
   pub led : AllByRecursion (AreLed targets item []) gained
 
--- The same where each claim is left and led to by an item: no worker scans what it claimed.
+-- The same if each claim is left and led to by an item: no worker scans what it claimed.
 pub record IsKeptInRounds (item : ℕ → Type 0) (before after : List ℕ) (gained : List ℕ) : Type 0 where
   pub keeps : Within before after
   pub covers : (b : ℕ) → item b → Has after b
   pub fresh : (b : ℕ) → Has gained b → Has before b → ⊥
   pub gains : (b : ℕ) → Has gained b → item b
 
--- the gained lists after those from the worker k on
+-- the gained lists appended to those of the workers, from the worker k on
 abbrev pub appended_from : ℕ → List (List ℕ) → List (List ℕ) → List (List ℕ)
 appended_from k lists [] = lists
 appended_from k lists (g ∷ gained) = appended_from (k + 1) (slice_set lists k (slice_index_or lists k [] ++ g)) gained
 
--- A lawful run, of so many workers, has led to these lists.
+-- A lawful run of this many workers has led to these lists.
 pub record IsRunTo (graph : Graph) (workers : ℕ) (claims : List (List ℕ)) (run : List Attempt) : Type 0 where
   pub in_range : AllByRecursion (λ a. a.worker < workers) run
   pub lawful : IsLawfulAfter graph [] run

@@ -39,7 +39,7 @@ IsLawfulAfter graph earlier [] = ⊤
 IsLawfulAfter graph earlier (a ∷ run) =
     ¬ Has graph.given a.target × IsLedTo graph earlier a.source a.target × IsLawfulAfter graph (a.target ∷ earlier) run
 
--- A lawful run of so many workers that leaves nothing out: each block outside the given ones to which a root
+-- A lawful run of this many workers that leaves nothing out: each block outside the given ones to which a root
 -- word, or a word of an attempted block, leads is attempted.
 pub record IsWholeRun (graph : Graph) (workers : ℕ) (run : List Attempt) : Type 0 where
   pub in_range : AllByRecursion (λ a. a.worker < workers) run

@@ -4,7 +4,7 @@ use Rattle.std.specs.Prelude.{◌≡◌, ◌⊎◌, ℕ, List, [], ◌∷◌, �
 use Rattle.leak_marks.specs.Lists.{Has, Within}
 use Rattle.leak_marks.specs.Rounds.{IsKept, IsKeptInRounds}
 
--- A worker that keeps the promise of a step scans an item more: what it claims stands after its list, and is left.
+-- A worker that keeps the promise of a step scans an item more: what it claims follows its list, and is left.
 abbrev pub ItemsAreKept : Type 0
 ItemsAreKept = (targets : ℕ → List ℕ) (items targets_of_item before between after list more left later : List ℕ)
     → IsKept targets (Has items) before between (list ∷ []) left
@@ -12,7 +12,7 @@ ItemsAreKept = (targets : ℕ → List ℕ) (items targets_of_item before betwee
     → Within left later → Within more later
     → IsKept targets (Has (items ++ targets_of_item)) before after ((list ++ more) ∷ []) later
 
--- It scans a block of its list: the block is left no more, and what is claimed now stands after the list, and is left.
+-- It scans a block of its list: the block is no longer left, and what is claimed now follows the list, and is left.
 abbrev pub OwnBlocksAreKept : Type 0
 OwnBlocksAreKept = (targets : ℕ → List ℕ) (items before between after list more left later : List ℕ) (block : ℕ)
     → IsKept targets (Has items) before between (list ∷ []) left → Has list block

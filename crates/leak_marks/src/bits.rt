@@ -1,4 +1,4 @@
-//! Where a block's mark stands.
+//! Where a block's mark is.
 ghost use Rattle.std.specs.Prelude.{◌≡◌, ◌/◌, ◌%◌, ◌^◌, ◌↔◌, IsTrue};
 ghost use Rattle.leak_marks.specs.Lists.{mark_of, word_count};
 ghost use Rattle.std.specs.Int.{bit_at};
@@ -34,7 +34,7 @@ pub fn is_marked(words: &[u64], block: u32) -> bool
     }
 }
 
-/// The number of words for so many blocks.
+/// The number of words for this many blocks.
 pub(crate) fn count_for(blocks: u32) -> usize
     ensures { result ≡ word_count blocks }
 {

@@ -5,7 +5,7 @@ ghost use Rattle.leak_marks.specs.Claims.{IsClaimed, attempted};
 use std::alloc::{AllocError, Global};
 use std::marker::Model;
 
-/// One list of claimed blocks for each worker. A block stands on one list at most, once.
+/// One list of claimed blocks for each worker. A block is on one list at most, once.
 #[derive(Drop)]
 pub struct Claims {
     lists: Vec<Vec<u32>>,
@@ -44,7 +44,7 @@ impl Claims {
         Ok(Claims { lists, marked })
     }
 
-    /// Claims the block for the worker. True where no attempt at it came before.
+    /// Claims the block for the worker. True if no attempt at it came before.
     pub fn attempt(&mut self, worker: u32, block: u32) -> bool
         requires worker { worker < length self.old.lists }
         requires block { block < self.old.blocks }

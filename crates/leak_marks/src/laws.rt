@@ -17,7 +17,7 @@ pub fn retraces()
     ensures { RetraceIsWhole }
 {}
 
-/// Steps in which workers keep their promise make a lawful run, and a complete one where nothing waits.
+/// Steps in which workers keep their promise make a lawful run, and a complete one if nothing waits.
 pub fn steps()
     ensures begins { Begins }
     ensures goes_on { GoesOn }
@@ -34,7 +34,7 @@ pub fn halves()
 {}
 
 /// A worker that scans items, and then blocks that it claimed, keeps the promise of a step: what it claims is a target
-/// of an item or of an earlier claim of its list, and what it scanned is left no more.
+/// of an item or of an earlier claim of its list, and what it scanned is no longer left.
 pub fn stacks()
     ensures nothing { NothingIsKept }
     ensures items { ItemsAreKept }

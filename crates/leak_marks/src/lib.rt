@@ -6,7 +6,7 @@
 //! before the thread starts and joined after it ends. [`laws`] says what lawful, complete runs of attempts come
 //! to: the blocks that a chain of words reaches, each on one worker's list.
 //!
-//! Sources: chains and reach are bdwgc's (an object is accessible where a chain of pointers leads to it from a
+//! Sources: chains and reach are bdwgc's (an object is accessible if a chain of pointers leads to it from a
 //! root), marking again from a start is that of Boehm, Demers and Shenker (PLDI 1991). Claims, seats and shares
 //! are own rules: a mark bit alone doesn't say who set it, and a share tells when all seats are back.
 //!

@@ -14,7 +14,7 @@ use std::marker::{Brand, Model};
 
 type Words = Table<(), View, u32, MarkRule, Global>;
 
-/// One mark for each block. To a contract it is which table it is, and the number of blocks.
+/// One mark for each block. Contracts see which table it is, and the number of blocks.
 #[derive(Drop)]
 pub struct Marks {
     words: Words,
@@ -50,7 +50,7 @@ impl Marks {
         ))
     }
 
-    /// Claims a block by one `fetch_or`. True where no other claim of it came before, in any seat.
+    /// Claims a block by one `fetch_or`. True if no other claim of it came before, in any seat.
     pub fn claim(&self, seat: &mut MarkSeat, block: u32) -> bool
         requires table { seat.old.table ≡ self.now.table }
         requires block { block < self.now.blocks }
@@ -96,7 +96,7 @@ impl Marks {
         self.look::<Brand>(seat, block)
     }
 
-    /// Gives half of the seat's share, rounded down, to a new seat. `None` where the share is 1.
+    /// Gives half of the seat's share, rounded down, to a new seat. `None` if the share is 1.
     pub fn split(&self, seat: &mut MarkSeat) -> Option<MarkSeat>
         requires { seat.old.table ≡ self.now.table }
         ensures giver { IfSome result (λ _. seat.new ≡ kept_half seat.old) }

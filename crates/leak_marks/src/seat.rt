@@ -3,7 +3,7 @@ use crate::view::View;
 use atomic_table::Seat;
 use std::marker::Model;
 
-/// A seat of a table of marks. To a contract it is the blocks that it claimed, in order, those that it has seen
+/// A seat of a table of marks. Contracts see the blocks that it claimed, in order, those that it has seen
 /// marked, and its share of the whole, 2^32, which the first seat has.
 ///
 /// It takes no memory. One that is dropped keeps its claims and its share.

@@ -1,1 +1,2 @@
+-- The lemmas of this crate, by subject.
 pub mod TextLemmas

@@ -68,7 +68,7 @@ read_text read.NoMemory = codes "out of memory"
 abbrev pub write_text : WriteFault → List ℕ
 write_text f = codes "write failed after " ++ (decimal f.written ++ codes " bytes")
 
--- what follows the path of a file that can't be opened: nothing where the reason has no name
+-- what follows the path of a file that can't be opened: nothing if the reason has no name
 abbrev pub reason_text : Reason → List ℕ
 reason_text reason.Missing = codes ": no such file"
 reason_text reason.Denied = codes ": permission denied"

@@ -46,7 +46,7 @@ no_place : (text : List ℕ) (y : Line) → IsLine text y → y.caller ≡ (0, 0
 unfolding IsLine
 no_place text y h e z p = let same : y ≡ z = one_line text y z h (inr (inr p)) in absurd (omega (arith, sym (ap (λ (c : ℕ × ℕ). c.1) e) ∙ ap (λ (l : Line). l.caller.1) same ∙ ap (λ (c : ℕ × ℕ). c.1) p.5))
 
--- the place stands after the '@' and the space
+-- the place follows the '@' and the space
 place_in : (bytes front text more : List ℕ) (at : ℕ) (y : Line) → bytes ≡ front ++ (text ++ more) → length front ≡ at → (p : IsPlaced text y) → in_range bytes (at + 2, at + (2 + length p.0)) ≡ p.0
 place_in bytes front text more at y w e p =
     let whole : text ++ more ≡ 64 ∷ 32 ∷ (p.0 ++ ((32 ∷ p.1) ++ more)) = ap (λ t. t ++ more) (p.2 ∙ ap (λ t. 64 ∷ 32 ∷ t) (append_assoc p.0 (32 ∷ []) p.1)) ∙ ap (λ t. 64 ∷ 32 ∷ t) (append_assoc p.0 (32 ∷ p.1) more) in

@@ -19,7 +19,7 @@ behind_placed text rest x e h = (h.0, h.1, e ∙ ap (λ t. 64 ∷ 32 ∷ t) (h.2
 pub placed_behind : (text rest : List ℕ) (x : Line) → text ≡ 64 ∷ 32 ∷ rest → IsPlaced text x → IsAfterPlace rest x
 placed_behind text rest x e h = (h.0, h.1, tail (tail (sym e ∙ h.2)) ∙ append_assoc h.0 (32 ∷ []) h.1, h.3, h.4, h.5)
 
--- ---- what stands around the end that was found
+-- ---- what is around the end that was found
 
 -- no end was found
 pub behind_no_end : (text : List ℕ) → IsPlaceEnd text None → (x : Line) → IsAfterPlace text x → ⊥
@@ -36,18 +36,18 @@ behind_end_zero text f x h = go h.0 (behind_end text 0 x f h) h.3
     go [] e p = p.0 refl
     go (b ∷ place) e p = absurd (omega arith)
 
--- what stands there
+-- what is there
 pub behind_cut : (text back : List ℕ) (end : ℕ) (x : Line) → back ≡ drop end text → IsPlaceEnd text (Some end) → (h : IsAfterPlace text x) → back ≡ 32 ∷ h.1
 behind_cut text back end x e f h = e ∙ ap (drop end) h.2 ∙ drop_at h.0 (32 ∷ h.1) end (sym (behind_end text end x f h))
 
 abbrev begins : List ℕ → List ℕ → Bool
 begins text front = pointwise ◌==◌ (take (length front) text) front
 
--- no space stands there
+-- no space is there
 pub behind_no_space : (text back space : List ℕ) (end : ℕ) → back ≡ drop end text → space ≡ 32 ∷ [] → IsPlaceEnd text (Some end) → begins back space ≡ false → (x : Line) → IsAfterPlace text x → ⊥
 behind_no_space text back space end e s f never x h = true≢false (sym (ap (begins back) s ∙ ap (λ t. begins t (32 ∷ [])) (behind_cut text back end x e f h)) ∙ never)
 
--- no call stands after the space
+-- no call follows the space
 pub behind_no_call : (text back space rest : List ℕ) (end : ℕ) → back ≡ drop end text → space ≡ 32 ∷ [] → rest ≡ drop (length space) back → IsPlaceEnd text (Some end) → ((y : Call) → IsCall y.kind rest y.addr y.size → ⊥) → (x : Line) → IsAfterPlace text x → ⊥
 behind_no_call text back space rest end e s r f never x h =
     never (record { kind = x.kind; addr = x.addr; size = x.size }) (subst (λ (t : List ℕ). IsCall x.kind t x.addr x.size) (sym (r ∙ ap (λ t. drop (length t) back) s ∙ ap (drop 1) (behind_cut text back end x e f h))) h.4)
@@ -56,7 +56,7 @@ space_and_rest : (text : List ℕ) → begins text (32 ∷ []) ≡ true → text
 space_and_rest [] h = absurd (true≢false (sym h))
 space_and_rest (b ∷ text) h = ap (λ t. t ∷ text) (eqb-true b 32 (and_left (b == 32) true h))
 
--- the place, the space and what stands after it
+-- the place, the space and what follows it
 pub behind_whole : (text back space rest : List ℕ) (end : ℕ) → back ≡ drop end text → space ≡ 32 ∷ [] → rest ≡ drop (length space) back → begins back space ≡ true → text ≡ take end text ++ 32 ∷ rest
 behind_whole text back space rest end e s r h =
     sym (take-append-drop end text) ∙ ap (λ t. take end text ++ t) (sym e ∙ space_and_rest back (sym (ap (begins back) s) ∙ h) ∙ ap (λ t. 32 ∷ t) (sym (r ∙ ap (λ t. drop (length t) back) s)))

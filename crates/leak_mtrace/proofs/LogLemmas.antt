@@ -36,7 +36,7 @@ read_start bytes = record { done = []; whole = refl; good = tt; within = omega a
 
 -- ---- one line more
 
--- the line at start, where the next line feed stands len bytes on
+-- the line at start; the next line feed is len bytes on
 record Next (bytes : List ℕ) (start len : ℕ) : Type 0 where
   low : start + len < length bytes
   feed : get_or bytes (start + len) 0 ≡ 10

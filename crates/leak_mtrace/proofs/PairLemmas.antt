@@ -1,4 +1,4 @@
--- An address and a size stand around the first space.
+-- An address and a size are around the first space.
 use Rattle.std.proofs.Common.{◌≡◌, ◌≢◌, ℕ, zero, suc, ◌+◌, ◌<◌, refl, sym, subst, ap, ◌∙◌, List, [], ◌∷◌, ◌++◌, Some, None, arith, length, get_or, take, drop, append_assoc, length-append, ⊎_elim, eqb-true, eq-eqb}
 use Rattle.std.proofs.lemmas.List.{take_at, drop_at, get_or_at, get_or_append_left, length_push, take-append-drop, drop_more}
 use Rattle.std.proofs.lemmas.Bool.{cases_lt}
@@ -12,7 +12,7 @@ no_space_at [] k h l = absurd (omega arith)
 no_space_at (x ∷ text) zero h l = h.0
 no_space_at (x ∷ text) (suc k) h l = no_space_at text k h.1 (omega arith)
 
--- a space after a front is a place of the text
+-- a space after a front is a place in the text
 space_at : (text a s : List ℕ) → text ≡ a ++ 32 ∷ s → (length a < length text) × (get_or text (length a) 0 ≡ 32)
 space_at text a s e =
     (let l : length text ≡ length a + (length s + 1) = ap length e ∙ length-append a (32 ∷ s) ∙ omega arith in omega arith, ap (λ t. get_or t (length a) 0) e ∙ get_or_at a 32 s 0 (length a) refl)

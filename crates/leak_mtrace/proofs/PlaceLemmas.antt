@@ -74,7 +74,7 @@ sign_is Remark h = absurd (h refl)
 three : (x y z : ℕ) → x ≡ 32 → is_sign y ≡ true → z ≡ 32 → (x == 32 && (is_sign y && z == 32)) ≡ true
 three x y z e f g = ap (λ b. b && (is_sign y && z == 32)) (eq-eqb x 32 e) ∙ ap (λ b. b && z == 32) f ∙ eq-eqb z 32 g
 
--- after a place stands a spot
+-- a spot follows a place
 pub spot_at : (text place rest : List ℕ) (k : Kind) (m n : ℕ) → text ≡ place ++ 32 ∷ rest → IsCall k rest m n → is_spot text (length place) ≡ true
 spot_at text place rest k m n e c =
     let front : (2 ≤ length rest) × (get_or rest 0 0 ≡ sign_of k) × (get_or rest 1 0 ≡ 32) = call_front k rest m n c in
@@ -98,7 +98,7 @@ no_spot_in rest k m n j c l e s =
       | inr b ↦ (no_sign _ s).1 (sym head ∙ first_of_get _ 48 b)
     ]
 
--- no spot stands after it
+-- no spot comes after it
 pub spot_past : (text place rest : List ℕ) (k : Kind) (m n i : ℕ) → text ≡ place ++ 32 ∷ rest → IsCall k rest m n → length place < i → is_spot text i ≡ true → ⊥
 spot_past text place rest k m n i e c l s =
     let j : ℕ = i - length place - 1 in
@@ -197,7 +197,7 @@ bracket_in_front text end l t f = go (Any-from_list_any (λ b. b == 93) (take en
         let is : a.1 ≡ 93 = eqb-true _ _ a.4 in
         f a.0 (omega arith) (omega arith) (eq-eqb _ _ (get_or_default text a.0 0 a.1 (omega arith) ∙ sym (get_or-take end text a.0 a.1 below) ∙ a.3 ∙ is))
 
--- what stands before the end that was found is a place
+-- what comes before the end that was found is a place
 pub place_end_place : (text : List ℕ) (end : ℕ) → IsPlaceEnd text (Some end) → 0 < end → IsPlace (take end text)
 place_end_place text end h some = (take_some end text some (place_end_within text end h), go h.0 h.1 h.2)
   where

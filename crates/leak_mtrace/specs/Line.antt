@@ -1,5 +1,5 @@
--- The lines that glibc's mtrace writes, whole. Own rule for the place of a call, since files' names may
--- hold any byte: nothing is checked of it but where it ends.
+-- The complete lines that glibc's mtrace writes. Own rule for the place of a call: only its end is looked for, since
+-- names of files may hold any byte.
 use Rattle.std.specs.Prelude.{◌≡◌, ◌≢◌, ℕ, ◌+◌, ◌⊎◌, List, [], ◌∷◌, ◌++◌, length, codes, IsTrue, not, ◌||◌, ◌==◌, Some, slice_get}
 use Rattle.std.specs.List.{list_any, ends_with}
 use Rattle.leak_mtrace.specs.declared.line.Kind.{Kind}
@@ -25,7 +25,7 @@ IsCall MoveIn = IsSized (codes "> ")
 IsCall Failed = IsSized (codes "! ")
 IsCall Remark = λ text addr size. ⊥
 
--- the place of a call: it isn't empty, and ends at its last ']' where it has one
+-- the place of a call: it isn't empty, and ends at its last ']' if it has one
 abbrev pub IsPlace : List ℕ → Type 0
 IsPlace place = (place ≢ []) × IsTrue (not (list_any (λ b. b == 93) place) || ends_with ◌==◌ place (codes "]"))
 
@@ -38,7 +38,7 @@ IsRemark text x = ((text ≡ []) ⊎ (slice_get text 0 ≡ Some 61))
 abbrev pub IsPlain : List ℕ → Line → Type 0
 IsPlain text x = IsCall x.kind text x.addr x.size × (x.caller ≡ (0, 0))
 
--- a call after its place, where the '@' and the space before the place are cut off
+-- a call after its place, without the '@' and the space before the place
 abbrev pub IsAfterPlace : List ℕ → Line → Type 0
 IsAfterPlace text x = (place : List ℕ) × (rest : List ℕ) × (text ≡ place ++ 32 ∷ rest) × IsPlace place
     × IsCall x.kind rest x.addr x.size × (x.caller ≡ (2, 2 + length place))
@@ -54,7 +54,7 @@ IsLine text x = IsRemark text x ⊎ (IsPlain text x ⊎ IsPlaced text x)
 
 -- ---- a call, cut after its sign
 
--- what stands after a call's sign and space
+-- what follows a call's sign and space
 abbrev pub IsBody : Kind → List ℕ → ℕ → ℕ → Type 0
 IsBody Alloc = IsPair
 IsBody Free = λ text addr size. IsAddress text addr × (size ≡ 0)

@@ -1,5 +1,5 @@
--- The lines of a whole log: what stands before each line feed. Own rule: what follows the last line feed
--- is torn, and no line.
+-- The lines of a whole log: what comes before each line feed. Own rule: what follows the last line feed
+-- is torn, and is not a line.
 use Rattle.std.specs.Prelude.{◌≡◌, ℕ, ◌+◌, ◌-◌, ◌^◌, ◌<◌, ◌≤◌, ◌⊎◌, List, [], ◌∷◌, length, take, drop, ◌==◌, Bool, nat_eq, if◌then◌else◌, slice_get, IfSome}
 use Rattle.std.specs.List.{slice_split, starts_with, AllByRecursion, AllZip, after_last}
 use Rattle.leak_mtrace.specs.declared.line.Kind.TheVariants.{Alloc, MoveIn}
@@ -8,7 +8,7 @@ use Rattle.leak_mtrace.specs.declared.error.LogError.{LogError}
 use Rattle.leak_mtrace.specs.declared.error.LogError.TheVariants.{BadLine, Extent, NoMemory}
 use Rattle.leak_mtrace.specs.Line.{IsLine, IsPlaced}
 
--- what stands before each line feed, and what stands after the last
+-- what comes before each line feed, and what follows the last
 abbrev pub pieces : List ℕ → List (List ℕ)
 pieces bytes = slice_split (λ b. b == 10) bytes
 
@@ -18,11 +18,11 @@ whole_lines bytes = take (length (pieces bytes) - 1) (pieces bytes)
 abbrev pub torn_piece : List ℕ → List ℕ
 torn_piece bytes = after_last (λ b. b == 10) bytes
 
--- 1 where something stands after the last line feed
+-- 1 if something follows the last line feed
 abbrev pub torn_of : List ℕ → ℕ
 torn_of bytes = if length (torn_piece bytes) == 0 then 0 else 1
 
--- the bytes up to and with the last line feed
+-- how many bytes there are up to the last line feed, that one included
 abbrev pub whole_len_of : List ℕ → ℕ
 whole_len_of bytes = length bytes - length (torn_piece bytes)
 
@@ -43,12 +43,12 @@ IsLineAt t x = (y : Line) × IsLine t.1 y × (x ≡ placed t.0 y)
 abbrev pub IsPastEnd : Line → Type 0
 IsPastEnd x = ((x.kind ≡ Alloc) ⊎ (x.kind ≡ MoveIn)) × (2 ^ 64 ≤ x.addr + x.size)
 
--- the lines of the log, each within the address space
+-- a line of the log, within the address space
 pub record IsGoodLine (t : ℕ × List ℕ) (x : Line) : Type 0 where
   pub is_line : IsLineAt t x
   pub fits : IsPastEnd x → ⊥
 
--- each line's block does
+-- no line's block ends past the address space
 abbrev pub LinesFit : List Line → Type 0
 LinesFit lines = AllByRecursion (λ x. IsPastEnd x → ⊥) lines
 
@@ -83,7 +83,7 @@ pub record IsCallerIn (bytes : List ℕ) (x : Line) : Type 0 where
   pub order : x.caller.0 ≤ x.caller.1
   pub within : x.caller.1 ≤ length bytes
 
--- each line's caller is
+-- each line's caller is such a range
 abbrev pub CallersAreIn : List ℕ → List Line → Type 0
 CallersAreIn bytes lines = AllByRecursion (IsCallerIn bytes) lines
 
@@ -91,7 +91,7 @@ CallersAreIn bytes lines = AllByRecursion (IsCallerIn bytes) lines
 abbrev pub in_range : List ℕ → ℕ × ℕ → List ℕ
 in_range bytes range = take (range.1 - range.0) (drop range.0 bytes)
 
--- the line's caller holds the place that its text names, or (0, 0) where it names none
+-- the line's caller holds the place that its text names, or (0, 0) if it names none
 abbrev pub HasItsPlace : List ℕ → ℕ × List ℕ → Line → Type 0
 HasItsPlace bytes t x = ((x.caller ≡ (0, 0)) × ((y : Line) → IsPlaced t.1 y → ⊥))
     ⊎ ((y : Line) × (p : IsPlaced t.1 y) × (in_range bytes x.caller ≡ p.0))

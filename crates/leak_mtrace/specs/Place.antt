@@ -9,7 +9,7 @@ use Rattle.leak_mtrace.specs.Line.{IsCall, IsPlaced}
 abbrev pub is_sign : ℕ → Bool
 is_sign b = b == 43 || b == 45 || b == 60 || b == 62 || b == 33
 
--- a space stands there, and a sign and a space follow
+-- a space is there, and a sign and a space follow it
 abbrev pub is_spot : List ℕ → ℕ → Bool
 is_spot text k = slice_index text k == 32 && (is_sign (slice_index text (k + 1)) && slice_index text (k + 2) == 32)
 
@@ -31,7 +31,7 @@ has_bracket text = list_any (λ b. b == 93) text
 abbrev pub BeginsCall : List ℕ → Type 0
 BeginsCall text = (sign : ℕ) × (more : List ℕ) × (text ≡ sign ∷ 32 ∷ more) × IsTrue (is_sign sign)
 
--- the text up to its last ']', that byte included, or where it has none up to the last space that a sign
+-- the text up to its last ']', that byte included, or, if it has none, up to the last space that a sign
 -- and a space follow
 abbrev pub IsWhere : List ℕ → List ℕ → Type 0
 IsWhere text place =

@@ -8,7 +8,7 @@ use thiserror::Error;
 /// The first reason to refuse a log. The number is that of the first faulty line, counted from 1.
 #[derive(Clone, Copy, Debug, PartialEq, Eq, Error)]
 pub enum LogError {
-    /// The line is none that mtrace writes. To skip it could invent leaks, so the log is refused.
+    /// mtrace writes no such line. Skipping it could invent leaks, so the log is refused.
     #[error("line {0} is not an mtrace line")]
     BadLine(usize),
     /// The block of an allocation has no last address: its size takes it past 2^64 - 1.

@@ -1,11 +1,12 @@
 //! Reads an allocation log as glibc's mtrace writes it.
 //!
-//! [`parse_line`] reads one [`Line`]; [`Log::read`] reads all lines of a log, or gives the number of the first that it
-//! refuses; a [`Reader`] gives them one after another, and keeps none. The forms of a line are those that glibc's `malloc/mtrace-impl.c` prints, and no others: a line that was
-//! skipped could turn a block that was given back into a leak. Of the place of a call only its end is looked for, since
-//! the names of files and functions may hold any byte but a line feed; where it ends is our own rule.
+//! [`parse_line`] reads one [`Line`]. [`Log::read`] reads all lines of a log, or gives the number of the first that it
+//! refuses. A [`Reader`] gives them one after another, and keeps none. Only lines as glibc's `malloc/mtrace-impl.c` prints
+//! them are accepted: skipping a line could turn a block that was given back into a leak. Of the place of a call only its
+//! end is looked for, since the names of files and functions may hold any byte but a line feed; where it ends is our own
+//! rule.
 //!
-//! The contracts don't say that there is memory enough, nor that a log is complete: a log that wasn't flushed, or to
+//! The contracts don't say that there is enough memory, nor that a log is complete: a log that wasn't flushed, or to
 //! which two processes wrote, can lack lines and still be read.
 #![tactic(auto)]
 

@@ -9,7 +9,7 @@ pub enum Kind {
     Free,
     /// `<`: a block was given up by a `realloc` that moves or grows it.
     MoveOut,
-    /// `>`: the block that such a `realloc` answered.
+    /// `>`: the block that such a `realloc` returned.
     MoveIn,
     /// `!`: a `realloc` failed, and its block stays.
     Failed,
@@ -23,9 +23,9 @@ pub struct Line {
     pub kind: Kind,
     /// The address of the block's first byte, 0 for `(nil)` and in a remark.
     pub addr: u64,
-    /// The size of the block in bytes, 0 where the line has none.
+    /// The size of the block in bytes, 0 if the line has none.
     pub size: u64,
-    /// The place of the call, as a range of bytes with its end excluded: of the line where one line was read,
-    /// of the whole log in a [`Log`](crate::Log). `(0, 0)` where the line names no place.
+    /// The place of the call, as a range of bytes with its end excluded: of the line if one line was read,
+    /// of the whole log in a [`Log`](crate::Log). `(0, 0)` if the line names no place.
     pub caller: (usize, usize),
 }

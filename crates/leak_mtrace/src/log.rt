@@ -27,13 +27,13 @@ impl Model for Log {
 }
 
 impl Log {
-    /// Reads a whole log, or gives its first fault. What follows the last line feed is torn, and no line.
+    /// Reads a whole log, or gives its first fault. What follows the last line feed is torn, and is not a line.
     pub fn read(alloc: Global, bytes: &[u8]) -> Result<Log, LogError>
         ensures ok { IfOk result (λ log. IsReadAs bytes.now log) }
         ensures callers { IfOk result (λ log. CallersAreIn bytes.now log.lines) }
         ensures refused { IfErr result (λ e. e ≢ LogError.NoMemory → IsFirstFault bytes.now e) }
     {
-        // counted first, so that room is taken once and for no more than the lines
+        // counted first, so that memory is allocated once, and for no more than the lines
         let mut lines = Vec::with_capacity(alloc, memchr_iter(b'\n', bytes).count())?;
         let mut reader = Reader::new(bytes);
         while let Some(line) = reader.next_line()? {
@@ -54,7 +54,7 @@ impl Log {
         self.lines.as_slice()
     }
 
-    /// How many lines are torn: 1 where something follows the last line feed, and 0 otherwise.
+    /// How many lines are torn: 1 if something follows the last line feed, and 0 otherwise.
     pub fn torn(&self) -> u64
         ensures { result ≡ self.now.torn }
     {

@@ -1,4 +1,4 @@
--- Taking up entries one after another.
+-- Taking entries one after another.
 use Rattle.std.proofs.Common.{◌≡◌, ℕ, zero, suc, ◌+◌, ◌≤◌, ◌<◌, Bool, true, false, cond, eqb, List, [], ◌∷◌, ◌++◌, length, filter, Option, Some, None, refl, sym, ap, ◌∙◌, append_assoc, length-append, length-drop, append-nil, flat_map, arith}
 use Rattle.std.proofs.lemmas.Bool.{ltb-false, ne_eqb, or_parts}
 use Rattle.std.proofs.lemmas.Grind.{flat_map-append}
@@ -73,7 +73,7 @@ cutting_enough (suc n) (suc m) e p q =
     ap (λ (es : List Entry). cond {A = List Entry} (eqb (length e.bytes) 0) [] (e ∷ es))
     (same_step e n m (is_cut e) refl (λ h. let s = following_is_shorter e h in cutting_enough n m (following e) (omega arith) (omega arith)))
 
--- an entry that is there stands first
+-- an entry that is there comes first
 first_there : (e : Entry) (n : ℕ) → (e.bytes ≡ [] → ⊥) → cutting (suc n) e ≡ e ∷ cond {A = List Entry} (is_cut e) [] (cutting n (following e))
 first_there e n some =
     ap (λ (b : Bool). cond {A = List Entry} b [] (e ∷ cond {A = List Entry} (is_cut e) [] (cutting n (following e))))
@@ -104,11 +104,11 @@ refused_by : (e : Entry) (x : NoteError) (cut : Bool) → is_cut e ≡ cut → (
 refused_by e x true is some fault = rw (entries_from-cut e some is) fault
 refused_by e x false is some fault = rw (entries_from-whole e some is) (among-before (e ∷ []) (entries_from (following e)) x fault)
 
--- the fault of the entry that stands first
+-- the fault of the entry that comes first
 pub refused_here : (e : Entry) (x : NoteError) → (e.bytes ≡ [] → ⊥) → first_fault_among (e ∷ []) ≡ Some x → first_fault_among (entries_from e) ≡ Some x
 refused_here e x some fault = refused_by e x (is_cut e) refl some fault
 
--- one entry more is taken up
+-- one more entry is taken
 pub record Taken (whole : List Entry) (old new : Registers) (e : Entry) : Type 0 where
   pub done : List Entry
   pub all : whole ≡ done ++ entries_from e

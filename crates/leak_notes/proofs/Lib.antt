@@ -1,3 +1,4 @@
+-- The lemmas of this crate, by subject.
 pub mod Gathering
 pub mod Parts
 pub mod SetLemmas

@@ -1,4 +1,4 @@
--- Taking up parts one after another.
+-- Taking parts one after another.
 use Rattle.std.proofs.Common.{◌≡◌, ℕ, ◌+◌, ◌<◌, ◌≤◌, List, [], ◌∷◌, ◌++◌, length, get_or, take, drop, eqb, Some, None, refl, sym, ap, ◌∙◌, append-nil, take-append-drop, take_all, flat_map, add-one, arith}
 use Rattle.std.proofs.Math.Seq.{drop-cons}
 use Rattle.std.proofs.lemmas.Bool.{ne_eqb}
@@ -15,7 +15,7 @@ use Rattle.leak_notes.proofs.Gathering.{takes_more, among-behind, among-before, 
 abbrev pub nothing : Registers
 nothing = record { registers = []; threads = 0 }
 
--- the entries of the first parts were taken up
+-- the entries of the first parts were taken
 abbrev pub AreTaken : List ℕ → ℕ → Registers → Type 0
 AreTaken file i threads = TakesUp nothing threads (entries_of_parts file (take i (note_parts_of file)))
 
@@ -70,7 +70,7 @@ all_taken file threads taken some =
     let c : threads.threads ≡ count_statuses (entries file) = let t = taken.count in omega arith in
     (same_threads threads (threads_of file) taken.words c, first_fault-behind (flat_map entry_faults (entries file)) ((eqb (count_statuses (entries file)) 0, NoThread) ∷ []) taken.faultless ∙ (rw (ne_eqb (count_statuses (entries file)) 0 more) refl))
 
--- all parts were taken up
+-- all parts were taken
 pub taken_whole : (file : List ℕ) (items : List NotePart) (i : ℕ) (threads : Registers) → items ≡ note_parts_of file → length items ≤ i → AreTaken file i threads → TakesUp nothing threads (entries file)
 taken_whole file items i threads is h taken =
     let long : length (note_parts_of file) ≤ i = rw is at h in

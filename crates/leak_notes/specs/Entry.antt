@@ -37,7 +37,7 @@ desc e = slice_range e.bytes (desc_at e) (desc_at e + desc_size e)
 abbrev pub entry_size : Entry → ℕ
 entry_size e = min (desc_at e + padded (desc_size e)) (length e.bytes)
 
--- what stands after it in the part
+-- what follows it in the part
 abbrev pub following : Entry → Entry
 following e = record { offset = e.offset + entry_size e; bytes = drop (entry_size e) e.bytes }
 
@@ -73,7 +73,7 @@ has_other_status_size e = is_status e && not (desc_size e == 336)
 abbrev pub has_other_vector_size : Entry → Bool
 has_other_vector_size e = is_vector e && not (desc_size e == 512)
 
--- so many words of 8 bytes, from the byte on
+-- this many words of 8 bytes, from the byte on
 abbrev pub words_from : List ℕ → ℕ → ℕ → List ℕ
 words_from bytes at count = map (λ i. number_at w64 bytes (at + 8 * i)) (range_with_len 0 count)
 
@@ -86,12 +86,12 @@ words_of_status status = words_from status 112 27
 abbrev pub words_of_vector : List ℕ → List ℕ
 words_of_vector vector = words_from vector 32 48
 
--- how many words of 8 bytes stand whole in a state entry of that size, from byte 576 on
+-- how many complete words of 8 bytes a state entry of that size has, from byte 576 on
 abbrev pub state_words : ℕ → ℕ
 state_words size = (size - 576) / 8
 
--- the XSAVE area in its standard form (Intel SDM volume 1, chapter 13) behind its header, which ends at byte 576: the upper halves
--- of ymm0 to ymm15, then what the processor has more. Below 512 it repeats the FXSAVE area
+-- the XSAVE area in its standard form (Intel SDM volume 1, chapter 13) after its header, which ends at byte 576: the upper halves
+-- of ymm0 to ymm15, then whatever else the processor has. Below 512 it repeats the FXSAVE area
 abbrev pub words_of_state : List ℕ → List ℕ
 words_of_state state = words_from state 576 (state_words (length state))
 

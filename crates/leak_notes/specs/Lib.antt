@@ -1,3 +1,4 @@
+-- The definitions of this crate, by subject.
 pub mod Entry
 pub mod Threads
 pub mod Rows

@@ -17,7 +17,7 @@ with_state size =
     patched (patched (patched sample 96 (to_le_bytes w64 (376 + size))) 532 (6 ∷ 0 ∷ 0 ∷ 0 ∷ [])) 536
     (to_le_bytes w32 size ++ (2 ∷ 2 ∷ 0 ∷ 0 ∷ 0x4c ∷ 0x49 ∷ 0x4e ∷ 0x55 ∷ 0x58 ∷ 0 ∷ []))
 
--- with the address of a block at the place in the descriptor
+-- the same with the address of a block at the place in the descriptor
 abbrev pub with_state_word : ℕ → ℕ → List ℕ
 with_state_word size at = patched (with_state size) (552 + at) (to_le_bytes w64 0x10100)
 

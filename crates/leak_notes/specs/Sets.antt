@@ -1,4 +1,4 @@
--- Of which kind of entry register words are.
+-- The kinds of entry that register words come from.
 use Rattle.std.specs.Prelude.{List, filter_map, if◌then◌else◌, Option, Some, None}
 use Rattle.leak_notes.specs.declared.sets.RegisterSet.{RegisterSet}
 use Rattle.leak_notes.specs.declared.sets.RegisterSet.TheVariants.{Status, Vector, State}

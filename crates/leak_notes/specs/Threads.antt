@@ -42,7 +42,7 @@ entry_faults e =
 abbrev pub first_fault_among : List Entry → Option NoteError
 first_fault_among es = first_fault (flat_map entry_faults es)
 
--- entries without a fault, taken up after those that made the old registers
+-- the entries have no fault; they are taken after those that gave the old registers
 pub record TakesUp (old new : Registers) (es : List Entry) : Type 0 where
   pub words : new.registers ≡ old.registers ++ words_of_entries es
   pub count : new.threads ≡ old.threads + count_statuses es

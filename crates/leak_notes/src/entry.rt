@@ -70,7 +70,7 @@ impl<'a> Entry<'a> {
         }
     }
 
-    /// If the part ends here.
+    /// Whether the part ends here.
     pub(crate) fn is_end(&self) -> bool
         ensures { IsTrue result ↔ (self.now.bytes ≡ []) }
     {
@@ -111,7 +111,7 @@ impl<'a> Entry<'a> {
         FIELDS_SIZE + pad(self.name_size())
     }
 
-    /// If its fields, its padded name or its descriptor pass the end of the part.
+    /// Whether its fields, its padded name or its descriptor pass the end of the part.
     pub(crate) fn is_cut(&self) -> bool
         ensures { result ≡ is_cut self.now }
     {
@@ -126,7 +126,7 @@ impl<'a> Entry<'a> {
         u32_at(self.bytes, 8)
     }
 
-    /// If it has the name of Linux's first register sets.
+    /// Whether it has the name of Linux's first register sets.
     fn is_core(&self) -> bool
         requires { IsFalse (is_cut self.now) }
         ensures { result ≡ is_core self.now }
@@ -134,7 +134,7 @@ impl<'a> Entry<'a> {
         &self.bytes[FIELDS_SIZE..FIELDS_SIZE + self.name_size()] == CORE
     }
 
-    /// If it has the name of register sets that Linux added later.
+    /// Whether it has the name of register sets that Linux added later.
     fn is_linux(&self) -> bool
         requires { IsFalse (is_cut self.now) }
         ensures { result ≡ is_linux self.now }
@@ -142,7 +142,7 @@ impl<'a> Entry<'a> {
         &self.bytes[FIELDS_SIZE..FIELDS_SIZE + self.name_size()] == LINUX
     }
 
-    /// If it is a thread status.
+    /// Whether it is a thread status.
     pub(crate) fn is_status(&self) -> bool
         requires { IsFalse (is_cut self.now) }
         ensures { result ≡ is_status self.now }
@@ -150,7 +150,7 @@ impl<'a> Entry<'a> {
         self.kind() == NT_PRSTATUS && self.is_core()
     }
 
-    /// If it is a vector entry.
+    /// Whether it is a vector entry.
     pub(crate) fn is_vector(&self) -> bool
         requires { IsFalse (is_cut self.now) }
         ensures { result ≡ is_vector self.now }
@@ -158,7 +158,7 @@ impl<'a> Entry<'a> {
         self.kind() == NT_FPREGSET && self.is_core()
     }
 
-    /// If it is a state entry.
+    /// Whether it is a state entry.
     pub(crate) fn is_state(&self) -> bool
         requires { IsFalse (is_cut self.now) }
         ensures { result ≡ is_state self.now }

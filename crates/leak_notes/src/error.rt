@@ -15,10 +15,10 @@ pub enum NoteError {
     /// The fields, the padded name or the descriptor of an entry pass the end of its part.
     #[error("note at {0} is cut off")]
     Cut(u64),
-    /// The descriptor of a thread status has not the 336 bytes of Linux's `struct elf_prstatus`.
+    /// The descriptor of a thread status does not have the 336 bytes of Linux's `struct elf_prstatus`.
     #[error("thread status at {0} has a wrong size")]
     StatusSize(u64),
-    /// The descriptor of a vector entry has not the 512 bytes of the FXSAVE area.
+    /// The descriptor of a vector entry does not have the 512 bytes of the FXSAVE area.
     #[error("vector registers at {0} have a wrong size")]
     VectorSize(u64),
     /// No entry is a thread status.

@@ -1,4 +1,4 @@
-//! Of which kind of entry each register word is.
+//! The kind of entry that each register word comes from.
 ghost use Rattle.std.specs.Prelude.{◌≡◌, ◌++◌, ◌+◌, ◌<◌, ◌^◌, length, IsFalse, OnOk, IfOk};
 ghost use Rattle.leak_notes.specs.Entry.{entries_from, is_cut};
 ghost use Rattle.leak_notes.specs.Threads.{entries};
@@ -17,11 +17,11 @@ pub enum RegisterSet {
     /// The 48 halves of a vector entry: those of the eight x87 or MMX registers, then those of xmm0 to xmm15, of each the lower
     /// half first.
     Vector,
-    /// So many words of a state entry, the one at byte 576 of its descriptor the first.
+    /// This many words of a state entry, beginning with the one at byte 576 of its descriptor.
     State(u32),
 }
 
-/// The sets that the register words of a core are of, in the order of [`Threads::registers`](crate::Threads::registers).
+/// The sets that a core's register words come from, in the order of [`Threads::registers`](crate::Threads::registers).
 /// An entry that is cut off has none.
 pub fn register_sets(alloc: Global, image: &Image) -> Result<Vec<RegisterSet>, AllocError>
     ensures { IfOk result (λ sets. sets.items ≡ sets_of (entries image.now)) }

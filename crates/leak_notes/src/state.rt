@@ -6,9 +6,9 @@
 //! | 0 to 511 | the FXSAVE area, as a vector entry has it |
 //! | 512 to 575 | the header, which says what follows |
 //! | 576 to 831 | the upper halves of ymm0 to ymm15 |
-//! | 832 to the end | AVX-512's registers, and what the processor has more |
+//! | 832 to the end | AVX-512's registers, and whatever else the processor has |
 //!
-//! Where a part behind byte 832 stands, each processor states for itself, so all words from 576 on are taken. How large
+//! Each processor states for itself where a part after byte 832 is, so all words from 576 on are taken. How large
 //! the area is depends on the processor: one that ends before byte 584 has no word.
 
 ghost use Rattle.std.specs.Prelude.{◌≡◌, ◌++◌, ◌≤◌, length, OnOk};
@@ -30,7 +30,7 @@ pub(crate) fn state_words(size: usize) -> usize
     size.saturating_sub(STATE_AT) / WORD_SIZE
 }
 
-/// Adds the registers of a state entry after the words.
+/// Appends the registers of a state entry to the words.
 pub(crate) fn push_state(words: &mut Vec<u64>, state: &[u8]) -> Result<(), AllocError>
     ensures ok { OnOk result (words.new.items ≡ words.old.items ++ words_of_state state.now) }
     ensures kept { length words.old.items ≤ length words.new.items }

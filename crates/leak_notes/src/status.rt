@@ -48,7 +48,7 @@ const REGISTERS_AT: usize = 112;
 /// How many registers there are.
 const REGISTERS: usize = 27;
 
-/// Adds the registers of a thread status after the words.
+/// Appends the registers of a thread status to the words.
 pub(crate) fn push_registers(words: &mut Vec<u64>, status: &[u8]) -> Result<(), AllocError>
     requires { length status.now ≡ 336 }
     ensures ok { OnOk result (words.new.items ≡ words.old.items ++ words_of_status status.now) }

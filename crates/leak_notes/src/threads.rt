@@ -29,7 +29,7 @@ impl Model for Threads {
 }
 
 impl Threads {
-    /// Takes up an entry.
+    /// Takes an entry: refuses it, or adds what it has to the threads.
     fn take_entry(&mut self, entry: &Entry) -> Result<(), NoteError>
         ensures ok { OnOk result (TakesUp self.old self.new (entry.now ∷ [])) }
         ensures whole { OnOk result (IsFalse (is_cut entry.now)) }
@@ -56,7 +56,7 @@ impl Threads {
         Ok(())
     }
 
-    /// Takes up the entries of a part that begins at the offset in the file.
+    /// Takes the entries of a part that begins at the offset in the file.
     fn take_part(&mut self, offset: u64, part: &[u8]) -> Result<(), NoteError>
         requires { offset + length part.now < 2 ^ 64 }
         ensures ok { OnOk result (TakesUp self.old self.new

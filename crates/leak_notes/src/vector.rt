@@ -30,7 +30,7 @@ const VECTORS_AT: usize = 32;
 /// How many words there are, two for each of the 24 registers.
 const VECTOR_WORDS: usize = 48;
 
-/// Adds the vector registers of an entry after the words.
+/// Appends the vector registers of an entry to the words.
 pub(crate) fn push_vectors(words: &mut Vec<u64>, vector: &[u8]) -> Result<(), AllocError>
     requires { length vector.now ≡ 512 }
     ensures ok { OnOk result (words.new.items ≡ words.old.items ++ words_of_vector vector.now) }

@@ -17,7 +17,7 @@ fn u64_at(bytes: &[u8], at: usize) -> u64
     LittleEndian::read_u64(&bytes[at..at + 8])
 }
 
-/// Adds so many words of the bytes, from the place on, after the words.
+/// Appends this many words of the bytes, from the place on, to the words.
 pub(crate) fn push_words(
     words: &mut Vec<u64>,
     bytes: &[u8],

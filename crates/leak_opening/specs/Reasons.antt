@@ -1,4 +1,4 @@
--- Why a path can't be opened, by the kind of the error. Own rule: of the kinds those that a user can do something about.
+-- Why a path can't be opened, by the kind of the error. Own rule: only kinds that a user can act on have a reason of their own.
 use Rattle.std.specs.declared.io.ErrorKind.{ErrorKind}
 use Rattle.std.specs.declared.io.ErrorKind.TheVariants as kind
 use Rattle.leak_opening.specs.declared.fault.Reason.{Reason}

@@ -16,11 +16,11 @@ pub enum Reason {
     Denied,
     /// It is a folder.
     Folder,
-    /// What should be a folder on the way is none.
+    /// Something on the way should be a folder and is not.
     NotFolder,
     /// The name is too long, or not allowed.
     Name,
-    /// Too many symbolic links lie on the way.
+    /// Too many symbolic links are on the way.
     Links,
     /// Any other reason.
     Other,

@@ -1,8 +1,8 @@
 //! The opening of files by their paths, in order.
 //!
 //! An [`Opener`] gives a file for a path, or a refusal. [`open_all`] opens each of some paths once, in order, up to the first
-//! that is refused, and its contract names each opening that it made. What the kit's [`Files`](std::rt::Files) opens it promises
-//! nowhere, so the opening by it says nothing more: that the file is that of the path is shown by runs.
+//! that is refused, and its contract names each opening that it made. The kit promises nothing of what its
+//! [`Files`](std::rt::Files) opens, so the opening by it says nothing more: only runs show that the file is that of the path.
 #![tactic(auto)]
 
 mod fault;

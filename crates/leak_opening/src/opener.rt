@@ -22,7 +22,7 @@ pub trait Opener {
     fn open_file(&mut self, path: &str) -> io::Result<Self::File>
         ensures opening { opens self.old path.now result self.new };
 
-    /// The size that the file is said to have, in bytes: 0 where that can't be told, as of a pipe.
+    /// The size that the file is said to have, in bytes: 0 if that can't be told, as of a pipe.
     fn size_of(file: &Self::File) -> u64;
 }
 

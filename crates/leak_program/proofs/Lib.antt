@@ -1,3 +1,4 @@
+-- The lemmas of this crate, by subject.
 mod Lines
 mod Paths
 mod Refusals

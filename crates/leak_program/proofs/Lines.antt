@@ -1,4 +1,4 @@
--- Each message is one line, but for clap's.
+-- Each message is one line, except clap's.
 use Rattle.std.proofs.Common.{◌≡◌, ℕ, List, [], ◌∷◌, ◌++◌, codes, decimal, false, refl, sym, append_assoc, string_bytes}
 use Rattle.std.specs.Fmt.{digits}
 use Rattle.leak_escapes.specs.Escaped.{AreShown, escaped}

@@ -28,7 +28,7 @@ refused_by opens source sink words r first last held holds (Read n path f) asked
 refused_by opens source sink words r first last held holds (Run fault) asked fails = record { request = r; asked = asked; fails = fails }
 refused_by opens source sink words r first last held holds NoMemory asked fails = fails
 
--- a text that was not written whole
+-- a text that was not written completely
 cut : {O F W : Type 0} (opens : Opens O F) (source : Source F) (sink : Sink W) (words : List (List ℕ)) (text : String Global) (first : O)
     (held holds : W) (fault : RunFault) → IsRequestOf words (Text text) → IsCut sink (string_bytes text) held holds fault
     → FailsRequest opens source sink words first first held holds (Run fault)

@@ -17,14 +17,14 @@ pub record IsShown {W V : Type 0} (sink : Sink W) (text : List ℕ) (held holds 
   pub silent : hears ≡ heard
   pub status_is : status ≡ 0
 
--- a text was asked for, and was not written whole
+-- a text was asked for, and was not written completely
 abbrev pub IsCut : {W : Type 0} → Sink W → List ℕ → W → W → RunFault → Type 0
 IsCut sink text held holds (run.Read n f) = ⊥
 IsCut sink text held holds (run.Find e) = ⊥
 IsCut sink text held holds (run.NoBlock a) = ⊥
 IsCut sink text held holds (run.Write f) = sink.cut_off text held holds f
 
--- so as a failure
+-- the same as a failure
 abbrev pub IsNotShown : {W : Type 0} → Sink W → List ℕ → W → W → Failure → Type 0
 IsNotShown sink text held holds Word = ⊥
 IsNotShown sink text held holds (Usage fault) = ⊥

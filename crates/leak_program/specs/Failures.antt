@@ -16,7 +16,7 @@ at_opening opening.NoMemory = NoMemory
 abbrev pub path_at : List (List ℕ) → ℕ → Option (List ℕ)
 path_at paths n = if n == 0 then None else slice_get paths (n - 1)
 
--- no path has the number of the reader, where the fault is of one
+-- no path has the number of the reader, if the fault is of one
 abbrev pub LacksPath : List (List ℕ) → RunFault → Type 0
 LacksPath paths (run.Read n f) = path_at paths n ≡ None
 LacksPath paths (run.Find e) = Unit {0}

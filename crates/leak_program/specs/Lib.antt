@@ -1,3 +1,4 @@
+-- The definitions of this crate, by subject.
 pub mod Answer
 pub mod Failures
 pub mod Files

@@ -42,7 +42,7 @@ failure_text NoMemory = codes "out of memory"
 abbrev pub line_of : List ℕ → List ℕ
 line_of text = codes "leak_find: " ++ (text ++ 10 ∷ [])
 
--- clap's text stands alone
+-- clap's text is alone
 abbrev pub usage_message : UsageFault → List ℕ
 usage_message (usage.Words text) = string_bytes text
 usage_message (usage.Displace f) = line_of (usage_text (usage.Displace f))
@@ -84,6 +84,6 @@ pub record IsOneLine (message : List ℕ) : Type 0 where
   pub ends : message ≡ line ++ 10 ∷ []
   pub shown : AreShown line
 
--- each message is one line, but for clap's
+-- each message is one line, except clap's
 abbrev pub MessagesAreLines : Type 0
 MessagesAreLines = (failure : Failure) → (IsOfClap failure → ⊥) → IsOneLine (message_of failure)

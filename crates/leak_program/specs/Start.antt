@@ -1,4 +1,4 @@
--- What the program does from its start to its exit status: it answers its words, and says why where there is no answer.
+-- What the program does from its start to its exit status: it answers its words, and says why if there is no answer.
 use Rattle.std.specs.Prelude.{◌≡◌, ◌⊎◌, ◌<◌, ◌≤◌, ℕ, List, Result, Ok, Err, length}
 use Rattle.leak_find.specs.Streams.{IsTried, Sink, Source}
 use Rattle.leak_opening.specs.Opening.{Opens}
@@ -8,7 +8,7 @@ use Rattle.leak_program.specs.Sample.{SearchesSample}
 use Rattle.leak_program.specs.declared.failure.Failure.{Failure}
 use Rattle.leak_program.specs.declared.failure.Failure.TheVariants.{Word, Usage, Open, Read, Run, NoMemory}
 
--- the status: that of the answer, and 2 where there is none
+-- the status: that of the answer, and 2 if there is none
 abbrev pub status_of : Result ℕ Failure → ℕ
 status_of (Ok status) = status
 status_of (Err failure) = 2

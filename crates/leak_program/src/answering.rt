@@ -16,13 +16,13 @@ use leak_opening::Opener;
 use std::thread::Threads;
 
 /// Searches what the words ask for, which begin with the program's name, writes the report to the first writer and then
-/// the warnings to the second, and gives the status: 0 where nothing leaked, and 1 otherwise; with `--strict`, 3 where
-/// there is a warning. Where the words ask what holds a block, answer and warnings are written so too, and the status is 0
-/// where the block is held, and 1 where it leaked, or 3 by `--strict`. Where they ask who holds the memory, or what grew, the
-/// answer and the warnings are written so too, and the status is 0, or 3 by `--strict`. Where they ask for
+/// the warnings to the second, and gives the status: 0 if nothing leaked, and 1 otherwise; with `--strict`, 3 if
+/// there is a warning. If the words ask what holds a block, answer and warnings are written so too, and the status is 0
+/// if the block is held, and 1 if it leaked, or 3 by `--strict`. If they ask who holds the memory, or what grew, the
+/// answer and the warnings are written so too, and the status is 0, or 3 by `--strict`. If they ask for
 /// help, or for the version, the text is written to the first writer, and the status is 0.
 ///
-/// The progress is told how far a question who holds the memory has come, which changes nothing of all this. Where no word follows
+/// The progress is told how far a question who holds the memory has come, which changes nothing of all this. If no word follows
 /// the name, a sample is searched. After a refusal nothing is written, unless it is the writer that failed.
 pub fn answer<
     R: AllocGlobal + Threads + Sync,

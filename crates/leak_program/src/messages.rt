@@ -128,7 +128,7 @@ fn push_reader(out: &mut String, number: u8, fault: ReadFault) -> Result<(), All
     push_read(out, fault)
 }
 
-/// No message forges a line: each is one, but for clap's texts.
+/// No message forges a line: each is one, except clap's texts.
 pub fn messages_are_lines()
     ensures { MessagesAreLines }
 {}

@@ -13,7 +13,7 @@ const BLANK: &str = "                                                  ";
 
 /// Tells a terminal, on standard error, how far a run has come, once it has taken over two seconds.
 ///
-/// Each line is written over the one before, and the last is wiped out. Nothing else is told by it, and what it writes is no warning.
+/// Each line is written over the one before, and the last is wiped out. It tells nothing else, and what it writes is no warning.
 #[derive(Drop)]
 pub struct Screen<'a, R: Eprint + Clock> {
     rt: &'a R,
@@ -48,7 +48,7 @@ impl<'a, R: Eprint + Clock> Progress for Screen<'a, R> {
     fn tell(&self, done: u64, all: u64) {
         if self.is_late() {
             let (done, all) = (Grouped(done), Grouped(all));
-            // A terminal that takes nothing is no reason to stop.
+            // A terminal that takes nothing is no reason to stop the run.
             let _written = eprint!(self.rt; "\rleak_find: {done} of {all} callers");
         }
     }

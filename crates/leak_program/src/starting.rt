@@ -19,7 +19,7 @@ use std::{env, io};
 /// The status of a refusal.
 const REFUSED: u8 = 2;
 
-/// What is said where no memory is left to say why there is no report.
+/// What is said if no memory is left to say why there is no report.
 const NO_MEMORY: &[u8; 25] = b"leak_find: out of memory\n";
 
 /// Does what the words of the program's command line ask for, over files that the opener gives: the report goes to the first writer,
@@ -105,7 +105,7 @@ fn tell<V: WriteCalls>(alloc: Global, failure: &Failure, warner: &mut V)
     }
 }
 
-/// Hands the text to the writer. A refused write leaves nowhere to say so.
+/// Hands the text to the writer. If the write is refused there is nowhere to say so.
 fn say<V: WriteCalls>(text: &[u8], warner: &mut V)
     ensures { IsTried (by_writes V.calls) text.now warner.old warner.new }
 {

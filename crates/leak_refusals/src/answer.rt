@@ -21,7 +21,7 @@ impl Answer {
         if is_same { Answer::Same } else { Answer::Other }
     }
 
-    /// Want of memory, where the refusal is that.
+    /// Want of memory, if the refusal is that.
     pub(crate) fn of_refusal(is_wanting: bool) -> Answer {
         if is_wanting {
             Answer::Wanting

@@ -16,7 +16,7 @@ use std::thread::Threads;
 /// Two blocks of two callers.
 const HELD: &str = "@ a:[0x1] + 0x10100 0x20\n@ b:[0x2] + 0x10200 0x10\n";
 
-/// Who holds them, where a root word leads to the first, and it to the second.
+/// Who holds them, if a root word leads to the first, and it to the second.
 const HOLDERS: &str =
     "blocks 2 bytes 48\nundumped 0\nunknown 0 displaced 0 torn 0\nmarked 2 bytes 48\n\
                        leaked 0 bytes 0\nholder 2 48 1 32 0 0x10100 a:[0x1]\n\
@@ -151,7 +151,7 @@ pub(crate) fn runs_held<R: AllocGlobal + Threads + Sync>(rt: &R) -> Option<Answe
     )
 }
 
-/// `run_holders_sized` over the core, its log and, where there is one, the earlier log.
+/// `run_holders_sized` over the core, its log and, if there is one, the earlier log.
 fn runs_by<R: AllocGlobal + Threads + Sync>(
     rt: &R,
     since: Option<&str>,

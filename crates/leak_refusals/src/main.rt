@@ -1,8 +1,8 @@
 //! `leak_refusals`: makes each call that takes memory, and says what it answered.
 //!
 //! It is run with each of its allocations refused in turn (examples/refuse_memory.sh). A call is named by the only word;
-//! without a word each call is made once, and each has to answer as it does with ample memory. The status is 0 where
-//! each answer was that, 3 where a call answered want of memory, 4 where it answered anything else, and 5 where memory for
+//! without a word each call is made once, and each has to answer as it does with ample memory. The status is 0 if
+//! each answer was that, 3 if a call answered want of memory, 4 if it answered anything else, and 5 if memory for
 //! the inputs was refused.
 #![tactic(auto)]
 
@@ -118,7 +118,7 @@ fn told<R: Print + AllocGlobal + Threads + Sync>(rt: &R, name: &str) -> Answer {
     answer
 }
 
-/// What the call with the name answers, or `None` where memory for its inputs was refused.
+/// What the call with the name answers, or `None` if memory for its inputs was refused.
 fn answer_of<R: AllocGlobal + Threads + Sync>(rt: &R, name: &str) -> Option<Answer> {
     let alloc = rt.alloc();
     match name {

@@ -40,7 +40,7 @@ pub(crate) fn table(alloc: Global) -> Option<Answer> {
     }
 }
 
-/// `split`, and claims of both seats. Where no seat can be had the first still claims.
+/// `split`, and claims of both seats. If no seat can be had the first still claims.
 pub(crate) fn split(alloc: Global) -> Option<Answer> {
     let (marks, mut seat) = Marks::new(alloc, 65).ok()?;
     match marks.split(&mut seat) {
@@ -77,7 +77,7 @@ fn times_on(lists: &[Vec<u32>], block: usize) -> u64 {
     times
 }
 
-/// Whether all of so many blocks are marked, and each is on one list once.
+/// Whether all of `count` blocks are marked, and each is on one list once.
 fn are_all_marked(marked: &Marked, count: usize) -> bool {
     let is_set = marked.set.len() == count && marked.set.iter().all(|block| *block);
     is_set && (0..count).all(|block| times_on(marked.claims.as_slice(), block) == 1)
@@ -100,7 +100,7 @@ fn scene_of<'a>(alloc: Global, core: &'a [u8], log: &str) -> Option<Scene<'a>> {
     Some(Scene { image, live, roots })
 }
 
-/// What marking answered, where so many blocks are to be marked.
+/// What marking answered, if `count` blocks are to be marked.
 fn answer_of(marked: Result<Marked, PoolError>, count: usize) -> Answer {
     match marked {
         Ok(marked) => Answer::of(are_all_marked(&marked, count)),

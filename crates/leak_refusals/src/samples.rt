@@ -65,7 +65,7 @@ fn push_block(log: &mut String, start: u64, size: u64) -> Option<()> {
     writeln!(log, "+ 0x{start:x} 0x{size:x}").ok()
 }
 
-/// A hundred blocks of 16 bytes, each but the last holding the start of the next.
+/// A hundred blocks of 16 bytes, each except the last holding the start of the next.
 pub(crate) fn chain(alloc: Global) -> Option<Sample> {
     let mut core = core_of(alloc, &[(0x10008, 0x10200)])?;
     let mut log = String::new(alloc);

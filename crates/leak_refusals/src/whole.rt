@@ -270,7 +270,7 @@ pub(crate) fn is_wanting(fault: &RunFault) -> bool {
     }
 }
 
-/// How the runs search, by so many workers.
+/// How the runs search, by the workers of the plan.
 pub(crate) fn options(two: bool, plan: Plan) -> Options
     ensures { result.two ≡ two }
 {
@@ -287,8 +287,8 @@ pub(crate) fn options(two: bool, plan: Plan) -> Options
     }
 }
 
-/// What a run over the inputs answers, where it is to write the report and to end with the status. The writer has room for
-/// all of it, and after want of memory nothing is written. Where sizes are given, the readers come with them.
+/// What a run over the inputs answers, if it is to write the report and to end with the status. The writer has room for
+/// all of it, and after want of memory nothing is written. If sizes are given, the readers come with them.
 fn run_of<R: AllocGlobal + Threads + Sync>(
     rt: &R,
     inputs: Vec<Vec<u8>>,
@@ -405,7 +405,7 @@ pub(crate) fn runs_why_sized(alloc: Global) -> Option<Answer> {
     why_of(alloc, Some(&[8192, HOLDING.len() as u64]))
 }
 
-/// What a run that asks for the block answers. Where sizes are given, the readers come with them.
+/// What a run that asks for the block answers. If sizes are given, the readers come with them.
 fn why_of(alloc: Global, sizes: Option<&[u64]>) -> Option<Answer> {
     let mut readers = Vec::new(alloc);
     readers.push(Cursor::new(holding_core(alloc)?)).ok()?;

@@ -22,7 +22,7 @@ use Rattle.leak_report.proofs.Orders.{order_of_keys_total}
 abbrev Entry : Type 0
 Entry = Key × CallerRow
 
--- the keys stand before the key
+-- the keys are below the key
 abbrev AreBelow : Key → List Key → Type 0
 AreBelow key ks = AllByRecursion (λ k. order_of_keys k key ≡ Less) ks
 

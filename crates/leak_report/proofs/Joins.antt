@@ -44,7 +44,7 @@ row_with-push log blocks b text = go (bytes_eq (text_at log b.block.caller) text
         ∙ ap (λ u. Some (with_leak (row_with log blocks u) b)) (sym (d.0 refl))
     go false e d = ap row_from (filter-push_no (λ (x : Leak). bytes_eq (text_at log x.block.caller) text) blocks b e)
 
--- keys with the places of their texts are equal where the texts are
+-- keys with the places of their texts are equal if the texts are
 same_key : (prefix text : List ℕ) (k : Key) → k.0 ≡ place_of prefix k.1.now
     → is_eq (ordering_then (nat_cmp (place_of prefix text) k.0) (slice_cmp nat_cmp text k.1.now)) ≡ bytes_eq text k.1.now
 same_key prefix text k e = go (bytes_eq text k.1.now) refl

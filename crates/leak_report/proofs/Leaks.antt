@@ -148,7 +148,7 @@ length-both (s ∷ set) [] e = absurd (omega arith)
 length-both (true ∷ set) (b ∷ blocks) e = omega (arith, length-both set blocks (omega arith))
 length-both (false ∷ set) (b ∷ blocks) e = omega (arith, length-both set blocks (omega arith))
 
--- what is left of the marked blocks, where the next is marked and where it isn't
+-- what is left of the marked blocks, if the next is marked and if it isn't
 pub marked_next : (set : List Bool) (blocks : List Block) (i : ℕ) (d : Bool) (b : Block) → i < length set → i < length blocks → get_or set i d ≡ true
     → marked_in (drop i set) (drop i blocks) ≡ get_or blocks i b ∷ marked_in (drop (i + 1) set) (drop (i + 1) blocks)
 marked_next set blocks i d b p q e = rw (drop-cons set i d, drop-cons blocks i b, e, add-one) refl

@@ -1,3 +1,4 @@
+-- The lemmas of this crate, by subject.
 pub mod Leaks
 pub mod Joins
 pub mod Listed

@@ -77,7 +77,7 @@ pub each_sorted : (prefix log : List ℕ) (set : List Bool) (blocks : List Block
 each_sorted prefix log set blocks sorted by =
     All-permutation (IsPlaced prefix log blocks) by.listed sorted by.permutation (all_at (IsPlaced prefix log blocks) by.listed by.placed.each)
 
--- what is picked by a test stays what it was where only others are left out first
+-- what is picked by a test stays what it was if only others are left out first
 narrowed : {X : Type 0} (q r : X → Bool) (xs : List X) → All (λ x. q x ≡ true → r x ≡ true) xs → filter q xs ≡ filter q (filter r xs)
 narrowed q r [] all = refl
 narrowed q r (x ∷ xs) all = go (q x) (r x) refl refl (narrowed q r xs (λ k d h. all (suc k) d (omega arith)))

@@ -35,7 +35,7 @@ by_text_total log = on_total (λ (r : CallerRow). text_at log r.caller) nat_list
 pub order_of_keys_total : IsTotalOrder order_of_keys
 order_of_keys_total = then_total (on_total (λ (k : Key). k.0) nat_cmp_total) (on_total (λ (k : Key). k.1.now) nat_list_cmp_total)
 
--- keys with the places of their texts stand in the order of the texts
+-- keys with the places of their texts are in the order of the texts
 key_tells : (prefix : List ℕ) (x y : Key) → AreBytes x.1.now → AreBytes y.1.now → x.0 ≡ place_of prefix x.1.now → y.0 ≡ place_of prefix y.1.now
     → order_of_keys x y ≡ Less → slice_cmp nat_cmp x.1.now y.1.now ≡ Less
 key_tells prefix x y bytes_x bytes_y at_x at_y less = go (nat_cmp x.0 y.0) refl less
@@ -69,7 +69,7 @@ found_at n m o row e = go (nat_eq n m) refl e
     go true is e = (eqb-true n m is, e)
     go false is e = cc
 
--- each entry is found by its key, where keys ascend
+-- each entry is found by its key, if keys ascend
 each_here : (es : List (Key × CallerRow)) → IsStrictlySortedBy order_of_keys (keys_of es) → AllByRecursion (λ e. found_in es e.0 ≡ Some e.1) es
 unfolding IsStrictlySortedBy
 each_here [] up = tt

@@ -1,4 +1,4 @@
--- Texts of bytes stand by their places as they do by their bytes.
+-- Texts of bytes are in the same order by their places as by their bytes.
 use Rattle.std.proofs.Common.{◌≡◌, Fits, ℕ, ◌+◌, ◌-◌, ◌*◌, ◌<◌, ◌≤◌, ◌⊎◌, inl, inr, suc, zero, Bool, true, false, cond, List, [], ◌∷◌, length, take, drop, get_or, refl, sym, ap, ◌∙◌, arith}
 use Rattle.std.specs.Prelude.{nat_lt, nat_eq, slice_range}
 use Rattle.std.specs.Int.{w8}
@@ -100,7 +100,7 @@ place_of-small (p ∷ ps) (x ∷ xs) bytes = go (cases_order p x) (place_of-smal
     go (inr (inl above)) small = omega (arith, place_above p x ps xs above)
     go (inr (inr low)) small = omega (arith, place_below p x ps xs low)
 
--- where the places of two texts differ, they tell the order of the texts
+-- if the places of two texts differ, they tell the order of the texts
 pub place_tells : (ps a b : List ℕ) → AreBytes a → AreBytes b → place_of ps a < place_of ps b → slice_cmp nat_cmp a b ≡ Less
 place_tells [] a b p q h = number_tells 8 a b p q h
 place_tells (c ∷ ps) a [] p q h = absurd (omega (arith, h))

@@ -27,7 +27,7 @@ pub record HasRoom (row : CallerRow) (block : Block) : Type 0 where
   pub bytes : row.bytes + block.size < 2 ^ 64
   pub heads : row.heads ≤ row.blocks
 
--- the row of some leaked blocks, where there are any
+-- the row of some leaked blocks, if there are any
 abbrev pub row_from : List Leak → Option CallerRow
 row_from [] = None
 row_from (l ∷ leaks) = Some (record { blocks = length (l ∷ leaks); bytes = bytes_in (l ∷ leaks); heads = heads_in (l ∷ leaks); caller = l.block.caller })
@@ -56,7 +56,7 @@ HasLeak old new key l =
 abbrev pub HasLeakAdded : BTreeMap Key CallerRow → BTreeMap Key CallerRow → Key → Leak → Type 0
 HasLeakAdded old new key l = HasLeak old.entries new.entries key l
 
--- at each key there is the row of the leaked blocks, where the key has the place of its text by the prefix
+-- at a key that has the place of its text by the prefix there is the row of the leaked blocks with the text, at others none
 abbrev pub AreEntries : List ℕ → List ℕ → List Leak → List (Key × CallerRow) → Type 0
 AreEntries prefix log leaks entries =
     (k : Key) → found_in entries k

@@ -30,6 +30,6 @@ pub record AreSums (log : List ℕ) (leaks : List Leak) (rows : List CallerRow) 
 abbrev pub RowsAreSums : Type 0
 RowsAreSums = (log : List ℕ) (leaks : List Leak) (rows : List CallerRow) → AreSums log leaks rows ↔ (rows ≡ rows_of log leaks)
 
--- where the callers of a log's lines are ranges of its bytes, so are those of its live blocks
+-- if the callers of a log's lines are ranges of its bytes, so are those of its live blocks
 abbrev pub LiveHaveCallers : Type 0
 LiveHaveCallers = (bytes : List ℕ) (lines : List Line) → CallersAreIn bytes lines → HaveCallersIn bytes (live_of lines)

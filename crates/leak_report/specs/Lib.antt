@@ -1,3 +1,4 @@
+-- The definitions of this crate, by subject.
 pub mod Totals
 pub mod Places
 pub mod Groups

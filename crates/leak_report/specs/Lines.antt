@@ -27,7 +27,7 @@ abbrev pub log_line : Head → List ℕ
 log_line head =
     codes "unknown " ++ (decimal head.unknown ++ (codes " displaced " ++ (decimal head.displaced ++ (codes " torn " ++ (decimal head.torn ++ newline)))))
 
--- where freed memory is left out alone
+-- only if freed memory is left out
 abbrev pub freed_lines : Option ℕ → List ℕ
 freed_lines None = []
 freed_lines (Some freed) = codes "freed " ++ (decimal freed ++ newline)
@@ -35,7 +35,7 @@ freed_lines (Some freed) = codes "freed " ++ (decimal freed ++ newline)
 abbrev pub reread_line : Two → List ℕ
 reread_line two = codes "reread " ++ (decimal two.reread ++ newline)
 
--- with two cores alone
+-- only with two cores
 abbrev pub two_lines : Option Two → List ℕ
 two_lines None = []
 two_lines (Some two) = sizes_line (codes "new") two.fresh two.fresh_bytes ++ reread_line two

@@ -31,7 +31,7 @@ pub record ArePlaced (prefix log : List ℕ) (set : List Bool) (blocks : List Bl
   pub leaks : (heads : List Bool) → length heads ≡ length blocks → map (leak_of heads blocks) placed ≡ leaks_in set heads blocks
   pub each : AllByRecursion (IsPlaced prefix log blocks) placed
 
--- the same by ascending place, where those of one place stay in order
+-- the same by ascending place; those of one place stay in order
 pub record AreByPlace (prefix log : List ℕ) (set : List Bool) (blocks : List Block) (sorted : List PlacedLeak) : Type 0 where
   pub listed : List PlacedLeak
   pub placed : ArePlaced prefix log set blocks listed
@@ -45,7 +45,7 @@ pub record IsComplete (l : Leaked) : Type 0 where
   pub in_log : HaveCallersIn l.log.now l.blocks.now
   pub fits : bytes_of l.blocks.now < 2 ^ 64
 
--- how the last key stands to one more
+-- how the last key compares with one more
 abbrev pub order_after : Option Key → Key → Ordering
 order_after None k = Less
 order_after (Some l) k = order_of_keys l k

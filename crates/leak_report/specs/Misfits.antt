@@ -1,5 +1,5 @@
 -- The lines of a report that tell misfits (own rule): live blocks of which the core has no chunk in use. They are told
--- where that is asked for alone. An entry for each block says whether it fits.
+-- only if that is asked for. An entry for each block says whether it fits.
 use Rattle.std.specs.Prelude.{ℕ, Bool, true, false, List, [], ◌∷◌, ◌++◌, length, flat_map, codes, decimal, Option, Some, None}
 use Rattle.leak_blocks.specs.declared.block.Block.{Block}
 use Rattle.leak_report.specs.Totals.{text_at}
@@ -16,7 +16,7 @@ misfits_in (false ∷ fits) (b ∷ blocks) = b ∷ misfits_in fits blocks
 abbrev pub number_line : ℕ → List ℕ
 number_line misfits = codes "misfits " ++ (decimal misfits ++ newline)
 
--- a misfit's line, up to the text of its caller and whole
+-- a misfit's line, up to the text of its caller, and all of it
 abbrev pub misfit_front : ℕ → ℕ → ℕ → List ℕ
 misfit_front start size line =
     codes "misfit " ++ (hexadecimal start ++ (codes " " ++ (decimal size ++ (codes " " ++ (decimal line ++ codes " ")))))

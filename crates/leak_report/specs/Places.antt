@@ -1,4 +1,4 @@
--- Where a text stands among others, as a number (own rule).
+-- The place of a text among others, as a number (own rule).
 use Rattle.std.specs.Prelude.{ℕ, ◌+◌, ◌*◌, suc, zero, List, [], ◌∷◌, nat_lt, slice_index_or, if◌then◌else◌}
 
 -- 256 to the n

@@ -13,7 +13,7 @@ sums_of head blocks set heads =
     ++ blocks_line (codes "marked") (marked_in set blocks) ++ blocks_line (codes "leaked") (leaked_in set blocks)
     ++ heads_line (heads_in (leaks_in set heads blocks))
 
--- The report of the live blocks, the marked set and the heads, with the numbers of the head. Misfits are told where it is
+-- The report of the live blocks, the marked set and the heads, with the numbers of the head. Misfits are told if it is
 -- given which blocks fit.
 unfoldable pub text_of : Head → List Block → List Bool → List Bool → Option (List Bool) → List ℕ → List ℕ
 text_of head blocks set heads fits log =

@@ -54,7 +54,7 @@ pub record IsIn (log : List ℕ) (caller : ℕ × ℕ) : Type 0 where
 abbrev pub HaveCallersIn : List ℕ → List Block → Type 0
 HaveCallersIn log blocks = AllByRecursion (λ b. IsIn log b.caller) blocks
 
--- the caller's bytes in the log, or a question mark where there is none. Rows go by this text, so that a caller which
+-- the caller's bytes in the log, or a question mark if there is none. Rows go by this text, so that a caller which
 -- is itself a question mark shares its row with the blocks that have none.
 abbrev pub text_at : List ℕ → ℕ × ℕ → List ℕ
 text_at log caller = if nat_lt caller.0 caller.1 then slice_range log caller.0 caller.1 else 63 ∷ []
@@ -67,7 +67,7 @@ has_same_text log a b = bytes_eq (text_at log a.block.caller) (text_at log b.blo
 abbrev pub with_text : List ℕ → List ℕ → List Leak → List Leak
 with_text log text leaks = filter (λ l. bytes_eq (text_at log l.block.caller) text) leaks
 
--- the first of each text. Live blocks stand by ascending address, so it is the one at the least.
+-- the first of each text. Live blocks are sorted by ascending address, so it is the one at the least.
 abbrev pub first_of_each : List ℕ → List Leak → List Leak
 first_of_each log [] = []
 first_of_each log (l ∷ leaks) = l ∷ filter (λ c. not (has_same_text log l c)) (first_of_each log leaks)

@@ -31,7 +31,7 @@ misfits_text misfits live =
 abbrev pub no_block_line : ℕ → ℕ → List ℕ
 no_block_line input live = if live == 0 then warning_line input no_block_text else []
 
--- where the number of what is odd is above 0
+-- only if the number of what is odd is above 0
 abbrev pub torn_line : ℕ → ℕ → List ℕ
 torn_line input torn = if torn == 0 then [] else warning_line input torn_text
 

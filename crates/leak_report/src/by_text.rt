@@ -13,17 +13,17 @@ use std::cmp::{Ordering, Reverse};
 /// Blocks, some of which leaked, and the log that their callers are ranges of.
 #[derive(Clone, Copy)]
 pub(crate) struct Leaked<'a> {
-    /// The bytes that the places of texts are told after.
+    /// The bytes after which the eight that give a text its place begin.
     pub(crate) prefix: &'a [u8],
     pub(crate) blocks: &'a [Block],
     /// For each block, whether it is marked. The others leaked.
     pub(crate) set: &'a [bool],
-    /// For each block, whether it is a head. Of marked blocks it says nothing.
+    /// For each block, whether it is a head. The entries of marked blocks say nothing.
     pub(crate) heads: &'a [bool],
     pub(crate) log: &'a [u8],
 }
 
-/// How the last key, where there is one, stands to the next. Each key may be the first.
+/// How the last key, if there is one, compares with the next. Any key may be the first.
 fn order(last: Option<Key>, key: Key) -> Ordering
     ensures { result ≡ order_after last.entry key.entry }
 {
@@ -35,8 +35,8 @@ fn order(last: Option<Key>, key: Key) -> Ordering
 
 /// The rows of the leaked blocks, in the order of their texts.
 ///
-/// Where the keys of the blocks by place ascend, those of one text follow one another, and no map is needed. Only texts that
-/// differ and have one place may stand in another order.
+/// If the keys of the blocks by place ascend, those of one text follow one another, and no map is needed. Only texts that
+/// differ and have one place may be in another order.
 fn rows_by_text(alloc: Global, leaked: &Leaked) -> Result<Vec<CallerRow>, AllocError>
     requires { IsComplete leaked.now }
     ensures { let l = leaked.now in

@@ -13,7 +13,7 @@ use leak_blocks::Block;
 use std::alloc::{AllocError, Global};
 use std::collections::BTreeMap;
 
-/// The place of a text, and the text: in the order of texts, of which few are compared.
+/// The place of a text, and the text. Keys are in the order of their texts, few of which are compared.
 pub(crate) type Key<'a> = (u64, &'a [u8]);
 
 /// The row of one leaked block.
@@ -54,7 +54,7 @@ fn add<'a>(
     ensures { OnOk result (HasLeakAdded groups.old groups.new key.entry
         (record { block = block.now; head = head })) }
 {
-    // One search where the text is new, as most are where there are many.
+    // One search if the text is new, as most are if there are many.
     let Some(row) = groups.insert(key, first_row(block, head))? else {
         return Ok(());
     };
@@ -163,7 +163,7 @@ fn rows_of(alloc: Global, groups: &BTreeMap<Key, CallerRow>) -> Result<Vec<Calle
     ensures ordered { IsOrdered order_of_keys groups.now }
     ensures rows { IfOk result (λ rows. rows.items ≡ values groups.now) }
 {
-    // A list that is collected may do without the room that it asks for first.
+    // Not collected: that could go on after its first request for room was refused.
     let given = groups.values();
     let mut rows = Vec::with_capacity(alloc, groups.len())?;
     for row in given {

@@ -9,9 +9,9 @@ pub struct Head {
     pub unknown: u64,
     /// Allocations of the log that were ended by an allocation.
     pub displaced: u64,
-    /// 1 where something follows the log's last line feed, else 0.
+    /// 1 if something follows the log's last line feed, else 0.
     pub torn: u64,
-    /// Words of freed memory that are left out of the root words, where they are.
+    /// How many words of freed memory are left out of the root words, if such words are left out.
     pub freed: Option<u64>,
     /// What two cores add. The other numbers are then of the second core and its log.
     pub two: Option<Two>,

@@ -2,7 +2,7 @@
 //!
 //! [`text`] makes the whole report from the live blocks of a log, the set of those that are marked and the numbers of
 //! a [`Head`]. [`Totals`] sums the leaked blocks up by the text of their caller. The lines and their order are own rule,
-//! stated in `specs/Report.antt`; what a live block and its caller are is said in `leak_blocks`. [`warnings`] makes the
+//! stated in `specs/Report.antt`; `leak_blocks` says what a live block and its caller are. [`warnings`] makes the
 //! lines that tell what is odd about the inputs, from their [`Signs`].
 //!
 //! The contracts say nothing of which blocks are marked.

@@ -45,7 +45,7 @@ pub fn push_head(out: &mut String, head: &Head) -> Result<(), AllocError>
     writeln!(out, "unknown {unknown} displaced {displaced} torn {torn}")
 }
 
-/// Appends the line of the words of freed memory, where they are left out.
+/// Appends the line of the words of freed memory, if they are left out.
 pub fn push_freed(out: &mut String, freed: Option<u64>) -> Result<(), AllocError>
     ensures { OnOk result (string_bytes out.new ≡ string_bytes out.old ++ freed_lines freed) }
 {

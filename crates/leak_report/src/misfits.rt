@@ -7,7 +7,7 @@ use crate::lines::{push_misfit, push_misfit_number};
 use leak_blocks::Block;
 use std::alloc::{AllocError, Global};
 
-/// Appends the line of the number of misfits, where it is given which blocks fit.
+/// Appends the line of the number of misfits, if it is given which blocks fit.
 pub fn push_number(
     out: &mut String,
     blocks: &[Block],
@@ -30,7 +30,7 @@ fn count_misfits(fits: &[bool]) -> u64
     fits.iter().filter(|fit| !**fit).count() as u64
 }
 
-/// Appends the lines of the misfits, where it is given which blocks fit.
+/// Appends the lines of the misfits, if it is given which blocks fit.
 pub fn push_misfits(
     alloc: Global,
     out: &mut Vec<u8>,

@@ -1,4 +1,4 @@
-//! Numbers by which texts stand in order, so that most pairs of texts are compared without looking at their bytes.
+//! Numbers by which texts are in order, so that most pairs of texts are compared without looking at their bytes.
 ghost use Rattle.std.specs.Prelude.{◌≡◌, ◌<◌, ◌≤◌, length, slice_index_or, IfSome};
 ghost use Rattle.leak_report.specs.Places.{number_of, place_of};
 ghost use Rattle.leak_report.specs.Totals.{HaveCallersIn};
@@ -6,7 +6,7 @@ ghost use Rattle.leak_report.specs.Totals.{HaveCallersIn};
 use crate::lines::caller_text;
 use leak_blocks::Block;
 
-/// The byte at a place, or 0 where the text is shorter.
+/// The byte at a place, or 0 if the text is shorter.
 fn byte(text: &[u8], i: usize) -> u64
     ensures value { result ≡ slice_index_or text.now i 0 }
     ensures small { result < 256 }
@@ -31,8 +31,8 @@ fn number(text: &[u8]) -> u64
         + byte(text, 7)
 }
 
-/// Where a text stands among those that begin with the prefix: by the eight bytes after it. A text below all of these
-/// stands at 0, and one above them at the greatest number.
+/// The place of a text among those that begin with the prefix, by the eight bytes after it. A text below all of these
+/// has place 0, and one above them the greatest number.
 pub fn place(prefix: &[u8], text: &[u8]) -> u64
     ensures { result ≡ place_of prefix.now text.now }
 {
@@ -63,14 +63,14 @@ fn shared(first: &[u8], text: &[u8]) -> Option<usize>
     Some(first.len())
 }
 
-/// How many leaked blocks [`prefix_of`] looks at, twice as many at most.
+/// How many leaked blocks [`prefix_of`] looks at; at most twice as many.
 const SAMPLE: u64 = 2000;
 
-/// The bytes that the callers of one file begin with, by which [`place`] tells apart the most: of some leaked blocks
-/// among so many, which stand evenly among them.
+/// The bytes that the callers of one file begin with, by which [`place`] tells apart the most. It looks at some of the
+/// leaked blocks, of which there are `leaked`, evenly spread among them.
 ///
 /// Own rule: the file is that of the first leaked block with a caller, and callers of other files are passed over. The
-/// places stand in order by any prefix.
+/// places are in order by any prefix.
 pub fn prefix_of<'a>(blocks: &[Block], set: &[bool], leaked: u64, log: &'a [u8]) -> &'a [u8]
     requires one_each { length set.now ≡ length blocks.now }
     requires in_log { HaveCallersIn log.now blocks.now }
@@ -90,7 +90,7 @@ pub fn prefix_of<'a>(blocks: &[Block], set: &[bool], leaked: u64, log: &'a [u8])
     prefix
 }
 
-/// What a prefix and a text both begin with, if both are of one file, and the text for the prefix of no caller.
+/// What a prefix and a text both begin with, if both are of one file; for the prefix of no caller, the text.
 fn shared_prefix<'a>(prefix: &'a [u8], text: &'a [u8]) -> &'a [u8] {
     if prefix.len() <= 1 {
         return text;

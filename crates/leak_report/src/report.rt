@@ -16,10 +16,10 @@ use std::alloc::{AllocError, Global};
 
 /// Makes the report of the live blocks: its lines in ASCII, each with its line feed, as docs/FORMAT.md has them.
 ///
-/// `set` and `heads` have one entry for each block. A block is marked where `set` says so; of the others the heads are those
-/// with that entry in `heads`, whose entries of marked blocks say nothing. `fits`, where it is given, has one entry for each
+/// `set` and `heads` have one entry for each block. A block is marked if `set` says so; of the others the heads are those
+/// with that entry in `heads`, whose entries of marked blocks say nothing. `fits`, if it is given, has one entry for each
 /// block too, whether it fits its core; the report then tells the misfits. `log` is the log that the callers are ranges of,
-/// in bytes. It fails where memory is refused, and then alone.
+/// in bytes. It fails only if memory is refused.
 pub fn text(
     alloc: Global,
     head: &Head,

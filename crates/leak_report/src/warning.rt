@@ -6,7 +6,7 @@ use crate::signs::Signs;
 use std::alloc::{AllocError, Global};
 
 /// Makes the warnings of a search: a line for each sign that a core and its log don't belong together, by the inputs in
-/// order. Where there is no such sign the text is empty.
+/// order. If there is no such sign the text is empty.
 pub fn warnings(alloc: Global, signs: &[Signs]) -> Result<String, AllocError>
     ensures { IfOk result (λ out. string_bytes out ≡ warnings_of signs.now) }
 {

@@ -1,4 +1,4 @@
--- Where the paths and the numbers were read, nothing that a subcommand takes is lacking.
+-- If the paths and the numbers were read, nothing that a subcommand takes is lacking.
 use Rattle.std.proofs.Common.{◌≡◌, ◌≤◌, ◌<◌, ℕ, Bool, true, false, List, [], ◌∷◌, None, Some, ap, subst, sym, refl, ◌∙◌, arith, inl, inr, codes, slice_index_or}
 use Rattle.std.proofs.lemmas.List.Elements.{All-cons, All-nil}
 use Rattle.std.specs.List.{All}
@@ -41,7 +41,7 @@ none_lacks name rows two paths n named there workers piece stack at (inr (inl la
     lacks.2 (subst (λ b. All (λ id. IsSome (first_of id rows)) (path_ids b)) (sym same) (all_there rows (path_ids two) paths there))
 none_lacks name rows two paths n named there workers piece stack at (inr (inr lacks)) = lacks n workers piece stack at
 
--- nor is anything lacking to ask for a block, where its address was read too
+-- nor is anything lacking to ask for a block, if its address was read too
 pub none_lacks_why : {A : Type 0} (rows : List Row) (paths : List (String A)) (word : List ℕ) → AreAt rows (path_ids false) paths
     → Some word ≡ first_of address_id rows → WhyLacks rows → ⊥
 none_lacks_why rows paths word there some (inl lacks) = lacks (all_there rows (path_ids false) paths there)
@@ -53,7 +53,7 @@ pub none_lacks_holders : {A : Type 0} (rows : List Row) (paths : List (String A)
 none_lacks_holders rows paths n there workers piece stack at (inl lacks) = lacks (all_there rows (path_ids false) paths there)
 none_lacks_holders rows paths n there workers piece stack at (inr lacks) = lacks n workers piece stack at
 
--- a question is refused where all is there and the list is taken
+-- a question is refused if all is there and the list is taken
 pub question_refused : (rows : List Row) (f : UsageFault) → (HoldersLacks rows → ⊥) → IsListTaken rows → IsQuestionFault rows f → IsHoldersRefusal rows f
 question_refused rows (fault.Words text) whole taken refused = absurd refused
 question_refused rows (fault.Displace f) whole taken refused = absurd refused

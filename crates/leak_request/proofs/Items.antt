@@ -41,7 +41,7 @@ first_item (b ∷ rest) h = go (b == 44) h (first_item rest)
         let after : 1 + n + 1 ≡ suc (n + 1) = omega arith in
         rw (rec (omega arith)) (ap₂ (λ k m. take k (b ∷ rest) ∷ items_of (drop m (b ∷ rest))) (sym more) (sym after))
 
--- the same where the first comma was looked for
+-- the same if the first comma was looked for
 pub first_item_at : (text : List ℕ) (i : ℕ) → Some i ≡ position comma text → (i < length text) × (items_of text ≡ take i text ∷ items_of (drop (i + 1) text))
 first_item_at text i found = go (nat_lt (position_or_len comma text) (length text)) refl found
   where

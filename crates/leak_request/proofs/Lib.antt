@@ -1,3 +1,4 @@
+-- The lemmas of this crate, by subject.
 pub mod Complete
 pub mod Digits
 pub mod Items

@@ -10,7 +10,7 @@ use Rattle.leak_request.specs.declared.fault.DisplaceFault.TheVariants as fault
 use Rattle.leak_index.specs.Readings.{refusal_of}
 use Rattle.leak_request.specs.Displacements.{decimal_value, displace_fault_of, first_other, is_number, items_after, items_of, values_in}
 
--- the bytes that are left, and one more where an item is left
+-- the bytes that are left, and one more if an item is left
 abbrev pub size_after : Option (Bor (List ℕ)) → ℕ
 size_after None = 0
 size_after (Some text) = length text.now + 1
@@ -104,7 +104,7 @@ pub dropped_read : {text : List ℕ} {left : Bor (List ℕ)} {count : ℕ} {valu
 dropped_read {text} {left} {count} {values} after item read cut size is high =
     next_read after item _ read cut size is read.room (λ seen long kept. kept_all values seen count _ high long kept)
 
--- so many values as are kept are refused as all are
+-- the kept values are refused just as all are
 pub refusal_of_kept : (values : List ℕ) → refusal_of (take 17 values) ≡ refusal_of values
 refusal_of_kept values = go (nat_lt 16 (length values)) refl
   where

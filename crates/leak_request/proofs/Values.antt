@@ -20,7 +20,7 @@ number_read gives None text row same none value reads = tt
 number_read gives (Some v) None row same none value reads = let bad = none refl in cc
 number_read gives (Some v) (Some t) row same none value reads = rw (← same) (reads t v (value t refl))
 
--- where no number was read, the text writes none
+-- if no number was read, the text writes none
 pub no_number_read : {E : Type 0} (gives : List ℕ → Result ℕ E → Type 0) (r : Option ℕ) (text row : Option (List ℕ)) → text ≡ row
     → ((t : List ℕ) → text ≡ Some t → ReadsOne gives t r) → ((t : List ℕ) (e : E) (n : ℕ) → n < 2 ^ 32 → gives t (Err e) → Writes n t → ⊥)
     → IfNone r ((n : ℕ) → n < 2 ^ 32 → IsSomeAnd row (Writes n) → ⊥)
@@ -37,7 +37,7 @@ path_lacks rows ids i d low none = λ all.
     let some : IsSome (first_of (get_or ids i d).now rows) = subst (λ id. IsSome (first_of id rows)) at here in
     let bad : IsSome {T = List ℕ} None = subst IsSome (sym none) some in cc
 
--- where all ids were gone through, their values are those of the ids' texts
+-- once all ids were gone through, their values are those of the ids' texts
 pub values_of : (rows : List Row) (ids : List (Bor (List ℕ))) (n : ℕ) → length ids ≤ n
     → map (λ id. first_of id.now rows) (take n ids) ≡ map (λ id. first_of id rows) (map (λ id. id.now) ids)
 values_of rows [] zero h = refl

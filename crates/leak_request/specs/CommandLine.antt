@@ -11,7 +11,7 @@ use Rattle.clap.specs.declared.builder.value_parser.ValueParser.TheVariants as p
 abbrev pub operand_rule : Text → Rule
 operand_rule id = record (new_rule id) { required = true; value_names = 1 }
 
--- a number from the one bound to the other, and the text of the number that counts where none is given
+-- a number from the one bound to the other, and the text of the number that counts if none is given
 abbrev pub number_rule : Text → Text → ℕ → ℕ → Rule
 number_rule id default low high =
     record (new_rule id) { long = Some id; value_names = 1; defaults = default ∷ []; parser = Some (parser.Signed (pos low) (pos high)) }

@@ -11,12 +11,12 @@ abbrev pub before_first : ℕ → List (List ℕ) → List (List ℕ)
 before_first byte [] = (byte ∷ []) ∷ []
 before_first byte (item ∷ items) = (byte ∷ item) ∷ items
 
--- what stands before, between and after the commas of the text: one item more than it has commas
+-- what comes before, between and after the commas of the text: one item more than it has commas
 abbrev pub items_of : List ℕ → List (List ℕ)
 items_of [] = [] ∷ []
 items_of (byte ∷ rest) = if byte == 44 then [] ∷ items_of rest else before_first byte (items_of rest)
 
--- the items of what follows a comma, and none where there is no comma
+-- the items of what follows a comma, and none if there is no comma
 abbrev pub items_after : Option (Bor (List ℕ)) → List (List ℕ)
 items_after None = []
 items_after (Some text) = items_of text.now
@@ -49,7 +49,7 @@ values_in items = map decimal_value items
 abbrev pub first_other : List (List ℕ) → Option ℕ
 first_other items = position_from (λ item. not (is_number item)) 0 items
 
--- why the items are no reading, if they aren't, where the first that is no number has the number
+-- why the items are no reading, if they aren't; the first that is no number has the number, if there is one
 abbrev pub fault_among : List (List ℕ) → Option ℕ → Option DisplaceFault
 fault_among items (Some i) = Some (fault.Number i)
 fault_among items None = option_map fault.Reading (refusal_of (values_in items))

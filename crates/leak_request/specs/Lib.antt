@@ -1,3 +1,4 @@
+-- The definitions of this crate, by subject.
 pub mod Address
 pub mod CommandLine
 pub mod Displacements

@@ -40,7 +40,7 @@ pub record AsksBadAddress (rows : List Row) (s : Side) : Type 0 where
   pub address : IsSomeAnd (first_of (side_id s) rows) IsBadAddress
   pub other : first_of (other_id s) rows ≡ None
 
--- the question, or none where no side is asked for and no one block is meant
+-- the question, or none if no side is asked for and no one block is meant
 abbrev pub IsQuestionAt : List Row → Option Question → Type 0
 IsQuestionAt rows None = AsksNoSide rows × (IsGiven rows (codes "block") → ⊥)
 IsQuestionAt rows (Some q) = Asks rows q

@@ -139,7 +139,7 @@ HasFiles (Shown text) = Unit {0}
 abbrev pub LacksOneOf : List Row → List Text → Type 0
 LacksOneOf rows ids = All (λ id. IsSome (first_of id rows)) ids → ⊥
 
--- a path that a request of so many cores takes isn't there
+-- a path that a request of one or two cores takes isn't there
 abbrev pub LacksPath : List Row → Bool → Type 0
 LacksPath rows two = LacksOneOf rows (path_ids two)
 

@@ -1,4 +1,4 @@
--- What is made of clap's answer where it has no matches, by its kind.
+-- What is made of clap's answer if it has no matches, by its kind.
 use Rattle.std.specs.Prelude.{◌≢◌}
 use Rattle.clap.specs.declared.error.kind.ErrorKind.{ErrorKind}
 use Rattle.clap.specs.declared.error.kind.ErrorKind.TheVariants as kind

@@ -33,8 +33,8 @@ static GROW: [&str; 2] = ["log1", "log2"];
 
 /// Reads the words of a command line, which begin with the program's name.
 ///
-/// The text of a refusal, of help or of the version is clap's. A list of displacements is refused only where nothing else is
-/// missing, and `--check` with `--other-heap`, `--in` with `--of`, `--block` without both, or an address, only where the list is
+/// The text of a refusal, of help or of the version is clap's. A list of displacements is refused only if nothing else is
+/// missing, and `--check` with `--other-heap`, `--in` with `--of`, `--block` without both, or an address, only if the list is
 /// not.
 pub fn request(alloc: Global, words: &[String]) -> Result<Request, UsageFault>
     requires { 0 < length words.now }
@@ -53,7 +53,7 @@ pub fn request(alloc: Global, words: &[String]) -> Result<Request, UsageFault>
     }
 }
 
-/// The request of the subcommand with the name, where clap found this for it.
+/// The request of the subcommand with the name, from what clap found for it.
 fn request_of(alloc: Global, name: &str, found: &ArgMatches) -> Result<Request, UsageFault>
     ensures ok { IfOk result (IsRequest name.now (found_rows found.now)) }
     ensures refused { IfErr result (IsRefusedAt name.now (found_rows found.now)) }
@@ -66,7 +66,7 @@ fn request_of(alloc: Global, name: &str, found: &ArgMatches) -> Result<Request, 
     }
 }
 
-/// The request of a search, where clap found this for the subcommand with the name.
+/// The request of a search, from what clap found for the subcommand with the name.
 fn search_request(
     alloc: Global,
     name: &str,
@@ -105,7 +105,7 @@ fn search_request(
     })
 }
 
-/// The request for what holds a block, where clap found this for it.
+/// The request for what holds a block, from what clap found for it.
 fn why_request(alloc: Global, found: &ArgMatches) -> Result<WhyRequest, UsageFault>
     ensures ok { IfOk result (IsWhyRequest (found_rows found.now)) }
     ensures refused { IfErr result (IsWhyRefusal (found_rows found.now)) }
@@ -139,7 +139,7 @@ fn why_request(alloc: Global, found: &ArgMatches) -> Result<WhyRequest, UsageFau
     })
 }
 
-/// The request for who holds the memory, where clap found this for it.
+/// The request for who holds the memory, from what clap found for it.
 fn holders_request(alloc: Global, found: &ArgMatches) -> Result<HoldersRequest, UsageFault>
     ensures ok { IfOk result (IsHoldersRequest (found_rows found.now)) }
     ensures refused { IfErr result (IsHoldersRefusal (found_rows found.now)) }
@@ -170,7 +170,7 @@ fn holders_request(alloc: Global, found: &ArgMatches) -> Result<HoldersRequest, 
     })
 }
 
-/// The request for what grew between two logs, where clap found this for it.
+/// The request for what grew between two logs, from what clap found for it.
 fn grow_request(alloc: Global, found: &ArgMatches) -> Result<GrowRequest, UsageFault>
     ensures ok { IfOk result (IsGrowRequest (found_rows found.now)) }
     ensures refused { IfErr result (IsGrowRefusal (found_rows found.now)) }

@@ -10,7 +10,7 @@ use crate::found::{is_given, value};
 use clap::ArgMatches;
 use leak_holders::{Question, Side};
 
-/// The question about some blocks, if there is one, where clap found this.
+/// The question about some blocks, if there is one, from what clap found.
 pub(crate) fn question(found: &ArgMatches) -> Result<Option<Question>, UsageFault>
     ensures ok { IfOk result (IsQuestionAt (found_rows found.now)) }
     ensures refused { IfErr result (IsQuestionFault (found_rows found.now)) }

@@ -30,10 +30,10 @@ const SECOND_CORE: &str = "A later core of the same process";
 /// What help says of the second log.
 const SECOND_LOG: &str = "Its log when that core was taken; it begins with LOG1";
 
-/// What help says of the first log, where there is no core.
+/// What help says of the first log, if there is no core.
 const EARLIER_LOG: &str = "An allocation log of the process, as glibc's mtrace writes it";
 
-/// What help says of the second log, where there is no core.
+/// What help says of the second log, if there is no core.
 const LATER_LOG: &str = "A later log of the same process; it begins with LOG1";
 
 /// What help says of an address.

@@ -8,10 +8,10 @@ ghost use Rattle.leak_request.specs.Displacements.{displace_fault_of, items_afte
 use crate::fault::DisplaceFault;
 use leak_index::Reading;
 
-/// One value more than a reading has at most: so many show that there are too many.
+/// One value more than a reading has at most: this many show that there are too many.
 const KEPT: usize = 17;
 
-/// How many digits a number has at most: so many as `u64::MAX`.
+/// How many digits a number has at most: as many as `u64::MAX`.
 const MOST_DIGITS: usize = 20;
 
 /// Reads decimal numbers between commas as distances from a block's start, in bytes.
@@ -52,14 +52,14 @@ fn cut(text: &[u8]) -> (&[u8], Option<&[u8]>)
     }
 }
 
-/// Where the first comma stands.
+/// Where the first comma is.
 fn comma_in(text: &[u8]) -> Option<usize>
     ensures { result ≡ position (λ byte. byte == 44) text.now }
 {
     text.iter().position(|byte| *byte == b',')
 }
 
-/// The value of 1 to 20 decimal digits, where it is under 2^64.
+/// The value of 1 to 20 decimal digits, if it is under 2^64.
 fn number(item: &[u8]) -> Option<u64>
     ensures { SomeIff result (IsTrue (is_number item.now)) (decimal_value item.now) }
 {
@@ -73,7 +73,7 @@ fn number(item: &[u8]) -> Option<u64>
     Some(value)
 }
 
-/// The number with one more digit at its end, where it is under 2^64.
+/// The number with one more digit at its end, if it is under 2^64.
 fn with_digit(value: u64, byte: u8) -> Option<u64>
     ensures { SomeIff result (IsNextDigit value byte) (next_value value byte) }
 {

@@ -133,7 +133,7 @@ fn listed(found: &ArgMatches) -> Result<Reading, DisplaceFault>
     }
 }
 
-/// The refusal where clap accepts the words, and a subcommand, a path or a number is missing.
+/// The refusal if clap accepts the words, and a subcommand, a path or a number is missing.
 pub(crate) fn bad_arguments(alloc: Global) -> UsageFault
     ensures { IsBadBy (Unit {0}) result }
 {

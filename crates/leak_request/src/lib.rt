@@ -3,10 +3,10 @@
 //! [`request`] reads the words, which begin with the program's name, by a command line of clap: `leak_find one CORE
 //! LOG`, `leak_find two CORE1 LOG1 CORE2 LOG2`, `leak_find why CORE LOG ADDRESS`, `leak_find holders CORE LOG` or
 //! `leak_find grow LOG1 LOG2`, with options after the subcommand. It gives a [`Request`], with the paths of the files and how
-//! they are searched or asked, or with the text of help or of the version; or it says as a [`UsageFault`] why there is none. [`read_displace`] reads the list of `--displace`, and answers its first fault as a
-//! [`DisplaceFault`].
+//! they are searched or asked, or with the text of help or of the version; or it says as a [`UsageFault`] why there is none.
+//! [`read_displace`] reads the list of `--displace`, and answers its first fault as a [`DisplaceFault`].
 //!
-//! The command line is own rule; its definition stands in `specs/CommandLine.antt`, and what clap makes of words is
+//! The command line is own rule; its definition is in `specs/CommandLine.antt`, and what clap makes of words is
 //! defined by clap's specs. The contracts don't say how clap's texts of help and of refusals read, and nothing here opens
 //! a file.
 #![tactic(auto)]

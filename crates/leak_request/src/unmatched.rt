@@ -1,4 +1,4 @@
-//! What clap answers where it has no matches.
+//! What clap answers if it has no matches.
 
 ghost use Rattle.std.specs.Prelude.{◌≡◌, ◌≢◌, IfErr, IfOk};
 ghost use Rattle.clap.specs.Words.{kind_of};

@@ -36,7 +36,7 @@ some_none (Some text) e some = cc
 some_same : (a b : Question) → Some a ≡ Some b → a ≡ b
 some_same a b e = cc
 
--- what stands at the options of a question
+-- what is at the options of a question
 pub record HasQuestion (rows : List Row) (question : Option Question) : Type 0 where
   pub is : (o : Option Question) → IsQuestionAt rows o ↔ (o ≡ question)
   pub no_fault : (f : UsageFault) → IsQuestionFault rows f → ⊥
@@ -228,7 +228,7 @@ sees_holders words paths since question n w s list held holding alone a b c take
 
 -- ---- refused questions
 
--- what stands at the options of a question is refused for this
+-- what is at the options of a question is refused for this
 pub record IsRefusedQuestion (rows : List Row) (reason : UsageFault) : Type 0 where
   pub none : (o : Option Question) → IsQuestionAt rows o → ⊥
   pub is : IsQuestionFault rows reason

@@ -1,3 +1,4 @@
+-- The definitions of this crate, by subject.
 pub mod Requests
 pub mod SearchLines
 pub mod Questions

@@ -10,7 +10,7 @@ use Rattle.leak_request.specs.declared.options.Request.{Request}
 use Rattle.leak_request.specs.declared.options.Request.TheVariants.{Search, Why, Holders, Grow, Text as Shown}
 use Rattle.leak_request.specs.declared.options.SearchRequest.{SearchRequest}
 
--- the options that say which words keep a block: distances of words, or none where all count, and the flags
+-- the options that say which words keep a block: distances of words, or none if all count, and the flags
 pub record Reads : Type 0 where
   pub listed : Option (List ℕ)
   pub ends : Bool

@@ -71,7 +71,7 @@ unfolding eighths
 all_eighths a zero = let z : eighths a zero ≡ 0 = omega arith in rw z refl
 all_eighths a (suc n) = one_eighth a n (cases_eq ((a + n) % 8) 0) (all_eighths a n)
 
--- the multiples of 8 between two addresses are a range, where there are any
+-- the multiples of 8 between two addresses are a range, if there are any
 pub aligned_some : (from to first last : ℕ) → first ≡ (from + 7) / 8 → last ≡ to / 8 → first < last → aligned_places from to ≡ addresses_in (8 * first, 8 * last)
 unfolding eighths
 aligned_some from to first last f l h =

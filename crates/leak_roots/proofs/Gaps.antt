@@ -109,7 +109,7 @@ past_first bs n c ordered l within k d m o = let a = ordered.apart k (k + 1) d (
 pub starts_ascend : (bs : List Block) (j k : ℕ) (d : Block) (c : ℕ) → AreOrdered bs → j ≤ k → k < length bs → (get_or bs k d).start ≤ c → (get_or bs j d).start ≤ c
 starts_ascend bs j k d c ordered l h e = let s = later_start bs j k d ordered l h in omega arith
 
--- The words before the cursor were added, and no range passes it. What is left of the words stands after it.
+-- The words before the cursor were added, and no range passes it. The words that are left come after it.
 pub record Filled (bs : List Block) (to : ℕ) (all : List ℕ) (memory : List (ℕ × ℕ)) (i cursor : ℕ) : Type 0 where
   pub ranges : AreRanges memory
   pub low : EndBy cursor memory

@@ -47,7 +47,7 @@ firsts_ascend spans j k d apart l h =
       | inr m ↦ let q : j ≡ k = omega arith in rw q (omega arith)
     ]
 
--- so many of the spans end before the address
+-- this many of the spans end before the address
 pub record ArePast (spans : List Span) (many addr : ℕ) : Type 0 where
   pub bound : many ≤ length spans
   pub within : (k : ℕ) (d : Span) → k < many → (get_or spans k d).last < addr
@@ -67,7 +67,7 @@ past_more spans i addr e past h l = record {
   ];
 }
 
--- where one doesn't, no later one does
+-- if one doesn't, no later one does
 pub later_last : (spans : List Span) (i addr : ℕ) (e : Span) → AreApart spans → addr ≤ (get_or spans i e).last → (k : ℕ) (d : Span) → i ≤ k → k < length spans → addr ≤ (get_or spans k d).last
 later_last spans i addr e apart l k d m h =
     let same = any_span spans i e d (omega arith) in
@@ -77,7 +77,7 @@ later_last spans i addr e apart l k d m h =
       | inr q ↦ q
     ]
 
--- where the last of so many does, all do
+-- if the last of this many does, all do
 pub all_past : (spans : List Span) (many addr : ℕ) (e : Span) → AreApart spans → many ≤ length spans → 0 < many → (get_or spans (many - 1) e).last < addr → (k : ℕ) (d : Span) → k < many → (get_or spans k d).last < addr
 all_past spans many addr e apart bound some l k d h =
     let same = any_span spans (many - 1) e d (omega arith) in
@@ -151,7 +151,7 @@ after_span spans j d apart h =
           ])
     ]
 
--- the first spans end before the place does, and the others begin behind its first byte
+-- the first spans end before the place does, and the others begin after its first byte
 pub none_inside : (spans : List Span) (k : ℕ) (d : Span) (a : ℕ) → AreApart spans → ((j : ℕ) → j < k → j < length spans → (get_or spans j d).last < a + 7) → ((j : ℕ) → k ≤ j → j < length spans → a < (get_or spans j d).first) → is_inside spans a ≡ false
 none_inside spans k d a apart past later =
     elim (true_or_false (is_covered spans a)) [
@@ -167,7 +167,7 @@ none_inside spans k d a apart past later =
           ]
     ]
 
--- ---- places of which each is inside spans, or none
+-- ---- places that are all inside spans, or all outside
 
 filter_true : (p : ℕ → Bool) (f : ℕ → ℕ) (i n : ℕ) → ((k : ℕ) → i ≤ k → k < i + n → p (f k) ≡ true) → filter p (map f (range_with_len i n)) ≡ map f (range_with_len i n)
 filter_true p f i zero h = refl

@@ -185,7 +185,7 @@ listed_at words ranges from (l ∷ ls) to (suc j) d are h = listed_at words rang
 
 -- ---- finding
 
--- where the ranges of one piece begin after so many listed ranges
+-- where the ranges of one piece begin after this many listed ranges
 pub begin : ℕ → List Long → ℕ → ℕ
 begin from ls zero = from
 begin from [] (suc j) = from

@@ -5,16 +5,16 @@ use Rattle.leak_roots.specs.declared.piece.Piece.{Piece}
 use Rattle.leak_roots.specs.declared.piece.Piece.TheVariants.{Registers, Memory}
 use Rattle.leak_roots.specs.Places.{Places}
 
--- how many pieces so many words make
+-- how many pieces of at most `words` words `count` words make
 abbrev pub cut_count : ℕ → ℕ → ℕ
 cut_count words count = count / words + min 1 (count % words)
 
--- the first word of a piece, by its number among the pieces of so many words, and its end, excluded; the last may be
+-- the first word of a piece, by its number among the pieces of `count` words, and its end, excluded; the last may be
 -- shorter
 abbrev pub span : ℕ → ℕ → ℕ → ℕ × ℕ
 span words count i = (words * i, min count (words * i + words))
 
--- the pieces of so many register words
+-- the pieces of `count` register words
 abbrev pub register_piece : ℕ → ℕ → ℕ → Piece
 register_piece words count i = Registers (span words count i).0 (span words count i).1
 

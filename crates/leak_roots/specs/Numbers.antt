@@ -16,7 +16,7 @@ AreListed words ranges from (l ∷ ls) to =
     (l.range < to) × (l.first ≡ pieces_before words ranges l.range)
     × AreSingle words ranges from l.range × AreListed words ranges (l.range + 1) ls to
 
--- pieces are found by so many of the registers, such a list, and how many there are
+-- pieces are found by the number of those of the registers, by such a list, and by the number of all
 pub record AreNumbered (words : ℕ) (p : Places) (registers : ℕ) (long : List Long) (len : ℕ)
     : Type 0 where
   pub some : 0 < words

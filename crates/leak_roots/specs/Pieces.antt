@@ -5,7 +5,7 @@ use Rattle.leak_roots.specs.declared.piece.Piece.{Piece}
 use Rattle.leak_roots.specs.declared.piece.Piece.TheVariants.{Registers, Memory}
 use Rattle.leak_roots.specs.Places.{Places, addresses_in, memory_places, IsRange}
 
--- where a root word stands: at a number among the register words, from 0, or at an address
+-- where a root word is: at a number among the register words, from 0, or at an address
 pub data Place : Type 0 where
   InRegisters : ℕ → Place
   InMemory : ℕ → Place

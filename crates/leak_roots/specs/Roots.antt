@@ -1,7 +1,8 @@
 -- Root words: the registers, and the readable words of writable segments that share no byte with a live block
--- (after bdwgc's roots). Own rule: freed memory and dead stack are roots, since what points from there is not known. Of
--- freed memory that is so unless the spans of small allocations are given: then its words are left out. Where the slack of
--- live blocks is given, which is in no block, its words are left out too. Memory that can't be written, as after mprotect(2), may hold what was written before: unless it is left out, its words are root words too
+-- (after bdwgc's roots). Own rule: freed memory and dead stack are roots, since what points from there is not known. If
+-- the spans of small allocations are given, the words of freed memory are left out. If the slack of live blocks is given,
+-- which is in no block, its words are left out too. Memory that can't be written, as after mprotect(2), may hold what was
+-- written before: unless it is left out, its words are root words too
 -- (after LeakSanitizer, which reads all readable memory of data).
 use Rattle.std.specs.Prelude.{◌≡◌, ℕ, ◌+◌, ◌<◌, ◌≤◌, ◌^◌, length, slice_index_or, min, max, Bool, not, ◌&&◌, ◌||◌, ◌%◌, ◌==◌, List, ◌++◌, nat_lt, filter, flat_map, filter_map, is_some}
 use Rattle.std.specs.List.{list_all, range_with_len}
@@ -40,7 +41,7 @@ outside_places_in file blocks s =
 unfoldable pub has_roots : Bool → Segment → Bool
 has_roots unwritable s = s.writable || not unwritable
 
--- the addresses of segments with root words that do, in ascending order
+-- the addresses that hold a word and share no byte with a live block, of the segments with root words, in ascending order
 unfoldable pub outside_places : Bool → List ℕ → List Block → List ℕ
 outside_places unwritable file blocks =
     flat_map (outside_places_in file blocks) (filter (has_roots unwritable) (segments_of file))

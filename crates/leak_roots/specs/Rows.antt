@@ -1,5 +1,5 @@
 -- Worked answers: how many root words the sample core has, with no block, with one of 32 bytes, with a vector entry, and
--- where its segment can't be written, and which places are freed.
+-- with a segment that can't be written, and which places are freed.
 use Rattle.std.specs.Prelude.{◌≡◌, ◌==◌, ℕ, Bool, true, false, List, [], ◌∷◌, ◌++◌, length, filter}
 use Rattle.std.specs.Int.{w64, to_le_bytes}
 use Rattle.leak_elf.specs.Sample.{sample, file_header, program_header, note_entry}

@@ -11,7 +11,7 @@ use Rattle.leak_roots.specs.Roots.{freed_places}
 abbrev pub spans_of : Skip → List Line → List Span
 spans_of skip lines = if skip.freed then small_spans_of lines else []
 
--- how many freed places a core has, where they are left out
+-- how many freed places a core has, if they are left out
 abbrev pub freed_of : Skip → List ℕ → List Block → List Line → Option ℕ
 freed_of skip file blocks lines =
     if skip.freed then Some (length (freed_places skip.unwritable file blocks (small_spans_of lines))) else None

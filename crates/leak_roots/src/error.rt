@@ -9,7 +9,7 @@ use thiserror::Error;
 /// Why root words are not cut into pieces.
 #[derive(Clone, Copy, Debug, PartialEq, Eq, Error)]
 pub enum CutError {
-    /// A piece was to have no word.
+    /// Pieces of 0 words were asked for.
     #[error("a piece needs a word")]
     Zero,
     /// There was no memory for the pieces.

@@ -9,7 +9,7 @@ ghost use Rattle.leak_roots.specs.Roots.{is_inside};
 use leak_blocks::Span;
 use std::alloc::{AllocError, Global};
 
-/// Places of which each is inside spans, or none.
+/// Places that are all inside spans, or all outside them.
 #[derive(Clone, Copy)]
 struct Run {
     /// Whether they are inside spans.
@@ -20,7 +20,7 @@ struct Run {
     passed: usize,
 }
 
-/// Whether so many of the spans, at least, end before the address.
+/// Whether at least `many` of the spans end before the address.
 fn are_past(spans: &[Span], many: usize, addr: u64) -> bool
     requires { AreApart spans.now }
     ensures bound { IsTrue result → many ≤ length spans.now }
@@ -59,7 +59,7 @@ fn count_before(spans: &[Span], passed: usize, addr: u64) -> usize
     count
 }
 
-/// Places from `from` on, up to `to` at most, of which each is inside, or none. So many spans were passed before them.
+/// The first places from `from` on, up to `to` at most, that are all inside or all outside. `passed` spans end before them.
 fn run_from(spans: &[Span], passed: usize, from: u64, to: u64) -> Run
     requires apart { AreApart spans.now }
     requires range { IsRange (from, to) }

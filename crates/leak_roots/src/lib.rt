@@ -3,12 +3,13 @@
 //! [`Roots::find`] takes the register words of all threads, and the words in writable segments, or in all, that share
 //! no byte with a live block: globals, stacks, and what the allocator keeps between blocks. [`Roots`] holds memory as
 //! ranges of addresses, so it is small. [`Roots::cut`] makes [`Piece`]s of it, units of work of bounded size. [`Roots::pieces`]
-//! tells each of them by its number instead, and lists none.
+//! gives each of them by its number instead, and lists none.
 //!
-//! Registers and writable memory as roots follow bdwgc, and all readable memory LeakSanitizer. That freed memory and dead stack are roots too is own rule,
-//! with that no stack limit is read from a register. Where the spans of small allocations are given, the words of freed
-//! memory are left out: those whose 8 bytes each lie in such a span. [`Roots::skip_slack`] leaves out those within slack, what malloc
-//! gave live blocks beyond what was asked for. What the contracts don't say is whether a root word is a pointer.
+//! Registers and writable memory are roots after bdwgc, all readable memory after LeakSanitizer. Own rule: freed memory and
+//! dead stack are roots too, so that no stack limit is read from a register. If the spans of small allocations are given, the
+//! words of freed memory are left out: those whose 8 bytes each lie in such a span. [`Roots::skip_slack`] leaves out those
+//! within slack, what malloc gave live blocks beyond what was asked for. What the contracts don't say is whether a root word
+//! is a pointer.
 #![tactic(auto)]
 
 mod error;

@@ -18,7 +18,7 @@ pub enum Piece {
     Memory(u64, u64),
 }
 
-/// Adds pieces of at most so many words, which together are all register words.
+/// Adds pieces of at most `words` words, which together are all register words.
 pub(crate) fn push_registers(
     pieces: &mut Vec<Piece>,
     registers: &[u64],
@@ -41,7 +41,7 @@ pub(crate) fn push_registers(
     Ok(())
 }
 
-/// Adds pieces of at most so many words, which together are a range of memory.
+/// Adds pieces of at most `words` words, which together are a range of memory.
 pub(crate) fn push_memory(
     pieces: &mut Vec<Piece>,
     range: (u64, u64),
@@ -64,7 +64,7 @@ pub(crate) fn push_memory(
     Ok(())
 }
 
-/// The first word of a piece and its end, by its number among the pieces of so many words.
+/// The first word of a piece and its end, by its number among the pieces of `count` words.
 fn span_of(count: u64, words: u64, place: u64) -> (u64, u64)
     requires some { 0 < words }
     requires place { place < cut_count words count }
@@ -76,7 +76,7 @@ fn span_of(count: u64, words: u64, place: u64) -> (u64, u64)
     (from, from + words.min(count - from))
 }
 
-/// A piece of so many register words, by its number.
+/// A piece of `count` register words, by its number.
 pub(crate) fn piece_of_registers(count: usize, words: usize, place: usize) -> Piece
     requires some { 0 < words }
     requires place { place < cut_count words count }

@@ -55,7 +55,7 @@ impl<'a> Model for Pieces<'a> {
 }
 
 impl<'a> Pieces<'a> {
-    /// The pieces of at most so many words.
+    /// The pieces of at most `words` words.
     pub(crate) fn new(alloc: Global, roots: &'a Roots, words: usize) -> Result<Pieces<'a>, CutError>
         ensures zero { (result ≡ Err CutError.Zero) ↔ (words ≡ 0) }
         ensures value { IfOk result (λ pieces. pieces ≡ pieces_of words roots.now) }

@@ -70,7 +70,7 @@ fn push_gaps(
     push_range(memory, cursor, to)
 }
 
-/// Whether a segment has root words, where memory that can't be written is left out, or isn't.
+/// Whether a segment has root words, with memory that can't be written left out or not.
 #[tactic(auto, unfolding(crate::specs::Roots::has_roots))]
 fn has_roots(segment: &Segment, unwritable: bool) -> bool
     ensures { result ≡ has_roots unwritable segment.now }

@@ -23,7 +23,7 @@ pub struct Skip {
 }
 
 impl Skip {
-    /// What a search leaves out that is asked for nothing else: the words of memory that can't be written.
+    /// What a search leaves out unless it is asked to leave out more: the words of memory that can't be written.
     pub fn usual() -> Skip
         ensures { result ≡ record { freed = false; slack = false; links = false; unwritable = true } }
     {

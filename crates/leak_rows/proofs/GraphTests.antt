@@ -131,7 +131,7 @@ reach_is g blocks b t = (
 
 -- ---- tests of all blocks
 
--- for each of so many blocks, whether it is in the list
+-- for each of this many blocks, whether it is in the list
 abbrev pub tests_of : List ℕ → ℕ → List Bool
 tests_of blocks n = map (has blocks) (range_with_len 0 n)
 

@@ -82,7 +82,7 @@ heap_chunk least (suc (suc zero)) few =
     rw (ne_eqb (least + 16 * 2) least (λ (e : least + 16 * 2 ≡ least). omega arith), ne_eqb (least + 16 * 2) (least + 16) (λ (e : least + 16 * 2 ≡ least + 16). omega arith), eq-eqb (least + 16 * 2) (least + 32) (omega arith)) refl
 heap_chunk least (suc (suc (suc n))) few = absurd (omega arith)
 
--- a block whose size word is that of its chunk fits just where the next size word says so
+-- a block whose size word is that of its chunk fits if and only if the next size word says so
 fits_by : (word_at : ℕ → Option ℕ) (b : Block) (word next : ℕ) (t : Bool) → b.start % 16 ≡ 0 → word_at (b.start - 8) ≡ Some word → is_mapped word ≡ false
     → is_heap_chunk_for b.size (chunk_size word) ≡ true → word_at (b.start + chunk_size word - 8) ≡ Some next → is_previous_in_use next ≡ t → fits_core word_at b ≡ t
 unfolding fits_core

@@ -1,3 +1,4 @@
+-- The lemmas of this crate, by subject.
 pub mod HeapLemmas
 pub mod GraphTests
 pub mod ChainTests

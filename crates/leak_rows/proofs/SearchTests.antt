@@ -1,4 +1,4 @@
--- What a search of one core comes to where the marked blocks are computed.
+-- What a search of one core comes to if the marked blocks are computed.
 use Rattle.std.proofs.Common.{◌≡◌, ◌==◌, ℕ, ◌^◌, Bool, true, List, length, sym, ap, subst, ◌∙◌}
 use Rattle.std.specs.Prelude.{nat_lt}
 use Rattle.std.specs.List.{list_all}
@@ -21,7 +21,7 @@ use Rattle.leak_search.specs.Search.{claims_of, graph_of_one, head_of_one, index
 use Rattle.leak_rows.specs.Searches.{Finds, Search}
 use Rattle.leak_rows.proofs.GraphTests.{is_reached, one_list, same_tests, tests_are, tests_of}
 
--- the report where these blocks are marked
+-- the report if these blocks are marked
 abbrev pub report_with : Search → List Line → List ℕ → List ℕ
 report_with s lines marked =
     let set = tests_of marked (length (live_of lines)) in

@@ -1,4 +1,4 @@
--- What a search of two cores comes to where the marked blocks are computed.
+-- What a search of two cores comes to if the marked blocks are computed.
 use Rattle.std.proofs.Common.{◌≡◌, ℕ, zero, suc, ◌+◌, ◌-◌, ◌*◌, ◌%◌, ◌^◌, ◌<◌, ◌≤◌, inl, inr, ⊎_elim, Bool, true, false, not, ◌&&◌, ◌||◌, ◌==◌, List, [], ◌∷◌, length, Option, Some, None, refl, sym, ap, subst, ◌∙◌, append-nil, arith, eq-eqb, if◌then◌else◌}
 use Rattle.std.specs.Prelude.{nat_le, nat_lt, option_map, find}
 use Rattle.std.specs.Int.{w64}
@@ -88,7 +88,7 @@ past_segment s a h = go (nat_le s.vaddr a) (lt-leb (a + 8) (s.vaddr + s.filesz) 
     go true e = e
     go false e = refl
 
--- the one segment of the later core lies on one page, where a word has changed: that page alone differs
+-- the one segment of the later core is on one page, where a word has changed: that page alone differs
 pub one_differs : (core1 core2 : List ℕ) (s : Segment) (page address : ℕ) → segments_of core2 ≡ s ∷ [] → 4096 * page ≤ s.vaddr → s.vaddr + s.filesz ≤ 4096 * page + 4096
     → 4096 * page ≤ address → address < 4096 * page + 4096 → is_changed (word_of core1 address) (word_of core2 address) ≡ true → AreDiffering (word_of core1) (word_of core2) (page ∷ [])
 unfolding differs

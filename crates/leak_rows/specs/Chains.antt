@@ -27,7 +27,7 @@ without_links memory registers = record { registers = registers; memory = memory
 abbrev pub zero_registers : List ℕ
 zero_registers = replicate 27 0
 
--- those where rbx has the address of a block
+-- those in which rbx has the address of a block
 abbrev pub in_rbx : ℕ → List ℕ
 in_rbx word = replicate 5 0 ++ word ∷ replicate 21 0
 

@@ -1,4 +1,4 @@
--- Worked chains where some distances alone keep a block, or where ends are left out, and a long one.
+-- Worked chains if some distances alone keep a block, or if ends are left out, and a long one.
 use Rattle.std.specs.Prelude.{ℕ, ◌+◌, ◌-◌, ◌*◌, true, false, List, [], ◌∷◌, map, Option, Some, None}
 use Rattle.std.specs.List.{range_with_len}
 use Rattle.leak_blocks.specs.declared.block.Block.{Block}
@@ -15,7 +15,7 @@ displaced_scene listed words blocks places = record { words = words; index = ind
 abbrev pub inner_scene : Option (List ℕ) → List (ℕ × ℕ) → List Block → Places → Scene
 inner_scene listed words blocks places = record { words = words; index = index_by true listed blocks; places = places }
 
--- a word leads to a block of 32 bytes, where only the start and what is 8 bytes after it count
+-- a word leads to a block of 32 bytes, if only the start and what is 8 bytes after it count
 abbrev pub by_eight : ℕ → Scene
 by_eight word = displaced_scene (8 ∷ []) ((0x10008, word) ∷ []) one_block (places around_one zero_registers)
 
@@ -40,7 +40,7 @@ pub record AreWorkedDistances : Type 0 where
   pub empty_neighbor : IsHeldBy (inner_scene (Some (32 ∷ [])) ((0x10008, 0x10120) ∷ []) (neighbors 0) before_all) 1 (at 0x10008 0x10120) []
   pub end_in_a_block : IsLost (inner_scene None ((0x10008, 0x10100) ∷ (0x10100, 0x10210) ∷ []) two_blocks before_all) 1
 
--- so many blocks of 16 bytes, each holding the start of the next in its first word
+-- this many blocks of 16 bytes, each holding the start of the next in its first word
 abbrev pub row_of : ℕ → Scene
 row_of n = scene ((0x10008, 0x10200) ∷ map (λ i. (0x10200 + 0x20 * i, 0x10220 + 0x20 * i)) (range_with_len 0 n))
     (map (λ i. block (0x10200 + 0x20 * i) 0x10 (i + 1)) (range_with_len 0 n)) before_all

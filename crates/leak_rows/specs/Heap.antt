@@ -8,7 +8,7 @@ use Rattle.leak_blocks.specs.declared.block.Block.{Block}
 use Rattle.leak_fit.specs.Fit.{fits_of, least_chunk, misfits_of}
 
 -- A chunk: how many bytes were asked for, how many rests of 16 bytes stayed with it, whether it is in use, and whether another
--- arena than the main one has it. Before it stands a word that is its block's neighbor's or says the size of a free one, and after
+-- arena than the main one has it. Before it is a word that is its block's neighbor's or says the size of a free one, and after
 -- its size word come the bytes that a program or malloc wrote.
 pub record Chunk : Type 0 where
   pub asked : ℕ
@@ -22,7 +22,7 @@ pub record Chunk : Type 0 where
 abbrev pub size_of : Chunk → ℕ
 size_of c = least_chunk c.asked + 16 * c.rests
 
--- two rests stay with a chunk at most, its size fits a word, and its contents fill it
+-- at most two rests stay with a chunk, its size fits a word, and its contents fill it
 pub record IsChunk (c : Chunk) : Type 0 where
   pub few : c.rests ≤ 2
   pub fits : size_of c + 5 < 2 ^ 64
@@ -40,7 +40,7 @@ size_word previous c = size_of c + (if c.other_arena then 4 else 0) + flag_of pr
 abbrev pub header : ℕ → ℕ → List ℕ
 header before word = to_le_bytes w64 before ++ to_le_bytes w64 word
 
--- the bytes of the chunks and of the header of the top, which comes last, where a chunk before them is in use or isn't
+-- the bytes of the chunks and of the header of the top, which comes last; the flag says whether a chunk before them is in use
 abbrev pub heap_bytes : Bool → ℕ → List Chunk → List ℕ
 heap_bytes previous top [] = header 0 (top + flag_of previous)
 heap_bytes previous top (c ∷ chunks) = header c.before (size_word previous c) ++ c.contents ++ heap_bytes c.in_use top chunks
@@ -60,7 +60,7 @@ live_from address [] = []
 live_from address (c ∷ chunks) =
     if c.in_use then block_at address c ∷ live_from (address + size_of c) chunks else live_from (address + size_of c) chunks
 
--- From the address on stand the bytes of a heap, whose chunks and top begin at multiples of 16. The first chunk of a heap says
+-- From the address on are the bytes of a heap, whose chunks and top begin at multiples of 16. The first chunk of a heap says
 -- that one before it is in use.
 pub record IsHeapAt (word_at : ℕ → Option ℕ) (address top : ℕ) (chunks : List Chunk) : Type 0 where
   pub aligned : address % 16 ≡ 0

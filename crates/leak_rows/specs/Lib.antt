@@ -1,3 +1,4 @@
+-- The definitions of this crate, by subject.
 pub mod Heap
 pub mod WorkedHeap
 pub mod Chains

@@ -18,7 +18,7 @@ core_of words =
 abbrev pub interior : Distances
 interior = record { listed = None; skips_ends = false }
 
--- nothing is left out of the root words but memory that can't be written
+-- nothing is left out of the root words except memory that can't be written
 abbrev pub usual : Skip
 usual = record { freed = false; links = false; slack = false; unwritable = true }
 
@@ -34,7 +34,7 @@ pub record Search : Type 0 where
   pub skip : Skip
   pub check : Bool
 
--- The definition allows just this report, with so many leaked blocks, whatever the workers are; and it allows it where one worker
+-- The definition allows just this report, with this many leaked blocks, whatever the workers are; and it allows it if one worker
 -- claims the marked blocks in this order.
 pub record Finds (s : Search) (marked : List ℕ) (leaked : ℕ) (report : List ℕ) : Type 0 where
   pub report_is : (workers : ℕ) (found : Found) → FindsOne s.core s.log s.reading s.skip s.check workers found → found.report.items ≡ report

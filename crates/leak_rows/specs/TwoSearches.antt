@@ -13,7 +13,7 @@ pub record Pair : Type 0 where
   pub core2 : List ℕ
   pub log2 : List ℕ
 
--- The definition allows just this report, with so many leaked blocks; and it allows it where one worker claims these blocks.
+-- The definition allows just this report, with this many leaked blocks; and it allows it if one worker claims these blocks.
 pub record FindsLater (p : Pair) (claimed : List ℕ) (leaked : ℕ) (report : List ℕ) : Type 0 where
   pub report_is : (workers : ℕ) (found : Found) → FindsTwo p.core1 p.log1 p.core2 p.log2 interior usual false workers found → found.report.items ≡ report
   pub leaked_is : (workers : ℕ) (found : Found) → FindsTwo p.core1 p.log1 p.core2 p.log2 interior usual false workers found → found.leaked ≡ leaked

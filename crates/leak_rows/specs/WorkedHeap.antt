@@ -5,7 +5,7 @@ use Rattle.leak_elf.specs.Words.{word_of}
 use Rattle.leak_fit.specs.Fit.{fits_of, least_chunk, misfits_of}
 use Rattle.leak_rows.specs.Heap.{Chunk, block_at, blocks_from, heap_bytes, live_from}
 
--- a chunk of which so many bytes were asked for, with zeros in it
+-- a chunk of which this many bytes were asked for, with zeros in it
 abbrev pub chunk : ℕ → ℕ → Bool → Bool → Chunk
 chunk asked rests in_use other_arena = record { asked = asked; rests = rests; in_use = in_use; other_arena = other_arena; before = 0; contents = zeros (least_chunk asked - 16) }
 

@@ -1,7 +1,7 @@
 //! Worked inputs of the definitions, computed; and what a small model of a heap says of its blocks.
 //!
 //! Each function does nothing: its contract is a law about definitions of the crates below. The worked values were made by hand from
-//! the rules, not by the program. They show that the definitions that contracts cite mean what they are to mean:
+//! the rules, not by the program. They show that the definitions that contracts cite mean what they should:
 //!
 //! - what holds a block, by chains of words in some memory: each kind of root word, chains through other blocks up to one of a
 //!   hundred, distances that count and ends that don't, links to free chunks, and blocks to which no chain leads; the texts of
@@ -13,7 +13,8 @@
 //! - exit statuses (`worked_statuses`).
 //!
 //! [`blocks_fit_if_in_use`] is about every heap that a list of chunks lays out as bytes: a block fits it exactly if its chunk is in
-//! use. The model has no mappings, and no chunk of a fast bin or of a thread's cache, which are free and say that they are in use.
+//! use. So it has no misfit if the live blocks are those of its chunks in use ([`live_heaps_fit`]); [`worked_heap`] computes one such heap.
+//! The model has no mappings, and no chunk of a fast bin or of a thread's cache, which are free and say that they are in use.
 //!
 //! Shortest chains are checked by levels that no word skips, reached blocks by a list in which each is led to by one before it.
 #![tactic(auto)]

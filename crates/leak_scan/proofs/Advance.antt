@@ -62,7 +62,7 @@ advance_read word_at pages from count start window later left found aligned firs
     same a l u (inl h) = no_word word_at pages a h ∙ sym h
     same a l u (inr h) = let on = read.on in on_pages word_at pages a (first.all a l (read.inside a l (omega (arith, u)) h) (aligned a h))
 
--- to leave out elements and to give nothing for them is the same
+-- leaving out elements is the same as giving nothing for them
 pub filtered : (f : ℕ → Option ℕ) (p : ℕ → Bool) (xs : List ℕ) → filter_map (λ a. if p a then f a else None) xs ≡ filter_map f (filter p xs)
 filtered f p [] = refl
 filtered f p (x ∷ xs) = go (p x) (filtered f p xs)

@@ -53,7 +53,7 @@ pub run_passed : (index : Index) (f : ℕ → Option ℕ) (list run others : Lis
 run_passed index f list run others from count hits e h z =
     run_hit index f list run others (hits_in hits) from count e h ∙ ap (λ x. hits_in x ++ targets_of index (words_left f list others from count)) z
 
--- words were found where the list and the run are used up, and stand in a run
+-- words were found when the list and the run are used up, and are in a run
 pub found_run : (f : ℕ → Option ℕ) (list run other found : List ℕ) (from count later left : ℕ) → list ≡ [] → words_in run ≡ [] → words_from f from count ≡ found ++ words_from f later left → words_in other ≡ found →
     words_left f list run from count ≡ words_left f list other later left
 unfolding words_left

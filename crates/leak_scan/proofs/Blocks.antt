@@ -13,7 +13,7 @@ use Rattle.leak_scan.proofs.Ranges.{IsAligned, same_range}
 use Rattle.leak_scan.proofs.Runs.{number_drop, run_taken, words_more, words_none}
 use Rattle.leak_scan.proofs.Ahead.{targets_more, targets_none}
 
--- the words of a block are those of its whole eighths
+-- the words of a block are those of its complete groups of 8 bytes
 pub block_taken : (f : ℕ → Option ℕ) (b : Block) (whole : ℕ) (run : List ℕ) → IsAligned f → IsRun f b.start run → whole ≡ 8 * (b.size / 8) → whole ≤ length run → words_in (take whole run) ≡ block_words f b
 unfolding words_between words_from
 block_taken f b whole run aligned is size fits =
@@ -42,7 +42,7 @@ word_listed index before now hits bytes later all word more led is whole =
 pub all_listed : (index : Index) (now bytes all : List ℕ) → length bytes < 8 → now ++ targets_of index (words_in bytes) ≡ all → now ≡ all
 all_listed index now bytes all short whole = sym (append-nil now) ∙ ap (λ (l : List ℕ). now ++ l) (sym (ap (targets_of index) (words_none bytes short) ∙ targets_none index)) ∙ whole
 
--- where the next hits don't fit, not all do
+-- if the next hits don't fit, not all do
 pub all_over : (index : Index) (before start hits bytes later led : List ℕ) (word room : ℕ) → words_in bytes ≡ word ∷ words_in later → hits ≡ hits_of index word
     → before ++ targets_of index (words_in bytes) ≡ start ++ led → room < length before + length hits → room < length start + length led
 all_over index before start hits bytes later led word room more is whole over =

@@ -26,7 +26,7 @@ marked_block word_at index marks entries n c rest b inside is =
     go entry true other leads later e = refl
     go entry false other leads later e = cc
 
--- one outside drops its targets, but for itself
+-- one outside drops its targets, except itself
 pub leaked_block : (word_at : ℕ → Option ℕ) (index : Index) (marks entries now : List Bool) (n : ℕ) (c : Block) (rest : List Block) (b : ℕ) → n < length marks → get_or marks n false ≡ false
     → get_or now b false ≡ after_targets entries n (block_targets word_at index c) b
     → after_blocks word_at index marks now (n + 1) rest b ≡ after_blocks word_at index marks entries n (c ∷ rest) b

@@ -35,7 +35,7 @@ ascending numbers up = IsNonDecreasingBy-from_all_adjacent (λ n. n) numbers (λ
 
 -- ---- the first listed page
 
--- a page at which so many numbers are below it is listed where the next number is the page
+-- a page with this many numbers below it is listed if the next number is the page
 pub listed_here : (numbers : List ℕ) (page count d : ℕ) → IsStrictlyIncreasing numbers → IsCountBelow numbers page count → count < length numbers → is_listed numbers page ≡ (slice_index_or numbers count d == page)
 listed_here numbers page count d up below h = cases (slice_index_or numbers count d == page) refl
   where
@@ -56,7 +56,7 @@ listed_here numbers page count d up below h = cases (slice_index_or numbers coun
         let any = get_any numbers k d a l in
         away (omega arith))
 
--- no page from the one on is listed where all numbers are below it
+-- no page from the one on is listed if all numbers are below it
 pub listed_nowhere : (numbers : List ℕ) (page count : ℕ) → IsCountBelow numbers page count → length numbers ≤ count → (other : ℕ) → page ≤ other → is_listed numbers other ≡ false
 listed_nowhere numbers page count up h other l = not_listed numbers other (λ k d z e. let low : slice_index_or numbers k d < page = up.below k d (omega arith) in omega arith)
 

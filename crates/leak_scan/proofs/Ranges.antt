@@ -50,7 +50,7 @@ one_word f from (suc count) w aligned e h =
     step f from count ∙ ap (λ o. cons_option o (words_from f (from + 1) count)) e
     ∙ ap (λ ws. w ∷ ws) (skip f 7 (from + 1) count (from + 8) (suc count - 8) (omega arith) (omega arith) (λ a l u. none_between f a aligned (λ z. omega (arith, at, z, l, u))))
 
--- the same words where the maps agree
+-- the same words if the maps agree
 pub agreeing : (f g : ℕ → Option ℕ) (from count : ℕ) → ((a : ℕ) → from ≤ a → a < from + count → f a ≡ g a) → words_from f from count ≡ words_from g from count
 agreeing f g from zero h = no_addresses f from ∙ sym (no_addresses g from)
 agreeing f g from (suc n) h =

@@ -13,7 +13,7 @@ some_is x v e = subst (λ (y : Option ℕ). IsSome y) (sym e) refl
 none_or_some : (x : Option ℕ) → x ≡ None → IsSome x → ⊥
 none_or_some x e s = true≢false (sym (subst (λ (y : Option ℕ). IsSome y) e s))
 
--- the whole words of a run that stand in the window
+-- the complete words of a run that are in the window
 pub read_run : (word_at : ℕ → Option ℕ) (from window whole later : ℕ) (run : List ℕ) (front : Bor (List ℕ)) → IsAligned word_at → IsRun word_at from run → front.now ≡ take (8 * whole) run →
     from < 2 ^ 64 → 0 < whole → 8 * whole ≤ length run → 8 * whole < min window (18446744073709551615 - from) + 8 → later ≡ min (from + 8 * whole) 18446744073709551615 → IsRead word_at from window (Run front) later
 read_run word_at from window whole later run front aligned is_run e high some fits room l =
@@ -32,7 +32,7 @@ read_none word_at from window next some far none = record {
   inside = λ a l u s. absurd (none_or_some (word_at a) (none a l u) s);
 }
 
--- the next word stands in the window
+-- the next word is in the window
 pub read_word : (word_at : ℕ → Option ℕ) (from window next later w : ℕ) → IsAligned word_at → next - from < window → from ≤ next → next % 8 ≡ 0 → next + 8 ≤ 2 ^ 64 → ((a : ℕ) → from ≤ a → a < next → word_at a ≡ None) → Some w ≡ word_at next → later ≡ min (next + 8) 18446744073709551615 →
     IsRead word_at from window (Word w) later
 read_word word_at from window next later w aligned near behind at high none e l = record {

@@ -17,7 +17,7 @@ use Rattle.leak_scan.proofs.Ahead.{all_append}
 use Rattle.leak_scan.proofs.Ranges.{IsAligned, none_between}
 use Rattle.leak_scan.proofs.Runs.{number_drop}
 
--- what the words at so many addresses lead to
+-- what the words at a number of addresses lead to
 abbrev over : (ℕ → Option ℕ) → Index → ℕ → ℕ → List ℕ
 over f index from count = targets_without_links f index (range_with_len from count)
 
@@ -137,7 +137,7 @@ eighths_over f index aligned (suc k) a m =
     ∙ ap (λ (x : ℕ). targets_without_links f index (x ∷ map (λ i. a + 8 * i) (range_with_len 1 (k + 1)))) (let r : a ≡ a + 8 * 0 = omega arith in r)
     ∙ ap (λ (n : ℕ). targets_without_links f index (map (λ i. a + 8 * i) (range_with_len 0 n))) (let r : suc (k + 1) ≡ suc k + 1 = omega arith in r)
 
--- the words of a range of multiples of 8 stand at each eighth address
+-- the words of a range of multiples of 8 are at each eighth address
 pub range_eighths : (f : ℕ → Option ℕ) (index : Index) → IsAligned f → (from to : ℕ) → from < to → from % 8 ≡ 0 → to % 8 ≡ 0 →
     range_without_links f index from to ≡ targets_without_links f index (map (λ i. from + 8 * i) (range_with_len 0 ((to - from) / 8)))
 range_eighths f index aligned from to some m n =

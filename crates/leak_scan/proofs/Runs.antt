@@ -35,7 +35,7 @@ pub words_none : (bytes : List ℕ) → length bytes < 8 → words_in bytes ≡ 
 unfolding words_in
 words_none bytes h = let n : length bytes / 8 ≡ 0 = omega arith in ap (λ k. first_words k bytes) n
 
--- where the first n words in the bytes are those at each eighth address
+-- the first n words in the bytes are those at each eighth address
 pub run_words : (f : ℕ → Option ℕ) (n from count : ℕ) (bytes : List ℕ) → IsAligned f → ((k : ℕ) → k < n → f (from + 8 * k) ≡ Some (number_at w64 bytes (8 * k))) → 8 * n ≤ count + 7 → count ≤ 8 * n →
     words_from f from count ≡ first_words n bytes
 run_words f zero from count bytes aligned h l u = same_range f from from count 0 refl (omega arith) ∙ no_addresses f from

@@ -8,7 +8,7 @@ use Rattle.leak_scan.specs.Targets.{targets_of}
 use Rattle.leak_scan.specs.Places.{listed_word, words_ahead}
 use Rattle.leak_scan.specs.RootWords.{range_without_links}
 
--- where links are left out, the live blocks are those of the lookup
+-- if links are left out, the live blocks are those of the lookup
 abbrev pub IsOver : Index → Course → Type 0
 IsOver index (Plain pages place) = ⊤
 IsOver index (Roots live from to) = index.blocks ≡ live.now.blocks

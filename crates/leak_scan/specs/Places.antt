@@ -11,7 +11,7 @@ use Rattle.leak_scan.specs.declared.reading.Found.{Found}
 use Rattle.leak_scan.specs.declared.reading.Found.TheVariants.{Nothing, Word, Run}
 use Rattle.leak_scan.specs.Targets.{is_on, targets_of}
 
--- so many words, each of 8 bytes, from the first byte on
+-- this many words, each of 8 bytes, from the first byte on
 abbrev pub first_words : ℕ → List ℕ → List ℕ
 first_words zero bytes = []
 first_words (suc n) bytes = number_at w64 bytes 0 ∷ first_words n (drop 8 bytes)
@@ -20,7 +20,7 @@ first_words (suc n) bytes = number_at w64 bytes 0 ∷ first_words n (drop 8 byte
 unfoldable pub words_in : List ℕ → List ℕ
 words_in bytes = first_words (length bytes / 8) bytes
 
--- the words at so many addresses
+-- the words at `count` addresses
 unfoldable pub words_from : (ℕ → Option ℕ) → ℕ → ℕ → List ℕ
 words_from word_at from count = filter_map word_at (range_with_len from count)
 
@@ -38,7 +38,7 @@ words_found Nothing = []
 words_found (Word word) = word ∷ []
 words_found (Run bytes) = words_in bytes.now
 
--- the words of a list, then those of a run, then those at so many addresses
+-- the words of a list, then those of a run, then those at `count` addresses
 unfoldable pub words_left : (ℕ → Option ℕ) → List ℕ → List ℕ → ℕ → ℕ → List ℕ
 words_left word_at list run from count = list ++ (words_in run ++ words_from word_at from count)
 
@@ -57,7 +57,7 @@ pub record IsRead (word_at : ℕ → Option ℕ) (from window : ℕ) (found : Fo
   pub words : words_from word_at from (later - from) ≡ words_found found
   pub inside : (a : ℕ) → from ≤ a → a < later → IsSome (word_at a) → a < from + window
 
--- the addresses from the start on, so many, are the first of `count` addresses that may be read: none before them may,
+-- `window` addresses from the start on are the first of `count` addresses that may be read: none before them may,
 -- and of them each multiple of 8 may
 pub record IsFirstWindowAt (pages : Option (List ℕ)) (from count start window : ℕ) : Type 0 where
   pub behind : from ≤ start

@@ -7,7 +7,7 @@ use Rattle.leak_index.specs.Hits.{Index, hits_of}
 use Rattle.leak_fit.specs.FreeLinks.{without_free_links}
 use Rattle.leak_scan.specs.Targets.{targets_of}
 
--- the blocks that the word, which stands at the place, leads to, but for those as far as which it is a link to a free chunk
+-- the blocks that the word at the place leads to, without those for which it is a link to a free chunk
 abbrev pub held_by : (ℕ → Option ℕ) → Index → ℕ → ℕ → List ℕ
 held_by word_at index place word = without_free_links word_at index.blocks place word (hits_of index word)
 
@@ -15,7 +15,7 @@ held_by word_at index place word = without_free_links word_at index.blocks place
 abbrev pub held_from : (ℕ → Option ℕ) → Index → ℕ → List ℕ
 held_from word_at index a = option_map_or (held_by word_at index a) (word_at a) []
 
--- for each of the addresses in order, the blocks that its word leads to, but for links to free chunks
+-- for each of the addresses in order, the blocks that its word leads to, without links to free chunks
 unfoldable pub targets_without_links : (ℕ → Option ℕ) → Index → List ℕ → List ℕ
 targets_without_links word_at index addresses = flat_map (held_from word_at index) addresses
 
@@ -23,7 +23,7 @@ targets_without_links word_at index addresses = flat_map (held_from word_at inde
 abbrev pub range_without_links : (ℕ → Option ℕ) → Index → ℕ → ℕ → List ℕ
 range_without_links word_at index from to = targets_without_links word_at index (places from to)
 
--- without links nothing else is led to: a test that all blocks pass to which the words of a range lead, those that are left pass
+-- without links nothing else is led to: if all blocks to which the words of a range lead pass a test, so do those that are left
 abbrev pub RangesLeadLess : Type 0
 RangesLeadLess = (word_at : ℕ → Option ℕ) (index : Index) (from to : ℕ) (test : ℕ → Bool)
     → AllByRecursion (λ b. test b ≡ true) (targets_of index (words_between word_at from to))

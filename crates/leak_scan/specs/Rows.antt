@@ -32,7 +32,7 @@ pub record AreWorkedTargets : Type 0 where
   pub end : block_targets (memory ((0x10100, 0x10210) ∷ [])) (index (block 0x10100 0x10 1 ∷ block 0x10200 0x10 2 ∷ [])) (block 0x10100 0x10 1) ≡ 1 ∷ []
   pub left_out : block_targets (memory ((0x10100, 0x10210) ∷ [])) (inner (block 0x10100 0x10 1 ∷ block 0x10200 0x10 2 ∷ [])) (block 0x10100 0x10 1) ≡ []
 
--- the first leads to the second and to itself; a word one past the end of the first leads to it, but where ends are left out;
+-- the first leads to the second and to itself; a word one past the end of the first leads to it, unless ends are left out;
 -- a ring; a holder that is in the set holds nothing
 pub record AreWorkedHeads : Type 0 where
   pub own_word : heads_of (memory ((0x10100, 0x10200) ∷ (0x10108, 0x10100) ∷ [])) (index (block 0x10100 0x20 1 ∷ block 0x10200 0x10 2 ∷ block 0x10300 8 3 ∷ [])) (false ∷ false ∷ false ∷ []) ≡ true ∷ false ∷ true ∷ []

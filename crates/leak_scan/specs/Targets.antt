@@ -21,7 +21,7 @@ is_listed pages page = list_any (λ p. p == page) pages
 abbrev pub is_on : List ℕ → ℕ → Bool
 is_on pages a = is_listed pages (page_of a)
 
--- those of the block's words that stand on the pages
+-- those of the block's words that are on the pages
 unfoldable pub block_words_on : (ℕ → Option ℕ) → List ℕ → Block → List ℕ
 block_words_on word_at pages b = filter_map word_at (filter (is_on pages) (places b.start (b.start + b.size)))
 

@@ -6,8 +6,8 @@ use Rattle.leak_scan.specs.Targets.{is_on}
 abbrev pub NoneListed : List ℕ → ℕ → ℕ → Type 0
 NoneListed pages from to = (a : ℕ) → from ≤ a → a < to → is_on pages a ≡ false
 
--- the addresses from the start on, so many, are the first from `from` on that stand on a listed page: none before them
--- does, and of them each multiple of 8 does. The start itself does, or it is the last address of all, which stands for a
+-- `count` addresses from the start on are the first from `from` on that are on a listed page: none before them
+-- is, and of them each multiple of 8 is. The start itself is, or it is the last address of all, which stands for a
 -- page after it.
 pub record IsWindowAt (pages : List ℕ) (from start count : ℕ) : Type 0 where
   pub behind : from ≤ start
@@ -20,7 +20,7 @@ abbrev pub IsWindow : List ℕ → ℕ → Option (ℕ × ℕ) → Type 0
 IsWindow pages from None = (a : ℕ) → from ≤ a → is_on pages a ≡ false
 IsWindow pages from (Some window) = IsWindowAt pages from window.0 window.1
 
--- so many of the numbers, which ascend, are below the page, and the others are not
+-- `count` of the numbers, which ascend, are below the page, and the others are not
 pub record IsCountBelow (numbers : List ℕ) (page count : ℕ) : Type 0 where
   pub bound : count ≤ length numbers
   pub below : (k : ℕ) (d : ℕ) → k < count → slice_index_or numbers k d < page

@@ -7,10 +7,10 @@ ghost use Rattle.leak_scan.specs.Places.{words_in};
 use leak_blocks::Block;
 use leak_elf::Words;
 
-/// Where the words of blocks stand, of one block after another.
+/// Finds the words of blocks, one block after another.
 ///
-/// It keeps the run of words in which the last block stood. While the next one stands in it too no segment is searched
-/// for, as for blocks by ascending start in nearly each case.
+/// It keeps the run of words that the last block was in. If the next one is in it too, no segment is searched for. Of
+/// blocks by ascending start nearly every one is.
 #[derive(Drop)]
 pub struct BlockRuns<'a, W: Words> {
     /// The memory.
@@ -33,7 +33,7 @@ impl<'a, W: Words> BlockRuns<'a, W> {
         }
     }
 
-    /// The bytes of the words of a block, where they stand in one run. Nothing where they don't, or where that can't be told
+    /// The bytes of the words of a block, if they are in one run. None if they are not, or if that can't be told
     /// at once.
     pub fn of_block(&mut self, block: &Block) -> Option<&'a [u8]>
         ensures same { self.new.words.now ≡ self.old.words.now }
@@ -58,7 +58,7 @@ impl<'a, W: Words> BlockRuns<'a, W> {
     }
 }
 
-/// What a run that begins at an address has from another on. Nothing where that stands outside it, or in the midst of one
+/// What a run that begins at `from` has from `at` on. Empty if `at` is outside it, or in the midst of one
 /// of its words.
 fn run_on(run: &[u8], from: u64, at: u64) -> &[u8]
     ensures { (word_at : ℕ → Option ℕ) → IsRun word_at from run.now → IsRun word_at at result.now }

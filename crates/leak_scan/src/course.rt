@@ -13,9 +13,9 @@ use leak_index::{Hits, Lookup};
 /// The words that are left.
 #[derive(Clone, Copy)]
 pub(crate) enum Course<'a> {
-    /// Words, on listed pages alone where there is a list.
+    /// Words, on listed pages alone if there is a list.
     Plain(Option<&'a Pages>, Place<'a>),
-    /// The words from an address on and before another, without links to free chunks past the live blocks.
+    /// The words from an address on and before another, as root words without links to free chunks, by the live blocks.
     Roots(&'a Live, u64, u64),
 }
 

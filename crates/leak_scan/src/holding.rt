@@ -36,7 +36,7 @@ pub fn heads<W: Words, L: Lookup>(
 fn leaked(alloc: Global, set: &[bool]) -> Result<Vec<bool>, AllocError>
     ensures { IfOk result (λ leaked. leaked.items ≡ map not set.now) }
 {
-    // A list that is collected may do without the room that it asks for first.
+    // Not collected: that could go on after its first request for room was refused.
     let mut leaked = Vec::with_capacity(alloc, set.len())?;
     for marked in set {
         leaked.push(!*marked)?;
@@ -68,7 +68,7 @@ fn drop_held<W: Words, L: Lookup>(
     }
 }
 
-/// Drops the targets of a block from the heads, but for the block itself.
+/// Drops the targets of a block from the heads, except the block itself.
 fn drop_targets<W: Words, L: Lookup>(targets: Targets<'_, W, L>, own: usize, heads: &mut [bool])
     requires inside { AllByRecursion (λ b. b < length heads.old) targets }
     ensures { (b : ℕ) →

@@ -8,7 +8,7 @@
 //! It takes words in runs where the memory has them, and steps from word to word otherwise, so that a block of 2^60
 //! bytes of which a page is dumped costs no more than that page. A word that leads nowhere yields nothing.
 //!
-//! The words of a block are the aligned ones that lie whole inside it, as bdwgc scans an object. Pages of 4096
+//! The words of a block are the aligned ones that lie completely inside it, as bdwgc scans an object. Pages of 4096
 //! addresses are those of x86-64. The contracts don't say how much is read.
 #![tactic(auto)]
 

@@ -21,7 +21,7 @@ impl Model for Pages {
 }
 
 impl Pages {
-    /// The pages with the numbers, where they ascend and none stands twice.
+    /// The pages with the numbers, if they ascend and none occurs twice.
     pub fn new(numbers: Vec<u64>) -> Option<Pages>
         ensures value { IfSome result (λ pages. pages ≡ numbers.items) }
         ensures some { IsSome result ↔ IsStrictlyIncreasing numbers.items }

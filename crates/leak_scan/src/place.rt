@@ -26,7 +26,7 @@ pub(crate) struct Step<'a> {
     pub(crate) count: u64,
 }
 
-/// Reads the first words at the addresses, on listed pages alone where there is a list.
+/// Reads the first words at the addresses, on listed pages alone if there is a list.
 fn advance<'a, W: Words>(words: &'a W, pages: Option<&'a Pages>, from: u64, count: u64) -> Step<'a>
     requires { 0 < count }
     ensures split { let f = listed_word (W.word_at words.now) (option_copied pages.entry) in
@@ -52,7 +52,7 @@ fn advance<'a, W: Words>(words: &'a W, pages: Option<&'a Pages>, from: u64, coun
     }
 }
 
-/// The first addresses of `count` from `from` on that stand on one listed page, or all where there is no list: their
+/// The first addresses of `count` from `from` on that are on one listed page, or all if there is no list: their
 /// start and their number.
 fn first_window(pages: Option<&Pages>, from: u64, count: u64) -> Option<(u64, u64)>
     requires { 0 < count }

@@ -14,8 +14,8 @@ pub(crate) enum Found<'a> {
     Run(&'a [u8]),
 }
 
-/// The first words from the address on, and the address up to which the memory has no others. Words that stand
-/// `window` addresses after it or further are not read. None where there is no word at all.
+/// The first words from the address on, and the address up to which the memory has no others. Words `window`
+/// addresses after it or further are not read. None if there is no word at all.
 pub(crate) fn read_on<'a, W: Words>(
     words: &'a W,
     from: u64,

@@ -1,4 +1,4 @@
-//! The first root word of a range that leads to a block, but for malloc's links to free chunks.
+//! The first root word of a range that leads to a block, without malloc's links to free chunks.
 ghost use Rattle.std.specs.Prelude.{◌≡◌, ◌≤◌, ◌++◌, []};
 ghost use Rattle.leak_elf.specs.Words.{IsRun};
 ghost use Rattle.leak_index.specs.Hits.{hits_in};
@@ -80,7 +80,7 @@ fn first_held<W: Words, L: Lookup>(
     (Hits::Zero, at)
 }
 
-/// The blocks that the word at the place leads to, but for those as far as which it is a link to a free chunk.
+/// The blocks that the word at the place leads to, without those for which it is a link to a free chunk.
 fn held_by<W: Words, L: Lookup>(words: &W, lookup: &L, live: &Live, place: u64, word: u64) -> Hits
     requires { (L.index lookup.now).blocks ≡ live.now.blocks }
     ensures { hits_in result ≡ held_by (W.word_at words.now) (L.index lookup.now) place word }

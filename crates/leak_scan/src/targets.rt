@@ -47,8 +47,8 @@ impl<'a, W: Words, L: Lookup> Targets<'a, W, L> {
         Targets::over(words, lookup, None, from, count)
     }
 
-    /// Over the same words as root words, without malloc's links to free chunks: as far as a block goes, a word that is
-    /// such a link leads nowhere. The live blocks are those of the lookup.
+    /// Over the same words as root words, without malloc's links to free chunks: a word that is such a link as far as a
+    /// block goes does not lead to it. The live blocks are those of the lookup.
     pub fn of_root_range(
         words: &'a W,
         lookup: &'a L,
@@ -96,7 +96,7 @@ impl<'a, W: Words, L: Lookup> Targets<'a, W, L> {
         Targets::over(words, lookup, None, block.start, count)
     }
 
-    /// Over those of them that stand on listed pages.
+    /// Over those of them that are on listed pages.
     pub fn of_block_pages(
         words: &'a W,
         lookup: &'a L,
@@ -110,7 +110,7 @@ impl<'a, W: Words, L: Lookup> Targets<'a, W, L> {
         Targets::over(words, lookup, Some(pages), block.start, count)
     }
 
-    /// Over the words at so many addresses from `from` on.
+    /// Over the words at `count` addresses from `from` on.
     fn over(
         words: &'a W,
         lookup: &'a L,

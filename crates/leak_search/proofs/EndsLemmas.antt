@@ -1,4 +1,4 @@
--- Where ends are left out, root words and words of blocks lead to fewer blocks, and chains reach fewer.
+-- If ends are left out, root words and words of blocks lead to fewer blocks, and chains reach fewer.
 use Rattle.std.proofs.Common.{◌≡◌, ℕ, zero, suc, ◌+◌, ◌≤◌, ◌<◌, Bool, true, false, not, cond, List, [], ◌∷◌, ◌++◌, length, map, get_or, refl, filter, filter_map, flat_map, Option, Some, None, slice_get, arith}
 use Rattle.std.specs.Prelude.{if◌then◌else◌}
 use Rattle.std.specs.Option.{option_map_or}

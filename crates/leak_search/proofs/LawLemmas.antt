@@ -106,15 +106,15 @@ each_less : (f g : ℕ → List ℕ) (places : List ℕ) (x : ℕ) → ((a : ℕ
 each_less f g [] x h = omega arith
 each_less f g (a ∷ places) x h = omega (arith, times-append x (f a) (flat_map f places), times-append x (g a) (flat_map g places), h a, each_less f g places x h)
 
--- ---- where less is left out
+-- ---- if less is left out
 
--- a place that is outside the spans where more is left out is outside them where less is
+-- a place that is outside the spans if more is left out is outside them if less is
 inside_less : (less more : Bool) (small : List Span) (a : ℕ) → (less ≡ true → more ≡ true) → not (is_inside (if more then small else []) a) ≡ true → not (is_inside (if less then small else []) a) ≡ true
 inside_less true true small a h is = is
 inside_less true false small a h is = absurd (let e = h refl in cc)
 inside_less false more small a h is = ap not (no_spans_inside [] a refl)
 
--- a segment that has root words where more is left out has some where less is
+-- a segment that has root words if more is left out has some if less is
 roots_less : (less more : Bool) (s : Segment) → (less ≡ true → more ≡ true) → has_roots more s ≡ true → has_roots less s ≡ true
 unfolding has_roots
 roots_less true true s h is = is

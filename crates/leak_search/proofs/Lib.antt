@@ -1,3 +1,4 @@
+-- The lemmas of this crate, by subject.
 pub mod SearchLemmas
 pub mod SizeLemmas
 pub mod TwoLemmas

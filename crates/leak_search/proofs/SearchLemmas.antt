@@ -62,7 +62,7 @@ counted : (asked unwritable : Bool) (core : List ℕ) (blocks : List Block) (sma
 counted true unwritable core blocks small places is = ap (λ (n : ℕ). Some n) is
 counted false unwritable core blocks small places is = refl
 
--- the number of freed places is told where they are left out
+-- the number of freed places is told if they are left out
 pub freed_is : (skip : Skip) (core : List ℕ) (blocks : List Block) (lines : List Line) (places : Places) → AreRootsOf skip.unwritable core blocks (spans_of skip lines) (slack_in skip core blocks) places
     → (if skip.freed then Some places.freed else None) ≡ freed_of skip core blocks lines
 freed_is skip core blocks lines places roots = counted skip.freed skip.unwritable core blocks (small_spans_of lines) places roots.freed
@@ -115,7 +115,7 @@ ok_by T (Err e) each = tt
 pub at_ok : {A E : Type 0} (P : A → Type 0) (r : Result A E) (x : A) → r ≡ Ok x → IfOk r P → P x
 at_ok P r x is holds = subst (λ v. IfOk v P) is holds
 
--- where marking is refused, so is the search
+-- if marking is refused, so is the search
 pub marking_refused : (core log : List ℕ) (input : Input) (e : PoolError) (f : FindError) → IsRead core log input → f ≡ at_marking e
     → (e ≡ TooManyForPool → 2 ^ 32 - 1 < length input.live.blocks) → (f ≡ NoMemory → ⊥) → IsFaultOfOne core log f
 marking_refused core log input TooManyForPool f read is many other =

@@ -176,7 +176,7 @@ finds_later core log reading check workers lines input index places head fits pa
         (ap (λ (h : Head). text_of h (live_of lines) r.marked.set.items (heads_of (word_of core) (index_of reading lines) r.marked.set.items) fits log)
         (head_is core log lines input places (Some (numbers_of_two core pages (live_of lines) c.kept.items c.fresh.items)) read roots))
 
--- the same where the inputs are known by what was read
+-- the same if the inputs are known by what was read
 finds_inputs : (log1 log2 : List ℕ) (reading : Distances) (skip : Skip) (check : Bool) (workers : ℕ) (before now : List Line) (first second : Input) (index : Index) (places : Places) (head : Head) (fits : Option (List Bool)) (b : Between) (r : Retraced) (count bytes : ℕ) (found : Found)
     → IsReadOf first.image log1 before first → IsReadOf second.image log2 now second → length first.live.blocks < 2 ^ 32 → length second.live.blocks < 2 ^ 32
     → IsTrue (is_continued_by log1 log2) → Continues before now → SameWordsLeadWithin

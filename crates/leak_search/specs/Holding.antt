@@ -24,7 +24,7 @@ use Rattle.leak_input.specs.Inputs.{IsCore, IsInputFault}
 use Rattle.leak_search.specs.Search.{index_of, graph_of_one}
 
 -- Core and log are free of faults, and the address asks for the block. The chain to it from the places of the core's root
--- words is a shortest one, or there is none, just where the search does not reach the block; and the text tells this.
+-- words is a shortest one, or, exactly if the search does not reach the block, there is none; and the text tells this.
 pub record TellsWhy (core log : List ℕ) (reading : Distances) (skip : Skip) (address : ℕ) (found : Why) : Type 0 where
   pub accepted : IsCore core
   pub lines : List Line

@@ -14,7 +14,7 @@ pub record LeavesOutNoMore (less more : Skip) : Type 0 where
   pub links : IsTrue less.links → IsTrue more.links
   pub unwritable : IsTrue less.unwritable → IsTrue more.unwritable
 
--- A block that chains of one core reach where more is left out is reached where less is. The search that leaves nothing out
+-- A block that chains of one core reach if more is left out is reached if less is. The search that leaves nothing out
 -- leaves out no more than any other, so it reaches the most.
 abbrev pub MarkedWithLess : Type 0
 MarkedWithLess =

@@ -1,3 +1,4 @@
+-- The definitions of this crate, by subject.
 pub mod Holding
 pub mod Search
 pub mod SearchTwo

@@ -55,7 +55,7 @@ abbrev pub claims_of : Found → List (List ℕ)
 claims_of found = map (λ v. v.items) found.claims.items
 
 -- Core and log are free of faults, and the blocks are few enough to be numbered. The marked blocks are those that a
--- chain of words reaches from the roots; the report names the others, and tells which of them are heads, and misfits where
+-- chain of words reaches from the roots; the report names the others, and tells which of them are heads, and misfits if
 -- that is asked for; each marked block is claimed by one worker.
 pub record FindsOne (core log : List ℕ) (reading : Distances) (skip : Skip) (check : Bool) (workers : ℕ) (found : Found) : Type 0 where
   pub accepted : IsCore core

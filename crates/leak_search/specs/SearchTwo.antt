@@ -80,8 +80,8 @@ pub record IsBetween (core1 core2 : List ℕ) (reading : Distances) (skip : Skip
   pub lists : IsCarry (length (live_of now)) b.carry
   pub pages : AreDiffering (word_of core1) (word_of core2) b.pages
 
--- What is found in the later core where the numbered blocks are kept and new. The marked blocks are those that chains
--- reach; the report names the others, and tells which of them are heads by words of the later core, and its misfits where
+-- What is found in the later core if the numbered blocks are kept and new. The marked blocks are those that chains
+-- reach; the report names the others, and tells which of them are heads by words of the later core, and its misfits if
 -- that is asked for; each marked block that is neither kept nor new is claimed by one worker; and a block that chains of the
 -- later core reach from its roots alone is marked.
 pub record FindsLater (core log : List ℕ) (reading : Distances) (skip : Skip) (check : Bool) (lines : List Line) (pages kept fresh : List ℕ) (workers : ℕ) (found : Found) : Type 0 where

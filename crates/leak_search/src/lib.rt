@@ -3,11 +3,11 @@
 //! For every accepted input, every number of workers and every cutting of the work, the report is that of one thread: the
 //! live blocks to which no chain of words leads from the roots or, with two cores, from the kept and new blocks. Each
 //! other marked block is claimed by exactly one worker, and no block that can be reached in the second core is reported.
-//! Where an input is not accepted, the answer is the first refusal by the order of [`FindError`].
+//! If an input is not accepted, the answer is the first refusal by the order of [`FindError`].
 //!
 //! [`find_alone`] searches one core on the caller's thread, [`find_one`] by worker threads, under the same promise, and
-//! [`find_two`] searches a later core from what an earlier one says. [`find_why`] tells why a block is held. What a leak,
-//! a root and a chain are is said in `specs/Search.antt` and, for two cores, in `specs/SearchTwo.antt`.
+//! [`find_two`] searches a later core from what an earlier one says. [`find_why`] tells why a block is held.
+//! `specs/Search.antt` says what a leak, a root and a chain are and, for two cores, `specs/SearchTwo.antt`.
 //!
 //! An allocation of 32 bytes, and a core in which no word leads to it:
 //!

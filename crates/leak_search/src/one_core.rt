@@ -17,10 +17,10 @@ use std::alloc::Global;
 
 /// Searches a core and its log by the workers of the plan.
 ///
-/// `core` holds the bytes of an ELF64 core of x86-64 Linux, and `log` those that mtrace(3) wrote for the same process.
-/// Which words lead to a block, `reading` says, and `check` whether the report lists the misfits. The report, the leaked
-/// blocks and which blocks are claimed don't depend on the plan, on the gate, or on how the workers meet; by which worker a
-/// block is claimed does. There is one list of claims for each worker, also where it is empty.
+/// `core` holds the bytes of an ELF64 core of x86-64 Linux, and `log` those of a log of the same process in mtrace(3)'s format.
+/// `reading` says which words lead to a block, and `check` whether the report lists the misfits. The report, the leaked
+/// blocks and which blocks are claimed don't depend on the plan, on the gate, or on how the workers meet; the worker by which a
+/// block is claimed does. There is one list of claims for each worker, even if it is empty.
 ///
 /// # Errors
 ///

@@ -152,7 +152,7 @@ fn numbers_of(input: &Input, carry: &Carry, reread: u64) -> Two
 /// The first log has to begin the second, up to its own last line feed. Marked in the second core are the blocks that
 /// were marked in the first core and are still live, those allocated since, and what chains lead to from these and from
 /// the roots (after Boehm, Demers and Shenker, PLDI 1991; that new blocks count is own rule). The report is that of the
-/// second core and its log, whose misfits it lists where `check` is set, and the claims are of the marking there.
+/// second core and its log, whose misfits it lists if `check` is set, and the claims are of the marking there.
 ///
 /// # Errors
 ///

@@ -15,7 +15,7 @@ use Rattle.leak_streams.specs.Writes.{Calls, GoesOn, Stops, IsTurn, ComesBy, Has
 pub left_whole : (n : ℕ) (text : List ℕ) → take (length text - n) (drop n text) ≡ drop n text
 left_whole n text = take_all _ _ (omega (arith, length-drop n text))
 
--- where a writing goes on, no more is taken than the text, and there were not too many interruptions
+-- if a writing goes on, no more is taken than the text, and there were not too many interruptions
 pub goes_on_within : (text : List ℕ) (now next : Progress) (answer : Result ℕ Error) → now.written ≤ length text
     → WritesAtMost answer (drop now.written text) → GoesOn now answer next → next.written ≤ length text
 goes_on_within text now next (Ok count) within bound on = let is = on.1 in omega (arith, is, bound, within, length-drop now.written text)
@@ -61,7 +61,7 @@ module _ {W : Type 0} (calls : Calls W) (text : List ℕ) where
       → IsTurn calls text was before answer last → GoesOn was answer now → HasCome calls text first last now
   one_more first before last was now answer come turn on = record { turns = (answer, before) ∷ come.turns; by_turns = (was, come.by_turns, turn, on) }
 
--- ---- what turns come to, where the writer tells its bytes
+-- ---- what turns come to, if the writer tells its bytes
 
 -- a write, by the bytes that the writer holds
 abbrev pub tells : {W : Type 0} → (W → Option (List ℕ)) → Calls W

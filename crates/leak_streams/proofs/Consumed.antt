@@ -41,7 +41,7 @@ pub still_long : (room : ℕ) (new piece : List ℕ) → length new ≡ length (
 still_long room new piece is_new =
     rw (length-append new (drop room piece), length-drop room piece, is_new, length-take room piece) (omega arith)
 
--- bytes at the front of the piece, and of the piece with what stands after it
+-- bytes at the front of the piece, and of the piece with what follows it
 pub in_front : (count : ℕ) (piece rest : List ℕ) → count ≤ length piece → count ≤ length (piece ++ rest)
 in_front count piece rest within = rw (length-append piece rest) (omega (arith, within))
 
@@ -134,7 +134,7 @@ nearer_by_bytes limit len counted now count turns is_len few is fits = let some 
 pub nearer_by_turn : (rest turns now : ℕ) → (now ≡ turns + 1) × (now < 1000000) → rest + (1000000 - now) < rest + (1000000 - turns)
 nearer_by_turn rest turns now more = let is = more.0 in let few = more.1 in omega (arith, is, few)
 
--- ---- what reads come to, where the reader tells its bytes
+-- ---- what reads come to, if the reader tells its bytes
 
 -- a read, by the bytes that the reader has left
 abbrev pub tells : {R : Type 0} → (R → Option (List ℕ)) → Calls R

@@ -1,2 +1,3 @@
+-- The lemmas of this crate, by subject.
 pub mod Consumed
 pub mod Appended

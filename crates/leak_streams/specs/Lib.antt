@@ -1,3 +1,4 @@
+-- The definitions of this crate, by subject.
 pub mod Reading
 pub mod Reads
 pub mod Writes

@@ -1,4 +1,4 @@
--- What reading an input to its end does to a reader, where the reader tells its bytes.
+-- What reading an input to its end does to a reader, if the reader tells its bytes.
 use Rattle.std.specs.Prelude.{◌≡◌, ℕ, ◌+◌, ◌≤◌, List, length, Option}
 use Rattle.std.specs.Io.KnownBytes.{Consumes, IsAtEnd}
 use Rattle.leak_streams.specs.declared.fault.ReadFault.{ReadFault}
@@ -10,13 +10,13 @@ pub record IsWholeInput (before after : Option (List ℕ)) (limit : ℕ) (bytes 
   pub taken : Consumes before after bytes
   pub end : IsAtEnd after
 
--- so many bytes were taken
+-- this many bytes were taken
 pub record Takes (before after : Option (List ℕ)) (count : ℕ) : Type 0 where
   pub bytes : List ℕ
   pub as_many : length bytes ≡ count
   pub taken : Consumes before after bytes
 
--- no more than so many bytes were taken
+-- no more than this many bytes were taken
 pub record TakesAtMost (before after : Option (List ℕ)) (most : ℕ) : Type 0 where
   pub bytes : List ℕ
   pub few : length bytes ≤ most

@@ -13,7 +13,7 @@ use Rattle.leak_streams.specs.declared.readers.Turn.TheVariants.{End, Bytes, Aga
 abbrev pub Calls : Type 0 → Type 1
 Calls R = R → List ℕ → Result ℕ Error → R → Type 0
 
--- why an answer ends the reading, where the limit leaves so many bytes and so many reads were interrupted
+-- why an answer ends the reading, if the limit leaves this many bytes and this many reads were interrupted
 abbrev pub StopsBy : ℕ → ℕ → Result ℕ Error → ReadFault → Type 0
 StopsBy left interruptions (Ok count) TooLong = left < count
 StopsBy left interruptions (Err e) Device = error_kind e ≢ Interrupted

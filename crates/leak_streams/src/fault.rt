@@ -1,4 +1,4 @@
-//! Why an input is not read to its end, and why a text is not written whole.
+//! Why an input is not read to its end, and why a text is not written completely.
 
 ghost use Rattle.std.specs.Prelude.{◌≡◌};
 ghost use Rattle.leak_streams.specs.declared.fault.ReadFault.TheVariants.{NoMemory};

@@ -1,12 +1,12 @@
 //! Streams: an input is read to its end, and a text is written out.
 //!
-//! [`read_all`] takes all bytes that a reader has, up to a limit, or says why it does not; [`read_sized`] does the same where the
-//! reader is said to have so many bytes. [`write`] hands a text to a writer until all of it is taken. Of a reader or a writer they
+//! [`read_all`] takes all bytes that a reader has, up to a limit, or says why it does not; [`read_sized`] does the same if the
+//! reader's size is told. [`write`] hands a text to a writer until all of it is taken. Of a reader or a writer they
 //! know nothing but its single calls, [`ReadCalls`] and [`WriteCalls`], so their contracts name each call that was made, its answer
 //! and the device before and after it: read by read in `specs/Reads.antt`, write by write in `specs/Writes.antt`. Everything that is
 //! `Read` has such reads, and everything that is `Write` such writes.
 //!
-//! What the calls come to where a reader tells the bytes that it has left, and a writer those that it holds, are two laws,
+//! What the calls come to if a reader tells the bytes that it has left, and a writer those that it holds, are two laws,
 //! [`reads_tell`] and [`writes_tell`].
 //!
 //! Five bytes within their limit, and one byte over it:

@@ -54,7 +54,7 @@ pub fn read_all<R: ReadCalls>(
     read_sized(alloc, reader, limit, 0)
 }
 
-/// Reads as [`read_all`] does, from a reader that is said to have so many bytes. The size changes only time and memory.
+/// Reads as [`read_all`] does, from a reader that is said to have this many bytes. The size changes only time and memory.
 pub fn read_sized<R: ReadCalls>(
     alloc: Global,
     reader: &mut R,
@@ -82,7 +82,7 @@ pub fn read_sized<R: ReadCalls>(
     }
 }
 
-/// An empty list with room for so many bytes, or with none where that can't be had.
+/// An empty list with room for this many bytes, or with none if that can't be had.
 ///
 /// A size that is said is no promise, so it refuses nothing.
 fn list_for(alloc: Global, size: u64) -> Vec<u8>
@@ -98,15 +98,15 @@ fn list_for(alloc: Global, size: u64) -> Vec<u8>
 enum Turn {
     /// The input has ended.
     End,
-    /// So many bytes were read, within the limit.
+    /// This many bytes were read, within the limit.
     Bytes(usize),
-    /// One more read was interrupted. So many were by now, and there may be more.
+    /// One more read was interrupted. This many were by now, and there may be more.
     Again(u32),
     /// The reading ends with a fault.
     Stop(ReadFault),
 }
 
-/// What follows the answer, where the limit leaves so many bytes and so many reads were interrupted before.
+/// What follows the answer, if the limit leaves `left` bytes and this many reads were interrupted before.
 fn turn_after(answer: io::Result<usize>, left: u64, interruptions: u32) -> Turn
     requires { interruptions < MOST_INTERRUPTIONS }
     ensures { Follows left interruptions answer result }

@@ -70,7 +70,7 @@ pub fn write<W: WriteCalls>(text: &[u8], writer: &mut W) -> Result<(), WriteFaul
     Ok(())
 }
 
-/// How far the text is written after the answer of a write, or `None` where it stops the writing.
+/// How far the text is written after the answer of a write, or `None` if it stops the writing.
 fn after(now: Progress, answer: io::Result<usize>) -> Option<Progress>
     requires few { now.interruptions < MOST_INTERRUPTIONS }
     requires fits { IfOk answer (λ count. now.written + count ≤ usize.MAX) }

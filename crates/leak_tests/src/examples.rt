@@ -11,7 +11,7 @@ pub const NOTHING: &str = "blocks 0 bytes 0\n\
                            leaked 0 bytes 0\n\
                            heads 0\n";
 
-/// The report where the one block leaked.
+/// The report if the one block leaked.
 pub const LOST: &str = "blocks 1 bytes 32\n\
                         undumped 0\n\
                         unknown 0 displaced 0 torn 0\n\
@@ -21,7 +21,7 @@ pub const LOST: &str = "blocks 1 bytes 32\n\
                         caller 1 32 1 ./a.out:[0x401136]\n\
                         leak 0x10100 32 1 head ./a.out:[0x401136]\n";
 
-/// The report where the one block is marked.
+/// The report if the one block is marked.
 pub const HELD: &str = "blocks 1 bytes 32\n\
                         undumped 0\n\
                         unknown 0 displaced 0 torn 0\n\

@@ -23,7 +23,7 @@ impl Source {
         Source::slow(alloc, bytes, usize::MAX)
     }
 
-    /// A reader that gives so many bytes at a time.
+    /// A reader that gives this many bytes at a time.
     pub fn slow(alloc: Global, bytes: &[u8], step: usize) -> Result<Source, Fail> {
         let mut left = Vec::from_slice(alloc, bytes)?;
         left.reverse();
@@ -35,7 +35,7 @@ impl Source {
         })
     }
 
-    /// The same, once so many reads have been interrupted.
+    /// The same, once this many reads have been interrupted.
     pub fn interrupted(self, interruptions: u64) -> Source {
         Source {
             left: self.left,
@@ -45,7 +45,7 @@ impl Source {
         }
     }
 
-    /// The same, but it fails after so many reads.
+    /// The same, but it fails after this many reads.
     pub fn failing_after(self, reads: u64) -> Source {
         Source {
             left: self.left,
@@ -94,7 +94,7 @@ pub struct Sink {
 }
 
 impl Sink {
-    /// A writer with room for so many bytes.
+    /// A writer with room for this many bytes.
     pub fn of(alloc: Global, room: usize) -> Sink {
         Sink {
             held: Vec::new(alloc),
@@ -137,9 +137,9 @@ impl Read for Endless {
 /// What a device does at a call.
 #[derive(Clone, Copy)]
 pub enum Turn {
-    /// Some bytes are given or taken, at most so many.
+    /// Some bytes are given or taken, at most this many.
     Bytes(usize),
-    /// The call is interrupted, and so are the next ones: so many in all.
+    /// The call is interrupted, and so are the next ones: this many in all.
     Interrupted(u64),
     /// The call fails.
     Fails,

@@ -32,7 +32,7 @@ fn options(core_limit: u64, log_limit: u64) -> Result<Options, Fail>
     })
 }
 
-/// The report where the one block is marked, and is not read again.
+/// The report if the one block is marked, and is not read again.
 const HELD_UNREAD: &str = "blocks 1 bytes 32\n\
                            undumped 0\n\
                            unknown 0 displaced 0 torn 0\n\

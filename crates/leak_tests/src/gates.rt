@@ -72,12 +72,12 @@ struct Waiting {
     /// Whether a worker waits for the one with the next number.
     up: bool,
     come: [AtomicU64; 4],
-    /// 1 where a worker has waited in vain.
+    /// 1 if a worker has waited in vain.
     late: AtomicU64,
 }
 
 impl Waiting {
-    /// Returns when the worker has come, or after so many turns.
+    /// Returns when the worker has come, or after [`TURNS`] looks.
     fn wait_for(&self, worker: usize) {
         let Some(come) = self.come.get(worker) else {
             return;

@@ -27,7 +27,7 @@ pub const STAR: &str = "blocks 101 bytes 1600\n\
                         leaked 0 bytes 0\n\
                         heads 0\n";
 
-/// A hundred blocks of 16 bytes, each but the last holding the start of the next.
+/// A hundred blocks of 16 bytes, each except the last holding the start of the next.
 pub fn chain(alloc: Global) -> Result<Sample, Fail> {
     let mut core = core_of(alloc, &[Part::Word(0x10008, 0x10200)])?;
     let mut log = String::new(alloc);

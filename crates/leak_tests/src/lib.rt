@@ -76,7 +76,7 @@ mod devices;
 #[cfg(test)]
 mod four_readers;
 
-// Warnings, where a writer fails.
+// Warnings, if a writer fails.
 #[cfg(test)]
 mod signs;
 
@@ -96,7 +96,7 @@ mod fakes;
 #[cfg(test)]
 mod sizes;
 
-// What a refusal prints, where no case can have it.
+// What a refusal prints, if no case of gate/ can have it.
 #[cfg(test)]
 mod texts;
 
@@ -108,7 +108,7 @@ mod marking;
 #[cfg(test)]
 mod stacks;
 
-// Marking by links, and without where they have no room.
+// Marking by links, and without them if they have no room.
 #[cfg(test)]
 mod links;
 

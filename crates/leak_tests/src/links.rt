@@ -32,7 +32,7 @@ fn links_of_a_chain(rt: HostRuntime) -> Result<(), Fail> {
 #[test]
 fn links_of_a_star(rt: HostRuntime) -> Result<(), Fail> {
     let sample = star(rt.alloc())?;
-    // Fifty of its hundred links are of one block, so with more than two workers they fit where a share of the room is fifty.
+    // Fifty of its hundred links are of one block, so with more than two workers they fit if a share of the room is fifty.
     for room in [0, 100, 150, 6_400] {
         for (workers, stack, rounds) in [(1, 0, 4), (1, 1, 3), (3, 1, 3), (64, 65_536, 1)] {
             let plan = Plan::new(workers, 65_536, stack)?;

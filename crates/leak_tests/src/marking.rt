@@ -35,7 +35,7 @@ pub fn by_plan<R: std::thread::Threads + Sync, G: Gate + Sync>(
     Ok(mark(rt, alloc, &image, &lookup, &roots, &live, plan, gate)?)
 }
 
-/// Marks a sample by the workers of the plan, over links where there are no more than the room.
+/// Marks a sample by the workers of the plan, over links if there are no more than the room.
 pub fn by_links<R: std::thread::Threads + Sync>(
     rt: &R,
     alloc: Global,
@@ -60,7 +60,7 @@ pub fn marked_count(marked: &Marked) -> usize {
 /// How many blocks the long chain has.
 pub const LONG: u64 = 1200;
 
-/// How many words of the long chain's core are roots: 27 registers, and of eight pages all but one for each block.
+/// How many words of the long chain's core are roots: 27 registers, and all of eight pages except one for each block.
 pub const LONG_ROOTS: u64 = 27 + 8 * 512 - LONG;
 
 /// The sample core with its memory of one page grown to eight, of zeros.
@@ -75,7 +75,7 @@ fn eight_pages(alloc: Global) -> Result<Vec<u8>, Fail> {
     Ok(core)
 }
 
-/// 1200 blocks of 8 bytes, with starts 16 apart, each but the last with the start of the next. A root word leads to the first.
+/// 1200 blocks of 8 bytes, with starts 16 apart, each except the last with the start of the next. A root word leads to the first.
 pub fn long_chain(alloc: Global) -> Result<Sample, Fail> {
     let mut core = eight_pages(alloc)?;
     let mut log = String::new(alloc);

@@ -26,7 +26,7 @@ pub struct Pair {
     pub claimed: &'static [u32],
 }
 
-/// Each example of two cores but those of many blocks.
+/// Each example of two cores except those of many blocks.
 pub static PAIRS: [Pair; 16] = [
     Pair {
         name: "moved to where it was",

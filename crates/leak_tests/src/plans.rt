@@ -1,4 +1,4 @@
-//! Plans that the same reports are asked for by.
+//! Plans by which the same reports are asked for.
 
 use leak_pool::Plan;
 use std::alloc::Global;

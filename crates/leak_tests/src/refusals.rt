@@ -21,7 +21,7 @@ fn refusal_with(alloc: Global, parts: &[Part], log: &str) -> Result<Option<FindE
     Ok(refusal(alloc, core.as_slice(), log))
 }
 
-/// Why a core of so many bytes of the sample is refused.
+/// Why the first `len` bytes of the sample are refused as a core.
 fn fault_of_first(len: usize) -> ElfError {
     match len {
         0..=63 => ElfError::Short,

@@ -8,7 +8,7 @@ use leak_roots::Roots;
 use std::alloc::Global;
 use std::test::Fail;
 
-/// How far past its file offset a word of the sample's segment has its address.
+/// The address of a word of the sample's segment, less its file offset.
 const SHIFT: u64 = 0xf000;
 
 /// What the sample core has in place of a zero, or of a field.
@@ -18,9 +18,9 @@ pub enum Part {
     Word(u64, u64),
     /// The register rbx of the thread.
     Rbx(u64),
-    /// So many bytes of the segment are dumped.
+    /// This many bytes of the segment are dumped.
     Dumped(u64),
-    /// The part of notes has so many bytes.
+    /// The part of notes has this many bytes.
     Notes(u64),
     /// The last byte is missing.
     Cut,

@@ -21,7 +21,7 @@ struct Holding {
     held: u32,
     /// 1 once the other worker has passed.
     passed: AtomicU64,
-    /// 1 where the held worker has waited in vain.
+    /// 1 if the held worker has waited in vain.
     late: AtomicU64,
 }
 

@@ -1,4 +1,4 @@
-//! Searches and runs in few words: what most tests have in common stands here once.
+//! Searches and runs in few words: what most tests have in common is here once.
 
 ghost use Rattle.std.specs.Prelude.{◌≡◌, length};
 ghost use Rattle.leak_request.specs.Requests.{file_count};
@@ -64,12 +64,12 @@ pub fn of_two<R: Threads + Sync>(
     )
 }
 
-/// Ends the test where the report is another.
+/// Ends the test if the report is another.
 pub fn reports<C: Debug>(rt: &impl Abort, case: &C, found: &Found, report: &str) {
     same_in(rt, case, found.report.as_slice(), report.as_bytes());
 }
 
-/// Ends the test where the report is another, or the number of leaked blocks or of lists of claims.
+/// Ends the test if the report is another, or the number of leaked blocks or of lists of claims.
 pub fn gives<C: Debug>(
     rt: &impl Abort,
     case: &C,

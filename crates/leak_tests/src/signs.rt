@@ -1,4 +1,4 @@
-//! Warnings that a core and its log don't belong together, where a writer fails.
+//! Warnings that a core and its log don't belong together, if a writer fails.
 
 ghost use Rattle.std.specs.Prelude.{IfOk, false, ◌≡◌};
 

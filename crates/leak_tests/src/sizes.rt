@@ -24,7 +24,7 @@ fn wide_core(alloc: Global) -> Result<Vec<u8>, Fail> {
     Ok(core)
 }
 
-/// A log of so many blocks of so many bytes, one after another at such a distance.
+/// A log of `count` blocks of one size, one after another at such a distance.
 fn row_of_blocks(alloc: Global, count: u64, size: u64, step: u64) -> Result<String, Fail> {
     let mut log = String::new(alloc);
     for i in 0..count {

@@ -1,4 +1,4 @@
-//! What a refusal prints, where no case of gate/ can have it.
+//! What a refusal prints, if no case of gate/ can have it.
 
 use crate::comparisons::same;
 use leak_find::{FindError, ReadFault, RunFault};

@@ -54,7 +54,7 @@ fn chains_and_stars_of_the_later_core_are_followed(rt: HostRuntime) -> Result<()
         let log = sample.log.as_bytes();
         let second = (core, log);
         let wanted = with_lines(rt.alloc(), report, "new 0 bytes 0\nreread 0\n")?;
-        // Where nothing was marked before, all is claimed, and otherwise nothing is.
+        // If nothing was marked before, all is claimed, and otherwise nothing is.
         for (earlier, claimed) in [(zeros.as_slice(), *blocks), (core, 0)] {
             let first = (earlier, log);
             for plan in plans.as_slice() {

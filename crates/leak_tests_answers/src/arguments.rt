@@ -1,3 +1,5 @@
+//! Words of the command line.
+
 use crate::asked::{asked, asks, options, shown, skipping, takes, with_all_memory, without_slack};
 use crate::comparisons::same;
 use leak_index::Reading;

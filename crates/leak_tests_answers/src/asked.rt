@@ -22,7 +22,7 @@ pub fn asked<R: Abort + AllocGlobal>(
     Ok(request(rt.alloc(), words.as_slice()))
 }
 
-/// The words with each of the paths behind them.
+/// The words with each of the paths after them.
 fn with_paths(mut text: String, paths: &[String]) -> Result<String, AllocError> {
     for path in paths {
         text.push(' ')?;

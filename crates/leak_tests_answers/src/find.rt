@@ -1,3 +1,4 @@
+//! Runs over readers whose sizes are told.
 ghost use Rattle.std.specs.Prelude.{IfOk, false, ◌≡◌};
 
 use crate::comparisons::{same, same_in};
@@ -19,7 +20,7 @@ fn all_bytes_up_to_the_limit(rt: HostRuntime) -> Result<(), Fail> {
     Ok(())
 }
 
-/// How one core and its log are read, where the log may have so many bytes.
+/// How one core and its log are read, if the log may have this many bytes.
 fn options(log_limit: u64) -> Result<Options, Fail>
     ensures { IfOk result (λ options. options.two ≡ false) }
 {

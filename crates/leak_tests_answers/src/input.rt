@@ -1,3 +1,5 @@
+//! An input that is read.
+
 use crate::comparisons::same;
 use leak_elf::core_k;
 use leak_input::{find_roots, head_of, read_input};

@@ -1,6 +1,7 @@
 //! Tests of the crates that make reports and answers and read the command line, crate by crate.
 //!
-//! They stand beside those crates, so that the crates are proved once, without their tests. What a run of the program shows is a case of gate/.
+//! They are in a crate of their own, so that those crates are proved once, without their tests. The cases of gate/ show what a run of the
+//! program does.
 #![tactic(auto)]
 
 // Comparisons that end a test.

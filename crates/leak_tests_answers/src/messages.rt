@@ -1,3 +1,5 @@
+//! Texts of faults, and what their own Display writes.
+
 use crate::comparisons::same_in;
 use leak_elf::ElfError;
 use leak_find::{DisplaceFault, FindError, ReadFault, ReadingError, UsageFault, WriteFault};

@@ -1,3 +1,5 @@
+//! What the program says of a failure.
+
 use crate::comparisons::same_in;
 use leak_find::{FindError, ReadFault, RunFault, UsageFault, WriteFault};
 use leak_opening::Reason;

@@ -1,3 +1,5 @@
+//! Searches of cores in memory.
+
 use crate::comparisons::same;
 use leak_elf::core_k;
 use leak_index::Reading;

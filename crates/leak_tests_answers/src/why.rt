@@ -1,3 +1,4 @@
+//! Names of registers in a chain that holds a block.
 ghost use Rattle.std.specs.Prelude.{IsTrue};
 ghost use Rattle.leak_report.specs.Totals.{HaveCallersIn};
 

@@ -1,4 +1,4 @@
--- What stands in a list of lists that are lent.
+-- What is in a list of lists that are lent.
 use Rattle.std.proofs.Common.{◌<◌, ℕ, Bor, List, [], get_or, length, map, subst, arith, ◌+◌}
 use mathlib.Core.Logic.{dite}
 use native.Mathlib.Decide.{dec_lt, ℕ_discrete}

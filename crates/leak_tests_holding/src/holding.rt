@@ -1,9 +1,11 @@
+//! Which numbers hold each block.
+
 use crate::lists::{words_of, words_of_set};
 use std::alloc::{AllocError, Global};
 use std::process::Abort;
 use std::test::*;
 
-// For each block the bits of the numbers that hold it, where a chain reaches each block.
+// For each block the bits of the numbers that hold it, if a chain reaches each block.
 fn holders(alloc: Global, words: &[u64]) -> Result<Vec<u64>, AllocError> {
     words.iter().map(|word| !*word).collect(alloc)
 }

@@ -1,6 +1,6 @@
 //! Tests of marking without sets of blocks, over small graphs.
 //!
-//! They stand beside the crate, so that it is proved once, without its tests.
+//! They are in a crate of their own, so that the crate is proved once, without its tests.
 #![tactic(auto)]
 
 // Blocks that lead to blocks, as lists.

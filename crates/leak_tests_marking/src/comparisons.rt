@@ -5,12 +5,12 @@
 use std::fmt::Debug;
 use std::process::Abort;
 
-/// Ends the test where the two differ.
+/// Ends the test if the two differ.
 pub fn same<T: Copy + PartialEq + Debug>(rt: &impl Abort, found: T, wanted: T) {
     assert_eq!(rt; found, wanted);
 }
 
-/// Ends the test where the two differ, and names the case.
+/// Ends the test if the two differ, and names the case.
 pub fn same_in<C: Debug, T: Copy + PartialEq + Debug>(
     rt: &impl Abort,
     case: &C,

@@ -1,3 +1,5 @@
+//! Pages of two cores that differ.
+
 use crate::comparisons::same;
 use leak_blocks::{Live, replay};
 use leak_dirty::{carry, differing};

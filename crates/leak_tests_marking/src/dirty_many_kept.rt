@@ -1,3 +1,4 @@
+//! Two cores with many kept blocks.
 ghost use Rattle.leak_elf.specs.Words.{word_of};
 ghost use Rattle.leak_elf.specs.Aligned.{aligned_words};
 
@@ -18,7 +19,7 @@ const KEPT: u64 = 2048;
 /// Where the last of them ends.
 const END: u64 = 0x18000;
 
-/// The words of a core, with a count of those of the kept blocks that are asked for.
+/// The words of a core, with a count of those of the kept blocks that are read.
 #[derive(Drop)]
 struct Counting<'a> {
     image: &'a Image<'a>,

@@ -1,3 +1,4 @@
+//! Claims of the first core that are traced in the second.
 ghost use Rattle.leak_elf.specs.Words.{word_of};
 ghost use Rattle.leak_elf.specs.Aligned.{aligned_words};
 
@@ -11,7 +12,7 @@ use std::alloc::Global;
 use std::sync::atomic::{AtomicU64, Ordering};
 use std::test::Fail;
 
-/// The words of a core, with a count of those of two blocks that are asked for: of 32 bytes at 0x10100 and of 16 at
+/// The words of a core, with a count of those of two blocks that are read: of 32 bytes at 0x10100 and of 16 at
 /// 0x10200.
 #[derive(Drop)]
 struct Counting<'a> {
@@ -46,7 +47,7 @@ impl<'a> Words for Counting<'a> {
     ghost aligned = { λ counting. aligned_words counting.image.now };
 }
 
-/// Marks again in the later of two cores, by one worker, where all blocks of the earlier log were marked or none.
+/// Marks again in the later of two cores, by one worker, after all blocks of the earlier log were marked or none.
 fn traced<R: std::thread::Threads + Sync>(
     rt: &R,
     alloc: Global,

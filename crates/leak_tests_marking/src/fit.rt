@@ -1,3 +1,5 @@
+//! Blocks that fit the heap of a core.
+
 use leak_blocks::replay;
 use leak_elf::{Image, core_k};
 use leak_fit::{count_misfits, fits};
@@ -5,7 +7,7 @@ use leak_mtrace::Log;
 use std::alloc::Global;
 use std::test::Fail;
 
-/// How far after its file offset a word of the sample's segment has its address.
+/// The address of a word of the sample's segment, less its file offset.
 const SHIFT: u64 = 0xf000;
 
 /// The bytes of the sample core with the words set.

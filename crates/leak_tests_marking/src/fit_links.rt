@@ -52,7 +52,7 @@ fn links_to_the_chunk_after_a_block(rt: HostRuntime) -> Result<(), Fail> {
         (0x31, (0x10008, 0x10120), (0x10128, 0xee0), Hits::One(0)),
         (0x31, (0x10008, 0x10120), (0x10128, 0xee3), Hits::One(0)),
         (0x31, (0x10008, 0x10120), (0x10128, 0xed1), Hits::One(0)),
-        // a top whose end is past the last address ends where a page does
+        // a top whose end is past the last address ends with a page
         (0x31, (0x10008, 0x10120), (0x10128, PAST), Hits::Zero),
         // a pointer into the block's last bytes
         (0x31, (0x10008, 0x10120), (0x10128, 0), Hits::One(0)),
@@ -167,7 +167,7 @@ fn both_words_of_a_lists_head_are_links(rt: HostRuntime) -> Result<(), Fail> {
     Ok(())
 }
 
-/// The words of a core, which counts the words that it is asked for.
+/// The words of a core, which counts the words that are read.
 #[derive(Drop)]
 struct Counted<'a> {
     image: &'a Image<'a>,

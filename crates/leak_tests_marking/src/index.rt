@@ -1,3 +1,5 @@
+//! Blocks that a word leads to.
+
 use crate::comparisons::{same, same_in};
 use crate::samples::lives;
 use leak_index::{Hits, Lookup, Paged, Reading, ReadingError, Sorted};

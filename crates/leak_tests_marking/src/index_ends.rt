@@ -1,3 +1,5 @@
+//! Words that lead to a block if ends are left out.
+
 use crate::index::check;
 use leak_index::{Hits, Reading};
 use std::test::Fail;

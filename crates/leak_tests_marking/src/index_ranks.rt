@@ -1,4 +1,4 @@
-//! Lookups where blocks start at multiples of 16, and where they don't.
+//! Lookups if blocks start at multiples of 16, and if they don't.
 use crate::comparisons::{same, same_in};
 use crate::index::check;
 use crate::samples::lives;
@@ -8,7 +8,7 @@ use std::alloc::{AllocError, Global};
 use std::process::Abort;
 use std::test::Fail;
 
-/// Adds so many blocks to a log, the distance apart, of the three sizes by turns.
+/// Adds `many` blocks to a log, the distance apart, of the three sizes by turns.
 fn add(
     log: &mut String,
     start: u64,
@@ -37,7 +37,7 @@ static RANGES: [(u64, u64, u64, [u64; 3]); 5] = [
     (0x7fc0_0000_03f0, 0x10, 100, [0x10, 0x10, 0x10]),
 ];
 
-/// The log of these ranges. They start so many bytes past a multiple of 16.
+/// The log of these ranges. They start `offset` bytes past a multiple of 16.
 fn ranges(alloc: Global, offset: u64) -> Result<String, AllocError> {
     let mut log = String::new(alloc);
     for (start, distance, many, sizes) in &RANGES {

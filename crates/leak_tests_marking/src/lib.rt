@@ -1,6 +1,6 @@
 //! Tests of the crates that find roots, look blocks up and mark them, crate by crate.
 //!
-//! They stand beside those crates, so that the crates are proved once, without their tests.
+//! They are in a crate of their own, so that those crates are proved once, without their tests.
 #![tactic(auto)]
 
 // Comparisons that end a test.
@@ -15,11 +15,11 @@ mod samples;
 #[cfg(test)]
 mod index;
 
-// Lookups where blocks start at multiples of 16, and where they don't.
+// Lookups if blocks start at multiples of 16, and if they don't.
 #[cfg(test)]
 mod index_ranks;
 
-// Words that lead to a block where ends are left out.
+// Words that lead to a block if ends are left out.
 #[cfg(test)]
 mod index_ends;
 
@@ -47,7 +47,7 @@ mod scan;
 #[cfg(test)]
 mod scan_roots;
 
-// How many words of a core a scan asks for.
+// How many words of a core a scan reads.
 #[cfg(test)]
 mod scan_counted;
 
@@ -63,7 +63,7 @@ mod pool;
 #[cfg(test)]
 mod dirty;
 
-// Claims that stay, where there are many.
+// Two cores with many kept blocks.
 #[cfg(test)]
 mod dirty_many_kept;
 

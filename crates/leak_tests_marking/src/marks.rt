@@ -1,3 +1,4 @@
+//! Mark bits and lists of claims.
 ghost use Rattle.std.specs.Prelude.{◌≡◌, ◌<◌, ◌≤◌, length, IfOk};
 
 use leak_marks::{Claims, MarkSeat, Marks};

@@ -1,3 +1,5 @@
+//! Root words.
+
 use crate::comparisons::{same, same_in};
 use leak_blocks::{Live, SmallSpans, replay};
 use leak_elf::{Image, core_k};

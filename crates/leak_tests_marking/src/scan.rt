@@ -1,3 +1,4 @@
+//! Blocks that the words of a range lead to.
 ghost use Rattle.std.specs.Prelude.{◌≡◌, IfOk, length};
 ghost use Rattle.leak_scan.specs.Targets.{targets_of, block_words};
 
@@ -35,7 +36,7 @@ fn mark_targets<W: Words, L: Lookup>(words: &W, lookup: &L, block: &Block, set: 
     }
 }
 
-/// A block that stands in no log.
+/// A block that is in no log.
 pub(crate) fn block(start: u64, size: u64) -> Block {
     Block {
         start,

@@ -1,4 +1,4 @@
-//! How many words of a core a scan asks for, one by one and in runs.
+//! How many words of a core a scan reads, one by one and in runs.
 ghost use Rattle.std.specs.Prelude.{◌≡◌, ℕ, List, Option};
 ghost use Rattle.leak_elf.specs.Words.{word_of};
 ghost use Rattle.leak_elf.specs.Aligned.{aligned_words};
@@ -12,7 +12,7 @@ use leak_scan::{BlockRuns, Pages, Targets, list_run};
 use std::cell::Cell;
 use std::test::Fail;
 
-/// The words of a core, which gives no runs and counts the words that it is asked for.
+/// The words of a core, which gives no runs and counts the words that are read.
 #[derive(Drop)]
 pub(crate) struct Counted<'a> {
     image: &'a Image<'a>,
@@ -27,7 +27,7 @@ impl<'a> Counted<'a> {
         }
     }
 
-    /// How many words it was asked for.
+    /// How many words were read.
     pub(crate) fn asked(&self) -> u64 {
         self.asked.get()
     }
@@ -48,7 +48,7 @@ impl<'a> Words for Counted<'a> {
     ghost aligned = { λ counted. aligned_words counted.image.now };
 }
 
-/// The words of a core, which gives the runs of the core, and counts them beside the words that it is asked for.
+/// The words of a core, which gives the runs of the core, and counts them together with the words that are read.
 #[derive(Drop)]
 struct CountedRuns<'a> {
     image: &'a Image<'a>,
@@ -86,7 +86,7 @@ impl<'a> Words for CountedRuns<'a> {
     ghost aligned = { λ counted. aligned_words counted.image.now };
 }
 
-/// Blocks that hold words whole and in part: start, size, and how many words they hold in the core.
+/// Blocks that hold words completely and in part: start, size, and how many words they hold in the core.
 const BLOCKS: [(u64, u64, u64); 12] = [
     (0x10104, 0x14, 2),
     (0x10104, 12, 1),
@@ -136,7 +136,7 @@ fn runs_are_taken_in_place_of_words(rt: HostRuntime) -> Result<(), Fail> {
     let image = Image::read(alloc, core.as_slice())?;
     let live = lives(alloc, "+ 0x20000 0x20\n")?;
     let lookup = Sorted::new(&live, Reading::interior());
-    // the words of an aligned block come in one run; before a run an unaligned one asks for a word
+    // the words of an aligned block come in one run; of an unaligned one a word is read before a run
     let cases = [
         (0x10100, 0x20, 0, 1),
         (0x10100, 8, 0, 1),

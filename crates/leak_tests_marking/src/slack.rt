@@ -1,3 +1,5 @@
+//! What malloc gives blocks past their size, and root words without that.
+
 use crate::comparisons::same;
 use crate::fit::core_with;
 use leak_blocks::{SmallSpans, Span, replay};
@@ -36,7 +38,7 @@ fn places_in_slack_are_no_roots(rt: HostRuntime) -> Result<(), Fail> {
 }
 
 /// A mapping of 32 bytes at 0x10100, whose slack ends at 0x101f0, and in it a block that has slack of its own, as malloc
-/// gives none; and one behind it.
+/// gives none; and one after it.
 #[test]
 fn slack_that_overlaps_is_one_span(rt: HostRuntime) -> Result<(), Fail> {
     let words = [

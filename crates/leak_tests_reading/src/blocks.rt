@@ -1,3 +1,5 @@
+//! Live blocks of a log.
+
 use crate::comparisons::same_in;
 use leak_blocks::{
     Block, Live, Replayed, SmallSpans, Span, replay, replay_bytes, replay_with_spans, small_spans,
@@ -18,7 +20,7 @@ fn counts_of(live: &Live, torn: u64) -> Counts {
     (live.unknown(), live.displaced(), torn)
 }
 
-/// Ends the test where the log comes to something else by its lines.
+/// Ends the test if the log comes to something else by its lines.
 fn agrees(rt: &impl Abort, alloc: Global, text: &str, found: &Replayed) -> Result<(), Fail> {
     let log = Log::read(alloc, text.as_bytes())?;
     let live = replay(alloc, &log)?;
@@ -29,7 +31,7 @@ fn agrees(rt: &impl Abort, alloc: Global, text: &str, found: &Replayed) -> Resul
     Ok(())
 }
 
-/// Ends the test where these are other blocks.
+/// Ends the test if these are other blocks.
 fn are(rt: &impl Abort, text: &str, blocks: &[Block], wanted: &[(u64, u64, usize)]) {
     same_in(rt, text, blocks.len(), wanted.len());
     for (block, row) in blocks.iter().zip(wanted) {
@@ -37,7 +39,7 @@ fn are(rt: &impl Abort, text: &str, blocks: &[Block], wanted: &[(u64, u64, usize
     }
 }
 
-/// Ends the test where the log comes to other live blocks or counts, by its bytes or by its lines.
+/// Ends the test if the log comes to other live blocks or counts, by its bytes or by its lines.
 fn comes_to(rt: &impl Abort, alloc: Global, case: &Case) -> Result<(), Fail> {
     let (text, blocks, counts) = *case;
     let found = replay_bytes(alloc, text.as_bytes())?;
@@ -46,7 +48,7 @@ fn comes_to(rt: &impl Abort, alloc: Global, case: &Case) -> Result<(), Fail> {
     agrees(rt, alloc, text, &found)
 }
 
-/// Ends the test where one of the logs comes to something else.
+/// Ends the test if one of the logs comes to something else.
 fn replays(rt: &impl Abort, alloc: Global, cases: &[Case]) -> Result<(), Fail> {
     for case in cases {
         comes_to(rt, alloc, case)?;
@@ -103,7 +105,7 @@ static ENDS: [Case; 6] = [
         (0, 0, 0),
     ),
     ("+ 0x100 0x10\n! 0x100 0x20\n", &[(0x100, 16, 1)], (0, 0, 0)),
-    // a give-back inside a block, or of nothing, ends none; the torn line is no line
+    // a give-back inside a block, or of nothing, ends none; the torn line is not a line
     (
         "+ 0x10100 0x20\n+ 0x10110 0x20\n- 0x10300\n- 0x10118\n- 0x10110",
         &[(0x10110, 32, 2)],
@@ -154,7 +156,7 @@ fn lives(alloc: Global, text: &str) -> Result<Live, Fail> {
     Ok(replay(alloc, &log)?)
 }
 
-/// Ends the test where the blocks of the log have other callers.
+/// Ends the test if the blocks of the log have other callers.
 fn have_callers(rt: &impl Abort, blocks: &[Block]) {
     for (block, caller) in blocks.iter().zip(&CALLERS) {
         let found = TWO.get(block.caller.0..block.caller.1);
@@ -175,7 +177,7 @@ fn sizes_and_callers(rt: HostRuntime) -> Result<(), Fail> {
     Ok(())
 }
 
-/// Appends allocations of the size, at so many addresses, each the step after the one before it.
+/// Appends `count` allocations of the size, the first at `from`, each the step after the one before it.
 fn allocate(text: &mut String, from: u64, step: u64, count: u64, size: u64) -> Result<(), Fail> {
     for i in 0..count {
         let addr = from.wrapping_add(step.wrapping_mul(i));
@@ -184,7 +186,7 @@ fn allocate(text: &mut String, from: u64, step: u64, count: u64, size: u64) -> R
     Ok(())
 }
 
-/// Appends give-backs at so many addresses, each the step after the one before it.
+/// Appends `count` give-backs, the first at `from`, each the step after the one before it.
 fn give_back(text: &mut String, from: u64, step: u64, count: u64) -> Result<(), Fail> {
     for i in 0..count {
         let addr = from.wrapping_add(step.wrapping_mul(i));
@@ -193,7 +195,7 @@ fn give_back(text: &mut String, from: u64, step: u64, count: u64) -> Result<(), 
     Ok(())
 }
 
-/// Ends the test where the log has another number of live blocks, or other counts, by its bytes or by its lines.
+/// Ends the test if the log has another number of live blocks, or other counts, by its bytes or by its lines.
 fn has_counts(
     rt: &impl Abort,
     alloc: Global,
@@ -237,7 +239,7 @@ fn nodes_made_over_and_over(rt: HostRuntime) -> Result<(), Fail> {
     has_counts(&rt, rt.alloc(), text.as_str(), 600 + 16 * 7, (2, 1, 0))
 }
 
-/// Ends the test where these are other ranges.
+/// Ends the test if these are other ranges.
 fn are_ranges(rt: &impl Abort, text: &str, ranges: &[Span], wanted: &[(u64, u64)]) {
     same_in(rt, text, ranges.len(), wanted.len());
     for (range, row) in ranges.iter().zip(wanted) {
@@ -248,7 +250,7 @@ fn are_ranges(rt: &impl Abort, text: &str, ranges: &[Span], wanted: &[(u64, u64)
 /// A log, and the ranges of its small allocations, as the first and the last address of each.
 type Ranges = (&'static str, &'static [(u64, u64)]);
 
-/// Ends the test where the small allocations have other ranges, by the lines of the log.
+/// Ends the test if the small allocations have other ranges, by the lines of the log.
 fn have_ranges_by_lines(rt: &impl Abort, alloc: Global, case: &Ranges) -> Result<(), Fail> {
     let log = Log::read(alloc, case.0.as_bytes())?;
     let spans = small_spans(alloc, &log)?;
@@ -256,7 +258,7 @@ fn have_ranges_by_lines(rt: &impl Abort, alloc: Global, case: &Ranges) -> Result
     Ok(())
 }
 
-/// Ends the test where the small allocations have other ranges, by the bytes of the log.
+/// Ends the test if the small allocations have other ranges, by the bytes of the log.
 fn have_ranges_by_bytes(rt: &impl Abort, alloc: Global, case: &Ranges) -> Result<(), Fail> {
     let (replayed, spans) = replay_with_spans(alloc, case.0.as_bytes())?;
     are_ranges(rt, case.0, spans.ranges(), case.1);
@@ -264,7 +266,7 @@ fn have_ranges_by_bytes(rt: &impl Abort, alloc: Global, case: &Ranges) -> Result
     Ok(())
 }
 
-/// Ends the test where the small allocations of a log have other ranges, by its lines or by its bytes.
+/// Ends the test if the small allocations of a log have other ranges, by its lines or by its bytes.
 fn have_ranges(rt: &impl Abort, alloc: Global, cases: &[Ranges]) -> Result<(), Fail> {
     for case in cases {
         have_ranges_by_lines(rt, alloc, case)?;

@@ -7,12 +7,12 @@ use std::fmt::{Debug, Display};
 use std::process::Abort;
 use std::test::Fail;
 
-/// Ends the test where the two differ.
+/// Ends the test if the two differ.
 pub fn same<T: Copy + PartialEq + Debug>(rt: &impl Abort, found: T, wanted: T) {
     assert_eq!(rt; found, wanted);
 }
 
-/// Ends the test where the two differ, and prints the case beside each.
+/// Ends the test if the two differ, and prints the case beside each.
 pub fn same_in<C: Copy + PartialEq + Debug, T: Copy + PartialEq + Debug>(
     rt: &impl Abort,
     case: C,
@@ -22,7 +22,7 @@ pub fn same_in<C: Copy + PartialEq + Debug, T: Copy + PartialEq + Debug>(
     same(rt, (case, found), (case, wanted));
 }
 
-/// Ends the test where one of the values prints another text than the one beside it.
+/// Ends the test if one of the values prints another text than the one beside it.
 pub fn print<T: Display>(rt: &impl Abort, alloc: Global, rows: &[(T, &str)]) -> Result<(), Fail> {
     for (value, wanted) in rows {
         let text = value.to_string(alloc)?;

@@ -97,7 +97,7 @@ fn refusal_of(alloc: Global, row: &Refusal) -> Result<Option<ElfError>, Fail> {
     Ok(refusal(alloc, core.as_slice()))
 }
 
-/// Ends the test where one of the cores is refused for another reason, and prints its number.
+/// Ends the test if one of the cores is refused for another reason, and prints its number.
 pub fn are_refused(rt: &impl Abort, alloc: Global, rows: &[Refusal]) -> Result<(), Fail> {
     for (i, row) in rows.iter().enumerate() {
         same_in(rt, i, refusal_of(alloc, row)?, row.4);

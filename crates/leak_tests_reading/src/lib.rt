@@ -1,6 +1,6 @@
 //! Tests of the crates that read a core and a log, crate by crate.
 //!
-//! They stand beside those crates, so that the crates are proved once, without their tests.
+//! They are in a crate of their own, so that those crates are proved once, without their tests.
 #![tactic(auto)]
 
 // Comparisons that end a test.

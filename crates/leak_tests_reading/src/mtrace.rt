@@ -1,13 +1,15 @@
+//! Lines of a log.
+
 use crate::comparisons::{print, same, same_in};
 use leak_mtrace::{Kind, Line, Log, LogError, Reader, parse_line};
 use std::alloc::Global;
 use std::process::Abort;
 use std::test::Fail;
 
-/// A line, and its kind, its address, its size and where its place stands.
+/// A line, and its kind, its address, its size and where its place is.
 type Row = (&'static str, Kind, u64, u64, (usize, usize));
 
-/// Ends the test where one of the lines is read as another.
+/// Ends the test if one of the lines is read as another.
 fn are_lines(rt: &impl Abort, rows: &[Row]) {
     for (text, kind, addr, size, caller) in rows {
         let line = Line {
@@ -140,7 +142,7 @@ const LOG: &str = "= Start\n\n@ ./a.out:[0x401136] + 0x1c502a0 0x48\n= End\n";
 
 static KINDS: [Kind; 4] = [Kind::Remark, Kind::Remark, Kind::Alloc, Kind::Remark];
 
-/// Ends the test where one of the lines is of another kind than those, or has another place than the allocation has.
+/// Ends the test if one of the lines is of another kind than those, or has another place than the allocation has.
 fn are_of_kinds(rt: &impl Abort, lines: &[Line]) {
     same(rt, lines.len(), KINDS.len());
     for (line, kind) in lines.iter().zip(&KINDS) {

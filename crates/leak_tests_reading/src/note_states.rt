@@ -1,3 +1,5 @@
+//! State entries.
+
 use crate::comparisons::same;
 use crate::cores::changed;
 use crate::notes::has_registers;
@@ -9,19 +11,19 @@ use std::test::Fail;
 const STATE: [(usize, &[u8]); 2] = [(532, b"\x06\0\0\0"), (544, b"LINUX\0")];
 
 /// Sizes of the descriptor, which begins at 552, and of the part of notes; the file offset of a word; how many registers there are,
-/// and the number of the one that has the word, or that number where none has.
+/// and the number of the one that has the word, or that number if none has.
 static PLACES: [(u64, u64, usize, usize, usize); 6] = [
     // The first and the last word of a processor that has AVX-512, and the end of the header.
     (2696, 3072, 552 + 576, 292, 27),
     (2696, 3072, 552 + 2688, 292, 291),
     (2696, 3072, 552 + 568, 292, 292),
-    // One word, and no whole one.
+    // One word, and no complete one.
     (590, 966, 552 + 584, 28, 28),
     (580, 956, 552 + 576, 27, 27),
     (0, 376, 552, 27, 27),
 ];
 
-/// The sizes of the part of notes and of the descriptor, the latter with the entry's type behind it.
+/// The sizes of the part of notes and of the descriptor, the latter with the entry's type after it.
 fn sizes(size: u64, part: u64) -> [(usize, u64); 2] {
     [(96, part), (536, 0x202_0000_0000 | size)]
 }

@@ -1,3 +1,5 @@
+//! Vector registers.
+
 use crate::comparisons::same;
 use crate::cores::changed;
 use crate::notes::{Refusal, STATUS, are_refused, has_registers};
@@ -12,7 +14,7 @@ const VECTOR: &[u8] = b"\x05\0\0\0\0\x02\0\0\x02\0\0\0CORE\0\0\0\0";
 /// The size of a part of notes of a thread status and a vector entry.
 const BOTH: (usize, u64) = (96, 888);
 
-/// A vector entry after the thread status of the sample: st0 to st7 and xmm0 to xmm15 stand from 584 to 968.
+/// A vector entry after the thread status of the sample: st0 to st7 and xmm0 to xmm15 are from 584 to 968.
 const SECOND: (usize, &[u8]) = (532, VECTOR);
 
 #[test]
@@ -20,7 +22,7 @@ fn a_vector_entry_has_48_words_and_is_no_thread(rt: HostRuntime) -> Result<(), F
     has_registers(&rt, rt.alloc(), &[BOTH], &[SECOND], 1, &[0; 75])
 }
 
-/// File offsets of words in a vector entry, and the numbers of the registers that have them: 75 where none has.
+/// File offsets of words in a vector entry, and the numbers of the registers that have them: 75 if none has.
 static HALVES: [(usize, usize); 12] = [
     // The lower and the upper half of st0, and the upper one of st7.
     (584, 27),
@@ -76,7 +78,7 @@ fn the_words_stand_in_the_order_of_the_entries(rt: HostRuntime) -> Result<(), Fa
 
 const VECTOR_SIZE: Option<NoteError> = Some(NoteError::VectorSize(532));
 
-/// Vector entries of another size, which stands at 536.
+/// Vector entries of another size, which is at 536.
 static WRONG: [Refusal; 6] = [
     (&[(96, 884)], &[SECOND, (536, &[0xfc, 1])], VECTOR_SIZE),
     (&[(96, 892)], &[SECOND, (536, &[4, 2])], VECTOR_SIZE),

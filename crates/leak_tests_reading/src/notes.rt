@@ -1,3 +1,5 @@
+//! Threads and their registers.
+
 use crate::comparisons::{print, same, same_in};
 use crate::cores::{BytesAt, WordsAt, changed};
 use leak_elf::Image;
@@ -24,7 +26,7 @@ fn refusal_of(alloc: Global, row: &Refusal) -> Result<Option<NoteError>, Fail> {
     refusal(alloc, core.as_slice())
 }
 
-/// Ends the test where the notes of one of the cores are refused for another reason, and prints its number.
+/// Ends the test if the notes of one of the cores are refused for another reason, and prints its number.
 pub(crate) fn are_refused(rt: &impl Abort, alloc: Global, rows: &[Refusal]) -> Result<(), Fail> {
     for (i, row) in rows.iter().enumerate() {
         same_in(rt, i, refusal_of(alloc, row)?, row.2);
@@ -32,7 +34,7 @@ pub(crate) fn are_refused(rt: &impl Abort, alloc: Global, rows: &[Refusal]) -> R
     Ok(())
 }
 
-/// Ends the test where the core has another number of threads, or other registers.
+/// Ends the test if the core has another number of threads, or other registers.
 fn has(
     rt: &impl Abort,
     alloc: Global,
@@ -47,7 +49,7 @@ fn has(
     Ok(())
 }
 
-/// Ends the test where the sample, once words and bytes are replaced, has another number of threads, or other registers.
+/// Ends the test if the sample, once words and bytes are replaced, has another number of threads, or other registers.
 pub(crate) fn has_registers(
     rt: &impl Abort,
     alloc: Global,
@@ -91,7 +93,7 @@ static LAST: [Refusal; 6] = [
     (&[(96, 356 + 15)], &[ENTRY], None),
     (&[(96, 356 + 16)], &[ENTRY], None),
     (&[(96, 356 + 17)], &[ENTRY], Some(NoteError::Cut(548))),
-    // The padding of a name may not be missing, even where no descriptor follows.
+    // The padding of a name may not be missing, even if no descriptor follows.
     (&[(96, 356 + 13)], &[NAMED], Some(NoteError::Cut(532))),
     (&[(96, 356 + 16)], &[NAMED], None),
 ];
@@ -164,7 +166,7 @@ fn the_parts_are_read_in_the_order_of_the_headers(rt: HostRuntime) -> Result<(),
     has_registers(&rt, rt.alloc(), &words, &entries, 2, &registers)
 }
 
-/// A core of five thousand threads. Its part of notes stands after the segment.
+/// A core of five thousand threads. Its part of notes follows the segment.
 fn of_many_threads(alloc: Global) -> Result<Vec<u8>, Fail> {
     let mut core = changed(alloc, &[(72, 8192), (96, 5_000 * 356)], &[])?;
     for _ in 0..5_000 {

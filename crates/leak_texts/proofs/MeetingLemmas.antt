@@ -27,7 +27,7 @@ same_text k q e = exact_bytes k.1.now q.1.now (second (nat_cmp k.0 q.0) (slice_c
     second Equal Greater h = cc
     second Greater p h = cc
 
--- and keys with one text are equal where their tails are
+-- and keys with one text are equal if their tails are
 same_key : (k q : Key) → k.1.now ≡ q.1.now → k.0 ≡ q.0 → is_eq (order_of_keys k q) ≡ true
 same_key k q text tail =
     ap (λ (n : ℕ). is_eq (ordering_then (nat_cmp k.0 n) (slice_cmp nat_cmp k.1.now q.1.now))) (sym tail)

@@ -70,7 +70,7 @@ stands texts sorted k d sort h =
     (subst (Contains (bytes_each texts)) (text_at_place texts k d h)
     (Contains-get_or (bytes_each texts) k [] (omega (arith, h, length-map texts (λ (s : Bor (List ℕ)). s.now)))))
 
--- texts that differ ascend strictly where they are sorted
+-- texts that differ ascend strictly once they are sorted
 pub strictly : (texts sorted : List (Bor (List ℕ))) → IsSortOf texts sorted
     → ((i j : ℕ) → i < length (bytes_each texts) → j < length (bytes_each texts) → text_with (bytes_each texts) i ≡ text_with (bytes_each texts) j → i ≡ j)
     → IsStrictlySortedBy (slice_cmp nat_cmp) (bytes_each sorted)

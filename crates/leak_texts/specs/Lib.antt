@@ -1,3 +1,4 @@
+-- The definitions of this crate, by subject.
 pub mod Numbered
 pub mod Meeting
 pub mod Laws

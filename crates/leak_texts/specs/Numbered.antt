@@ -15,7 +15,7 @@ bytes_each slices = map (λ s. s.now) slices
 abbrev pub text_with : List (List ℕ) → ℕ → List ℕ
 text_with texts n = slice_index_or texts n []
 
--- the texts stand in the order of their bytes, none of them twice; each is one of the given; and each given text has its
+-- the texts are in the order of their bytes, none of them twice; each is one of the given; and each given text has its
 -- place among them as its number
 pub record AreNumbered (given texts : List (List ℕ)) (numbers : List ℕ) : Type 0 where
   pub ascending : IsStrictlySortedBy (slice_cmp nat_cmp) texts

@@ -2,7 +2,7 @@
 ghost use Rattle.leak_texts.specs.Laws.{NumbersTell};
 ghost use Rattle.leak_texts.specs.Rows.{AreWorkedTexts};
 
-/// Numbers stand as their texts do: equal ones are of equal texts, and the lesser is of the text that comes first.
+/// Numbers compare as their texts do: equal ones are of equal texts, and the lesser is of the text that comes first.
 pub fn numbers_tell()
     ensures { NumbersTell }
 {}

@@ -1,8 +1,8 @@
 //! Texts by number.
 //!
 //! [`number_texts`] numbers the texts of the callers of live blocks, and [`number`] any texts: each once, in the order of their
-//! bytes. So equal numbers are equal texts, and numbers stand as their texts do. [`push_texts`] lists the texts of blocks, for who
-//! numbers those of two logs together. What the text of a caller is, is said in `leak_report`.
+//! bytes. So equal numbers are equal texts, and numbers compare as their texts do. [`push_texts`] lists the texts of blocks, for a
+//! caller that numbers those of two logs together. `leak_report` says what the text of a caller is.
 //!
 //! The contracts don't say how long it takes.
 #![tactic(auto)]

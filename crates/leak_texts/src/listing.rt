@@ -27,7 +27,7 @@ pub fn push_texts<'a>(
 
 /// Numbers the texts of the callers of blocks, whose ranges are of the log, in the order of their bytes.
 ///
-/// While it runs it takes 24 bytes for each block, and for each text some eighty.
+/// While it runs it takes 24 bytes for each block, and about 80 for each text.
 pub fn number_texts<'a>(
     alloc: Global,
     blocks: &[Block],

@@ -11,7 +11,7 @@ use std::collections::BTreeMap;
 /// The tail of a text, and the text: few texts are compared.
 type Key<'a> = (u64, &'a [u8]);
 
-/// The number of a text, which is the next one where the text is new.
+/// The number of a text, which is the next one if the text is new.
 fn meet<'a>(
     numbers: &mut BTreeMap<Key<'a>, u32>,
     texts: &mut Vec<&'a [u8]>,

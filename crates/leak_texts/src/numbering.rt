@@ -62,7 +62,7 @@ fn renumbered(alloc: Global, numbers: &[u32], places: &[u32]) -> Result<Vec<u32>
 
 /// Numbers texts in the order of their bytes.
 ///
-/// While it runs it takes eight bytes for each given text, and for each text, counted once, some eighty.
+/// While it runs it takes eight bytes for each given text, and about 80 for each text, counted once.
 pub fn number<'a>(alloc: Global, given: &[&'a [u8]]) -> Result<Texts<'a>, AllocError>
     requires { length given.now < 2 ^ 32 }
     ensures { IfOk result (λ numbered. AreNumbered (bytes_each given.now)

@@ -69,7 +69,7 @@ of_block es b h =
 pub blocks-append : (xs ys : List Entry) → blocks_of (xs ++ ys) ≡ blocks_of xs ++ blocks_of ys
 blocks-append xs ys = map-append (λ e. e.block) xs ys
 
--- in a list without repeats a number stands at one place
+-- in a list without repeats a number is at one place
 twice : (x : ℕ) (xs : List ℕ) (j : ℕ) → IsDistinct (x ∷ xs) → j < length xs → x ≡ get_or xs j 0 → ⊥
 twice x xs j once k e =
     let there : Has xs x = subst (λ (y : ℕ). Has xs y) (sym e) (has_at xs j 0 k) in

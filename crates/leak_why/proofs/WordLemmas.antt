@@ -102,13 +102,13 @@ target_leading word_at index from to block h =
     let low = r.0 in let high = r.1 in
     (q.0, p.0, record { from_start = low; to_end = omega arith; word_is = q.2; leads = p.2 })
 
--- where none leads to the block, it is no target
+-- if none leads to the block, it is no target
 pub none_target : (word_at : ℕ → Option ℕ) (index : Index) (from to block : ℕ) → NoneLeads false word_at index from to to block → Has (targets_of index (words_between word_at from to)) block → ⊥
 none_target word_at index from to block none h =
     let p : (a : ℕ) × (w : ℕ) × IsLeading false word_at index from to block a w = target_leading word_at index from to block h in
     none p.0 p.1 (let e = p.2.to_end in omega arith) p.2
 
--- and where none of a list does
+-- and if none of a list does
 pub none_listed : (index : Index) (words : List ℕ) (block : ℕ) → ((i : ℕ) → i < length words → ¬ Has (hits_of index (get_or words i 0)) block) → Has (targets_of index words) block → ⊥
 unfolding targets_of
 none_listed index words block none h =
@@ -166,7 +166,7 @@ of_steps (suc n) from base a h = ⊎_elim
     (λ r. let p : (base + 8 * (from + 1) ≤ a) × (a + 8 ≤ base + 8 * (from + 1 + n)) = of_steps n (from + 1) base a r in let l = p.0 in let m = p.1 in (omega arith, omega arith))
     (at_head (base + 8 * from) (map (λ i. base + 8 * i) (range_with_len (from + 1) n)) a h)
 
--- where none of a range leads to the block, its root words don't
+-- if none of a range leads to the block, its root words don't
 pub none_place : (skips_links : Bool) (word_at : ℕ → Option ℕ) (index : Index) (r : ℕ × ℕ) (block : ℕ) → NoneLeads skips_links word_at index r.0 r.1 r.1 block
     → Has (led_in_memory skips_links word_at index (addresses_in r)) block → ⊥
 none_place skips_links word_at index r block none h =

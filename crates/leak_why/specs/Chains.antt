@@ -1,4 +1,4 @@
--- Chains of words that hold a block (bdwgc: an object is kept where a chain of pointers leads to it from a root), and
+-- Chains of words that hold a block (bdwgc: an object is kept if a chain of pointers leads to it from a root), and
 -- the shortest of them.
 use Rattle.std.specs.Prelude.{◌≡◌, ℕ, ◌+◌, ◌≤◌, List, [], ◌∷◌, length, Option, Some, None, slice_get}
 use Rattle.leak_blocks.specs.declared.block.Block.{Block}
@@ -18,12 +18,12 @@ use Rattle.leak_why.specs.Leading.{led_by}
 abbrev pub search_graph : (ℕ → Option ℕ) → Index → Places → Graph
 search_graph word_at index p = graph_of word_at index (led_by_roots word_at index p) []
 
--- the root word stands at the place
+-- the root word is at the place
 abbrev pub StandsAt : (ℕ → Option ℕ) → Places → ℕ → RootPlace → Type 0
 StandsAt word_at p word (Register i) = slice_get p.registers i ≡ Some word
 StandsAt word_at p word (Address a) = Has (memory_places p.memory) a × (word_at a ≡ Some word)
 
--- the blocks that the root word at the place leads to: in memory without links to free chunks, where they are left out
+-- the blocks that the root word at the place leads to: in memory without links to free chunks, if they are left out
 abbrev pub led_at : (ℕ → Option ℕ) → Index → Places → ℕ → RootPlace → List ℕ
 led_at word_at index p word (Register i) = hits_of index word
 led_at word_at index p word (Address a) = led_by p.skips_links word_at index a word
@@ -47,7 +47,7 @@ pub record IsLink (word_at : ℕ → Option ℕ) (index : Index) (link : Link) (
   pub leads : Has (hits_of index link.word) block
 
 -- the links lead from the last link's holder to the block, and the root word leads to that holder, or to the block
--- itself where there is no link
+-- itself if there is no link
 abbrev pub IsChain : (ℕ → Option ℕ) → Index → Places → RootWord → List Link → ℕ → Type 0
 IsChain word_at index p root [] block = IsRoot word_at index p root block
 IsChain word_at index p root (link ∷ links) block =
@@ -59,7 +59,7 @@ pub record IsShortest (word_at : ℕ → Option ℕ) (index : Index) (p : Places
   pub shortest : (root : RootWord) (links : List Link) → IsChain word_at index p root links block
       → length chain.links.items ≤ length links
 
--- a shortest chain to the block, or none where there is no chain to it
+-- a shortest chain to the block, or none if there is no chain to it
 abbrev pub IsWhy : (ℕ → Option ℕ) → Index → Places → ℕ → Option Chain → Type 0
 IsWhy word_at index p block (Some chain) = IsShortest word_at index p block chain
 IsWhy word_at index p block None = (root : RootWord) (links : List Link) → ¬ IsChain word_at index p root links block

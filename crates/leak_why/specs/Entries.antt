@@ -37,12 +37,12 @@ abbrev pub IsOrigin : Places → Origin → Type 0
 IsOrigin p Registers = ⊤
 IsOrigin p (Range i) = i < length p.memory
 
--- where a root word led to an entry, a word of its origin did
+-- if a root word led to an entry, a word of its origin did
 abbrev pub AreLedByRoots : (ℕ → Option ℕ) → Index → Places → List Entry → Type 0
 AreLedByRoots word_at index p es = (i : ℕ) (e : Entry) (o : Origin) → slice_get es i ≡ Some e → e.source ≡ Root o
     → IsOrigin p o × Has (led_of_origin word_at index p o) e.block
 
--- where an earlier entry did, a word of its block did
+-- if an earlier entry did, a word of its block did
 abbrev pub IsLedBy : (ℕ → Option ℕ) → Index → List Entry → ℕ → Entry → Type 0
 IsLedBy word_at index es j e = (s : Entry) × (slice_get es j ≡ Some s) × (s.block < length index.blocks)
     × ((d : Block) → Has (block_targets word_at index (slice_index_or index.blocks s.block d)) e.block)
@@ -51,12 +51,12 @@ abbrev pub AreLedByBlocks : (ℕ → Option ℕ) → Index → List Entry → Ty
 AreLedByBlocks word_at index es = (i j : ℕ) (e : Entry) → slice_get es i ≡ Some e → e.source ≡ Earlier j
     → (j < i) × IsLedBy word_at index es j e
 
--- so many steps back from the entry with the number stands one that a root word led to
+-- this many steps back from the entry with the number is one that a root word led to
 abbrev pub IsAt : List Entry → ℕ → ℕ → Type 0
 IsAt es zero i = (e : Entry) × (o : Origin) × (slice_get es i ≡ Some e) × (e.source ≡ Root o)
 IsAt es (suc d) i = (e : Entry) × (j : ℕ) × (slice_get es i ≡ Some e) × (e.source ≡ Earlier j) × IsAt es d j
 
--- an entry of the block is no more steps away than so many
+-- an entry of the block is no more than `most` steps away
 pub record IsNear (es : List Entry) (most block : ℕ) : Type 0 where
   pub number : ℕ
   pub entry : Entry

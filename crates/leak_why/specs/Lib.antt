@@ -1,3 +1,4 @@
+-- The definitions of this crate, by subject.
 pub mod Asked
 pub mod Leading
 pub mod Chains

@@ -38,14 +38,14 @@ vector_number i = if nat_lt i 16 then i / 2 else (i - 16) / 2
 abbrev pub vector_name : ℕ → List ℕ
 vector_name i = vector_kind i ++ (decimal (vector_number i) ++ (codes " " ++ half_name i))
 
--- a word of a state entry by its offset in the descriptor: the first stands at 576
+-- a word of a state entry by its offset in the descriptor: the first is at 576
 abbrev pub state_name : ℕ → List ℕ
 state_name i = codes "state " ++ decimal (576 + 8 * i)
 
 abbrev pub of_thread : ℕ → List ℕ
 of_thread thread = codes " of thread " ++ decimal thread
 
--- The register word with the number, where so many threads stand before these sets. Threads count from 1 in the order of
+-- The register word with the number, if this many threads come before these sets. Threads count from 1 in the order of
 -- their statuses, and a word of a vector entry or a state entry is of the thread whose status came last.
 abbrev pub register_text : ℕ → List RegisterSet → ℕ → List ℕ
 register_text threads [] i = codes "?" ++ of_thread threads

@@ -13,9 +13,9 @@ use leak_index::Lookup;
 use leak_roots::Roots;
 use std::alloc::{AllocError, Global};
 
-/// A shortest chain of words from the roots to the block with the number. None where no chain leads to it: the block is
-/// leaked. Where the roots leave out malloc's links to free chunks, a root word in memory that is such a link begins no
-/// chain at the block past which it is one.
+/// A shortest chain of words from the roots to the block with the number. None if no chain leads to it: the block is
+/// leaked. If the roots leave out malloc's links to free chunks, a root word in memory that is such a link as far as a
+/// block goes begins no chain at that block.
 ///
 /// It goes once over the root words and the words of all blocks that chains reach, and then again over the words of the
 /// chain's blocks, and of one range of the roots, up to those of the chain.

@@ -1,6 +1,6 @@
 //! Chains of words that hold a block.
 
-/// Where a root word stands.
+/// Where a root word is.
 #[derive(Clone, Copy, Debug, PartialEq, Eq)]
 pub enum RootPlace {
     /// The register word with the number, counted from 0 over all threads.
@@ -9,7 +9,7 @@ pub enum RootPlace {
     Address(u64),
 }
 
-/// A root word, and where it stands.
+/// A root word, and where it is.
 #[derive(Clone, Copy, Debug, PartialEq, Eq)]
 pub struct RootWord {
     pub place: RootPlace,
@@ -30,7 +30,7 @@ pub struct Link {
 /// A chain of words from a root to a block, told from the block back to the root.
 #[derive(Debug, Drop)]
 pub struct Chain {
-    /// The first leads to the block itself, each next to the holder of the one before. None where the root word leads to
+    /// The first leads to the block itself, each next to the holder of the one before. None if the root word leads to
     /// the block.
     pub links: Vec<Link>,
     /// The root word, which leads to the holder of the last link.

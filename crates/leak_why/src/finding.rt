@@ -67,7 +67,7 @@ pub(crate) fn first_word<W: Words, L: Lookup>(
     None
 }
 
-/// The blocks that the root word at the address leads to, without links to free chunks where the roots leave them out.
+/// The blocks that the root word at the address leads to, without links to free chunks if the roots leave them out.
 fn hits_at<W: Words, L: Lookup>(
     words: &W,
     lookup: &L,

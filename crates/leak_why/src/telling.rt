@@ -18,13 +18,13 @@ const VECTOR_HALVES: usize = 48;
 /// How many of them, the first, are of the eight x87 or MMX registers.
 const X87_HALVES: usize = 16;
 
-/// Where the first word of a state entry stands in its descriptor, in bytes.
+/// Where the first word of a state entry is in its descriptor, in bytes.
 const STATE_AT: usize = 576;
 
 /// The size in bytes of a word.
 const WORD_SIZE: usize = 8;
 
-/// Tells the block with the number, and then that it leaked where there is no chain, and otherwise the chain from its
+/// Tells the block with the number, and then that it leaked if there is no chain, and otherwise the chain from its
 /// root on: a line for the root word, then by turns one for a block and one for its word that leads on, the block itself
 /// the last. The sets are those of the core's register words, and the log's bytes are those that the callers are ranges of.
 pub fn text(
@@ -72,7 +72,7 @@ fn push_root(
     Ok(())
 }
 
-/// Appends where a root word stands.
+/// Appends where a root word is.
 fn push_place(buffer: &mut String, sets: &[RegisterSet], place: RootPlace) -> Result<(), AllocError>
     ensures { OnOk result (string_bytes buffer.new ≡ string_bytes buffer.old
         ++ place_text sets.now place) }

@@ -4,7 +4,7 @@ use crate::comparisons::same;
 use leak_report::{Signs, warnings};
 use std::test::Fail;
 
-/// Nothing odd, of so many live blocks.
+/// Nothing odd, of this many live blocks.
 fn signs(live: u64) -> Signs {
     Signs {
         live,

@@ -10,7 +10,7 @@ use leak_scan::Pages;
 use std::alloc::Global;
 use std::test::Fail;
 
-/// Where `rbx` of the sample core's thread stands: at byte 348 of the file.
+/// Where `rbx` of the sample core's thread is: at byte 348 of the file.
 const RBX: u64 = 0xf15c;
 
 /// Whether each way to mark marks just these blocks, of the words with links to free chunks or without them.

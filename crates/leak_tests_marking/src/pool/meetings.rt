@@ -25,7 +25,7 @@ struct Meeting<'a> {
 }
 
 impl<'a> Meeting<'a> {
-    /// How often the word was asked for.
+    /// How often the word was read.
     fn reads(&self, addr: u64) -> u64 {
         let at = (addr.wrapping_sub(0x10000) / 8) as usize;
         match self.reads.as_slice().get(at) {
@@ -34,7 +34,7 @@ impl<'a> Meeting<'a> {
         }
     }
 
-    /// Waits until the word has been asked for.
+    /// Waits until the word has been read.
     fn wait_for(&self, addr: u64) {
         for _ in 0..TURNS {
             if self.reads(addr) != 0 {

@@ -133,7 +133,7 @@ fn section_headers_of_other_cores_are_not_looked_at(rt: HostRuntime) -> Result<(
     are_accepted(&rt, rt.alloc(), &UNREAD)
 }
 
-/// Words of a core of seventy thousand program headers, which stand after the sample. The first two are those of the sample.
+/// Words of a core of seventy thousand program headers, which follow the sample. The first two are those of the sample.
 const SEVENTY_THOUSAND: [(usize, u64); 12] = [
     (32, 8192),
     (40, 600),

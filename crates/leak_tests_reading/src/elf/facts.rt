@@ -25,21 +25,21 @@ pub(crate) const PART: NotePart = NotePart {
 /// Addresses, and what an accepted core answers for each.
 pub(crate) type Answers<'a> = &'a [(u64, Option<u64>)];
 
-/// Ends the test where the words at addresses are others.
+/// Ends the test if the words at addresses are others.
 fn has_words(rt: &impl Abort, image: &Image, words: Answers) {
     for (addr, word) in words {
         same_in(rt, *addr, image.word(*addr), *word);
     }
 }
 
-/// Ends the test where the first addresses of words from addresses on are others.
+/// Ends the test if the first addresses of words from addresses on are others.
 pub(crate) fn has_nexts(rt: &impl Abort, image: &Image, nexts: Answers) {
     for (from, next) in nexts {
         same_in(rt, *from, image.next(*from), *next);
     }
 }
 
-/// Ends the test where a segment or a part of notes has fewer bytes than it says, or more.
+/// Ends the test if a segment or a part of notes has fewer bytes than it says, or more.
 fn has_bytes(rt: &impl Abort, image: &Image) {
     for i in 0..image.segments().len() {
         let len = image.bytes_of(i).len() as u64;
@@ -51,7 +51,7 @@ fn has_bytes(rt: &impl Abort, image: &Image) {
     }
 }
 
-/// What is told of an accepted core.
+/// The facts of an accepted core.
 #[derive(Clone, Copy)]
 pub(crate) struct Facts<'a> {
     /// Its segments, by address.
@@ -66,7 +66,7 @@ pub(crate) struct Facts<'a> {
     pub(crate) nexts: Answers<'a>,
 }
 
-/// Ends the test where the core is refused, or has other facts.
+/// Ends the test if the core is refused, or has other facts.
 pub(crate) fn has_facts(
     rt: &impl Abort,
     alloc: Global,
@@ -86,13 +86,13 @@ pub(crate) fn has_facts(
 /// A core that is [`made`] so, and its facts.
 pub(crate) type Accepted = (usize, usize, WordsAt<'static>, Facts<'static>);
 
-/// Ends the test where the core is refused, or has other facts.
+/// Ends the test if the core is refused, or has other facts.
 fn has(rt: &impl Abort, alloc: Global, row: &Accepted) -> Result<(), Fail> {
     let core = made(alloc, row.0, row.1, row.2, &[])?;
     has_facts(rt, alloc, core.as_slice(), &row.3)
 }
 
-/// Ends the test where one of the cores is refused, or has other facts.
+/// Ends the test if one of the cores is refused, or has other facts.
 pub(crate) fn are_accepted(rt: &impl Abort, alloc: Global, rows: &[Accepted]) -> Result<(), Fail> {
     for row in rows {
         has(rt, alloc, row)?;

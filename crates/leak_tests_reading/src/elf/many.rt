@@ -80,7 +80,7 @@ fn row(alloc: Global) -> Result<Vec<u8>, Fail> {
 /// test would run past the minute that it has.
 const ROUNDS: usize = 32;
 
-/// Ends the test where the next word from some segment of the row on is another than the last segment's.
+/// Ends the test if the next word from some segment of the row on is another than the last segment's.
 fn skips_the_row(rt: &impl Abort, image: &Image) {
     for _ in 0..ROUNDS {
         for i in 0..0xfffe_u64 {

@@ -107,7 +107,7 @@ const DROPPED: Facts = Facts {
     nexts: &[],
 };
 
-/// It lies inside another, and shares no address with it. At the last address it doesn't wrap.
+/// Such a segment lies inside another, and shares no address with it. At the last address it doesn't wrap.
 static WITHOUT_ADDRESSES: [Accepted; 2] = [
     (64, SAMPLE, three!(0, 0x10800, 0, 0), DROPPED),
     (64, SAMPLE, three!(0, 0xffff_ffff_ffff_ffff, 0, 0), DROPPED),

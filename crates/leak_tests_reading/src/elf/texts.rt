@@ -1,4 +1,4 @@
-//! What a refusal print.
+//! What a refusal prints.
 
 use crate::comparisons::print;
 use leak_elf::ElfError;

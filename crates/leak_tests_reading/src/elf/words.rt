@@ -33,7 +33,7 @@ static PARTS: Facts = Facts {
     nexts: &[],
 };
 
-/// Ends the test where the core is refused, or the parts begin otherwise.
+/// Ends the test if the core is refused, or the parts begin otherwise.
 fn begins(rt: &impl Abort, alloc: Global, core: &[u8]) -> Result<(), Fail> {
     let image = Image::read(alloc, core)?;
     assert!(rt; begins_as_the_sample(&image));
@@ -47,7 +47,7 @@ fn the_parts_of_the_sample(rt: HostRuntime) -> Result<(), Fail> {
     begins(&rt, rt.alloc(), core.as_slice())
 }
 
-/// Words of the sample core, with the address of each. The later of two at one address stands there.
+/// Words of the sample core, with the address of each. Of two at one address the later counts.
 const WORDS: [(u64, u64); 3] = [(0x10008, 0x10100), (0x10010, 7), (0x10008, 0x10200)];
 
 /// The facts of the sample core with these words.
@@ -70,7 +70,7 @@ static FACTS: Facts = Facts {
     ],
 };
 
-/// Ends the test where the run of the core from 0x10008 on has not all bytes, or others before the tenth.
+/// Ends the test if the run of the core from 0x10008 on has not all bytes, or others before the tenth.
 fn has_its_run(rt: &impl Abort, alloc: Global, core: &[u8]) -> Result<(), Fail> {
     let image = Image::read(alloc, core)?;
     let run = image.run(0x10008);
@@ -142,7 +142,7 @@ fn short_segments(alloc: Global) -> Result<Vec<u8>, Fail> {
     Ok(core)
 }
 
-/// Ends the test where the core is refused, or its next words are others.
+/// Ends the test if the core is refused, or its next words are others.
 fn skips(rt: &impl Abort, alloc: Global, core: &[u8]) -> Result<(), Fail> {
     let image = Image::read(alloc, core)?;
     has_nexts(rt, &image, &NEXTS);

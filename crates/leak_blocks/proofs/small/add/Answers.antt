@@ -1,3 +1,4 @@
+-- From the lemmas of SmallLemmas.
 use Rattle.std.proofs.Common.{◌≤◌, ◌||◌, List, append-nil, ap, sym, subst, ◌∙◌}
 use Rattle.leak_blocks.specs.declared.small.Span.{Span}
 use Rattle.leak_blocks.specs.Small.{holds, is_covered, AreSpans}

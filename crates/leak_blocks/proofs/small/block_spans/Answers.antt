@@ -1,3 +1,4 @@
+-- From the lemmas of SmallLemmas and OrderLemmas.
 use Rattle.std.proofs.Common.{◌||◌, ap, ◌∙◌}
 use Rattle.leak_blocks.specs.declared.block.Block.{Block}
 use Rattle.leak_blocks.specs.declared.small.Span.{Span}

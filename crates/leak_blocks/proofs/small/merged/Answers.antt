@@ -1,3 +1,4 @@
+-- From the lemmas of SmallLemmas.
 use Rattle.std.proofs.Common.{arith, sym, subst, refl, List, get_or, ◌<◌}
 use Rattle.leak_blocks.specs.declared.small.Span.{Span}
 use Rattle.leak_blocks.specs.Small.{CoverSame}

@@ -1,3 +1,4 @@
+-- From the lemmas of SmallLemmas.
 use Rattle.std.proofs.Common.{rules, ◌≤◌}
 use Rattle.std.proofs.lemmas.List.Sorted.{IsNonDecreasingBy-from_sort_by_key, All-permutation}
 use Rattle.leak_blocks.specs.declared.small.Span.{Span}

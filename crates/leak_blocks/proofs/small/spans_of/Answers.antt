@@ -1,3 +1,4 @@
+-- From the lemmas of SmallLemmas.
 use Rattle.std.proofs.Common.{◌||◌, ap, sym, ◌∙◌}
 use Rattle.leak_mtrace.specs.declared.line.Line.{Line}
 use Rattle.leak_mtrace.specs.declared.line.Kind.TheVariants.{Alloc}

@@ -1,4 +1,4 @@
--- The blocks that aren't at their places are put in the place of the first, where all are live.
+-- The blocks that aren't at their places replace the first, if all are live.
 use Rattle.std.proofs.Common.{◌≡◌, ◌≤◌, ◌∙◌, sym, ap, subst, ℕ, List, ◌++◌, length, take, drop}
 use Rattle.std.proofs.lemmas.List.{with_items_is}
 use Rattle.leak_blocks.specs.declared.block.Block.{Block}

@@ -1,3 +1,4 @@
+-- From the lemmas of NumberLemmas and CarryLemmas.
 use Rattle.std.proofs.Common.{◌≡◌, ◌∙◌, ap, sym, ℕ, Bool, not, ◌∷◌, [], ◌++◌, if◌then◌else◌, get_or, List, subst, length, ◌<◌, ◌≤◌}
 use Rattle.std.proofs.lemmas.List.{take_all}
 use Rattle.leak_blocks.specs.declared.block.Block.{Block}

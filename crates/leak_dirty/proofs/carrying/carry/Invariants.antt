@@ -1,3 +1,4 @@
+-- The kept and the fresh blocks among those so far.
 use Rattle.std.proofs.Common.{◌≡◌, take, not}
 use Rattle.leak_dirty.specs.Kept.{numbers_from, has_line, has_marked_line}
 use Rattle.leak_dirty.proofs.carrying.carry.Given as goal

@@ -1,3 +1,4 @@
+-- From the lemmas of LineLemmas.
 use Rattle.std.proofs.Common.{◌∙◌}
 use Rattle.leak_dirty.proofs.LineLemmas.{found_is_listed}
 use Rattle.leak_dirty.proofs.carrying.is_listed.Goals as goal

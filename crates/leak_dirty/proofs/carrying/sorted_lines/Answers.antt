@@ -1,3 +1,4 @@
+-- From the lemmas of LineLemmas.
 use Rattle.std.proofs.Common.{◌∙◌, ap, sym, map, ◌==◌, ℕ, List}
 use Rattle.std.proofs.lemmas.List.{take_all}
 use Rattle.std.proofs.lemmas.List.Sorted.{IsNonDecreasingBy-from_sort, list_any-IsPermutation}

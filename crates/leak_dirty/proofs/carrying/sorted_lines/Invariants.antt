@@ -1,3 +1,4 @@
+-- The lines of the blocks so far.
 use Rattle.std.proofs.Common.{◌≡◌, map, take}
 use Rattle.leak_dirty.proofs.carrying.sorted_lines.Given as goal
 

@@ -1,3 +1,4 @@
+-- From the lemmas of LineLemmas.
 use Rattle.std.proofs.Common.{◌∙◌, ap, sym, ◌==◌, ℕ, List, Bool, arith, length, ◌<◌, take}
 use Rattle.std.specs.List.{list_any}
 use Rattle.std.proofs.lemmas.List.{take_all}

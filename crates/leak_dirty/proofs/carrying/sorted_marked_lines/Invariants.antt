@@ -1,3 +1,4 @@
+-- The lines of the marked blocks so far.
 use Rattle.std.proofs.Common.{◌≡◌, take}
 use Rattle.leak_dirty.proofs.LineLemmas.{marked_lines}
 use Rattle.leak_dirty.proofs.carrying.sorted_marked_lines.Given as goal

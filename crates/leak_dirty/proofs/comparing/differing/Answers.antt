@@ -1,3 +1,4 @@
+-- From the lemmas of PieceLemmas.
 use Rattle.std.proofs.Common.{◌≡◌, ◌∙◌, ap, sym, flat_map, true≢false}
 use Rattle.leak_elf.specs.Words.{word_of}
 use Rattle.leak_dirty.specs.Differing.{differs}

@@ -1,3 +1,4 @@
+-- From the lemmas of PieceLemmas.
 use Rattle.std.proofs.Common.{◌<◌, ◌≤◌, arith}
 use Rattle.leak_elf.specs.Words.{word_of}
 use Rattle.leak_dirty.specs.Differing.{differs}

@@ -1,3 +1,4 @@
+-- The pages so far that differ.
 use Rattle.std.proofs.Common.{◌≡◌, ◌-◌, ◌≤◌, max, filter}
 use Rattle.std.specs.List.{range_with_len}
 use Rattle.leak_elf.specs.Words.{word_of}

@@ -1,3 +1,4 @@
+-- The lists so far, one after the other.
 use Rattle.std.proofs.Common.{◌≡◌, take, flat_map}
 use Rattle.leak_dirty.proofs.comparing.joined.Given as goal
 

@@ -1,3 +1,4 @@
+-- By arithmetic, from what the calls promise.
 use Rattle.std.proofs.Common.{ℕ, List, [], subst, append-nil, arith}
 use Rattle.leak_elf.specs.Words.{word_of}
 use Rattle.leak_dirty.specs.Pieces.{IsCover}

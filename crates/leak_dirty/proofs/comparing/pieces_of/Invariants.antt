@@ -1,3 +1,4 @@
+-- The pieces so far hold all words up to their end.
 use Rattle.std.proofs.Common.{ℕ, ◌≤◌, ◌-◌, ◌^◌, List, ◌++◌}
 use Rattle.leak_elf.specs.Words.{word_of}
 use Rattle.leak_dirty.specs.Pieces.{IsCover}

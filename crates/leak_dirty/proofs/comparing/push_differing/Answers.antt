@@ -1,3 +1,4 @@
+-- From the lemmas of ByteLemmas, DifferLemmas and PieceLemmas.
 use Rattle.std.proofs.Common.{◌≡◌, ◌+◌, ◌*◌, ◌-◌, ◌<◌, ◌∙◌, refl, ap, sym, ℕ, Bool, List, [], ◌∷◌, ◌++◌, if◌then◌else◌, length, drop, take, arith}
 use Rattle.leak_elf.specs.Words.{word_of}
 use Rattle.leak_elf.specs.Aligned.{aligned_words}

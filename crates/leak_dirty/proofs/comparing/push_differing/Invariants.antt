@@ -1,3 +1,4 @@
+-- The pages so far that differ were added.
 use Rattle.std.proofs.Common.{◌≡◌, ◌++◌, filter}
 use Rattle.std.specs.List.{range_with_len}
 use Rattle.leak_elf.specs.Words.{word_of}

@@ -1,3 +1,4 @@
+-- From the lemmas of ByteLemmas.
 use Rattle.leak_dirty.proofs.ByteLemmas.{are_bytes, words_same, word_differs}
 use Rattle.leak_dirty.proofs.comparing.runs_differ.Goals as goal
 

@@ -1,3 +1,4 @@
+-- From the lemmas of DifferLemmas.
 use Rattle.std.proofs.Common.{◌∙◌, ap, sym, ℕ, ◌+◌, ◌*◌, ◌<◌, Option, arith}
 use Rattle.leak_elf.specs.Words.{word_of}
 use Rattle.leak_elf.specs.Aligned.{aligned_words}

@@ -1,3 +1,4 @@
+-- None of the words so far has changed.
 use Rattle.std.proofs.Common.{◌≡◌, ℕ, ◌+◌, ◌*◌, ◌<◌, false}
 use Rattle.leak_elf.specs.Words.{word_of}
 use Rattle.leak_dirty.specs.Differing.{is_changed}

@@ -1,4 +1,4 @@
--- A word of a kept block that stands in the earlier core too leads to a block that was marked there, or is fresh.
+-- A word of a kept block that is in the earlier core too leads to a block that was marked there, or is fresh.
 use Rattle.std.proofs.Common.{◌≡◌, ℕ, ◌<◌, ◌≤◌, Bool, true, false, ◌⊎◌, inl, inr, sym, subst, refl, ap, ◌∙◌, List, [], ◌++◌, length, Some, slice_get, arith, nat_lt, nltb→le}
 use Rattle.std.specs.Bool.{fails}
 use Rattle.leak_mtrace.specs.declared.line.Line.{Line}

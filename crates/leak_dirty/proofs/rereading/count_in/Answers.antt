@@ -1,3 +1,4 @@
+-- From the lemmas of CountLemmas.
 use Rattle.std.proofs.Common.{◌≡◌, ℕ, ◌+◌, ◌-◌, ◌*◌, ◌≤◌, length, arith}
 use Rattle.leak_scan.specs.Places.{words_from}
 use Rattle.leak_dirty.proofs.CountLemmas.{few_words, count_on_from, count_ends, found_words}

@@ -1,3 +1,4 @@
+-- From the lemmas of CountLemmas.
 use Rattle.std.proofs.Common.{◌≡◌, ◌∙◌, ap, ℕ, ◌+◌, ◌-◌, ◌≤◌, ◌<◌, min, length, arith}
 use Rattle.leak_scan.specs.Places.{words_from}
 use Rattle.leak_dirty.proofs.CountLemmas.{on_pages, none_on, few_words, count_ends, count_window, words_of_block}

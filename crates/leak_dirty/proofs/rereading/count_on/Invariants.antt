@@ -1,3 +1,4 @@
+-- The words so far on listed pages were counted; with those that are left they are all.
 use Rattle.std.proofs.Common.{◌≡◌, ◌≤◌, ◌+◌, ◌-◌, length}
 use Rattle.leak_scan.specs.Places.{words_from}
 use Rattle.leak_dirty.proofs.CountLemmas.{on_pages}

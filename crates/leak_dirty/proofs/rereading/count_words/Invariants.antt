@@ -1,3 +1,4 @@
+-- The words of the blocks so far were counted.
 use Rattle.std.proofs.Common.{◌≡◌, take}
 use Rattle.leak_dirty.specs.Differing.{reread_of}
 use Rattle.leak_dirty.proofs.rereading.count_words.Given as goal

@@ -1,3 +1,4 @@
+-- The parts of the blocks so far were added.
 use Rattle.std.proofs.Common.{◌≡◌, ◌++◌, map, take}
 use Rattle.leak_dirty.proofs.retracing.push_parts.Given as goal
 

@@ -1,3 +1,4 @@
+-- From the lemmas of StartLemmas.
 use Rattle.std.proofs.Common.{◌∙◌, ap, sym, subst, ℕ, List, length}
 use Rattle.leak_blocks.specs.declared.block.Block.{Block}
 use Rattle.leak_pool.specs.Marking.{lists_of}

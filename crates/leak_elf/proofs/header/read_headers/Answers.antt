@@ -1,3 +1,4 @@
+-- From lemmas of std.
 use Rattle.std.proofs.Common.{◌+◌, ◌*◌, ◌∙◌, sym, refl, arith, ℕ}
 use Rattle.std.proofs.lemmas.List.FromFn.{map-range_with_len_more}
 use Rattle.leak_elf.specs.Headers.{header_at}

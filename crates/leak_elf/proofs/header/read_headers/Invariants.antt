@@ -1,3 +1,4 @@
+-- The headers so far were read.
 use Rattle.std.proofs.Common.{◌≡◌}
 use Rattle.leak_elf.specs.Headers.{table_at}
 use Rattle.leak_elf.specs.Fields.{e_phoff}

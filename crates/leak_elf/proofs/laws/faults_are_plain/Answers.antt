@@ -1,3 +1,4 @@
+-- From the lemmas of Plain.
 use Rattle.leak_elf.proofs.Plain.{fault_plain}
 use Rattle.leak_elf.proofs.laws.faults_are_plain.Goals as goal
 

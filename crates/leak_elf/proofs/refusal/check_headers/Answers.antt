@@ -1,3 +1,4 @@
+-- From the lemmas of Faults.
 use Rattle.std.proofs.Common.{◌≡◌, ◌≢◌, length, arith, Some, []}
 use Rattle.std.specs.Prelude.{Result, Ok, Err, OnOk}
 use Rattle.std.proofs.lemmas.Result.{err_from_is_err_and, IfErr-weaker}

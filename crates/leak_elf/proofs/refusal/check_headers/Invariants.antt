@@ -1,3 +1,4 @@
+-- None of the headers so far has a fault by itself.
 use Rattle.std.proofs.Common.{◌≡◌, ℕ, ◌<◌, get_or, None}
 use Rattle.leak_elf.specs.declared.header.Header.{Header}
 use Rattle.leak_elf.specs.Refusals.{extent_fault}

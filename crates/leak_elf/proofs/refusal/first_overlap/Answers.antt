@@ -1,3 +1,4 @@
+-- From the lemmas of Meeting.
 use Rattle.std.proofs.Common.{◌≡◌, arith, true}
 use Rattle.leak_elf.specs.Segments.{meet_within}
 use Rattle.leak_elf.proofs.Meeting.{none_within, some_within}

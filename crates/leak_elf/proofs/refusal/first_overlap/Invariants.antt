@@ -1,3 +1,4 @@
+-- Of the first `apart` headers no two overlap; of the first `met` two do.
 use Rattle.std.proofs.Common.{◌≡◌, ◌-◌, ◌<◌, ◌≤◌, true, false}
 use Rattle.leak_elf.specs.Segments.{meet_within}
 use Rattle.leak_elf.proofs.refusal.first_overlap.Given as goal

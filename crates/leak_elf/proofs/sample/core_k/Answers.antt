@@ -1,3 +1,4 @@
+-- From the lemmas of Samples.
 use Rattle.std.proofs.Common.{◌≡◌, ◌∙◌, ap, length, arith, ℕ, List}
 use Rattle.leak_elf.proofs.Samples.{sample_size}
 use Rattle.leak_elf.proofs.sample.core_k.Goals as goal

@@ -1,3 +1,4 @@
+-- From what the calls promise.
 use Rattle.std.proofs.Common.{append_assoc, refl}
 use Rattle.leak_elf.specs.Sample.{program_header}
 use Rattle.leak_elf.proofs.sample.push_header.Goals as goal

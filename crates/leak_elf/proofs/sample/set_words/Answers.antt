@@ -1,3 +1,4 @@
+-- From the lemmas of Samples.
 use Rattle.std.proofs.Common.{◌∙◌, ◌-◌, ℕ, List, get_or, ap, sym}
 use Rattle.std.specs.Int.{w64, to_le_bytes}
 use Rattle.leak_elf.specs.Sample.{patched}

@@ -1,3 +1,4 @@
+-- The words so far were set.
 use Rattle.std.proofs.Common.{◌≡◌, take}
 use Rattle.leak_elf.specs.Sample.{with_words}
 use Rattle.leak_elf.proofs.sample.set_words.Given as goal

@@ -1,3 +1,4 @@
+-- From the lemmas of Holders.
 use Rattle.std.proofs.Common.{◌-◌, ◌<◌, ◌∙◌, sym, arith, false, length, get_or, [], ◌∷◌}
 use Rattle.std.proofs.lemmas.List.{length-set}
 use Rattle.leak_elf.specs.declared.segment.Segment.{Segment}

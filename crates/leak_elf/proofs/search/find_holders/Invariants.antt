@@ -1,3 +1,4 @@
+-- The holders of the segments from here on were found.
 use Rattle.std.proofs.Common.{◌≡◌, ℕ, ◌<◌, ◌≤◌, length, get_or}
 use Rattle.leak_elf.specs.Words.{IsHolder}
 use Rattle.leak_elf.proofs.search.find_holders.Given as goal

@@ -1,3 +1,4 @@
+-- From the lemmas of Holders.
 use Rattle.std.proofs.Common.{◌≡◌, ◌-◌, ◌<◌, ◌∙◌, sym, arith, false, get_or, length, [], ◌∷◌, None}
 use Rattle.leak_elf.specs.declared.segment.Segment.{Segment}
 use Rattle.leak_elf.specs.Words.{NoneHeld, IsNextHeld, IsHolder}

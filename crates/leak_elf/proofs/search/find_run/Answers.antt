@@ -1,3 +1,4 @@
+-- From the lemmas of Held.
 use Rattle.std.proofs.Common.{◌-◌, arith, false, refl}
 use Rattle.leak_elf.specs.declared.segment.Segment.{Segment}
 use Rattle.leak_elf.proofs.Held.{run_at}

@@ -1,3 +1,4 @@
+-- From the lemmas of Held.
 use Rattle.std.proofs.Common.{ℕ, arith, get_or, ◌-◌, sym, ap, ◌∙◌, eq-eqb, false, Some}
 use Rattle.leak_elf.specs.declared.segment.Segment.{Segment}
 use Rattle.leak_elf.proofs.Held.{not_held, word_none, word_odd, word_some, no_word_at}

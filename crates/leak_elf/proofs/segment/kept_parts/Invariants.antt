@@ -1,3 +1,4 @@
+-- The parts of notes of the headers so far.
 use Rattle.std.proofs.Common.{◌≡◌, map, filter, take}
 use Rattle.leak_elf.specs.Headers.{is_note}
 use Rattle.leak_elf.specs.Segments.{part_of}

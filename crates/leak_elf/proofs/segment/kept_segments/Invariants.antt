@@ -1,3 +1,4 @@
+-- The segments of the headers so far.
 use Rattle.std.proofs.Common.{◌≡◌, map, filter, take}
 use Rattle.leak_elf.specs.Headers.{has_addresses}
 use Rattle.leak_elf.specs.Segments.{segment_of}

@@ -1,3 +1,4 @@
+-- From the lemmas of Held and Meeting.
 use Rattle.std.proofs.Common.{◌≡◌, ◌+◌, ◌-◌, ◌≤◌, sym, arith, false, get_or, inl, inr}
 use Rattle.std.proofs.lemmas.Bool.{cases_lt}
 use Rattle.leak_elf.specs.declared.segment.Segment.{Segment}

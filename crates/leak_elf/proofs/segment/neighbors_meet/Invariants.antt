@@ -1,3 +1,4 @@
+-- Each segment so far ends where the next begins, or before that.
 use Rattle.std.proofs.Common.{◌≡◌, ℕ, ◌+◌, ◌<◌, ◌≤◌, get_or}
 use Rattle.leak_elf.specs.declared.segment.Segment.{Segment}
 use Rattle.leak_elf.proofs.segment.neighbors_meet.Given as goal

@@ -1,3 +1,4 @@
+-- From the lemmas of Kept and Held.
 use Rattle.std.proofs.Common.{arith, true, false}
 use Rattle.leak_elf.specs.declared.segment.Segment.{Segment}
 use Rattle.leak_elf.proofs.Kept.{lacking_more}

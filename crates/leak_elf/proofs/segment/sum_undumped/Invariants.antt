@@ -1,3 +1,4 @@
+-- What the file lacks of the segments so far. It is no more than the address of each later one.
 use Rattle.std.proofs.Common.{◌≡◌, ℕ, ◌<◌, ◌≤◌, length, take, get_or}
 use Rattle.leak_elf.specs.declared.segment.Segment.{Segment}
 use Rattle.leak_elf.specs.Segments.{lacking}

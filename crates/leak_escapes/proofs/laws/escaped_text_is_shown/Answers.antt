@@ -1,3 +1,4 @@
+-- From the lemmas of ShownLemmas.
 use Rattle.leak_escapes.proofs.ShownLemmas.{escaped_shown}
 use Rattle.leak_escapes.proofs.laws.escaped_text_is_shown.Goals as goal
 

@@ -1,3 +1,4 @@
+-- From the lemmas of InputLemmas and RunLemmas.
 use Rattle.std.proofs.Common.{[], ◌∷◌, arith, refl, sym, subst}
 use Rattle.std.proofs.lemmas.Result.{err_from_is_err_and}
 use Rattle.leak_find.specs.Streams.{by_reads}

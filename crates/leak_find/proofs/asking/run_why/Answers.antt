@@ -1,3 +1,4 @@
+-- From the lemmas of TellLemmas.
 use Rattle.std.proofs.lemmas.Result.{IfErr-weaker, IfOk-weaker}
 use Rattle.leak_find.proofs.TellLemmas.{runs_why_tell}
 use Rattle.leak_find.proofs.asking.run_why.Goals as goal

@@ -1,3 +1,4 @@
+-- From the lemmas of InputLemmas and GrowLemmas.
 use Rattle.std.proofs.Common.{ℕ, [], ◌∷◌, arith, refl}
 use Rattle.std.proofs.lemmas.Result.{err_from_is_err_and}
 use Rattle.leak_find.specs.Streams.{by_reads}

@@ -1,3 +1,4 @@
+-- From the lemmas of HoldersLemmas.
 use Rattle.std.proofs.Common.{sym, subst}
 use Rattle.leak_find.specs.Streams.{by_reads}
 use Rattle.leak_find.specs.HeldInputs.{bytes_in}

@@ -1,3 +1,4 @@
+-- From what the calls promise.
 use Rattle.std.proofs.Common.{◌≡◌, ℕ, List, ap, subst, ◌∙◌}
 use Rattle.leak_streams.specs.Writes.{IsWrittenWhole, IsCutOff}
 use Rattle.leak_find.specs.Run.{status_by, warnings_by}

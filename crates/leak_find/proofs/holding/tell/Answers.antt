@@ -1,3 +1,4 @@
+-- From the lemmas of HoldersLemmas.
 use Rattle.std.proofs.Common.{◌≢◌, subst, sym}
 use Rattle.leak_input.specs.declared.error.FindError.TheVariants.{NoMemory}
 use Rattle.leak_search.specs.declared.holding.WhyError.TheVariants.{Find as Refused}

@@ -1,3 +1,4 @@
+-- From the lemmas of TellLemmas.
 use Rattle.leak_find.proofs.TellLemmas.{runs_grow_tell, runs_holders_tell, runs_tell, runs_why_tell}
 use Rattle.leak_find.proofs.laws.runs_tell.Goals as goal
 

@@ -1,3 +1,4 @@
+-- From the lemmas of InputLemmas.
 use Rattle.std.proofs.Common.{refl}
 use Rattle.leak_find.specs.Streams.{by_reads}
 use Rattle.leak_find.proofs.InputLemmas.{read_at, stopped_at}

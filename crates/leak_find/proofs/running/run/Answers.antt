@@ -1,3 +1,4 @@
+-- From the lemmas of TellLemmas.
 use Rattle.std.proofs.lemmas.Result.{IfErr-weaker, IfOk-weaker}
 use Rattle.leak_find.proofs.TellLemmas.{runs_tell}
 use Rattle.leak_find.proofs.running.run.Goals as goal

@@ -1,3 +1,4 @@
+-- From the lemmas of TriedLemmas.
 use Rattle.std.proofs.Common.{ℕ, List, subst}
 use Rattle.leak_find.specs.Streams.{IsTried, by_writes}
 use Rattle.leak_find.proofs.TriedLemmas.{tried}

@@ -1,4 +1,4 @@
--- Blocks that stand apart ascend, so the search finds where they stop beginning before the address.
+-- Blocks that are apart ascend, so the search finds where they stop beginning before the address.
 use Rattle.std.proofs.Common.{ltb, arith, rules}
 use Rattle.std.proofs.lemmas.Bool.{ltb-true, ltb-false}
 use Rattle.std.proofs.lemmas.List.Sorted.{IsPartitionPoint-from_clause, IsPartitionedBy-ltb}

@@ -1,3 +1,4 @@
+-- From the lemmas of SmallLemmas and SlackLemmas.
 use Rattle.std.proofs.Common.{◌<◌, ◌≤◌, ◌+◌, ◌||◌, ◌++◌, ◌∷◌, [], List, append-nil, ap, refl, sym, subst, ◌∙◌, arith}
 use Rattle.leak_blocks.specs.declared.small.Span.{Span}
 use Rattle.leak_blocks.specs.Small.{holds, is_covered, AreApart}

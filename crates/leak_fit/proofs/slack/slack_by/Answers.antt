@@ -1,3 +1,4 @@
+-- From the lemmas of SlackLemmas.
 use Rattle.std.proofs.Common.{◌≡◌, ◌+◌, arith, sym, ◌∙◌, if◌then◌else◌, true, false}
 use Rattle.leak_fit.specs.Fit.{chunk_size, is_mapped}
 use Rattle.leak_fit.proofs.SlackLemmas.{beyond_the_last, no_slack, some_slack, ends_at, taken_is}

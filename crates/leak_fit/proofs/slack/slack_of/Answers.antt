@@ -1,3 +1,4 @@
+-- From the lemmas of SlackLemmas.
 use Rattle.std.proofs.Common.{sym, ◌∙◌}
 use Rattle.leak_fit.proofs.SlackLemmas.{none_unaligned, none_wordless, none_misfit, of_fitting}
 use Rattle.leak_fit.proofs.slack.slack_of.Goals as goal

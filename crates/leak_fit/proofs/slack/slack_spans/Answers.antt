@@ -1,3 +1,4 @@
+-- From the lemmas of SlackLemmas.
 use Rattle.std.proofs.Common.{sym, ◌∙◌, get_or}
 use Rattle.leak_index.specs.Ranks.{none}
 use Rattle.leak_fit.proofs.SlackLemmas.{is_slack, slack_first, slack_same, slack_more, begin_by_slack}

@@ -1,3 +1,4 @@
+-- From the lemmas of SumLemmas.
 use Rattle.std.proofs.Common.{◌≡◌, ℕ, List, ◌++◌, flat_map, map, sym, ap, ◌∙◌}
 use Rattle.leak_blocks.specs.declared.block.Block.{Block}
 use Rattle.leak_blocks.proofs.SumLemmas.{sum_fits}

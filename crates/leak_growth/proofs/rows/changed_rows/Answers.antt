@@ -1,3 +1,4 @@
+-- From the lemmas of RowLemmas.
 use Rattle.std.proofs.Common.{[], sym, ap, ◌∙◌, arith}
 use Rattle.leak_growth.proofs.RowLemmas.{changed_more, same_more}
 use Rattle.leak_growth.proofs.rows.changed_rows.Goals as goal

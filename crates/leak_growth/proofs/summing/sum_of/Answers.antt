@@ -1,3 +1,4 @@
+-- From the lemmas of SumLemmas.
 use Rattle.std.proofs.Common.{◌≡◌, ◌∙◌, ℕ, ap, arith}
 use Rattle.std.proofs.lemmas.Bool.{lt-ltb, le-ltb}
 use Rattle.leak_blocks.specs.declared.block.Block.{Block}

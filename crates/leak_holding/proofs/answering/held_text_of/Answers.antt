@@ -1,3 +1,4 @@
+-- From what the calls promise.
 use Rattle.std.proofs.Common.{◌++◌, ◌∙◌, ap, codes, List, ℕ}
 use Rattle.leak_blocks.specs.declared.block.Block.{Block}
 use Rattle.leak_texts.specs.Numbered.{bytes_each}

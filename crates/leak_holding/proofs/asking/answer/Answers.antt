@@ -1,3 +1,4 @@
+-- From the lemmas of InputLemmas, BothLemmas and FindLemmas.
 use Rattle.std.proofs.Common.{◌∙◌, ℕ, Bool, List, length, sym, ap, subst, arith}
 use Rattle.std.specs.Prelude.{slice_index}
 use denote.Ref.{Bor}

@@ -1,3 +1,4 @@
+-- From the lemmas of SignLemmas, FindLemmas and HeldLemmas.
 use Rattle.std.proofs.Common.{◌∙◌, sym, ap, subst, refl}
 use Rattle.std.proofs.lemmas.Result.{err_from_is_err_and}
 use Rattle.leak_search.specs.declared.holding.WhyError.{WhyError}

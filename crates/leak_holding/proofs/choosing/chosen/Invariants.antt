@@ -1,3 +1,4 @@
+-- The answers for the blocks so far.
 use Rattle.std.proofs.Common.{◌≡◌, ◌==◌, map, if◌then◌else◌}
 use Rattle.std.specs.Prelude.{slice_index}
 use Rattle.std.specs.List.{range_with_len}

@@ -1,3 +1,4 @@
+-- From lemmas of std.
 use Rattle.std.proofs.Common.{◌&&◌, Bool, false, List, [], ◌∷◌, ◌++◌, sym, ap, ◌∙◌, arith}
 use Rattle.std.specs.Prelude.{slice_index_or}
 use Rattle.std.proofs.lemmas.List.FromFn.{map-range_with_len_more}

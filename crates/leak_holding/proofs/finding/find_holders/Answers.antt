@@ -1,3 +1,4 @@
+-- From the lemmas of SignLemmas, FindLemmas and RowLemmas.
 use Rattle.std.proofs.Common.{Bool, List, ap, sym, subst, ◌∙◌, length}
 use Rattle.std.proofs.lemmas.Result.{err_from_is_err_and}
 use Rattle.leak_index.specs.Hits.{Index}

@@ -1,3 +1,4 @@
+-- From the lemmas of GraphLemmas.
 use Rattle.std.proofs.Common.{[], length, sym, ap, subst}
 use Rattle.std.proofs.lemmas.Result.{IfOk-weaker}
 use Rattle.leak_elf.specs.Words.{word_of}

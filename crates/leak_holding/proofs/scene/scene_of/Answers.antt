@@ -1,3 +1,4 @@
+-- From the lemmas of InputLemmas and FewLemmas.
 use Rattle.std.proofs.Common.{List, length, sym, ap, subst, ◌∙◌}
 use Rattle.leak_blocks.specs.declared.block.Block.{Block}
 use Rattle.leak_report.specs.Totals.{HaveCallersIn}

@@ -1,3 +1,4 @@
+-- No line feed follows the bytes that are left.
 use Rattle.std.proofs.Common.{◌≡◌, ◌+◌, ◌≤◌, ◌==◌, not, length, take}
 use Rattle.std.specs.List.{suffix_len}
 use Rattle.leak_holding.proofs.since.whole_len.Given as goal

@@ -1,3 +1,4 @@
+-- The lines of the rows so far.
 use Rattle.std.proofs.Common.{◌≡◌, ◌++◌, take, flat_map}
 use Rattle.leak_texts.specs.Numbered.{bytes_each}
 use Rattle.leak_holding.specs.Text.{line_of}

@@ -1,3 +1,4 @@
+-- From the lemmas of SumLemmas.
 use Rattle.leak_blocks.proofs.SumLemmas.{sum_fits}
 use Rattle.leak_holding.proofs.telling.push_new.Goals as goal
 

@@ -1,3 +1,4 @@
+-- From the lemmas of Leaks and TextLemmas.
 use Rattle.std.proofs.Common.{◌≡◌, ◌++◌, ◌∙◌, ap, Bool, List, Option, option_map, string_bytes, flat_map, arith}
 use Rattle.leak_report.specs.Totals.{bytes_of}
 use Rattle.leak_report.proofs.Leaks.{length-marked, bytes_of-marked}

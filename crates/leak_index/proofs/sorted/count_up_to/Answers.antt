@@ -1,4 +1,4 @@
--- Blocks that stand apart ascend, so the search finds where they begin to lie after the address.
+-- Blocks that are apart ascend, so the search finds where they begin to lie after the address.
 use Rattle.std.proofs.Common.{leb, arith, rules}
 use Rattle.std.proofs.lemmas.Bool.{leb-true, leb-false}
 use Rattle.std.proofs.lemmas.List.Sorted.{IsPartitionPoint-from_clause, IsPartitionedBy-leb}

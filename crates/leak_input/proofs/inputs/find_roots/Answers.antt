@@ -1,3 +1,4 @@
+-- From the lemmas of InputLemmas.
 use Rattle.leak_roots.specs.Skipped.{spans_of}
 use Rattle.leak_input.proofs.InputLemmas.{roots_found, threads_read}
 use Rattle.leak_input.proofs.inputs.find_roots.Goals as goal

@@ -1,3 +1,4 @@
+-- From the lemmas of PairLemmas.
 use Rattle.std.proofs.Common.{◌<◌, ◌-◌, ◌^◌, List, ap, subst, length, arith, inl, inr}
 use Rattle.leak_blocks.specs.declared.block.Block.{Block}
 use Rattle.leak_input.proofs.PairLemmas.{is_true, too_many_of_two, are_read}

@@ -1,3 +1,4 @@
+-- The entries so far that are not set were counted.
 use Rattle.std.proofs.Common.{◌≡◌, not, take, ◌≤◌}
 use Rattle.std.specs.List.{count_by}
 use Rattle.leak_input.proofs.reporting.count_clear.Given as goal

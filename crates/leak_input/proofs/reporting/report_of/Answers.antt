@@ -1,3 +1,4 @@
+-- From the lemmas of Held and InputLemmas.
 use Rattle.std.proofs.Common.{◌∙◌, sym, ap, not, length}
 use Rattle.std.specs.List.{count_by}
 use Rattle.leak_scan.proofs.Held.{length-heads_of}

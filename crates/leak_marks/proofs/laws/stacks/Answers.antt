@@ -1,3 +1,4 @@
+-- From the lemmas of ListLemmas and StackLemmas.
 use Rattle.std.proofs.Common.{[], ◌++◌}
 use Rattle.leak_marks.specs.Lists.{Has}
 use Rattle.leak_marks.proofs.ListLemmas.{none_has, has_front, has_back, of_append}

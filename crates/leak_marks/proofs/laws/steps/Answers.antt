@@ -1,3 +1,4 @@
+-- From the lemmas of RoundLemmas and HalfLemmas.
 use Rattle.leak_marks.specs.Lists.{Has}
 use Rattle.leak_marks.proofs.RoundLemmas.{begins, goes_on, ends, steps_make_a_run}
 use Rattle.leak_marks.proofs.HalfLemmas.{rounds_make_a_run}

@@ -1,3 +1,4 @@
+-- From the lemmas of TextLemmas.
 use Rattle.leak_messages.proofs.TextLemmas.{displace_shown, find_shown, read_shown, reason_shown, write_shown}
 use Rattle.leak_messages.proofs.laws.texts_are_shown.Goals as goal
 

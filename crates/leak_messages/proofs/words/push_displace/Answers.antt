@@ -1,3 +1,4 @@
+-- From lemmas of std.
 use Rattle.std.proofs.Common.{◌∙◌, ◌++◌, ap, append_assoc, codes, string_bytes, rules}
 use Rattle.std.proofs.lemmas.Result.{on_ok_weaker}
 use Rattle.leak_messages.specs.Words.{reading_text}

@@ -1,4 +1,4 @@
--- By the sign, and then by what stands after it.
+-- By the sign, and then by what follows it.
 use Rattle.std.proofs.Common.{arith}
 use Rattle.leak_mtrace.specs.declared.call.Call.{Call}
 use Rattle.leak_mtrace.specs.Line.{IsCall}

@@ -1,3 +1,4 @@
+-- From the lemmas of SetLemmas.
 use Rattle.std.proofs.Common.{◌++◌, ap, sym, ◌∙◌, append-nil}
 use Rattle.leak_notes.proofs.SetLemmas.{added, entry_more, entry_end, entry_cut}
 use Rattle.leak_notes.proofs.sets.push_sets.Goals as goal

@@ -1,3 +1,4 @@
+-- From the lemmas of Parts and SetLemmas.
 use Rattle.std.proofs.Common.{◌<◌, ◌++◌, List, length, ap, ◌∙◌}
 use Rattle.leak_elf.specs.declared.segment.NotePart.{NotePart}
 use Rattle.leak_elf.specs.Segments.{note_parts_of}

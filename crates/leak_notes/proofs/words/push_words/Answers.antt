@@ -1,3 +1,4 @@
+-- From lemmas of std.
 use Rattle.std.proofs.Common.{◌≡◌, ℕ, ◌+◌, ◌*◌, ◌∙◌, ◌++◌, List, [], ◌∷◌, sym, ap, append_assoc, arith}
 use Rattle.std.specs.Int.{w64}
 use Rattle.std.proofs.lemmas.List.FromFn.{map-range_with_len_more}

@@ -1,4 +1,4 @@
--- The words so far stand after those that were there.
+-- The words so far follow those that were there.
 use Rattle.std.proofs.Common.{◌≡◌, ◌++◌}
 use Rattle.leak_notes.specs.Entry.{words_from}
 use Rattle.leak_notes.proofs.words.push_words.Given as goal

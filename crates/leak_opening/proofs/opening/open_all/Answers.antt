@@ -1,3 +1,4 @@
+-- From the lemmas of OpeningLemmas.
 use Rattle.std.proofs.Math.Seq.{split_at}
 use Rattle.std.proofs.Common.{List, ℕ, ◌++◌, ◌+◌, ◌≡◌, suc, rules, ◌∙◌, ap, sym, refl, map, string_bytes, take, drop, ◌∷◌, [], subst}
 use Rattle.std.proofs.lemmas.List.{map-append, take_more}

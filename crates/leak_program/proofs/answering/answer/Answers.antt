@@ -1,3 +1,4 @@
+-- From the lemmas of Refusals.
 use Rattle.std.proofs.Common.{[], map, refl, string_bytes, subst}
 use Rattle.std.proofs.lemmas.Result.{IfErr-weaker, IfOk-weaker}
 use Rattle.leak_find.specs.Streams.{by_reads, by_writes}

@@ -1,3 +1,4 @@
+-- From the lemmas of Refusals.
 use Rattle.std.proofs.Common.{◌≡◌, ap, map, string_bytes, subst, sym}
 use Rattle.leak_find.specs.Streams.{by_reads, by_writes}
 use Rattle.leak_opening.specs.Opening.{AreOpened}

@@ -1,3 +1,4 @@
+-- From lemmas of std.
 use Rattle.std.proofs.Common.{◌≡◌, ◌∙◌, ◌++◌, ◌∷◌, ◌+◌, [], ap, sym, map, string_bytes, take, rules}
 use Rattle.std.proofs.lemmas.List.{map-append, take_more}
 use Rattle.leak_program.proofs.holding.copied.Goals as goal

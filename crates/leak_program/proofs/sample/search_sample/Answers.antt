@@ -1,3 +1,4 @@
+-- From the lemmas of SampleLemmas.
 use Rattle.std.proofs.Common.{rules, refl, false, true, Some, List, ℕ}
 use Rattle.std.specs.Borrow.{Bor}
 use Rattle.leak_program.proofs.SampleLemmas.{over_inputs}

@@ -1,3 +1,4 @@
+-- From lemmas of std.
 use Rattle.std.proofs.Common.{◌<◌, ◌≤◌, Ok, Err, length, map, string_bytes, refl, subst}
 use Rattle.std.proofs.lemmas.List.{length-map}
 use Rattle.leak_program.proofs.starting.answer_all.Goals as goal

@@ -1,3 +1,4 @@
+-- From the lemmas of TriedLemmas.
 use Rattle.leak_find.proofs.TriedLemmas.{tried}
 use Rattle.leak_find.specs.Streams.{by_writes}
 use Rattle.leak_program.proofs.starting.say.Goals as goal

@@ -1,3 +1,4 @@
+-- From what the calls promise.
 use Rattle.std.proofs.Common.{inl, inr, map, refl, rules, string_bytes}
 use Rattle.leak_program.proofs.starting.start.Goals as goal
 

@@ -1,3 +1,4 @@
+-- From what the calls promise.
 use Rattle.std.proofs.Common.{◌≡◌, ◌∙◌, inl, inr, refl, rules, subst}
 use Rattle.leak_find.specs.Streams.{IsTried, by_writes}
 use Rattle.leak_program.specs.Messages.{message_of}

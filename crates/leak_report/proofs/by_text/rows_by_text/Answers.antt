@@ -21,7 +21,7 @@ no_leak = record { place = 0; number = 0 }
 no_row : CallerRow
 no_row = record { blocks = 0; bytes = 0; heads = 0; caller = (0, 0) }
 
--- where the leaked block at i has the key of the last row, there is a last row, and it has room for the block
+-- if the leaked block at i has the key of the last row, there is a last row, and it has room for the block
 last_row : {l : Leaked} {leaks items : List PlacedLeak} {i : ℕ} (text : Bor (List ℕ)) (rows : List CallerRow) (last : Option Key) (d : CallerRow)
     → IsComplete l → AreByPlace l.prefix.now l.log.now l.set.now l.blocks.now leaks → items ≡ leaks → i < length items → length l.blocks.now < 2 ^ 64
     → AreAscending l.prefix.now l.log.now (map (leak_of l.heads.now l.blocks.now) (take i items)) rows last → order_after last ((get_or items i no_leak).place, text) ≡ Equal

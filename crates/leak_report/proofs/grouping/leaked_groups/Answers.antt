@@ -1,3 +1,4 @@
+-- From the lemmas of Joins and Listed.
 use Rattle.std.proofs.Common.{List, map, take, get_or, refl, sym, ap, subst, ◌∙◌, arith}
 use Rattle.std.proofs.lemmas.List.{take_all}
 use Rattle.leak_report.specs.declared.grouping.PlacedLeak.{PlacedLeak}

@@ -1,3 +1,4 @@
+-- From the lemmas of Listed.
 use Rattle.std.proofs.Common.{ap, ◌∙◌}
 use Rattle.leak_report.specs.Places.{place_of}
 use Rattle.leak_report.proofs.Listed.{first_none, first_more, first_same, first_all}

@@ -1,3 +1,4 @@
+-- From the lemmas of Callers.
 use Rattle.leak_report.proofs.Callers.{have_callers}
 use Rattle.leak_report.proofs.laws.live_have_callers.Goals as goal
 

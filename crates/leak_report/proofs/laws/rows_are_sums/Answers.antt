@@ -1,3 +1,4 @@
+-- From the lemmas of Sums.
 use Rattle.std.proofs.Common.{sym, subst}
 use Rattle.leak_report.specs.Laws.{AreSums}
 use Rattle.leak_report.proofs.Sums.{one_list, rows_sum_up}

@@ -1,3 +1,4 @@
+-- From the lemmas of MisfitLemmas.
 use Rattle.std.proofs.Common.{false, get_or, ap, ◌++◌, ◌∙◌, arith}
 use Rattle.leak_blocks.specs.declared.block.Block.{Block}
 use Rattle.leak_report.specs.Misfits.{misfit_line}

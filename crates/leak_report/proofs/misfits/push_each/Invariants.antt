@@ -1,3 +1,4 @@
+-- The lines of the misfits among the blocks so far.
 use Rattle.std.proofs.Common.{◌≡◌, ◌++◌, take, flat_map}
 use Rattle.leak_report.specs.Misfits.{misfits_in, misfit_line}
 use Rattle.leak_report.proofs.misfits.push_each.Given as goal

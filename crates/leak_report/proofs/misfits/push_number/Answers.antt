@@ -1,3 +1,4 @@
+-- From the lemmas of MisfitLemmas.
 use Rattle.std.proofs.Common.{◌≡◌, ◌++◌, ◌∙◌, ap, sym, subst, length, string_bytes, IfSome, OnOk, option_copied}
 use Rattle.leak_report.specs.Misfits.{misfit_sums, number_line}
 use Rattle.leak_report.proofs.MisfitLemmas.{length-misfits}

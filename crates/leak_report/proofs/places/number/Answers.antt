@@ -1,3 +1,4 @@
+-- By arithmetic, from what the calls promise.
 use Rattle.std.proofs.Common.{arith}
 use Rattle.leak_report.proofs.places.number.Goals as goal
 

@@ -1,3 +1,4 @@
+-- The lines of the rows so far.
 use Rattle.std.proofs.Common.{◌≡◌, ◌++◌, take, flat_map}
 use Rattle.leak_report.specs.Lines.{caller_line}
 use Rattle.leak_report.proofs.report.push_callers.Given as goal

@@ -1,3 +1,4 @@
+-- The lines of the leaked blocks among those so far.
 use Rattle.std.proofs.Common.{◌≡◌, ◌++◌, take, flat_map}
 use Rattle.leak_report.specs.Totals.{leaks_in}
 use Rattle.leak_report.specs.Lines.{leak_line}

@@ -1,3 +1,4 @@
+-- From the lemmas of Leaks, Orders and Texts.
 use Rattle.std.proofs.Common.{◌≡◌, sym, subst, ap, ◌∙◌, ◌++◌, flat_map, string_bytes, option_copied, arith}
 use Rattle.std.specs.List.{AllByRecursion}
 use Rattle.leak_report.specs.Totals.{IsIn, leaks_in, rows_of}

@@ -1,3 +1,4 @@
+-- From the lemmas of Leaks.
 use Rattle.std.proofs.Common.{◌∙◌, arith}
 use Rattle.leak_blocks.specs.declared.block.Block.{Block}
 use Rattle.leak_report.proofs.Leaks.{heads_more, heads_held, heads_marked, heads_so_far}

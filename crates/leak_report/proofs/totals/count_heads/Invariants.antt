@@ -1,4 +1,4 @@
--- those of the blocks so far
+-- The heads among the blocks so far.
 use Rattle.std.proofs.Common.{◌≡◌, take}
 use Rattle.leak_report.specs.Totals.{leaks_in, heads_in}
 use Rattle.leak_report.proofs.totals.count_heads.Given as goal

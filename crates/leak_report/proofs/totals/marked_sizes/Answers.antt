@@ -1,3 +1,4 @@
+-- From the lemmas of Leaks.
 use Rattle.std.proofs.Common.{◌+◌, length, false, drop, get_or, ap, arith}
 use Rattle.std.proofs.lemmas.List.Sums.{sum_by-cons}
 use Rattle.leak_blocks.specs.declared.block.Block.{Block}

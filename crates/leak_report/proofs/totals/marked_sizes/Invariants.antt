@@ -1,3 +1,4 @@
+-- The marked blocks so far, by number and size.
 use Rattle.std.proofs.Common.{◌≡◌, ◌+◌, length, drop}
 use Rattle.leak_report.specs.Totals.{marked_in, bytes_of}
 use Rattle.leak_report.proofs.totals.marked_sizes.Given as goal

@@ -1,4 +1,4 @@
--- With the warnings of the inputs that are still to come, the text is whole.
+-- With the warnings of the inputs that are still to come, the text is complete.
 use Rattle.std.proofs.Common.{◌≡◌, ◌+◌, ◌++◌, drop, flat_map, string_bytes}
 use Rattle.std.specs.List.{enumerate_from}
 use Rattle.leak_report.specs.Warnings.{input_warnings, warnings_of}

@@ -1,3 +1,4 @@
+-- From the lemmas of Complete.
 use Rattle.std.proofs.Common.{rules, subst, ◌≤◌}
 use Rattle.std.proofs.lemmas.Result.{err_from_is_err_and}
 use Rattle.leak_index.specs.Readings.{listed_by}

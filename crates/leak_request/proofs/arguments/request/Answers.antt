@@ -1,3 +1,4 @@
+-- From the lemmas of Subcommands and Values.
 use Rattle.std.proofs.Common.{map, string_bytes}
 use Rattle.std.proofs.lemmas.Result.{IfErr-weaker, IfOk-weaker}
 use Rattle.clap.specs.Words.{app_of, found_of, rows_of}

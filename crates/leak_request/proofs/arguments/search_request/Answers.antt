@@ -1,3 +1,4 @@
+-- From the lemmas of Complete.
 use Rattle.std.proofs.Common.{rules, subst, ◌≤◌}
 use Rattle.leak_index.specs.Readings.{listed_by}
 use Rattle.leak_pool.specs.Plan.{IsBetween}

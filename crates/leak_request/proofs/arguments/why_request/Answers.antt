@@ -1,3 +1,4 @@
+-- From the lemmas of Complete.
 use Rattle.std.proofs.Common.{subst}
 use Rattle.std.specs.Prelude.{IsSomeAnd}
 use Rattle.leak_index.specs.Readings.{listed_by}

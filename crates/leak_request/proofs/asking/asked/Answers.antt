@@ -1,3 +1,4 @@
+-- From what the calls promise.
 use Rattle.std.proofs.Common.{refl, subst}
 use Rattle.leak_request.specs.Address.{IsBadAddress}
 use Rattle.leak_request.proofs.asking.asked.Goals as goal

@@ -1,3 +1,4 @@
+-- From the lemmas of Lines.
 use Rattle.std.proofs.Common.{◌∙◌, ap, codes, rules}
 use Rattle.std.proofs.lemmas.Result.{IfOk-weaker}
 use Rattle.clap.specs.Words.{new_app}

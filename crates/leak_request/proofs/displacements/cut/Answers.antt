@@ -1,3 +1,4 @@
+-- From the lemmas of Items.
 use Rattle.std.proofs.Common.{arith, ◌≡◌, ◌+◌, ◌-◌, ◌∷◌, ap, drop, length, sym, take, ◌∙◌, length-drop}
 use Rattle.std.proofs.lemmas.List.{take_all}
 use Rattle.leak_request.specs.Displacements.{items_of}

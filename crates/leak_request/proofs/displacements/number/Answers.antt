@@ -1,3 +1,4 @@
+-- From the lemmas of Numbers.
 use Rattle.std.proofs.Common.{arith, sym, subst, Option, ℕ}
 use Rattle.std.specs.Prelude.{SomeIff, IsTrue}
 use Rattle.leak_request.specs.Displacements.{decimal_value, is_number}

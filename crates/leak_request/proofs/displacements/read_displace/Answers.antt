@@ -1,3 +1,4 @@
+-- From the lemmas of Listing.
 use Rattle.std.proofs.Common.{subst, Option, Some, ℕ, List}
 use Rattle.std.specs.Borrow.{Bor}
 use Rattle.leak_request.proofs.Listing.{AreRead, dropped_read, kept_read, other_after, size_after-less}

@@ -1,3 +1,4 @@
+-- From the lemmas of Values.
 use Rattle.std.proofs.Common.{◌∙◌, arith}
 use Rattle.leak_request.proofs.Values.{bad_by, path_lacks, values_of}
 use Rattle.clap.specs.Words.{found_of, rows_of}

@@ -1,3 +1,4 @@
+-- From the lemmas of LeftOut.
 use Rattle.std.proofs.Common.{arith, ◌<◌, inl, inr}
 use Rattle.std.proofs.lemmas.Bool.{ltb-true, cases_lt}
 use Rattle.leak_roots.proofs.LeftOut.{all_past}

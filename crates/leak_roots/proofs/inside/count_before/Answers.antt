@@ -1,3 +1,4 @@
+-- From the lemmas of LeftOut.
 use Rattle.leak_roots.proofs.LeftOut.{past_more, later_last}
 use Rattle.leak_roots.proofs.inside.count_before.Goals as goal
 

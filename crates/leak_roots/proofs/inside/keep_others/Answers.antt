@@ -1,3 +1,4 @@
+-- From the lemmas of Cutting and LeftOut.
 use Rattle.std.proofs.Common.{arith}
 use Rattle.leak_roots.proofs.Cutting.{range_is}
 use Rattle.leak_roots.proofs.LeftOut.{all_kept_more}

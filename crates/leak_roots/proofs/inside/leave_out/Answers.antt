@@ -1,3 +1,4 @@
+-- From the lemmas of LeftOut.
 use Rattle.std.proofs.Common.{◌∙◌, sym}
 use Rattle.std.proofs.lemmas.Bool.{eqb-true}
 use Rattle.leak_roots.specs.Places.{memory_places}

@@ -1,3 +1,4 @@
+-- From the lemmas of LeftOut.
 use Rattle.std.proofs.Common.{refl, ◌∙◌}
 use Rattle.leak_roots.proofs.LeftOut.{kept_more, kept_less}
 use Rattle.leak_roots.proofs.inside.push_kept.Goals as goal

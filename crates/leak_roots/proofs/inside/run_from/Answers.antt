@@ -1,3 +1,4 @@
+-- From the lemmas of LeftOut.
 use Rattle.std.proofs.Common.{arith, ◌≤◌, ◌<◌, length, get_or, sym, ◌∙◌}
 use Rattle.std.proofs.lemmas.Bool.{le-leb, lt-leb}
 use Rattle.leak_roots.proofs.LeftOut.{no_span, all_inside, none_inside, firsts_ascend}

@@ -1,3 +1,4 @@
+-- From the lemmas of Numbered.
 use Rattle.std.proofs.Common.{sym, ◌∙◌, arith}
 use Rattle.leak_roots.proofs.Numbered.{length_range_pieces, some_pieces, few_pieces}
 use Rattle.leak_roots.proofs.piece.count_in.Goals as goal

@@ -1,3 +1,4 @@
+-- From the lemmas of Numbered.
 use Rattle.std.proofs.Common.{ℕ, ◌+◌, ◌*◌, ◌∙◌, sym, ap, arith}
 use Rattle.leak_roots.specs.declared.piece.Piece.TheVariants.{Memory}
 use Rattle.leak_roots.proofs.Numbered.{length_range_pieces, range_piece_at}

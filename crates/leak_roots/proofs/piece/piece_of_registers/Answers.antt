@@ -1,3 +1,4 @@
+-- From the lemmas of Numbered.
 use Rattle.std.proofs.Common.{ℕ, ◌∙◌, sym, ap}
 use Rattle.leak_roots.specs.declared.piece.Piece.TheVariants.{Registers}
 use Rattle.leak_roots.proofs.Numbered.{register_piece_at}

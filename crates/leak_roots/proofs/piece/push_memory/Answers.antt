@@ -1,3 +1,4 @@
+-- From the lemmas of Cutting.
 use Rattle.std.proofs.Common.{refl, ◌+◌, ◌*◌}
 use Rattle.leak_roots.proofs.Cutting.{memory_first, memory_more}
 use Rattle.leak_roots.proofs.piece.push_memory.Goals as goal

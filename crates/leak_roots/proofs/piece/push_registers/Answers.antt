@@ -1,3 +1,4 @@
+-- From the lemmas of Cutting.
 use Rattle.std.proofs.Common.{refl, ◌+◌, length}
 use Rattle.leak_roots.proofs.Cutting.{registers_first, registers_more}
 use Rattle.leak_roots.proofs.piece.push_registers.Goals as goal

@@ -1,3 +1,4 @@
+-- From lemmas of std.
 use Rattle.std.proofs.Common.{leb, arith, rules}
 use Rattle.std.proofs.lemmas.Bool.{leb-true, leb-false, le-leb}
 use Rattle.std.proofs.lemmas.List.Sorted.{IsPartitionPoint-from_clause}

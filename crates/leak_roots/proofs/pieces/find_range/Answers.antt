@@ -1,3 +1,4 @@
+-- From the lemmas of Cutting and Numbered.
 use Rattle.std.proofs.Common.{◌-◌, length, get_or, refl, arith}
 use Rattle.std.proofs.lemmas.List.{get_or_default}
 use Rattle.leak_roots.specs.declared.pieces.Long.{Long}

@@ -1,3 +1,4 @@
+-- From the lemmas of Cutting and Numbered.
 use Rattle.std.proofs.Common.{◌≡◌, length, sym, ◌∙◌, arith}
 use Rattle.leak_roots.specs.Cut.{pieces_before}
 use Rattle.leak_roots.proofs.Cutting.{range_is}

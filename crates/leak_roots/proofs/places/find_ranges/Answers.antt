@@ -1,3 +1,4 @@
+-- From the lemmas of BySegment.
 use Rattle.std.proofs.Common.{false, sym, ◌∙◌, arith}
 use Rattle.leak_elf.specs.declared.segment.Segment.{Segment}
 use Rattle.leak_roots.proofs.BySegment.{found_first, read_more, read_same, read_all, dumped_fits}

@@ -1,3 +1,4 @@
+-- From the lemmas of Gaps.
 use Rattle.std.proofs.Common.{arith}
 use Rattle.std.proofs.lemmas.Result.{on_ok_weaker}
 use Rattle.leak_blocks.specs.declared.block.Block.{Block}

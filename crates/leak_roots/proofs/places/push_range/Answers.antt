@@ -1,3 +1,4 @@
+-- From the lemmas of Addresses and Ranges.
 use Rattle.std.proofs.Common.{refl, ◌*◌, ◌/◌, ◌∙◌, sym, ap, List, ◌++◌, ℕ, append-nil, arith}
 use Rattle.leak_roots.specs.Places.{memory_places}
 use Rattle.leak_roots.proofs.Addresses.{aligned_some, aligned_none}

@@ -1,4 +1,4 @@
--- Each row is computed, but for the lines of its logs.
+-- Each row is computed, except the lines of its logs.
 use Rattle.std.proofs.Common.{refl, []}
 use Rattle.std.specs.Fmt.{digits}
 use Rattle.leak_blocks.specs.Live.{live_of, replay_of}

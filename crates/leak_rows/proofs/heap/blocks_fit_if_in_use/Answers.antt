@@ -1,3 +1,4 @@
+-- From the lemmas of HeapLemmas.
 use Rattle.std.proofs.Common.{true}
 use Rattle.leak_rows.proofs.HeapLemmas.{all_fit}
 use Rattle.leak_rows.proofs.heap.blocks_fit_if_in_use.Goals as goal

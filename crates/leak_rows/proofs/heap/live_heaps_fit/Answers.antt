@@ -1,3 +1,4 @@
+-- From the lemmas of HeapLemmas.
 use Rattle.std.proofs.Common.{true}
 use Rattle.leak_rows.proofs.HeapLemmas.{no_misfit}
 use Rattle.leak_rows.proofs.heap.live_heaps_fit.Goals as goal

@@ -1,4 +1,4 @@
--- Each row is computed, but for the lines of its log.
+-- Each row is computed, except the lines of its log.
 use Rattle.std.proofs.Common.{ℕ, ◌<◌, inr, refl, List, [], ◌∷◌, codes, lit<, arith}
 use Rattle.std.specs.List.{Contains}
 use Rattle.std.specs.List.Sorted.{IsStrictlySortedBy}

@@ -1,4 +1,4 @@
--- Each row is computed, but for the lines of its logs and the pages that differ.
+-- Each row is computed, except the lines of its logs and the pages that differ.
 use Rattle.std.proofs.Common.{refl, true, [], ◌∷◌, arith}
 use Rattle.std.specs.Fmt.{digits}
 use Rattle.leak_elf.specs.Fields.{number_at}

@@ -1,4 +1,4 @@
--- Each row is computed, but for the lines of its log.
+-- Each row is computed, except the lines of its log.
 use Rattle.std.proofs.Common.{refl}
 use Rattle.std.specs.Fmt.{digits}
 use Rattle.leak_elf.specs.Fields.{number_at}

@@ -1,3 +1,4 @@
+-- From the lemmas of Held.
 use Rattle.std.proofs.Common.{◌+◌, drop, get_or, sym, ap, ◌∙◌, arith}
 use Rattle.leak_blocks.specs.declared.block.Block.{Block}
 use Rattle.leak_scan.specs.Targets.{block_targets}

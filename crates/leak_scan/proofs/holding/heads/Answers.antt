@@ -1,3 +1,4 @@
+-- From the lemmas of Held.
 use Rattle.std.proofs.Common.{◌≡◌, length, map, not, Bool, drop, ap, sym, ◌∙◌, List, arith}
 use Rattle.std.proofs.lemmas.List.{length-map}
 use Rattle.leak_blocks.specs.declared.block.Block.{Block}

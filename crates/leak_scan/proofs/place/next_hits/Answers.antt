@@ -1,4 +1,4 @@
--- Each step keeps what is ahead, but for words that lead nowhere.
+-- Each step keeps what is ahead, except words that lead nowhere.
 use Rattle.std.proofs.Common.{◌∙◌, ap, ◌++◌, sym, refl, []}
 use Rattle.std.specs.Option.{option_copied}
 use Rattle.leak_index.specs.Hits.{hits_in}

@@ -1,3 +1,4 @@
+-- From the lemmas of InputLemmas, HoldingLemmas and SignLemmas.
 use Rattle.std.proofs.Common.{◌∙◌, List, ap}
 use Rattle.leak_notes.specs.declared.sets.RegisterSet.{RegisterSet}
 use Rattle.leak_why.specs.Text.{text_of}

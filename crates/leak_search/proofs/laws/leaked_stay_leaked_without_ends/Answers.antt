@@ -1,3 +1,4 @@
+-- From the lemmas of EndsLemmas.
 use Rattle.leak_search.proofs.EndsLemmas.{marked_without_ends, marked_in_two_without_ends}
 use Rattle.leak_search.proofs.laws.leaked_stay_leaked_without_ends.Goals as goal
 

@@ -1,3 +1,4 @@
+-- From the lemmas.
 use Rattle.std.proofs.Common.{◌≡◌, ap, ◌∙◌, Err, [], ◌∷◌}
 use Rattle.std.proofs.lemmas.Result.{err_from_is_err_and}
 use Rattle.leak_input.specs.declared.found.Found.{Found}

@@ -1,3 +1,4 @@
+-- From the lemmas.
 use Rattle.std.proofs.Common.{◌≡◌, ◌∙◌, ap, [], ◌∷◌, Some, refl}
 use Rattle.leak_report.specs.declared.head.Two.{Two}
 use Rattle.leak_input.specs.Report.{head_with}

@@ -1,3 +1,4 @@
+-- From the lemmas of TwoLemmas.
 use Rattle.leak_search.proofs.TwoLemmas.{marked_earlier}
 use Rattle.leak_search.proofs.two_cores.mark_earlier.Goals as goal
 

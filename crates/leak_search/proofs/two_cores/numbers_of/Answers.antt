@@ -1,3 +1,4 @@
+-- From what the calls promise.
 use Rattle.std.proofs.Common.{◌≡◌, ◌∙◌, ap, ℕ, List, length, refl}
 use Rattle.leak_blocks.specs.declared.block.Block.{Block}
 use Rattle.leak_search.specs.SearchTwo.{size_of}

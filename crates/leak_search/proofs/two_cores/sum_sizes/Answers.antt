@@ -1,3 +1,4 @@
+-- From the lemmas of SumLemmas, ElementLemmas and SizeLemmas.
 use Rattle.std.proofs.Common.{◌≡◌, ◌+◌, take, get_or, arith}
 use Rattle.leak_blocks.specs.declared.block.Block.{Block}
 use Rattle.leak_blocks.proofs.SumLemmas.{sum_fits}

@@ -1,3 +1,4 @@
+-- The sum of the sizes so far.
 use Rattle.std.proofs.Common.{◌≡◌, take}
 use Rattle.leak_search.specs.SearchTwo.{size_of}
 use Rattle.leak_search.proofs.two_cores.sum_sizes.Given as goal

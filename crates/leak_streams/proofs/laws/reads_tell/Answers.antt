@@ -1,3 +1,4 @@
+-- From the lemmas of Consumed.
 use Rattle.leak_streams.proofs.Consumed.{reads_tell}
 use Rattle.leak_streams.proofs.laws.reads_tell.Goals as goal
 

@@ -1,3 +1,4 @@
+-- From the lemmas of Appended.
 use Rattle.leak_streams.proofs.Appended.{writes_tell}
 use Rattle.leak_streams.proofs.laws.writes_tell.Goals as goal
 

@@ -1,3 +1,4 @@
+-- From the lemmas of Consumed.
 use Rattle.std.proofs.Common.{◌≡◌, refl, subst, rules, arith, ◌-◌, [], ◌++◌, ◌∙◌, length, take}
 use Rattle.std.proofs.lemmas.Result.{err_from_is_err_and}
 use Rattle.leak_streams.specs.Reads.{Progress, StopsBy}

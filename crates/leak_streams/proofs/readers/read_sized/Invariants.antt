@@ -1,3 +1,4 @@
+-- The reading has come so far, and goes on.
 use Rattle.std.proofs.Common.{◌+◌, ◌-◌, ◌≤◌, ◌<◌, ◌≡◌, length}
 use Rattle.leak_streams.specs.Reads.{HasCome}
 use Rattle.leak_streams.proofs.readers.read_sized.Given as goal

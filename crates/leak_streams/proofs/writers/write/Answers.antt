@@ -1,3 +1,4 @@
+-- From the lemmas of Appended.
 use Rattle.std.proofs.Common.{refl, rules}
 use Rattle.leak_streams.proofs.Appended.{goes_on_few, goes_on_within, is_turn, left_whole, none_yet, one_more}
 use Rattle.leak_streams.proofs.writers.write.Goals as goal

@@ -1,3 +1,4 @@
+-- The writing has come so far, and goes on.
 use Rattle.std.proofs.Common.{◌≤◌, ◌<◌, ◌-◌, ◌+◌, length}
 use Rattle.leak_streams.specs.Writes.{HasCome}
 use Rattle.leak_streams.proofs.writers.write.Given as goal

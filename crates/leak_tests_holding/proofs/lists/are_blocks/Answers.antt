@@ -1,3 +1,4 @@
+-- From the lemmas of ListLemmas.
 use Rattle.std.proofs.Common.{◌<◌, ℕ, List, get_or, take, sym, subst, ⊎_elim, arith}
 use Rattle.std.proofs.lemmas.List.{take_all, take_more}
 use Rattle.leak_marks.specs.Lists.{Has}

@@ -1,3 +1,4 @@
+-- The targets so far are blocks.
 use Rattle.std.proofs.Common.{ℕ, ◌<◌, take}
 use Rattle.leak_marks.specs.Lists.{Has}
 use Rattle.leak_tests_holding.proofs.lists.are_blocks.Given as goal

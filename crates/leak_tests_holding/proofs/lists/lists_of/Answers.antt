@@ -1,3 +1,4 @@
+-- From the lemmas of RowLemmas.
 use Rattle.std.proofs.Common.{◌<◌, ◌≤◌, ℕ, length, refl, sym, subst, arith}
 use Rattle.std.proofs.lemmas.List.{length-map}
 use Rattle.leak_tests_holding.proofs.RowLemmas.{now_of, row_any, row_more}

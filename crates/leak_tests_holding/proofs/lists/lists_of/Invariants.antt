@@ -1,3 +1,4 @@
+-- The targets of the lists so far are blocks.
 use Rattle.std.proofs.Common.{ℕ, ◌<◌, Bor, List, [], get_or, map}
 use Rattle.leak_marks.specs.Lists.{Has}
 use Rattle.leak_tests_holding.proofs.lists.lists_of.Given as goal

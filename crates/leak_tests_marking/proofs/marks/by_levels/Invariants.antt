@@ -1,3 +1,4 @@
+-- There are 101 blocks and two lists.
 use Rattle.std.proofs.Common.{◌≡◌, length}
 use Rattle.leak_tests_marking.proofs.marks.by_levels.Given as goal
 

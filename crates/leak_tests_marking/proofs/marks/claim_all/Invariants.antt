@@ -1,3 +1,4 @@
+-- The seat is of the same table, and no more claims were won than made.
 use Rattle.std.proofs.Common.{◌≡◌, ◌≤◌}
 use Rattle.leak_tests_marking.proofs.marks.claim_all.Given as goal
 

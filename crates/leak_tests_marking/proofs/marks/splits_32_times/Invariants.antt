@@ -1,3 +1,4 @@
+-- The first seat is of the table.
 use Rattle.std.proofs.Common.{◌≡◌}
 use Rattle.leak_tests_marking.proofs.marks.splits_32_times.Given as goal
 

@@ -1,3 +1,4 @@
+-- From the lemmas of NumberLemmas.
 use Rattle.leak_texts.proofs.NumberLemmas.{numbers_tell}
 use Rattle.leak_texts.proofs.laws.numbers_tell.Goals as goal
 

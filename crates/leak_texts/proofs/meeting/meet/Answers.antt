@@ -1,3 +1,4 @@
+-- From the lemmas of MeetingLemmas.
 use Rattle.std.proofs.Common.{◌≡◌, List, ℕ, ◌++◌, [], ◌∷◌, option_copied, sym, ap, subst, ◌∙◌, arith}
 use Rattle.std.proofs.lemmas.List.{map-append, length-map}
 use denote.Ref.{Bor}

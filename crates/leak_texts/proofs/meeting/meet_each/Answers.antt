@@ -1,3 +1,4 @@
+-- From the lemmas of MeetingLemmas.
 use Rattle.std.proofs.Common.{◌≡◌, List, ℕ, ◌+◌, ◌++◌, [], ◌∷◌, take, get_or, subst}
 use Rattle.std.proofs.lemmas.List.{map_more, take_all}
 use denote.Ref.{Bor}

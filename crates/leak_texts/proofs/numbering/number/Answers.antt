@@ -1,3 +1,4 @@
+-- From the lemmas of NumberLemmas.
 use Rattle.std.proofs.Common.{List, ℕ, ◌<◌, length, map, get_or, ap, sym, subst, ◌∙◌, arith}
 use Rattle.std.proofs.lemmas.List.{length-map}
 use Rattle.std.proofs.lemmas.List.Sorted.{length_permutation}

@@ -1,3 +1,4 @@
+-- From the lemmas of SortLemmas.
 use Rattle.leak_texts.proofs.SortLemmas.{found_there, is_found}
 use Rattle.leak_texts.proofs.numbering.place.Goals as goal
 

@@ -1,3 +1,4 @@
+-- From the lemmas of SortLemmas.
 use Rattle.std.proofs.Common.{[]}
 use Rattle.leak_texts.proofs.SortLemmas.{stands}
 use Rattle.leak_texts.proofs.numbering.places.Goals as goal

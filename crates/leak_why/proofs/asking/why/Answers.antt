@@ -1,3 +1,4 @@
+-- From the lemmas of WordLemmas and EntryLemmas.
 use Rattle.std.proofs.Common.{◌≡◌, ◌∙◌, ℕ, List, Some, length, map, slice_get, sym, ap, subst, refl, true≢false, arith}
 use Rattle.std.proofs.lemmas.List.{length-map}
 use Rattle.std.proofs.lemmas.Option.{slice_get_within}

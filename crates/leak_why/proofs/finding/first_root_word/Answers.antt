@@ -1,3 +1,4 @@
+-- By arithmetic, from what the calls promise.
 use Rattle.std.proofs.Common.{List, ℕ, ◌≤◌, arith, sym, subst}
 use Rattle.leak_marks.specs.Lists.{Has}
 use Rattle.leak_why.proofs.finding.first_root_word.Goals as goal

@@ -1,3 +1,4 @@
+-- From the lemmas of AloneLemmas and EntryLemmas.
 use Rattle.std.proofs.Common.{◌∷◌, [], ap, ◌∙◌}
 use Rattle.leak_pool.proofs.AloneLemmas.{marks_more}
 use Rattle.leak_why.specs.Entries.{blocks_of}

@@ -1,3 +1,4 @@
+-- From the lemmas of AloneLemmas and EntryLemmas.
 use Rattle.std.proofs.Common.{◌∷◌, [], arith}
 use Rattle.leak_pool.proofs.AloneLemmas.{next_is_target, next_left}
 use Rattle.leak_why.proofs.EntryLemmas.{found_none, found_both}

@@ -1,3 +1,4 @@
+-- The targets so far were found.
 use Rattle.std.proofs.Common.{◌≡◌, ◌++◌}
 use Rattle.leak_pool.specs.Alone.{AreMarks}
 use Rattle.leak_why.specs.Entries.{AreFound, blocks_of}

@@ -1,3 +1,4 @@
+-- From the lemmas of AloneLemmas and EntryLemmas.
 use Rattle.std.proofs.Common.{◌≡◌, ◌<◌, ◌≤◌, ◌∙◌, ℕ, List, get_or, length, ap, subst, arith}
 use Rattle.leak_roots.specs.Places.{addresses_in}
 use Rattle.leak_scan.specs.Targets.{targets_of}

@@ -1,3 +1,4 @@
+-- The first entries were scanned, breadth first.
 use Rattle.std.proofs.Common.{◌-◌, ◌≤◌, length}
 use Rattle.leak_roots.specs.Places.{Places}
 use Rattle.leak_pool.specs.Alone.{AreMarks}

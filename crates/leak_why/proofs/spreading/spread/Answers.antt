@@ -1,3 +1,4 @@
+-- From what the calls promise.
 use Rattle.leak_why.proofs.spreading.spread.Goals as goal
 
 pub returns : goal.returns

@@ -1,4 +1,4 @@
--- The links behind the first ones are told.
+-- The links after the first ones are told.
 use Rattle.std.proofs.Common.{◌≡◌, ◌≤◌, ◌++◌, drop, length}
 use Rattle.leak_why.specs.Text.{links_text}
 use Rattle.leak_why.proofs.telling.push_links.Given as goal

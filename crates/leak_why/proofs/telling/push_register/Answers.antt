@@ -1,3 +1,4 @@
+-- From lemmas of std.
 use Rattle.std.proofs.Common.{◌≡◌, ◌++◌, ◌∙◌, List, ℕ, [], ap, sym, subst}
 use Rattle.std.specs.Prelude.{OnOk, string_bytes}
 use Rattle.std.proofs.lemmas.List.{drop_all}

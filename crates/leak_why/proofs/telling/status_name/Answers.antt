@@ -1,3 +1,4 @@
+-- From lemmas of std.
 use Rattle.std.proofs.Common.{◌≤◌, sym, codes, arith}
 use Rattle.std.proofs.lemmas.List.{get_or_past}
 use Rattle.leak_why.specs.Text.{status_names}

@@ -1,3 +1,4 @@
+-- From what the calls promise.
 use Rattle.std.proofs.Common.{◌≡◌, ◌++◌, ◌∙◌, List, ℕ, Option, None, codes, ap, sym, append_assoc}
 use Rattle.leak_blocks.specs.declared.block.Block.{Block}
 use Rattle.leak_why.specs.declared.chain.Chain.{Chain}

@@ -1,3 +1,4 @@
+-- From the lemmas of WordLemmas.
 use Rattle.std.proofs.Common.{List, slice_get, ap, ◌∙◌, ◌+◌, get_or}
 use Rattle.std.proofs.lemmas.Option.{slice_get-get_or}
 use Rattle.leak_blocks.specs.declared.block.Block.{Block}

@@ -1,3 +1,4 @@
+-- From the lemmas of WordLemmas.
 use Rattle.std.proofs.Common.{◌<◌, ℕ, List, IsSome, length, slice_get, ap, sym, ◌∙◌, subst, refl, get_or, arith}
 use Rattle.std.proofs.lemmas.Option.{slice_get-get_or}
 use Rattle.leak_roots.specs.Places.{addresses_in, memory_places}

@@ -1,4 +1,4 @@
--- The links lead back from the last entry to the one that is looked at, which is so many steps nearer to the roots.
+-- The links lead back from the last entry to the one that is looked at, which is this many steps nearer to the roots.
 use Rattle.std.proofs.Common.{◌≡◌, ℕ, ◌+◌, ◌<◌, Some, slice_get, length}
 use Rattle.leak_why.specs.declared.found.Entry.{Entry}
 use Rattle.leak_why.specs.Entries.{AreLinks, IsAt}

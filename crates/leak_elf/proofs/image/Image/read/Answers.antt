@@ -1,3 +1,4 @@
+-- From the lemmas of Accepted.
 use Rattle.std.proofs.Common.{◌≡◌, ◌∙◌, sym, ap, subst, refl, List, [], map, filter, None}
 use Rattle.leak_elf.specs.declared.header.Header.{Header}
 use Rattle.leak_elf.specs.declared.segment.Segment.{Segment}

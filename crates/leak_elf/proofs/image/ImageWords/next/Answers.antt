@@ -1,3 +1,4 @@
+-- From the lemmas of Held.
 use Rattle.std.proofs.Common.{◌∙◌, sym, subst, false}
 use Rattle.leak_elf.specs.declared.segment.Segment.{Segment}
 use Rattle.leak_elf.specs.Segments.{AreKept}

@@ -1,3 +1,4 @@
+-- From the lemmas of ClaimLemmas.
 use Rattle.std.proofs.Common.{◌≡◌, ◌<◌, length, map, slice_index_or, ℕ, Bool, true, false, List, slice_set, ap, sym, ◌∙◌, subst, vec_len, vec_capacity, Vec, Global}
 use Rattle.leak_marks.specs.Claims.{ClaimState}
 use Rattle.leak_marks.proofs.ClaimLemmas.{attempted_is, mark_says, won_where_clear, lost_where_set, room_there, roomy_more, lists_more, says_more, Says}

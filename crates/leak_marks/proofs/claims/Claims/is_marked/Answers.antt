@@ -1,3 +1,4 @@
+-- From the lemmas of ClaimLemmas.
 use Rattle.std.proofs.Common.{ℕ, List, map, Vec, Global}
 use Rattle.leak_marks.proofs.ClaimLemmas.{mark_says}
 use Rattle.leak_marks.proofs.claims.Claims.is_marked.Goals as goal

@@ -1,3 +1,4 @@
+-- From the lemmas of ClaimLemmas.
 use Rattle.std.proofs.Common.{◌≡◌, ◌∙◌, ap, sym, subst, arith, ℕ, List, Bool, false, length, replicate, get_or, map, count_by, Vec, Global, vec_len, vec_capacity}
 use Rattle.std.proofs.lemmas.List.{length-replicate}
 use Rattle.leak_marks.proofs.ClaimLemmas.{Says, says_none}

@@ -1,3 +1,4 @@
+-- From the lemmas of Places and Outcomes.
 use Rattle.std.proofs.Common.{◌<◌, ap, sym, ◌∙◌, subst, ℕ}
 use Rattle.leak_marks.specs.Seats.{TableOf, Held}
 use Rattle.leak_marks.proofs.Places.{word_there}

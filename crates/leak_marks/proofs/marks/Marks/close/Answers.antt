@@ -1,3 +1,4 @@
+-- From the lemmas of Outcomes.
 use Rattle.std.proofs.Common.{◌≡◌, ℕ}
 use Rattle.std.specs.Slots.{slots_items}
 use Rattle.std.proofs.lemmas.Result.{IfOk-weaker}

@@ -1,3 +1,4 @@
+-- From the lemmas of Moves, Outcomes and Places.
 use Rattle.std.proofs.Common.{◌<◌, ap, sym, ◌∙◌, subst, arith, ℕ, List}
 use Rattle.leak_marks.specs.Marks.{joined}
 use Rattle.leak_marks.specs.Seats.{TableOf, Held}

@@ -1,3 +1,4 @@
+-- From the lemmas of Places and Outcomes.
 use Rattle.std.proofs.Common.{◌<◌, ap, sym, ◌∙◌, subst, ℕ}
 use Rattle.atomic_table.specs.Table.{step}
 use mathlib.Core.Option.{none}

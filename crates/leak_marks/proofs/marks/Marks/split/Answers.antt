@@ -1,3 +1,4 @@
+-- From the lemmas of Moves and Places.
 use Rattle.std.proofs.Common.{◌<◌, ap, sym, ◌∙◌, subst, arith, ℕ}
 use Rattle.leak_marks.specs.Seats.{TableOf, Held}
 use Rattle.leak_marks.proofs.Moves.{splits}

@@ -1,0 +1,1 @@
+-- No goal needs an answer.

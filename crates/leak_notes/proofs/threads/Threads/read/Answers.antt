@@ -1,3 +1,4 @@
+-- From the lemmas of Parts.
 use Rattle.std.proofs.Common.{◌≡◌, ◌<◌, List, length, Some, ap, subst, sym, ◌∙◌}
 use Rattle.std.proofs.lemmas.Result.{err_from_is_err_and}
 use Rattle.leak_elf.specs.declared.segment.NotePart.{NotePart}

@@ -1,4 +1,4 @@
--- The entries of the parts so far were taken up.
+-- The entries of the parts so far were taken.
 use Rattle.leak_notes.proofs.Parts.{AreTaken}
 use Rattle.leak_notes.proofs.threads.Threads.read.Given as goal
 

@@ -1,3 +1,4 @@
+-- From the lemmas of Gathering.
 use Rattle.std.proofs.lemmas.Result.{err_from_is_err_and}
 use Rattle.leak_notes.proofs.Gathering.{taken_first, taken_more, taken_all, taken_refused, following_is_shorter}
 use Rattle.leak_notes.proofs.threads.Threads.take_part.Goals as goal

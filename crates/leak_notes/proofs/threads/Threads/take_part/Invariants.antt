@@ -1,4 +1,4 @@
--- What was taken up, and what is left of the part.
+-- What was taken, and what is left of the part.
 use Rattle.std.proofs.Common.{length}
 use Rattle.leak_notes.specs.Entry.{entries_from}
 use Rattle.leak_notes.proofs.Gathering.{Taken}

@@ -1,3 +1,4 @@
+-- From the lemmas of Leaks, PlaceLemmas and Orders.
 use Rattle.std.proofs.Common.{ap, arith}
 use Rattle.leak_report.specs.Totals.{leaks_in, bytes_of}
 use Rattle.leak_report.proofs.Leaks.{length-both, bytes_of-both, length-marked, bytes_of-marked}

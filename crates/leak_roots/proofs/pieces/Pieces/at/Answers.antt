@@ -1,3 +1,4 @@
+-- From the lemmas of Cutting and Numbered.
 use Rattle.std.proofs.Common.{◌≡◌, ℕ, ◌-◌, List, length, get_or, ◌∙◌, sym, ap, arith}
 use Rattle.leak_roots.specs.declared.piece.Piece.{Piece}
 use Rattle.leak_roots.specs.Cut.{cut_count, register_pieces, memory_pieces, pieces_of}

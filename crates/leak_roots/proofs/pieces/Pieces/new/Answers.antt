@@ -1,3 +1,4 @@
+-- From the lemmas of Numbered and Whole.
 use Rattle.std.proofs.Common.{◌≡◌, ℕ, ◌<◌, List, length, ◌∙◌, ap, subst, arith}
 use Rattle.leak_roots.specs.Places.{AreRanges}
 use Rattle.leak_roots.specs.Cut.{cut_count, memory_pieces}

@@ -1,3 +1,4 @@
+-- From the lemmas of ListLemmas.
 use Rattle.std.proofs.Common.{ℕ, List, [], ◌<◌, sym, subst, ⊎_elim, arith}
 use Rattle.std.specs.List.{AllByRecursion}
 use Rattle.leak_marks.specs.Lists.{Has}
