@@ -6,7 +6,7 @@ A run that changes a file of its folder, or leaves another there, fails too.
     python3 gate/cases.py PROGRAM [PROGRAM ..]
 
 Each run has a folder of its own, with the files of the case, an environment of PATH and LANG alone, and ten seconds. A
-program that is missing counts as one failure. The last line is `cases: N passed, M failed`; the status is 1 where
+program that is missing counts as one failure. The last line is `cases: N passed, M failed`; the status is 1 if
 something failed, and 2 where no program is named. docs/EXAMPLES.md says how to add a case.
 """
 

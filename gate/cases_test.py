@@ -3,7 +3,7 @@
 
     python3 gate/cases_test.py
 
-The last line is `cases_test: N passed, M failed`, and the status is 1 where something failed.
+The last line is `cases_test: N passed, M failed`, and the status is 1 if something failed.
 """
 
 import contextlib
