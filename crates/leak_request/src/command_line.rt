@@ -78,7 +78,7 @@ const CHECK: &str = "List the live blocks that have no chunk of their size in us
 const OTHER_HEAP: &str = "The allocator is not glibc's: don't compare its heap with the log";
 
 /// What help says of `--strict`.
-const STRICT: &str = "Exit with status 3 where there is a warning";
+const STRICT: &str = "Exit with status 3 if there is a warning";
 
 /// `leak_find`, with a subcommand for the search of one core, one for that of two, one that asks for a block, one
 /// that asks who holds the memory, and one that asks what grew.
