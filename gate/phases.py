@@ -47,6 +47,7 @@ PHASES = (
         Step("python3 gate/phases_test.py"),
         Step("python3 gate/cases_test.py"),
         Step(f"python3 gate/terminal.py {OUT}/leak_cli {OUT}/leak_cli.by-rattle", "terminal: "),
+        Step(f"python3 gate/threads.py {OUT}/leak_cli {OUT}/leak_cli.by-rattle", "threads: "),
         Step(f"python3 gate/cases.py {OUT}/leak_cli {OUT}/leak_cli.by-rattle", "cases: "))),
     Phase("capture", 30, (f"{OUT}/leak_cli",), (
         Step("make -C capture"),

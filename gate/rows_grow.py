@@ -70,6 +70,7 @@ def of_refusals():
     found = [refused(f"grow: {name}", "the first fault", LINE, {"log.1": first, "log.2": second}, text)
              for name, first, second, text in rows]
     return [*found, refused("grow: no second log", "all files are opened first", LINE, {"log.1": FIRST}, unopened("log.2")),
+            refused("grow: no first log", "all files are opened first", LINE, {"log.2": FIRST}, unopened("log.1")),
             refused("grow: no log", "the first path is told", LINE, {}, unopened("log.1"))]
 
 

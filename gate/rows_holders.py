@@ -123,8 +123,9 @@ def of_refusals():
         ("a bad log", {"trace.log": ONE_BLOCK + "+ 0x10200\n"}, "input 1: log: line 2 is not an mtrace line"),
     ]
     found = [refused(f"holders: {name}", "as by a search", LINE, {**good, **files}, text) for name, files, text in rows]
-    missing = refused("holders: no log", "all files are opened first", LINE, {"core.k": core()}, unopened("trace.log"))
-    return [*found, missing]
+    missing = [refused(f"holders: no {name}", "all files are opened first", LINE, files, unopened(path)) for name, files, path in
+               (("log", {"core.k": core()}, "trace.log"), ("core", {"trace.log": ONE_BLOCK}, "core.k"))]
+    return [*found, *missing]
 
 
 def cases():

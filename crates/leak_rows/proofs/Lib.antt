@@ -4,6 +4,7 @@ pub mod GraphTests
 pub mod ChainTests
 pub mod SearchTests
 pub mod Logs
+pub mod BoundLogs
 pub mod GrowthLogs
 pub mod GrowthTests
 pub mod ReasonTests

@@ -5,6 +5,7 @@ pub mod Chains
 pub mod Distances
 pub mod Told
 pub mod Searches
+pub mod Bounds
 pub mod TwoSearches
 pub mod Reasons
 pub mod Holding

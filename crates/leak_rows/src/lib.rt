@@ -10,6 +10,7 @@
 //! - from the bytes of small cores and logs: the reports of a search of one core and of two, who holds the memory, what chosen blocks
 //!   hold and who holds them, why a block is held, and what grew (`worked_searches`, `worked_pairs`, `worked_holders`, `worked_reasons`,
 //!   `worked_growths`). For searches, growths and lost blocks the definition allows that report and no other;
+//! - which freed memory is left out on both sides of the bound of small allocations, 131,072 bytes (`worked_bounds`);
 //! - exit statuses (`worked_statuses`).
 //!
 //! [`blocks_fit_if_in_use`] is about every heap that a list of chunks lays out as bytes: a block fits it exactly if its chunk is in
@@ -31,7 +32,7 @@ pub use growth::worked_growths;
 pub use heap::{blocks_fit_if_in_use, live_heaps_fit, worked_heap};
 pub use holding::worked_holders;
 pub use reasons::worked_reasons;
-pub use searches::{worked_pairs, worked_searches};
+pub use searches::{worked_bounds, worked_pairs, worked_searches};
 pub use statuses::worked_statuses;
 pub use why::{
     asked_blocks, register_names, worked_answers, worked_chains, worked_distances, worked_row,

@@ -115,3 +115,74 @@ fn either_of_two_workers_may_begin_in_two_cores(rt: HostRuntime) -> Result<(), F
     }
     Ok(())
 }
+
+/// Holds the first pass of each of two workers in the second marking until the other's, and none in the first marking.
+#[derive(Drop)]
+struct Later {
+    /// How many markings each worker has begun.
+    begun: [AtomicU64; 2],
+    /// 1 where a worker has waited in vain.
+    late: AtomicU64,
+}
+
+impl Later {
+    /// Whether the worker has begun the second marking before the turns end.
+    fn has_come(&self, worker: usize) -> bool {
+        let Some(begun) = self.begun.get(worker) else {
+            return false;
+        };
+        for _ in 0..TURNS {
+            if begun.load(Ordering::SeqCst) == 2 {
+                return true;
+            }
+        }
+        false
+    }
+}
+
+impl Gate for Later {
+    fn pass(&self, worker: u32, step: u64) {
+        let worker = worker as usize;
+        let Some(begun) = self.begun.get(worker) else {
+            return;
+        };
+        if step > 0 || begun.fetch_add(1, Ordering::SeqCst) == 0 {
+            return;
+        }
+        if !self.has_come(1usize.wrapping_sub(worker)) {
+            self.late.store(1, Ordering::SeqCst);
+        }
+    }
+}
+
+#[test]
+fn two_workers_mark_the_later_core_at_the_same_time(rt: HostRuntime) -> Result<(), Fail> {
+    let alloc = rt.alloc();
+    let sample = chain(alloc)?;
+    let zeros = core_of(alloc, &[])?;
+    let log = sample.log.as_bytes();
+    let wanted = with_lines(alloc, CHAIN, "new 0 bytes 0\nreread 0\n")?;
+    let gate = Later {
+        begun: [AtomicU64::new(0), AtomicU64::new(0)],
+        late: AtomicU64::new(0),
+    };
+    let found = find_two(
+        &rt,
+        alloc,
+        zeros.as_slice(),
+        log,
+        sample.core.as_slice(),
+        log,
+        Reading::interior(),
+        Skip::usual(),
+        false,
+        Plan::new(2, 1, 0)?,
+        &gate,
+    )?;
+    same_in(&rt, &"late", gate.late.load(Ordering::SeqCst), 0);
+    for begun in gate.begun.iter() {
+        same_in(&rt, &"begun", begun.load(Ordering::SeqCst), 2);
+    }
+    reports(&rt, &"chain", &found, wanted.as_str());
+    Ok(())
+}

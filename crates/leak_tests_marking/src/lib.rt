@@ -11,6 +11,10 @@ mod comparisons;
 #[cfg(test)]
 mod samples;
 
+// Words of a core that two workers ask for at the same time.
+#[cfg(test)]
+mod appointment;
+
 // Blocks that a word leads to.
 #[cfg(test)]
 mod index;
@@ -70,3 +74,7 @@ mod dirty_many_kept;
 // Claims of the first core that are traced in the second.
 #[cfg(test)]
 mod dirty_retracing;
+
+// Kept and new blocks that are scanned again at the same time.
+#[cfg(test)]
+mod dirty_at_once;

@@ -2,6 +2,7 @@
 
 mod free_links;
 mod gates;
+mod listings;
 mod meetings;
 mod numbers;
 mod samples;

@@ -1,0 +1,196 @@
+#!/usr/bin/env python3
+"""How many threads a run starts: `--workers`, `--piece` and `--stack` of the command line reach marking.
+
+    python3 gate/threads.py PROGRAM [PROGRAM ..]
+
+No report rests on these options, but the number of threads does. A run is traced (ptrace(2)), which tells of each thread that it
+starts, so no count rests on time. The last line is `threads: N passed, M failed`; the status is 1 where something failed.
+"""
+import contextlib
+import ctypes
+import os
+import signal
+import sys
+import tempfile
+
+from cores import core, field, word
+
+SECONDS = 20
+ENVIRONMENT = {"PATH": "/usr/bin:/bin", "LANG": "C.UTF-8"}
+LIBRARY = ctypes.CDLL(None, use_errno=True)
+# Of sys/ptrace.h and wait.h, for Linux.
+TRACE_ME, GO_ON, SET_OPTIONS = 0, 7, 0x4200
+TELL_OF_THREADS, END_WITH_US = 8, 0x100000
+THREAD_STARTED = 3
+EACH_THREAD = 0x40000000
+
+
+def trace(request, process, data=0):
+    """Makes a request of ptrace(2)."""
+    words = [ctypes.c_long(request), ctypes.c_long(process), ctypes.c_void_p(0), ctypes.c_void_p(data)]
+    if LIBRARY.ptrace(*words) == -1:
+        raise OSError(ctypes.get_errno(), "ptrace")
+
+
+def begin(program, line, folder):
+    """Starts the run in its folder, and gives its number. It is stopped at its first instruction."""
+    process = os.fork()
+    if process:
+        return process
+    try:
+        os.chdir(folder)
+        for stream, name in ((1, "stdout"), (2, "stderr")):
+            os.dup2(os.open(name, os.O_WRONLY | os.O_CREAT, 0o600), stream)
+        trace(TRACE_ME, 0)
+        os.execve(program, ["leak_find", *line.split()], ENVIRONMENT)
+    finally:
+        os._exit(126)
+
+
+def passed_on(status):
+    """The signal that a stop hands on to the run: none of those by which tracing tells something."""
+    number = os.WSTOPSIG(status)
+    return 0 if number in (signal.SIGTRAP, signal.SIGSTOP) else number
+
+
+def follow(process):
+    """Lets the run go on to its end. Gives how many threads it started, and its exit status."""
+    started = 0
+    os.waitpid(process, 0)
+    trace(SET_OPTIONS, process, TELL_OF_THREADS | END_WITH_US)
+    trace(GO_ON, process)
+    while True:
+        stopped, status = os.waitpid(-1, EACH_THREAD)
+        if os.WIFSTOPPED(status):
+            started += status >> 16 == THREAD_STARTED
+            trace(GO_ON, stopped, passed_on(status))
+        elif stopped == process:
+            return started, os.waitstatus_to_exitcode(status)
+
+
+def is_late(*_):
+    """Ends the waiting for a run."""
+    raise TimeoutError(f"no end within {SECONDS} seconds")
+
+
+def end(process):
+    """Ends what is left of a run."""
+    with contextlib.suppress(ProcessLookupError):
+        os.kill(process, signal.SIGKILL)
+    with contextlib.suppress(ChildProcessError):
+        while True:
+            os.waitpid(-1, EACH_THREAD)
+
+
+def started_by(program, line, files):
+    """How many threads a run over the files starts, and its exit status; or why that can't be told, and None."""
+    with tempfile.TemporaryDirectory(prefix="threads-") as folder:
+        for name, content in files.items():
+            with open(f"{folder}/{name}", "wb") as file:
+                file.write(content)
+        process = begin(program, line, folder)
+        signal.signal(signal.SIGALRM, is_late)
+        signal.alarm(SECONDS)
+        try:
+            return follow(process)
+        except OSError as error:
+            return str(error), None
+        finally:
+            signal.alarm(0)
+            end(process)
+
+
+def wide_core(*parts):
+    """The sample core with a segment of 36,864 bytes."""
+    return core(lambda image: image.extend(bytes(0x8000)), field(152, 0x9000, 8), field(160, 0x9000, 8), *parts)
+
+
+def wide_star():
+    """A core and a log: a root word leads to a block at 0x11000, which leads to 1200 blocks of 8 bytes that touch one another."""
+    starts = [0x14000 + 8 * place for place in range(1200)]
+    links = [word(0x11000 + 8 * place, start) for place, start in enumerate(starts)]
+    log = "+ 0x11000 0x2580\n" + "".join(f"+ {start:#x} 0x8\n" for start in starts)
+    return wide_core(word(0x10008, 0x11000), *links), log.encode()
+
+
+def of_pieces():
+    """One block. Its links are listed by one worker. The items of the first round are pieces of 27 register words, and of 32 and 476
+    words around the block, and each worker but the caller that has an item is a thread."""
+    return [
+        ("a worker alone", "--workers 1 --piece 1", 0),
+        ("two workers", "--workers 2 --piece 1", 1),
+        ("three workers", "--workers 3 --piece 1", 2),
+        ("four workers, if none are asked for", "--piece 1", 3),
+        ("64 workers", "--workers 64 --piece 1", 63),
+        ("pieces of 512 words, if none are asked for", "--workers 64", 2),
+        ("a piece of 476 words", "--workers 64 --piece 476", 2),
+        ("pieces of 475 words and of one", "--workers 64 --piece 475", 3),
+        ("pieces of 27 words", "--workers 64 --piece 27", 20),
+        ("pieces of 26 words", "--workers 64 --piece 26", 22),
+        ("pieces of 65536 words", "--workers 64 --piece 65536", 2),
+    ]
+
+
+def of_stacks():
+    """The star, by three workers: two threads list its links, and two scan the registers and three ranges of memory. Blocks that a
+    stack has no room for wait. Where 1000 wait besides the first, two threads more scan them."""
+    return [
+        ("no stack", "--workers 3 --stack 0", 4 + 2),
+        ("a stack that leaves 1001 blocks", "--workers 3 --stack 199", 4 + 2),
+        ("a stack that leaves 1000 blocks", "--workers 3 --stack 200", 4),
+        ("a stack of 1024 blocks, if none is asked for", "--workers 3", 4),
+        ("the greatest stack", "--workers 3 --stack 65536", 4),
+        ("a worker alone without a stack", "--workers 1 --stack 0", 0),
+    ]
+
+
+def of_two():
+    """Two cores, in both of which the block is held. The first is marked as one core is, and in the second the block is an item more."""
+    return [
+        ("two cores by a worker alone", "--workers 1 --piece 1", 0),
+        ("two cores by two workers", "--workers 2 --piece 1", 1 + 1),
+        ("two cores by 64 workers", "--workers 64 --piece 1", 63 + 63),
+        ("two cores in pieces of 512 words", "--workers 64", 2 + 3),
+        ("two cores in pieces of 27 words", "--workers 64 --piece 27", 20 + 21),
+    ]
+
+
+def of_two_stacks():
+    """The star in the second core alone, where no links are listed: none of its blocks is kept."""
+    return [("two cores and no stack", "--workers 3 --stack 0", 4 + 2 + 2), ("two cores and a stack", "--workers 3 --stack 200", 4 + 2)]
+
+
+def of_holders():
+    """Of the star the workers list the links. One thread marks."""
+    return [("holders by a worker alone", "--workers 1", 0), ("holders by three workers", "--workers 3", 2),
+            ("holders by 64 workers", "--workers 64", 63)]
+
+
+def cases():
+    """Each case: its name, its command line, its files, and how many threads it starts."""
+    block, lines = core(word(0x10008, 0x10100)), b"+ 0x10100 0x20\n"
+    star, star_lines = wide_star()
+    one, few = {"core.k": block, "trace.log": lines}, {"core.k": star, "trace.log": star_lines}
+    pair = {"core.1": block, "log.1": lines, "core.2": block, "log.2": lines}
+    stars = {"core.1": wide_core(), "log.1": star_lines, "core.2": star, "log.2": star_lines}
+    of_one, of_both = "one core.k trace.log", "two core.1 log.1 core.2 log.2"
+    tables = [(of_pieces(), of_one, one), (of_stacks(), of_one, few), (of_two(), of_both, pair), (of_two_stacks(), of_both, stars),
+              (of_holders(), "holders core.k trace.log", few)]
+    return [(name, f"{line} {options} --other-heap", files, wanted) for table, line, files in tables for name, options, wanted in table]
+
+
+def main(programs):
+    """Makes the runs of each program."""
+    passed = failed = 0
+    for program in programs:
+        for name, line, files, wanted in cases():
+            got = started_by(os.path.abspath(program), line, files)
+            passed, failed = (passed + 1, failed) if got == (wanted, 0) else (passed, failed + 1)
+            if got != (wanted, 0):
+                print(f"FAILED: {name}, by {program}\n  words: {line}\n  wanted: {(wanted, 0)}, threads and status\n  got: {got}")
+    print(f"threads: {passed} passed, {failed} failed")
+    return 1 if failed else 0
+
+
+if __name__ == "__main__":
+    sys.exit(main(sys.argv[1:]))
