@@ -51,37 +51,71 @@ if [ "$dumps" ]; then
 fi
 
 section leaks of requests to a server, between two moments
-if [ "$attaches" ] && command -v nginx > /dev/null; then
-    mkdir www && echo hello > www/x && chmod 755 . www
-    gcc -shared -fPIC -O1 -o request_leaks.so "$kit/tests/request_leaks.c"
-    printf 'pid %s/nginx.pid; error_log %s/e.log; worker_processes 1; daemon off;\nevents {}\nhttp { access_log off; server { listen 127.0.0.1:28187; root %s/www; } }\n' "$work" "$work" "$work" > n.conf
-    LD_PRELOAD=$work/request_leaks.so nginx -c "$work/n.conf" > nginx.out 2>&1 &
-    master=$!
-    started[$master]=1
-    ask() { limited 60 python3 -c 'import sys, urllib.request
+# ask N: so many requests, each by a connection of its own.
+ask() { limited 60 python3 -c 'import sys, urllib.request
 for _ in range(int(sys.argv[1])):
     urllib.request.urlopen("http://127.0.0.1:28187/x", timeout=5).read()' "$1" 2> /dev/null; }
+
+# named_of WORD..: of a search: lists and blocks of requests before the first moment, lists and blocks of those between, and other blocks.
+named_of() {
+    find_leaks "$@" > requests.report 2>&1
+    # one of the three may have a rest of 16 bytes
+    awk 'FNR == NR { for (i = 1; i < NF; i++) if ($i == "+") live[$(i + 1)]; else if ($i == "-") delete live[$(i + 1)]; next }
+        $1 == "leak" { of = $3 != 1016 && $3 != 1032 ? "other" : $2 in live ? "before" : "between"; blocks[of]++; heads[of] += $5 == "head" }
+        END { print heads["before"] + 0, blocks["before"] + 0, heads["between"] + 0, blocks["between"] + 0, blocks["other"] + 0 }' before.log requests.report
+}
+
+# at_least NUMBERS NUMBERS: yes, if no number is below that of the first list in its place; else the second list.
+at_least() { awk -v least="$1" -v found="$2" 'BEGIN { n = split(least, a); split(found, b); for (i = 1; i <= n; i++) if (b[i] < a[i]) { print found; exit } print "yes" }'; }
+
+# lists_of NAME BEFORE LEAST LEAST_BY_ZERO LEAST_OF_PAIR PROGRAM..: a server with one worker loses a list of three for each request: of one and
+# BEFORE more, and then, between both moments, of 30. So many are named at least, in the order of named_of, and nothing else is.
+lists_of() {
+    local name="$1, $(($2 + 1)) and 30" found
+    LD_PRELOAD=$work/request_leaks.so "${@:6}" > served.out 2>&1 &
+    master=$!
+    started[$master]=1
     until_true 20 ask 1
     worker=$(pgrep -P "$master")
     started[$worker]=1
-    ask 2
+    ask "$2"
     "$kit/leak_dump" "$worker" before 2> before.said
     ask 30
     "$kit/leak_dump" --after before "$worker" after 2> after.said
-    for displace in '' '--displace 0'; do
-        find_leaks one --skip-freed --skip-links $displace after.core after.log > requests.report 2>&1
-        # one of the three may have a rest of 16 bytes
-        awk '$1 == "leak" { print $3 == 1016 || $3 == 1032, $5 }' requests.report | sort | uniq -c > requests.named
-        [ "$displace" ] || verdict 'named are lists of requests, and nothing else' '' "$(awk '$2 == 0' requests.named)"
-        verdict "of 33 lists named${displace:+ by $displace}: 30 or more" yes "$(awk '$2 == 1 && $3 == "head" { print ($1 >= 30 ? "yes" : $1) }' requests.named)"
-        echo "     $(grep -E '^(leaked|heads)' requests.report | tr '\n' ' ')"
-    done
-    find_leaks two --skip-freed --skip-links before.core before.log after.core after.log > pair.report 2>&1
-    verdict 'of the three lists that were lost before: two or more' yes "$(awk '$1 == "heads" { print ($2 >= 2 ? "yes" : $2) }' pair.report)"
-    stop "$worker" "$master"
+    found=$(named_of one --skip-freed --skip-links after.core after.log)
+    echo "     $name: lists, blocks of those before; of those between; others: $found"
+    verdict "$name: lists that are named" yes "$(at_least "$3" "$found")"
+    verdict "$name: nothing else" 0 "${found##* }"
+    found=$(named_of one --skip-freed --skip-links --displace 0 after.core after.log)
+    verdict "$name: by addresses of their begins alone" yes "$(at_least "$4" "$found")"
+    found=$(named_of two --skip-freed --skip-links before.core before.log after.core after.log)
+    verdict "$name: of those before, by the pair" yes "$(at_least "$5" "$found")"
+    verdict "$name: nothing else by the pair" '0 0 0' "$(echo "$found" | cut -d ' ' -f 3-)"
+    stop "$master" "$worker" # in this order, or the master makes another worker
+    until_true 20 is_dead "$worker"
     rm -f before.core after.core
+}
+if [ "$attaches" ]; then
+    mkdir www && echo hello > www/x && chmod 755 . www
+    gcc -shared -fPIC -O1 -o request_leaks.so "$kit/tests/request_leaks.c"
+    if command -v nginx > /dev/null; then
+        printf 'pid %s/nginx.pid; error_log %s/e.log; worker_processes 1; daemon off;\nevents {}\nhttp { access_log off; server { listen 127.0.0.1:28187; root %s/www; } }\n' "$work" "$work" "$work" > n.conf
+        # it keeps addresses in memory that it gave back once it had read its configuration, where the first lists then are
+        lists_of nginx 2 '2 2 28 80' '2 2 28 80' '2 2' nginx -c "$work/n.conf"
+        lists_of nginx 30 '30 80 30 90' '30 80 30 90' '30 80' nginx -c "$work/n.conf"
+    else
+        leave_out 'leaks of requests to nginx'
+    fi
+    if command -v apache2 > /dev/null; then
+        printf 'LoadModule mpm_prefork_module /usr/lib/apache2/modules/mod_mpm_prefork.so\nLoadModule authz_core_module /usr/lib/apache2/modules/mod_authz_core.so\n' > a.conf
+        printf 'ServerRoot %s\nServerName x\nUser nobody\nGroup nogroup\nPidFile apache2.pid\nErrorLog a.log\nListen 127.0.0.1:28187\nDocumentRoot %s/www\nStartServers 1\nMaxRequestWorkers 1\n' "$work" "$work" >> a.conf
+        lists_of apache2 2 '3 9 30 90' '3 9 30 90' '3 9' apache2 -D FOREGROUND -f "$work/a.conf"
+        lists_of apache2 30 '31 93 30 90' '31 93 30 90' '31 93' apache2 -D FOREGROUND -f "$work/a.conf"
+    else
+        leave_out 'leaks of requests to apache2'
+    fi
 else
-    leave_out 'leaks of requests to nginx'
+    leave_out 'leaks of requests to servers'
 fi
 
 section other allocators
