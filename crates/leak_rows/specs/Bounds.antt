@@ -3,7 +3,7 @@ use Rattle.std.specs.Prelude.{◌≡◌, ℕ, true, false, List, [], ◌∷◌, 
 use Rattle.leak_mtrace.specs.declared.line.Kind.{Kind}
 use Rattle.leak_mtrace.specs.declared.line.Kind.TheVariants.{Alloc, MoveIn}
 use Rattle.leak_mtrace.specs.declared.line.Line.{Line}
-use Rattle.leak_blocks.specs.Small.{is_covered, is_small_block, small_block_spans, small_spans_of}
+use Rattle.leak_blocks.specs.Small.{is_covered, small_block_spans, small_spans_of}
 use Rattle.leak_rows.specs.Chains.{block}
 use Rattle.leak_rows.specs.Searches.{Finds, Search, core_of, interior, without_freed}
 
