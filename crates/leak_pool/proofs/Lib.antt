@@ -13,3 +13,7 @@ pub mod StepLemmas
 pub mod GoingLemmas
 pub mod EndLemmas
 pub mod ItemLemmas
+pub mod CourseLemmas
+pub mod DepthLemmas
+pub mod DepthOfCores
+pub mod CourseExample

@@ -7,6 +7,8 @@ pub mod Rounds
 pub mod Progress
 pub mod Marking
 pub mod Scopes
+pub mod Course
+pub mod Depth
 pub mod ScopeLaw
 pub mod Links
 pub mod LinksLaw

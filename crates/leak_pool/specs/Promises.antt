@@ -66,15 +66,27 @@ AreOwn blocks targets items workers k (g ∷ gained) =
     AreLed blocks (InRange targets (share k items workers) (share (k + 1) items workers)) [] g
     × AreOwn blocks targets items workers (k + 1) gained
 
+-- The same, and if stacks hold no entry all claims are left, and each is a target of an item.
+pub record AreOfWorkers (blocks targets : ℕ → List ℕ) (stack items workers low : ℕ)
+    (gained : List (List ℕ)) (left : List ℕ) : Type 0 where
+  pub own : AreOwn blocks targets items workers low gained
+  pub direct : stack ≡ 0 → AreOwn (λ s. []) targets items workers low gained
+  pub all_left : stack ≡ 0 → left ≡ concat gained
+
+-- A worker's list if its stack holds no entry: all is left, and an item leads to each claim.
+pub record IsDirect (item : ℕ → Type 0) (list left : List ℕ) : Type 0 where
+  pub all_left : left ≡ list
+  pub of_items : (b : ℕ) → Has list b → item b
+
 -- The workers from low up to high have scanned their shares of a round's items: one list for each of them, and together
 -- the claims that the seat gained. Of these, the left ones are not scanned.
-pub record IsHalf (blocks targets : ℕ → List ℕ) (items workers low high : ℕ) (before after : Held)
+pub record IsHalf (blocks targets : ℕ → List ℕ) (stack items workers low high : ℕ) (before after : Held)
     (gained : List (List ℕ)) (left : List ℕ) : Type 0 where
   pub count : low + length gained ≡ high
   pub listed : after.claims ≡ before.claims ++ concat gained
   pub of_gained : Within left (concat gained)
   pub few : length left ≤ length (concat gained)
-  pub own : AreOwn blocks targets items workers low gained
+  pub own : AreOfWorkers blocks targets stack items workers low gained left
   pub kept :
       IsKept blocks (InRange targets (share low items workers) (share high items workers))
       before.seen after.seen gained left
@@ -104,5 +116,5 @@ pub record HaveScanned (work : Work) (low high : ℕ) (before after : Held)
   pub share : after.share ≡ before.share
   pub sound : IsSound after
   pub done : IfOk gained (λ g.
-      IsHalf (blocks_of work) (items_of work) (length work.items) work.scene.workers low high
+      IsHalf (blocks_of work) (items_of work) work.scene.stack (length work.items) work.scene.workers low high
       before after (as_lists g.claims.items) g.left.items)

@@ -1,6 +1,6 @@
 //! The rounds after the first.
-ghost use Rattle.std.specs.Prelude.{◌≡◌, ◌<◌, ◌≤◌, ◌+◌, [], length, IfOk};
-ghost use Rattle.leak_pool.specs.Progress.{IsBetween};
+ghost use Rattle.std.specs.Prelude.{◌≡◌, ℕ, ◌<◌, ◌≤◌, ◌+◌, [], length, IfOk};
+ghost use Rattle.leak_pool.specs.Progress.{IsBetween, HasCourse};
 
 use crate::gate::Gate;
 use crate::items::Items;
@@ -24,6 +24,8 @@ pub(crate) fn later_round<R: Threads + Sync, S: Source + Sync, G: Gate + Sync>(
     ensures between { IfOk result (IsBetween search.now) }
     ensures size { IfOk result (λ p.
         length progress.seat.claims + length p.waiting.items ≤ length p.seat.claims) }
+    ensures course { (count : ℕ) → HasCourse search.now progress count
+        → IfOk result (λ p. HasCourse search.now p (count + 1)) }
 {
     targets_are_blocks(search.source);
     let waiting = replace(&mut progress.waiting, Vec::new(alloc));
@@ -40,8 +42,10 @@ pub(crate) fn until_none<R: Threads + Sync, S: Source + Sync, G: Gate + Sync>(
     search: &Search<'_, S, G>,
     mut progress: Progress,
 ) -> Result<(Progress, u64), AllocError>
-    requires { IsBetween search.now progress }
+    requires between { IsBetween search.now progress }
+    requires course { HasCourse search.now progress 1 }
     ensures between { IfOk result (λ r. IsBetween search.now r.0) }
+    ensures course { IfOk result (λ r. HasCourse search.now r.0 r.1) }
     ensures ended { IfOk result (λ r. r.0.waiting.items ≡ []) }
     ensures rounds { IfOk result (λ r. r.1 ≤ length search.now.targets + 1) }
 {

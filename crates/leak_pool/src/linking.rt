@@ -1,6 +1,8 @@
 //! Marking by worker threads over links.
 ghost use Rattle.std.specs.Prelude.{◌≡◌, ◌↔◌, ◌<◌, ◌-◌, ◌^◌, [], IfOk, IfSome, IsErrOf, length};
-ghost use Rattle.leak_pool.specs.Marking.{Marks};
+ghost use Rattle.leak_pool.specs.Course.{HaveLed, IsByRounds};
+ghost use Rattle.leak_pool.specs.Depth.{AreByDepth};
+ghost use Rattle.leak_pool.specs.Marking.{Marks, graph_of_roots};
 ghost use Rattle.leak_pool.specs.Promises.{as_lists};
 ghost use Rattle.leak_pool.specs.Rounds.{IsMarked, graph_over};
 
@@ -40,6 +42,10 @@ pub fn mark_by_links<R: Threads + Sync, W: Words + Sync, L: Lookup + Sync, G: Ga
     ensures many { IsErrOf result PoolError.TooMany ↔ (2 ^ 32 - 1 < length live.now.blocks) }
     ensures marks { IfOk result
         (Marks (W.word_at words.now) (L.index lookup.now) roots.now plan.workers) }
+    ensures course { IfOk result
+        (IsByRounds (W.word_at words.now) (L.index lookup.now) roots.now [] [] plan) }
+    ensures depth { let g = graph_of_roots (W.word_at words.now) (L.index lookup.now) roots.now in
+        plan.stack ≡ 0 → 0 < length live.now.blocks → IfOk result (λ m. AreByDepth g m.rounds) }
 {
     let blocks = live.blocks();
     if blocks.len() > u32::MAX as usize {
@@ -72,10 +78,14 @@ fn mark_linked<R: Threads + Sync, S: Source + Sync, G: Gate + Sync>(
     gate: &G,
 ) -> Result<Marked, AllocError>
     requires { IfSome links (λ l. l.source.now ≡ source.now) }
-    ensures { let targets = S.targets source.now in
+    ensures marks { let targets = S.targets source.now in
         let graph = graph_over (S.roots source.now) targets [] in
         IfOk result (λ m. IsMarked graph (length targets) plan.workers m.set.items
         (as_lists m.claims.items) m.rounds) }
+    ensures course { let targets = S.targets source.now in
+        IfOk result (λ m. 0 < length targets →
+        HaveLed (S.roots source.now) targets plan.workers plan.stack m.rounds
+        (as_lists m.claims.items) []) }
 {
     match links {
         Some(links) => mark_by_rounds(rt, alloc, &links, gate, plan, &[]),

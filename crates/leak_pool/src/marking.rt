@@ -1,7 +1,9 @@
 //! Marking by worker threads.
-ghost use Rattle.std.specs.Prelude.{◌≡◌, ◌↔◌, ◌<◌, ◌-◌, ◌^◌, IfOk, IsErrOf, length};
+ghost use Rattle.std.specs.Prelude.{◌≡◌, ◌↔◌, ◌<◌, ◌-◌, ◌^◌, [], IfOk, IsErrOf, length};
 ghost use Rattle.leak_roots.specs.Pieces.{AreCut};
-ghost use Rattle.leak_pool.specs.Marking.{Marks, MarksFrom, IsStartOf};
+ghost use Rattle.leak_pool.specs.Course.{IsByRounds};
+ghost use Rattle.leak_pool.specs.Depth.{AreByDepth};
+ghost use Rattle.leak_pool.specs.Marking.{Marks, MarksFrom, IsStartOf, graph_of_roots, graph_from};
 
 use crate::error::PoolError;
 use crate::gate::Gate;
@@ -33,6 +35,10 @@ pub fn mark<R: Threads + Sync, W: Words + Sync, L: Lookup + Sync, G: Gate + Sync
     ensures many { IsErrOf result PoolError.TooMany ↔ (2 ^ 32 - 1 < length live.now.blocks) }
     ensures marks { let w = W.word_at words.now in let i = L.index lookup.now in
         IfOk result (Marks w i roots.now plan.workers) }
+    ensures course { let w = W.word_at words.now in let i = L.index lookup.now in
+        IfOk result (IsByRounds w i roots.now [] [] plan) }
+    ensures depth { let g = graph_of_roots (W.word_at words.now) (L.index lookup.now) roots.now in
+        plan.stack ≡ 0 → 0 < length live.now.blocks → IfOk result (λ m. AreByDepth g m.rounds) }
 {
     let start = Start {
         marked: Vec::new(alloc),
@@ -62,6 +68,12 @@ pub fn mark_from<R: Threads + Sync, W: Words + Sync, L: Lookup + Sync, G: Gate +
     ensures many { IsErrOf result PoolError.TooMany ↔ (2 ^ 32 - 1 < length live.now.blocks) }
     ensures marks { let w = W.word_at words.now in let i = L.index lookup.now in
         IfOk result (MarksFrom w i roots.now pages.now start.now plan.workers) }
+    ensures course { let w = W.word_at words.now in let i = L.index lookup.now in
+        IfOk result (IsByRounds w i roots.now pages.now start.now.rescan.items plan) }
+    ensures depth { let w = W.word_at words.now in let i = L.index lookup.now in
+        let graph = graph_from w i roots.now pages.now start.now in
+        plan.stack ≡ 0 → 0 < length live.now.blocks
+        → IfOk result (λ m. AreByDepth graph m.rounds) }
 {
     let blocks = live.blocks();
     if blocks.len() > u32::MAX as usize {

@@ -2,9 +2,10 @@
 ghost use Rattle.std.specs.Prelude.{◌≡◌, ◌<◌, [], length, replicate, All, IfOk};
 ghost use Rattle.leak_marks.specs.Lists.{Within, mark_of};
 ghost use Rattle.leak_marks.specs.Seats.{IsSound};
+ghost use Rattle.leak_pool.specs.Course.{HaveLed};
 ghost use Rattle.leak_pool.specs.Promises.{as_lists};
 ghost use Rattle.leak_pool.specs.Rounds.{AreWords, IsMarked, graph_over};
-ghost use Rattle.leak_pool.specs.Progress.{IsFresh, IsBetween};
+ghost use Rattle.leak_pool.specs.Progress.{IsFresh, IsBetween, HasCourse};
 ghost use Rattle.leak_pool.specs.Marking.{IsSet};
 
 use crate::gate::Gate;
@@ -56,7 +57,8 @@ fn first_round<R: Threads + Sync, S: Source + Sync, G: Gate + Sync>(
     mut progress: Progress,
 ) -> Result<Progress, AllocError>
     requires { IsFresh search.now progress }
-    ensures { IfOk result (IsBetween search.now) }
+    ensures between { IfOk result (IsBetween search.now) }
+    ensures course { IfOk result (λ p. HasCourse search.now p 1) }
 {
     targets_are_blocks(search.source);
     claim_start(search.marks, &mut progress.seat, search.given);
@@ -74,10 +76,13 @@ fn mark_words<R: Threads + Sync, S: Source + Sync, G: Gate + Sync>(
     given: &[u32],
 ) -> Result<(Vec<u64>, Vec<Vec<u32>>, u64), AllocError>
     requires { All (λ b. b < length (S.targets source.now)) given.now }
-    ensures { let targets = S.targets source.now in
+    ensures words { let targets = S.targets source.now in
         let graph = graph_over (S.roots source.now) targets given.now in
         IfOk result (λ r.
         AreWords graph (length targets) plan.workers r.0.items (as_lists r.1.items) r.2) }
+    ensures course { let targets = S.targets source.now in
+        IfOk result (λ r.
+        HaveLed (S.roots source.now) targets plan.workers plan.stack r.2 (as_lists r.1.items) []) }
 {
     // (a law, for the proof: a whole run marks what chains reach, and its claims are one for each block)
     whole_runs();
@@ -126,11 +131,15 @@ pub(crate) fn mark_by_rounds<R: Threads + Sync, S: Source + Sync, G: Gate + Sync
     given: &[u32],
 ) -> Result<Marked, AllocError>
     requires { All (λ b. b < length (S.targets source.now)) given.now }
-    ensures { let targets = S.targets source.now in
+    ensures marks { let targets = S.targets source.now in
         let graph = graph_over (S.roots source.now) targets given.now in
         IfOk result (λ m.
         IsMarked graph (length targets) plan.workers m.set.items
         (as_lists m.claims.items) m.rounds) }
+    ensures course { let targets = S.targets source.now in
+        IfOk result (λ m. 0 < length targets →
+        HaveLed (S.roots source.now) targets plan.workers plan.stack m.rounds
+        (as_lists m.claims.items) []) }
 {
     targets_are_blocks(source);
     if source.blocks() == 0 {

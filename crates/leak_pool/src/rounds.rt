@@ -4,7 +4,7 @@ ghost use Rattle.leak_marks.specs.Lists.{Has};
 ghost use Rattle.leak_marks.specs.Rounds.{appended_from};
 ghost use Rattle.leak_pool.specs.Items.{IsItem, items_in, targets_of_item};
 ghost use Rattle.leak_pool.specs.Promises.{as_lists};
-ghost use Rattle.leak_pool.specs.Progress.{IsReady, HasScanned, InItems};
+ghost use Rattle.leak_pool.specs.Progress.{IsReady, HasScanned, InItems, AreOfShares, AreOfOne};
 ghost use Rattle.leak_pool.specs.Rounds.{AreCounted};
 
 use crate::gate::Gate;
@@ -66,8 +66,8 @@ pub(crate) fn by_workers<R: Threads + Sync, S: Source + Sync, G: Gate + Sync>(
     requires ready { IsReady search.now progress }
     requires items { All (IsItem search.now.roots search.now.targets) (items_in items) }
     ensures ready { IfOk result (IsReady search.now) }
-    ensures done { IfOk result
-        (HasScanned (InItems search.now (items_in items.entry)) search.now progress) }
+    ensures done { let all = items_in items.entry in IfOk result
+        (HasScanned (InItems search.now all) (AreOfShares search.now all) search.now progress) }
 {
     if items.len() == 0 {
         return Ok(progress);
@@ -107,7 +107,8 @@ pub(crate) fn by_caller<S: Source, G: Gate>(
     requires item { IsItem search.now.roots search.now.targets item }
     ensures ready { IsReady search.now progress.new }
     ensures done { let targets = targets_of_item search.now.roots search.now.targets item in
-        IfOk result (λ _. HasScanned (Has targets) search.now progress.old progress.new) }
+        IfOk result (λ _. HasScanned (Has targets) (AreOfOne targets) search.now
+        progress.old progress.new) }
 {
     let mut gained = Vec::with_capacity(alloc, 1)?;
     let mut list = Vec::new(alloc);

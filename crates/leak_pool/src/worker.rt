@@ -2,7 +2,7 @@
 ghost use Rattle.std.specs.Prelude.{◌≡◌, ◌<◌, ◌≤◌, ◌+◌, [], IfOk, vec_capacity};
 ghost use Rattle.leak_marks.specs.Seats.{IsSound};
 ghost use Rattle.leak_pool.specs.Items.{IsItem, share, targets_of_item};
-ghost use Rattle.leak_pool.specs.Promises.{IsHolding, IsPutAway, IsWorking};
+ghost use Rattle.leak_pool.specs.Promises.{IsDirect, IsHolding, IsPutAway, IsWorking};
 ghost use Rattle.leak_pool.specs.Scene.{IsSeatOf, InShares, blocks_of};
 
 use crate::gate::Gate;
@@ -71,6 +71,9 @@ fn work<S: Source, G: Gate>(
         IfOk result (λ _.
         IsWorking (blocks_of round.now) share seat.old seat.new
         hand.new.list.items [] hand.new.left.items) }
+    ensures direct { let share = InShares round.now worker (worker + 1) in
+        IfOk result (λ _.
+        round.now.scene.stack ≡ 0 → IsDirect share hand.new.list.items hand.new.left.items) }
 {
     let search = round.search;
     targets_are_blocks(search.source);

@@ -1,12 +1,14 @@
-use Rattle.std.proofs.Common.{ℕ, List, ◌≡◌, ◌<◌, ◌∙◌, ap, sym, subst, length, arith}
+use Rattle.std.proofs.Common.{ℕ, List, [], ◌≡◌, ◌<◌, ◌∙◌, ap, sym, subst, length, arith}
 use Rattle.std.specs.Prelude.{slice_index_or}
 use Rattle.leak_blocks.specs.declared.block.Block.{Block}
 use Rattle.leak_pool.specs.declared.start.Part.{Part}
 use Rattle.leak_pool.specs.Scopes.{AreParts, root_targets, all_targets}
 use Rattle.leak_pool.specs.Rounds.{IsMarked, graph_over}
 use Rattle.leak_pool.specs.Marking.{lists_of}
+use Rattle.leak_pool.specs.Course.{HaveLed}
 use Rattle.leak_pool.proofs.ScopeLemmas.{long_all}
 use Rattle.leak_pool.proofs.FromLemmas.{at_has_any, parts_inside, marks_from}
+use Rattle.leak_pool.proofs.DepthOfCores.{depth_from}
 use Rattle.leak_pool.proofs.marking.mark_from.Goals as goal
 
 pub invariant_of-scope : goal.invariant_of-scope
@@ -35,9 +37,25 @@ pub returns-clause-marks : goal.returns-clause-marks
 returns-clause-marks g c =
     let w = g.W.Words.word_at c.args.words.now in let i = g.L.Lookup.index c.args.lookup.now in
     let m = c.in_ok-marked.marked in let s = c.args.start.now in
-    let a : IsMarked (graph_over (root_targets w i c.args.roots.now c.in_ok-pieces.pieces c.args.pages.now c.as_slice.result.now) (all_targets w i) c.as_slice-given.result.now) (length (all_targets w i)) c.args.plan.workers m.set.items (lists_of m) m.rounds = c.in_ok-marked.ensures in
+    let a : IsMarked (graph_over (root_targets w i c.args.roots.now c.in_ok-pieces.pieces c.args.pages.now c.as_slice.result.now) (all_targets w i) c.as_slice-given.result.now) (length (all_targets w i)) c.args.plan.workers m.set.items (lists_of m) m.rounds = c.in_ok-marked.ensures.marks in
     let d : IsMarked (graph_over (root_targets w i c.args.roots.now c.in_ok-pieces.pieces c.args.pages.now s.rescan.items) (all_targets w i) c.as_slice-given.result.now) (length (all_targets w i)) c.args.plan.workers m.set.items (lists_of m) m.rounds =
     subst (λ (l : List (ℕ × Part)). IsMarked (graph_over (root_targets w i c.args.roots.now c.in_ok-pieces.pieces c.args.pages.now l) (all_targets w i) c.as_slice-given.result.now) (length (all_targets w i)) c.args.plan.workers m.set.items (lists_of m) m.rounds) c.as_slice.ensures.value a in
     let e : IsMarked (graph_over (root_targets w i c.args.roots.now c.in_ok-pieces.pieces c.args.pages.now s.rescan.items) (all_targets w i) s.marked.items) (length (all_targets w i)) c.args.plan.workers m.set.items (lists_of m) m.rounds =
     subst (λ (l : List ℕ). IsMarked (graph_over (root_targets w i c.args.roots.now c.in_ok-pieces.pieces c.args.pages.now s.rescan.items) (all_targets w i) l) (length (all_targets w i)) c.args.plan.workers m.set.items (lists_of m) m.rounds) c.as_slice-given.ensures.value d in
     marks_from w i c.args.roots.now c.in_ok-pieces.pieces c.args.pages.now s c.args.plan.workers c.args.plan.piece m c.in_ok-pieces.ensures e
+
+pub returns-clause-course : goal.returns-clause-course
+returns-clause-course g c =
+    let w = g.W.Words.word_at c.args.words.now in let i = g.L.Lookup.index c.args.lookup.now in
+    let m = c.in_ok-marked.marked in let l = long_all w i in (
+      c.in_ok-pieces.pieces,
+      c.in_ok-pieces.ensures,
+      λ some. subst (λ (l : List (ℕ × Part)). HaveLed (root_targets w i c.args.roots.now c.in_ok-pieces.pieces c.args.pages.now l) (all_targets w i) c.args.plan.workers c.args.plan.stack m.rounds (lists_of m) []) c.as_slice.ensures.value
+          (c.in_ok-marked.ensures.course (omega (arith, l, some))),
+    )
+
+pub returns-clause-depth : goal.returns-clause-depth
+returns-clause-depth g c zero blocks =
+    let w = g.W.Words.word_at c.args.words.now in let i = g.L.Lookup.index c.args.lookup.now in
+    let e = ap (λ (l : List Block). length l) c.requires.blocks in
+    depth_from w i c.args.roots.now c.args.pages.now c.args.start.now c.args.plan c.in_ok-marked.marked zero (omega (arith, e, blocks)) (returns-clause-course g c) (returns-clause-marks g c)

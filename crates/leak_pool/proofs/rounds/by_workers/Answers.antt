@@ -1,4 +1,4 @@
-use Rattle.std.proofs.Common.{◌≡◌, ◌<◌, ◌∙◌, ap, subst, ◌++◌, ℕ, List, [], Vec, Global, length, map, arith, rules}
+use Rattle.std.proofs.Common.{◌≡◌, ◌<◌, ◌∙◌, refl, ap, subst, ◌++◌, ℕ, List, [], Vec, Global, length, map, arith, rules}
 use Rattle.std.specs.Prelude.{IfOk}
 use Rattle.leak_marks.specs.Rounds.{appended_from}
 use Rattle.leak_pool.specs.Items.{items_in, targets_at, targets_of_block}
@@ -22,20 +22,21 @@ returns-clause-done g c =
     let some : 0 < w = let s = c.search.invariant.some in omega arith in
     let scanned = c.scan_shares-seat.ensures in
     let gains : Gains = c.in_ok-gained.gained in
-    let done = subst (λ (k : ℕ). IfOk c.scan_shares-seat.result.1 (λ (g : Gains). IsHalf blocks targets n w 0 k p.seat c.scan_shares-seat.result.0 (map items g.claims.items) g.left.items)) same_workers scanned.done in
-    let h = ok_at c.scan_shares-seat.result.1 gains (λ (g : Gains). IsHalf blocks targets n w 0 w p.seat c.scan_shares-seat.result.0 (map items g.claims.items) g.left.items) c.in_ok-gained.was done in
+    let done = subst (λ (k : ℕ). IfOk c.scan_shares-seat.result.1 (λ (g : Gains). IsHalf blocks targets scene.stack n w 0 k p.seat c.scan_shares-seat.result.0 (map items g.claims.items) g.left.items)) same_workers scanned.done in
+    let h = ok_at c.scan_shares-seat.result.1 gains (λ (g : Gains). IsHalf blocks targets scene.stack n w 0 w p.seat c.scan_shares-seat.result.0 (map items g.claims.items) g.left.items) c.in_ok-gained.was done in
     let same : c.as_slice-2.result.now ≡ gains.claims.items = c.as_slice-2.ensures.value in
     let left : c.as_slice-left.result.now ≡ gains.left.items = c.as_slice-left.ensures.value in (
       map items gains.claims.items,
       gains.left.items,
-      step_of_half blocks targets n w (map items p.claims.items) p.waiting.items p.seat (map items c.absorb.new.claims.items) c.absorb.new.waiting.items c.scan_shares-seat.result.0 (map items gains.claims.items) gains.left.items
+      step_of_half blocks targets scene.stack n w (map items p.claims.items) p.waiting.items p.seat (map items c.absorb.new.claims.items) c.absorb.new.waiting.items c.scan_shares-seat.result.0 (map items gains.claims.items) gains.left.items
           some h scanned.table scanned.share scanned.sound
           (c.in_ok-absorb.ensures.claims ∙ ap (λ (l : List (Vec ℕ Global)). appended_from 0 (map items p.claims.items) (map items l)) same)
           (c.in_ok-absorb.ensures.waiting ∙ ap (λ (l : List ℕ). p.waiting.items ++ l) left),
+      h.own,
     )
 
 pub returns-then-len-eq0-clause-done : goal.returns-then-len-eq0-clause-done
 returns-then-len-eq0-clause-done g c =
     let scene = c.args.search.now in let p = c.args.progress in
     let none : length (items_in c.args.items) ≡ 0 = search rules in
-    ([], [], step_of_none (targets_of_block scene.targets) (targets_at scene.roots scene.targets (items_in c.args.items)) (length (items_in c.args.items)) scene.workers (map items p.claims.items) p.waiting.items p.seat none c.requires.ready.sound)
+    ([], [], step_of_none (targets_of_block scene.targets) (targets_at scene.roots scene.targets (items_in c.args.items)) (length (items_in c.args.items)) scene.workers (map items p.claims.items) p.waiting.items p.seat none c.requires.ready.sound, record { own = tt; direct = λ z. tt; all_left = λ z. refl })

@@ -1,6 +1,6 @@
-use Rattle.std.proofs.Common.{◌+◌, ◌-◌, ◌≤◌, length, vec_capacity}
+use Rattle.std.proofs.Common.{◌+◌, ◌-◌, ◌≡◌, ◌≤◌, length, vec_capacity}
 use Rattle.leak_pool.specs.Items.{InRange}
-use Rattle.leak_pool.specs.Promises.{IsWorking}
+use Rattle.leak_pool.specs.Promises.{IsWorking, IsDirect}
 use Rattle.leak_pool.specs.Scene.{blocks_of, items_of}
 use Rattle.leak_pool.proofs.worker.work.Given as goal
 
@@ -11,6 +11,7 @@ invariant-scan g l = record {
   room : l.round.scene.stack ≤ vec_capacity l.hand.stack;
   few : length l.hand.stack.items ≤ l.round.scene.stack;
   working : IsWorking (blocks_of l.round) (InRange (items_of l.round) l.initial.next l.next) l.initial.seat l.seat l.hand.list.items l.hand.stack.items l.hand.left.items;
+  direct : l.round.scene.stack ≡ 0 → IsDirect (InRange (items_of l.round) l.initial.next l.next) l.hand.list.items l.hand.left.items;
 }
 
 abbrev pub decreases-scan : goal.decreases-scan
