@@ -13,3 +13,4 @@ pub mod StepLemmas
 pub mod GoingLemmas
 pub mod EndLemmas
 pub mod ItemLemmas
+pub mod GateLemmas

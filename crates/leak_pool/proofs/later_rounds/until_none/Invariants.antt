@@ -1,4 +1,5 @@
-use Rattle.std.proofs.Common.{◌+◌, ◌-◌, ◌≤◌, length}
+use Rattle.std.proofs.Common.{ℕ, ◌+◌, ◌-◌, ◌≤◌, [], ◌∷◌, length}
+use Rattle.leak_pool.specs.Gates.{HavePassed, HaveMade}
 use Rattle.leak_pool.specs.Progress.{IsBetween}
 use Rattle.leak_pool.proofs.later_rounds.until_none.Given as goal
 
@@ -7,6 +8,8 @@ invariant-until g l = record {
   one : 1 ≤ l.rounds;
   size : l.rounds + length l.progress.waiting.items ≤ length l.progress.seat.claims + 1;
   between : IsBetween l.search l.progress;
+  gate : (first : ℕ) → HavePassed (g.G.Gate.passed l.gate) l.search.workers (first ∷ []) l.initial.progress.steps.items
+      → HaveMade (g.G.Gate.passed l.gate) l.search.workers first l.rounds l.progress.steps.items;
 }
 
 abbrev pub decreases-until : goal.decreases-until

@@ -1,7 +1,8 @@
-use Rattle.std.proofs.Common.{◌≡◌, ◌<◌, ◌∙◌, ap, sym, subst, ◌^◌, All, ℕ, List, length, map, arith}
+use Rattle.std.proofs.Common.{◌≡◌, ◌<◌, ◌∙◌, ap, sym, subst, ◌^◌, All, ℕ, List, [], ◌∷◌, ◌++◌, length, map, arith}
 use Rattle.std.specs.List.{range_with_len}
 use Rattle.leak_marks.specs.Lists.{Has, Within}
 use Rattle.leak_marks.specs.Seats.{Held}
+use Rattle.leak_pool.specs.Gates.{HavePassed}
 use Rattle.leak_pool.specs.Items.{IsItem, targets_of_block, targets_of_item}
 use Rattle.leak_pool.specs.declared.source.Item.{Item}
 use Rattle.leak_pool.specs.declared.source.Item.TheVariants.{Root}
@@ -12,6 +13,8 @@ use Rattle.leak_pool.specs.Progress.{IsReady, IsBetween, HasScanned, InItems, cl
 use Rattle.leak_pool.proofs.CountLemmas.{has_at}
 use Rattle.leak_pool.proofs.StepLemmas.{ok_both, one_step}
 use Rattle.leak_pool.proofs.EndLemmas.{going_first, first_going}
+use Rattle.leak_pool.proofs.FromLemmas.{if_ok}
+use Rattle.leak_pool.proofs.GateLemmas.{passed_none}
 use Rattle.leak_pool.proofs.ItemLemmas.{roots_long, root_at}
 use Rattle.leak_pool.proofs.marking_by_rounds.first_round.Goals as goal
 
@@ -22,8 +25,8 @@ by_workers-requires-clause-items g c κs within k d h =
     let l = roots_long c.roots.result in
     subst (λ (i : Item). IsItem scene.roots scene.targets i) (sym (root_at c.roots.result k d (omega arith))) (omega arith)
 
-pub returns : goal.returns
-returns g c =
+pub returns-clause-between : goal.returns-clause-between
+returns-clause-between g c =
     let scene = c.args.search.now in let from = c.args.progress in
     let n : c.roots.result ≡ length scene.roots = c.roots.ensures ∙ ap (λ (s : Scene). length s.roots) c.search.view_is in
     let items : List Item = map Root (range_with_len 0 c.roots.result) in
@@ -44,3 +47,13 @@ returns g c =
           begun c.requires.idle (l ∙ n) (λ k h. root_at c.roots.result k (Root 0) (omega arith)) law step.2;
     })
     c.by_workers.ensures.ready c.by_workers.ensures.done
+
+pub returns-clause-gate : goal.returns-clause-gate
+returns-clause-gate g c =
+    let scene = c.args.search.now in let from = c.args.progress in
+    let n : c.roots.result ≡ length scene.roots = c.roots.ensures ∙ ap (λ (s : Scene). length s.roots) c.search.view_is in
+    let items : List Item = map Root (range_with_len 0 c.roots.result) in
+    let passed : ℕ → ℕ → Type 0 = g.G.Gate.passed c.args.gate.now in
+    if_ok (λ (p : Progress). (rounds : List ℕ) → HavePassed passed scene.workers rounds from.steps.items → HavePassed passed scene.workers (rounds ++ length items ∷ []) p.steps.items) _ c.by_workers.result
+    (λ (p : Progress) round. subst (λ (k : ℕ). HavePassed passed scene.workers (k ∷ []) p.steps.items) (roots_long c.roots.result ∙ n) (round [] (passed_none passed scene.workers from.steps.items c.requires.unmade)))
+    c.by_workers.ensures.gate
