@@ -17,3 +17,4 @@ pub mod CourseLemmas
 pub mod DepthLemmas
 pub mod DepthOfCores
 pub mod CourseExample
+pub mod GateLemmas

@@ -2,6 +2,7 @@ pub mod Plan
 pub mod Scene
 pub mod Alone
 pub mod Items
+pub mod Gates
 pub mod Promises
 pub mod Rounds
 pub mod Progress

@@ -29,6 +29,7 @@ pub record IsFresh (scene : Scene) (p : Progress) : Type 0 where
   pub unseated : p.seat ≡ held scene.table [] [] 4294967296
   pub unclaimed : claims_of p ≡ replicate scene.workers []
   pub idle : p.waiting.items ≡ []
+  pub unmade : p.steps.items ≡ replicate scene.workers 0
 
 -- between two rounds
 pub record IsBetween (scene : Scene) (p : Progress) : Type 0 where

@@ -5,6 +5,7 @@ use Rattle.std.specs.declared.alloc.AllocError.{AllocError}
 use Rattle.std.specs.List.{concat}
 use Rattle.leak_marks.specs.Rounds.{AreLed, IsKept, IsKeptInRounds}
 use Rattle.leak_pool.specs.Items.{InRange, share}
+use Rattle.leak_pool.specs.Gates.{ArePassed}
 use Rattle.leak_pool.specs.Scene.{Work, blocks_of, items_of}
 use Rattle.leak_pool.specs.declared.hand.Hand.{Hand}
 use Rattle.leak_pool.specs.declared.task.Gains.{Gains}
@@ -109,8 +110,9 @@ pub record CanScan (work : Work) (low high : ℕ) (seat : Held) : Type 0 where
   pub workers : high ≤ work.scene.workers
   pub share : 3 * (high - low) ≤ seat.share + 4
 
--- They have scanned, unless memory ran out: the seat is of the same table and has its share, and there are the lists.
-pub record HaveScanned (work : Work) (low high : ℕ) (before after : Held)
+-- They have scanned, unless memory ran out: the seat is of the same table and has its share, there are the lists, and
+-- each worker was let through to each of its items.
+pub record HaveScanned (work : Work) (passed : ℕ → ℕ → Type 0) (low high : ℕ) (before after : Held)
     (gained : Result Gains AllocError) : Type 0 where
   pub table : after.table ≡ before.table
   pub share : after.share ≡ before.share
@@ -118,3 +120,4 @@ pub record HaveScanned (work : Work) (low high : ℕ) (before after : Held)
   pub done : IfOk gained (λ g.
       IsHalf (blocks_of work) (items_of work) work.scene.stack (length work.items) work.scene.workers low high
       before after (as_lists g.claims.items) g.left.items)
+  pub gate : IfOk gained (λ _. ArePassed passed (length work.items) work.scene.workers low high)

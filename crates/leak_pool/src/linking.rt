@@ -3,6 +3,8 @@ ghost use Rattle.std.specs.Prelude.{◌≡◌, ◌↔◌, ◌<◌, ◌-◌, ◌^
 ghost use Rattle.leak_pool.specs.Course.{HaveLed, IsByRounds};
 ghost use Rattle.leak_pool.specs.Depth.{AreByDepth};
 ghost use Rattle.leak_pool.specs.Marking.{Marks, graph_of_roots};
+ghost use Rattle.leak_roots.specs.Cut.{pieces_of};
+ghost use Rattle.leak_pool.specs.Gates.{HaveGone};
 ghost use Rattle.leak_pool.specs.Promises.{as_lists};
 ghost use Rattle.leak_pool.specs.Rounds.{IsMarked, graph_over};
 
@@ -46,6 +48,9 @@ pub fn mark_by_links<R: Threads + Sync, W: Words + Sync, L: Lookup + Sync, G: Ga
         (IsByRounds (W.word_at words.now) (L.index lookup.now) roots.now [] [] plan) }
     ensures depth { let g = graph_of_roots (W.word_at words.now) (L.index lookup.now) roots.now in
         plan.stack ≡ 0 → 0 < length live.now.blocks → IfOk result (λ m. AreByDepth g m.rounds) }
+    ensures gate { let first = length (pieces_of plan.piece roots.now) in
+        IfOk result (λ m. 0 < length live.now.blocks
+        → HaveGone (G.passed gate.now) plan.workers first m.rounds) }
 {
     let blocks = live.blocks();
     if blocks.len() > u32::MAX as usize {
@@ -86,6 +91,9 @@ fn mark_linked<R: Threads + Sync, S: Source + Sync, G: Gate + Sync>(
         IfOk result (λ m. 0 < length targets →
         HaveLed (S.roots source.now) targets plan.workers plan.stack m.rounds
         (as_lists m.claims.items) []) }
+    ensures gate { let first = length (S.roots source.now) in
+        IfOk result (λ m. 0 < length (S.targets source.now)
+        → HaveGone (G.passed gate.now) plan.workers first m.rounds) }
 {
     match links {
         Some(links) => mark_by_rounds(rt, alloc, &links, gate, plan, &[]),

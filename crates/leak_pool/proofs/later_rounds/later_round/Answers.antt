@@ -1,6 +1,7 @@
-use Rattle.std.proofs.Common.{◌≡◌, ◌<◌, ◌∙◌, ap, sym, subst, ◌∷◌, ℕ, List, [], Vec, Global, length, map, get_or, take, drop, ◌-◌, ◌+◌, arith}
+use Rattle.std.proofs.Common.{◌≡◌, ◌<◌, ◌∙◌, ap, sym, subst, ◌∷◌, ℕ, List, [], Vec, Global, length, map, get_or, take, drop, ◌-◌, ◌+◌, arith, ◌++◌}
 use Rattle.std.proofs.lemmas.List.{get_or_read}
 use Rattle.leak_marks.specs.Lists.{Has}
+use Rattle.leak_pool.specs.Gates.{HavePassed}
 use Rattle.leak_pool.specs.Items.{IsItem, targets_of_block}
 use Rattle.leak_pool.specs.declared.source.Item.{Item}
 use Rattle.leak_pool.specs.declared.source.Item.TheVariants.{Block}
@@ -102,3 +103,20 @@ returns-clause-course g c n led =
     (λ (p : Progress) second. course_more scene.roots scene.targets scene.workers scene.stack n x ws (claims_of from) (claims_of mid) (claims_of p) c.replace-waiting.new.dest.items mid.waiting.items p.waiting.items from.seat mid.seat p.seat
     first.0 second.0 first.1 second.1 items workers is none come one alone second.2 second.3)
     c.by_workers.ensures.done
+
+pub returns-clause-gate : goal.returns-clause-gate
+returns-clause-gate g c =
+    let w : ℕ = c.args.search.now.workers in let from = c.args.progress in let mid = c.by_caller.new.progress in let all = c.replace-waiting.result in
+    let some : 0 < length all.items = subst (λ (v : Vec ℕ Global). 0 < length v.items) (sym c.replace-waiting.ensures.value) c.requires.waiting in
+    let ws : List ℕ = take (length all.items - 1) (drop 1 all.items) in
+    let items : List Item = map Block (take (length c.deref.result.now - 1) (drop 1 c.deref.result.now)) in
+    let is : items ≡ map Block ws = ap (λ (l : List ℕ). map Block (take (length l - 1) (drop 1 l))) c.deref.ensures.value in
+    let front : length all.items ≡ length (get_or all.items 0 0 ∷ ws) = ap (λ (l : List ℕ). length l) (front_rest all.items some) in
+    let long : length items ≡ length ws = ap (λ (l : List Item). length l) is ∙ blocks_long ws in
+    let waiting : length all.items ≡ length from.waiting.items = ap (λ (v : Vec ℕ Global). length v.items) c.replace-waiting.ensures.value in
+    let size : length items ≡ length from.waiting.items - 1 = omega arith in
+    let passed : ℕ → ℕ → Type 0 = g.G.Gate.passed c.args.gate.now in
+    if_ok (λ (p : Progress). (rounds : List ℕ) → HavePassed passed w rounds mid.steps.items → HavePassed passed w (rounds ++ length items ∷ []) p.steps.items) _ c.by_workers.result
+    (λ (p : Progress) round rounds was. subst (λ (n : ℕ). HavePassed passed w (rounds ++ n ∷ []) p.steps.items) size
+    (round rounds (subst (λ (l : List ℕ). HavePassed passed w rounds l) (sym c.by_caller.ensures.steps) was)))
+    c.by_workers.ensures.gate

@@ -1,7 +1,8 @@
-use Rattle.std.proofs.Common.{◌≡◌, ◌<◌, ◌∙◌, ap, sym, subst, ◌^◌, All, ℕ, List, length, map, arith}
+use Rattle.std.proofs.Common.{◌≡◌, ◌<◌, ◌∙◌, ap, sym, subst, ◌^◌, All, ℕ, List, [], ◌∷◌, ◌++◌, length, map, arith}
 use Rattle.std.specs.List.{range_with_len}
 use Rattle.leak_marks.specs.Lists.{Has, Within}
 use Rattle.leak_marks.specs.Seats.{Held}
+use Rattle.leak_pool.specs.Gates.{HavePassed}
 use Rattle.leak_pool.specs.Items.{IsItem, targets_of_block, targets_of_item}
 use Rattle.leak_pool.specs.declared.source.Item.{Item}
 use Rattle.leak_pool.specs.declared.source.Item.TheVariants.{Root}
@@ -14,6 +15,7 @@ use Rattle.leak_pool.proofs.StepLemmas.{ok_both, one_step}
 use Rattle.leak_pool.proofs.CourseLemmas.{course_first}
 use Rattle.leak_pool.proofs.EndLemmas.{going_first, first_going}
 use Rattle.leak_pool.proofs.FromLemmas.{if_ok}
+use Rattle.leak_pool.proofs.GateLemmas.{passed_none}
 use Rattle.leak_pool.proofs.ItemLemmas.{roots_long, root_at}
 use Rattle.leak_pool.proofs.marking_by_rounds.first_round.Goals as goal
 
@@ -59,3 +61,13 @@ returns-clause-course g c =
     (λ (p : Progress) step. course_first scene.roots scene.targets scene.workers scene.stack (claims_of from) (claims_of p) from.waiting.items p.waiting.items mid.seat p.seat step.0 step.1 items workers (l ∙ n)
     (λ k h. root_at c.roots.result k (Root 0) (omega arith)) c.requires.unclaimed c.requires.idle step.2 step.3)
     c.by_workers.ensures.done
+
+pub returns-clause-gate : goal.returns-clause-gate
+returns-clause-gate g c =
+    let scene = c.args.search.now in let from = c.args.progress in
+    let n : c.roots.result ≡ length scene.roots = c.roots.ensures ∙ ap (λ (s : Scene). length s.roots) c.search.view_is in
+    let items : List Item = map Root (range_with_len 0 c.roots.result) in
+    let passed : ℕ → ℕ → Type 0 = g.G.Gate.passed c.args.gate.now in
+    if_ok (λ (p : Progress). (rounds : List ℕ) → HavePassed passed scene.workers rounds from.steps.items → HavePassed passed scene.workers (rounds ++ length items ∷ []) p.steps.items) _ c.by_workers.result
+    (λ (p : Progress) round. subst (λ (k : ℕ). HavePassed passed scene.workers (k ∷ []) p.steps.items) (roots_long c.roots.result ∙ n) (round [] (passed_none passed scene.workers from.steps.items c.requires.unmade)))
+    c.by_workers.ensures.gate

@@ -23,3 +23,10 @@ returns-clause-marks g c =
 pub returns-then-blocks-eq0-clause-marks : goal.returns-then-blocks-eq0-clause-marks
 returns-then-blocks-eq0-clause-marks g c = marked_none (g.S.Source.roots c.args.source.now) (g.S.Source.targets c.args.source.now) c.args.given.now c.args.plan.workers (map items c.in_ok-no_claims.field-0.items) _
     (sym c.blocks-2.ensures ∙ c.if-blocks-eq0.true) (c.in_ok-no_claims.ensures.lists ∙ ap (λ (n : ℕ). replicate n []) c.workers.ensures.number) c.new.ensures.items (λ i b h. c.targets_are_blocks.ensures i b h)
+
+pub returns-clause-gate : goal.returns-clause-gate
+returns-clause-gate g c = λ some. c.in_ok-words.ensures.gate
+
+pub returns-then-blocks-eq0-clause-gate : goal.returns-then-blocks-eq0-clause-gate
+returns-then-blocks-eq0-clause-gate g c = λ some.
+    absurd (let n = c.blocks-2.ensures in let none = c.if-blocks-eq0.true in omega arith)

@@ -1,6 +1,7 @@
 use Rattle.std.proofs.Common.{◌≡◌, ℕ, List, [], Vec, Global, length, ◌∙◌, ap, subst, arith}
 use Rattle.leak_marks.specs.Lists.{times, Within, mark_of, word_count}
 use Rattle.leak_pool.specs.Course.{HaveLed}
+use Rattle.leak_pool.specs.Gates.{HaveGone}
 use Rattle.leak_pool.specs.Rounds.{AreWords, Going, graph_over}
 use Rattle.leak_pool.specs.Progress.{HaveCome, claims_of}
 use Rattle.leak_pool.proofs.CourseLemmas.{course_less}
@@ -31,3 +32,9 @@ returns-clause-course g c =
     let come = subst (λ (l : List ℕ). HaveCome roots targets c.workers-workers.result c.min-stack.result c.in_ok-progress-2.rounds (claims_of p) l p.seat.seen) c.in_ok-progress-2.ensures.ended c.in_ok-progress-2.ensures.course in
     subst (λ (n : ℕ). HaveLed roots targets n c.args.plan.stack c.in_ok-progress-2.rounds (claims_of p) []) c.workers-workers.ensures.number
     (come.0, come.1, course_less roots targets c.workers-workers.result c.min-stack.result c.args.plan.stack (claims_of p) [] come.0 none come.2)
+
+pub returns-clause-gate : goal.returns-clause-gate
+returns-clause-gate g c =
+    let first : ℕ = length (g.S.Source.roots c.args.source.now) in
+    subst (λ (n : ℕ). HaveGone (g.G.Gate.passed c.args.gate.now) n first c.in_ok-progress-2.rounds) c.workers-workers.ensures.number
+    (c.in_ok-progress-2.ensures.gate first c.in_ok-progress.ensures.gate)

@@ -2,9 +2,12 @@ use Rattle.std.proofs.Common.{◌≡◌, ◌<◌, ◌∙◌, refl, ap, subst, �
 use Rattle.std.specs.Prelude.{IfOk}
 use Rattle.leak_marks.specs.Rounds.{appended_from}
 use Rattle.leak_pool.specs.Items.{items_in, targets_at, targets_of_block}
+use Rattle.leak_pool.specs.Gates.{IsNextPassed, ArePassed}
 use Rattle.leak_pool.specs.Promises.{IsHalf}
+use Rattle.leak_pool.specs.Rounds.{AreCounted}
 use Rattle.leak_pool.specs.Scene.{Scene}
 use Rattle.leak_pool.specs.declared.task.Gains.{Gains}
+use Rattle.leak_pool.proofs.GateLemmas.{round_more, round_none}
 use Rattle.leak_pool.proofs.StepLemmas.{ok_at, step_of_half, step_of_none}
 use Rattle.leak_pool.proofs.rounds.by_workers.Goals as goal
 
@@ -40,3 +43,24 @@ returns-then-len-eq0-clause-done g c =
     let scene = c.args.search.now in let p = c.args.progress in
     let none : length (items_in c.args.items) ≡ 0 = search rules in
     ([], [], step_of_none (targets_of_block scene.targets) (targets_at scene.roots scene.targets (items_in c.args.items)) (length (items_in c.args.items)) scene.workers (map items p.claims.items) p.waiting.items p.seat none c.requires.ready.sound, record { own = tt; direct = λ z. tt; all_left = λ z. refl })
+
+pub returns-clause-gate : goal.returns-clause-gate
+returns-clause-gate g c =
+    let p = c.args.progress in
+    let n : ℕ = length (items_in c.args.items) in let w : ℕ = c.args.search.now.workers in
+    let passed : ℕ → ℕ → Type 0 = g.G.Gate.passed c.args.gate.now in
+    let same_workers : c.search.inside.workers ≡ w = ap (λ (s : Scene). s.workers) c.search.view_is in
+    let steps : c.as_slice.result.now ≡ p.steps.items = c.as_slice.ensures.value in
+    let scanned : IfOk c.scan_shares-seat.result.1 (λ (g : Gains). ArePassed (IsNextPassed passed p.steps.items) n w 0 w) =
+    subst (λ (l : List ℕ). IfOk c.scan_shares-seat.result.1 (λ (g : Gains). ArePassed (IsNextPassed passed l) n w 0 w)) steps
+    (subst (λ (k : ℕ). IfOk c.scan_shares-seat.result.1 (λ (g : Gains). ArePassed (IsNextPassed passed c.as_slice.result.now) n w 0 k)) same_workers c.scan_shares-seat.ensures.gate) in
+    let counted : AreCounted n w w p.steps.items c.count_steps.new.steps.items =
+    subst (λ (k : ℕ). AreCounted n k k p.steps.items c.count_steps.new.steps.items) same_workers
+    (subst (λ (k : ℕ). AreCounted k c.search.inside.workers c.search.inside.workers p.steps.items c.count_steps.new.steps.items) c.len-2.ensures c.count_steps.ensures.each) in
+    λ rounds was. round_more passed w n rounds p.steps.items c.count_steps.new.steps.items
+    (ok_at c.scan_shares-seat.result.1 c.in_ok-gained.gained (λ (g : Gains). ArePassed (IsNextPassed passed p.steps.items) n w 0 w) c.in_ok-gained.was scanned) counted was
+
+pub returns-then-len-eq0-clause-gate : goal.returns-then-len-eq0-clause-gate
+returns-then-len-eq0-clause-gate g c =
+    let none : length (items_in c.args.items) ≡ 0 = search rules in
+    λ rounds was. round_none (g.G.Gate.passed c.args.gate.now) c.args.search.now.workers (length (items_in c.args.items)) rounds c.args.progress.steps.items none was
