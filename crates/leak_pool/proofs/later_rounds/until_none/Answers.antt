@@ -21,8 +21,9 @@ returns-clause-rounds g c = let i = c.until.invariant in let f = few c.args.sear
 pub until-init : goal.until-init
 until-init g c = record {
   one = omega arith;
-  size = let f = c.requires.few in omega arith;
-  between = c.requires;
+  size = let f = c.requires.between.few in omega arith;
+  between = c.requires.between;
+  course = c.requires.course;
   gate = λ first was. made_one (g.G.Gate.passed c.args.gate.now) c.args.search.now.workers first c.args.progress.steps.items was;
 }
 
@@ -31,6 +32,7 @@ until-preserved g c = record {
   one = omega arith;
   size = let i = c.until.invariant in let s = c.in_ok-progress.ensures.size in let l = i.size in let ne : 0 < length c.until.progress.waiting.items = search rules in omega arith;
   between = c.in_ok-progress.ensures.between;
+  course = c.in_ok-progress.ensures.course c.until.rounds c.until.invariant.course;
   gate = λ first was.
       made_more (g.G.Gate.passed c.args.gate.now) c.args.search.now.workers first (length c.until.progress.waiting.items - 1) c.until.rounds c.until.progress.steps.items c.in_ok-progress.progress.steps.items
       c.in_ok-progress.ensures.gate (c.until.invariant.gate first was);
