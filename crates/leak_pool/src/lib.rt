@@ -10,8 +10,8 @@
 //! Sources: bdwgc's marking (an object is kept where a chain of words leads to it from a root); Boehm, Demers and
 //! Shenker, PLDI 1991, for marking from an earlier state. Rounds, pieces, stacks and claims are own rule.
 //!
-//! The contracts say which worker claimed what, round by round (specs/Course.antt), and with stacks of no entry how many
-//! rounds there are. No contract says that two workers run at the same time, when the gate is called, or that stacks make
+//! The contracts say which worker claimed what, round by round (specs/Course.antt), and how many rounds there are with stacks
+//! of no entry, or alone. No contract says that two workers run at the same time, when the gate is called, or that stacks make
 //! the rounds fewer: tests show these.
 #![tactic(auto)]
 

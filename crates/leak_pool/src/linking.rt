@@ -45,7 +45,7 @@ pub fn mark_by_links<R: Threads + Sync, W: Words + Sync, L: Lookup + Sync, G: Ga
     ensures course { IfOk result
         (IsByRounds (W.word_at words.now) (L.index lookup.now) roots.now [] [] plan) }
     ensures depth { let g = graph_of_roots (W.word_at words.now) (L.index lookup.now) roots.now in
-        plan.stack ≡ 0 → 0 < length live.now.blocks → IfOk result (λ m. AreByDepth g m.rounds) }
+        IfOk result (λ m. plan.stack ≡ 0 → 0 < length live.now.blocks → AreByDepth g m.rounds) }
 {
     let blocks = live.blocks();
     if blocks.len() > u32::MAX as usize {

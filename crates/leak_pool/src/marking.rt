@@ -38,7 +38,7 @@ pub fn mark<R: Threads + Sync, W: Words + Sync, L: Lookup + Sync, G: Gate + Sync
     ensures course { let w = W.word_at words.now in let i = L.index lookup.now in
         IfOk result (IsByRounds w i roots.now [] [] plan) }
     ensures depth { let g = graph_of_roots (W.word_at words.now) (L.index lookup.now) roots.now in
-        plan.stack ≡ 0 → 0 < length live.now.blocks → IfOk result (λ m. AreByDepth g m.rounds) }
+        IfOk result (λ m. plan.stack ≡ 0 → 0 < length live.now.blocks → AreByDepth g m.rounds) }
 {
     let start = Start {
         marked: Vec::new(alloc),
@@ -72,8 +72,8 @@ pub fn mark_from<R: Threads + Sync, W: Words + Sync, L: Lookup + Sync, G: Gate +
         IfOk result (IsByRounds w i roots.now pages.now start.now.rescan.items plan) }
     ensures depth { let w = W.word_at words.now in let i = L.index lookup.now in
         let graph = graph_from w i roots.now pages.now start.now in
-        plan.stack ≡ 0 → 0 < length live.now.blocks
-        → IfOk result (λ m. AreByDepth graph m.rounds) }
+        IfOk result (λ m.
+        plan.stack ≡ 0 → 0 < length live.now.blocks → AreByDepth graph m.rounds) }
 {
     let blocks = live.blocks();
     if blocks.len() > u32::MAX as usize {
