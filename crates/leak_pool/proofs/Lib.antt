@@ -4,6 +4,7 @@ pub mod CountLemmas
 pub mod GraphLemmas
 pub mod WordLemmas
 pub mod AloneLemmas
+pub mod AloneRoundLemmas
 pub mod ScanLemmas
 pub mod LinkLemmas
 pub mod WorkLemmas

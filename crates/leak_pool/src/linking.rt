@@ -47,7 +47,7 @@ pub fn mark_by_links<R: Threads + Sync, W: Words + Sync, L: Lookup + Sync, G: Ga
     ensures course { IfOk result
         (IsByRounds (W.word_at words.now) (L.index lookup.now) roots.now [] [] plan) }
     ensures depth { let g = graph_of_roots (W.word_at words.now) (L.index lookup.now) roots.now in
-        plan.stack ≡ 0 → 0 < length live.now.blocks → IfOk result (λ m. AreByDepth g m.rounds) }
+        IfOk result (λ m. plan.stack ≡ 0 → 0 < length live.now.blocks → AreByDepth g m.rounds) }
     ensures gate { let first = length (pieces_of plan.piece roots.now) in
         IfOk result (λ m. 0 < length live.now.blocks
         → HaveGone (G.passed gate.now) plan.workers first m.rounds) }

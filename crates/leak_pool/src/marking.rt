@@ -40,7 +40,7 @@ pub fn mark<R: Threads + Sync, W: Words + Sync, L: Lookup + Sync, G: Gate + Sync
     ensures course { let w = W.word_at words.now in let i = L.index lookup.now in
         IfOk result (IsByRounds w i roots.now [] [] plan) }
     ensures depth { let g = graph_of_roots (W.word_at words.now) (L.index lookup.now) roots.now in
-        plan.stack ≡ 0 → 0 < length live.now.blocks → IfOk result (λ m. AreByDepth g m.rounds) }
+        IfOk result (λ m. plan.stack ≡ 0 → 0 < length live.now.blocks → AreByDepth g m.rounds) }
     ensures gate { let first = length (pieces_of plan.piece roots.now) in
         IfOk result (λ m. 0 < length live.now.blocks
         → HaveGone (G.passed gate.now) plan.workers first m.rounds) }
@@ -77,8 +77,8 @@ pub fn mark_from<R: Threads + Sync, W: Words + Sync, L: Lookup + Sync, G: Gate +
         IfOk result (IsByRounds w i roots.now pages.now start.now.rescan.items plan) }
     ensures depth { let w = W.word_at words.now in let i = L.index lookup.now in
         let graph = graph_from w i roots.now pages.now start.now in
-        plan.stack ≡ 0 → 0 < length live.now.blocks
-        → IfOk result (λ m. AreByDepth graph m.rounds) }
+        IfOk result (λ m.
+        plan.stack ≡ 0 → 0 < length live.now.blocks → AreByDepth graph m.rounds) }
     ensures gate { let pieces = pieces_of plan.piece roots.now in
         let first = length pieces + length start.now.rescan.items in
         IfOk result (λ m. 0 < length live.now.blocks

@@ -24,11 +24,12 @@ returns-clause-course g c =
     if_ok _ (IsByRounds w i c.args.roots.now [] [] c.args.plan) c.mark_from.result (λ m led. subst (λ (l : List (ℕ × Part)). IsByRounds w i c.args.roots.now c.unwrap-pages.result l c.args.plan m) c.new-2.ensures.items led) c.mark_from.ensures.course
 
 pub returns-clause-depth : goal.returns-clause-depth
-returns-clause-depth g c zero blocks =
+returns-clause-depth g c =
     let w = g.W.Words.word_at c.args.words.now in let i = g.L.Lookup.index c.args.lookup.now in
     let e = ap (λ (l : List Block). length l) c.requires in
-    ok_both (Marks w i c.args.roots.now c.args.plan.workers) (IsByRounds w i c.args.roots.now [] [] c.args.plan) (λ m. AreByDepth (graph_of_roots w i c.args.roots.now) m.rounds) c.mark_from.result
-    (λ m marks by. depth_of_roots w i c.args.roots.now c.args.plan m zero (omega (arith, e, blocks)) by marks) (returns-clause-marks g c) (returns-clause-course g c)
+    ok_both (Marks w i c.args.roots.now c.args.plan.workers) (IsByRounds w i c.args.roots.now [] [] c.args.plan)
+    (λ m. c.args.plan.stack ≡ 0 → 0 < length c.args.live.now.blocks → AreByDepth (graph_of_roots w i c.args.roots.now) m.rounds) c.mark_from.result
+    (λ m marks by none blocks. depth_of_roots w i c.args.roots.now c.args.plan m none (omega (arith, e, blocks)) by marks) (returns-clause-marks g c) (returns-clause-course g c)
 
 pub returns-clause-gate : goal.returns-clause-gate
 returns-clause-gate g c =
