@@ -172,19 +172,23 @@ roots_taken word_at index p n a b h t = subst (λ (l : List (ℕ × ℕ)). AreTa
 
 -- ---- marking of a log's blocks
 
-free : (word_at : ℕ → Option ℕ) (index : Index) (first : List ℕ) (b : ℕ) → ¬ Has (graph_of word_at index first []).given b
+pub free : (word_at : ℕ → Option ℕ) (index : Index) (first : List ℕ) (b : ℕ) → ¬ Has (graph_of word_at index first []).given b
 free word_at index first b h = nothing b (subst (λ (l : List ℕ). Has l b) (graph-given word_at index first []) h)
 
 pub marks_few : (marks : List Bool) (list : List ℕ) → AreMarks marks list → length list ≤ length marks
 marks_few marks list m = few_distinct (length marks) list m.once m.inside
 
+pub block_taken : (word_at : ℕ → Option ℕ) (index : Index) (first : List ℕ) (blocks : List Block) (d : Block) (list after : List ℕ) (k b : ℕ) → index.blocks ≡ blocks → b ≡ get_or list k 0 → b < length blocks
+    → AreTaken (targets_in index (block_words word_at (get_or blocks b d))) list after → AreTaken (targets_of (graph_of word_at index first []) (get_or list k 0)) list after
+block_taken word_at index first blocks d list after k b are is low taken =
+    subst (λ (x : ℕ). AreTaken (targets_of (graph_of word_at index first []) x) list after) is
+    (subst (λ (l : List ℕ). AreTaken l list after) (sym (graph-block word_at index first [] b d (let e = ap (λ (l : List Block). length l) are in omega arith)))
+    (subst (λ (l : List Block). AreTaken (targets_in index (block_words word_at (get_or l b d))) list after) (sym are) taken))
+
 pub block_followed : (word_at : ℕ → Option ℕ) (index : Index) (first : List ℕ) (blocks : List Block) (d : Block) (list after : List ℕ) (k b : ℕ) → index.blocks ≡ blocks → k < length list → b ≡ get_or list k 0 → b < length blocks
     → AreTaken (targets_in index (block_words word_at (get_or blocks b d))) list after → IsFollowed (graph_of word_at index first []) list k → IsFollowed (graph_of word_at index first []) after (k + 1)
 block_followed word_at index first blocks d list after k b are inside is low taken f =
-    followed_more (graph_of word_at index first []) list after k (free word_at index first) inside f
-    (subst (λ (x : ℕ). AreTaken (targets_of (graph_of word_at index first []) x) list after) is
-    (subst (λ (l : List ℕ). AreTaken l list after) (sym (graph-block word_at index first [] b d (let e = ap (λ (l : List Block). length l) are in omega arith)))
-    (subst (λ (l : List Block). AreTaken (targets_in index (block_words word_at (get_or l b d))) list after) (sym are) taken)))
+    followed_more (graph_of word_at index first []) list after k (free word_at index first) inside f (block_taken word_at index first blocks d list after k b are is low taken)
 
 pub roots_followed : (word_at : ℕ → Option ℕ) (index : Index) (first : List ℕ) (none list : List ℕ) → none ≡ [] → AreTaken first none list → IsFollowed (graph_of word_at index first []) list 0
 roots_followed word_at index first none list empty t = followed_none (graph_of word_at index first []) list (free word_at index first)

@@ -39,7 +39,7 @@ going_first g blocks w seat claims is sound whole given base inside = record {
 }
 
 -- the parts of the roots
-part_of : (roots targets : List (List ℕ)) (b : ℕ) → Has (concat roots) b → (k : ℕ) × (k < length roots) × Has (get_or roots k []) b
+pub part_of : (roots targets : List (List ℕ)) (b : ℕ) → Has (concat roots) b → (k : ℕ) × (k < length roots) × Has (get_or roots k []) b
 part_of [] targets b h = absurd (let z : 0 < 0 = h in omega arith)
 part_of (r ∷ rs) targets b h = ⊎_elim (λ f. (0, omega arith, f)) (λ m. let p : (k : ℕ) × (k < length rs) × Has (get_or rs k []) b = part_of rs targets b m in let n : p.0 < length rs = p.1 in (suc p.0, omega arith, p.2)) (of_append r (concat rs) b h)
 

@@ -42,7 +42,7 @@ first_is word_at index places pieces pages rescan n cut =
 led_alone : (index : Index) (led : List ℕ) → led ++ targets_of index [] ≡ led
 led_alone index led = ap (λ (l : List ℕ). led ++ l) (targets-nil index) ∙ append-nil led
 
-graph_is : (word_at : ℕ → Option ℕ) (index : Index) (places : Places) (pieces : List Piece) (pages : List ℕ) (s : Start) (n : ℕ) → AreCut places n pieces
+pub graph_is : (word_at : ℕ → Option ℕ) (index : Index) (places : Places) (pieces : List Piece) (pages : List ℕ) (s : Start) (n : ℕ) → AreCut places n pieces
     → graph_over (root_targets word_at index places pieces pages s.rescan.items) (all_targets word_at index) s.marked.items ≡ graph_from word_at index places pages s
 unfolding graph_of
 graph_is word_at index places pieces pages s n cut =
@@ -92,6 +92,14 @@ marks_from_none word_at index places pages s workers m unmarked unread from = re
         ∙ ap (λ (l : List ℕ). graph_of word_at index l s.marked.items) (led_alone index (led_by_roots word_at index places))
         ∙ ap (λ (l : List ℕ). graph_of word_at index (led_by_roots word_at index places) l) unmarked
 
+pub graph_of_pieces : (word_at : ℕ → Option ℕ) (index : Index) (places : Places) (pieces : List Piece) (pages : List ℕ) (n : ℕ) → AreCut places n pieces
+    → graph_over (root_targets word_at index places pieces pages []) (all_targets word_at index) [] ≡ graph_of word_at index (led_by_roots word_at index places) []
+unfolding graph_of
+graph_of_pieces word_at index places pieces pages n cut = ap (λ (l : List ℕ). with_first l) (first_is word_at index places pieces pages [] n cut ∙ led_alone index (led_by_roots word_at index places))
+  where
+    with_first : List ℕ → Graph
+    with_first l = record { first = l; targets = all_targets word_at index; given = [] }
+
 -- from no start, over pieces of the roots alone
 pub marks_of_pieces : (word_at : ℕ → Option ℕ) (index : Index) (places : Places) (pieces : List Piece) (pages : List ℕ) (workers n : ℕ) (m : Marked) → AreCut places n pieces
     → IsMarked (graph_over (root_targets word_at index places pieces pages []) (all_targets word_at index) []) (length (all_targets word_at index)) workers m.set.items (lists_of m) m.rounds
@@ -114,11 +122,8 @@ marks_of_pieces word_at index places pieces pages workers n m cut marked = recor
     long : length (all_targets word_at index) ≡ length index.blocks
     long = long_all word_at index
 
-    with_first : List ℕ → Graph
-    with_first l = record { first = l; targets = all_targets word_at index; given = [] }
-
     same : graph_over (root_targets word_at index places pieces pages []) (all_targets word_at index) [] ≡ graph_of word_at index (led_by_roots word_at index places) []
-    same = ap (λ (l : List ℕ). with_first l) (first_is word_at index places pieces pages [] n cut ∙ led_alone index (led_by_roots word_at index places))
+    same = graph_of_pieces word_at index places pieces pages n cut
 
 pub if_ok : {X E : Type 0} (P Q : X → Type 0) (r : Result X E) → ((x : X) → P x → Q x) → IfOk r P → IfOk r Q
 if_ok P Q (Ok x) f h = f x h

@@ -13,7 +13,7 @@ use Rattle.leak_marks.specs.Seats.{Held, held}
 use Rattle.leak_marks.specs.Lists.{Has, Within}
 use Rattle.leak_marks.specs.Rounds.{IsKept}
 use Rattle.leak_pool.specs.Items.{InRange, share}
-use Rattle.leak_pool.specs.Promises.{AreOwn, IsHalf}
+use Rattle.leak_pool.specs.Promises.{AreOwn, AreOfWorkers, IsHalf}
 use Rattle.leak_marks.proofs.ListLemmas.{within_append}
 use Rattle.leak_marks.proofs.HalfLemmas.{kept_beside, kept_in_turn}
 
@@ -60,7 +60,16 @@ own_both : (blocks targets : ℕ → List ℕ) (items workers low middle : ℕ) 
 own_both blocks targets items workers low middle [] g2 count a b = let is : middle ≡ low = omega arith in subst (λ (k : ℕ). AreOwn blocks targets items workers k g2) is b
 own_both blocks targets items workers low middle (g ∷ g1) g2 count a b = (a.0, own_both blocks targets items workers (low + 1) middle g1 g2 (omega arith) a.1 b)
 
-module _ (blocks targets : ℕ → List ℕ) (items workers low middle high : ℕ) (some : 0 < workers) (lower : low ≤ middle) (upper : middle ≤ high) where
+-- and what they left
+workers_both : (blocks targets : ℕ → List ℕ) (stack items workers low middle : ℕ) (g1 g2 : List (List ℕ)) (l1 l2 : List ℕ) → low + length g1 ≡ middle
+    → AreOfWorkers blocks targets stack items workers low g1 l1 → AreOfWorkers blocks targets stack items workers middle g2 l2 → AreOfWorkers blocks targets stack items workers low (g1 ++ g2) (l1 ++ l2)
+workers_both blocks targets stack items workers low middle g1 g2 l1 l2 count a b = record {
+  own = own_both blocks targets items workers low middle g1 g2 count a.own b.own;
+  direct = λ z. own_both (λ s. []) targets items workers low middle g1 g2 count (a.direct z) (b.direct z);
+  all_left = λ z. ap (λ (l : List ℕ). l ++ l2) (a.all_left z) ∙ ap (λ (l : List ℕ). concat g1 ++ l) (b.all_left z) ∙ sym (concat-append g1 g2);
+}
+
+module _ (blocks targets : ℕ → List ℕ) (stack items workers low middle high : ℕ) (some : 0 < workers) (lower : low ≤ middle) (upper : middle ≤ high) where
   counts : (g1 g2 : List (List ℕ)) → low + length g1 ≡ middle → middle + length g2 ≡ high → low + length (g1 ++ g2) ≡ high
   counts g1 g2 p q = let l = length-append g1 g2 in omega arith
 
@@ -83,14 +92,14 @@ module _ (blocks targets : ℕ → List ℕ) (items workers low middle high : �
   within g1 g2 l1 l2 p q x h = subst (λ (l : List ℕ). Has l x) (sym (concat-append g1 g2)) (within_append l1 l2 (concat g1) (concat g2) p q x h)
 
   -- one half after the other
-  pub half_after : (s0 s1 s2 : Held) (g1 g2 : List (List ℕ)) (l1 l2 : List ℕ) → IsHalf blocks targets items workers low middle s0 s1 g1 l1 → IsHalf blocks targets items workers middle high s1 s2 g2 l2
-      → IsHalf blocks targets items workers low high s0 s2 (g1 ++ g2) (l1 ++ l2)
+  pub half_after : (s0 s1 s2 : Held) (g1 g2 : List (List ℕ)) (l1 l2 : List ℕ) → IsHalf blocks targets stack items workers low middle s0 s1 g1 l1 → IsHalf blocks targets stack items workers middle high s1 s2 g2 l2
+      → IsHalf blocks targets stack items workers low high s0 s2 (g1 ++ g2) (l1 ++ l2)
   half_after s0 s1 s2 g1 g2 l1 l2 x y = record {
     count = counts g1 g2 x.count y.count;
     listed = y.listed ∙ ap (λ (l : List ℕ). l ++ concat g2) x.listed ∙ append_assoc s0.claims (concat g1) (concat g2) ∙ ap (λ (l : List ℕ). s0.claims ++ l) (sym (concat-append g1 g2));
     of_gained = within g1 g2 l1 l2 x.of_gained y.of_gained;
     few = fewer g1 g2 l1 l2 x.few y.few;
-    own = own_both blocks targets items workers low middle g1 g2 x.count x.own y.own;
+    own = workers_both blocks targets stack items workers low middle g1 g2 l1 l2 x.count x.own y.own;
     kept = let p = share-mono low middle items workers some lower in let q = share-mono middle high items workers some upper in
         kept_in_turn blocks (InRange targets a b) (InRange targets b c) (InRange targets a c) (first_of targets a b c p q) (second_of targets a b c p q) (split_at targets a b c p q)
         s0.seen s1.seen s2.seen g1 g2 l1 l2 x.kept y.kept;
@@ -98,15 +107,15 @@ module _ (blocks targets : ℕ → List ℕ) (items workers low middle high : �
 
   -- the two at once
   pub half_joined : (start giver given one two end : Held) (g1 g2 : List (List ℕ)) (l1 l2 : List ℕ) → giver ≡ held start.table start.claims start.seen (start.share - start.share / 2) → given ≡ held start.table [] start.seen (start.share / 2)
-      → IsHalf blocks targets items workers low middle giver one g1 l1 → IsHalf blocks targets items workers middle high given two g2 l2
-      → end ≡ held one.table (one.claims ++ two.claims) (one.seen ++ two.seen) (one.share + two.share) → IsHalf blocks targets items workers low high start end (g1 ++ g2) (l1 ++ l2)
+      → IsHalf blocks targets stack items workers low middle giver one g1 l1 → IsHalf blocks targets stack items workers middle high given two g2 l2
+      → end ≡ held one.table (one.claims ++ two.claims) (one.seen ++ two.seen) (one.share + two.share) → IsHalf blocks targets stack items workers low high start end (g1 ++ g2) (l1 ++ l2)
   half_joined start giver given one two end g1 g2 l1 l2 giver_is given_is x y is = record {
     count = counts g1 g2 x.count y.count;
     listed = ap (λ (h : Held). h.claims) is ∙ ap (λ (l : List ℕ). one.claims ++ l) (y.listed ∙ ap (λ (h : Held). h.claims ++ concat g2) given_is) ∙ ap (λ (l : List ℕ). l ++ concat g2) (x.listed ∙ ap (λ (h : Held). h.claims ++ concat g1) giver_is)
         ∙ append_assoc start.claims (concat g1) (concat g2) ∙ ap (λ (l : List ℕ). start.claims ++ l) (sym (concat-append g1 g2));
     of_gained = within g1 g2 l1 l2 x.of_gained y.of_gained;
     few = fewer g1 g2 l1 l2 x.few y.few;
-    own = own_both blocks targets items workers low middle g1 g2 x.count x.own y.own;
+    own = workers_both blocks targets stack items workers low middle g1 g2 l1 l2 x.count x.own y.own;
     kept = let p = share-mono low middle items workers some lower in let q = share-mono middle high items workers some upper in
         subst (λ (h : Held). IsKept blocks (InRange targets a c) start.seen h.seen (g1 ++ g2) (l1 ++ l2)) (sym is)
         (kept_beside blocks (InRange targets a b) (InRange targets b c) (InRange targets a c) (first_of targets a b c p q) (second_of targets a b c p q) (split_at targets a b c p q)

@@ -4,6 +4,7 @@ pub mod CountLemmas
 pub mod GraphLemmas
 pub mod WordLemmas
 pub mod AloneLemmas
+pub mod AloneRoundLemmas
 pub mod ScanLemmas
 pub mod LinkLemmas
 pub mod WorkLemmas
@@ -13,3 +14,8 @@ pub mod StepLemmas
 pub mod GoingLemmas
 pub mod EndLemmas
 pub mod ItemLemmas
+pub mod CourseLemmas
+pub mod DepthLemmas
+pub mod DepthOfCores
+pub mod CourseExample
+pub mod GateLemmas

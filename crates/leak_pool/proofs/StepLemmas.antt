@@ -28,10 +28,10 @@ share_all : (n m : ℕ) → 0 < m → share m n m ≡ n
 unfolding share
 share_all n m pos = mul-div_cancel_left n pos
 
-pub step_of_half : (blocks targets : ℕ → List ℕ) (n w : ℕ) (claims : List (List ℕ)) (waiting : List ℕ) (before : Held) (longer : List (List ℕ)) (more : List ℕ) (after : Held) (gained : List (List ℕ)) (left : List ℕ)
-    → 0 < w → IsHalf blocks targets n w 0 w before after gained left → after.table ≡ before.table → after.share ≡ before.share → IsSound after
+pub step_of_half : (blocks targets : ℕ → List ℕ) (stack n w : ℕ) (claims : List (List ℕ)) (waiting : List ℕ) (before : Held) (longer : List (List ℕ)) (more : List ℕ) (after : Held) (gained : List (List ℕ)) (left : List ℕ)
+    → 0 < w → IsHalf blocks targets stack n w 0 w before after gained left → after.table ≡ before.table → after.share ≡ before.share → IsSound after
     → longer ≡ appended_from 0 claims gained → more ≡ waiting ++ left → IsStep blocks (InRange targets 0 n) w claims waiting before longer more after gained left
-step_of_half blocks targets n w claims waiting before longer more after gained left pos h table share' sound longer_is more_is = record {
+step_of_half blocks targets stack n w claims waiting before longer more after gained left pos h table share' sound longer_is more_is = record {
   table = table;
   share = share';
   sound = sound;

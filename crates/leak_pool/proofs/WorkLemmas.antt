@@ -6,14 +6,14 @@ use mathlib.Core.Logic.{dite}
 use native.Mathlib.Decide.{dec_lt}
 use Rattle.leak_marks.specs.Lists.{Has, Within, IsDistinct}
 use Rattle.leak_marks.specs.Seats.{Held, IsSound}
-use Rattle.leak_marks.specs.Rounds.{IsKept, IsKeptInRounds}
-use Rattle.leak_marks.proofs.ListLemmas.{here, at_head, has_front, has_back, of_append, distinct_back}
+use Rattle.leak_marks.specs.Rounds.{AreLed, IsKept, IsKeptInRounds}
+use Rattle.leak_marks.proofs.ListLemmas.{here, there, at_head, has_front, has_back, of_append, distinct_back}
 use Rattle.leak_marks.proofs.StackLemmas.{kept_more, kept_nothing, led_from}
 use Rattle.leak_pool.specs.Items.{InRange, share, targets_of_item}
 use Rattle.leak_pool.specs.declared.hand.Hand.{Hand}
 use Rattle.leak_pool.specs.declared.source.Item.{Item}
 use Rattle.leak_pool.specs.declared.source.Item.TheVariants.{Root, Block}
-use Rattle.leak_pool.specs.Promises.{IsPutAway, IsWorking, IsHalf}
+use Rattle.leak_pool.specs.Promises.{IsPutAway, IsWorking, IsDirect, IsHalf}
 use Rattle.leak_pool.specs.Scene.{Work, blocks_of, items_of}
 use Rattle.leak_pool.proofs.ScanLemmas.{none_has}
 use Rattle.leak_pool.proofs.CountLemmas.{few_distinct}
@@ -162,18 +162,43 @@ pub put_longer : (targets : List ℕ) (limit : ℕ) (mid after : Held) (hand lat
 put_longer targets limit mid after hand later p =
     let b : length later.list.items ≡ length hand.list.items + length p.more = ap (λ (l : List ℕ). length l) p.list_is ∙ length-append hand.list.items p.more in omega arith
 
+-- ---- if the stack holds no entry
+
+pub direct_none : (item : ℕ → Type 0) (list left : List ℕ) → list ≡ [] → left ≡ [] → IsDirect item list left
+direct_none item list left list_is left_is = record { all_left = left_is ∙ sym list_is; of_items = λ b h. none_has b (subst (λ (l : List ℕ). Has l b) list_is h) }
+
+pub direct_item : (targets : ℕ → List ℕ) (first i limit : ℕ) (mid after : Held) (hand later : Hand) → first ≤ i → limit ≡ 0 → IsDirect (InRange targets first i) hand.list.items hand.left.items
+    → IsPutAway (targets i) limit mid after hand later → IsDirect (InRange targets first (i + 1)) later.list.items later.left.items
+direct_item targets first i limit mid after hand later low empty d p = record {
+  all_left = p.left_is ∙ ap (λ (l : List ℕ). l ++ drop (limit - length hand.stack.items) p.more) d.all_left ∙ ap (λ (n : ℕ). hand.list.items ++ drop n p.more) none ∙ sym p.list_is;
+  of_items = λ b h. ⊎_elim (λ old. let r = d.of_items b old in let below : r.0 < i = r.2 in (r.0, r.1, omega arith, r.3)) (λ new. (i, low, omega arith, p.kept.gains b new))
+      (of_append hand.list.items p.more b (subst (λ (l : List ℕ). Has l b) p.list_is h));
+}
+  where
+    none : limit - length hand.stack.items ≡ 0
+    none = let z = empty in omega arith
+
+-- claims of items alone
+led_direct : (blocks : ℕ → List ℕ) (item : ℕ → Type 0) (earlier list : List ℕ) → ((b : ℕ) → Has list b → item b) → AreLed blocks item earlier list
+led_direct blocks item earlier [] all = tt
+led_direct blocks item earlier (b ∷ list) all = (inl (all b (here b list)), led_direct blocks item (b ∷ earlier) list (λ x h. all x (there b list x h)))
+
 -- at the end of its share
-pub half_of_one : (blocks targets : ℕ → List ℕ) (items workers k : ℕ) (before after : Held) (list left : List ℕ) (gained : List (List ℕ)) (rest : List ℕ)
-    → IsWorking blocks (InRange targets (share k items workers) (share (k + 1) items workers)) before after list [] left → gained ≡ list ∷ [] → rest ≡ left
-    → IsHalf blocks targets items workers k (k + 1) before after gained rest
-half_of_one blocks targets items workers k before after list left gained rest w one rest_is =
-    subst (λ (l : List (List ℕ)). IsHalf blocks targets items workers k (k + 1) before after l rest) (sym one)
-    (subst (λ (l : List ℕ). IsHalf blocks targets items workers k (k + 1) before after (list ∷ []) l) (sym rest_is) (record {
+pub half_of_one : (blocks targets : ℕ → List ℕ) (stack items workers k : ℕ) (before after : Held) (list left : List ℕ) (gained : List (List ℕ)) (rest : List ℕ)
+    → IsWorking blocks (InRange targets (share k items workers) (share (k + 1) items workers)) before after list [] left → (stack ≡ 0 → IsDirect (InRange targets (share k items workers) (share (k + 1) items workers)) list left) → gained ≡ list ∷ [] → rest ≡ left
+    → IsHalf blocks targets stack items workers k (k + 1) before after gained rest
+half_of_one blocks targets stack items workers k before after list left gained rest w alone one rest_is =
+    subst (λ (l : List (List ℕ)). IsHalf blocks targets stack items workers k (k + 1) before after l rest) (sym one)
+    (subst (λ (l : List ℕ). IsHalf blocks targets stack items workers k (k + 1) before after (list ∷ []) l) (sym rest_is) (record {
       count = refl;
       listed = w.claims_are ∙ ap (λ (l : List ℕ). before.claims ++ l) (sym whole);
       of_gained = λ b h. subst (λ (l : List ℕ). Has l b) (sym whole) (w.of_list b (has_front left [] b h));
       few = let f = w.few in let e : length (concat (list ∷ [])) ≡ length list = ap (λ (l : List ℕ). length l) whole in omega arith;
-      own = (w.kept.led.0, tt);
+      own = record {
+        own = (w.kept.led.0, tt);
+        direct = λ z. (led_direct (λ s. []) (InRange targets (share k items workers) (share (k + 1) items workers)) [] list (alone z).of_items, tt);
+        all_left = λ z. (alone z).all_left ∙ sym whole;
+      };
       kept = subst (λ (l : List ℕ). IsKept blocks (InRange targets (share k items workers) (share (k + 1) items workers)) before.seen after.seen (list ∷ []) l) (append-nil left) w.kept;
     }))
   where

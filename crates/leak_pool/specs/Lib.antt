@@ -2,11 +2,14 @@ pub mod Plan
 pub mod Scene
 pub mod Alone
 pub mod Items
+pub mod Gates
 pub mod Promises
 pub mod Rounds
 pub mod Progress
 pub mod Marking
 pub mod Scopes
+pub mod Course
+pub mod Depth
 pub mod ScopeLaw
 pub mod Links
 pub mod LinksLaw

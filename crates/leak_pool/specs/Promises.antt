@@ -5,6 +5,7 @@ use Rattle.std.specs.declared.alloc.AllocError.{AllocError}
 use Rattle.std.specs.List.{concat}
 use Rattle.leak_marks.specs.Rounds.{AreLed, IsKept, IsKeptInRounds}
 use Rattle.leak_pool.specs.Items.{InRange, share}
+use Rattle.leak_pool.specs.Gates.{ArePassed}
 use Rattle.leak_pool.specs.Scene.{Work, blocks_of, items_of}
 use Rattle.leak_pool.specs.declared.hand.Hand.{Hand}
 use Rattle.leak_pool.specs.declared.task.Gains.{Gains}
@@ -66,15 +67,27 @@ AreOwn blocks targets items workers k (g ∷ gained) =
     AreLed blocks (InRange targets (share k items workers) (share (k + 1) items workers)) [] g
     × AreOwn blocks targets items workers (k + 1) gained
 
+-- The same, and if stacks hold no entry all claims are left, and each is a target of an item.
+pub record AreOfWorkers (blocks targets : ℕ → List ℕ) (stack items workers low : ℕ)
+    (gained : List (List ℕ)) (left : List ℕ) : Type 0 where
+  pub own : AreOwn blocks targets items workers low gained
+  pub direct : stack ≡ 0 → AreOwn (λ s. []) targets items workers low gained
+  pub all_left : stack ≡ 0 → left ≡ concat gained
+
+-- A worker's list if its stack holds no entry: all is left, and an item leads to each claim.
+pub record IsDirect (item : ℕ → Type 0) (list left : List ℕ) : Type 0 where
+  pub all_left : left ≡ list
+  pub of_items : (b : ℕ) → Has list b → item b
+
 -- The workers from low up to high have scanned their shares of a round's items: one list for each of them, and together
 -- the claims that the seat gained. Of these, the left ones are not scanned.
-pub record IsHalf (blocks targets : ℕ → List ℕ) (items workers low high : ℕ) (before after : Held)
+pub record IsHalf (blocks targets : ℕ → List ℕ) (stack items workers low high : ℕ) (before after : Held)
     (gained : List (List ℕ)) (left : List ℕ) : Type 0 where
   pub count : low + length gained ≡ high
   pub listed : after.claims ≡ before.claims ++ concat gained
   pub of_gained : Within left (concat gained)
   pub few : length left ≤ length (concat gained)
-  pub own : AreOwn blocks targets items workers low gained
+  pub own : AreOfWorkers blocks targets stack items workers low gained left
   pub kept :
       IsKept blocks (InRange targets (share low items workers) (share high items workers))
       before.seen after.seen gained left
@@ -97,12 +110,14 @@ pub record CanScan (work : Work) (low high : ℕ) (seat : Held) : Type 0 where
   pub workers : high ≤ work.scene.workers
   pub share : 3 * (high - low) ≤ seat.share + 4
 
--- They have scanned, unless memory ran out: the seat is of the same table and has its share, and there are the lists.
-pub record HaveScanned (work : Work) (low high : ℕ) (before after : Held)
+-- They have scanned, unless memory ran out: the seat is of the same table and has its share, there are the lists, and
+-- each worker was let through to each of its items.
+pub record HaveScanned (work : Work) (passed : ℕ → ℕ → Type 0) (low high : ℕ) (before after : Held)
     (gained : Result Gains AllocError) : Type 0 where
   pub table : after.table ≡ before.table
   pub share : after.share ≡ before.share
   pub sound : IsSound after
   pub done : IfOk gained (λ g.
-      IsHalf (blocks_of work) (items_of work) (length work.items) work.scene.workers low high
+      IsHalf (blocks_of work) (items_of work) work.scene.stack (length work.items) work.scene.workers low high
       before after (as_lists g.claims.items) g.left.items)
+  pub gate : IfOk gained (λ _. ArePassed passed (length work.items) work.scene.workers low high)

@@ -23,10 +23,11 @@ pub record IsSearch (blocks : ℕ) (targets : List (List ℕ)) (given : List ℕ
   pub some : 0 < workers
   pub few : workers ≤ 64
 
--- what is scanned at once
+-- what is scanned at once, and how many steps each worker has made before
 pub record Work : Type 0 where
   pub scene : Scene
   pub items : List Item
+  pub steps : List ℕ
 
 -- what each block leads to, and what each of the items leads to
 abbrev pub blocks_of : Work → ℕ → List ℕ

@@ -1,8 +1,9 @@
 //! Marking on the caller's thread.
 ghost use Rattle.std.specs.Prelude.{◌≡◌, ◌↔◌, ℕ, ◌+◌, ◌<◌, ◌≤◌, ◌-◌, ◌^◌, List, [], ◌∷◌, IfOk, IsErrOf, length};
-ghost use Rattle.leak_marks.specs.Lists.{Has};
+ghost use Rattle.leak_marks.specs.Lists.{Has, Within};
 ghost use Rattle.leak_pool.specs.Alone.{AreMarks, AreTaken, IsFollowed};
-ghost use Rattle.leak_pool.specs.Marking.{Marks, graph_of, led_by_roots};
+ghost use Rattle.leak_pool.specs.Depth.{AreByDepth};
+ghost use Rattle.leak_pool.specs.Marking.{Marks, graph_of, graph_of_roots, led_by_roots};
 
 use crate::error::PoolError;
 use crate::marked::Marked;
@@ -25,6 +26,8 @@ pub fn mark_alone<W: Words, L: Lookup>(
     requires { (L.index lookup.now).blocks ≡ live.now.blocks }
     ensures many { IsErrOf result PoolError.TooMany ↔ (2 ^ 32 - 1 < length live.now.blocks) }
     ensures marks { IfOk result (Marks (W.word_at words.now) (L.index lookup.now) roots.now 1) }
+    ensures depth { let g = graph_of_roots (W.word_at words.now) (L.index lookup.now) roots.now in
+        IfOk result (λ m. 0 < length live.now.blocks → AreByDepth g m.rounds) }
 {
     let blocks = live.blocks();
     if blocks.len() > u32::MAX as usize {
@@ -89,6 +92,10 @@ fn take_blocks<W: Words, L: Lookup>(
         → IsFollowed (graph_of (W.word_at words.now) (L.index lookup.now) first []) list.old.items 0
         → IsFollowed (graph_of (W.word_at words.now) (L.index lookup.now) first [])
         list.new.items (length list.new.items)) }
+    ensures depth { IfOk result (λ rounds. (first : List ℕ)
+        → IsFollowed (graph_of (W.word_at words.now) (L.index lookup.now) first []) list.old.items 0
+        → Within list.old.items first
+        → AreByDepth (graph_of (W.word_at words.now) (L.index lookup.now) first []) rounds) }
 {
     let mut rounds = 1;
     let mut end = 0;

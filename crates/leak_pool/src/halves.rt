@@ -45,7 +45,7 @@ pub(crate) fn scan_shares<R: Threads + Sync, T: Task + Sync>(
     high: u32,
 ) -> (MarkSeat, Gained)
     requires { CanScan (T.work task.now) low high seat }
-    ensures { HaveScanned (T.work task.now) low high seat result.0 result.1 }
+    ensures { HaveScanned (T.work task.now) (T.passed task.now) low high seat result.0 result.1 }
 {
     if high - low == 1 {
         let gained = task.scan_share(alloc, &mut seat, low);
@@ -62,11 +62,13 @@ pub(crate) fn scan_shares<R: Threads + Sync, T: Task + Sync>(
         rt,
         move || -> (MarkSeat, Gained)
             requires { CanScan (T.work task.now) middle high other }
-            ensures { HaveScanned (T.work task.entry.now) middle high other result.0 result.1 }
+            ensures { let entry = task.entry.now in
+                HaveScanned (T.work entry) (T.passed entry) middle high other result.0 result.1 }
         { scan_shares(rt, alloc, task, other, middle, high) },
         move || -> (MarkSeat, Gained)
             requires { CanScan (T.work task.now) low middle seat }
-            ensures { HaveScanned (T.work task.entry.now) low middle seat result.0 result.1 }
+            ensures { let entry = task.entry.now in
+                HaveScanned (T.work entry) (T.passed entry) low middle seat result.0 result.1 }
         { scan_shares(rt, alloc, task, seat, low, middle) },
     );
     merge(task.marks(), lower, upper)

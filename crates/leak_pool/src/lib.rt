@@ -10,8 +10,9 @@
 //! Sources: bdwgc's marking (an object is kept where a chain of words leads to it from a root); Boehm, Demers and
 //! Shenker, PLDI 1991, for marking from an earlier state. Rounds, pieces, stacks and claims are own rule.
 //!
-//! No contract says that two workers run at the same time, when the gate is called, that `rounds` is the number of rounds
-//! made, or that stacks make them fewer: tests show these.
+//! The contracts say which worker claimed what, round by round (specs/Course.antt), that each step passes the gate, and how
+//! many rounds there are with stacks of no entry, or alone. No contract says that two workers run at the same time, that a
+//! step passes the gate before its item is scanned and only once, or that stacks make the rounds fewer: tests show these.
 #![tactic(auto)]
 
 mod alone;

@@ -1,6 +1,10 @@
 //! Marking by worker threads over links.
 ghost use Rattle.std.specs.Prelude.{◌≡◌, ◌↔◌, ◌<◌, ◌-◌, ◌^◌, [], IfOk, IfSome, IsErrOf, length};
-ghost use Rattle.leak_pool.specs.Marking.{Marks};
+ghost use Rattle.leak_pool.specs.Course.{HaveLed, IsByRounds};
+ghost use Rattle.leak_pool.specs.Depth.{AreByDepth};
+ghost use Rattle.leak_pool.specs.Marking.{Marks, graph_of_roots};
+ghost use Rattle.leak_roots.specs.Cut.{pieces_of};
+ghost use Rattle.leak_pool.specs.Gates.{HaveGone};
 ghost use Rattle.leak_pool.specs.Promises.{as_lists};
 ghost use Rattle.leak_pool.specs.Rounds.{IsMarked, graph_over};
 
@@ -40,6 +44,13 @@ pub fn mark_by_links<R: Threads + Sync, W: Words + Sync, L: Lookup + Sync, G: Ga
     ensures many { IsErrOf result PoolError.TooMany ↔ (2 ^ 32 - 1 < length live.now.blocks) }
     ensures marks { IfOk result
         (Marks (W.word_at words.now) (L.index lookup.now) roots.now plan.workers) }
+    ensures course { IfOk result
+        (IsByRounds (W.word_at words.now) (L.index lookup.now) roots.now [] [] plan) }
+    ensures depth { let g = graph_of_roots (W.word_at words.now) (L.index lookup.now) roots.now in
+        IfOk result (λ m. plan.stack ≡ 0 → 0 < length live.now.blocks → AreByDepth g m.rounds) }
+    ensures gate { let first = length (pieces_of plan.piece roots.now) in
+        IfOk result (λ m. 0 < length live.now.blocks
+        → HaveGone (G.passed gate.now) plan.workers first m.rounds) }
 {
     let blocks = live.blocks();
     if blocks.len() > u32::MAX as usize {
@@ -72,10 +83,17 @@ fn mark_linked<R: Threads + Sync, S: Source + Sync, G: Gate + Sync>(
     gate: &G,
 ) -> Result<Marked, AllocError>
     requires { IfSome links (λ l. l.source.now ≡ source.now) }
-    ensures { let targets = S.targets source.now in
+    ensures marks { let targets = S.targets source.now in
         let graph = graph_over (S.roots source.now) targets [] in
         IfOk result (λ m. IsMarked graph (length targets) plan.workers m.set.items
         (as_lists m.claims.items) m.rounds) }
+    ensures course { let targets = S.targets source.now in
+        IfOk result (λ m. 0 < length targets →
+        HaveLed (S.roots source.now) targets plan.workers plan.stack m.rounds
+        (as_lists m.claims.items) []) }
+    ensures gate { let first = length (S.roots source.now) in
+        IfOk result (λ m. 0 < length (S.targets source.now)
+        → HaveGone (G.passed gate.now) plan.workers first m.rounds) }
 {
     match links {
         Some(links) => mark_by_rounds(rt, alloc, &links, gate, plan, &[]),

@@ -1,7 +1,11 @@
 //! Marking by worker threads.
-ghost use Rattle.std.specs.Prelude.{◌≡◌, ◌↔◌, ◌<◌, ◌-◌, ◌^◌, IfOk, IsErrOf, length};
+ghost use Rattle.std.specs.Prelude.{◌≡◌, ◌↔◌, ◌<◌, ◌-◌, ◌^◌, [], IfOk, IsErrOf, length, ◌+◌};
+ghost use Rattle.leak_roots.specs.Cut.{pieces_of};
 ghost use Rattle.leak_roots.specs.Pieces.{AreCut};
-ghost use Rattle.leak_pool.specs.Marking.{Marks, MarksFrom, IsStartOf};
+ghost use Rattle.leak_pool.specs.Course.{IsByRounds};
+ghost use Rattle.leak_pool.specs.Depth.{AreByDepth};
+ghost use Rattle.leak_pool.specs.Marking.{Marks, MarksFrom, IsStartOf, graph_of_roots, graph_from};
+ghost use Rattle.leak_pool.specs.Gates.{HaveGone};
 
 use crate::error::PoolError;
 use crate::gate::Gate;
@@ -33,6 +37,13 @@ pub fn mark<R: Threads + Sync, W: Words + Sync, L: Lookup + Sync, G: Gate + Sync
     ensures many { IsErrOf result PoolError.TooMany ↔ (2 ^ 32 - 1 < length live.now.blocks) }
     ensures marks { let w = W.word_at words.now in let i = L.index lookup.now in
         IfOk result (Marks w i roots.now plan.workers) }
+    ensures course { let w = W.word_at words.now in let i = L.index lookup.now in
+        IfOk result (IsByRounds w i roots.now [] [] plan) }
+    ensures depth { let g = graph_of_roots (W.word_at words.now) (L.index lookup.now) roots.now in
+        IfOk result (λ m. plan.stack ≡ 0 → 0 < length live.now.blocks → AreByDepth g m.rounds) }
+    ensures gate { let first = length (pieces_of plan.piece roots.now) in
+        IfOk result (λ m. 0 < length live.now.blocks
+        → HaveGone (G.passed gate.now) plan.workers first m.rounds) }
 {
     let start = Start {
         marked: Vec::new(alloc),
@@ -62,6 +73,16 @@ pub fn mark_from<R: Threads + Sync, W: Words + Sync, L: Lookup + Sync, G: Gate +
     ensures many { IsErrOf result PoolError.TooMany ↔ (2 ^ 32 - 1 < length live.now.blocks) }
     ensures marks { let w = W.word_at words.now in let i = L.index lookup.now in
         IfOk result (MarksFrom w i roots.now pages.now start.now plan.workers) }
+    ensures course { let w = W.word_at words.now in let i = L.index lookup.now in
+        IfOk result (IsByRounds w i roots.now pages.now start.now.rescan.items plan) }
+    ensures depth { let w = W.word_at words.now in let i = L.index lookup.now in
+        let graph = graph_from w i roots.now pages.now start.now in
+        IfOk result (λ m.
+        plan.stack ≡ 0 → 0 < length live.now.blocks → AreByDepth graph m.rounds) }
+    ensures gate { let pieces = pieces_of plan.piece roots.now in
+        let first = length pieces + length start.now.rescan.items in
+        IfOk result (λ m. 0 < length live.now.blocks
+        → HaveGone (G.passed gate.now) plan.workers first m.rounds) }
 {
     let blocks = live.blocks();
     if blocks.len() > u32::MAX as usize {
@@ -85,7 +106,8 @@ pub fn mark_from<R: Threads + Sync, W: Words + Sync, L: Lookup + Sync, G: Gate +
 
 /// The pieces of the roots. A piece of a plan has a word, so memory alone can be missing.
 pub(crate) fn pieces_of(alloc: Global, roots: &Roots, plan: Plan) -> Result<Pieces<'_>, AllocError>
-    ensures { IfOk result (AreCut roots.now plan.piece) }
+    ensures value { IfOk result (λ pieces. pieces ≡ pieces_of plan.piece roots.now) }
+    ensures cut { IfOk result (AreCut roots.now plan.piece) }
 {
     roots
         .pieces(alloc, plan.piece() as usize)

@@ -1,10 +1,12 @@
 //! Marking by workers, from a start, over any source.
-ghost use Rattle.std.specs.Prelude.{◌≡◌, ◌<◌, [], length, replicate, All, IfOk};
+ghost use Rattle.std.specs.Prelude.{◌≡◌, ◌<◌, [], ◌∷◌, length, replicate, All, IfOk};
 ghost use Rattle.leak_marks.specs.Lists.{Within, mark_of};
 ghost use Rattle.leak_marks.specs.Seats.{IsSound};
+ghost use Rattle.leak_pool.specs.Course.{HaveLed};
+ghost use Rattle.leak_pool.specs.Gates.{HaveGone, HavePassed};
 ghost use Rattle.leak_pool.specs.Promises.{as_lists};
 ghost use Rattle.leak_pool.specs.Rounds.{AreWords, IsMarked, graph_over};
-ghost use Rattle.leak_pool.specs.Progress.{IsFresh, IsBetween};
+ghost use Rattle.leak_pool.specs.Progress.{IsFresh, IsBetween, HasCourse};
 ghost use Rattle.leak_pool.specs.Marking.{IsSet};
 
 use crate::gate::Gate;
@@ -52,16 +54,20 @@ fn no_claims(alloc: Global, workers: u32) -> Result<Vec<Vec<u32>>, AllocError>
 fn first_round<R: Threads + Sync, S: Source + Sync, G: Gate + Sync>(
     rt: &R,
     alloc: Global,
-    search: &Search<'_, S, G>,
+    search: &Search<'_, S>,
+    gate: &G,
     mut progress: Progress,
 ) -> Result<Progress, AllocError>
     requires { IsFresh search.now progress }
-    ensures { IfOk result (IsBetween search.now) }
+    ensures between { IfOk result (IsBetween search.now) }
+    ensures course { IfOk result (λ p. HasCourse search.now p 1) }
+    ensures gate { let items = length search.now.roots in
+        IfOk result (λ p. HavePassed (G.passed gate.now) search.now.workers (items ∷ []) p.steps.items) }
 {
     targets_are_blocks(search.source);
     claim_start(search.marks, &mut progress.seat, search.given);
     let items = Items::Roots(search.source.roots());
-    by_workers(rt, alloc, search, items, progress)
+    by_workers(rt, alloc, search, gate, items, progress)
 }
 
 // The words of the marks when no block waits, the claims, and the number of rounds.
@@ -74,10 +80,15 @@ fn mark_words<R: Threads + Sync, S: Source + Sync, G: Gate + Sync>(
     given: &[u32],
 ) -> Result<(Vec<u64>, Vec<Vec<u32>>, u64), AllocError>
     requires { All (λ b. b < length (S.targets source.now)) given.now }
-    ensures { let targets = S.targets source.now in
+    ensures words { let targets = S.targets source.now in
         let graph = graph_over (S.roots source.now) targets given.now in
         IfOk result (λ r.
         AreWords graph (length targets) plan.workers r.0.items (as_lists r.1.items) r.2) }
+    ensures course { let targets = S.targets source.now in
+        IfOk result (λ r.
+        HaveLed (S.roots source.now) targets plan.workers plan.stack r.2 (as_lists r.1.items) []) }
+    ensures gate { let first = length (S.roots source.now) in
+        IfOk result (λ r. HaveGone (G.passed gate.now) plan.workers first r.2) }
 {
     // (a law, for the proof: a whole run marks what chains reach, and its claims are one for each block)
     whole_runs();
@@ -93,14 +104,13 @@ fn mark_words<R: Threads + Sync, S: Source + Sync, G: Gate + Sync>(
     };
     let search = Search {
         source,
-        gate,
         marks: &marks,
         given,
         workers,
         stack,
     };
-    let progress = first_round(rt, alloc, &search, progress)?;
-    let (progress, rounds) = until_none(rt, alloc, &search, progress)?;
+    let progress = first_round(rt, alloc, &search, gate, progress)?;
+    let (progress, rounds) = until_none(rt, alloc, &search, gate, progress)?;
     let words = marks.close(alloc, progress.seat)?;
     Ok((words, progress.claims, rounds))
 }
@@ -126,11 +136,18 @@ pub(crate) fn mark_by_rounds<R: Threads + Sync, S: Source + Sync, G: Gate + Sync
     given: &[u32],
 ) -> Result<Marked, AllocError>
     requires { All (λ b. b < length (S.targets source.now)) given.now }
-    ensures { let targets = S.targets source.now in
+    ensures marks { let targets = S.targets source.now in
         let graph = graph_over (S.roots source.now) targets given.now in
         IfOk result (λ m.
         IsMarked graph (length targets) plan.workers m.set.items
         (as_lists m.claims.items) m.rounds) }
+    ensures course { let targets = S.targets source.now in
+        IfOk result (λ m. 0 < length targets →
+        HaveLed (S.roots source.now) targets plan.workers plan.stack m.rounds
+        (as_lists m.claims.items) []) }
+    ensures gate { let first = length (S.roots source.now) in
+        IfOk result (λ m. 0 < length (S.targets source.now)
+        → HaveGone (G.passed gate.now) plan.workers first m.rounds) }
 {
     targets_are_blocks(source);
     if source.blocks() == 0 {

@@ -1,17 +1,18 @@
 //! One round.
-ghost use Rattle.std.specs.Prelude.{◌≡◌, ◌≤◌, ◌++◌, length, All, IfOk};
+ghost use Rattle.std.specs.Prelude.{◌≡◌, ◌≤◌, ◌++◌, ◌∷◌, [], ℕ, List, length, All, IfOk};
 ghost use Rattle.leak_marks.specs.Lists.{Has};
 ghost use Rattle.leak_marks.specs.Rounds.{appended_from};
+ghost use Rattle.leak_pool.specs.Gates.{HavePassed};
 ghost use Rattle.leak_pool.specs.Items.{IsItem, items_in, targets_of_item};
 ghost use Rattle.leak_pool.specs.Promises.{as_lists};
-ghost use Rattle.leak_pool.specs.Progress.{IsReady, HasScanned, InItems};
+ghost use Rattle.leak_pool.specs.Progress.{IsReady, HasScanned, InItems, AreOfShares, AreOfOne};
 ghost use Rattle.leak_pool.specs.Rounds.{AreCounted};
 
 use crate::gate::Gate;
 use crate::halves::scan_shares;
 use crate::items::Items;
 use crate::progress::Progress;
-use crate::search::{Round, Search};
+use crate::search::{Gated, Round, Search};
 use crate::source::{Item, Source};
 use crate::worker::share_start;
 use std::alloc::{AllocError, Global};
@@ -59,15 +60,21 @@ fn count_steps(steps: &mut Vec<u64>, items: usize, workers: u32)
 pub(crate) fn by_workers<R: Threads + Sync, S: Source + Sync, G: Gate + Sync>(
     rt: &R,
     alloc: Global,
-    search: &Search<'_, S, G>,
+    search: &Search<'_, S>,
+    gate: &G,
     items: Items<'_>,
     progress: Progress,
 ) -> Result<Progress, AllocError>
     requires ready { IsReady search.now progress }
     requires items { All (IsItem search.now.roots search.now.targets) (items_in items) }
     ensures ready { IfOk result (IsReady search.now) }
-    ensures done { IfOk result
-        (HasScanned (InItems search.now (items_in items.entry)) search.now progress) }
+    ensures done { let all = items_in items.entry in IfOk result
+        (HasScanned (InItems search.now all) (AreOfShares search.now all) search.now progress) }
+    ensures gate { let workers = search.now.workers in
+        IfOk result (λ after. (rounds : List ℕ)
+        → HavePassed (G.passed gate.now) workers rounds progress.steps.items
+        → HavePassed (G.passed gate.now) workers (rounds ++ length (items_in items.entry) ∷ [])
+        after.steps.items) }
 {
     if items.len() == 0 {
         return Ok(progress);
@@ -83,7 +90,8 @@ pub(crate) fn by_workers<R: Threads + Sync, S: Source + Sync, G: Gate + Sync>(
         items,
         steps: steps.as_slice(),
     };
-    let (seat, gained) = scan_shares(rt, alloc, &round, seat, 0, search.workers);
+    let task = Gated { round, gate };
+    let (seat, gained) = scan_shares(rt, alloc, &task, seat, 0, search.workers);
     let gained = gained?;
     count_steps(&mut steps, items.len(), search.workers);
     let left = gained.left.as_slice();
@@ -97,9 +105,9 @@ pub(crate) fn by_workers<R: Threads + Sync, S: Source + Sync, G: Gate + Sync>(
 }
 
 /// The caller scans one item, as worker 0. What it claims waits for the next round.
-pub(crate) fn by_caller<S: Source, G: Gate>(
+pub(crate) fn by_caller<S: Source>(
     alloc: Global,
-    search: &Search<'_, S, G>,
+    search: &Search<'_, S>,
     item: Item,
     progress: &mut Progress,
 ) -> Result<(), AllocError>
@@ -107,7 +115,9 @@ pub(crate) fn by_caller<S: Source, G: Gate>(
     requires item { IsItem search.now.roots search.now.targets item }
     ensures ready { IsReady search.now progress.new }
     ensures done { let targets = targets_of_item search.now.roots search.now.targets item in
-        IfOk result (λ _. HasScanned (Has targets) search.now progress.old progress.new) }
+        IfOk result (λ _. HasScanned (Has targets) (AreOfOne targets) search.now
+        progress.old progress.new) }
+    ensures steps { progress.new.steps.items ≡ progress.old.steps.items }
 {
     let mut gained = Vec::with_capacity(alloc, 1)?;
     let mut list = Vec::new(alloc);

@@ -10,9 +10,8 @@ use std::marker::Model;
 
 /// What is searched from which blocks on, and by how many workers.
 #[derive(Drop)]
-pub(crate) struct Search<'a, S: Source, G: Gate> {
+pub(crate) struct Search<'a, S: Source> {
     pub(crate) source: &'a S,
-    pub(crate) gate: &'a G,
     pub(crate) marks: &'a Marks,
     /// The blocks that are marked before the search.
     pub(crate) given: &'a [u32],
@@ -21,7 +20,7 @@ pub(crate) struct Search<'a, S: Source, G: Gate> {
     pub(crate) stack: u32,
 }
 
-impl<'a, S: Source, G: Gate> Model for Search<'a, S, G> {
+impl<'a, S: Source> Model for Search<'a, S> {
     ghost Value = { Scene };
 
     ghost view = { λ s. record {
@@ -39,16 +38,27 @@ impl<'a, S: Source, G: Gate> Model for Search<'a, S, G> {
 
 /// The items of a round, and how many items each worker has scanned before it.
 #[derive(Drop)]
-pub(crate) struct Round<'a, 'b, S: Source, G: Gate> {
-    pub(crate) search: &'a Search<'b, S, G>,
+pub(crate) struct Round<'a, 'b, S: Source> {
+    pub(crate) search: &'a Search<'b, S>,
     pub(crate) items: Items<'a>,
     pub(crate) steps: &'a [u64],
 }
 
-impl<'a, 'b, S: Source, G: Gate> Model for Round<'a, 'b, S, G> {
+impl<'a, 'b, S: Source> Model for Round<'a, 'b, S> {
     ghost Value = { Work };
 
-    ghost view = { λ r. record { scene = r.search.now; items = items_in r.items } };
+    ghost view = { λ r. record {
+      scene = r.search.now;
+      items = items_in r.items;
+      steps = r.steps.now;
+    } };
 
     ghost invariant = { λ r. IsRound r.search.now (items_in r.items) r.steps.now };
+}
+
+/// A round, and the gate that its workers pass.
+#[derive(Drop)]
+pub(crate) struct Gated<'a, 'b, 'c, S: Source, G: Gate> {
+    pub(crate) round: Round<'a, 'b, S>,
+    pub(crate) gate: &'c G,
 }

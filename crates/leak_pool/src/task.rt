@@ -1,5 +1,5 @@
 //! What workers share.
-ghost use Rattle.std.specs.Prelude.{◌≡◌, ◌<◌, ◌≤◌, ◌+◌, ◌↔◌, IsTrue};
+ghost use Rattle.std.specs.Prelude.{ℕ, ◌≡◌, ◌<◌, ◌≤◌, ◌+◌, ◌↔◌, IsTrue};
 ghost use Rattle.leak_pool.specs.Items.{AreMany};
 ghost use Rattle.leak_pool.specs.Scene.{Work, IsSeatOf, HaveBoth};
 ghost use Rattle.leak_pool.specs.Promises.{HaveScanned};
@@ -23,6 +23,9 @@ pub(crate) type Gained = Result<Gains, AllocError>;
 pub(crate) trait Task {
     ghost work: { Self → Work };
 
+    // a gate let the worker through to an item of its share, counted from 0
+    ghost passed: { Self → ℕ → ℕ → Type 0 };
+
     /// Where the blocks are marked.
     fn marks(&self) -> &Marks
         ensures { result.now.table ≡ (work self.now).scene.table };
@@ -39,5 +42,6 @@ pub(crate) trait Task {
     fn scan_share(&self, alloc: Global, seat: &mut MarkSeat, worker: u32) -> Gained
         requires seat { IsSeatOf (work self.now).scene seat.old }
         requires worker { worker < (work self.now).scene.workers }
-        ensures { HaveScanned (work self.now) worker (worker + 1) seat.old seat.new result };
+        ensures { HaveScanned (work self.now) (passed self.now) worker (worker + 1)
+            seat.old seat.new result };
 }

@@ -1,13 +1,14 @@
 //! What one worker does in a round.
-ghost use Rattle.std.specs.Prelude.{◌≡◌, ◌<◌, ◌≤◌, ◌+◌, [], IfOk, vec_capacity};
+ghost use Rattle.std.specs.Prelude.{◌≡◌, ◌<◌, ◌≤◌, ◌+◌, ◌%◌, ◌^◌, [], length, slice_index_or, IfOk, vec_capacity};
 ghost use Rattle.leak_marks.specs.Seats.{IsSound};
+ghost use Rattle.leak_pool.specs.Gates.{IsNextPassed, ArePassed};
 ghost use Rattle.leak_pool.specs.Items.{IsItem, share, targets_of_item};
-ghost use Rattle.leak_pool.specs.Promises.{IsHolding, IsPutAway, IsWorking};
+ghost use Rattle.leak_pool.specs.Promises.{IsDirect, IsHolding, IsPutAway, IsWorking};
 ghost use Rattle.leak_pool.specs.Scene.{IsSeatOf, InShares, blocks_of};
 
 use crate::gate::Gate;
 use crate::hand::{Hand, put_away};
-use crate::search::Round;
+use crate::search::{Gated, Round};
 use crate::source::{Item, Source, targets_are_blocks};
 use crate::task::{Gained, Gains, Task};
 use leak_marks::{MarkSeat, Marks};
@@ -28,8 +29,8 @@ pub(crate) fn share_start(worker: u32, items: usize, workers: u32) -> usize
 }
 
 // Scans one item. What was claimed is put on the stack, or left.
-fn scan_one<S: Source, G: Gate>(
-    round: &Round<'_, '_, S, G>,
+fn scan_one<S: Source>(
+    round: &Round<'_, '_, S>,
     seat: &mut MarkSeat,
     hand: &mut Hand,
     item: Item,
@@ -53,9 +54,27 @@ fn scan_one<S: Source, G: Gate>(
     put_away(claimed, limit, &mut hand.stack, &mut hand.left)
 }
 
+// How many steps the worker has made before the round.
+fn steps_before<S: Source>(round: &Round<'_, '_, S>, worker: u32) -> u64
+    requires { worker < round.now.scene.workers }
+    ensures { result ≡ slice_index_or round.now.steps worker 0 }
+{
+    round.steps[worker as usize]
+}
+
+// The worker's next step through the gate.
+fn pass_next<G: Gate>(gate: &G, worker: u32, step: &mut u64)
+    ensures passed { G.passed gate.now worker step.old }
+    ensures counted { step.new ≡ (step.old + 1) % 2 ^ 64 }
+{
+    gate.pass(worker, *step);
+    *step = step.wrapping_add(1);
+}
+
 // One worker scans its share. Before each next item it empties its stack, by blocks that pass no gate.
 fn work<S: Source, G: Gate>(
-    round: &Round<'_, '_, S, G>,
+    round: &Round<'_, '_, S>,
+    gate: &G,
     seat: &mut MarkSeat,
     hand: &mut Hand,
     worker: u32,
@@ -71,6 +90,13 @@ fn work<S: Source, G: Gate>(
         IfOk result (λ _.
         IsWorking (blocks_of round.now) share seat.old seat.new
         hand.new.list.items [] hand.new.left.items) }
+    ensures direct { let share = InShares round.now worker (worker + 1) in
+        IfOk result (λ _.
+        round.now.scene.stack ≡ 0 → IsDirect share hand.new.list.items hand.new.left.items) }
+    ensures gate { let scene = round.now.scene in
+        let passed = IsNextPassed (G.passed gate.now) round.now.steps in
+        IfOk result (λ _.
+        ArePassed passed (length round.now.items) scene.workers worker (worker + 1)) }
 {
     let search = round.search;
     targets_are_blocks(search.source);
@@ -78,13 +104,12 @@ fn work<S: Source, G: Gate>(
     let count = items.len();
     let mut next = share_start(worker, count, search.workers);
     let end = share_start(worker + 1, count, search.workers);
-    let mut step = round.steps[worker as usize];
+    let mut step = steps_before(round, worker);
     'scan: loop {
         if let Some(block) = hand.stack.pop() {
             scan_one(round, seat, hand, Item::Block(block))?;
         } else if next < end {
-            search.gate.pass(worker, step);
-            step = step.wrapping_add(1);
+            pass_next(gate, worker, &mut step);
             scan_one(round, seat, hand, items.at(next))?;
             next += 1;
         } else {
@@ -93,33 +118,37 @@ fn work<S: Source, G: Gate>(
     }
 }
 
-impl<'a, 'b, S: Source, G: Gate> Task for Round<'a, 'b, S, G> {
-    ghost work = { λ round. round };
+impl<'a, 'b, 'c, S: Source, G: Gate> Task for Gated<'a, 'b, 'c, S, G> {
+    ghost use Rattle.leak_pool.specs.Gates.{IsNextPassed};
+
+    ghost work = { λ task. task.round };
+
+    ghost passed = { λ task. IsNextPassed (G.passed task.gate.now) task.round.steps };
 
     fn marks(&self) -> &Marks {
-        let search = self.search;
+        let search = self.round.search;
         search.marks
     }
 
     fn is_shared(&self, low: u32, middle: u32, high: u32) -> bool {
-        let search = self.search;
+        let search = self.round.search;
         let workers = search.workers;
-        let items = self.items.len();
+        let items = self.round.items.len();
         let start = share_start(middle, items, workers);
-        self.items.are_many()
+        self.round.items.are_many()
             && share_start(low, items, workers) < start
             && start < share_start(high, items, workers)
     }
 
     fn scan_share(&self, alloc: Global, seat: &mut MarkSeat, worker: u32) -> Gained {
-        let search = self.search;
+        let search = self.round.search;
         let mut claims = Vec::with_capacity(alloc, 1)?;
         let mut hand = Hand {
             list: Vec::new(alloc),
             stack: Vec::with_capacity(alloc, search.stack as usize)?,
             left: Vec::new(alloc),
         };
-        work(self, seat, &mut hand, worker)?;
+        work(&self.round, self.gate, seat, &mut hand, worker)?;
         let Hand { list, left, .. } = hand;
         claims.push(list)?;
         Ok(Gains { claims, left })

@@ -1,8 +1,11 @@
-use Rattle.std.proofs.Common.{ℕ, List, arith, ◌≡◌, ◌≤◌, ◌+◌, ◌∙◌, ap, sym, true≢false, length, map, Vec, Global}
-use Rattle.leak_marks.proofs.BoolLemmas.{equal_itself}
+use Rattle.std.proofs.Common.{ℕ, List, [], arith, ◌≡◌, ◌≤◌, ◌+◌, ◌∙◌, ap, sym, subst, ⊎_elim, true≢false, length, map, Vec, Global}
+use Rattle.leak_marks.specs.Lists.{Has}
+use Rattle.leak_marks.proofs.BoolLemmas.{equal_itself, same_number}
 use Rattle.leak_blocks.specs.declared.block.Block.{Block}
-use Rattle.leak_pool.specs.Marking.{led_by_roots}
+use Rattle.leak_pool.specs.Depth.{AreByDepth}
+use Rattle.leak_pool.specs.Marking.{graph_of, led_by_roots}
 use Rattle.leak_pool.proofs.AloneLemmas.{alone_marks, roots_followed, written_back}
+use Rattle.leak_pool.proofs.ScanLemmas.{none_has}
 use Rattle.leak_pool.proofs.alone.mark_alone.Goals as goal
 use Rattle.leak_pool.proofs.alone.mark_alone.Goals.{then-is_empty, else-is_empty}
 
@@ -26,3 +29,18 @@ returns-clause-marks g c =
     (ap (λ (l : List (Vec ℕ Global)). map items l) c.in_ok-claims.ensures.items)
     (elim c.if-is_empty.branch [ then-is_empty w ↦ omega (arith, w.rounds-is) | else-is_empty w ↦ omega (arith, w.rounds-is, rounds, count) ])
     (λ z. elim c.if-is_empty.branch [ then-is_empty w ↦ w.rounds-is | else-is_empty w ↦ absurd (true≢false (sym (equal_itself (length c.blocks-blocks.result.now) 0 (count ∙ z)) ∙ sym c.is_empty.ensures ∙ w.if-is_empty.false)) ])
+
+pub returns-clause-depth : goal.returns-clause-depth
+returns-clause-depth g c some =
+    let word_at = g.W.Words.word_at c.args.words.now in
+    let index = g.L.Lookup.index c.args.lookup.now in
+    let first : List ℕ = led_by_roots word_at index c.args.roots.now in
+    let none : c.new-list.result.items ≡ [] = c.new-list.ensures.items in
+    let taken = c.in_ok-take_roots.ensures.done in
+    elim c.if-is_empty.branch [
+      | then-is_empty w ↦ absurd (let z : length c.blocks-blocks.result.now ≡ 0 = same_number (length c.blocks-blocks.result.now) 0 (sym c.is_empty.ensures ∙ w.if-is_empty.true) in
+          let e = ap (λ (l : List Block). length l) c.blocks-blocks.ensures.value in omega arith)
+      | else-is_empty w ↦ subst (λ (n : ℕ). AreByDepth (graph_of word_at index first []) n) (sym w.rounds-is)
+          (c.in_ok-rounds.ensures.depth first (roots_followed word_at index first c.new-list.result.items c.take_roots.new.list.items none taken)
+          (λ b h. ⊎_elim (λ old. none_has b (subst (λ (l : List ℕ). Has l b) none old)) (λ new. new) (taken.gains b h)))
+    ]

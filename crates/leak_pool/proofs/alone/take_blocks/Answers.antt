@@ -1,10 +1,12 @@
-use Rattle.std.proofs.Common.{ℕ, List, subst, arith, ◌≡◌, ◌<◌, ap, length, get_or, []}
-use Rattle.leak_marks.specs.Lists.{Has}
+use Rattle.std.proofs.Common.{ℕ, List, subst, arith, ◌≡◌, ◌∙◌, ◌<◌, ap, sym, length, get_or, []}
+use Rattle.leak_marks.specs.Lists.{Has, Within}
 use Rattle.leak_pool.specs.Alone.{AreTaken, IsFollowed}
 use Rattle.leak_pool.specs.Marking.{graph_of}
 use Rattle.leak_pool.proofs.CountLemmas.{at_has, read_at}
 use Rattle.leak_pool.specs.ScopeLaw.{target_below}
-use Rattle.leak_pool.proofs.AloneLemmas.{marks_few, block_followed, taken_long}
+use Rattle.leak_pool.proofs.AloneLemmas.{marks_few, block_followed, block_taken, taken_long, free}
+use Rattle.leak_pool.proofs.AloneRoundLemmas.{in_rounds_none, in_rounds_then, in_rounds_else, rounds_alone}
+use Rattle.leak_pool.proofs.GraphLemmas.{graph-first}
 use Rattle.leak_pool.proofs.alone.take_blocks.Goals as goal
 use Rattle.leak_pool.proofs.alone.take_blocks.Goals.{then-scanned-end, else-scanned-end}
 
@@ -43,4 +45,30 @@ follow-preserved g c =
       rounds = elim c.if-scanned-end.branch [ then-scanned-end w ↦ omega (arith, w.rounds-is, r) | else-scanned-end w ↦ omega (arith, w.rounds-is, r) ];
       followed = λ roots f. block_followed (g.W.Words.word_at c.args.words.now) (g.L.Lookup.index c.args.lookup.now) roots c.args.blocks.now _ c.follow.list.items c.take_all.new.list.items c.follow.scanned c.index.result.now
           c.requires.blocks in_list e low (subst (λ (l : List ℕ). AreTaken l c.follow.list.items c.take_all.new.list.items) c.of_block.ensures c.in_ok-take_all.ensures.done) (c.follow.invariant.followed roots f);
+      levels = λ roots f w. let word_at = g.W.Words.word_at c.args.words.now in let index = g.L.Lookup.index c.args.lookup.now in
+          let levels = c.follow.invariant.levels roots f w in let followed = c.follow.invariant.followed roots f in
+          let taken = block_taken word_at index roots c.args.blocks.now _ c.follow.list.items c.take_all.new.list.items c.follow.scanned c.index.result.now
+          c.requires.blocks e low (subst (λ (l : List ℕ). AreTaken l c.follow.list.items c.take_all.new.list.items) c.of_block.ensures c.in_ok-take_all.ensures.done) in
+          elim c.if-scanned-end.branch [
+            | then-scanned-end w ↦ in_rounds_then (graph_of word_at index roots []) c.follow.list.items c.take_all.new.list.items c.follow.scanned c.follow.end c.follow.rounds c.if-scanned-end.end c.if-scanned-end.rounds (free word_at index roots)
+                (let long : c.if-scanned-end.end ≡ length c.follow.list.items = (let n = w.end-is ∙ w.len-end.ensures in omega arith) in long) w.rounds-is (let t = w.if-scanned-end.true in omega arith) in_list followed c.follow.invariant.marks.once taken levels
+            | else-scanned-end w ↦ in_rounds_else (graph_of word_at index roots []) c.follow.list.items c.take_all.new.list.items c.follow.scanned c.follow.end c.follow.rounds c.if-scanned-end.end c.if-scanned-end.rounds (free word_at index roots)
+                w.end-is w.rounds-is (let t = w.if-scanned-end.false in let s = levels.scanned_are in omega arith) taken levels
+          ];
     }
+
+pub follow-init : goal.follow-init
+follow-init g c = record {
+  marks = c.requires.marks;
+  within = omega arith;
+  rounds = omega arith;
+  followed = λ roots f. f;
+  levels = λ roots f w. in_rounds_none (graph_of (g.W.Words.word_at c.args.words.now) (g.L.Lookup.index c.args.lookup.now) roots []) c.args.list.now.items
+      (free (g.W.Words.word_at c.args.words.now) (g.L.Lookup.index c.args.lookup.now) roots)
+      (subst (λ (l : List ℕ). Within c.args.list.now.items l) (sym (graph-first (g.W.Words.word_at c.args.words.now) (g.L.Lookup.index c.args.lookup.now) roots [])) w);
+}
+
+pub returns-clause-depth : goal.returns-clause-depth
+returns-clause-depth g c roots f w =
+    rounds_alone (graph_of (g.W.Words.word_at c.args.words.now) (g.L.Lookup.index c.args.lookup.now) roots []) c.follow.list.items c.follow.scanned c.follow.end c.follow.rounds
+    (let t = c.follow-test.false in omega arith) (c.follow.invariant.followed roots f) (c.follow.invariant.levels roots f w)

@@ -1,16 +1,18 @@
-use Rattle.std.proofs.Common.{◌≡◌, ◌<◌, ◌∙◌, ap, sym, subst, ◌∷◌, ℕ, List, [], Vec, Global, length, map, get_or, take, drop, ◌-◌, arith}
+use Rattle.std.proofs.Common.{◌≡◌, ◌<◌, ◌∙◌, ap, sym, subst, ◌∷◌, ℕ, List, [], Vec, Global, length, map, get_or, take, drop, ◌-◌, ◌+◌, arith, ◌++◌}
 use Rattle.std.proofs.lemmas.List.{get_or_read}
 use Rattle.leak_marks.specs.Lists.{Has}
+use Rattle.leak_pool.specs.Gates.{HavePassed}
 use Rattle.leak_pool.specs.Items.{IsItem, targets_of_block}
 use Rattle.leak_pool.specs.declared.source.Item.{Item}
 use Rattle.leak_pool.specs.declared.source.Item.TheVariants.{Block}
 use Rattle.leak_pool.specs.declared.progress.Progress.{Progress}
 use Rattle.leak_pool.specs.Rounds.{IsStep, IsGoing, graph_over}
 use Rattle.leak_pool.specs.Scene.{Scene}
-use Rattle.leak_pool.specs.Progress.{IsReady, IsBetween, HasScanned, InItems, claims_of}
+use Rattle.leak_pool.specs.Progress.{IsReady, IsBetween, HaveCome, HasCourse, HasScanned, InItems, AreOfShares, AreOfOne, claims_of}
 use Rattle.leak_pool.proofs.CountLemmas.{at_has}
 use Rattle.leak_pool.proofs.GoingLemmas.{later_round, waiting_inside, all_blocks, blocks_long, front_rest}
 use Rattle.leak_pool.proofs.StepLemmas.{ok_both, two_steps}
+use Rattle.leak_pool.proofs.CourseLemmas.{course_more}
 use Rattle.leak_pool.proofs.FromLemmas.{if_ok}
 use Rattle.leak_marks.proofs.ListLemmas.{there}
 use Rattle.leak_pool.proofs.later_rounds.later_round.Goals as goal
@@ -42,7 +44,7 @@ returns-clause-size g c =
     let scene = c.args.search.now in let from = c.args.progress in let mid = c.by_caller.new.progress in
     let items : List Item = map Block (take (length c.deref.result.now - 1) (drop 1 c.deref.result.now)) in
     let first = c.in_ok-by_caller.ensures.done in
-    if_ok (HasScanned (InItems scene items) scene mid) _ c.by_workers.result
+    if_ok (HasScanned (InItems scene items) (AreOfShares scene items) scene mid) _ c.by_workers.result
     (λ (p : Progress) second. two_steps (targets_of_block scene.targets) _ _ scene.workers (claims_of from) (claims_of mid) (claims_of p) c.replace-waiting.new.dest.items mid.waiting.items p.waiting.items from.seat mid.seat p.seat first.0 second.0 first.1 second.1
     (ap (λ (v : Vec ℕ Global). v.items) c.replace-waiting.ensures.after ∙ c.new.ensures.items) first.2 second.2)
     c.by_workers.ensures.done
@@ -64,7 +66,7 @@ returns-clause-between g c =
     let one : IsStep blocks (Has (get_or scene.targets x [])) scene.workers (claims_of from) c.replace-waiting.new.dest.items from.seat (claims_of mid) mid.waiting.items mid.seat first.0 first.1 =
     subst (λ (b : ℕ). IsStep blocks (Has (get_or scene.targets b [])) scene.workers (claims_of from) c.replace-waiting.new.dest.items from.seat (claims_of mid) mid.waiting.items mid.seat first.0 first.1) (get_or_read all.items _ _ some c.index.ensures 0) first.2 in
     let inside = subst (λ (s : Scene). (k b : ℕ) → Has (get_or s.targets k []) b → b < length s.targets) c.search.view_is (λ k b h. c.targets_are_blocks.ensures (Block k) b h) in
-    ok_both (IsReady scene) (HasScanned (InItems scene items) scene mid) (IsBetween scene) c.by_workers.result
+    ok_both (IsReady scene) (HasScanned (InItems scene items) (AreOfShares scene items) scene mid) (IsBetween scene) c.by_workers.result
     (λ (p : Progress) ready two. record {
       ready = ready;
       small = c.requires.between.small;
@@ -78,3 +80,43 @@ returns-clause-between g c =
       );
     })
     c.by_workers.ensures.ready c.by_workers.ensures.done
+
+pub returns-clause-course : goal.returns-clause-course
+returns-clause-course g c n led =
+    let scene = c.args.search.now in let from = c.args.progress in let mid = c.by_caller.new.progress in let all = c.replace-waiting.result in
+    let some : 0 < length all.items = subst (λ (v : Vec ℕ Global). 0 < length v.items) (sym c.replace-waiting.ensures.value) c.requires.waiting in
+    let ws : List ℕ = take (length all.items - 1) (drop 1 all.items) in
+    let x : ℕ = get_or all.items 0 0 in
+    let none = ap (λ (v : Vec ℕ Global). v.items) c.replace-waiting.ensures.after ∙ c.new.ensures.items in
+    let first = c.in_ok-by_caller.ensures.done in
+    let items : List Item = map Block (take (length c.deref.result.now - 1) (drop 1 c.deref.result.now)) in
+    let is : items ≡ map Block ws = ap (λ (l : List ℕ). map Block (take (length l - 1) (drop 1 l))) c.deref.ensures.value in
+    let come : HaveCome scene.roots scene.targets scene.workers scene.stack n (claims_of from) (x ∷ ws) from.seat.seen =
+    subst (λ (l : List ℕ). HaveCome scene.roots scene.targets scene.workers scene.stack n (claims_of from) l from.seat.seen) (sym (ap (λ (v : Vec ℕ Global). v.items) c.replace-waiting.ensures.value) ∙ front_rest all.items some) led in
+    let blocks = targets_of_block scene.targets in
+    let read = get_or_read all.items _ _ some c.index.ensures 0 in
+    let one : IsStep blocks (Has (get_or scene.targets x [])) scene.workers (claims_of from) c.replace-waiting.new.dest.items from.seat (claims_of mid) mid.waiting.items mid.seat first.0 first.1 =
+    subst (λ (b : ℕ). IsStep blocks (Has (get_or scene.targets b [])) scene.workers (claims_of from) c.replace-waiting.new.dest.items from.seat (claims_of mid) mid.waiting.items mid.seat first.0 first.1) read first.2 in
+    let alone : AreOfOne (get_or scene.targets x []) first.0 first.1 = subst (λ (b : ℕ). AreOfOne (get_or scene.targets b []) first.0 first.1) read first.3 in
+    let workers : 0 < scene.workers = subst (λ (s : Scene). 0 < s.workers) c.search.view_is c.search.invariant.some in
+    if_ok (HasScanned (InItems scene items) (AreOfShares scene items) scene mid) (λ (p : Progress). HasCourse scene p (n + 1)) c.by_workers.result
+    (λ (p : Progress) second. course_more scene.roots scene.targets scene.workers scene.stack n x ws (claims_of from) (claims_of mid) (claims_of p) c.replace-waiting.new.dest.items mid.waiting.items p.waiting.items from.seat mid.seat p.seat
+    first.0 second.0 first.1 second.1 items workers is none come one alone second.2 second.3)
+    c.by_workers.ensures.done
+
+pub returns-clause-gate : goal.returns-clause-gate
+returns-clause-gate g c =
+    let w : ℕ = c.args.search.now.workers in let from = c.args.progress in let mid = c.by_caller.new.progress in let all = c.replace-waiting.result in
+    let some : 0 < length all.items = subst (λ (v : Vec ℕ Global). 0 < length v.items) (sym c.replace-waiting.ensures.value) c.requires.waiting in
+    let ws : List ℕ = take (length all.items - 1) (drop 1 all.items) in
+    let items : List Item = map Block (take (length c.deref.result.now - 1) (drop 1 c.deref.result.now)) in
+    let is : items ≡ map Block ws = ap (λ (l : List ℕ). map Block (take (length l - 1) (drop 1 l))) c.deref.ensures.value in
+    let front : length all.items ≡ length (get_or all.items 0 0 ∷ ws) = ap (λ (l : List ℕ). length l) (front_rest all.items some) in
+    let long : length items ≡ length ws = ap (λ (l : List Item). length l) is ∙ blocks_long ws in
+    let waiting : length all.items ≡ length from.waiting.items = ap (λ (v : Vec ℕ Global). length v.items) c.replace-waiting.ensures.value in
+    let size : length items ≡ length from.waiting.items - 1 = omega arith in
+    let passed : ℕ → ℕ → Type 0 = g.G.Gate.passed c.args.gate.now in
+    if_ok (λ (p : Progress). (rounds : List ℕ) → HavePassed passed w rounds mid.steps.items → HavePassed passed w (rounds ++ length items ∷ []) p.steps.items) _ c.by_workers.result
+    (λ (p : Progress) round rounds was. subst (λ (n : ℕ). HavePassed passed w (rounds ++ n ∷ []) p.steps.items) size
+    (round rounds (subst (λ (l : List ℕ). HavePassed passed w rounds l) (sym c.by_caller.ensures.steps) was)))
+    c.by_workers.ensures.gate

@@ -1,8 +1,9 @@
-use Rattle.std.proofs.Common.{◌<◌, ◌≤◌, length, arith, rules}
+use Rattle.std.proofs.Common.{◌<◌, ◌≤◌, ◌-◌, length, arith, rules}
 use Rattle.leak_pool.specs.Scene.{Scene}
 use Rattle.leak_pool.specs.declared.progress.Progress.{Progress}
 use Rattle.leak_pool.specs.Progress.{IsBetween}
 use Rattle.leak_pool.proofs.GoingLemmas.{going_few}
+use Rattle.leak_pool.proofs.GateLemmas.{made_one, made_more, gone_of_made}
 use Rattle.leak_pool.proofs.later_rounds.until_none.Goals as goal
 
 few : (scene : Scene) (p : Progress) → IsBetween scene p → length p.seat.claims ≤ length scene.targets
@@ -16,3 +17,26 @@ until-smaller g c = let i = c.until.invariant in let f = few c.args.search.now c
 
 pub returns-clause-rounds : goal.returns-clause-rounds
 returns-clause-rounds g c = let i = c.until.invariant in let f = few c.args.search.now c.until.progress i.between in let a = i.size in omega arith
+
+pub until-init : goal.until-init
+until-init g c = record {
+  one = omega arith;
+  size = let f = c.requires.between.few in omega arith;
+  between = c.requires.between;
+  course = c.requires.course;
+  gate = λ first was. made_one (g.G.Gate.passed c.args.gate.now) c.args.search.now.workers first c.args.progress.steps.items was;
+}
+
+pub until-preserved : goal.until-preserved
+until-preserved g c = record {
+  one = omega arith;
+  size = let i = c.until.invariant in let s = c.in_ok-progress.ensures.size in let l = i.size in let ne : 0 < length c.until.progress.waiting.items = search rules in omega arith;
+  between = c.in_ok-progress.ensures.between;
+  course = c.in_ok-progress.ensures.course c.until.rounds c.until.invariant.course;
+  gate = λ first was.
+      made_more (g.G.Gate.passed c.args.gate.now) c.args.search.now.workers first (length c.until.progress.waiting.items - 1) c.until.rounds c.until.progress.steps.items c.in_ok-progress.progress.steps.items
+      c.in_ok-progress.ensures.gate (c.until.invariant.gate first was);
+}
+
+pub returns-clause-gate : goal.returns-clause-gate
+returns-clause-gate g c = λ first was. gone_of_made (g.G.Gate.passed c.args.gate.now) c.args.search.now.workers first c.until.rounds c.until.progress.steps.items (c.until.invariant.gate first was)

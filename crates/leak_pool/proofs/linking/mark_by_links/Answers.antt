@@ -1,5 +1,13 @@
-use Rattle.std.proofs.Common.{◌∙◌, sym, arith}
+use Rattle.std.proofs.Common.{◌∙◌, ◌<◌, List, length, ap, sym, arith, ◌≡◌, ℕ, [], subst}
+use Rattle.leak_blocks.specs.declared.block.Block.{Block}
+use Rattle.leak_pool.proofs.DepthOfCores.{depth_of_roots}
+use Rattle.leak_roots.specs.declared.piece.Piece.{Piece}
+use Rattle.leak_roots.specs.Cut.{pieces_of}
+use Rattle.leak_pool.specs.Gates.{HaveGone}
+use Rattle.leak_pool.specs.Scopes.{root_targets}
+use Rattle.leak_pool.proofs.ScopeLemmas.{long_all, long_roots}
 use Rattle.leak_pool.proofs.FromLemmas.{marks_of_pieces}
+use Rattle.leak_pool.proofs.ScopeLemmas.{long_all}
 use Rattle.leak_pool.proofs.linking.mark_by_links.Goals as goal
 
 pub invariant_of-scope : goal.invariant_of-scope
@@ -8,7 +16,7 @@ invariant_of-scope g c =
       of_live = c.requires;
       same = c.requires ∙ sym c.blocks-blocks.ensures.value;
       few = omega arith;
-      in_roots = c.in_ok-pieces.ensures.each;
+      in_roots = c.in_ok-pieces.ensures.cut.each;
       in_blocks = tt;
     }
 
@@ -16,5 +24,27 @@ pub returns-clause-marks : goal.returns-clause-marks
 returns-clause-marks g c =
     let w = g.W.Words.word_at c.args.words.now in let i = g.L.Lookup.index c.args.lookup.now in
     let m = c.in_ok-marked.marked in
-    marks_of_pieces w i c.args.roots.now c.in_ok-pieces.pieces c.unwrap-pages.result c.args.plan.workers c.args.plan.piece m c.in_ok-pieces.ensures
-    c.in_ok-marked.ensures
+    marks_of_pieces w i c.args.roots.now c.in_ok-pieces.pieces c.unwrap-pages.result c.args.plan.workers c.args.plan.piece m c.in_ok-pieces.ensures.cut
+    c.in_ok-marked.ensures.marks
+
+pub returns-clause-course : goal.returns-clause-course
+returns-clause-course g c =
+    let w = g.W.Words.word_at c.args.words.now in let i = g.L.Lookup.index c.args.lookup.now in
+    let l = long_all w i in (c.in_ok-pieces.pieces, c.in_ok-pieces.ensures.cut, λ some. c.in_ok-marked.ensures.course (omega (arith, l, some)))
+
+pub returns-clause-depth : goal.returns-clause-depth
+returns-clause-depth g c zero blocks =
+    let w = g.W.Words.word_at c.args.words.now in let i = g.L.Lookup.index c.args.lookup.now in
+    let e = ap (λ (l : List Block). length l) c.requires in
+    depth_of_roots w i c.args.roots.now c.args.plan c.in_ok-marked.marked zero (omega (arith, e, blocks)) (returns-clause-course g c) (returns-clause-marks g c)
+
+pub returns-clause-gate : goal.returns-clause-gate
+returns-clause-gate g c = λ some.
+    let w = g.W.Words.word_at c.args.words.now in let i = g.L.Lookup.index c.args.lookup.now in
+    let pieces : ℕ = length (pieces_of c.args.plan.piece c.args.roots.now) in
+    let all = long_roots w i c.args.roots.now c.in_ok-pieces.pieces c.unwrap-pages.result [] in
+    let value : length c.in_ok-pieces.pieces ≡ pieces = ap (λ (l : List Piece). length l) c.in_ok-pieces.ensures.value in
+    let count : length (root_targets w i c.args.roots.now c.in_ok-pieces.pieces c.unwrap-pages.result []) ≡ pieces = omega arith in
+    let e = ap (λ (l : List Block). length l) c.requires in
+    let l = long_all w i in
+    subst (λ (n : ℕ). HaveGone (g.G.Gate.passed c.args.gate.now) c.args.plan.workers n c.in_ok-marked.marked.rounds) count (c.in_ok-marked.ensures.gate (omega (arith, some, e, l)))

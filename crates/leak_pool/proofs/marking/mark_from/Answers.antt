@@ -1,12 +1,17 @@
-use Rattle.std.proofs.Common.{ℕ, List, ◌≡◌, ◌<◌, ◌∙◌, ap, sym, subst, length, arith}
+use Rattle.std.proofs.Common.{ℕ, List, [], ◌≡◌, ◌<◌, ◌∙◌, ap, sym, subst, length, arith, ◌+◌}
 use Rattle.std.specs.Prelude.{slice_index_or}
 use Rattle.leak_blocks.specs.declared.block.Block.{Block}
+use Rattle.leak_roots.specs.declared.piece.Piece.{Piece}
+use Rattle.leak_roots.specs.Cut.{pieces_of}
 use Rattle.leak_pool.specs.declared.start.Part.{Part}
+use Rattle.leak_pool.specs.Gates.{HaveGone}
 use Rattle.leak_pool.specs.Scopes.{AreParts, root_targets, all_targets}
 use Rattle.leak_pool.specs.Rounds.{IsMarked, graph_over}
 use Rattle.leak_pool.specs.Marking.{lists_of}
-use Rattle.leak_pool.proofs.ScopeLemmas.{long_all}
+use Rattle.leak_pool.specs.Course.{HaveLed}
+use Rattle.leak_pool.proofs.ScopeLemmas.{long_all, long_roots}
 use Rattle.leak_pool.proofs.FromLemmas.{at_has_any, parts_inside, marks_from}
+use Rattle.leak_pool.proofs.DepthOfCores.{depth_from}
 use Rattle.leak_pool.proofs.marking.mark_from.Goals as goal
 
 pub invariant_of-scope : goal.invariant_of-scope
@@ -16,7 +21,7 @@ invariant_of-scope g c =
       of_live = c.requires.blocks;
       same = c.requires.blocks ∙ sym c.blocks-blocks.ensures.value;
       few = omega arith;
-      in_roots = c.in_ok-pieces.ensures.each;
+      in_roots = c.in_ok-pieces.ensures.cut.each;
       in_blocks = subst (λ (n : ℕ). AreParts n c.as_slice.result.now) (sym e)
           (subst (λ (l : List (ℕ × Part)). AreParts (length c.args.live.now.blocks) l) (sym c.as_slice.ensures.value)
           (parts_inside (length c.args.live.now.blocks) c.args.start.now.marked.items c.args.start.now.rescan.items c.requires.start.inside c.requires.start.rescan));
@@ -35,9 +40,37 @@ pub returns-clause-marks : goal.returns-clause-marks
 returns-clause-marks g c =
     let w = g.W.Words.word_at c.args.words.now in let i = g.L.Lookup.index c.args.lookup.now in
     let m = c.in_ok-marked.marked in let s = c.args.start.now in
-    let a : IsMarked (graph_over (root_targets w i c.args.roots.now c.in_ok-pieces.pieces c.args.pages.now c.as_slice.result.now) (all_targets w i) c.as_slice-given.result.now) (length (all_targets w i)) c.args.plan.workers m.set.items (lists_of m) m.rounds = c.in_ok-marked.ensures in
+    let a : IsMarked (graph_over (root_targets w i c.args.roots.now c.in_ok-pieces.pieces c.args.pages.now c.as_slice.result.now) (all_targets w i) c.as_slice-given.result.now) (length (all_targets w i)) c.args.plan.workers m.set.items (lists_of m) m.rounds = c.in_ok-marked.ensures.marks in
     let d : IsMarked (graph_over (root_targets w i c.args.roots.now c.in_ok-pieces.pieces c.args.pages.now s.rescan.items) (all_targets w i) c.as_slice-given.result.now) (length (all_targets w i)) c.args.plan.workers m.set.items (lists_of m) m.rounds =
     subst (λ (l : List (ℕ × Part)). IsMarked (graph_over (root_targets w i c.args.roots.now c.in_ok-pieces.pieces c.args.pages.now l) (all_targets w i) c.as_slice-given.result.now) (length (all_targets w i)) c.args.plan.workers m.set.items (lists_of m) m.rounds) c.as_slice.ensures.value a in
     let e : IsMarked (graph_over (root_targets w i c.args.roots.now c.in_ok-pieces.pieces c.args.pages.now s.rescan.items) (all_targets w i) s.marked.items) (length (all_targets w i)) c.args.plan.workers m.set.items (lists_of m) m.rounds =
     subst (λ (l : List ℕ). IsMarked (graph_over (root_targets w i c.args.roots.now c.in_ok-pieces.pieces c.args.pages.now s.rescan.items) (all_targets w i) l) (length (all_targets w i)) c.args.plan.workers m.set.items (lists_of m) m.rounds) c.as_slice-given.ensures.value d in
-    marks_from w i c.args.roots.now c.in_ok-pieces.pieces c.args.pages.now s c.args.plan.workers c.args.plan.piece m c.in_ok-pieces.ensures e
+    marks_from w i c.args.roots.now c.in_ok-pieces.pieces c.args.pages.now s c.args.plan.workers c.args.plan.piece m c.in_ok-pieces.ensures.cut e
+
+pub returns-clause-course : goal.returns-clause-course
+returns-clause-course g c =
+    let w = g.W.Words.word_at c.args.words.now in let i = g.L.Lookup.index c.args.lookup.now in
+    let m = c.in_ok-marked.marked in let l = long_all w i in (
+      c.in_ok-pieces.pieces,
+      c.in_ok-pieces.ensures.cut,
+      λ some. subst (λ (l : List (ℕ × Part)). HaveLed (root_targets w i c.args.roots.now c.in_ok-pieces.pieces c.args.pages.now l) (all_targets w i) c.args.plan.workers c.args.plan.stack m.rounds (lists_of m) []) c.as_slice.ensures.value
+          (c.in_ok-marked.ensures.course (omega (arith, l, some))),
+    )
+
+pub returns-clause-depth : goal.returns-clause-depth
+returns-clause-depth g c zero blocks =
+    let w = g.W.Words.word_at c.args.words.now in let i = g.L.Lookup.index c.args.lookup.now in
+    let e = ap (λ (l : List Block). length l) c.requires.blocks in
+    depth_from w i c.args.roots.now c.args.pages.now c.args.start.now c.args.plan c.in_ok-marked.marked zero (omega (arith, e, blocks)) (returns-clause-course g c) (returns-clause-marks g c)
+
+pub returns-clause-gate : goal.returns-clause-gate
+returns-clause-gate g c = λ some.
+    let w = g.W.Words.word_at c.args.words.now in let i = g.L.Lookup.index c.args.lookup.now in
+    let again = c.args.start.now.rescan.items in
+    let count : length (root_targets w i c.args.roots.now c.in_ok-pieces.pieces c.args.pages.now c.as_slice.result.now) ≡ length (pieces_of c.args.plan.piece c.args.roots.now) + length again =
+    long_roots w i c.args.roots.now c.in_ok-pieces.pieces c.args.pages.now c.as_slice.result.now
+    ∙ ap (λ (l : List Piece). length l + length c.as_slice.result.now) c.in_ok-pieces.ensures.value
+    ∙ ap (λ (l : List (ℕ × Part)). length (pieces_of c.args.plan.piece c.args.roots.now) + length l) c.as_slice.ensures.value in
+    let e = ap (λ (l : List Block). length l) c.requires.blocks in
+    let l = long_all w i in
+    subst (λ (n : ℕ). HaveGone (g.G.Gate.passed c.args.gate.now) c.args.plan.workers n c.in_ok-marked.marked.rounds) count (c.in_ok-marked.ensures.gate (omega (arith, some, e, l)))

@@ -8,8 +8,8 @@ use Rattle.leak_pool.proofs.marking_by_rounds.mark_by_rounds.Goals as goal
 abbrev items : Vec ℕ Global → List ℕ
 items v = v.items
 
-pub returns : goal.returns
-returns g c =
+pub returns-clause-marks : goal.returns-clause-marks
+returns-clause-marks g c =
     let roots : List (List ℕ) = g.S.Source.roots c.args.source.now in
     let targets : List (List ℕ) = g.S.Source.targets c.args.source.now in
     let first : c.blocks-2.result ≡ length targets = c.blocks-2.ensures in
@@ -17,9 +17,16 @@ returns g c =
     let same : IsSet c.in_ok-set.set.items (length targets) (λ b. mark_of c.as_slice.result.now b ≡ 1) =
     subst (λ (n : ℕ). IsSet c.in_ok-set.set.items n (λ b. mark_of c.as_slice.result.now b ≡ 1)) c.blocks-3.ensures set in
     marked_of_words (graph_over roots targets c.args.given.now) (length targets) c.args.plan.workers c.in_ok-words.rounds c.in_ok-words.words.items (map items c.in_ok-words.claims.items) c.in_ok-set.set.items
-    (let z = c.if-blocks-eq0.false in omega arith) c.in_ok-words.ensures
+    (let z = c.if-blocks-eq0.false in omega arith) c.in_ok-words.ensures.words
     (subst (λ (l : List ℕ). IsSet c.in_ok-set.set.items (length targets) (λ b. mark_of l b ≡ 1)) c.as_slice.ensures.value same)
 
-pub returns-then-blocks-eq0 : goal.returns-then-blocks-eq0
-returns-then-blocks-eq0 g c = marked_none (g.S.Source.roots c.args.source.now) (g.S.Source.targets c.args.source.now) c.args.given.now c.args.plan.workers (map items c.in_ok-no_claims.field-0.items) _
+pub returns-then-blocks-eq0-clause-marks : goal.returns-then-blocks-eq0-clause-marks
+returns-then-blocks-eq0-clause-marks g c = marked_none (g.S.Source.roots c.args.source.now) (g.S.Source.targets c.args.source.now) c.args.given.now c.args.plan.workers (map items c.in_ok-no_claims.field-0.items) _
     (sym c.blocks-2.ensures ∙ c.if-blocks-eq0.true) (c.in_ok-no_claims.ensures.lists ∙ ap (λ (n : ℕ). replicate n []) c.workers.ensures.number) c.new.ensures.items (λ i b h. c.targets_are_blocks.ensures i b h)
+
+pub returns-clause-gate : goal.returns-clause-gate
+returns-clause-gate g c = λ some. c.in_ok-words.ensures.gate
+
+pub returns-then-blocks-eq0-clause-gate : goal.returns-then-blocks-eq0-clause-gate
+returns-then-blocks-eq0-clause-gate g c = λ some.
+    absurd (let n = c.blocks-2.ensures in let none = c.if-blocks-eq0.true in omega arith)

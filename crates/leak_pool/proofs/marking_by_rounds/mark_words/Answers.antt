@@ -1,7 +1,10 @@
-use Rattle.std.proofs.Common.{◌≡◌, ℕ, List, Vec, Global, length, ◌∙◌, ap, subst}
+use Rattle.std.proofs.Common.{◌≡◌, ℕ, List, [], Vec, Global, length, ◌∙◌, ap, subst, arith}
 use Rattle.leak_marks.specs.Lists.{times, Within, mark_of, word_count}
+use Rattle.leak_pool.specs.Course.{HaveLed}
+use Rattle.leak_pool.specs.Gates.{HaveGone}
 use Rattle.leak_pool.specs.Rounds.{AreWords, Going, graph_over}
-use Rattle.leak_pool.specs.Progress.{claims_of}
+use Rattle.leak_pool.specs.Progress.{HaveCome, claims_of}
+use Rattle.leak_pool.proofs.CourseLemmas.{course_less}
 use Rattle.leak_pool.proofs.StepLemmas.{ok_at}
 use Rattle.leak_pool.proofs.EndLemmas.{words_at_end}
 use Rattle.leak_pool.proofs.marking_by_rounds.mark_words.Goals as goal
@@ -9,8 +12,8 @@ use Rattle.leak_pool.proofs.marking_by_rounds.mark_words.Goals as goal
 abbrev items : Vec ℕ Global → List ℕ
 items v = v.items
 
-pub returns : goal.returns
-returns g c =
+pub returns-clause-words : goal.returns-clause-words
+returns-clause-words g c =
     let roots = g.S.Source.roots c.args.source.now in let targets = g.S.Source.targets c.args.source.now in
     let p = c.in_ok-progress-2.progress in
     let going = subst (λ (l : List ℕ). Going roots targets c.args.given.now c.workers-workers.result (claims_of p) l p.seat) c.in_ok-progress-2.ensures.ended c.in_ok-progress-2.ensures.between.going in
@@ -20,3 +23,18 @@ returns g c =
     (λ full. ok_at c.close.result c.in_ok-words.words (λ w. Within p.seat.seen p.seat.claims × ((b : ℕ) → mark_of w.items b ≡ times b p.seat.claims)) c.in_ok-words.was (c.close.ensures.whole full))
     (c.in_ok-words.ensures.len ∙ ap word_count (c.in_ok-marks.ensures.0 ∙ c.blocks-3.ensures))
     c.in_ok-progress-2.ensures.rounds)
+
+pub returns-clause-course : goal.returns-clause-course
+returns-clause-course g c =
+    let roots = g.S.Source.roots c.args.source.now in let targets = g.S.Source.targets c.args.source.now in
+    let p = c.in_ok-progress-2.progress in
+    let none : c.args.plan.stack ≡ 0 → c.min-stack.result ≡ 0 = λ z. let s = c.stack.ensures.number in let m = c.min-stack.ensures in omega arith in
+    let come = subst (λ (l : List ℕ). HaveCome roots targets c.workers-workers.result c.min-stack.result c.in_ok-progress-2.rounds (claims_of p) l p.seat.seen) c.in_ok-progress-2.ensures.ended c.in_ok-progress-2.ensures.course in
+    subst (λ (n : ℕ). HaveLed roots targets n c.args.plan.stack c.in_ok-progress-2.rounds (claims_of p) []) c.workers-workers.ensures.number
+    (come.0, come.1, course_less roots targets c.workers-workers.result c.min-stack.result c.args.plan.stack (claims_of p) [] come.0 none come.2)
+
+pub returns-clause-gate : goal.returns-clause-gate
+returns-clause-gate g c =
+    let first : ℕ = length (g.S.Source.roots c.args.source.now) in
+    subst (λ (n : ℕ). HaveGone (g.G.Gate.passed c.args.gate.now) n first c.in_ok-progress-2.rounds) c.workers-workers.ensures.number
+    (c.in_ok-progress-2.ensures.gate first c.in_ok-progress.ensures.gate)

@@ -6,6 +6,7 @@ use Rattle.leak_pool.specs.Items.{targets_of_block, targets_of_item}
 use Rattle.leak_pool.specs.Promises.{IsScanned}
 use Rattle.leak_pool.specs.Scene.{Scene}
 use Rattle.leak_pool.proofs.StepLemmas.{ok_both, step_of_scan}
+use Rattle.leak_pool.proofs.CourseLemmas.{one_of_scan}
 use Rattle.leak_pool.proofs.rounds.by_caller.Goals as goal
 
 abbrev items : Vec ℕ Global → List ℕ
@@ -30,5 +31,6 @@ returns-clause-done g c =
       step_of_scan (targets_of_block scene.targets) (Has (targets_of_item scene.roots scene.targets c.args.item)) scene.workers (map items p.claims.items) p.waiting.items p.seat (map items c.absorb.new.claims.items) c.absorb.new.waiting.items c.scan.new.seat
           c.new-list.result.items list.items (map items c.as_slice.result.now) c.as_slice-left.result.now c.new-list.ensures.items one left some
           c.scan.ensures.same.0 c.scan.ensures.same.1 c.scan.ensures.sound c.scan.ensures.listed done claims waiting,
+      one_of_scan (Has (targets_of_item scene.roots scene.targets c.args.item)) p.seat.seen c.new-list.result.items c.scan.new.seat.seen list.items (map items c.as_slice.result.now) c.new-list.ensures.items one done,
     ))
     c.absorb.ensures.claims c.absorb.ensures.waiting

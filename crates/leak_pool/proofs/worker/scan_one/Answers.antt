@@ -9,13 +9,13 @@ use Rattle.leak_pool.proofs.FromLemmas.{if_ok}
 use Rattle.leak_pool.proofs.ScanLemmas.{kept_of_scan}
 use Rattle.leak_pool.proofs.worker.scan_one.Goals as goal
 
-abbrev work : List Item → Scene → Work
-work items scene = record { scene = scene; items = items }
+abbrev work : List Item → List ℕ → Scene → Work
+work items steps scene = record { scene = scene; items = items; steps = steps }
 
 pub returns-clause-done : goal.returns-clause-done
 returns-clause-done g c =
     let scene : Scene = c.args.round.now.scene in let hand = c.args.hand.now in
-    let is = ap (λ (w : Work). w.scene) (ap (λ (s : Scene). work (items_in c.round.inside.items) s) c.search.view_is ∙ c.round.view_is) in
+    let is = ap (λ (w : Work). w.scene) (ap (λ (s : Scene). work (items_in c.round.inside.items) c.round.inside.steps.now s) c.search.view_is ∙ c.round.view_is) in
     let before : List ℕ = c.args.seat.now.seen in let after : List ℕ = c.scan.new.seat.seen in let longer : List ℕ = c.scan.new.list.items in
     let done : IsScanned (Has (targets_of_item scene.roots scene.targets c.args.item)) [] before hand.list.items after longer =
     subst (λ (s : Scene). IsScanned (Has (targets_of_item s.roots s.targets c.args.item)) [] before hand.list.items after longer) is c.in_ok-scan.ensures.done in

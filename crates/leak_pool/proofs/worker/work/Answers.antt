@@ -1,20 +1,22 @@
-use Rattle.std.proofs.Common.{◌≡◌, ◌<◌, ◌≤◌, ◌∙◌, ◌+◌, ◌∷◌, ap, sym, subst, ℕ, List, [], length, arith}
+use Rattle.std.proofs.Common.{◌≡◌, ◌<◌, ◌≤◌, ◌∙◌, ◌+◌, ◌-◌, ◌^◌, ◌∷◌, ap, sym, subst, ℕ, List, [], length, arith}
 use Rattle.std.specs.Prelude.{slice_index_or, vec_capacity}
 use Rattle.std.proofs.lemmas.List.{append-nil, length-append}
 use Rattle.leak_marks.specs.Lists.{Has}
 use Rattle.leak_marks.proofs.ListLemmas.{has_back, has_last}
-use Rattle.leak_pool.specs.Items.{InRange, items_in, targets_of_item}
+use Rattle.leak_pool.specs.Items.{InRange, items_in, targets_of_item, share}
 use Rattle.leak_pool.specs.declared.hand.Hand.{Hand}
 use Rattle.leak_pool.specs.declared.source.Item.{Item}
 use Rattle.leak_pool.specs.declared.source.Item.TheVariants.{Root}
 use Rattle.leak_pool.specs.Promises.{IsPutAway, IsWorking}
 use Rattle.leak_pool.specs.Scene.{Scene, Work, blocks_of, items_of}
+use Rattle.leak_pool.specs.Gates.{IsNextPassed}
 use Rattle.leak_pool.proofs.HalfLemmas.{share-mono}
-use Rattle.leak_pool.proofs.WorkLemmas.{working_none, worker_inside, worker_few, put_block, put_item, put_few, put_grown, put_longer}
+use Rattle.leak_pool.proofs.WorkLemmas.{working_none, worker_inside, worker_few, put_block, put_item, put_few, put_grown, put_longer, direct_none, direct_item}
+use Rattle.leak_pool.proofs.GateLemmas.{next_passed, first_step, next_step, alone_passed}
 use Rattle.leak_pool.proofs.worker.work.Goals as goal
 
-abbrev work : List Item → Scene → Work
-work items scene = record { scene = scene; items = items }
+abbrev work : List Item → List ℕ → Scene → Work
+work items steps scene = record { scene = scene; items = items; steps = steps }
 
 pub scan-init : goal.scan-init
 scan-init g c =
@@ -26,14 +28,17 @@ scan-init g c =
       to = omega (arith, mono, c.share_start-next.ensures.start, c.share_start-end.ensures.start);
       room = c.requires.room;
       few = omega arith;
+      step = c.steps_before-step.ensures ∙ first_step (slice_index_or w.steps k 0) first (subst (λ (x : ℕ). x < 2 ^ 64) c.steps_before-step.ensures c.steps_before-step.type_inv);
+      passed = λ j below. absurd (omega arith);
       working = working_none (blocks_of w) (InRange (items_of w) first first) c.args.seat.now c.args.hand.now.list.items c.args.hand.now.stack.items c.args.hand.now.left.items
           (λ b r. let from : first ≤ r.0 = r.1 in let below : r.0 < first = r.2 in absurd (omega arith)) c.requires.seat.sound c.requires.none.0 c.requires.none.1 c.requires.none.2;
+      direct = λ z. direct_none (InRange (items_of w) first first) c.args.hand.now.list.items c.args.hand.now.left.items c.requires.none.0 c.requires.none.2;
     }
 
 pub scan_one-requires-clause-item : goal.scan_one-requires-clause-item
 scan_one-requires-clause-item g c =
     let w = c.args.round.now in
-    let is = ap (λ (v : Work). v.scene) (ap (λ (s : Scene). work (items_in c.round.inside.items) s) c.search.view_is ∙ c.round.view_is) in
+    let is = ap (λ (v : Work). v.scene) (ap (λ (s : Scene). work (items_in c.round.inside.items) c.round.inside.steps.now s) c.search.view_is ∙ c.round.view_is) in
     let inside = subst (λ (s : Scene). (i : Item) (b : ℕ) → Has (targets_of_item s.roots s.targets i) b → b < length s.targets) is (λ i b h. c.targets_are_blocks.ensures i b h) in
     let working = c.scan.invariant.working in
     worker_inside w (length w.scene.targets) inside c.share_start-next.result c.scan.next c.args.seat.now c.scan.seat c.scan.hand.list.items c.scan.hand.stack.items c.scan.hand.left.items working c.in-Some.block
@@ -53,14 +58,17 @@ scan-preserved-in-Continue-1 g c =
       to = i.to;
       room = let a = i.room in let b : vec_capacity later.stack ≡ vec_capacity c.scan.hand.stack = c.in_ok-scan_one.ensures.room ∙ c.pop.ensures.capacity in omega arith;
       few = put_few _ w.scene.stack c.scan.seat c.scan_one.new.seat hand later less p;
+      step = i.step;
+      passed = i.passed;
       working = put_block w w.scene.stack c.share_start-next.result c.scan.next c.in-Some.block c.args.seat.now c.scan.seat c.scan_one.new.seat hand later c.scan.hand.stack.items c.in-Some.ensures.items i.working
           c.scan_one.ensures.same.0 c.scan_one.ensures.same.1 c.scan_one.ensures.sound p;
+      direct = λ z. absurd (let f = i.few in omega arith);
     }
 
 pub scan-smaller-in-Continue-1 : goal.scan-smaller-in-Continue-1
 scan-smaller-in-Continue-1 g c =
     let w = c.args.round.now in let i = c.scan.invariant in
-    let is = ap (λ (v : Work). v.scene) (ap (λ (s : Scene). work (items_in c.round.inside.items) s) c.search.view_is ∙ c.round.view_is) in
+    let is = ap (λ (v : Work). v.scene) (ap (λ (s : Scene). work (items_in c.round.inside.items) c.round.inside.steps.now s) c.search.view_is ∙ c.round.view_is) in
     let inside = subst (λ (s : Scene). (i : Item) (b : ℕ) → Has (targets_of_item s.roots s.targets i) b → b < length s.targets) is (λ i b h. c.targets_are_blocks.ensures i b h) in
     let hand : Hand = record { list = c.scan.hand.list; stack = c.pop.new.self; left = c.scan.hand.left } in
     let later : Hand = c.scan_one.new.hand in
@@ -90,15 +98,18 @@ scan-preserved g c =
       to = let t = c.if-next-end.true in omega arith;
       room = let a = i.room in let b : vec_capacity later.stack ≡ vec_capacity c.scan.hand.stack = c.in_ok-scan_one-2.ensures.room ∙ c.pop.ensures.capacity in omega arith;
       few = put_few _ w.scene.stack c.scan.seat after hand later less p;
+      step = c.pass_next.ensures.counted ∙ next_step (slice_index_or w.steps c.args.worker 0) c.share_start-next.result c.scan.next c.scan.step i.from i.step;
+      passed = next_passed (g.G.Gate.passed c.args.gate.now) w.steps c.args.worker c.share_start-next.result c.scan.next c.scan.step i.from i.step c.pass_next.ensures.passed i.passed;
       working = put_item w w.scene.stack c.share_start-next.result c.scan.next c.args.seat.now c.scan.seat after hand later i.from
           (subst (λ (l : List ℕ). IsWorking (blocks_of w) (InRange (items_of w) c.share_start-next.result c.scan.next) c.args.seat.now c.scan.seat c.scan.hand.list.items l c.scan.hand.left.items) was i.working)
           c.scan_one-then-next-end.ensures.same.0 c.scan_one-then-next-end.ensures.same.1 c.scan_one-then-next-end.ensures.sound p;
+      direct = λ z. direct_item (items_of w) c.share_start-next.result c.scan.next w.scene.stack c.scan.seat after hand later i.from z (i.direct z) p;
     }
 
 pub scan-smaller : goal.scan-smaller
 scan-smaller g c =
     let w = c.args.round.now in let i = c.scan.invariant in
-    let is = ap (λ (v : Work). v.scene) (ap (λ (s : Scene). work (items_in c.round.inside.items) s) c.search.view_is ∙ c.round.view_is) in
+    let is = ap (λ (v : Work). v.scene) (ap (λ (s : Scene). work (items_in c.round.inside.items) c.round.inside.steps.now s) c.search.view_is ∙ c.round.view_is) in
     let inside = subst (λ (s : Scene). (i : Item) (b : ℕ) → Has (targets_of_item s.roots s.targets i) b → b < length s.targets) is (λ i b h. c.targets_are_blocks.ensures i b h) in
     let hand : Hand = record { list = c.scan.hand.list; stack = c.pop.new.self; left = c.scan.hand.left } in
     let later : Hand = c.scan_one-then-next-end.new.hand in let after = c.scan_one-then-next-end.new.seat in
@@ -117,3 +128,16 @@ scan-smaller g c =
     let longer : length c.scan.hand.list.items ≤ length later.list.items = put_longer _ w.scene.stack c.scan.seat after hand later p in
     let next : c.scan.next < c.share_start-end.result = c.if-next-end.true in
     omega arith
+
+pub returns-else-next-end-clause-gate : goal.returns-else-next-end-clause-gate
+returns-else-next-end-clause-gate g c =
+    let w = c.args.round.now in let k = c.args.worker in let i = c.scan.invariant in
+    let n : ℕ = length w.items in let m : ℕ = w.scene.workers in
+    let all = ap (λ (s : Scene). work (items_in c.round.inside.items) c.round.inside.steps.now s) c.search.view_is ∙ c.round.view_is in
+    let many : c.len-count.result ≡ n = c.len-count.ensures ∙ ap (λ (v : Work). length v.items) all in
+    let same : c.search.inside.workers ≡ m = ap (λ (v : Work). v.scene.workers) all in
+    let first : c.share_start-next.result ≡ share k n m = c.share_start-next.ensures.start ∙ ap (λ (x : ℕ). share k x c.search.inside.workers) many ∙ ap (λ (x : ℕ). share k n x) same in
+    let end : c.share_start-end.result ≡ share (k + 1) n m = c.share_start-end.ensures.start ∙ ap (λ (x : ℕ). share (k + 1) x c.search.inside.workers) many ∙ ap (λ (x : ℕ). share (k + 1) n x) same in
+    let last : c.scan.next ≡ c.share_start-end.result = let t = i.to in let f = c.if-next-end.false in omega arith in
+    alone_passed (IsNextPassed (g.G.Gate.passed c.args.gate.now) w.steps) n m k
+    (λ j below. i.passed j (let b : j < share (k + 1) n m - share k n m = below in omega arith))

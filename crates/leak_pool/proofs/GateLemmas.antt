@@ -1,0 +1,109 @@
+-- Steps that a gate let through, put together.
+use Rattle.std.proofs.Common.{◌≡◌, ℕ, suc, ◌+◌, ◌-◌, ◌*◌, ◌/◌, ◌%◌, ◌^◌, ◌<◌, ◌≤◌, List, [], ◌∷◌, ◌++◌, length, get_or, replicate, refl, sym, ap, ◌∙◌, subst, arith}
+use Rattle.std.proofs.Math.Nat.{mod-add-mod, mod-eq_of_lt, div-le_self}
+use Rattle.std.proofs.lemmas.List.{get_or-replicate, length-append}
+use mathlib.Core.Logic.{dite}
+use native.Mathlib.Decide.{dec_lt}
+use Rattle.leak_pool.specs.Items.{share}
+use Rattle.leak_pool.specs.Gates.{share_size, IsNextPassed, ArePassed, sizes_of, AreAllPassed, HavePassed, HaveMade, HaveGone}
+use Rattle.leak_pool.specs.Rounds.{AreCounted}
+
+-- the step of the next item is let through too
+pub next_passed : (passed : ℕ → ℕ → Type 0) (steps : List ℕ) (k first next step : ℕ) → first ≤ next → step ≡ (get_or steps k 0 + (next - first)) % 2 ^ 64 → passed k step
+    → ((j : ℕ) → j < next - first → IsNextPassed passed steps k j) → (j : ℕ) → j < next + 1 - first → IsNextPassed passed steps k j
+next_passed passed steps k first next step from is p before j h =
+    dite (dec_lt j (next - first)) (λ lt. before j lt) (λ ge. let e : next - first ≡ j = omega arith in subst (λ (i : ℕ). IsNextPassed passed steps k i) e (subst (λ (s : ℕ). passed k s) is p))
+
+-- a sum of a remainder and a number
+mod_more : (a b m : ℕ) → (a % m + b) % m ≡ (a + b) % m
+mod_more a b m = mod-add-mod a m b
+
+-- the number of the first step, and of the one after it
+pub first_step : (step from : ℕ) → step < 2 ^ 64 → step ≡ (step + (from - from)) % 2 ^ 64
+first_step step from small = sym (ap (λ (x : ℕ). x % 2 ^ 64) same ∙ mod-eq_of_lt small)
+  where
+    same : step + (from - from) ≡ step
+    same = omega arith
+
+pub next_step : (start first next step : ℕ) → first ≤ next → step ≡ (start + (next - first)) % 2 ^ 64 → (step + 1) % 2 ^ 64 ≡ (start + (next + 1 - first)) % 2 ^ 64
+next_step start first next step from is =
+    ap (λ (x : ℕ). (x + 1) % 2 ^ 64) is ∙ mod_more (start + (next - first)) 1 (2 ^ 64) ∙ ap (λ (x : ℕ). x % 2 ^ 64) same
+  where
+    same : start + (next - first) + 1 ≡ start + (next + 1 - first)
+    same = omega arith
+
+-- a worker of a round alone
+pub alone_passed : (passed : ℕ → ℕ → Type 0) (n workers k : ℕ) → ((j : ℕ) → j < share_size k n workers → passed k j) → ArePassed passed n workers k (k + 1)
+alone_passed passed n workers k h i j from to below =
+    let e : k ≡ i = omega arith in subst (λ (l : ℕ). passed l j) e (h j (subst (λ (l : ℕ). j < share_size l n workers) (sym e) below))
+
+-- two halves
+pub both_passed : (passed : ℕ → ℕ → Type 0) (n workers low middle high : ℕ) → ArePassed passed n workers low middle → ArePassed passed n workers middle high → ArePassed passed n workers low high
+both_passed passed n workers low middle high a b k j from to h =
+    dite (dec_lt k middle) (λ lt. a k j from lt h) (λ ge. b k j (omega arith) to h)
+
+-- ---- rounds
+
+-- a round more
+sizes_more : (k m n : ℕ) (rounds : List ℕ) → sizes_of k m (rounds ++ n ∷ []) ≡ sizes_of k m rounds + share_size k n m
+sizes_more k m n [] = omega arith
+sizes_more k m n (x ∷ rounds) = let e = sizes_more k m n rounds in omega arith
+
+passed_more : (passed : ℕ → ℕ → Type 0) (workers n : ℕ) (rounds steps : List ℕ) → HavePassed passed workers rounds steps → ArePassed (IsNextPassed passed steps) n workers 0 workers
+    → AreAllPassed passed workers (rounds ++ n ∷ [])
+passed_more passed workers n rounds steps h round k j inside below =
+    let old : ℕ = sizes_of k workers rounds in
+    let more = sizes_more k workers n rounds in
+    dite (dec_lt j old) (λ lt. h.each k j inside lt)
+    (λ ge.
+    let rest : old + (j - old) ≡ j = omega arith in
+    let few : j - old < share_size k n workers = omega arith in
+    let is : (get_or steps k 0 + (j - old)) % 2 ^ 64 ≡ j % 2 ^ 64 =
+    ap (λ (x : ℕ). (x + (j - old)) % 2 ^ 64) (h.counts k inside) ∙ mod_more old (j - old) (2 ^ 64) ∙ ap (λ (x : ℕ). x % 2 ^ 64) rest in
+    subst (λ (x : ℕ). passed k x) is (round k (j - old) (omega arith) inside few))
+
+pub round_more : (passed : ℕ → ℕ → Type 0) (workers n : ℕ) (rounds steps after : List ℕ) → ArePassed (IsNextPassed passed steps) n workers 0 workers → AreCounted n workers workers steps after
+    → HavePassed passed workers rounds steps → HavePassed passed workers (rounds ++ n ∷ []) after
+round_more passed workers n rounds steps after round counted h = record {
+  each = passed_more passed workers n rounds steps h round;
+  counts = λ k inside.
+      counted.grown k inside ∙ ap (λ (x : ℕ). (x + share_size k n workers) % 2 ^ 64) (h.counts k inside) ∙ mod_more (sizes_of k workers rounds) (share_size k n workers) (2 ^ 64)
+      ∙ ap (λ (x : ℕ). x % 2 ^ 64) (sym (sizes_more k workers n rounds));
+}
+
+-- a round of no items
+share_size_none : (k m : ℕ) → share_size k 0 m ≡ 0
+unfolding share
+share_size_none k m =
+    let p : k * 0 / m ≤ k * 0 = div-le_self (k * 0) m in let q : (k + 1) * 0 / m ≤ (k + 1) * 0 = div-le_self ((k + 1) * 0) m in omega arith
+
+pub round_none : (passed : ℕ → ℕ → Type 0) (workers n : ℕ) (rounds steps : List ℕ) → n ≡ 0 → HavePassed passed workers rounds steps → HavePassed passed workers (rounds ++ n ∷ []) steps
+round_none passed workers n rounds steps none h =
+    subst (λ (x : ℕ). HavePassed passed workers (rounds ++ x ∷ []) steps) (sym none) record {
+      each = λ k j inside below. h.each k j inside (let e = sizes_more k workers 0 rounds in let z = share_size_none k workers in omega arith);
+      counts = λ k inside. h.counts k inside ∙ ap (λ (x : ℕ). x % 2 ^ 64) (let e = sizes_more k workers 0 rounds in let z = share_size_none k workers in omega arith);
+    }
+
+-- before the first round
+pub passed_none : (passed : ℕ → ℕ → Type 0) (workers : ℕ) (steps : List ℕ) → steps ≡ replicate workers 0 → HavePassed passed workers [] steps
+passed_none passed workers steps zeros = record {
+  each = λ k j inside below. absurd (let b : j < 0 = below in omega arith);
+  counts = λ k inside. ap (λ (l : List ℕ). get_or l k 0) zeros ∙ get_or-replicate workers k 0 0 inside;
+}
+
+-- ---- from the first round on
+
+pub made_one : (passed : ℕ → ℕ → Type 0) (workers first : ℕ) (steps : List ℕ) → HavePassed passed workers (first ∷ []) steps → HaveMade passed workers first 1 steps
+made_one passed workers first steps h = record { later = []; count = refl; passed_all = h }
+
+pub made_more : (passed : ℕ → ℕ → Type 0) (workers first n rounds : ℕ) (steps after : List ℕ)
+    → ((all : List ℕ) → HavePassed passed workers all steps → HavePassed passed workers (all ++ n ∷ []) after)
+    → HaveMade passed workers first rounds steps → HaveMade passed workers first (rounds + 1) after
+made_more passed workers first n rounds steps after more h = record {
+  later = h.later ++ n ∷ [];
+  count = let l = length-append h.later (n ∷ []) in let c = h.count in omega arith;
+  passed_all = more (first ∷ h.later) h.passed_all;
+}
+
+pub gone_of_made : (passed : ℕ → ℕ → Type 0) (workers first rounds : ℕ) (steps : List ℕ) → HaveMade passed workers first rounds steps → HaveGone passed workers first rounds
+gone_of_made passed workers first rounds steps h = record { later = h.later; count = h.count; each = h.passed_all.each }
