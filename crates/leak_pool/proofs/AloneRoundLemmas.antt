@@ -1,10 +1,10 @@
 -- The rounds of marking by one thread: they end where the blocks of one length of chains end.
-use Rattle.std.proofs.Common.{◌≡◌, ℕ, zero, suc, ◌+◌, ◌-◌, ◌<◌, ◌≤◌, List, [], ◌∷◌, ◌++◌, length, get_or, refl, sym, ap, ◌∙◌, subst, inl, inr, ⊎_elim, arith, length-append}
+use Rattle.std.proofs.Common.{◌≡◌, ℕ, zero, suc, ◌+◌, ◌-◌, ◌<◌, ◌≤◌, List, [], ◌∷◌, length, get_or, refl, sym, ap, ◌∙◌, subst, inl, inr, ⊎_elim, arith, length-append}
 use Rattle.std.proofs.lemmas.List.{get_or_append_left}
 use mathlib.Core.Logic.{dite}
 use native.Mathlib.Decide.{dec_lt}
 use Rattle.leak_marks.specs.Lists.{Has, IsDistinct, Within}
-use Rattle.leak_marks.specs.Reach.{Graph, Reach, IsChain, targets_of}
+use Rattle.leak_marks.specs.Reach.{Graph, IsChain, targets_of}
 use Rattle.leak_marks.proofs.ListLemmas.{here, distinct_apart, distinct_back}
 use Rattle.leak_pool.specs.Alone.{AreTaken, IsFollowed, IsInRounds, EndsBelow}
 use Rattle.leak_pool.specs.Depth.{AreByDepth}
@@ -41,9 +41,13 @@ in_rounds_next g list scanned end rounds at_end more f once i = record {
   early = λ k h. i.late (get_or list k 0) (at_has list k h);
   late = λ b h. let e = i.late b h in let l : length (b ∷ e.0) < rounds + 1 = e.2 in (e.0, e.1, omega arith);
   short = λ b e. has_at list b (listed b e.0 e.1 e.2);
-  last = inr (scanned, more, λ before chain. dite (dec_lt (length (get_or list scanned 0 ∷ before)) rounds)
-      (λ lt. let p : (k : ℕ) × (k < end) × (get_or list k 0 ≡ get_or list scanned 0) = i.short (get_or list scanned 0) (before, chain, lt) in let low : p.0 < end = p.1 in absurd (two_places list p.0 scanned once (omega arith) more p.2))
-      (λ ge. omega arith));
+  last = inr (
+    scanned,
+    more,
+    λ before chain. dite (dec_lt (length (get_or list scanned 0 ∷ before)) rounds)
+        (λ lt. let p : (k : ℕ) × (k < end) × (get_or list k 0 ≡ get_or list scanned 0) = i.short (get_or list scanned 0) (before, chain, lt) in let low : p.0 < end = p.1 in absurd (two_places list p.0 scanned once (omega arith) more p.2))
+        (λ ge. omega arith),
+  );
 }
   where
     listed : (b : ℕ) (before : List ℕ) → IsChain g (b ∷ before) → length (b ∷ before) < rounds + 1 → Has list b
