@@ -1,10 +1,10 @@
 -- The rounds of marking by one thread: they end where the blocks of one length of chains end.
-use Rattle.std.proofs.Common.{◌≡◌, ℕ, zero, suc, ◌+◌, ◌-◌, ◌<◌, ◌≤◌, List, [], ◌∷◌, ◌++◌, length, get_or, refl, sym, ap, ◌∙◌, subst, inl, inr, ⊎_elim, arith, length-append}
+use Rattle.std.proofs.Common.{◌≡◌, ℕ, zero, suc, ◌+◌, ◌-◌, ◌<◌, ◌≤◌, List, [], ◌∷◌, length, get_or, refl, sym, ap, ◌∙◌, subst, inl, inr, ⊎_elim, arith, length-append}
 use Rattle.std.proofs.lemmas.List.{get_or_append_left}
 use mathlib.Core.Logic.{dite}
 use native.Mathlib.Decide.{dec_lt}
 use Rattle.leak_marks.specs.Lists.{Has, IsDistinct, Within}
-use Rattle.leak_marks.specs.Reach.{Graph, Reach, IsChain, targets_of}
+use Rattle.leak_marks.specs.Reach.{Graph, IsChain, targets_of}
 use Rattle.leak_marks.proofs.ListLemmas.{here, distinct_apart, distinct_back}
 use Rattle.leak_pool.specs.Alone.{AreTaken, IsFollowed, IsInRounds, EndsBelow}
 use Rattle.leak_pool.specs.Depth.{AreByDepth}

@@ -1,5 +1,5 @@
 -- A worked course: two workers, two parts of the roots, five blocks, stacks of no entry.
-use Rattle.std.proofs.Common.{◌≡◌, ℕ, List, [], ◌∷◌, length, refl, sym, subst, inl, ⊎_elim, slice_index_or, arith}
+use Rattle.std.proofs.Common.{ℕ, List, [], ◌∷◌, refl, sym, subst, inl, ⊎_elim, slice_index_or, arith}
 use Rattle.std.specs.List.{AllByRecursion}
 use Rattle.leak_marks.specs.Lists.{Has}
 use Rattle.leak_marks.proofs.ListLemmas.{here, there, at_head}

@@ -1,11 +1,11 @@
 -- The course of marking grows by rounds.
 use Rattle.std.proofs.Common.{◌≡◌, ℕ, zero, suc, ◌+◌, ◌<◌, ◌≤◌, List, [], ◌∷◌, ◌++◌, length, map, get_or, ◌⊎◌, replicate, refl, sym, ap, ◌∙◌, subst, inl, inr, ⊎_elim, arith}
 use Rattle.std.specs.List.{concat, flat_map}
-use Rattle.std.proofs.lemmas.List.{append-nil, length-append, length-map, get_or-map}
+use Rattle.std.proofs.lemmas.List.{append-nil, length-append, length-map}
 use Rattle.leak_marks.specs.Lists.{Has, Within}
 use Rattle.leak_marks.specs.Seats.{Held}
 use Rattle.leak_marks.specs.Rounds.{AreLed, appended_from}
-use Rattle.leak_marks.proofs.ListLemmas.{here, there, at_head, has_front, has_back, of_append}
+use Rattle.leak_marks.proofs.ListLemmas.{here, there, has_front, has_back, of_append}
 use Rattle.leak_pool.specs.Items.{InRange, share, targets_at, targets_of_block, targets_of_item}
 use Rattle.leak_pool.specs.declared.source.Item.{Item}
 use Rattle.leak_pool.specs.declared.source.Item.TheVariants.{Root, Block}

@@ -15,7 +15,7 @@ use Rattle.leak_marks.proofs.StackLemmas.{led_from}
 use Rattle.leak_pool.specs.Items.{InRange, share, targets_of_block}
 use Rattle.leak_pool.specs.Promises.{AreOwn}
 use Rattle.leak_pool.specs.Rounds.{graph_over}
-use Rattle.leak_pool.specs.Course.{Round, IsShared, AreLater, AreRounds, AreTimely, IsCourse, HaveLed, claims_in, with_round, with_rounds}
+use Rattle.leak_pool.specs.Course.{Round, IsShared, AreLater, AreTimely, IsCourse, HaveLed, claims_in, with_round, with_rounds}
 use Rattle.leak_pool.specs.Depth.{IsDepth, AreByDepth}
 use Rattle.leak_pool.proofs.ScanLemmas.{none_has}
 

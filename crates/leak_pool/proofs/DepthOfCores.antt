@@ -1,9 +1,7 @@
 -- The number of rounds over a core, with stacks of no entry.
-use Rattle.std.proofs.Common.{◌≡◌, ℕ, ◌<◌, List, [], length, Option, sym, subst, ap, ◌∙◌, arith}
+use Rattle.std.proofs.Common.{◌≡◌, ℕ, ◌<◌, List, [], length, Option, sym, subst}
 use Rattle.leak_index.specs.Hits.{Index}
 use Rattle.leak_roots.specs.Places.{Places}
-use Rattle.leak_roots.specs.declared.piece.Piece.{Piece}
-use Rattle.leak_roots.specs.Pieces.{AreCut}
 use Rattle.leak_marks.specs.Reach.{Graph, Reach}
 use Rattle.leak_marks.specs.Partition.{Partitions}
 use Rattle.leak_pool.specs.declared.start.Start.{Start}
@@ -14,7 +12,6 @@ use Rattle.leak_pool.specs.Rounds.{graph_over}
 use Rattle.leak_pool.specs.Scopes.{root_targets, all_targets}
 use Rattle.leak_pool.specs.Course.{HaveLed, IsByRounds}
 use Rattle.leak_pool.specs.Depth.{AreByDepth}
-use Rattle.leak_pool.proofs.ScopeLemmas.{long_all}
 use Rattle.leak_pool.proofs.FromLemmas.{graph_is, graph_of_pieces}
 use Rattle.leak_pool.proofs.DepthLemmas.{rounds_by_depth}
 

@@ -1,4 +1,4 @@
-use Rattle.std.proofs.Common.{◌∙◌, ◌<◌, List, length, ap, sym, arith, ◌≡◌, ℕ, [], subst}
+use Rattle.std.proofs.Common.{◌∙◌, List, length, ap, sym, arith, ◌≡◌, ℕ, [], subst}
 use Rattle.leak_blocks.specs.declared.block.Block.{Block}
 use Rattle.leak_pool.proofs.DepthOfCores.{depth_of_roots}
 use Rattle.leak_roots.specs.declared.piece.Piece.{Piece}

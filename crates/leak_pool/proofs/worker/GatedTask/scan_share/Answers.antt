@@ -1,4 +1,4 @@
-use Rattle.std.proofs.Common.{◌≡◌, ◌∙◌, ap, refl, ◌∷◌, ◌++◌, ℕ, List, [], Vec, Global, length, map}
+use Rattle.std.proofs.Common.{◌≡◌, ◌∙◌, ap, refl, ◌∷◌, ◌++◌, ℕ, List, [], Vec, Global, length, map, rules}
 use Rattle.leak_pool.specs.Scene.{blocks_of, items_of}
 use Rattle.leak_pool.proofs.WorkLemmas.{half_of_one}
 use Rattle.leak_pool.proofs.worker.GatedTask.scan_share.Goals as goal
@@ -16,5 +16,5 @@ returns g c =
       sound = c.work.ensures.sound;
       done = half_of_one (blocks_of w) (items_of w) w.scene.stack (length w.items) w.scene.workers c.args.worker c.args.seat.now c.work.new.seat list.items c.work.new.hand.left.items
           (map items c.push.new.self.items) c.work.new.hand.left.items c.in_ok-work.ensures.done c.in_ok-work.ensures.direct (ap (λ (l : List (Vec ℕ Global)). map items l) pushed) refl;
-      gate = c.in_ok-work.ensures.gate;
+      gate = search rules;
     }
