@@ -11,7 +11,8 @@
 //! Shenker, PLDI 1991, for marking from an earlier state. Rounds, pieces, stacks and claims are own rule.
 //!
 //! No contract says that two workers run at the same time, that a step passes the gate before its item is scanned and
-//! only once, that `rounds` is the number of rounds made, or that stacks make them fewer: tests show these.
+//! only once, how many steps a worker makes after the first round, that `rounds` is the number of rounds made, or that
+//! stacks make them fewer: tests show these.
 #![tactic(auto)]
 
 mod alone;
