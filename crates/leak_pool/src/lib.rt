@@ -12,7 +12,8 @@
 //!
 //! The contracts say which worker claimed what, round by round (specs/Course.antt), that each step passes the gate, and how
 //! many rounds there are with stacks of no entry, or alone. No contract says that two workers run at the same time, that a
-//! step passes the gate before its item is scanned and only once, or that stacks make the rounds fewer: tests show these.
+//! step passes the gate before its item is scanned and only once, how many steps a worker makes after the first round, or
+//! that stacks make the rounds fewer: tests show these.
 #![tactic(auto)]
 
 mod alone;
