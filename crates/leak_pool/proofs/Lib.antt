@@ -6,6 +6,7 @@ pub mod WordLemmas
 pub mod AloneLemmas
 pub mod ScanLemmas
 pub mod LinkLemmas
+pub mod RowLemmas
 pub mod WorkLemmas
 pub mod HalfLemmas
 pub mod AbsorbLemmas

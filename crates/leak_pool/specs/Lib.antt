@@ -8,5 +8,6 @@ pub mod Progress
 pub mod Marking
 pub mod Scopes
 pub mod ScopeLaw
+pub mod Room
 pub mod Links
 pub mod LinksLaw
