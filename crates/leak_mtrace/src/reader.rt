@@ -1,6 +1,6 @@
 //! Reads the lines of a log one after another.
 
-ghost use Rattle.std.specs.Prelude.{◌≡◌, ◌+◌, ◌<◌, ◌≤◌, ◌^◌, List, [], length, IfOk, IfErr};
+ghost use Rattle.std.specs.Prelude.{◌≡◌, ◌+◌, ◌<◌, ◌≤◌, ◌^◌, List, [], length, IfOk, IfErr, IfNone, OnErr};
 ghost use Rattle.std.specs.Bool.{MatchBool};
 ghost use Rattle.leak_mtrace.specs.declared.line.Line.{Line};
 ghost use Rattle.leak_mtrace.specs.Log.{IsGoodLine, IsFaulty, IsPastEnd, placed, IsFirstFault, torn_of, whole_len_of};
@@ -89,6 +89,8 @@ impl<'a> Reader<'a> {
             (lines : List Line) → HasRead self.old lines → IsNextRead self.new lines next) }
         ensures refused { IfErr result (λ e.
             (lines : List Line) → HasRead self.old lines → IsFirstFault self.old.bytes e) }
+        ensures stays_refused { OnErr result (self.new ≡ self.old) }
+        ensures stays_ended { IfOk result (λ next. IfNone next (self.new ≡ self.old)) }
     {
         let bytes = self.bytes;
         let start = self.start;

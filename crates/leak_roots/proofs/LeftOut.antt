@@ -277,7 +277,7 @@ ranges_behind r [] k d h l = absurd (omega arith)
 ranges_behind r (s ∷ rs) zero d h l = h.0
 ranges_behind r (s ∷ rs) (suc k) d h l = ranges_behind r rs k d h.1 (omega arith)
 
-ranges_apart : (rs : List (ℕ × ℕ)) (j k : ℕ) (d : ℕ × ℕ) → AreRanges rs → j < k → k < length rs → (get_or rs j d).1 ≤ (get_or rs k d).0
+pub ranges_apart : (rs : List (ℕ × ℕ)) (j k : ℕ) (d : ℕ × ℕ) → AreRanges rs → j < k → k < length rs → (get_or rs j d).1 ≤ (get_or rs k d).0
 ranges_apart [] j k d h l m = absurd (omega arith)
 ranges_apart (r ∷ rs) j zero d h l m = absurd (omega arith)
 ranges_apart (r ∷ rs) zero (suc k) d h l m = ranges_behind r rs k d h.1 (omega arith)

@@ -5,5 +5,6 @@ pub mod BySegment
 pub mod Cutting
 pub mod Bridges
 pub mod LeftOut
+pub mod Few
 pub mod Numbered
 pub mod Whole

@@ -6,3 +6,4 @@ pub mod Cut
 pub mod Numbers
 pub mod Laws
 pub mod Rows
+pub mod Counts

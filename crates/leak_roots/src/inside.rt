@@ -1,8 +1,9 @@
 //! Leaving out the places inside spans: freed memory, and slack.
 
-ghost use Rattle.std.specs.Prelude.{◌≡◌, ◌+◌, ◌++◌, ◌<◌, ◌≤◌, ◌*◌, ◌^◌, ◌%◌, ℕ, length, slice_index_or, filter, not, OnOk, IfOk, IsTrue};
+ghost use Rattle.std.specs.Prelude.{◌≡◌, ◌+◌, ◌++◌, ◌<◌, ◌≤◌, ◌*◌, ◌^◌, ◌%◌, ℕ, length, slice_index_or, filter, not, OnOk, IfOk, IsTrue, IsFalse};
 ghost use Rattle.leak_blocks.specs.declared.small.Span.{Span};
 ghost use Rattle.leak_blocks.specs.Small.{AreApart};
+ghost use Rattle.leak_roots.specs.Counts.{spans_up_to};
 ghost use Rattle.leak_roots.specs.Places.{memory_places, addresses_in, IsRange, AreRanges, EndBy};
 ghost use Rattle.leak_roots.specs.Roots.{is_inside};
 
@@ -68,6 +69,8 @@ fn run_from(spans: &[Span], passed: usize, from: u64, to: u64) -> Run
     ensures multiple { result.end % 8 ≡ 0 }
     ensures alike { (a : ℕ) → from ≤ a → a < result.end → a % 8 ≡ 0
         → is_inside spans.now a ≡ result.inside }
+    ensures cut { IsFalse result.inside → result.end < to
+        → spans_up_to spans.now from < spans_up_to spans.now result.end }
 {
     let last = from + 7;
     let next = count_before(spans, passed, last);
@@ -112,6 +115,8 @@ fn push_kept(
         inside ≡ length (filter (is_inside spans.now) (addresses_in range))) }
     ensures few { IfOk result (λ inside. range.0 + 8 * inside ≤ range.1) }
     ensures fits { IfOk result (λ inside. range.0 + 8 * inside < 2 ^ 64) }
+    ensures cuts { OnOk result (length kept.new.items + spans_up_to spans.now range.0
+        ≤ length kept.old.items + spans_up_to spans.now range.1 + 1) }
 {
     let (mut from, to) = range;
     let mut inside = 0;
@@ -142,6 +147,8 @@ fn keep_others(
     ensures ranges { IfOk result (λ found. AreRanges found.0.items) }
     ensures inside { IfOk result (λ found.
         found.1 ≡ length (filter (is_inside spans.now) (memory_places memory.now))) }
+    ensures cuts { IfOk result (λ found.
+        length found.0.items ≤ length memory.now + length spans.now) }
 {
     let mut kept = Vec::new(alloc);
     let mut inside = 0;
@@ -166,6 +173,8 @@ pub(crate) fn leave_out(
     ensures ranges { IfOk result (λ found. AreRanges found.0.items) }
     ensures inside { IfOk result (λ found.
         found.1 ≡ length (filter (is_inside spans.now) (memory_places memory.items))) }
+    ensures cuts { IfOk result (λ found.
+        length found.0.items ≤ length memory.items + length spans.now) }
 {
     if spans.is_empty() {
         return Ok((memory, 0));

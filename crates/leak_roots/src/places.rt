@@ -1,9 +1,11 @@
 //! Ranges of the words in memory outside the live blocks.
 
-ghost use Rattle.std.specs.Prelude.{◌≡◌, ◌+◌, ◌++◌, ◌<◌, ◌≤◌, ◌^◌, ℕ, length, filter, slice_index_or, OnOk, IfOk};
+ghost use Rattle.std.specs.Prelude.{◌≡◌, ◌+◌, ◌-◌, ◌++◌, ◌<◌, ◌≤◌, ◌^◌, ℕ, min, length, filter, slice_index_or, OnOk, IfOk};
+ghost use Rattle.leak_elf.specs.Segments.{segments_of};
 ghost use Rattle.leak_elf.specs.Words.{places};
 ghost use Rattle.leak_blocks.specs.declared.block.Block.{Block};
 ghost use Rattle.leak_blocks.specs.Span.{AreAddressed, AreDisjoint};
+ghost use Rattle.leak_roots.specs.Counts.{blocks_up_to};
 ghost use Rattle.leak_roots.specs.Places.{memory_places, aligned_places, AreRanges, EndBy};
 ghost use Rattle.leak_roots.specs.Roots.{AreOrdered, has_roots, is_free, outside_places};
 
@@ -20,6 +22,8 @@ fn push_range(memory: &mut Vec<(u64, u64)>, from: u64, to: u64) -> Result<(), Al
     ensures ranges { OnOk result (AreRanges memory.new.items) }
     ensures ends { OnOk result ((addr : ℕ) → to ≤ addr → EndBy addr memory.old.items
         → EndBy addr memory.new.items) }
+    ensures few { OnOk result
+        (length memory.new.items ≤ length memory.old.items + min (to - from) 1) }
 {
     let first = from.div_ceil(8);
     let last = to / 8;
@@ -37,6 +41,7 @@ fn count_up_to(blocks: &[Block], addr: u64) -> usize
         → (slice_index_or blocks.now k d).start ≤ addr }
     ensures beyond { (k : ℕ) (d : Block) → result ≤ k → k < length blocks.now
         → addr < (slice_index_or blocks.now k d).start }
+    ensures count { result ≡ blocks_up_to blocks.now addr }
 {
     blocks.partition_point(|block| block.start <= addr)
 }
@@ -56,6 +61,8 @@ fn push_gaps(
         ≡ memory_places memory.old.items ++ filter (is_free blocks.now) (places from to)) }
     ensures ranges { OnOk result (AreRanges memory.new.items) }
     ensures ends { OnOk result (EndBy to memory.new.items) }
+    ensures few { OnOk result (length memory.new.items + blocks_up_to blocks.now from
+        ≤ length memory.old.items + blocks_up_to blocks.now to + 1) }
 {
     let first = count_up_to(blocks, from).saturating_sub(1);
     let end = count_up_to(blocks, to);
@@ -89,6 +96,8 @@ pub(crate) fn find_ranges(
     ensures places { IfOk result (λ memory.
         memory_places memory.items ≡ outside_places unwritable image.now blocks.now) }
     ensures ranges { IfOk result (λ memory. AreRanges memory.items) }
+    ensures few { IfOk result (λ memory. length memory.items
+        ≤ length (filter (has_roots unwritable) (segments_of image.now)) + length blocks.now) }
 {
     let mut memory = Vec::new(alloc);
     for segment in image.segments() {

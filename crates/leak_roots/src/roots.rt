@@ -1,12 +1,13 @@
 //! The root words of a core.
 
-ghost use Rattle.std.specs.Prelude.{◌≡◌, ◌↔◌, ℕ, IfOk, Err, Bool, List, [], length, filter, not, false};
+ghost use Rattle.std.specs.Prelude.{◌≡◌, ◌↔◌, ◌+◌, ◌≤◌, ℕ, IfOk, Err, Bool, List, [], length, filter, not, false};
+ghost use Rattle.leak_elf.specs.Segments.{segments_of};
 ghost use Rattle.leak_notes.specs.Threads.{threads_of};
 ghost use Rattle.leak_blocks.specs.declared.block.Block.{Block};
 ghost use Rattle.leak_blocks.specs.declared.small.Span.{Span};
 ghost use Rattle.leak_blocks.specs.Small.{AreApart, CoverSame};
 ghost use Rattle.leak_roots.specs.Places.{Places, AreRanges, memory_places};
-ghost use Rattle.leak_roots.specs.Roots.{AreRootsOf, freed_places, is_inside, root_places};
+ghost use Rattle.leak_roots.specs.Roots.{AreRootsOf, freed_places, has_roots, is_inside, root_places};
 ghost use Rattle.leak_roots.specs.Pieces.{AreCut};
 ghost use Rattle.leak_roots.specs.Cut.{pieces_of};
 
@@ -69,6 +70,10 @@ impl Roots {
         ensures of_core { (spans : List Span) → CoverSame small.now spans
             → threads.now ≡ threads_of image.now
             → IfOk result (AreRootsOf unwritable image.now live.now.blocks spans []) }
+        // each block, and each span, cuts at most one range in two
+        ensures few { let segments = filter (has_roots unwritable) (segments_of image.now) in
+            IfOk result (λ roots. length roots.memory
+            ≤ length segments + length live.now.blocks + length small.now) }
     {
         let registers = threads.registers().to_vec(alloc)?;
         let outside = find_ranges(alloc, image, live.blocks(), unwritable)?;
@@ -117,6 +122,8 @@ impl Roots {
             (spans others : List Span) → CoverSame slack.now others
             → AreRootsOf unwritable file blocks spans [] self
             → IfOk result (AreRootsOf unwritable file blocks spans others) }
+        ensures few { IfOk result (λ roots.
+            length roots.memory ≤ length self.memory + length slack.now) }
     {
         let Roots {
             registers,

@@ -1,6 +1,6 @@
 -- The words of a block in a run, and what is listed of them.
 use Rattle.std.proofs.Common.{◌≡◌, ℕ, ◌+◌, ◌-◌, ◌*◌, ◌/◌, ◌<◌, ◌≤◌, ◌^◌, refl, ap, sym, ◌∙◌, subst, List, [], ◌∷◌, ◌++◌, length, take, drop, Option, Some, append_assoc, arith}
-use Rattle.std.proofs.lemmas.List.{append-nil, length-append, length-drop}
+use Rattle.std.proofs.lemmas.List.{append-nil, length-append, length-drop, length-take, take-take}
 use Rattle.std.specs.Int.{w64}
 use Rattle.std.specs.List.{AllByRecursion}
 use Rattle.leak_elf.specs.Fields.{number_at}
@@ -37,6 +37,13 @@ word_listed index before now hits bytes later all word more led is whole =
     ap (λ (l : List ℕ). l ++ targets_of index (words_in later)) is ∙ append_assoc before hits (targets_of index (words_in later))
     ∙ ap (λ (l : List ℕ). before ++ (l ++ targets_of index (words_in later))) led
     ∙ ap (λ (l : List ℕ). before ++ l) (sym (targets_more index word (words_in later)) ∙ ap (targets_of index) (sym more)) ∙ whole
+
+-- what begins a list that begins another begins that too
+pub kept_on : (xs ys zs : List ℕ) → take (length xs) ys ≡ xs → take (length ys) zs ≡ ys → take (length xs) zs ≡ xs
+kept_on xs ys zs first next =
+    let l = length-take (length xs) ys in
+    let e = ap (λ (l : List ℕ). length l) first in
+    sym (take-take (length xs) (length ys) zs (omega (arith, l, e))) ∙ ap (λ (l : List ℕ). take (length xs) l) next ∙ first
 
 -- nothing is left
 pub all_listed : (index : Index) (now bytes all : List ℕ) → length bytes < 8 → now ++ targets_of index (words_in bytes) ≡ all → now ≡ all

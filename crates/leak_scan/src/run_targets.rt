@@ -1,5 +1,5 @@
 //! Lists what words lead to.
-ghost use Rattle.std.specs.Prelude.{◌≡◌, ◌<◌, ◌≤◌, ◌+◌, ◌++◌, ◌∷◌, [], ◌^◌, length, IfOk, IsTrue, IsFalse};
+ghost use Rattle.std.specs.Prelude.{◌≡◌, ◌<◌, ◌≤◌, ◌+◌, ◌++◌, ◌∷◌, [], ◌^◌, length, take, IfOk, IsTrue, IsFalse};
 ghost use Rattle.std.specs.List.{AllByRecursion};
 ghost use Rattle.leak_index.specs.Hits.{hits_in};
 ghost use Rattle.leak_scan.specs.Targets.{targets_of};
@@ -19,6 +19,7 @@ pub fn list_run<L: Lookup>(
     requires few { length (L.index lookup.now).blocks < 2 ^ 32 }
     requires within { length targets.old.items ≤ room }
     ensures within { length targets.new.items ≤ room }
+    ensures kept { take (length targets.old.items) targets.new.items ≡ targets.old.items }
     ensures listed { IfOk result (λ fits. IsTrue fits →
         targets.new.items ≡ targets.old.items
         ++ targets_of (L.index lookup.now) (words_in run.now)) }
@@ -43,6 +44,7 @@ fn list_hits(hits: Hits, room: usize, targets: &mut Vec<u32>) -> Result<bool, Al
     requires small { AllByRecursion (λ block. block < 2 ^ 32) (hits_in hits) }
     requires within { length targets.old.items ≤ room }
     ensures within { length targets.new.items ≤ room }
+    ensures kept { take (length targets.old.items) targets.new.items ≡ targets.old.items }
     ensures listed { IfOk result
         (λ fits. IsTrue fits → targets.new.items ≡ targets.old.items ++ hits_in hits) }
     ensures over { IfOk result
@@ -65,6 +67,7 @@ fn list_target(block: usize, room: usize, targets: &mut Vec<u32>) -> Result<bool
     requires small { block < 2 ^ 32 }
     requires within { length targets.old.items ≤ room }
     ensures within { length targets.new.items ≤ room }
+    ensures kept { take (length targets.old.items) targets.new.items ≡ targets.old.items }
     ensures listed { IfOk result
         (λ fits. IsTrue fits → targets.new.items ≡ targets.old.items ++ block ∷ []) }
     ensures over { IfOk result (λ fits. IsFalse fits → room ≤ length targets.old.items) }

@@ -1,6 +1,11 @@
--- The places of the ranges so far were added or counted.
+-- The places of the ranges so far were added or counted, in few ranges.
+use Rattle.std.proofs.Common.{length}
 use Rattle.leak_roots.proofs.LeftOut.{AreAllKept}
+use Rattle.leak_roots.proofs.Few.{AreAllFew}
 use Rattle.leak_roots.proofs.inside.keep_others.Given as goal
 
 abbrev pub invariant-loop-range : goal.invariant-loop-range
-invariant-loop-range l = AreAllKept l.spans l.memory l.range-index l.kept.items l.inside
+invariant-loop-range l = record {
+  kept : AreAllKept l.spans l.memory l.range-index l.kept.items l.inside;
+  few : AreAllFew l.spans l.memory l.range-index (length l.kept.items);
+}

@@ -1,6 +1,7 @@
-use Rattle.std.proofs.Common.{arith, ◌≤◌, ◌<◌, length, get_or, sym, ◌∙◌}
+use Rattle.std.proofs.Common.{true≢false, arith, ◌≤◌, ◌<◌, length, get_or, sym, ◌∙◌}
 use Rattle.std.proofs.lemmas.Bool.{le-leb, lt-leb}
 use Rattle.leak_roots.proofs.LeftOut.{no_span, all_inside, none_inside, firsts_ascend}
+use Rattle.leak_roots.proofs.Few.{span_between}
 use Rattle.leak_roots.proofs.inside.run_from.Goals as goal
 use Rattle.leak_roots.proofs.inside.run_from.Goals.{then-inside, else-inside}
 
@@ -30,4 +31,18 @@ returns-clause-alike c = λ a l m e.
           (λ j q o. let p = c.count_before-next.ensures.within j no_span q in omega arith)
           (λ j q o. let g = firsts_ascend c.args.spans.now k j no_span c.requires.apart q o in let i = w.words-is in let v = w.div_ceil-words.ensures in omega arith)
           ∙ sym (lt-leb _ _ w.if-inside.false)
+    ]
+
+pub returns-clause-cut : goal.returns-clause-cut
+unfolding no_span
+returns-clause-cut c = λ outside early.
+    let k = c.count_before-next.result in
+    let in_list : k < length c.args.spans.now = (let b = c.count_before-next.ensures.bound in omega arith) in
+    let f = c.requires.range.from_multiple in
+    let t = c.requires.range.to_multiple in
+    elim c.if-inside.branch [
+      | then-inside w ↦ absurd (true≢false (sym (le-leb _ _ w.if-inside.true) ∙ outside))
+      | else-inside w ↦
+          span_between c.args.spans.now c.args.from _ k no_span in_list w.if-inside.false
+          (let i = w.words-is in let v = w.div_ceil-words.ensures in let g = w.if-inside.false in omega (arith, i, v, g, early, f, t))
     ]

@@ -3,7 +3,7 @@ use Rattle.std.proofs.Common.{◌≡◌, ◌∷◌, ◌∙◌, ◌++◌, ◌^◌
 use Rattle.std.specs.List.{AllByRecursion}
 use Rattle.leak_scan.specs.Places.{words_in}
 use Rattle.leak_scan.specs.Targets.{targets_of}
-use Rattle.leak_scan.proofs.Blocks.{word_listed, all_listed, all_over, all_small}
+use Rattle.leak_scan.proofs.Blocks.{word_listed, all_listed, all_over, all_small, kept_on}
 use Rattle.leak_scan.proofs.Runs.{words_more}
 use Rattle.leak_scan.proofs.run_targets.list_run.Goals as goal
 
@@ -19,6 +19,7 @@ loop-rest-preserved g c =
     let more : words_in c.loop-rest.rest.now ≡ c.split_word-word.result.0 ∷ words_in c.split_word-word.result.1.now = rw (c.split_word-word.ensures.word, c.split_word-word.ensures.rest) (words_more _ c.loop-rest-test.true) in
     record {
       within = c.in_ok-list_hits.ensures.within;
+      kept = kept_on c.args.targets.now.items c.loop-rest.targets.items c.list_hits.new.targets.items c.loop-rest.invariant.kept c.in_ok-list_hits.ensures.kept;
       listed = word_listed index c.loop-rest.targets.items _ _ c.loop-rest.rest.now c.split_word-word.result.1.now _ c.split_word-word.result.0 more c.hits.ensures (c.in_ok-list_hits.ensures.listed (search rules)) c.loop-rest.invariant.listed;
     }
 
