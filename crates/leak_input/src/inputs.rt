@@ -1,9 +1,10 @@
 //! An input: a core, and the log of its allocations.
 
-ghost use Rattle.std.specs.Prelude.{◌≡◌, ◌≢◌, List, [], IfOk, IfErr, length};
+ghost use Rattle.std.specs.Prelude.{◌≡◌, ◌≢◌, List, [], IfOk, IfErr};
 ghost use Rattle.leak_blocks.specs.declared.small.Span.{Span};
 ghost use Rattle.leak_mtrace.specs.declared.line.Line.{Line};
 ghost use Rattle.leak_mtrace.specs.Log.{IsFirstFault};
+ghost use Rattle.leak_pool.specs.Room.{room_of};
 ghost use Rattle.leak_roots.specs.Roots.{AreRootsOf};
 ghost use Rattle.leak_input.specs.Inputs.{AreRootsFor, IsInput, IsInputFault, IsRead, IsReadLog};
 ghost use Rattle.leak_input.specs.Slack.{slack_in};
@@ -14,6 +15,7 @@ use leak_elf::Image;
 use leak_fit::slack_spans;
 use leak_mtrace::LogError;
 use leak_notes::Threads;
+use leak_pool::LinkRoom;
 use leak_roots::{Roots, Skip};
 use std::alloc::{AllocError, Global};
 
@@ -21,8 +23,8 @@ use std::alloc::{AllocError, Global};
 #[derive(Drop)]
 pub struct Input<'a> {
     pub image: Image<'a>,
-    /// How many bytes the core has.
-    pub core_len: usize,
+    /// The room that the core gives to links.
+    pub links: LinkRoom,
     pub threads: Threads,
     pub live: Live,
     /// What a search leaves out of the root words.
@@ -61,7 +63,7 @@ pub fn read_input<'a>(
 ) -> Result<Input<'a>, FindError>
     ensures ok { IfOk result (IsRead core.now log.now) }
     ensures skip { IfOk result (λ input. input.skip ≡ skip) }
-    ensures core_len { IfOk result (λ input. input.core_len ≡ length core.now) }
+    ensures links { IfOk result (λ input. input.links ≡ room_of core.now) }
     ensures refused { IfErr result (λ e. e ≢ FindError.NoMemory
         → IsInputFault number core.now log.now e) }
 {
@@ -79,7 +81,7 @@ pub fn read_input<'a>(
     };
     Ok(Input {
         image,
-        core_len: core.len(),
+        links: LinkRoom::of_core(core),
         threads,
         live: replayed.live,
         skip,

@@ -14,10 +14,6 @@ use leak_roots::Roots;
 use std::alloc::{AllocError, Global};
 use std::thread::Threads;
 
-/// What blocks lead to is listed where that takes an eighth of the core at most, at four bytes a target. Own rule: lists of
-/// a core that is all addresses would take half of it.
-const LINK_SHARE: usize = 32;
-
 /// The threads of a search, and how they share its work.
 #[derive(Drop)]
 pub struct Workers<'a, R: Threads + Sync, G: Gate + Sync> {
@@ -74,6 +70,6 @@ pub fn mark_input<R: Threads + Sync, G: Gate + Sync>(
         &input.live,
         workers.plan,
         workers.gate,
-        input.core_len / LINK_SHARE,
+        input.links,
     )
 }

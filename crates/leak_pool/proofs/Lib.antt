@@ -7,6 +7,7 @@ pub mod AloneLemmas
 pub mod AloneRoundLemmas
 pub mod ScanLemmas
 pub mod LinkLemmas
+pub mod RowLemmas
 pub mod WorkLemmas
 pub mod HalfLemmas
 pub mod AbsorbLemmas

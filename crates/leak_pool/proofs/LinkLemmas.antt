@@ -3,7 +3,7 @@ use Rattle.std.proofs.Common.{◌≡◌, ℕ, zero, suc, ◌+◌, ◌-◌, ◌*�
 use Rattle.std.proofs.Math.Nat.{mod-lt, mod-add-div, lt-div-mul-add, eq-or-lt_of_le, div-lt_iff_lt-mul, mul_comm, suc-mul}
 use Rattle.std.proofs.Math.Seq.{take-length, drop-append_seam, get_or-append_seam}
 use Rattle.std.proofs.lemmas.List.{length-map, length-drop, get_or-map, get_or_append_left, take-append-le, drop-append-le}
-use Rattle.std.specs.Prelude.{IfOk, IfSome}
+use Rattle.std.specs.Prelude.{IfOk}
 use Rattle.std.specs.Fork.{IsChunk}
 use Rattle.std.specs.declared.alloc.AllocError.{AllocError}
 use Rattle.leak_blocks.specs.declared.block.Block.{Block}
@@ -11,7 +11,7 @@ use Rattle.leak_elf.specs.Words.{words_between}
 use Rattle.leak_index.specs.Hits.{Index}
 use Rattle.leak_scan.specs.Targets.{targets_of, block_words, block_targets}
 use Rattle.leak_pool.specs.Items.{targets_of_block}
-use Rattle.leak_pool.specs.Links.{IsListAt, AreListed, AreLinks}
+use Rattle.leak_pool.specs.Links.{IsListAt, AreListed, AreLinks, IsRow}
 use Rattle.leak_pool.specs.Scopes.{all_targets}
 use Rattle.leak_pool.specs.declared.links.Rows.{Rows}
 
@@ -126,16 +126,16 @@ part_at word_at index blocks part size k pos h chunk =
     )
 
 -- the row holds what a part of the blocks leads to
-abbrev pub IsRow : (word_at : ℕ → Option ℕ) (index : Index) (blocks : List Block) (size n : ℕ) (row : Rows) → Type 0
-IsRow word_at index blocks size n row =
-    (part : List Block) × IsChunk blocks size (n * size) part × AreListed (targets_of_block (map (block_targets word_at index) part)) (length part) row.starts.items row.targets.items
+abbrev pub IsRowAt : (word_at : ℕ → Option ℕ) (index : Index) (blocks : List Block) (size room n : ℕ) (row : Rows) → Type 0
+IsRowAt word_at index blocks size room n row =
+    (part : List Block) × IsChunk blocks size (n * size) part × IsRow (map (block_targets word_at index) part) room row
 
 -- what was made, with nothing missing
 abbrev pub whole : Rows → Result (Option Rows) AllocError
 whole row = Ok (Some row)
 
-pub row_from : (P : Rows → Type 0) (r : Result (Option Rows) AllocError) (row : Rows) → r ≡ whole row → IfOk r (λ o. IfSome o P) → P row
-row_from P r row e h = subst (λ (q : Result (Option Rows) AllocError). IfOk q (λ o. IfSome o P)) e h
+pub row_from : (P : Option Rows → Type 0) (r : Result (Option Rows) AllocError) (o : Option Rows) → r ≡ Ok o → IfOk r P → P o
+row_from P r o e h = subst (λ (q : Result (Option Rows) AllocError). IfOk q P) e h
 
 pub as_many : (parts : List (Result (Option Rows) AllocError)) (rows : List Rows) → parts ≡ map whole rows → length parts ≡ length rows
 as_many parts rows same = ap (λ (l : List (Result (Option Rows) AllocError)). length l) same ∙ length-map rows whole
@@ -143,9 +143,9 @@ as_many parts rows same = ap (λ (l : List (Result (Option Rows) AllocError)). l
 pub whole_at : (parts : List (Result (Option Rows) AllocError)) (rows : List Rows) (n : ℕ) (d : Rows) → parts ≡ map whole rows → n < length rows → get_or parts n (whole d) ≡ whole (get_or rows n d)
 whole_at parts rows n d same h = ap (λ (l : List (Result (Option Rows) AllocError)). get_or l n (whole d)) same ∙ get_or-map whole rows n d (whole d) h
 
-pub links_made : (word_at : ℕ → Option ℕ) (index : Index) (blocks : List Block) (size : ℕ) (rows : List Rows) → index.blocks ≡ blocks → 0 < size → length rows ≡ length blocks / size + min 1 (length blocks % size)
-    → ((n : ℕ) (d : Rows) → n < length rows → IsRow word_at index blocks size n (get_or rows n d)) → AreLinks (all_targets word_at index) size rows
-links_made word_at index blocks size rows same pos count made = record {
+pub links_made : (word_at : ℕ → Option ℕ) (index : Index) (blocks : List Block) (size room : ℕ) (rows : List Rows) → index.blocks ≡ blocks → 0 < size → length rows ≡ length blocks / size + min 1 (length blocks % size)
+    → ((n : ℕ) (d : Rows) → n < length rows → IsRowAt word_at index blocks size room n (get_or rows n d)) → AreLinks (all_targets word_at index) size rows
+links_made word_at index blocks size room rows same pos count made = record {
   some = pos;
   enough = λ k h. many k (below k h);
   each = λ k d h. at k d (below k h);
@@ -163,4 +163,4 @@ links_made word_at index blocks size rows same pos count made = record {
         let p = part_at word_at index blocks row.0 size k pos h row.1 in
         subst (λ (l : List ℕ). IsListAt (get_or rows (k / size) d).starts.items (get_or rows (k / size) d).targets.items (k % size) l)
         (p.1 ∙ ap (λ (bs : List Block). targets_of_block (map (block_targets word_at index) bs) k) (sym same))
-        (row.2.each (k % size) p.0)
+        (row.2.listed.each (k % size) (let m = length-map row.0 (block_targets word_at index) in omega (arith, m, p.0)))

@@ -11,5 +11,6 @@ pub mod Scopes
 pub mod Course
 pub mod Depth
 pub mod ScopeLaw
+pub mod Room
 pub mod Links
 pub mod LinksLaw

@@ -15,6 +15,7 @@ use crate::marked::Marked;
 use crate::marking::pieces_of;
 use crate::marking_by_rounds::mark_by_rounds;
 use crate::plan::Plan;
+use crate::room::LinkRoom;
 use crate::scope::Scope;
 use crate::source::Source;
 use leak_blocks::Live;
@@ -26,7 +27,7 @@ use std::alloc::{AllocError, Global};
 use std::thread::Threads;
 
 /// Marks what the roots lead to, as [`mark`] does. What each block leads to is listed first, by the workers, so that
-/// marking reads no words of blocks; where that were over `room` targets, it marks without.
+/// marking reads no words of blocks; where that were over the room, it marks without.
 ///
 /// A target takes four bytes. Room is shared out among the workers, so one that has blocks with many targets may have too little.
 pub fn mark_by_links<R: Threads + Sync, W: Words + Sync, L: Lookup + Sync, G: Gate + Sync>(
@@ -38,7 +39,7 @@ pub fn mark_by_links<R: Threads + Sync, W: Words + Sync, L: Lookup + Sync, G: Ga
     live: &Live,
     plan: Plan,
     gate: &G,
-    room: usize,
+    room: LinkRoom,
 ) -> Result<Marked, PoolError>
     requires { (L.index lookup.now).blocks ≡ live.now.blocks }
     ensures many { IsErrOf result PoolError.TooMany ↔ (2 ^ 32 - 1 < length live.now.blocks) }

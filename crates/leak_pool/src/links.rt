@@ -1,15 +1,18 @@
 //! What each block leads to, listed once before marking, so that marking reads no words of blocks.
-ghost use Rattle.std.specs.Prelude.{◌≡◌, ◌<◌, ◌≤◌, ◌^◌, ◌++◌, ℕ, List, Ok, Some, length, map, slice_index_or, IfOk, IfSome, IsTrue};
+ghost use Rattle.std.specs.Prelude.{◌≡◌, ◌+◌, ◌<◌, ◌≤◌, ◌^◌, ◌++◌, ℕ, List, Ok, Some, None, length, map, slice_index_or, IfOk, IfSome, IfNone, IsTrue, IsFalse};
+ghost use Rattle.std.specs.Int.{div_ceil};
+ghost use Rattle.std.specs.List.{All};
 ghost use Rattle.leak_marks.specs.Lists.{Has};
 ghost use Rattle.leak_marks.specs.Seats.{IsSound};
 ghost use Rattle.leak_scan.specs.Targets.{block_targets, block_words, targets_of};
 ghost use Rattle.leak_pool.specs.Items.{targets_of_block};
-ghost use Rattle.leak_pool.specs.Links.{AreListed, AreLinks};
+ghost use Rattle.leak_pool.specs.Links.{AreLinks, IsOver, IsRowOrOver, kept_count, row_size, share_of, target_count};
 ghost use Rattle.leak_pool.specs.LinksLaw.{links_prop};
 ghost use Rattle.leak_pool.specs.Promises.{IsScanned};
 ghost use Rattle.leak_pool.specs.Scopes.{all_targets};
 
 use crate::claiming::claim_listed;
+use crate::room::LinkRoom;
 use crate::scope::Scope;
 use crate::source::{Item, Source};
 use leak_blocks::Block;
@@ -50,6 +53,8 @@ fn list_targets<W: Words, L: Lookup>(
     ensures within { length targets.new.items ≤ room }
     ensures listed { IfOk result
         (λ fits. IsTrue fits → targets.new.items ≡ targets.old.items ++ found.entry) }
+    ensures over { IfOk result
+        (λ fits. IsFalse fits → room < length targets.old.items + length found.entry) }
 {
     for block in found {
         if targets.len() == room {
@@ -75,6 +80,9 @@ fn list_block<W: Words, L: Lookup>(
     ensures listed { let words = block_words (W.word_at runs.old.words.now) block.now in
         let led = targets_of (L.index lookup.now) words in
         IfOk result (λ fits. IsTrue fits → targets.new.items ≡ targets.old.items ++ led) }
+    ensures over { let words = block_words (W.word_at runs.old.words.now) block.now in
+        let led = targets_of (L.index lookup.now) words in
+        IfOk result (λ fits. IsFalse fits → room < length targets.old.items + length led) }
 {
     if let Some(bytes) = runs.of_block(block) {
         return list_run(lookup, bytes, room, targets);
@@ -94,8 +102,7 @@ fn rows_of<W: Words, L: Lookup>(
     requires few { length (L.index lookup.now).blocks < 2 ^ 32 }
     ensures { let targets = map (block_targets (W.word_at words.now) (L.index lookup.now))
         blocks.now in
-        IfOk result (λ rows. IfSome rows (λ r. AreListed (targets_of_block targets)
-        (length blocks.now) r.starts.items r.targets.items)) }
+        IfOk result (IsRowOrOver targets room) }
 {
     let mut starts = Vec::new(alloc);
     starts.reserve(blocks.len())?;
@@ -116,8 +123,10 @@ fn all_rows(
     alloc: Global,
     parts: Vec<Result<Option<Rows>, AllocError>>,
 ) -> Result<Option<Vec<Rows>>, AllocError>
-    ensures { IfOk result (λ rows.
+    ensures all { IfOk result (λ rows.
         IfSome rows (λ r. parts.items ≡ map (λ x. Ok (Some x)) r.items)) }
+    ensures missing { IfOk result (λ rows. IfNone rows ((n : ℕ) × (n < length parts.items)
+        × (slice_index_or parts.items n (Ok None) ≡ Ok None))) }
 {
     let mut rows = Vec::new(alloc);
     for part in parts {
@@ -143,15 +152,22 @@ pub(crate) fn list_rows<R: Threads + Sync, W: Words + Sync, L: Lookup + Sync>(
     requires some { 0 < size }
     requires same { (L.index lookup.now).blocks ≡ blocks.now }
     requires few { length blocks.now < 2 ^ 32 }
-    ensures { let targets = all_targets (W.word_at words.now) (L.index lookup.now) in
+    ensures listed { let targets = all_targets (W.word_at words.now) (L.index lookup.now) in
         IfOk result (λ rows. IfSome rows (λ r. AreLinks targets size r.items)) }
+    ensures exact { let targets = all_targets (W.word_at words.now) (L.index lookup.now) in
+        IfOk result (λ rows. IfSome rows (λ r. kept_count r.items ≡ target_count targets)) }
+    ensures count { IfOk result (λ rows.
+        IfSome rows (λ r. length r.items ≡ div_ceil (length blocks.now) size)) }
+    ensures room { IfOk result (λ rows.
+        IfSome rows (λ r. All (λ row. length row.targets.items ≤ room) r.items)) }
+    ensures over { let targets = all_targets (W.word_at words.now) (L.index lookup.now) in
+        IfOk result (λ rows. IfNone rows (IsOver targets size room)) }
 {
     let rows_of_part = move |_start: usize, part: &[Block]| -> Result<Option<Rows>, AllocError>
         requires { length (L.index lookup.now).blocks < 2 ^ 32 }
         ensures { let word_at = W.word_at words.entry.now in
             let targets = map (block_targets word_at (L.index lookup.entry.now)) part.entry.now in
-            IfOk result (λ rows. IfSome rows (λ r. AreListed (targets_of_block targets)
-            (length part.entry.now) r.starts.items r.targets.items)) }
+            IfOk result (IsRowOrOver targets room) }
     { rows_of(alloc, words, lookup, part, room) };
     let parts = map_chunks(rt, alloc, blocks, size, &rows_of_part)?;
     all_rows(alloc, parts)
@@ -160,9 +176,17 @@ pub(crate) fn list_rows<R: Threads + Sync, W: Words + Sync, L: Lookup + Sync>(
 /// How many blocks each row has where so many workers list the links of so many blocks.
 pub(crate) fn row_size(blocks: usize, workers: u32) -> usize
     requires { 0 < workers }
-    ensures { 0 < result }
+    ensures { result ≡ row_size blocks workers }
 {
     blocks.div_ceil(workers as usize).max(1)
+}
+
+// How many targets each of so many workers has room for. They are counted in 32 bits.
+fn share_of(room: LinkRoom, workers: u32) -> u32
+    requires { 0 < workers }
+    ensures { result ≡ share_of room workers }
+{
+    (room.targets() / workers as usize).min(u32::MAX as usize) as u32
 }
 
 /// The links of a scope, made by so many workers, each of a share of the blocks. Nothing where one has more than its
@@ -172,13 +196,20 @@ pub(crate) fn links_of<'a, 'b, R: Threads + Sync, W: Words + Sync, L: Lookup + S
     alloc: Global,
     scope: &'a Scope<'b, W, L>,
     workers: u32,
-    room: usize,
+    room: LinkRoom,
 ) -> Result<Option<Links<'a, Scope<'b, W, L>>>, AllocError>
     requires { 0 < workers }
-    ensures { IfOk result (λ links. IfSome links (λ l. l.source.now ≡ scope.now)) }
+    ensures source { IfOk result (λ links. IfSome links (λ l. l.source.now ≡ scope.now)) }
+    ensures share { IfOk result (λ links. IfSome links (λ l.
+        All (λ row. length row.targets.items ≤ share_of room workers) l.rows.items)) }
+    ensures room { IfOk result (λ links. IfSome links (λ l. kept_count l.rows.items ≤ room)) }
+    ensures over { let s = scope.now in
+        let targets = all_targets (W.word_at s.words.now) (L.index s.lookup.now) in
+        let size = row_size (length s.blocks.now) workers in
+        IfOk result (λ links. IfNone links (IsOver targets size (share_of room workers))) }
 {
     let size = row_size(scope.blocks.len(), workers);
-    let share = (room / workers as usize).min(u32::MAX as usize) as u32;
+    let share = share_of(room, workers);
     let (words, lookup) = (scope.words, scope.lookup);
     let Some(rows) = list_rows(rt, alloc, words, lookup, scope.blocks, size, share)? else {
         return Ok(None);

@@ -2,7 +2,7 @@
 ghost use Rattle.std.specs.Prelude.{◌≡◌, ◌≢◌, ◌↔◌, ◌<◌, ◌-◌, ◌^◌, ℕ, length, IfOk, IsErrOf};
 ghost use Rattle.leak_marks.specs.Lists.{Has, IsDistinct};
 ghost use Rattle.leak_pool.specs.Items.{targets_of_block};
-ghost use Rattle.leak_pool.specs.Links.{AreLinks};
+ghost use Rattle.leak_pool.specs.Links.{AreLinks, kept_count, target_count};
 ghost use Rattle.leak_pool.specs.LinksLaw.{links_prop};
 ghost use Rattle.leak_pool.specs.Marking.{led_by_roots};
 ghost use Rattle.leak_pool.specs.Scopes.{all_targets};
@@ -18,7 +18,7 @@ use leak_without::Linked;
 use std::alloc::Global;
 use std::thread::Threads;
 
-/// What each live block leads to, listed once. A target takes four bytes, and a block four more.
+/// What each live block leads to, listed once, and nothing else. A target takes four bytes, and a block four more.
 #[derive(Drop)]
 pub struct Listed<'a, W: Words, L: Lookup> {
     /// The words that blocks are made of.
@@ -31,6 +31,7 @@ pub struct Listed<'a, W: Words, L: Lookup> {
     rows: Vec<Rows>,
     ghost many: { blocks ≡ length (all_targets (W.word_at words.now) (L.index lookup.now)) },
     ghost listed: { AreLinks (all_targets (W.word_at words.now) (L.index lookup.now)) size rows.items } by { links_prop _ _ _ },
+    ghost exact: { kept_count rows.items ≡ target_count (all_targets (W.word_at words.now) (L.index lookup.now)) },
 }
 
 /// Lists what each live block leads to, by so many workers.

@@ -9,7 +9,8 @@ use leak_index::{Reading, Sorted};
 use leak_marks::{Claims, Marks};
 use leak_notes::Threads;
 use leak_pool::{
-    Marked, Open, Part, Plan, PoolError, Start, mark, mark_alone, mark_by_links, mark_from,
+    LinkRoom, Marked, Open, Part, Plan, PoolError, Start, mark, mark_alone, mark_by_links,
+    mark_from,
 };
 use leak_roots::Roots;
 use leak_scan::{Pages, heads};
@@ -168,7 +169,7 @@ pub(crate) fn by_links<R: AllocGlobal + std::thread::Threads + Sync>(rt: &R) -> 
         &scene.live,
         plan,
         &Open,
-        1000,
+        LinkRoom::of_core(&[0u8; 32_000]),
     );
     Some(answer_of(marked, 101))
 }

@@ -12,7 +12,7 @@ use std::test::Fail;
 fn links_of_a_chain(rt: HostRuntime) -> Result<(), Fail> {
     let sample = chain(rt.alloc())?;
     // The chain has 99 links.
-    for room in [0, 98, 99, 10_000, usize::MAX] {
+    for room in [0, 98, 99, 10_000] {
         for (workers, stack, rounds) in [(1, 0, 101), (1, 1, 1), (3, 0, 101), (64, 65_536, 1)] {
             let plan = Plan::new(workers, 1, stack)?;
             let marked = by_links(&rt, rt.alloc(), &sample, plan, room)?;

@@ -3,7 +3,7 @@
 use crate::hundreds::Sample;
 use crate::samples::{Scene, core_of, scene_of, set, set_word};
 use leak_index::{Reading, Sorted};
-use leak_pool::{Gate, Marked, Open, Plan, mark, mark_alone, mark_by_links};
+use leak_pool::{Gate, LinkRoom, Marked, Open, Plan, mark, mark_alone, mark_by_links};
 use std::alloc::Global;
 use std::test::Fail;
 
@@ -49,6 +49,8 @@ pub fn by_links<R: std::thread::Threads + Sync>(
         sample.log.as_str(),
     )?;
     let lookup = Sorted::new(&live, Reading::interior());
+    let bytes = vec![in alloc; 0u8; room.saturating_mul(32)]?;
+    let room = LinkRoom::of_core(bytes.as_slice());
     Ok(mark_by_links(rt, alloc, &image, &lookup, &roots, &live, plan, &Open, room)?)
 }
 

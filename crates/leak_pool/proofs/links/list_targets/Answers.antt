@@ -1,6 +1,7 @@
-use Rattle.std.proofs.Common.{◌++◌, [], ◌∷◌, ℕ, List, subst, sym, ap, ◌∙◌, append_assoc, arith}
+use Rattle.std.proofs.Common.{◌≡◌, ◌++◌, [], ◌∷◌, ℕ, List, subst, sym, ap, ◌∙◌, append_assoc, arith, rules, length, ◌+◌, ◌<◌}
 use Rattle.leak_marks.specs.Lists.{Has}
 use Rattle.leak_marks.proofs.ListLemmas.{here, there}
+use Rattle.leak_pool.proofs.RowLemmas.{all_there, over_more}
 use Rattle.leak_pool.proofs.links.list_targets.Goals as goal
 
 pub overflow_cast-block : goal.overflow_cast-block
@@ -15,3 +16,18 @@ loop-block-preserved g c =
           ∙ ap (λ (l : List ℕ). c.loop-block.targets.items ++ l) (sym c.in-Some.ensures.steps) ∙ i.rest;
       small = λ b h. i.small b (subst (λ (l : List ℕ). Has l b) (sym c.in-Some.ensures.steps) (there c.in-Some.block c.next.new.self b h));
     }
+
+pub returns-then-len-room-clause-over : goal.returns-then-len-room-clause-over
+returns-then-len-room-clause-over g c _ =
+    let first = c.into_iter-block-iterator.result in
+    let all : first ≡ c.args.found = search (c.into_iter-block-iterator.ensures.into_iter_gives, rules) in
+    subst (λ (l : List ℕ). c.args.room < length c.args.targets.now.items + length l) all
+    (over_more c.loop-block.targets.items c.args.targets.now.items first c.loop-block.block-iterator c.next.new.self c.in-Some.block c.args.room c.loop-block.invariant.rest c.in-Some.ensures.steps
+    (let n = c.len.ensures in let e = c.if-len-room.true in omega (arith, n, e)))
+
+pub returns-clause-listed : goal.returns-clause-listed
+returns-clause-listed g c _ =
+    let first = c.into_iter-block-iterator.result in
+    let all : first ≡ c.args.found = search (c.into_iter-block-iterator.ensures.into_iter_gives, rules) in
+    subst (λ (l : List ℕ). c.loop-block.targets.items ≡ c.args.targets.now.items ++ l) all
+    (all_there c.loop-block.targets.items c.args.targets.now.items first c.loop-block.block-iterator c.loop-block.invariant.rest c.in-None.ensures.steps.0)

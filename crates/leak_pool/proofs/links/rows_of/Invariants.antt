@@ -1,7 +1,7 @@
-use Rattle.std.proofs.Common.{◌≡◌, ◌≤◌, length, map}
+use Rattle.std.proofs.Common.{◌≡◌, ◌≤◌, length, map, take}
 use Rattle.leak_scan.specs.Targets.{block_targets}
 use Rattle.leak_pool.specs.Items.{targets_of_block}
-use Rattle.leak_pool.specs.Links.{AreListed}
+use Rattle.leak_pool.specs.Links.{AreListed, target_count}
 use Rattle.leak_pool.proofs.links.rows_of.Given as goal
 
 abbrev pub invariant-loop-k : goal.invariant-loop-k
@@ -9,4 +9,5 @@ invariant-loop-k g l = record {
   same : g.W.Words.word_at l.runs.words.now ≡ g.W.Words.word_at l.words;
   within : length l.targets.items ≤ l.room;
   listed : AreListed (targets_of_block (map (block_targets (g.W.Words.word_at l.words) (g.L.Lookup.index l.lookup)) l.blocks)) l.k l.starts.items l.targets.items;
+  count : length l.targets.items ≡ target_count (take l.k (map (block_targets (g.W.Words.word_at l.words) (g.L.Lookup.index l.lookup)) l.blocks));
 }
