@@ -1,9 +1,10 @@
 //! From an input to its marked blocks, by workers.
 
-ghost use Rattle.std.specs.Prelude.{◌≡◌, ◌↔◌, ◌<◌, ◌-◌, ◌^◌, List, IfOk, IsErrOf, length};
+ghost use Rattle.std.specs.Prelude.{◌≡◌, ◌↔◌, ◌<◌, ◌-◌, ◌^◌, List, [], IfOk, IsErrOf, length};
 ghost use Rattle.leak_mtrace.specs.declared.line.Line.{Line};
 ghost use Rattle.leak_elf.specs.Words.{word_of};
 ghost use Rattle.leak_index.specs.Readings.{distances_of};
+ghost use Rattle.leak_pool.specs.Course.{IsByRounds};
 ghost use Rattle.leak_pool.specs.Marking.{Marks};
 ghost use Rattle.leak_input.specs.Inputs.{AreRootsFor, IsInput};
 
@@ -60,6 +61,8 @@ pub fn mark_input<R: Threads + Sync, G: Gate + Sync>(
     ensures many { IsErrOf result PoolError.TooMany ↔ (2 ^ 32 - 1 < length input.now.live.blocks) }
     ensures marks { IfOk result (Marks (word_of input.now.image) ground.now.lookup
         ground.now.roots workers.now.plan.workers) }
+    ensures course { IfOk result (IsByRounds (word_of input.now.image) ground.now.lookup
+        ground.now.roots [] [] workers.now.plan) }
 {
     mark_by_links(
         workers.rt,
