@@ -166,11 +166,11 @@ course_first roots targets w stack claims longer none more before after gained l
 
 -- after a later round
 module _ (roots targets : List (List ℕ)) (w stack n : ℕ) (x : ℕ) (ws : List ℕ) (c0 c1 c2 : List (List ℕ)) (m0 m1 m2 : List ℕ) (s0 s1 s2 : Held) (g1 g2 : List (List ℕ)) (l1 l2 : List ℕ) (items : List Item) where
-  pub course_more : 0 < w → items ≡ map Block ws → m0 ≡ [] → HaveCome roots targets w stack n c0 (x ∷ ws) s0.seen
+  pub course_more : 0 < w → items ≡ map Block ws → m0 ≡ [] → (come : HaveCome roots targets w stack n c0 (x ∷ ws) s0.seen)
       → IsStep (targets_of_block targets) (Has (get_or targets x [])) w c0 m0 s0 c1 m1 s1 g1 l1 → AreOfOne (get_or targets x []) g1 l1
       → IsStep (targets_of_block targets) (InRange (targets_at roots targets items) 0 (length items)) w c1 m1 s1 c2 m2 s2 g2 l2
-      → AreOfWorkers (targets_of_block targets) (targets_at roots targets items) stack (length items) w 0 g2 l2 → HaveCome roots targets w stack (n + 1) c2 m2 s2.seen
-  course_more some items_are empty come one alone two own = (
+      → AreOfWorkers (targets_of_block targets) (targets_at roots targets items) stack (length items) w 0 g2 l2 → (next : HaveCome roots targets w stack (n + 1) c2 m2 s2.seen) × (q : Round) × (next.0 ≡ come.0 ++ q ∷ [])
+  course_more some items_are empty come one alone two own = ((
     come.0 ++ r ∷ [],
     length-append come.0 (r ∷ []) ∙ ap (λ (k : ℕ). k + 1) come.1,
     record {
@@ -183,7 +183,7 @@ module _ (roots targets : List (List ℕ)) (w stack n : ℕ) (x : ℕ) (ws : Lis
           ∙ ap (λ (l : List (List ℕ)). with_round l r) come.2.claims_are ∙ sym (lists_more (replicate w []) come.0 r);
     },
     λ b h. ⊎_elim (λ old. two.kept.keeps b (one.kept.keeps b (come.3 b old))) (λ new. covered b new) (led_more roots targets w stack come.0 (x ∷ ws) r (concat roots) come.2.are b h),
-  )
+  ), r, refl)
     where
       r : Round
       r = record { caller = l1; gained = g2; left = l2 }

@@ -1,11 +1,15 @@
 -- Steps that a gate let through, put together.
-use Rattle.std.proofs.Common.{◌≡◌, ℕ, ◌+◌, ◌-◌, ◌*◌, ◌/◌, ◌%◌, ◌^◌, ◌<◌, ◌≤◌, List, [], ◌∷◌, ◌++◌, get_or, replicate, refl, sym, ap, ◌∙◌, subst, arith}
+use Rattle.std.proofs.Common.{◌≡◌, ℕ, ◌+◌, ◌-◌, ◌*◌, ◌/◌, ◌%◌, ◌^◌, ◌<◌, ◌≤◌, List, [], ◌∷◌, ◌++◌, length, get_or, replicate, refl, sym, ap, ◌∙◌, subst, arith}
 use Rattle.std.proofs.Math.Nat.{mod-add-mod, mod-eq_of_lt, div-le_self}
-use Rattle.std.proofs.lemmas.List.{get_or-replicate, length-append}
+use Rattle.std.proofs.lemmas.List.{get_or-replicate}
 use mathlib.Core.Logic.{dite}
 use native.Mathlib.Decide.{dec_lt}
-use Rattle.leak_pool.specs.Items.{share}
-use Rattle.leak_pool.specs.Gates.{share_size, IsNextPassed, ArePassed, sizes_of, AreAllPassed, HavePassed, HaveMade, HaveGone}
+use Rattle.leak_pool.specs.Course.{Round, AreLater, AreRounds, HaveGone, sizes_by_round}
+use Rattle.leak_pool.specs.Items.{share, targets_of_block}
+use Rattle.leak_pool.specs.Gates.{share_size, IsNextPassed, ArePassed, sizes_of, AreAllPassed, HavePassed}
+use Rattle.leak_pool.specs.Progress.{HasCourse, HasRoundMore, HasCourseThrough, claims_of}
+use Rattle.leak_pool.specs.Scene.{Scene}
+use Rattle.leak_pool.specs.declared.progress.Progress.{Progress}
 use Rattle.leak_pool.specs.Rounds.{AreCounted}
 
 -- the step of the next item is let through too
@@ -91,19 +95,48 @@ passed_none passed workers steps zeros = record {
   counts = λ k inside. ap (λ (l : List ℕ). get_or l k 0) zeros ∙ get_or-replicate workers k 0 0 inside;
 }
 
--- ---- from the first round on
+-- ---- by the rounds of a course
 
-pub made_one : (passed : ℕ → ℕ → Type 0) (workers first : ℕ) (steps : List ℕ) → HavePassed passed workers (first ∷ []) steps → HaveMade passed workers first 1 steps
-made_one passed workers first steps h = record { later = []; count = refl; passed_all = h }
+later_sizes : (blocks : ℕ → List ℕ) (w stack first : ℕ) (waiting : List ℕ) (rounds : List Round) (end : List ℕ) (r : Round) → first ≡ length waiting - 1 → AreLater blocks w stack waiting rounds end
+    → sizes_by_round first (rounds ++ r ∷ []) ≡ sizes_by_round first rounds ++ (length end - 1) ∷ []
+later_sizes blocks w stack first waiting [] end r is same = ap (λ (n : ℕ). n ∷ []) (is ∙ ap (λ (l : List ℕ). length l - 1) same)
+later_sizes blocks w stack first [] (q ∷ rounds) end r is later = absurd later
+later_sizes blocks w stack first (y ∷ waiting) (q ∷ rounds) end r is later =
+    ap (λ (l : List ℕ). first ∷ l) (later_sizes blocks w stack (length (q.caller ++ q.left) - 1) (q.caller ++ q.left) rounds end r refl later.2)
 
-pub made_more : (passed : ℕ → ℕ → Type 0) (workers first n rounds : ℕ) (steps after : List ℕ)
-    → ((all : List ℕ) → HavePassed passed workers all steps → HavePassed passed workers (all ++ n ∷ []) after)
-    → HaveMade passed workers first rounds steps → HaveMade passed workers first (rounds + 1) after
-made_more passed workers first n rounds steps after more h = record {
-  later = h.later ++ n ∷ [];
-  count = let l = length-append h.later (n ∷ []) in let c = h.count in omega arith;
-  passed_all = more (first ∷ h.later) h.passed_all;
-}
+-- a round more shares out all that waits but the first
+course_sizes : (roots targets : List (List ℕ)) (w stack first : ℕ) (rounds : List Round) (end : List ℕ) (r : Round) → AreRounds roots targets w stack rounds end
+    → sizes_by_round first (rounds ++ r ∷ []) ≡ sizes_by_round first rounds ++ (length end - 1) ∷ []
+course_sizes roots targets w stack first [] end r are = absurd are
+course_sizes roots targets w stack first (q ∷ rounds) end r are =
+    ap (λ (l : List ℕ). first ∷ l) (later_sizes (targets_of_block targets) w stack (length (q.caller ++ q.left) - 1) (q.caller ++ q.left) rounds end r refl are.2)
 
-pub gone_of_made : (passed : ℕ → ℕ → Type 0) (workers first rounds : ℕ) (steps : List ℕ) → HaveMade passed workers first rounds steps → HaveGone passed workers first rounds
-gone_of_made passed workers first rounds steps h = record { later = h.later; count = h.count; each = h.passed_all.each }
+-- one round
+one_size : (first : ℕ) (rounds : List Round) → length rounds ≡ 1 → sizes_by_round first rounds ≡ first ∷ []
+one_size first [] one = absurd (let n : 0 ≡ 1 = one in omega arith)
+one_size first (r ∷ []) one = refl
+one_size first (r ∷ q ∷ rounds) one = absurd (omega arith)
+
+module _ (passed : ℕ → ℕ → Type 0) (scene : Scene) where
+  pub through_one : (p : Progress) → HasCourse scene p 1 → HasCourseThrough passed scene p.steps.items p 1
+  through_one p course = (
+    course,
+    λ was. subst (λ (l : List ℕ). HavePassed passed scene.workers l p.steps.items) (sym (one_size (length scene.roots) course.0 course.1)) was,
+  )
+
+  pub through_more : (steps : List ℕ) (p after : Progress) (count : ℕ) → ((n : ℕ) (course : HasCourse scene p n) → HasRoundMore scene after n course.0)
+      → ((rounds : List ℕ) → HavePassed passed scene.workers rounds p.steps.items → HavePassed passed scene.workers (rounds ++ (length p.waiting.items - 1) ∷ []) after.steps.items)
+      → HasCourseThrough passed scene steps p count → HasCourseThrough passed scene steps after (count + 1)
+  through_more steps p after count more step h =
+      let course = h.0 in let next = more count course in
+      let same : sizes_by_round (length scene.roots) next.0.0 ≡ sizes_by_round (length scene.roots) course.0 ++ (length p.waiting.items - 1) ∷ [] =
+      ap (λ (l : List Round). sizes_by_round (length scene.roots) l) next.2
+      ∙ course_sizes scene.roots scene.targets scene.workers scene.stack (length scene.roots) course.0 p.waiting.items next.1 course.2.are in
+      (
+        next.0,
+        λ was. subst (λ (l : List ℕ). HavePassed passed scene.workers l after.steps.items) (sym same) (step (sizes_by_round (length scene.roots) course.0) (h.1 was)),
+      )
+
+  pub gone_through : (steps : List ℕ) (p : Progress) (count : ℕ) → HasCourseThrough passed scene steps p count → HavePassed passed scene.workers (length scene.roots ∷ []) steps
+      → HaveGone passed (length scene.roots) scene.roots scene.targets scene.workers scene.stack count (claims_of p) p.waiting.items
+  gone_through steps p count h was = (h.0.0, h.0.1, h.0.2, (h.1 was).each)

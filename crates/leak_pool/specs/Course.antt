@@ -1,12 +1,14 @@
 -- The course of marking, round by round, as plain lists (own rule).
-use Rattle.std.specs.Prelude.{◌≡◌, ℕ, ◌<◌, ◌≤◌, List, [], ◌∷◌, ◌++◌, length, map, flat_map, replicate, slice_index_or, Option, ⊤}
+use Rattle.std.specs.Prelude.{◌≡◌, ℕ, ◌+◌, ◌-◌, ◌<◌, ◌≤◌, List, [], ◌∷◌, ◌++◌, length, map, flat_map, replicate, slice_index_or, Option, ⊤}
 use Rattle.std.specs.List.{concat}
 use Rattle.leak_index.specs.Hits.{Index}
+use Rattle.leak_roots.specs.Cut.{pieces_of}
 use Rattle.leak_roots.specs.Places.{Places}
 use Rattle.leak_roots.specs.Pieces.{AreCut}
 use Rattle.leak_roots.specs.declared.piece.Piece.{Piece}
 use Rattle.leak_marks.specs.Lists.{Has, Within}
 use Rattle.leak_marks.specs.Rounds.{appended_from}
+use Rattle.leak_pool.specs.Gates.{AreAllPassed}
 use Rattle.leak_pool.specs.Items.{targets_of_block}
 use Rattle.leak_pool.specs.Marking.{lists_of}
 use Rattle.leak_pool.specs.Plan.{Numbers}
@@ -87,3 +89,24 @@ IsByRounds word_at index places pages rescan plan m =
     (pieces : List Piece) × AreCut places plan.piece pieces
     × (0 < length index.blocks → HaveLed (root_targets word_at index places pieces pages rescan)
     (all_targets word_at index) plan.workers plan.stack m.rounds (lists_of m) [])
+
+-- How many items the workers share out in each round. The first has so many; each later one has one fewer than there are
+-- blocks that wait before it, since the caller scans the first of them.
+abbrev pub sizes_by_round : ℕ → List Round → List ℕ
+sizes_by_round first [] = []
+sizes_by_round first (r ∷ rounds) = first ∷ sizes_by_round (length (r.caller ++ r.left) - 1) rounds
+
+-- so many rounds did, and a gate let every worker through at each of its steps, one for each item of its shares in them
+abbrev pub HaveGone : (ℕ → ℕ → Type 0) → ℕ → List (List ℕ) → List (List ℕ) → ℕ → ℕ → ℕ → List (List ℕ) → List ℕ → Type 0
+HaveGone passed first roots targets workers stack count claims waiting =
+    (rounds : List Round) × (length rounds ≡ count) × IsCourse roots targets workers stack claims waiting rounds
+    × AreAllPassed passed workers (sizes_by_round first rounds)
+
+-- Marking with a plan went by such rounds through a gate. Items of the first are the pieces that the plan's size cuts the
+-- roots into, and the parts of blocks.
+abbrev pub IsThroughGate : (ℕ → ℕ → Type 0) → (ℕ → Option ℕ) → Index → Places → List ℕ → List (ℕ × Part) → Numbers → Marked → Type 0
+IsThroughGate passed word_at index places pages rescan plan m =
+    AreCut places plan.piece (pieces_of plan.piece places)
+    × (0 < length index.blocks → HaveGone passed (length (pieces_of plan.piece places) + length rescan)
+    (root_targets word_at index places (pieces_of plan.piece places) pages rescan) (all_targets word_at index)
+    plan.workers plan.stack m.rounds (lists_of m) [])

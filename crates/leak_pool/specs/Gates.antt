@@ -1,6 +1,6 @@
 -- Which steps of the workers a gate let through. Before each item a worker makes a step, and its steps are counted from 0
 -- over the whole call, modulo 2^64.
-use Rattle.std.specs.Prelude.{◌≡◌, ℕ, suc, ◌+◌, ◌-◌, ◌%◌, ◌^◌, ◌<◌, ◌≤◌, List, [], ◌∷◌, length, slice_index_or}
+use Rattle.std.specs.Prelude.{◌≡◌, ℕ, ◌+◌, ◌-◌, ◌%◌, ◌^◌, ◌<◌, ◌≤◌, List, [], ◌∷◌, slice_index_or}
 use Rattle.leak_pool.specs.Items.{share}
 
 -- how many of n items the worker k of m has
@@ -30,15 +30,3 @@ AreAllPassed passed workers rounds =
 pub record HavePassed (passed : ℕ → ℕ → Type 0) (workers : ℕ) (rounds steps : List ℕ) : Type 0 where
   pub each : AreAllPassed passed workers rounds
   pub counts : (k : ℕ) → k < workers → slice_index_or steps k 0 ≡ sizes_of k workers rounds % 2 ^ 64
-
--- the same after so many rounds, the first of which had so many items
-pub record HaveMade (passed : ℕ → ℕ → Type 0) (workers first rounds : ℕ) (steps : List ℕ) : Type 0 where
-  pub later : List ℕ
-  pub count : suc (length later) ≡ rounds
-  pub passed_all : HavePassed passed workers (first ∷ later) steps
-
--- the workers went through so many rounds, the first of which had so many items
-pub record HaveGone (passed : ℕ → ℕ → Type 0) (workers first rounds : ℕ) : Type 0 where
-  pub later : List ℕ
-  pub count : suc (length later) ≡ rounds
-  pub each : AreAllPassed passed workers (first ∷ later)

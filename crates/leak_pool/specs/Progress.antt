@@ -1,5 +1,5 @@
 -- How far the marking of a scene has come.
-use Rattle.std.specs.Prelude.{◌≡◌, ℕ, ◌<◌, ◌≤◌, ◌^◌, List, [], ◌∷◌, ◌++◌, length, flat_map, replicate}
+use Rattle.std.specs.Prelude.{◌≡◌, ℕ, ◌+◌, ◌<◌, ◌≤◌, ◌^◌, List, [], ◌∷◌, ◌++◌, length, flat_map, replicate}
 use Rattle.std.specs.List.{concat}
 use Rattle.leak_marks.specs.Lists.{Within}
 use Rattle.leak_marks.specs.Seats.{held, IsSound}
@@ -7,7 +7,8 @@ use Rattle.leak_pool.specs.Items.{targets_at, targets_of_block, InRange}
 use Rattle.leak_pool.specs.Scene.{Scene}
 use Rattle.leak_pool.specs.Promises.{AreOfWorkers, as_lists}
 use Rattle.leak_pool.specs.Rounds.{IsStep, Going}
-use Rattle.leak_pool.specs.Course.{Round, IsCourse}
+use Rattle.leak_pool.specs.Course.{Round, IsCourse, sizes_by_round}
+use Rattle.leak_pool.specs.Gates.{HavePassed}
 use Rattle.leak_pool.specs.declared.source.Item.{Item}
 use Rattle.leak_pool.specs.declared.progress.Progress.{Progress}
 
@@ -53,6 +54,18 @@ HaveCome roots targets workers stack count claims waiting seen =
 abbrev pub HasCourse : Scene → Progress → ℕ → Type 0
 HasCourse scene p count =
     HaveCome scene.roots scene.targets scene.workers scene.stack count (claims_of p) p.waiting.items p.seat.seen
+
+-- there is a course of one round more than these, of which there are so many
+abbrev pub HasRoundMore : Scene → Progress → ℕ → List Round → Type 0
+HasRoundMore scene p count rounds =
+    (next : HasCourse scene p (count + 1)) × (r : Round) × (next.0 ≡ rounds ++ r ∷ [])
+
+-- there is a course of so many rounds, and if the gate let the workers through the first, from these steps, it did so in all
+abbrev pub HasCourseThrough : (ℕ → ℕ → Type 0) → Scene → List ℕ → Progress → ℕ → Type 0
+HasCourseThrough passed scene steps p count =
+    (course : HasCourse scene p count)
+    × (HavePassed passed scene.workers (length scene.roots ∷ []) steps
+    → HavePassed passed scene.workers (sizes_by_round (length scene.roots) course.0) p.steps.items)
 
 -- What these items lead to was scanned: what the seat claimed is on the lists of the workers, and what was left waits.
 -- `own` says whose claims are whose.

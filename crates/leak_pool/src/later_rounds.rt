@@ -1,7 +1,8 @@
 //! The rounds after the first.
 ghost use Rattle.std.specs.Prelude.{◌≡◌, ℕ, ◌<◌, ◌≤◌, ◌+◌, [], length, IfOk, ◌-◌, ◌++◌, ◌∷◌, List};
-ghost use Rattle.leak_pool.specs.Progress.{IsBetween, HasCourse};
-ghost use Rattle.leak_pool.specs.Gates.{HaveGone, HavePassed};
+ghost use Rattle.leak_pool.specs.Progress.{IsBetween, HasCourse, HasRoundMore, claims_of};
+ghost use Rattle.leak_pool.specs.Course.{HaveGone};
+ghost use Rattle.leak_pool.specs.Gates.{HavePassed};
 
 use crate::gate::Gate;
 use crate::items::Items;
@@ -26,8 +27,8 @@ pub(crate) fn later_round<R: Threads + Sync, S: Source + Sync, G: Gate + Sync>(
     ensures between { IfOk result (IsBetween search.now) }
     ensures size { IfOk result (λ p.
         length progress.seat.claims + length p.waiting.items ≤ length p.seat.claims) }
-    ensures course { (count : ℕ) → HasCourse search.now progress count
-        → IfOk result (λ p. HasCourse search.now p (count + 1)) }
+    ensures course { (count : ℕ) → (course : HasCourse search.now progress count)
+        → IfOk result (λ p. HasRoundMore search.now p count course.0) }
     ensures gate { let workers = search.now.workers in
         IfOk result (λ p. (rounds : List ℕ)
         → HavePassed (G.passed gate.now) workers rounds progress.steps.items
@@ -56,10 +57,11 @@ pub(crate) fn until_none<R: Threads + Sync, S: Source + Sync, G: Gate + Sync>(
     ensures course { IfOk result (λ r. HasCourse search.now r.0 r.1) }
     ensures ended { IfOk result (λ r. r.0.waiting.items ≡ []) }
     ensures rounds { IfOk result (λ r. r.1 ≤ length search.now.targets + 1) }
-    ensures gate { let workers = search.now.workers in
-        IfOk result (λ r. (first : ℕ)
-        → HavePassed (G.passed gate.now) workers (first ∷ []) progress.steps.items
-        → HaveGone (G.passed gate.now) workers first r.1) }
+    ensures gate { let scene = search.now in let first = length scene.roots in
+        IfOk result (λ r.
+        HavePassed (G.passed gate.now) scene.workers (first ∷ []) progress.steps.items
+        → HaveGone (G.passed gate.now) first scene.roots scene.targets scene.workers scene.stack
+        r.1 (claims_of r.0) r.0.waiting.items) }
 {
     let mut rounds = 1u64;
     'until: while !progress.waiting.is_empty() {

@@ -10,10 +10,10 @@
 //! Sources: bdwgc's marking (an object is kept where a chain of words leads to it from a root); Boehm, Demers and
 //! Shenker, PLDI 1991, for marking from an earlier state. Rounds, pieces, stacks and claims are own rule.
 //!
-//! The contracts say which worker claimed what, round by round (specs/Course.antt), that each step passes the gate, and how
-//! many rounds there are with stacks of no entry, or alone. No contract says that two workers run at the same time, that a
-//! step passes the gate before its item is scanned and only once, how many steps a worker makes after the first round, or
-//! that stacks make the rounds fewer: tests show these.
+//! The contracts say which worker claimed what, round by round (specs/Course.antt), that over these rounds each worker
+//! passes the gate at a step for each item of its shares, and how many rounds there are with stacks of no entry, or alone.
+//! No contract says that two workers run at the same time, that a step passes the gate before its item is scanned and only
+//! once, or that stacks make the rounds fewer: tests show these.
 #![tactic(auto)]
 
 mod alone;

@@ -1,10 +1,8 @@
 //! Marking by worker threads over links.
 ghost use Rattle.std.specs.Prelude.{◌≡◌, ◌↔◌, ◌<◌, ◌-◌, ◌^◌, [], IfOk, IfSome, IsErrOf, length};
-ghost use Rattle.leak_pool.specs.Course.{HaveLed, IsByRounds};
+ghost use Rattle.leak_pool.specs.Course.{HaveGone, HaveLed, IsByRounds, IsThroughGate};
 ghost use Rattle.leak_pool.specs.Depth.{AreByDepth};
 ghost use Rattle.leak_pool.specs.Marking.{Marks, graph_of_roots};
-ghost use Rattle.leak_roots.specs.Cut.{pieces_of};
-ghost use Rattle.leak_pool.specs.Gates.{HaveGone};
 ghost use Rattle.leak_pool.specs.Promises.{as_lists};
 ghost use Rattle.leak_pool.specs.Rounds.{IsMarked, graph_over};
 
@@ -49,9 +47,8 @@ pub fn mark_by_links<R: Threads + Sync, W: Words + Sync, L: Lookup + Sync, G: Ga
         (IsByRounds (W.word_at words.now) (L.index lookup.now) roots.now [] [] plan) }
     ensures depth { let g = graph_of_roots (W.word_at words.now) (L.index lookup.now) roots.now in
         IfOk result (λ m. plan.stack ≡ 0 → 0 < length live.now.blocks → AreByDepth g m.rounds) }
-    ensures gate { let first = length (pieces_of plan.piece roots.now) in
-        IfOk result (λ m. 0 < length live.now.blocks
-        → HaveGone (G.passed gate.now) plan.workers first m.rounds) }
+    ensures gate { let w = W.word_at words.now in let i = L.index lookup.now in
+        IfOk result (IsThroughGate (G.passed gate.now) w i roots.now [] [] plan) }
 {
     let blocks = live.blocks();
     if blocks.len() > u32::MAX as usize {
@@ -92,9 +89,10 @@ fn mark_linked<R: Threads + Sync, S: Source + Sync, G: Gate + Sync>(
         IfOk result (λ m. 0 < length targets →
         HaveLed (S.roots source.now) targets plan.workers plan.stack m.rounds
         (as_lists m.claims.items) []) }
-    ensures gate { let first = length (S.roots source.now) in
-        IfOk result (λ m. 0 < length (S.targets source.now)
-        → HaveGone (G.passed gate.now) plan.workers first m.rounds) }
+    ensures gate { let roots = S.roots source.now in let targets = S.targets source.now in
+        IfOk result (λ m. 0 < length targets →
+        HaveGone (G.passed gate.now) (length roots) roots targets plan.workers plan.stack
+        m.rounds (as_lists m.claims.items) []) }
 {
     match links {
         Some(links) => mark_by_rounds(rt, alloc, &links, gate, plan, &[]),

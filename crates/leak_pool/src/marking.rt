@@ -1,11 +1,10 @@
 //! Marking by worker threads.
-ghost use Rattle.std.specs.Prelude.{◌≡◌, ◌↔◌, ◌<◌, ◌-◌, ◌^◌, [], IfOk, IsErrOf, length, ◌+◌};
+ghost use Rattle.std.specs.Prelude.{◌≡◌, ◌↔◌, ◌<◌, ◌-◌, ◌^◌, [], IfOk, IsErrOf, length};
 ghost use Rattle.leak_roots.specs.Cut.{pieces_of};
 ghost use Rattle.leak_roots.specs.Pieces.{AreCut};
-ghost use Rattle.leak_pool.specs.Course.{IsByRounds};
+ghost use Rattle.leak_pool.specs.Course.{IsByRounds, IsThroughGate};
 ghost use Rattle.leak_pool.specs.Depth.{AreByDepth};
 ghost use Rattle.leak_pool.specs.Marking.{Marks, MarksFrom, IsStartOf, graph_of_roots, graph_from};
-ghost use Rattle.leak_pool.specs.Gates.{HaveGone};
 
 use crate::error::PoolError;
 use crate::gate::Gate;
@@ -41,9 +40,8 @@ pub fn mark<R: Threads + Sync, W: Words + Sync, L: Lookup + Sync, G: Gate + Sync
         IfOk result (IsByRounds w i roots.now [] [] plan) }
     ensures depth { let g = graph_of_roots (W.word_at words.now) (L.index lookup.now) roots.now in
         IfOk result (λ m. plan.stack ≡ 0 → 0 < length live.now.blocks → AreByDepth g m.rounds) }
-    ensures gate { let first = length (pieces_of plan.piece roots.now) in
-        IfOk result (λ m. 0 < length live.now.blocks
-        → HaveGone (G.passed gate.now) plan.workers first m.rounds) }
+    ensures gate { let w = W.word_at words.now in let i = L.index lookup.now in
+        IfOk result (IsThroughGate (G.passed gate.now) w i roots.now [] [] plan) }
 {
     let start = Start {
         marked: Vec::new(alloc),
@@ -79,10 +77,9 @@ pub fn mark_from<R: Threads + Sync, W: Words + Sync, L: Lookup + Sync, G: Gate +
         let graph = graph_from w i roots.now pages.now start.now in
         IfOk result (λ m.
         plan.stack ≡ 0 → 0 < length live.now.blocks → AreByDepth graph m.rounds) }
-    ensures gate { let pieces = pieces_of plan.piece roots.now in
-        let first = length pieces + length start.now.rescan.items in
-        IfOk result (λ m. 0 < length live.now.blocks
-        → HaveGone (G.passed gate.now) plan.workers first m.rounds) }
+    ensures gate { let w = W.word_at words.now in let i = L.index lookup.now in
+        let again = start.now.rescan.items in
+        IfOk result (IsThroughGate (G.passed gate.now) w i roots.now pages.now again plan) }
 {
     let blocks = live.blocks();
     if blocks.len() > u32::MAX as usize {

@@ -2,8 +2,8 @@
 ghost use Rattle.std.specs.Prelude.{◌≡◌, ◌<◌, [], ◌∷◌, length, replicate, All, IfOk};
 ghost use Rattle.leak_marks.specs.Lists.{Within, mark_of};
 ghost use Rattle.leak_marks.specs.Seats.{IsSound};
-ghost use Rattle.leak_pool.specs.Course.{HaveLed};
-ghost use Rattle.leak_pool.specs.Gates.{HaveGone, HavePassed};
+ghost use Rattle.leak_pool.specs.Course.{HaveGone, HaveLed};
+ghost use Rattle.leak_pool.specs.Gates.{HavePassed};
 ghost use Rattle.leak_pool.specs.Promises.{as_lists};
 ghost use Rattle.leak_pool.specs.Rounds.{AreWords, IsMarked, graph_over};
 ghost use Rattle.leak_pool.specs.Progress.{IsFresh, IsBetween, HasCourse};
@@ -87,8 +87,10 @@ fn mark_words<R: Threads + Sync, S: Source + Sync, G: Gate + Sync>(
     ensures course { let targets = S.targets source.now in
         IfOk result (λ r.
         HaveLed (S.roots source.now) targets plan.workers plan.stack r.2 (as_lists r.1.items) []) }
-    ensures gate { let first = length (S.roots source.now) in
-        IfOk result (λ r. HaveGone (G.passed gate.now) plan.workers first r.2) }
+    ensures gate { let roots = S.roots source.now in
+        IfOk result (λ r.
+        HaveGone (G.passed gate.now) (length roots) roots (S.targets source.now)
+        plan.workers plan.stack r.2 (as_lists r.1.items) []) }
 {
     // (a law, for the proof: a whole run marks what chains reach, and its claims are one for each block)
     whole_runs();
@@ -145,9 +147,10 @@ pub(crate) fn mark_by_rounds<R: Threads + Sync, S: Source + Sync, G: Gate + Sync
         IfOk result (λ m. 0 < length targets →
         HaveLed (S.roots source.now) targets plan.workers plan.stack m.rounds
         (as_lists m.claims.items) []) }
-    ensures gate { let first = length (S.roots source.now) in
-        IfOk result (λ m. 0 < length (S.targets source.now)
-        → HaveGone (G.passed gate.now) plan.workers first m.rounds) }
+    ensures gate { let roots = S.roots source.now in let targets = S.targets source.now in
+        IfOk result (λ m. 0 < length targets →
+        HaveGone (G.passed gate.now) (length roots) roots targets plan.workers plan.stack
+        m.rounds (as_lists m.claims.items) []) }
 {
     targets_are_blocks(source);
     if source.blocks() == 0 {

@@ -2,13 +2,14 @@ use Rattle.std.proofs.Common.{◌≡◌, ◌<◌, ◌∙◌, ap, sym, subst, ◌
 use Rattle.std.proofs.lemmas.List.{get_or_read}
 use Rattle.leak_marks.specs.Lists.{Has}
 use Rattle.leak_pool.specs.Gates.{HavePassed}
+use Rattle.leak_pool.specs.Course.{IsCourse}
 use Rattle.leak_pool.specs.Items.{IsItem, targets_of_block}
 use Rattle.leak_pool.specs.declared.source.Item.{Item}
 use Rattle.leak_pool.specs.declared.source.Item.TheVariants.{Block}
 use Rattle.leak_pool.specs.declared.progress.Progress.{Progress}
 use Rattle.leak_pool.specs.Rounds.{IsStep, IsGoing, graph_over}
 use Rattle.leak_pool.specs.Scene.{Scene}
-use Rattle.leak_pool.specs.Progress.{IsReady, IsBetween, HaveCome, HasCourse, HasScanned, InItems, AreOfShares, AreOfOne, claims_of}
+use Rattle.leak_pool.specs.Progress.{IsReady, IsBetween, HaveCome, HasRoundMore, HasScanned, InItems, AreOfShares, AreOfOne, claims_of}
 use Rattle.leak_pool.proofs.CountLemmas.{at_has}
 use Rattle.leak_pool.proofs.GoingLemmas.{later_round, waiting_inside, all_blocks, blocks_long, front_rest}
 use Rattle.leak_pool.proofs.StepLemmas.{ok_both, two_steps}
@@ -92,14 +93,19 @@ returns-clause-course g c n led =
     let items : List Item = map Block (take (length c.deref.result.now - 1) (drop 1 c.deref.result.now)) in
     let is : items ≡ map Block ws = ap (λ (l : List ℕ). map Block (take (length l - 1) (drop 1 l))) c.deref.ensures.value in
     let come : HaveCome scene.roots scene.targets scene.workers scene.stack n (claims_of from) (x ∷ ws) from.seat.seen =
-    subst (λ (l : List ℕ). HaveCome scene.roots scene.targets scene.workers scene.stack n (claims_of from) l from.seat.seen) (sym (ap (λ (v : Vec ℕ Global). v.items) c.replace-waiting.ensures.value) ∙ front_rest all.items some) led in
+    (
+      led.0,
+      led.1,
+      subst (λ (l : List ℕ). IsCourse scene.roots scene.targets scene.workers scene.stack (claims_of from) l led.0) (sym (ap (λ (v : Vec ℕ Global). v.items) c.replace-waiting.ensures.value) ∙ front_rest all.items some) led.2,
+      led.3,
+    ) in
     let blocks = targets_of_block scene.targets in
     let read = get_or_read all.items _ _ some c.index.ensures 0 in
     let one : IsStep blocks (Has (get_or scene.targets x [])) scene.workers (claims_of from) c.replace-waiting.new.dest.items from.seat (claims_of mid) mid.waiting.items mid.seat first.0 first.1 =
     subst (λ (b : ℕ). IsStep blocks (Has (get_or scene.targets b [])) scene.workers (claims_of from) c.replace-waiting.new.dest.items from.seat (claims_of mid) mid.waiting.items mid.seat first.0 first.1) read first.2 in
     let alone : AreOfOne (get_or scene.targets x []) first.0 first.1 = subst (λ (b : ℕ). AreOfOne (get_or scene.targets b []) first.0 first.1) read first.3 in
     let workers : 0 < scene.workers = subst (λ (s : Scene). 0 < s.workers) c.search.view_is c.search.invariant.some in
-    if_ok (HasScanned (InItems scene items) (AreOfShares scene items) scene mid) (λ (p : Progress). HasCourse scene p (n + 1)) c.by_workers.result
+    if_ok (HasScanned (InItems scene items) (AreOfShares scene items) scene mid) (λ (p : Progress). HasRoundMore scene p n led.0) c.by_workers.result
     (λ (p : Progress) second. course_more scene.roots scene.targets scene.workers scene.stack n x ws (claims_of from) (claims_of mid) (claims_of p) c.replace-waiting.new.dest.items mid.waiting.items p.waiting.items from.seat mid.seat p.seat
     first.0 second.0 first.1 second.1 items workers is none come one alone second.2 second.3)
     c.by_workers.ensures.done

@@ -1,9 +1,9 @@
-use Rattle.std.proofs.Common.{◌<◌, ◌≤◌, ◌-◌, length, arith, rules}
+use Rattle.std.proofs.Common.{◌<◌, ◌≤◌, length, arith, rules}
 use Rattle.leak_pool.specs.Scene.{Scene}
 use Rattle.leak_pool.specs.declared.progress.Progress.{Progress}
 use Rattle.leak_pool.specs.Progress.{IsBetween}
 use Rattle.leak_pool.proofs.GoingLemmas.{going_few}
-use Rattle.leak_pool.proofs.GateLemmas.{made_one, made_more, gone_of_made}
+use Rattle.leak_pool.proofs.GateLemmas.{through_one, through_more, gone_through}
 use Rattle.leak_pool.proofs.later_rounds.until_none.Goals as goal
 
 few : (scene : Scene) (p : Progress) → IsBetween scene p → length p.seat.claims ≤ length scene.targets
@@ -23,8 +23,7 @@ until-init g c = record {
   one = omega arith;
   size = let f = c.requires.between.few in omega arith;
   between = c.requires.between;
-  course = c.requires.course;
-  gate = λ first was. made_one (g.G.Gate.passed c.args.gate.now) c.args.search.now.workers first c.args.progress.steps.items was;
+  course = through_one (g.G.Gate.passed c.args.gate.now) c.args.search.now c.args.progress c.requires.course;
 }
 
 pub until-preserved : goal.until-preserved
@@ -32,11 +31,12 @@ until-preserved g c = record {
   one = omega arith;
   size = let i = c.until.invariant in let s = c.in_ok-progress.ensures.size in let l = i.size in let ne : 0 < length c.until.progress.waiting.items = search rules in omega arith;
   between = c.in_ok-progress.ensures.between;
-  course = c.in_ok-progress.ensures.course c.until.rounds c.until.invariant.course;
-  gate = λ first was.
-      made_more (g.G.Gate.passed c.args.gate.now) c.args.search.now.workers first (length c.until.progress.waiting.items - 1) c.until.rounds c.until.progress.steps.items c.in_ok-progress.progress.steps.items
-      c.in_ok-progress.ensures.gate (c.until.invariant.gate first was);
+  course = through_more (g.G.Gate.passed c.args.gate.now) c.args.search.now c.args.progress.steps.items c.until.progress c.in_ok-progress.progress c.until.rounds
+      c.in_ok-progress.ensures.course c.in_ok-progress.ensures.gate c.until.invariant.course;
 }
 
+pub returns-clause-course : goal.returns-clause-course
+returns-clause-course g c = c.until.invariant.course.0
+
 pub returns-clause-gate : goal.returns-clause-gate
-returns-clause-gate g c = λ first was. gone_of_made (g.G.Gate.passed c.args.gate.now) c.args.search.now.workers first c.until.rounds c.until.progress.steps.items (c.until.invariant.gate first was)
+returns-clause-gate g c = λ was. gone_through (g.G.Gate.passed c.args.gate.now) c.args.search.now c.args.progress.steps.items c.until.progress c.until.rounds c.until.invariant.course was

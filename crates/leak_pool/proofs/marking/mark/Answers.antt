@@ -1,13 +1,10 @@
-use Rattle.std.proofs.Common.{◌<◌, ℕ, List, [], length, ap, subst, arith, ◌≡◌, ◌+◌}
+use Rattle.std.proofs.Common.{◌<◌, ℕ, List, [], length, ap, subst, arith, ◌≡◌}
 use Rattle.leak_blocks.specs.declared.block.Block.{Block}
-use Rattle.leak_pool.specs.Course.{IsByRounds}
+use Rattle.leak_pool.specs.Course.{IsByRounds, IsThroughGate}
 use Rattle.leak_pool.specs.Depth.{AreByDepth}
 use Rattle.leak_pool.specs.Marking.{Marks, graph_of_roots}
 use Rattle.leak_pool.specs.declared.start.Part.{Part}
 use Rattle.leak_pool.proofs.DepthOfCores.{depth_of_roots}
-use Rattle.leak_roots.specs.Cut.{pieces_of}
-use Rattle.leak_pool.specs.declared.marked.Marked.{Marked}
-use Rattle.leak_pool.specs.Gates.{HaveGone}
 use Rattle.leak_pool.proofs.FromLemmas.{if_ok, marks_from_none}
 use Rattle.leak_pool.proofs.StepLemmas.{ok_both}
 use Rattle.leak_pool.proofs.marking.mark.Goals as goal
@@ -33,8 +30,6 @@ returns-clause-depth g c =
 
 pub returns-clause-gate : goal.returns-clause-gate
 returns-clause-gate g c =
+    let w = g.W.Words.word_at c.args.words.now in let i = g.L.Lookup.index c.args.lookup.now in
     let passed : ℕ → ℕ → Type 0 = g.G.Gate.passed c.args.gate.now in
-    let pieces : ℕ = length (pieces_of c.args.plan.piece c.args.roots.now) in
-    let none : pieces + length c.new-2.result.items ≡ pieces = let z = ap (λ (l : List (ℕ × Part)). length l) c.new-2.ensures.items in omega arith in
-    if_ok (λ (m : Marked). 0 < length c.args.live.now.blocks → HaveGone passed c.args.plan.workers (pieces + length c.new-2.result.items) m.rounds) _ c.mark_from.result
-    (λ (m : Marked) from some. subst (λ (n : ℕ). HaveGone passed c.args.plan.workers n m.rounds) none (from some)) c.mark_from.ensures.gate
+    if_ok _ (IsThroughGate passed w i c.args.roots.now [] [] c.args.plan) c.mark_from.result (λ m gone. subst (λ (l : List (ℕ × Part)). IsThroughGate passed w i c.args.roots.now c.unwrap-pages.result l c.args.plan m) c.new-2.ensures.items gone) c.mark_from.ensures.gate

@@ -3,12 +3,12 @@ use Rattle.std.specs.Prelude.{slice_index_or}
 use Rattle.leak_blocks.specs.declared.block.Block.{Block}
 use Rattle.leak_roots.specs.declared.piece.Piece.{Piece}
 use Rattle.leak_roots.specs.Cut.{pieces_of}
+use Rattle.leak_roots.specs.Pieces.{AreCut}
 use Rattle.leak_pool.specs.declared.start.Part.{Part}
-use Rattle.leak_pool.specs.Gates.{HaveGone}
 use Rattle.leak_pool.specs.Scopes.{AreParts, root_targets, all_targets}
 use Rattle.leak_pool.specs.Rounds.{IsMarked, graph_over}
 use Rattle.leak_pool.specs.Marking.{lists_of}
-use Rattle.leak_pool.specs.Course.{HaveLed}
+use Rattle.leak_pool.specs.Course.{HaveGone, HaveLed}
 use Rattle.leak_pool.proofs.ScopeLemmas.{long_all, long_roots}
 use Rattle.leak_pool.proofs.FromLemmas.{at_has_any, parts_inside, marks_from}
 use Rattle.leak_pool.proofs.DepthOfCores.{depth_from}
@@ -64,13 +64,23 @@ returns-clause-depth g c zero blocks =
     depth_from w i c.args.roots.now c.args.pages.now c.args.start.now c.args.plan c.in_ok-marked.marked zero (omega (arith, e, blocks)) (returns-clause-course g c) (returns-clause-marks g c)
 
 pub returns-clause-gate : goal.returns-clause-gate
-returns-clause-gate g c = λ some.
+returns-clause-gate g c =
     let w = g.W.Words.word_at c.args.words.now in let i = g.L.Lookup.index c.args.lookup.now in
-    let again = c.args.start.now.rescan.items in
-    let count : length (root_targets w i c.args.roots.now c.in_ok-pieces.pieces c.args.pages.now c.as_slice.result.now) ≡ length (pieces_of c.args.plan.piece c.args.roots.now) + length again =
+    let passed : ℕ → ℕ → Type 0 = g.G.Gate.passed c.args.gate.now in
+    let plan = c.args.plan in let m = c.in_ok-marked.marked in
+    let again : List (ℕ × Part) = c.args.start.now.rescan.items in
+    let pieces : List Piece = pieces_of plan.piece c.args.roots.now in
+    let cut : c.in_ok-pieces.pieces ≡ pieces = c.in_ok-pieces.ensures.value in
+    let first : ℕ = length pieces + length again in
+    let count : length (root_targets w i c.args.roots.now c.in_ok-pieces.pieces c.args.pages.now c.as_slice.result.now) ≡ first =
     long_roots w i c.args.roots.now c.in_ok-pieces.pieces c.args.pages.now c.as_slice.result.now
-    ∙ ap (λ (l : List Piece). length l + length c.as_slice.result.now) c.in_ok-pieces.ensures.value
-    ∙ ap (λ (l : List (ℕ × Part)). length (pieces_of c.args.plan.piece c.args.roots.now) + length l) c.as_slice.ensures.value in
-    let e = ap (λ (l : List Block). length l) c.requires.blocks in
-    let l = long_all w i in
-    subst (λ (n : ℕ). HaveGone (g.G.Gate.passed c.args.gate.now) c.args.plan.workers n c.in_ok-marked.marked.rounds) count (c.in_ok-marked.ensures.gate (omega (arith, some, e, l)))
+    ∙ ap (λ (l : List Piece). length l + length c.as_slice.result.now) cut
+    ∙ ap (λ (l : List (ℕ × Part)). length pieces + length l) c.as_slice.ensures.value in
+    let l = long_all w i in (
+      subst (λ (p : List Piece). AreCut c.args.roots.now plan.piece p) cut c.in_ok-pieces.ensures.cut,
+      λ some.
+          subst (λ (p : List Piece). HaveGone passed first (root_targets w i c.args.roots.now p c.args.pages.now again) (all_targets w i) plan.workers plan.stack m.rounds (lists_of m) []) cut
+          (subst (λ (l : List (ℕ × Part)). HaveGone passed first (root_targets w i c.args.roots.now c.in_ok-pieces.pieces c.args.pages.now l) (all_targets w i) plan.workers plan.stack m.rounds (lists_of m) []) c.as_slice.ensures.value
+          (subst (λ (n : ℕ). HaveGone passed n (root_targets w i c.args.roots.now c.in_ok-pieces.pieces c.args.pages.now c.as_slice.result.now) (all_targets w i) plan.workers plan.stack m.rounds (lists_of m) []) count
+          (c.in_ok-marked.ensures.gate (omega (arith, l, some))))),
+    )

@@ -1,7 +1,6 @@
 use Rattle.std.proofs.Common.{◌≡◌, ℕ, List, [], Vec, Global, length, ◌∙◌, ap, subst, arith}
 use Rattle.leak_marks.specs.Lists.{times, Within, mark_of, word_count}
-use Rattle.leak_pool.specs.Course.{HaveLed}
-use Rattle.leak_pool.specs.Gates.{HaveGone}
+use Rattle.leak_pool.specs.Course.{HaveGone, HaveLed, IsCourse}
 use Rattle.leak_pool.specs.Rounds.{AreWords, Going, graph_over}
 use Rattle.leak_pool.specs.Progress.{HaveCome, claims_of}
 use Rattle.leak_pool.proofs.CourseLemmas.{course_less}
@@ -35,6 +34,12 @@ returns-clause-course g c =
 
 pub returns-clause-gate : goal.returns-clause-gate
 returns-clause-gate g c =
-    let first : ℕ = length (g.S.Source.roots c.args.source.now) in
-    subst (λ (n : ℕ). HaveGone (g.G.Gate.passed c.args.gate.now) n first c.in_ok-progress-2.rounds) c.workers-workers.ensures.number
-    (c.in_ok-progress-2.ensures.gate first c.in_ok-progress.ensures.gate)
+    let roots = g.S.Source.roots c.args.source.now in let targets = g.S.Source.targets c.args.source.now in
+    let passed : ℕ → ℕ → Type 0 = g.G.Gate.passed c.args.gate.now in
+    let p = c.in_ok-progress-2.progress in
+    let none : c.args.plan.stack ≡ 0 → c.min-stack.result ≡ 0 = λ z. let s = c.stack.ensures.number in let m = c.min-stack.ensures in omega arith in
+    let gone = c.in_ok-progress-2.ensures.gate c.in_ok-progress.ensures.gate in
+    let course : IsCourse roots targets c.workers-workers.result c.min-stack.result (claims_of p) [] gone.0 =
+    subst (λ (l : List ℕ). IsCourse roots targets c.workers-workers.result c.min-stack.result (claims_of p) l gone.0) c.in_ok-progress-2.ensures.ended gone.2 in
+    subst (λ (n : ℕ). HaveGone passed (length roots) roots targets n c.args.plan.stack c.in_ok-progress-2.rounds (claims_of p) []) c.workers-workers.ensures.number
+    (gone.0, gone.1, course_less roots targets c.workers-workers.result c.min-stack.result c.args.plan.stack (claims_of p) [] gone.0 none course, gone.3)
