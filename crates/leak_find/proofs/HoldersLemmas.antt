@@ -57,15 +57,15 @@ hold_stopped source o question before after (Write f) fault = absurd fault
 
 module _ {R : Type 0} (source : Source R) (o : Options) (question : Option Question) (before after : List R) (inputs : List (List ℕ)) (core log : List ℕ) (since : Option (List ℕ))
     (are : AreAllInputs source o before after inputs) (core_is : core ≡ input_at inputs 0) (log_is : log ≡ input_at inputs 1) (since_is : since ≡ earlier_in inputs) where
-  pub has_held : (holding : Holding) → Tells question o core log since holding → AreSigns (core ∷ log ∷ []) holding.signs.items → HasHeld source o question before after holding
+  pub has_held : (holding : Holding) → Tells question o core log since holding → AreSigns o.other_heap (core ∷ log ∷ []) holding.signs.items → HasHeld source o question before after holding
   has_held holding tells signs = record {
     inputs = inputs;
     are = are;
     tells = subst (λ (s : Option (List ℕ)). Tells question o (input_at inputs 0) (input_at inputs 1) s holding) since_is
         (subst (λ (l : List ℕ). Tells question o (input_at inputs 0) l since holding) log_is
         (subst (λ (c : List ℕ). Tells question o c log since holding) core_is tells));
-    signs = subst (λ (l : List ℕ). AreSigns (input_at inputs 0 ∷ l ∷ []) holding.signs.items) log_is
-        (subst (λ (c : List ℕ). AreSigns (c ∷ log ∷ []) holding.signs.items) core_is signs);
+    signs = subst (λ (l : List ℕ). AreSigns o.other_heap (input_at inputs 0 ∷ l ∷ []) holding.signs.items) log_is
+        (subst (λ (c : List ℕ). AreSigns o.other_heap (c ∷ log ∷ []) holding.signs.items) core_is signs);
   }
 
   held_fault : (e : WhyError) → (e ≢ Refused NoMemory → IsNotTold question core log since e) → IsHeldFindFault source o question before after e

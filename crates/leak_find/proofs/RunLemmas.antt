@@ -53,7 +53,7 @@ of_two two n is h = subst (λ (b : Bool). n ≤ file_count b) (sym is) h
 
 pub found_one : {R : Type 0} (source : Source R) (o : Options) (before after : List R) (core log core_read log_read : List ℕ) (found : Found) → o.two ≡ false
     → AreRead source (limit_at o) before after (core ∷ log ∷ []) → core_read ≡ core → log_read ≡ log
-    → FindsOne core_read log_read (distances_of o.reading) o.skip o.check o.plan.workers found → AreSigns (core_read ∷ log_read ∷ []) found.signs.items → HasFound source o before after found
+    → FindsOne core_read log_read (distances_of o.reading) o.skip o.check o.plan.workers found → AreSigns o.other_heap (core_read ∷ log_read ∷ []) found.signs.items → HasFound source o before after found
 found_one source o before after core log core_read log_read found one so_far core_is log_is finds signs = record {
   inputs = core ∷ log ∷ [];
   count = rw (one) refl;
@@ -61,8 +61,8 @@ found_one source o before after core log core_read log_read found one so_far cor
   finds = subst (λ (b : Bool). Finds b o (core ∷ log ∷ []) found) (sym one)
       (subst (λ (l : List ℕ). FindsOne core l (distances_of o.reading) o.skip o.check o.plan.workers found) log_is
       (subst (λ (c : List ℕ). FindsOne c log_read (distances_of o.reading) o.skip o.check o.plan.workers found) core_is finds));
-  signs = subst (λ (l : List ℕ). AreSigns (core ∷ l ∷ []) found.signs.items) log_is
-      (subst (λ (c : List ℕ). AreSigns (c ∷ log_read ∷ []) found.signs.items) core_is signs);
+  signs = subst (λ (l : List ℕ). AreSigns o.other_heap (core ∷ l ∷ []) found.signs.items) log_is
+      (subst (λ (c : List ℕ). AreSigns o.other_heap (c ∷ log_read ∷ []) found.signs.items) core_is signs);
 }
 
 pub fault_one : {R : Type 0} (source : Source R) (o : Options) (before after : List R) (core log core_read log_read : List ℕ) (e : FindError) → o.two ≡ false
@@ -81,15 +81,15 @@ fault_one source o before after core log core_read log_read e one so_far core_is
 module _ {R : Type 0} (source : Source R) (o : Options) (address : ℕ) (before after : List R) (core log core_read log_read : List ℕ)
     (so_far : AreRead source (limit_at o) before after (core ∷ log ∷ [])) (core_is : core_read ≡ core) (log_is : log_read ≡ log) where
   pub has_told : (why : Why) → TellsWhy core_read log_read (distances_of o.reading) o.skip address why
-      → AreSigns (core_read ∷ log_read ∷ []) why.signs.items → HasTold source o address before after why
+      → AreSigns o.other_heap (core_read ∷ log_read ∷ []) why.signs.items → HasTold source o address before after why
   has_told why tells signs = record {
     inputs = core ∷ log ∷ [];
     count = refl;
     read = so_far;
     tells = subst (λ (l : List ℕ). TellsWhy core l (distances_of o.reading) o.skip address why) log_is
         (subst (λ (c : List ℕ). TellsWhy c log_read (distances_of o.reading) o.skip address why) core_is tells);
-    signs = subst (λ (l : List ℕ). AreSigns (core ∷ l ∷ []) why.signs.items) log_is
-        (subst (λ (c : List ℕ). AreSigns (c ∷ log_read ∷ []) why.signs.items) core_is signs);
+    signs = subst (λ (l : List ℕ). AreSigns o.other_heap (core ∷ l ∷ []) why.signs.items) log_is
+        (subst (λ (c : List ℕ). AreSigns o.other_heap (c ∷ log_read ∷ []) why.signs.items) core_is signs);
   }
 
   pub holding_fault : (e : WhyError) → (e ≢ Refused NoMemory → IsWhyFault core_read log_read address e) → IsHoldingFault source o address before after e
@@ -108,7 +108,7 @@ module _ {R : Type 0} (source : Source R) (o : Options) (address : ℕ) (before 
 module _ {R : Type 0} (source : Source R) (o : Options) (before after : List R) (core1 log1 core2 log2 core1_read log1_read core2_read log2_read : List ℕ) (two : o.two ≡ true)
     (so_far : AreRead source (limit_at o) before after (core1 ∷ log1 ∷ core2 ∷ log2 ∷ [])) (core1_is : core1_read ≡ core1) (log1_is : log1_read ≡ log1) (core2_is : core2_read ≡ core2) (log2_is : log2_read ≡ log2) where
   pub found_two : (found : Found) → FindsTwo core1_read log1_read core2_read log2_read (distances_of o.reading) o.skip o.check o.plan.workers found
-      → AreSigns (core1_read ∷ log1_read ∷ core2_read ∷ log2_read ∷ []) found.signs.items → HasFound source o before after found
+      → AreSigns o.other_heap (core1_read ∷ log1_read ∷ core2_read ∷ log2_read ∷ []) found.signs.items → HasFound source o before after found
   found_two found finds signs = record {
     inputs = core1 ∷ log1 ∷ core2 ∷ log2 ∷ [];
     count = rw (two) refl;
@@ -118,10 +118,10 @@ module _ {R : Type 0} (source : Source R) (o : Options) (before after : List R) 
         (subst (λ (c : List ℕ). FindsTwo core1 log1 c log2_read (distances_of o.reading) o.skip o.check o.plan.workers found) core2_is
         (subst (λ (l : List ℕ). FindsTwo core1 l core2_read log2_read (distances_of o.reading) o.skip o.check o.plan.workers found) log1_is
         (subst (λ (c : List ℕ). FindsTwo c log1_read core2_read log2_read (distances_of o.reading) o.skip o.check o.plan.workers found) core1_is finds))));
-    signs = subst (λ (l : List ℕ). AreSigns (core1 ∷ log1 ∷ core2 ∷ l ∷ []) found.signs.items) log2_is
-        (subst (λ (c : List ℕ). AreSigns (core1 ∷ log1 ∷ c ∷ log2_read ∷ []) found.signs.items) core2_is
-        (subst (λ (l : List ℕ). AreSigns (core1 ∷ l ∷ core2_read ∷ log2_read ∷ []) found.signs.items) log1_is
-        (subst (λ (c : List ℕ). AreSigns (c ∷ log1_read ∷ core2_read ∷ log2_read ∷ []) found.signs.items) core1_is signs)));
+    signs = subst (λ (l : List ℕ). AreSigns o.other_heap (core1 ∷ log1 ∷ core2 ∷ l ∷ []) found.signs.items) log2_is
+        (subst (λ (c : List ℕ). AreSigns o.other_heap (core1 ∷ log1 ∷ c ∷ log2_read ∷ []) found.signs.items) core2_is
+        (subst (λ (l : List ℕ). AreSigns o.other_heap (core1 ∷ l ∷ core2_read ∷ log2_read ∷ []) found.signs.items) log1_is
+        (subst (λ (c : List ℕ). AreSigns o.other_heap (c ∷ log1_read ∷ core2_read ∷ log2_read ∷ []) found.signs.items) core1_is signs)));
   }
 
   pub fault_two : (e : FindError) → (e ≢ NoMemory → IsFaultOfTwo core1_read log1_read core2_read log2_read e) → IsFindFault source o before after e

@@ -9,7 +9,7 @@ use Rattle.leak_report.specs.Warnings.{warnings_of}
 use Rattle.leak_find.specs.declared.fault.RunFault.{RunFault}
 use Rattle.leak_find.specs.declared.fault.RunFault.TheVariants.{Read, Find, NoBlock, Write}
 use Rattle.leak_find.specs.Streams.{Sink, Source}
-use Rattle.leak_find.specs.Run.{IsRunFault, Runs, limit_at, warnings_by}
+use Rattle.leak_find.specs.Run.{IsRunFault, Runs, limit_at}
 use Rattle.leak_find.specs.Why.{IsWhyRunFault, RunsWhy}
 use Rattle.leak_find.specs.Holders.{IsHoldersRunFault, RunsHolders}
 use Rattle.leak_find.specs.Grow.{IsGrowRunFault, RunsGrow}
@@ -71,7 +71,7 @@ module _ {R S W X : Type 0} (view : R → S) (source : Source R) (known : Source
       found = run.found;
       has_found = found view source known sees o before after run.found run.has_found;
       written = shows.whole _ w z run.written;
-      warned = tried listen warner heard warns (warnings_by o run.found.signs.items) v u run.warned;
+      warned = tried listen warner heard warns (warnings_of run.found.signs.items) v u run.warned;
       status_is = run.status_is;
     }
 
@@ -82,7 +82,7 @@ module _ {R S W X : Type 0} (view : R → S) (source : Source R) (known : Source
       why = run.why;
       has_told = told view source known sees o address before after run.why run.has_told;
       written = shows.whole _ w z run.written;
-      warned = tried listen warner heard warns (warnings_by o run.why.signs.items) v u run.warned;
+      warned = tried listen warner heard warns (warnings_of run.why.signs.items) v u run.warned;
       status_is = run.status_is;
     }
 
@@ -93,7 +93,7 @@ module _ {R S W X : Type 0} (view : R → S) (source : Source R) (known : Source
       holding = run.holding;
       has_held = held view source known sees o question before after run.holding run.has_held;
       written = shows.whole _ w z run.written;
-      warned = tried listen warner heard warns (warnings_by o run.holding.signs.items) v u run.warned;
+      warned = tried listen warner heard warns (warnings_of run.holding.signs.items) v u run.warned;
       status_is = run.status_is;
     }
 

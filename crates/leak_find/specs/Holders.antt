@@ -4,6 +4,7 @@ use Rattle.leak_index.specs.Readings.{distances_of}
 use Rattle.leak_holders.specs.declared.question.Question.{Question}
 use Rattle.leak_streams.specs.declared.fault.WriteFault.{WriteFault}
 use Rattle.leak_request.specs.declared.options.Options.{Options}
+use Rattle.leak_report.specs.Warnings.{warnings_of}
 use Rattle.leak_input.specs.Signs.{AreSigns}
 use Rattle.leak_input.specs.declared.error.FindError.TheVariants.{NoMemory}
 use Rattle.leak_search.specs.declared.holding.WhyError.{WhyError}
@@ -15,7 +16,7 @@ use Rattle.leak_find.specs.declared.fault.RunFault.{RunFault}
 use Rattle.leak_find.specs.declared.fault.RunFault.TheVariants.{Read, Find, NoBlock, Write}
 use Rattle.leak_find.specs.Streams.{Source, Sink, IsTried}
 use Rattle.leak_find.specs.Inputs.{AreRead, IsReadFaultWithin, input_at}
-use Rattle.leak_find.specs.Run.{status_by, warnings_by}
+use Rattle.leak_find.specs.Run.{status_by}
 
 -- how many bytes the reader with the number may hold: the first has a core, the others logs
 abbrev pub limit_of_held : Options → ℕ → ℕ
@@ -50,7 +51,7 @@ pub record HasHeld {R : Type 0} (source : Source R) (o : Options) (question : Op
   pub inputs : List (List ℕ)
   pub are : AreAllInputs source o before after inputs
   pub tells : Tells question o (input_at inputs 0) (input_at inputs 1) (earlier_in inputs) holding
-  pub signs : AreSigns (input_at inputs 0 ∷ input_at inputs 1 ∷ []) holding.signs.items
+  pub signs : AreSigns o.other_heap (input_at inputs 0 ∷ input_at inputs 1 ∷ []) holding.signs.items
 
 -- all readers were read to their ends, and what they held gives no answer for this reason
 pub record IsHeldFindFault {R : Type 0} (source : Source R) (o : Options) (question : Option Question) (before after : List R)
@@ -80,8 +81,8 @@ pub record RunsHolders {R W V : Type 0} (source : Source R) (sink : Sink W) (war
   pub holding : Holding
   pub has_held : HasHeld source o question before after holding
   pub written : sink.whole holding.report.items held holds
-  pub warned : IsTried warner (warnings_by o holding.signs.items) heard hears
-  pub status_is : status ≡ status_by o.strict 0 (warnings_by o holding.signs.items)
+  pub warned : IsTried warner (warnings_of holding.signs.items) heard hears
+  pub status_is : status ≡ status_by o.strict 0 (warnings_of holding.signs.items)
 
 -- the answer was made, and was not written completely
 pub record IsHoldersWriteFault {R W : Type 0} (source : Source R) (sink : Sink W) (o : Options) (question : Option Question)

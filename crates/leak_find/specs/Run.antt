@@ -1,5 +1,5 @@
 -- What a run does to its readers and its writers.
-use Rattle.std.specs.Prelude.{◌≡◌, ◌≢◌, ℕ, ◌%◌, ◌==◌, Bool, true, false, ◌&&◌, List, length, map, nat_lt, if◌then◌else◌}
+use Rattle.std.specs.Prelude.{◌≡◌, ◌≢◌, ℕ, ◌%◌, ◌==◌, Bool, true, false, ◌&&◌, List, length, nat_lt, if◌then◌else◌}
 use Rattle.leak_index.specs.Readings.{distances_of}
 use Rattle.leak_streams.specs.declared.fault.WriteFault.{WriteFault}
 use Rattle.leak_streams.specs.declared.fault.ReadFault.{ReadFault}
@@ -14,7 +14,6 @@ use Rattle.leak_request.specs.Requests.{file_count}
 use Rattle.leak_search.specs.Search.{FindsOne}
 use Rattle.leak_search.specs.SearchTwo.{FindsTwo}
 use Rattle.leak_input.specs.Signs.{AreSigns}
-use Rattle.leak_report.specs.declared.signs.Signs.{Signs}
 use Rattle.leak_report.specs.Warnings.{warnings_of}
 use Rattle.leak_find.specs.Streams.{Source, Sink, IsTried}
 use Rattle.leak_find.specs.Inputs.{AreRead, IsReadFaultWithin, input_at}
@@ -44,15 +43,7 @@ pub record HasFound {R : Type 0} (source : Source R) (o : Options) (before after
   pub count : length inputs ≡ file_count o.two
   pub read : AreRead source (limit_at o) before after inputs
   pub finds : Finds o.two o inputs found
-  pub signs : AreSigns inputs found.signs.items
-
--- the signs that count: if the heap is another than glibc's, no misfit does
-abbrev pub signs_that_count : Bool → Signs → Signs
-signs_that_count other_heap s = record s { misfits = if other_heap then 0 else s.misfits }
-
--- the warnings of what was found
-abbrev pub warnings_by : Options → List Signs → List ℕ
-warnings_by o signs = warnings_of (map (signs_that_count o.other_heap) signs)
+  pub signs : AreSigns o.other_heap inputs found.signs.items
 
 -- 3 if a warning counts, else whether something leaked
 abbrev pub status_by : Bool → ℕ → List ℕ → ℕ
@@ -66,8 +57,8 @@ pub record Runs {R W V : Type 0} (source : Source R) (sink : Sink W) (warner : S
   pub found : Found
   pub has_found : HasFound source o before after found
   pub written : sink.whole found.report.items held holds
-  pub warned : IsTried warner (warnings_by o found.signs.items) heard hears
-  pub status_is : status ≡ status_by o.strict found.leaked (warnings_by o found.signs.items)
+  pub warned : IsTried warner (warnings_of found.signs.items) heard hears
+  pub status_is : status ≡ status_by o.strict found.leaked (warnings_of found.signs.items)
 
 -- a reader of cores and logs was not read to its end
 abbrev pub IsReadFault : {R : Type 0} → Source R → Options → List R → List R → ℕ → ReadFault → Type 0

@@ -3,6 +3,7 @@ use Rattle.std.specs.Prelude.{◌≡◌, ◌≢◌, ℕ, Bool, List, [], ◌∷�
 use Rattle.leak_index.specs.Readings.{distances_of}
 use Rattle.leak_streams.specs.declared.fault.WriteFault.{WriteFault}
 use Rattle.leak_request.specs.declared.options.Options.{Options}
+use Rattle.leak_report.specs.Warnings.{warnings_of}
 use Rattle.leak_input.specs.Signs.{AreSigns}
 use Rattle.leak_input.specs.declared.error.FindError.TheVariants.{NoMemory}
 use Rattle.leak_search.specs.declared.holding.Why.{Why}
@@ -13,7 +14,7 @@ use Rattle.leak_find.specs.declared.fault.RunFault.{RunFault}
 use Rattle.leak_find.specs.declared.fault.RunFault.TheVariants.{Read, Find, NoBlock, Write}
 use Rattle.leak_find.specs.Streams.{Source, Sink, IsTried}
 use Rattle.leak_find.specs.Inputs.{AreRead, input_at}
-use Rattle.leak_find.specs.Run.{IsReadFault, limit_at, status_by, warnings_by}
+use Rattle.leak_find.specs.Run.{IsReadFault, limit_at, status_by}
 
 -- both readers were read to their ends, and this is what holds the block of the address in what they held
 pub record HasTold {R : Type 0} (source : Source R) (o : Options) (address : ℕ) (before after : List R) (why : Why) : Type 0 where
@@ -22,7 +23,7 @@ pub record HasTold {R : Type 0} (source : Source R) (o : Options) (address : ℕ
   pub read : AreRead source (limit_at o) before after inputs
   pub tells : TellsWhy (input_at inputs 0) (input_at inputs 1)
       (distances_of o.reading) o.skip address why
-  pub signs : AreSigns (input_at inputs 0 ∷ input_at inputs 1 ∷ []) why.signs.items
+  pub signs : AreSigns o.other_heap (input_at inputs 0 ∷ input_at inputs 1 ∷ []) why.signs.items
 
 -- both readers were read to their ends, and what they held gives no answer for this reason
 pub record IsHoldingFault {R : Type 0} (source : Source R) (o : Options) (address : ℕ) (before after : List R) (e : WhyError) : Type 0 where
@@ -54,8 +55,8 @@ pub record RunsWhy {R W V : Type 0} (source : Source R) (sink : Sink W) (warner 
   pub why : Why
   pub has_told : HasTold source o address before after why
   pub written : sink.whole why.text.items held holds
-  pub warned : IsTried warner (warnings_by o why.signs.items) heard hears
-  pub status_is : status ≡ status_by o.strict (leaked_if_not why.held) (warnings_by o why.signs.items)
+  pub warned : IsTried warner (warnings_of why.signs.items) heard hears
+  pub status_is : status ≡ status_by o.strict (leaked_if_not why.held) (warnings_of why.signs.items)
 
 -- the answer was made, and was not written completely
 pub record IsWhyWriteFault {R W : Type 0} (source : Source R) (sink : Sink W) (o : Options) (address : ℕ) (before after : List R)

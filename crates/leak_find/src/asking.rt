@@ -5,7 +5,8 @@ ghost use Rattle.leak_find.specs.Streams.{by_bytes_held, by_bytes_left, by_reads
 ghost use Rattle.leak_find.specs.Why.{HasTold, IsAskFault, IsWhyRunFault, RunsWhy, at_asking, leaked_if_not};
 
 use crate::fault::RunFault;
-use crate::running::{read_reader, status_of, warnings_by, write_both};
+use crate::running::{read_reader, status_of, write_both};
+use leak_report::warnings;
 use leak_request::Options;
 use leak_search::{FindError, Why, WhyError, find_why};
 use leak_streams::{ReadCalls, WriteCalls};
@@ -29,7 +30,8 @@ fn ask<R: ReadCalls>(
 {
     let core = read_reader(alloc, readers, sizes, 0, options.core_limit)?;
     let log = read_reader(alloc, readers, sizes, 1, options.log_limit)?;
-    match find_why(alloc, &core, &log, options.reading, options.skip, address) {
+    let (reading, skip, other_heap) = (options.reading, options.skip, options.other_heap);
+    match find_why(alloc, &core, &log, reading, skip, other_heap, address) {
         Ok(why) => Ok(why),
         Err(error) => Err(at_asking(error)),
     }
@@ -93,7 +95,7 @@ pub fn run_why_sized<R: ReadCalls, W: WriteCalls, V: WriteCalls>(
     ensures silent { IfErr result (λ _. warner.new ≡ warner.old) }
 {
     let why = ask(alloc, readers, sizes, options, address)?;
-    let Ok(warnings) = warnings_by(alloc, options, why.signs.as_slice()) else {
+    let Ok(warnings) = warnings(alloc, why.signs.as_slice()) else {
         return Err(RunFault::Find(FindError::NoMemory));
     };
     if let Err(fault) = write_both(&why.text, warnings.as_str(), writer, warner) {

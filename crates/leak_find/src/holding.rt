@@ -12,9 +12,10 @@ ghost use Rattle.leak_find.specs.HeldInputs.{bytes_in};
 
 use crate::asking::at_asking;
 use crate::fault::RunFault;
-use crate::running::{read_reader, status_of, warnings_by, write_both};
+use crate::running::{read_reader, status_of, write_both};
 use leak_holders::Question;
 use leak_holding::{Files, Holding, Progress, find_held, find_holders};
+use leak_report::warnings;
 use leak_request::Options;
 use leak_search::{FindError, WhyError};
 use leak_streams::{ReadCalls, WriteCalls};
@@ -80,14 +81,17 @@ fn tell<T: Threads + Sync, P: Progress>(
     progress: &P,
 ) -> Result<Holding, WhyError>
     ensures ok { IfOk result (Tells question options.now files.now.core.now files.now.log.now (earlier files.now.since)) }
-    ensures signs { IfOk result (λ holding. AreSigns (files.now.core.now ∷ files.now.log.now ∷ []) holding.signs.items) }
+    ensures signs { IfOk result (λ holding. AreSigns options.now.other_heap (files.now.core.now ∷ files.now.log.now ∷ []) holding.signs.items) }
     ensures refused { IfErr result (λ e. e ≢ Refused NoMemory
         → IsNotTold question files.now.core.now files.now.log.now (earlier files.now.since) e) }
 {
     let (reading, skip, plan) = (options.reading, options.skip, options.plan);
+    let heap = options.other_heap;
     match question {
-        Some(question) => find_held(rt, alloc, files, question, reading, skip, plan, progress),
-        None => match find_holders(rt, alloc, files, reading, skip, plan, progress) {
+        Some(question) => find_held(
+            rt, alloc, files, question, reading, skip, heap, plan, progress,
+        ),
+        None => match find_holders(rt, alloc, files, reading, skip, heap, plan, progress) {
             Ok(holding) => Ok(holding),
             Err(error) => Err(WhyError::Find(error)),
         },
@@ -154,7 +158,7 @@ pub fn run_holders_sized<
     ensures silent { IfErr result (λ _. warner.new ≡ warner.old) }
 {
     let holding = hold(rt, alloc, readers, sizes, options, question, progress)?;
-    let Ok(warnings) = warnings_by(alloc, options, holding.signs.as_slice()) else {
+    let Ok(warnings) = warnings(alloc, holding.signs.as_slice()) else {
         return Err(RunFault::Find(FindError::NoMemory));
     };
     if let Err(fault) = write_both(&holding.report, warnings.as_str(), writer, warner) {

@@ -5,15 +5,15 @@ ghost use Rattle.leak_streams.specs.Writes.{IsCutOff, IsWrittenWhole};
 ghost use Rattle.leak_request.specs.Requests.{file_count};
 ghost use Rattle.leak_find.specs.Streams.{IsTried, by_bytes_held, by_bytes_left, by_reads, by_writes};
 ghost use Rattle.leak_find.specs.Inputs.{IsReadAt, IsReaderFault};
-ghost use Rattle.leak_find.specs.Run.{signs_that_count, status_by, warnings_by, HasFound, IsSearchFault, Runs, IsRunFault};
+ghost use Rattle.leak_find.specs.Run.{status_by, HasFound, IsSearchFault, Runs, IsRunFault};
 
 use crate::fault::RunFault;
 use leak_pool::Open;
-use leak_report::{Signs, warnings};
+use leak_report::warnings;
 use leak_request::Options;
 use leak_search::{FindError, Found, find_one, find_two};
 use leak_streams::{ReadCalls, WriteCalls, WriteFault, read_sized, write};
-use std::alloc::{AllocError, Global};
+use std::alloc::Global;
 use std::io::{Read, Write};
 use std::thread::Threads;
 
@@ -66,6 +66,7 @@ fn search_one<T: Threads + Sync, R: ReadCalls>(
         options.reading,
         options.skip,
         options.check,
+        options.other_heap,
         options.plan,
         &Open,
     ) {
@@ -103,6 +104,7 @@ fn search_two<T: Threads + Sync, R: ReadCalls>(
         options.reading,
         options.skip,
         options.check,
+        options.other_heap,
         options.plan,
         &Open,
     ) {
@@ -130,31 +132,6 @@ fn search<T: Threads + Sync, R: ReadCalls>(
     } else {
         search_one(rt, alloc, readers, sizes, options)
     }
-}
-
-/// The signs that count by the options.
-fn heeded(alloc: Global, other_heap: bool, signs: &[Signs]) -> Result<Vec<Signs>, AllocError>
-    ensures { IfOk result (λ heeded. heeded.items ≡ map (signs_that_count other_heap) signs.now) }
-{
-    // Not collected: that could go on after its first request for room was refused.
-    let mut heeded = Vec::with_capacity(alloc, signs.len())?;
-    for input in signs {
-        let misfits = if other_heap { 0 } else { input.misfits };
-        heeded.push(Signs { misfits, ..*input })?;
-    }
-    Ok(heeded)
-}
-
-/// The warnings of a search that found these signs.
-pub(crate) fn warnings_by(
-    alloc: Global,
-    options: &Options,
-    signs: &[Signs],
-) -> Result<String, AllocError>
-    ensures { IfOk result (λ out. string_bytes out ≡ warnings_by options.now signs.now) }
-{
-    let heeded = heeded(alloc, options.other_heap, signs)?;
-    warnings(alloc, heeded.as_slice())
 }
 
 /// The exit status of a search that succeeded.
@@ -238,7 +215,7 @@ pub fn run_sized<T: Threads + Sync, R: ReadCalls, W: WriteCalls, V: WriteCalls>(
     ensures silent { IfErr result (λ _. warner.new ≡ warner.old) }
 {
     let found = search(rt, alloc, readers, sizes, options)?;
-    let Ok(warnings) = warnings_by(alloc, options, found.signs.as_slice()) else {
+    let Ok(warnings) = warnings(alloc, found.signs.as_slice()) else {
         return Err(RunFault::Find(FindError::NoMemory));
     };
     if let Err(fault) = write_both(&found.report, warnings.as_str(), writer, warner) {

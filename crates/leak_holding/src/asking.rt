@@ -29,7 +29,8 @@ use std::thread::Threads;
 /// Searches a core and its log, and answers a question about the live block of an address, or about all blocks of its text.
 ///
 /// What these hold are the blocks that no chain of words reaches without passing one of them, by the texts of their callers. Who holds them
-/// are the other texts without whose blocks no chain reaches one of them. The answer doesn't depend on the plan, on the progress, or on how
+/// are the other texts without whose blocks no chain reaches one of them. `other_heap` is as of
+/// [`find_holders`](crate::find_holders). The answer doesn't depend on the plan, on the progress, or on how
 /// the workers meet.
 ///
 /// # Errors
@@ -42,13 +43,14 @@ pub fn find_held<R: Threads + Sync, P: Progress>(
     question: Question,
     reading: Reading,
     skip: Skip,
+    other_heap: bool,
     plan: Plan,
     progress: &P,
 ) -> Result<Holding, WhyError>
     ensures ok { IfOk result (FindsHeld files.now.core.now files.now.log.now
         (earlier files.now.since) (distances_of reading) skip question) }
     ensures signs { IfOk result (λ found.
-        AreSigns (files.now.core.now ∷ files.now.log.now ∷ []) found.signs.items) }
+        AreSigns other_heap (files.now.core.now ∷ files.now.log.now ∷ []) found.signs.items) }
     ensures refused { IfErr result (λ e. e ≢ Find NoMemory → IsHeldFault files.now.core.now
         files.now.log.now (earlier files.now.since) question.address e) }
 {
@@ -56,7 +58,7 @@ pub fn find_held<R: Threads + Sync, P: Progress>(
     if !is_continued(files) {
         return Err(WhyError::Find(FindError::NotPrefix));
     }
-    let oddities = oddities_of_one(alloc, &input, false)?;
+    let oddities = oddities_of_one(alloc, &input, false, other_heap)?;
     let ground = ground_of(alloc, &input, reading)?;
     let crew = Crew::new(rt, plan.workers(), progress);
     let scene = scene_of(rt, alloc, &input, &ground, files, crew.workers)?;

@@ -32,7 +32,8 @@ pub struct Holding {
 /// Searches a core and its log, and tells which texts of callers hold the blocks that chains of words reach.
 ///
 /// `reading` says which words lead to a block. What each block leads to is listed once, and then marked over: once for all blocks, and once
-/// for each 64 texts. The progress is told of these. The report doesn't depend on the plan, on the progress, or on how the workers meet.
+/// for each 64 texts. The progress is told of these. `other_heap` says that the heap is another than glibc's, so no misfit is a sign.
+/// The report doesn't depend on the plan, on the progress, or on how the workers meet.
 ///
 /// # Errors
 ///
@@ -44,13 +45,14 @@ pub fn find_holders<R: Threads + Sync, P: Progress>(
     files: &Files,
     reading: Reading,
     skip: Skip,
+    other_heap: bool,
     plan: Plan,
     progress: &P,
 ) -> Result<Holding, FindError>
     ensures ok { IfOk result (FindsHolders files.now.core.now files.now.log.now
         (earlier files.now.since) (distances_of reading) skip) }
     ensures signs { IfOk result (λ found.
-        AreSigns (files.now.core.now ∷ files.now.log.now ∷ []) found.signs.items) }
+        AreSigns other_heap (files.now.core.now ∷ files.now.log.now ∷ []) found.signs.items) }
     ensures refused { IfErr result (λ e. e ≢ FindError.NoMemory
         → IsFaultOfHolders files.now.core.now files.now.log.now (earlier files.now.since) e) }
 {
@@ -58,7 +60,7 @@ pub fn find_holders<R: Threads + Sync, P: Progress>(
     if !is_continued(files) {
         return Err(FindError::NotPrefix);
     }
-    let oddities = oddities_of_one(alloc, &input, false)?;
+    let oddities = oddities_of_one(alloc, &input, false, other_heap)?;
     let ground = ground_of(alloc, &input, reading)?;
     let crew = Crew::new(rt, plan.workers(), progress);
     let scene = scene_of(rt, alloc, &input, &ground, files, crew.workers)?;

@@ -23,7 +23,7 @@
 //! let log = b"@ ./a.out:[0x401136] + 0x10100 0x20\n";
 //! let files = Files { core: &core, log, since: None };
 //! let plan = Plan::new(4, 1024, 256)?;
-//! let found = find_holders(rt, alloc, &files, Reading::interior(), Skip::usual(), plan, &Silent)?;
+//! let found = find_holders(rt, alloc, &files, Reading::interior(), Skip::usual(), false, plan, &Silent)?;
 //! // Its last line is 'holder 1 32 1 32 0 0x10100 ./a.out:[0x401136]'
 //! ```
 //!

@@ -8,24 +8,28 @@ use Rattle.leak_fit.specs.Fit.{fits_of}
 use Rattle.leak_report.specs.declared.signs.Signs.{Signs}
 use Rattle.leak_input.specs.declared.inputs.Input.{Input}
 
+-- how many blocks are counted as misfits: if the heap is another than glibc's, none
+abbrev pub misfits_counted : Bool → List Bool → ℕ
+misfits_counted other_heap fits = if other_heap then 0 else count_by not fits
+
 -- those of a core and a log that has these lines: its misfits are the live blocks that don't fit the core
-abbrev pub signs_of : List ℕ → List ℕ → List Line → Signs
-signs_of core log lines = record {
+abbrev pub signs_of : Bool → List ℕ → List ℕ → List Line → Signs
+signs_of other_heap core log lines = record {
   live = length (live_of lines);
   torn = torn_of log;
   unknown = (replay_of lines).unknown;
   displaced = (replay_of lines).displaced;
-  misfits = count_by not (fits_of (word_of core) (live_of lines));
+  misfits = misfits_counted other_heap (fits_of (word_of core) (live_of lines));
 }
 
 -- the same for an input that was read
-abbrev pub signs_with : Input → Signs
-signs_with input = record {
+abbrev pub signs_with : Bool → Input → Signs
+signs_with other_heap input = record {
   live = length input.live.blocks;
   torn = input.torn;
   unknown = input.live.unknown;
   displaced = input.live.displaced;
-  misfits = count_by not (fits_of (word_of input.image) input.live.blocks);
+  misfits = misfits_counted other_heap (fits_of (word_of input.image) input.live.blocks);
 }
 
 -- for each live block of the lines, whether it fits the core, if a report is to tell the misfits
@@ -37,9 +41,9 @@ abbrev pub fits_with : Bool → Input → Option (List Bool)
 fits_with check input = if check then Some (fits_of (word_of input.image) input.live.blocks) else None
 
 -- of cores and logs that take turns, the signs of each core and its log, in order
-abbrev pub AreSigns : List (List ℕ) → List Signs → Type 0
-AreSigns [] signs = signs ≡ []
-AreSigns (core ∷ []) signs = ⊥
-AreSigns (core ∷ log ∷ inputs) [] = ⊥
-AreSigns (core ∷ log ∷ inputs) (s ∷ signs) =
-    ((lines : List Line) × IsLog log lines × (s ≡ signs_of core log lines)) × AreSigns inputs signs
+abbrev pub AreSigns : Bool → List (List ℕ) → List Signs → Type 0
+AreSigns other_heap [] signs = signs ≡ []
+AreSigns other_heap (core ∷ []) signs = ⊥
+AreSigns other_heap (core ∷ log ∷ inputs) [] = ⊥
+AreSigns other_heap (core ∷ log ∷ inputs) (s ∷ signs) =
+    ((lines : List Line) × IsLog log lines × (s ≡ signs_of other_heap core log lines)) × AreSigns other_heap inputs signs

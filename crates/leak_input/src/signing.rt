@@ -3,7 +3,7 @@
 ghost use Rattle.std.specs.Prelude.{◌≡◌, ◌++◌, [], ◌∷◌, IfOk, option_map};
 ghost use Rattle.leak_elf.specs.Words.{word_of};
 ghost use Rattle.leak_fit.specs.Fit.{fits_of};
-ghost use Rattle.leak_input.specs.Signs.{signs_with, fits_with};
+ghost use Rattle.leak_input.specs.Signs.{signs_with, fits_with, misfits_counted};
 
 use crate::inputs::Input;
 use leak_fit::{count_misfits, fits};
@@ -19,52 +19,94 @@ pub struct Oddities {
     pub fits: Option<Vec<bool>>,
 }
 
-/// Adds the signs that the input's core and log don't belong together. Returns which of its live blocks fit.
-fn add_signs(alloc: Global, signs: &mut Vec<Signs>, input: &Input) -> Result<Vec<bool>, AllocError>
-    ensures signs { IfOk result (λ _.
-        signs.new.items ≡ signs.old.items ++ signs_with input.now ∷ []) }
-    ensures fits { IfOk result (λ fits. fits.items ≡
-        fits_of (word_of input.now.image) input.now.live.blocks) }
+/// What was asked of the input's live blocks.
+#[derive(Drop)]
+struct Asked {
+    /// How many of them are counted as misfits.
+    misfits: u64,
+    /// Which of them fit, if that is kept.
+    fits: Option<Vec<bool>>,
+}
+
+/// Asks which of the input's live blocks fit, unless nobody wants to know: in another heap than glibc's no block counts as a misfit.
+fn ask(alloc: Global, input: &Input, check: bool, other_heap: bool) -> Result<Asked, AllocError>
+    ensures misfits { IfOk result (λ asked. asked.misfits ≡ misfits_counted other_heap
+        (fits_of (word_of input.now.image) input.now.live.blocks)) }
+    ensures fits { IfOk result (λ asked.
+        option_map (λ v. v.items) asked.fits ≡ fits_with check input.now) }
 {
+    if other_heap && !check {
+        return Ok(Asked {
+            misfits: 0,
+            fits: None,
+        });
+    }
     let fits = fits(alloc, &input.image, &input.live)?;
+    let misfits = if other_heap {
+        0
+    } else {
+        count_misfits(fits.as_slice())
+    };
+    let fits = if check { Some(fits) } else { None };
+    Ok(Asked { misfits, fits })
+}
+
+/// Adds the signs that the input's core and log don't belong together. Returns which of its live blocks fit, if that is to be kept.
+fn add_signs(
+    alloc: Global,
+    signs: &mut Vec<Signs>,
+    input: &Input,
+    check: bool,
+    other_heap: bool,
+) -> Result<Option<Vec<bool>>, AllocError>
+    ensures signs { IfOk result (λ _.
+        signs.new.items ≡ signs.old.items ++ signs_with other_heap input.now ∷ []) }
+    ensures fits { IfOk result (λ fits.
+        option_map (λ v. v.items) fits ≡ fits_with check input.now) }
+{
+    let Asked { misfits, fits } = ask(alloc, input, check, other_heap)?;
     signs.push(Signs {
         live: input.live.blocks().len() as u64,
         torn: input.torn,
         unknown: input.live.unknown(),
         displaced: input.live.displaced(),
-        misfits: count_misfits(fits.as_slice()),
+        misfits,
     })?;
     Ok(fits)
 }
 
-/// What is odd about one input. Which of its blocks fit is kept if that is asked for.
-pub fn oddities_of_one(alloc: Global, input: &Input, check: bool) -> Result<Oddities, AllocError>
-    ensures signs { IfOk result (λ odd. odd.signs.items ≡ signs_with input.now ∷ []) }
+/// What is odd about one input. Which of its blocks fit is kept if `check` is set. `other_heap` says that the heap is another
+/// than glibc's, so no block counts as a misfit.
+pub fn oddities_of_one(
+    alloc: Global,
+    input: &Input,
+    check: bool,
+    other_heap: bool,
+) -> Result<Oddities, AllocError>
+    ensures signs { IfOk result (λ odd. odd.signs.items ≡ signs_with other_heap input.now ∷ []) }
     ensures fits { IfOk result (λ odd.
         option_map (λ v. v.items) odd.fits ≡ fits_with check input.now) }
 {
     let mut signs = Vec::with_capacity(alloc, 1)?;
-    let fits = add_signs(alloc, &mut signs, input)?;
-    let fits = if check { Some(fits) } else { None };
+    let fits = add_signs(alloc, &mut signs, input, check, other_heap)?;
     Ok(Oddities { signs, fits })
 }
 
-/// What is odd about two inputs. Which blocks of the second fit is kept if that is asked for.
+/// What is odd about two inputs, as [`oddities_of_one`] tells it. Which blocks fit is kept of the second alone.
 pub fn oddities_of_two(
     alloc: Global,
     first: &Input,
     second: &Input,
     check: bool,
+    other_heap: bool,
 ) -> Result<Oddities, AllocError>
-    ensures signs { IfOk result (λ odd.
-        odd.signs.items ≡ signs_with first.now ∷ signs_with second.now ∷ []) }
+    ensures signs { IfOk result (λ odd. odd.signs.items
+        ≡ signs_with other_heap first.now ∷ signs_with other_heap second.now ∷ []) }
     ensures fits { IfOk result (λ odd.
         option_map (λ v. v.items) odd.fits ≡ fits_with check second.now) }
 {
     let mut signs = Vec::with_capacity(alloc, 2)?;
-    let earlier = add_signs(alloc, &mut signs, first)?;
-    drop(earlier); // only its signs are told
-    let fits = add_signs(alloc, &mut signs, second)?;
-    let fits = if check { Some(fits) } else { None };
+    let _unkept = add_signs(alloc, &mut signs, first, false, other_heap)?;
+    let fits = add_signs(alloc, &mut signs, second, check, other_heap)?;
     Ok(Oddities { signs, fits })
 }

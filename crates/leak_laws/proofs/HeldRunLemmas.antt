@@ -1,5 +1,5 @@
 -- A run that tells what is held, or what grew, is a function of its inputs.
-use Rattle.std.proofs.Common.{◌≡◌, ℕ, Bool, List, [], ◌∷◌, length, map, Option, None, Some, sym, ap, subst, ◌∙◌}
+use Rattle.std.proofs.Common.{◌≡◌, ℕ, Bool, List, [], ◌∷◌, length, Option, None, Some, sym, ap, subst, ◌∙◌}
 use Rattle.std.specs.Io.KnownBytes.{Appends}
 use Rattle.leak_index.specs.Leads.{Distances}
 use Rattle.leak_index.specs.Readings.{distances_of}
@@ -18,7 +18,7 @@ use Rattle.leak_holding.specs.Holders.{FindsHolders}
 use Rattle.leak_find.specs.Grow.{RunsGrow}
 use Rattle.leak_find.specs.Holders.{RunsHolders, Tells, earlier_in, limit_of_held}
 use Rattle.leak_find.specs.Inputs.{input_at}
-use Rattle.leak_find.specs.Run.{limit_at, signs_that_count, status_by, warnings_by}
+use Rattle.leak_find.specs.Run.{limit_at, status_by}
 use Rattle.leak_find.specs.Streams.{by_bytes_held, by_bytes_left}
 use Rattle.leak_find.specs.Why.{RunsWhy, leaked_if_not}
 use Rattle.leak_laws.specs.Runs.{AreAlike, AskAlike, HoldAlike}
@@ -52,15 +52,15 @@ holders_runs_are_one a b question before after readers left held holds heard hea
     let tells_too = subst (λ (is : List (List ℕ)). Tells question b (input_at is 0) (input_at is 1) (earlier_in is) g.holding) (sym inputs) g.has_held.tells in
     let report : f.holding.report.items ≡ g.holding.report.items =
     same_told question a b (input_at f.has_held.inputs 0) (input_at f.has_held.inputs 1) (earlier_in f.has_held.inputs) f.holding g.holding ask f.has_held.tells tells_too in
-    let signs_too = subst (λ (is : List (List ℕ)). AreSigns (input_at is 0 ∷ input_at is 1 ∷ []) g.holding.signs.items) (sym inputs) g.has_held.signs in
+    let signs_too = subst (λ (is : List (List ℕ)). AreSigns b.other_heap (input_at is 0 ∷ input_at is 1 ∷ []) g.holding.signs.items) (sym inputs) g.has_held.signs in
+    let signs_alike = subst (λ (heap : Bool). AreSigns heap (input_at f.has_held.inputs 0 ∷ input_at f.has_held.inputs 1 ∷ []) g.holding.signs.items) (sym ask.other_heap) signs_too in
     let signs : f.holding.signs.items ≡ g.holding.signs.items =
-    one_signs (input_at f.has_held.inputs 0 ∷ input_at f.has_held.inputs 1 ∷ []) f.holding.signs.items g.holding.signs.items f.has_held.signs signs_too in
+    one_signs a.other_heap (input_at f.has_held.inputs 0 ∷ input_at f.has_held.inputs 1 ∷ []) f.holding.signs.items g.holding.signs.items f.has_held.signs signs_alike in
     record {
       written = record { bytes = f.holding.report.items; first = f.written; second = subst (λ (bs : List ℕ). Appends other others bs) (sym report) g.written };
       status_same = f.status_is
-          ∙ ap (λ (ss : List Signs). status_by a.strict 0 (warnings_by a ss)) signs
-          ∙ ap (λ (heap : Bool). status_by a.strict 0 (warnings_of (map (signs_that_count heap) g.holding.signs.items))) ask.other_heap
-          ∙ ap (λ (s : Bool). status_by s 0 (warnings_by b g.holding.signs.items)) ask.strict
+          ∙ ap (λ (ss : List Signs). status_by a.strict 0 (warnings_of ss)) signs
+          ∙ ap (λ (s : Bool). status_by s 0 (warnings_of g.holding.signs.items)) ask.strict
           ∙ sym g.status_is;
     }
 
@@ -98,12 +98,12 @@ why_runs_are_one a b address before after readers left held holds heard hears ot
     let two = subst (λ (r : Distances). TellsWhy (input_at f.has_told.inputs 0) (input_at f.has_told.inputs 1) r b.skip address g.why) (sym ask.reading) one in
     let three = subst (λ (s : Skip). TellsWhy (input_at f.has_told.inputs 0) (input_at f.has_told.inputs 1) (distances_of a.reading) s address g.why) (sym ask.skip) two in
     let same_held = as_long (input_at f.has_told.inputs 0) (input_at f.has_told.inputs 1) (distances_of a.reading) a.skip address f.why g.why f.has_told.tells three in
-    let signs_too = subst (λ (is : List (List ℕ)). AreSigns (input_at is 0 ∷ input_at is 1 ∷ []) g.why.signs.items) (sym inputs) g.has_told.signs in
+    let signs_too = subst (λ (is : List (List ℕ)). AreSigns b.other_heap (input_at is 0 ∷ input_at is 1 ∷ []) g.why.signs.items) (sym inputs) g.has_told.signs in
+    let signs_alike = subst (λ (heap : Bool). AreSigns heap (input_at f.has_told.inputs 0 ∷ input_at f.has_told.inputs 1 ∷ []) g.why.signs.items) (sym ask.other_heap) signs_too in
     let signs : f.why.signs.items ≡ g.why.signs.items =
-    one_signs (input_at f.has_told.inputs 0 ∷ input_at f.has_told.inputs 1 ∷ []) f.why.signs.items g.why.signs.items f.has_told.signs signs_too in
+    one_signs a.other_heap (input_at f.has_told.inputs 0 ∷ input_at f.has_told.inputs 1 ∷ []) f.why.signs.items g.why.signs.items f.has_told.signs signs_alike in
     f.status_is
-    ∙ ap (λ (h : Bool). status_by a.strict (leaked_if_not h) (warnings_by a f.why.signs.items)) same_held.held
-    ∙ ap (λ (ss : List Signs). status_by a.strict (leaked_if_not g.why.held) (warnings_by a ss)) signs
-    ∙ ap (λ (heap : Bool). status_by a.strict (leaked_if_not g.why.held) (warnings_of (map (signs_that_count heap) g.why.signs.items))) ask.other_heap
-    ∙ ap (λ (s : Bool). status_by s (leaked_if_not g.why.held) (warnings_by b g.why.signs.items)) ask.strict
+    ∙ ap (λ (h : Bool). status_by a.strict (leaked_if_not h) (warnings_of f.why.signs.items)) same_held.held
+    ∙ ap (λ (ss : List Signs). status_by a.strict (leaked_if_not g.why.held) (warnings_of ss)) signs
+    ∙ ap (λ (s : Bool). status_by s (leaked_if_not g.why.held) (warnings_of g.why.signs.items)) ask.strict
     ∙ sym g.status_is

@@ -1,5 +1,5 @@
 -- A run reads its inputs completely, and its report and status are functions of these.
-use Rattle.std.proofs.Common.{◌≡◌, ℕ, zero, suc, ◌<◌, Bool, true, false, List, [], ◌∷◌, ◌++◌, length, map, Option, None, Some, refl, sym, ap, subst, ◌∙◌, arith, append-nil}
+use Rattle.std.proofs.Common.{◌≡◌, ℕ, zero, suc, ◌<◌, Bool, true, false, List, [], ◌∷◌, ◌++◌, length, Option, None, Some, refl, sym, ap, subst, ◌∙◌, arith, append-nil}
 use Rattle.std.specs.Prelude.{nat_lt, if◌then◌else◌}
 use Rattle.std.specs.Io.KnownBytes.{Appends, Consumes, IsAtEnd}
 use Rattle.leak_index.specs.Leads.{Distances}
@@ -14,7 +14,7 @@ use Rattle.leak_request.specs.Requests.{file_count}
 use Rattle.leak_search.specs.Search.{FindsOne}
 use Rattle.leak_search.specs.SearchTwo.{FindsTwo}
 use Rattle.leak_find.specs.Inputs.{AreRead, input_at}
-use Rattle.leak_find.specs.Run.{Finds, Runs, limit_at, signs_that_count, status_by, warnings_by}
+use Rattle.leak_find.specs.Run.{Finds, Runs, limit_at, status_by}
 use Rattle.leak_find.specs.Streams.{by_bytes_held, by_bytes_left}
 use Rattle.leak_laws.specs.OneLine.{AreOfOneLine}
 use Rattle.leak_laws.specs.Reports.{IsReport, told_by_one, told_by_two}
@@ -75,15 +75,15 @@ runs_are_one a b before after readers left held holds heard hears other others t
     let finds1 = subst (λ (two : Bool). Finds two b g.has_found.inputs g.found) (sym ask.two) g.has_found.finds in
     let finds2 = subst (λ (is : List (List ℕ)). Finds a.two b is g.found) (sym inputs) finds1 in
     let report = same_found a.two a b f.has_found.inputs f.found g.found ask f.has_found.finds finds2 in
-    let signs1 : AreSigns f.has_found.inputs g.found.signs.items = subst (λ (is : List (List ℕ)). AreSigns is g.found.signs.items) (sym inputs) g.has_found.signs in
-    let signs : f.found.signs.items ≡ g.found.signs.items = one_signs f.has_found.inputs f.found.signs.items g.found.signs.items f.has_found.signs signs1 in
+    let signs1 = subst (λ (heap : Bool). AreSigns heap g.has_found.inputs g.found.signs.items) (sym ask.other_heap) g.has_found.signs in
+    let signs2 = subst (λ (is : List (List ℕ)). AreSigns a.other_heap is g.found.signs.items) (sym inputs) signs1 in
+    let signs : f.found.signs.items ≡ g.found.signs.items = one_signs a.other_heap f.has_found.inputs f.found.signs.items g.found.signs.items f.has_found.signs signs2 in
     record {
       written = record { bytes = f.found.report.items; first = f.written; second = subst (λ (bs : List ℕ). Appends other others bs) (sym report.report) g.written };
       status_same = f.status_is
-          ∙ ap (λ (n : ℕ). status_by a.strict n (warnings_by a f.found.signs.items)) report.leaked
-          ∙ ap (λ (ss : List Signs). status_by a.strict g.found.leaked (warnings_by a ss)) signs
-          ∙ ap (λ (heap : Bool). status_by a.strict g.found.leaked (warnings_of (map (signs_that_count heap) g.found.signs.items))) ask.other_heap
-          ∙ ap (λ (s : Bool). status_by s g.found.leaked (warnings_by b g.found.signs.items)) ask.strict
+          ∙ ap (λ (n : ℕ). status_by a.strict n (warnings_of f.found.signs.items)) report.leaked
+          ∙ ap (λ (ss : List Signs). status_by a.strict g.found.leaked (warnings_of ss)) signs
+          ∙ ap (λ (s : Bool). status_by s g.found.leaked (warnings_of g.found.signs.items)) ask.strict
           ∙ sym g.status_is;
     }
 
@@ -112,7 +112,7 @@ runs_write_reports o before after held holds heard hears status f =
         together = told.1.together;
         of_lines = told.2;
         by_leaks = λ lax.
-            f.status_is ∙ ap (λ (s : Bool). status_by s f.found.leaked (warnings_by o f.found.signs.items)) lax
+            f.status_is ∙ ap (λ (s : Bool). status_by s f.found.leaked (warnings_of f.found.signs.items)) lax
             ∙ ap (λ (n : ℕ). if nat_lt 0 n then 1 else 0) told.1.leaked;
       },
     )

@@ -85,13 +85,13 @@ two_report core1 log1 core2 log2 reading skip check workers others a b f g =
 
 -- ---- signs
 
-pub one_signs : (inputs : List (List ℕ)) (a b : List Signs) → AreSigns inputs a → AreSigns inputs b → a ≡ b
-one_signs [] a b p q = p ∙ sym q
-one_signs (core ∷ []) a b p q = absurd p
-one_signs (core ∷ log ∷ inputs) [] b p q = absurd p
-one_signs (core ∷ log ∷ inputs) (s ∷ a) [] p q = absurd q
-one_signs (core ∷ log ∷ inputs) (s ∷ a) (t ∷ b) p q =
+pub one_signs : (heap : Bool) (inputs : List (List ℕ)) (a b : List Signs) → AreSigns heap inputs a → AreSigns heap inputs b → a ≡ b
+one_signs heap [] a b p q = p ∙ sym q
+one_signs heap (core ∷ []) a b p q = absurd p
+one_signs heap (core ∷ log ∷ inputs) [] b p q = absurd p
+one_signs heap (core ∷ log ∷ inputs) (s ∷ a) [] p q = absurd q
+one_signs heap (core ∷ log ∷ inputs) (s ∷ a) (t ∷ b) p q =
     let lines : p.0.0 ≡ q.0.0 = logs_are_one log p.0.0 q.0.0 p.0.1 q.0.1 in
-    let first : s ≡ t = p.0.2 ∙ ap (signs_of core log) lines ∙ sym q.0.2 in
-    let rest : a ≡ b = one_signs inputs a b p.1 q.1 in
+    let first : s ≡ t = p.0.2 ∙ ap (signs_of heap core log) lines ∙ sym q.0.2 in
+    let rest : a ≡ b = one_signs heap inputs a b p.1 q.1 in
     cc

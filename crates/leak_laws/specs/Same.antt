@@ -28,4 +28,4 @@ ReportsOfTwoAreOne =
 
 -- the signs of one core and its log, or of two
 abbrev pub SignsAreOne : Type 0
-SignsAreOne = (inputs : List (List ℕ)) (a b : List Signs) → AreSigns inputs a → AreSigns inputs b → a ≡ b
+SignsAreOne = (other_heap : Bool) (inputs : List (List ℕ)) (a b : List Signs) → AreSigns other_heap inputs a → AreSigns other_heap inputs b → a ≡ b

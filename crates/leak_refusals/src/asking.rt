@@ -71,7 +71,7 @@ fn holders_by<R: AllocGlobal + Threads + Sync>(
         log: HELD.as_bytes(),
         since,
     };
-    let answer = match find_holders(rt, rt.alloc(), &files, reading, skip, plan, &Silent) {
+    let answer = match find_holders(rt, rt.alloc(), &files, reading, skip, false, plan, &Silent) {
         Ok(found) => Answer::of(found.report.as_slice() == wanted.as_bytes()),
         Err(error) => Answer::of_refusal(error == FindError::NoMemory),
     };
@@ -118,6 +118,7 @@ fn held_by<R: AllocGlobal + Threads + Sync>(
         question,
         reading,
         skip,
+        false,
         plan,
         &Silent,
     ) {

@@ -69,6 +69,7 @@ pub(crate) fn alone(alloc: Global) -> Option<Answer> {
         Reading::interior(),
         Skip::usual(),
         false,
+        false,
     );
     Some(answer_of(found, LOST))
 }
@@ -82,6 +83,7 @@ pub(crate) fn vectors(alloc: Global) -> Option<Answer> {
         ONE_BLOCK.as_bytes(),
         Reading::interior(),
         Skip::usual(),
+        false,
         false,
     );
     Some(answer_of(found, HELD))
@@ -111,6 +113,7 @@ pub(crate) fn unfreed(alloc: Global) -> Option<Answer> {
             ..Skip::usual()
         },
         false,
+        false,
     );
     Some(answer_of(found, UNFREED))
 }
@@ -137,6 +140,7 @@ pub(crate) fn checked(alloc: Global) -> Option<Answer> {
         Reading::interior(),
         Skip::usual(),
         true,
+        false,
     );
     Some(answer_of(found, MISFIT))
 }
@@ -169,6 +173,7 @@ pub(crate) fn unlinked(alloc: Global) -> Option<Answer> {
             links: true,
             ..Skip::usual()
         },
+        false,
         false,
     );
     Some(answer_of(found, UNLINKED))
@@ -204,6 +209,7 @@ pub(crate) fn unslacked(alloc: Global) -> Option<Answer> {
             ..Skip::usual()
         },
         false,
+        false,
     );
     Some(answer_of(found, UNSLACKED))
 }
@@ -218,6 +224,7 @@ pub(crate) fn by_workers<R: AllocGlobal + Threads + Sync>(rt: &R) -> Option<Answ
         sample.log.as_bytes(),
         Reading::interior(),
         Skip::usual(),
+        false,
         false,
         Plan::new(3, 16, 4).ok()?,
         &Open,
@@ -245,6 +252,7 @@ pub(crate) fn two_cores<R: AllocGlobal + Threads + Sync>(rt: &R) -> Option<Answe
         MOVED.as_bytes(),
         Reading::interior(),
         Skip::usual(),
+        false,
         false,
         Plan::new(3, 16, 4).ok()?,
         &Open,
@@ -387,6 +395,7 @@ pub(crate) fn held_by(alloc: Global) -> Option<Answer> {
         HOLDING.as_bytes(),
         reading,
         Skip::usual(),
+        false,
         0x10200,
     ) {
         Ok(why) => Answer::of(why.held && why.text.as_slice() == ASKED.as_bytes()),

@@ -16,8 +16,8 @@ use std::alloc::Global;
 
 /// Searches a core and its log on the caller's thread, with one list of claims.
 ///
-/// `check` says whether the report lists the misfits. It gives what [`find_one`](crate::find_one) gives with one worker, and
-/// refuses what that refuses, in the same order.
+/// `check` says whether the report lists the misfits, and `other_heap` that the heap is another than glibc's. It gives what
+/// [`find_one`](crate::find_one) gives with one worker, and refuses what that refuses, in the same order.
 pub fn find_alone(
     alloc: Global,
     core: &[u8],
@@ -25,15 +25,16 @@ pub fn find_alone(
     reading: Reading,
     skip: Skip,
     check: bool,
+    other_heap: bool,
 ) -> Result<Found, FindError>
     ensures ok { IfOk result (FindsOne core.now log.now (distances_of reading) skip check 1) }
     ensures signs { IfOk result (λ found.
-        AreSigns (core.now ∷ log.now ∷ []) found.signs.items) }
+        AreSigns other_heap (core.now ∷ log.now ∷ []) found.signs.items) }
     ensures refused { IfErr result (λ e. e ≢ FindError.NoMemory
         → IsFaultOfOne core.now log.now e) }
 {
     let input = read_input(alloc, 1, skip, core, log)?;
-    let oddities = oddities_of_one(alloc, &input, check)?;
+    let oddities = oddities_of_one(alloc, &input, check, other_heap)?;
     let roots = find_roots(alloc, &input)?;
     let lookup = Sorted::new(&input.live, reading);
     let marked = mark_alone(alloc, &input.image, &lookup, &roots, &input.live)?;

@@ -55,16 +55,18 @@ impl From<AllocError> for WhyError {
 }
 
 /// Tells the shortest chain of words that holds the live block of the address, or that it leaked, on the caller's thread.
+/// `other_heap` says that the heap is another than glibc's, so no misfit is a sign.
 pub fn find_why(
     alloc: Global,
     core: &[u8],
     log: &[u8],
     reading: Reading,
     skip: Skip,
+    other_heap: bool,
     address: u64,
 ) -> Result<Why, WhyError>
     ensures ok { IfOk result (TellsWhy core.now log.now (distances_of reading) skip address) }
-    ensures signs { IfOk result (λ why. AreSigns (core.now ∷ log.now ∷ []) why.signs.items) }
+    ensures signs { IfOk result (λ why. AreSigns other_heap (core.now ∷ log.now ∷ []) why.signs.items) }
     ensures refused { IfErr result
         (λ e. e ≢ Find NoMemory → IsWhyFault core.now log.now address e) }
 {
@@ -72,7 +74,7 @@ pub fn find_why(
     let Some(block) = block_at(&input.live, address) else {
         return Err(WhyError::NoBlock(address));
     };
-    let oddities = oddities_of_one(alloc, &input, false)?;
+    let oddities = oddities_of_one(alloc, &input, false, other_heap)?;
     let roots = find_roots(alloc, &input)?;
     let lookup = Sorted::new(&input.live, reading);
     let chain = why(alloc, &input.image, &lookup, &roots, &input.live, block)?;

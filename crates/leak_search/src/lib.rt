@@ -19,7 +19,7 @@
 //!
 //! let core = core_k(alloc, &[])?;
 //! let log = b"@ ./a.out:[0x401136] + 0x10100 0x20\n";
-//! let found = find_alone(alloc, &core, log, Reading::interior(), Skip::usual(), false)?;
+//! let found = find_alone(alloc, &core, log, Reading::interior(), Skip::usual(), false, false)?;
 //! assert_eq!(rt; found.leaked, 1);
 //! ```
 //!

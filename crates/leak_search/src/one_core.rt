@@ -18,7 +18,8 @@ use std::alloc::Global;
 /// Searches a core and its log by the workers of the plan.
 ///
 /// `core` holds the bytes of an ELF64 core of x86-64 Linux, and `log` those of a log of the same process in mtrace(3)'s format.
-/// `reading` says which words lead to a block, and `check` whether the report lists the misfits. The report, the leaked
+/// `reading` says which words lead to a block, and `check` whether the report lists the misfits. `other_heap` says that the heap is
+/// another than glibc's: no misfit is a sign then, and without `check` no block is asked whether it is one. The report, the leaked
 /// blocks and which blocks are claimed don't depend on the plan, on the gate, or on how the workers meet; the worker by which a
 /// block is claimed does. There is one list of claims for each worker, even if it is empty.
 ///
@@ -34,18 +35,19 @@ pub fn find_one<R: std::thread::Threads + Sync, G: Gate + Sync>(
     reading: Reading,
     skip: Skip,
     check: bool,
+    other_heap: bool,
     plan: Plan,
     gate: &G,
 ) -> Result<Found, FindError>
     ensures ok { IfOk result
         (FindsOne core.now log.now (distances_of reading) skip check plan.workers) }
     ensures signs { IfOk result (λ found.
-        AreSigns (core.now ∷ log.now ∷ []) found.signs.items) }
+        AreSigns other_heap (core.now ∷ log.now ∷ []) found.signs.items) }
     ensures refused { IfErr result (λ e. e ≢ FindError.NoMemory
         → IsFaultOfOne core.now log.now e) }
 {
     let input = read_input(alloc, 1, skip, core, log)?;
-    let oddities = oddities_of_one(alloc, &input, check)?;
+    let oddities = oddities_of_one(alloc, &input, check, other_heap)?;
     let ground = ground_of(alloc, &input, reading)?;
     let workers = Workers { rt, plan, gate };
     let marked = mark_input(&workers, alloc, &input, &ground)?;

@@ -152,7 +152,8 @@ fn numbers_of(input: &Input, carry: &Carry, reread: u64) -> Two
 /// The first log has to begin the second, up to its own last line feed. Marked in the second core are the blocks that
 /// were marked in the first core and are still live, those allocated since, and what chains lead to from these and from
 /// the roots (after Boehm, Demers and Shenker, PLDI 1991; that new blocks count is own rule). The report is that of the
-/// second core and its log, whose misfits it lists if `check` is set, and the claims are of the marking there.
+/// second core and its log, whose misfits it lists if `check` is set, and the claims are of the marking there. `other_heap` says that the heap is another
+/// than glibc's, as of [`find_one`](crate::find_one).
 ///
 /// # Errors
 ///
@@ -168,13 +169,14 @@ pub fn find_two<R: Threads + Sync, G: Gate + Sync>(
     reading: Reading,
     skip: Skip,
     check: bool,
+    other_heap: bool,
     plan: Plan,
     gate: &G,
 ) -> Result<Found, FindError>
     ensures ok { IfOk result (FindsTwo core1.now log1.now core2.now log2.now
         (distances_of reading) skip check plan.workers) }
     ensures signs { IfOk result (λ found.
-        AreSigns (core1.now ∷ log1.now ∷ core2.now ∷ log2.now ∷ []) found.signs.items) }
+        AreSigns other_heap (core1.now ∷ log1.now ∷ core2.now ∷ log2.now ∷ []) found.signs.items) }
     ensures refused { IfErr result (λ e. e ≢ FindError.NoMemory
         → IsFaultOfTwo core1.now log1.now core2.now log2.now e) }
 {
@@ -183,7 +185,7 @@ pub fn find_two<R: Threads + Sync, G: Gate + Sync>(
     let workers = Workers { rt, plan, gate };
     let inputs = read_two(alloc, skip, core1, log1, core2, log2)?;
     let between = compare(&workers, alloc, &inputs, reading)?;
-    let oddities = oddities_of_two(alloc, &inputs.first, &inputs.second, check)?;
+    let oddities = oddities_of_two(alloc, &inputs.first, &inputs.second, check, other_heap)?;
     let Inputs { first, second } = inputs;
     drop(first); // no more is asked of it
     let ground = ground_of(alloc, &second, reading)?;

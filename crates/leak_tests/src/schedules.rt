@@ -71,6 +71,7 @@ fn either_of_two_workers_may_begin(rt: HostRuntime) -> Result<(), Fail> {
             Reading::interior(),
             Skip::usual(),
             false,
+            false,
             plan,
             &gate,
         )?;
@@ -104,6 +105,7 @@ fn either_of_two_workers_may_begin_in_two_cores(rt: HostRuntime) -> Result<(), F
             log,
             reading,
             Skip::usual(),
+            false,
             false,
             plan,
             &gate,
@@ -175,6 +177,7 @@ fn two_workers_mark_the_later_core_at_the_same_time(rt: HostRuntime) -> Result<(
         log,
         Reading::interior(),
         Skip::usual(),
+        false,
         false,
         Plan::new(2, 1, 0)?,
         &gate,

@@ -15,7 +15,15 @@ use std::thread::Threads;
 
 /// What the caller's thread finds in a core and its log.
 pub fn alone(alloc: Global, core: &[u8], log: &[u8]) -> Result<Found, FindError> {
-    find_alone(alloc, core, log, Reading::interior(), Skip::usual(), false)
+    find_alone(
+        alloc,
+        core,
+        log,
+        Reading::interior(),
+        Skip::usual(),
+        false,
+        false,
+    )
 }
 
 /// What the workers of the plan find in a core and its log.
@@ -33,6 +41,7 @@ pub fn by_plan<R: Threads + Sync>(
         log,
         Reading::interior(),
         Skip::usual(),
+        false,
         false,
         plan,
         &Open,
@@ -58,6 +67,7 @@ pub fn of_two<R: Threads + Sync>(
         log2,
         Reading::interior(),
         Skip::usual(),
+        false,
         false,
         plan,
         &Open,

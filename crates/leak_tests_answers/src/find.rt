@@ -152,6 +152,7 @@ fn the_example_of_the_front_page(rt: HostRuntime) -> Result<(), Fail> {
         Reading::interior(),
         Skip::usual(),
         false,
+        false,
     )?;
     same(&rt, found.leaked, 1);
     Ok(())

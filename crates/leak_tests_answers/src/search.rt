@@ -12,7 +12,15 @@ fn the_example_of_the_front_page(rt: HostRuntime) -> Result<(), Fail> {
     let alloc = rt.alloc();
     let core = core_k(alloc, &[])?;
     let log = b"@ ./a.out:[0x401136] + 0x10100 0x20\n";
-    let found = find_alone(alloc, &core, log, Reading::interior(), Skip::usual(), false)?;
+    let found = find_alone(
+        alloc,
+        &core,
+        log,
+        Reading::interior(),
+        Skip::usual(),
+        false,
+        false,
+    )?;
     same(&rt, found.leaked, 1);
     Ok(())
 }

@@ -1,7 +1,8 @@
 -- From what the calls promise.
 use Rattle.std.proofs.Common.{◌≡◌, ℕ, List, ap, subst, ◌∙◌}
 use Rattle.leak_streams.specs.Writes.{IsWrittenWhole, IsCutOff}
-use Rattle.leak_find.specs.Run.{status_by, warnings_by}
+use Rattle.leak_report.specs.Warnings.{warnings_of}
+use Rattle.leak_find.specs.Run.{status_by}
 use Rattle.leak_find.specs.Streams.{IsTried, by_writes}
 use Rattle.leak_find.specs.Why.{leaked_if_not}
 use Rattle.leak_find.proofs.asking.run_why_sized.Goals as goal
@@ -15,8 +16,8 @@ returns-in-Err-clause-refused g c = record {
 
 pub returns-clause-ok : goal.returns-clause-ok
 returns-clause-ok g c =
-    let shown : c.as_str.result.now ≡ warnings_by c.args.options.now c.in_ok-why.why.signs.items = c.as_str.ensures.value ∙ c.in-Ok.ensures ∙ ap (λ ss. warnings_by c.args.options.now ss) c.as_slice.ensures.value in
-    let again : c.as_str-2.result.now ≡ warnings_by c.args.options.now c.in_ok-why.why.signs.items = c.as_str-2.ensures.value ∙ c.in-Ok.ensures ∙ ap (λ ss. warnings_by c.args.options.now ss) c.as_slice.ensures.value in
+    let shown : c.as_str.result.now ≡ warnings_of c.in_ok-why.why.signs.items = c.as_str.ensures.value ∙ c.in-Ok.ensures ∙ ap (λ ss. warnings_of ss) c.as_slice.ensures.value in
+    let again : c.as_str-2.result.now ≡ warnings_of c.in_ok-why.why.signs.items = c.as_str-2.ensures.value ∙ c.in-Ok.ensures ∙ ap (λ ss. warnings_of ss) c.as_slice.ensures.value in
     record {
       why = c.in_ok-why.why;
       has_told = c.in_ok-why.ensures.ok;

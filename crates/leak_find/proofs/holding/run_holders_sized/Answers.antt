@@ -1,7 +1,8 @@
 -- From what the calls promise.
 use Rattle.std.proofs.Common.{◌≡◌, ℕ, List, ap, subst, ◌∙◌}
 use Rattle.leak_streams.specs.Writes.{IsWrittenWhole, IsCutOff}
-use Rattle.leak_find.specs.Run.{status_by, warnings_by}
+use Rattle.leak_report.specs.Warnings.{warnings_of}
+use Rattle.leak_find.specs.Run.{status_by}
 use Rattle.leak_find.specs.Streams.{IsTried, by_writes}
 use Rattle.leak_find.proofs.holding.run_holders_sized.Goals as goal
 
@@ -14,8 +15,8 @@ returns-in-Err-clause-refused g c = record {
 
 pub returns-clause-ok : goal.returns-clause-ok
 returns-clause-ok g c =
-    let shown : c.as_str.result.now ≡ warnings_by c.args.options.now c.in_ok-holding.holding.signs.items = c.as_str.ensures.value ∙ c.in-Ok.ensures ∙ ap (λ ss. warnings_by c.args.options.now ss) c.as_slice.ensures.value in
-    let again : c.as_str-2.result.now ≡ warnings_by c.args.options.now c.in_ok-holding.holding.signs.items = c.as_str-2.ensures.value ∙ c.in-Ok.ensures ∙ ap (λ ss. warnings_by c.args.options.now ss) c.as_slice.ensures.value in
+    let shown : c.as_str.result.now ≡ warnings_of c.in_ok-holding.holding.signs.items = c.as_str.ensures.value ∙ c.in-Ok.ensures ∙ ap (λ ss. warnings_of ss) c.as_slice.ensures.value in
+    let again : c.as_str-2.result.now ≡ warnings_of c.in_ok-holding.holding.signs.items = c.as_str-2.ensures.value ∙ c.in-Ok.ensures ∙ ap (λ ss. warnings_of ss) c.as_slice.ensures.value in
     record {
       holding = c.in_ok-holding.holding;
       has_held = c.in_ok-holding.ensures.ok;

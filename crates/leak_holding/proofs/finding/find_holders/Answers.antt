@@ -65,7 +65,7 @@ returns-clause-ok g c =
 
 pub returns-clause-signs : goal.returns-clause-signs
 returns-clause-signs g c =
-    are_of_one c.args.files.now.core.now c.args.files.now.log.now c.in_ok-input.input c.in_ok-oddities.oddities.signs.items c.in_ok-input.ensures.ok c.in_ok-oddities.ensures.signs
+    are_of_one c.args.other_heap c.args.files.now.core.now c.args.files.now.log.now c.in_ok-input.input c.in_ok-oddities.oddities.signs.items c.in_ok-input.ensures.ok c.in_ok-oddities.ensures.signs
 
 pub returns-in_err-report-clause-refused : goal.returns-in_err-report-clause-refused
 returns-in_err-report-clause-refused g c =

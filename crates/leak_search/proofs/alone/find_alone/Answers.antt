@@ -26,6 +26,6 @@ returns-clause-ok c = ok_by _ _ (λ found is.
     (at_ok _ _ found is c.report_of.ensures.report) (at_ok _ _ found is c.report_of.ensures.leaked) (at_ok _ _ found is c.report_of.ensures.claims))
 
 pub returns-clause-signs : goal.returns-clause-signs
-returns-clause-signs c = ok_by (λ (found : Found). AreSigns (c.args.core.now ∷ c.args.log.now ∷ []) found.signs.items) c.report_of.result (λ found is.
-    are_of_one c.args.core.now c.args.log.now c.in_ok-input.input found.signs.items c.in_ok-input.ensures.ok
+returns-clause-signs c = ok_by (λ (found : Found). AreSigns c.args.other_heap (c.args.core.now ∷ c.args.log.now ∷ []) found.signs.items) c.report_of.result (λ found is.
+    are_of_one c.args.other_heap c.args.core.now c.args.log.now c.in_ok-input.input found.signs.items c.in_ok-input.ensures.ok
     (at_ok (λ (f : Found). f.signs.items ≡ c.in_ok-oddities.oddities.signs.items) c.report_of.result found is c.report_of.ensures.signs ∙ c.in_ok-oddities.ensures.signs))

@@ -22,4 +22,4 @@ returns-clause-ok c =
     c.is_some.ensures
 
 pub returns-clause-signs : goal.returns-clause-signs
-returns-clause-signs c = are_of_one c.args.core.now c.args.log.now c.in_ok-input.input _ c.in_ok-input.ensures.ok c.in_ok-oddities.ensures.signs
+returns-clause-signs c = are_of_one c.args.other_heap c.args.core.now c.args.log.now c.in_ok-input.input _ c.in_ok-input.ensures.ok c.in_ok-oddities.ensures.signs

@@ -30,6 +30,6 @@ pub returns-clause-refused : goal.returns-clause-refused
 returns-clause-refused g c = for_memory _ _ c.report_of.ensures.memory
 
 pub returns-clause-signs : goal.returns-clause-signs
-returns-clause-signs g c = ok_by (λ (found : Found). AreSigns (c.args.core.now ∷ c.args.log.now ∷ []) found.signs.items) c.report_of.result (λ found is.
-    are_of_one c.args.core.now c.args.log.now c.in_ok-input.input found.signs.items c.in_ok-input.ensures.ok
+returns-clause-signs g c = ok_by (λ (found : Found). AreSigns c.args.other_heap (c.args.core.now ∷ c.args.log.now ∷ []) found.signs.items) c.report_of.result (λ found is.
+    are_of_one c.args.other_heap c.args.core.now c.args.log.now c.in_ok-input.input found.signs.items c.in_ok-input.ensures.ok
     (at_ok (λ (f : Found). f.signs.items ≡ c.in_ok-oddities.oddities.signs.items) c.report_of.result found is c.report_of.ensures.signs ∙ c.in_ok-oddities.ensures.signs))

@@ -38,7 +38,7 @@ returns-clause-ok g c = ok_by _ _ (λ found is.
 
 pub returns-clause-signs : goal.returns-clause-signs
 returns-clause-signs g c = ok_by
-    (λ (found : Found). AreSigns (c.args.core1.now ∷ c.args.log1.now ∷ c.args.core2.now ∷ c.args.log2.now ∷ []) found.signs.items) c.report_of.result (λ found is.
-    are_of_two c.args.core1.now c.args.log1.now c.args.core2.now c.args.log2.now c.in_ok-inputs.inputs.first c.in_ok-inputs.inputs.second found.signs.items
+    (λ (found : Found). AreSigns c.args.other_heap (c.args.core1.now ∷ c.args.log1.now ∷ c.args.core2.now ∷ c.args.log2.now ∷ []) found.signs.items) c.report_of.result (λ found is.
+    are_of_two c.args.other_heap c.args.core1.now c.args.log1.now c.args.core2.now c.args.log2.now c.in_ok-inputs.inputs.first c.in_ok-inputs.inputs.second found.signs.items
     (c.in_ok-inputs.ensures.read.before, c.in_ok-inputs.ensures.read.first) (c.in_ok-inputs.ensures.read.now, c.in_ok-inputs.ensures.read.second)
     (at_ok (λ (f : Found). f.signs.items ≡ c.in_ok-oddities.oddities.signs.items) c.report_of.result found is c.report_of.ensures.signs ∙ c.in_ok-oddities.ensures.signs))
