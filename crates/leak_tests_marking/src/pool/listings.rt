@@ -4,7 +4,7 @@ use crate::appointment::Appointment;
 use crate::comparisons::same;
 use crate::samples::{core_of, scene_of};
 use leak_index::{Reading, Sorted};
-use leak_pool::{Open, Plan, list_links, mark_by_links};
+use leak_pool::{LinkRoom, Open, Plan, list_links, mark_by_links};
 use std::test::Fail;
 
 /// Two blocks. A root word leads to the first, and its first word to the second.
@@ -21,10 +21,11 @@ fn two_workers_list_links_before_marking_at_the_same_time(rt: HostRuntime) -> Re
     let scene = scene_of(alloc, core.as_slice(), LOG)?;
     let lookup = Sorted::new(&scene.live, Reading::interior());
     let plan = Plan::new(2, 512, 1024)?;
+    let room = LinkRoom::of_core(core.as_slice());
     for in_runs in [false, true] {
         let words = Appointment::of(&scene.image, in_runs, 0x10100, 0x10200);
         let (roots, live) = (&scene.roots, &scene.live);
-        let marked = mark_by_links(&rt, alloc, &words, &lookup, roots, live, plan, &Open, 1000)?;
+        let marked = mark_by_links(&rt, alloc, &words, &lookup, roots, live, plan, &Open, room)?;
         assert!(rt; words.is_kept(), "in runs: {in_runs}");
         same(&rt, marked.set.as_slice(), [true, true].as_slice());
     }
