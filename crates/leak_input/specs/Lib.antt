@@ -1,3 +1,4 @@
+-- The definitions of this crate, by subject.
 pub mod Slack
 pub mod Inputs
 pub mod Report

@@ -50,7 +50,7 @@ pub fn ground_of<'a>(
 ///
 /// # Errors
 ///
-/// `TooMany` where it has more than 2^32 - 1 live blocks. `NoMemory` can come at any time.
+/// `TooMany` if it has more than 2^32 - 1 live blocks. `NoMemory` can come at any time.
 pub fn mark_input<R: Threads + Sync, G: Gate + Sync>(
     workers: &Workers<'_, R, G>,
     alloc: Global,

@@ -1,3 +1,4 @@
+-- The lemmas of this crate, by subject.
 pub mod SplitLemmas
 pub mod CallLemmas
 pub mod DigitLemmas

@@ -1,3 +1,4 @@
+-- The definitions of this crate, by subject.
 pub mod Decided
 pub mod Number
 pub mod Line

@@ -81,7 +81,7 @@ impl<'a> Reader<'a> {
         }
     }
 
-    /// Reads the next line, or gives the log's first fault. What follows the last line feed is torn, and no line.
+    /// Reads the next line, or gives the log's first fault. What follows the last line feed is torn, and is not a line.
     pub fn next_line(&mut self) -> Result<Option<Line>, LogError>
         ensures bytes { self.new.bytes ≡ self.old.bytes }
         ensures room { self.new.count ≤ length self.old.bytes }
@@ -110,7 +110,7 @@ impl<'a> Reader<'a> {
         self.count
     }
 
-    /// How many lines are torn, once all are read: 1 where something follows the last line feed, and 0 otherwise.
+    /// How many lines are torn, once all are read: 1 if something follows the last line feed, and 0 otherwise.
     pub fn torn(&self) -> u64
         ensures { self.now.start ≡ whole_len_of self.now.bytes → result ≡ torn_of self.now.bytes }
     {

@@ -1,4 +1,4 @@
--- Numbers in lists: where they stand, and how many there can be.
+-- Numbers in lists: where they are, and how many there can be.
 use Rattle.std.proofs.Common.{◌≡◌, ℕ, zero, suc, ◌+◌, ◌<◌, ◌≤◌, List, [], ◌∷◌, length, get_or, refl, sym, ap, ◌∙◌, ⊎_elim, arith, le_of_suc-le-suc}
 use mathlib.Core.Logic.{dite}
 use native.Mathlib.Decide.{ℕ_discrete}
@@ -45,7 +45,7 @@ up_few (suc n) xs d = let r = up_few n xs d in let o : times n xs ≤ 1 = d n in
 pub few_distinct : (n : ℕ) (xs : List ℕ) → IsDistinct xs → ((b : ℕ) → Has xs b → b < n) → length xs ≤ n
 few_distinct n xs once inside = let p = long_up n xs inside in let q = up_few n xs once in omega arith
 
--- what stands at a place of the list, whatever stands after its end
+-- what is at a place of the list, whatever comes after its end
 pub read_at : (xs : List ℕ) (k x : ℕ) → k < length xs → x ≡ get_or xs k x → x ≡ get_or xs k 0
 read_at xs k x h is = is ∙ same xs k h
   where

@@ -115,7 +115,7 @@ marked_of_words g blocks w rounds words claims set some a s = record {
   none = λ z. absurd (omega arith);
 }
 
--- where there is no block nothing is reached
+-- if there is no block nothing is reached
 pub marked_none : (roots targets : List (List ℕ)) (start : List ℕ) (w : ℕ) (claims : List (List ℕ)) (set : List Bool) → length targets ≡ 0 → claims ≡ replicate w [] → set ≡ []
     → ((i : Item) (b : ℕ) → Has (targets_of_item roots targets i) b → b < length targets) → IsMarked (graph_over roots targets start) (length targets) w set claims 0
 marked_none roots targets start w claims set none empty unset inside = record {

@@ -1,3 +1,4 @@
+-- The lemmas of this crate, by subject.
 pub mod FromLemmas
 pub mod ScopeLemmas
 pub mod CountLemmas

@@ -1,4 +1,4 @@
--- Lists of targets, one behind another.
+-- Lists of targets, one after another.
 use Rattle.std.proofs.Common.{◌≡◌, ℕ, zero, suc, ◌+◌, ◌-◌, ◌*◌, ◌/◌, ◌%◌, ◌<◌, ◌≤◌, min, List, [], ◌∷◌, ◌++◌, length, map, get_or, take, drop, Option, Some, Result, Ok, refl, sym, ap, ◌∙◌, subst, ⊎_elim, arith, length-append}
 use Rattle.std.proofs.Math.Nat.{mod-lt, mod-add-div, lt-div-mul-add, eq-or-lt_of_le, div-lt_iff_lt-mul, mul_comm, suc-mul}
 use Rattle.std.proofs.Math.Seq.{take-length, drop-append_seam, get_or-append_seam}

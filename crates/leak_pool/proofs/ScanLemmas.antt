@@ -50,7 +50,7 @@ scanning_more item rest later t before list mid longer after longest s is table 
 
 -- ---- what was claimed
 
--- what stands after the list was claimed for the item
+-- what follows the list was claimed for the item
 pub kept_of_scan : (item : ℕ → Type 0) (base list more : List ℕ) (before after : Held) (longer : List ℕ) → longer ≡ list ++ more → after.claims ≡ base ++ longer → IsSound after
     → IsScanned item [] before.seen list after.seen longer → IsKeptInRounds item before.seen after.seen more
 kept_of_scan item base list more before after longer is claims sound s = record {

@@ -107,7 +107,7 @@ pub memory-append : (skips_links : Bool) (word_at : ℕ → Option ℕ) (index :
 memory-append false word_at index xs ys = ap (λ (l : List ℕ). targets_of index l) (filter_map-append word_at xs ys) ∙ targets-append index (filter_map word_at xs) (filter_map word_at ys)
 memory-append true word_at index xs ys = without_append word_at index xs ys
 
--- what a range leads to where links are left out, and where they are not
+-- what a range leads to if links are left out, and if they are not
 pub led_without : (skips_links : Bool) (word_at : ℕ → Option ℕ) (index : Index) → Aligned word_at → (from to : ℕ) → IsRange (from, to) → skips_links ≡ true
     → range_without_links word_at index from to ≡ led_in_memory skips_links word_at index (addresses_in (from, to))
 led_without skips_links word_at index aligned from to r is =

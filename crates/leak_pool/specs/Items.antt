@@ -21,7 +21,7 @@ abbrev pub IsItem : List (List ℕ) → List (List ℕ) → Item → Type 0
 IsItem roots targets (Root k) = k < length roots
 IsItem roots targets (Block b) = b < length targets
 
--- the items of a round: the first parts of the roots, so many, or blocks
+-- the items of a round: this many first parts of the roots, or blocks
 abbrev pub items_in : Items → List Item
 items_in (Roots parts) = map Root (range_with_len 0 parts)
 items_in (Blocks blocks) = map Block blocks.now

@@ -1,3 +1,4 @@
+-- The definitions of this crate, by subject.
 pub mod Plan
 pub mod Scene
 pub mod Alone

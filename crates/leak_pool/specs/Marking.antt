@@ -1,4 +1,4 @@
--- What marking comes to, for every plan and every schedule (bdwgc: an object is kept where a chain of words
+-- What marking comes to, for every plan and every schedule (bdwgc: an object is kept if a chain of words
 -- leads to it from a root; Boehm, Demers, Shenker, PLDI 1991, for marking from an earlier state).
 use Rattle.std.specs.Prelude.{◌≡◌, ℕ, ◌+◌, ◌<◌, ◌≤◌, ◌⊎◌, ◌↔◌, Bool, true, false, List, [], ◌++◌, length, map, flat_map, filter_map, Option, Some, slice_get}
 use Rattle.std.specs.Option.{option_map_or}
@@ -61,7 +61,7 @@ lists_of m = map (λ v. v.items) m.claims.items
 abbrev pub graph_of_roots : (ℕ → Option ℕ) → Index → Places → Graph
 graph_of_roots word_at index places = graph_of word_at index (led_by_roots word_at index places) []
 
--- the marked set is what the roots reach, the claims partition it, and there is a round more than blocks at most
+-- the marked set is what the roots reach, the claims partition it, and the rounds are at most one more than the blocks
 pub record Marks (word_at : ℕ → Option ℕ) (index : Index) (places : Places) (workers : ℕ)
     (m : Marked) : Type 0 where
   pub set : IsSet m.set.items (length index.blocks) (Reach (graph_of_roots word_at index places))

@@ -12,7 +12,7 @@ use Rattle.leak_pool.specs.declared.task.Gains.{Gains}
 use Rattle.leak_marks.specs.Lists.{Has, Within}
 use Rattle.leak_marks.specs.Seats.{Held, IsSound}
 
--- The seat had seen `before` and the list had these claims; then `after` and `longer`. What an item leads to is seen, but for `rest`.
+-- The seat had seen `before` and the list had these claims; then `after` and `longer`. What an item leads to is seen, except `rest`.
 pub record IsScanned (item : ℕ → Type 0) (rest : List ℕ) (before list after longer : List ℕ)
     : Type 0 where
   pub keeps : Within before after
@@ -30,13 +30,13 @@ pub record IsScanning (item : ℕ → Type 0) (rest : List ℕ) (before : Held) 
   pub some : (b : ℕ) → Has rest b → item b
   pub scanned : IsScanned item rest before.seen list after.seen longer
 
--- The seat's claims end with a worker's list, and its stack, which has so many entries at most, has room for as many.
+-- The seat's claims end with a worker's list, and its stack has at most `limit` entries, and room for as many.
 pub record IsHolding (limit : ℕ) (seat : Held) (hand : Hand) : Type 0 where
   pub listed : (base : List ℕ) × (seat.claims ≡ base ++ hand.list.items)
   pub few : length hand.stack.items ≤ limit
   pub room : limit ≤ vec_capacity hand.stack
 
--- An item was scanned: what it leads to is seen. The blocks claimed for it stand on the list, and on the stack while it
+-- An item was scanned: what it leads to is seen. The blocks claimed for it are on the list, and on the stack while it
 -- had fewer than `limit` entries; the others are left.
 pub record IsPutAway (targets : List ℕ) (limit : ℕ) (before after : Held) (hand later : Hand)
     : Type 0 where

@@ -13,7 +13,7 @@ use Rattle.leak_marks.specs.Rounds.{IsKept, appended_from, IsUnderWay}
 abbrev pub graph_over : List (List ℕ) → List (List ℕ) → List ℕ → Graph
 graph_over roots targets given = record { first = concat roots; targets = targets; given = given }
 
--- Items were scanned: the claims that the seat gained stand after those of the workers, and those that were left after
+-- Items were scanned: the claims that the seat gained follow those of the workers, and those that were left follow
 -- the blocks that wait.
 pub record IsStep (blocks : ℕ → List ℕ) (item : ℕ → Type 0) (workers : ℕ) (claims : List (List ℕ)) (waiting : List ℕ) (before : Held)
     (longer : List (List ℕ)) (more : List ℕ) (after : Held) (gained : List (List ℕ)) (left : List ℕ) : Type 0 where
@@ -55,7 +55,7 @@ pub record IsMarked (graph : Graph) (blocks workers : ℕ) (tests : List Bool) (
   pub few : rounds ≤ blocks + 1
   pub none : blocks ≡ 0 → rounds ≡ 0
 
--- The steps of the first `until` workers have grown by their shares of so many items, modulo 2^64; those of the others stay.
+-- The steps of the first `until` workers have grown by their shares of `items` items, modulo 2^64; those of the others stay.
 pub record AreCounted (items workers until : ℕ) (before after : List ℕ) : Type 0 where
   pub grown : (k : ℕ) → k < until → slice_index_or after k 0 ≡ (slice_index_or before k 0 + (share (k + 1) items workers - share k items workers)) % 2 ^ 64
   pub rest : (k : ℕ) → until ≤ k → slice_index_or after k 0 ≡ slice_index_or before k 0

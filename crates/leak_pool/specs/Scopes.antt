@@ -31,7 +31,7 @@ root_targets word_at index places pieces pages rescan =
 abbrev pub all_targets : (ℕ → Option ℕ) → Index → List (List ℕ)
 all_targets word_at index = map (block_targets word_at index) index.blocks
 
--- each piece is one of these roots, and each part is of one of so many blocks
+-- each piece is one of these roots, and each part is of one of this many blocks
 abbrev pub ArePieces : Places → List Piece → Type 0
 ArePieces places pieces = AllByRecursion (IsPiece places) pieces
 

@@ -74,7 +74,7 @@ pub(crate) fn take_roots<W: Words, L: Lookup>(
 }
 
 // Claims what the listed blocks lead to, and what those claimed then lead to, and says how many rounds that made with
-// the one before. A round ends where the blocks end that were listed as it began.
+// the one before. A round ends with the last of the blocks that were listed as it began.
 fn take_blocks<W: Words, L: Lookup>(
     words: &W,
     lookup: &L,

@@ -10,7 +10,7 @@ use leak_marks::{MarkSeat, Marks};
 use leak_scan::Targets;
 use std::alloc::AllocError;
 
-/// Claims the targets, and lists those whose claim is won. Room is made before each claim, so that none is on no list.
+/// Claims the targets, and lists those whose claim is won. Room is made before each claim, so that each is on the list.
 pub(crate) fn claim_all<W: Words, L: Lookup>(
     targets: Targets<'_, W, L>,
     marks: &Marks,
@@ -60,7 +60,7 @@ pub(crate) fn claim_listed(
     Ok(())
 }
 
-// Claims a block, and lists it where the claim is won.
+// Claims a block, and lists it if the claim is won.
 fn claim(marks: &Marks, seat: &mut MarkSeat, list: &mut Vec<u32>, block: u32)
     requires table { seat.old.table ≡ marks.now.table }
     requires block { block < marks.now.blocks }

@@ -14,8 +14,8 @@ pub(crate) struct Hand {
     pub(crate) left: Vec<u32>,
 }
 
-/// Puts claimed blocks on the stack while it has fewer than `limit` entries, and leaves the others. What is put on the
-/// stack takes no memory.
+/// Puts claimed blocks on the stack while it has fewer than `limit` entries, and leaves the others. To put a block on the
+/// stack allocates nothing.
 pub(crate) fn put_away(
     blocks: &[u32],
     limit: usize,

@@ -6,11 +6,11 @@ ghost use Rattle.leak_pool.specs.declared.source.Item.TheVariants.{Block};
 
 use crate::source::Item;
 
-/// From so many blocks on a round is worth the threads that it starts. Own rule: four workers scan fewer in less time
+/// From this many blocks on a round is worth the threads that it starts. Own rule: four workers scan fewer in less time
 /// than their threads take to start.
 const MANY: usize = 1000;
 
-/// The items of a round, which stand in no list of their own: so many parts of the roots, or blocks.
+/// The items of a round, which have no list of their own: a number of parts of the roots, or blocks.
 #[derive(Clone, Copy)]
 pub(crate) enum Items<'a> {
     Roots(usize),

@@ -7,7 +7,7 @@
 //! Marking goes by rounds. After each item a worker empties its stack, on which it puts the blocks that it claims while
 //! the stack has fewer entries than the plan says; the others are left for the next round.
 //!
-//! Sources: bdwgc's marking (an object is kept where a chain of words leads to it from a root); Boehm, Demers and
+//! Sources: bdwgc's marking (an object is kept if a chain of words leads to it from a root); Boehm, Demers and
 //! Shenker, PLDI 1991, for marking from an earlier state. Rounds, pieces, stacks and claims are own rule.
 //!
 //! The contracts say which worker claimed what, round by round (specs/Course.antt), that over these rounds each worker

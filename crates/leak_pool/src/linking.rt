@@ -71,7 +71,7 @@ pub fn mark_by_links<R: Threads + Sync, W: Words + Sync, L: Lookup + Sync, G: Ga
     Ok(marked)
 }
 
-// Marks over the links of the source, or over the source itself where there are none.
+// Marks over the links of the source, or over the source itself if there are none.
 fn mark_linked<R: Threads + Sync, S: Source + Sync, G: Gate + Sync>(
     rt: &R,
     alloc: Global,

@@ -36,13 +36,13 @@ pub(crate) struct Rows {
 #[derive(Drop)]
 pub(crate) struct Links<'a, S: Source> {
     pub(crate) source: &'a S,
-    /// How many blocks each row has, but for the last.
+    /// How many blocks each row has, except the last.
     pub(crate) size: usize,
     pub(crate) rows: Vec<Rows>,
     ghost listed: { AreLinks (S.targets source.now) size rows.items } by { links_prop _ _ _ },
 }
 
-// Lists the targets of a block after the others, unless that makes more than so many.
+// Appends the targets of a block, unless that makes more than `room`.
 fn list_targets<W: Words, L: Lookup>(
     found: Targets<'_, W, L>,
     room: usize,
@@ -65,7 +65,7 @@ fn list_targets<W: Words, L: Lookup>(
     Ok(true)
 }
 
-// Lists what a block leads to after the others, unless that makes more than so many.
+// Appends what a block leads to, unless that makes more than `room`.
 fn list_block<W: Words, L: Lookup>(
     runs: &mut BlockRuns<'_, W>,
     lookup: &L,
@@ -91,7 +91,7 @@ fn list_block<W: Words, L: Lookup>(
     list_targets(found, room, targets)
 }
 
-// What the blocks lead to, unless they lead to more than so many.
+// What the blocks lead to, unless they lead to more than `room`.
 fn rows_of<W: Words, L: Lookup>(
     alloc: Global,
     words: &W,
@@ -138,8 +138,8 @@ fn all_rows(
     Ok(Some(rows))
 }
 
-// What the blocks lead to, in rows of so many blocks each, made by as many workers. Nothing where a row has more targets than so
-// many.
+// What the blocks lead to, in rows of `size` blocks each, each made by a worker. None if a row has more than `room`
+// targets.
 pub(crate) fn list_rows<R: Threads + Sync, W: Words + Sync, L: Lookup + Sync>(
     rt: &R,
     alloc: Global,
@@ -173,7 +173,7 @@ pub(crate) fn list_rows<R: Threads + Sync, W: Words + Sync, L: Lookup + Sync>(
     all_rows(alloc, parts)
 }
 
-/// How many blocks each row has where so many workers list the links of so many blocks.
+/// How many blocks each row has if `workers` workers list the links of `blocks` blocks.
 pub(crate) fn row_size(blocks: usize, workers: u32) -> usize
     requires { 0 < workers }
     ensures { result ≡ row_size blocks workers }
@@ -189,7 +189,7 @@ fn share_of(room: LinkRoom, workers: u32) -> u32
     (room.targets() / workers as usize).min(u32::MAX as usize) as u32
 }
 
-/// The links of a scope, made by so many workers, each of a share of the blocks. Nothing where one has more than its
+/// The links of a scope, made by `workers` workers, each of a share of the blocks. None if one has more than its
 /// share of the room.
 pub(crate) fn links_of<'a, 'b, R: Threads + Sync, W: Words + Sync, L: Lookup + Sync>(
     rt: &R,
@@ -221,7 +221,7 @@ pub(crate) fn links_of<'a, 'b, R: Threads + Sync, W: Words + Sync, L: Lookup + S
     }))
 }
 
-// What a block leads to, by the rows of so many blocks each.
+// What a block leads to, by the rows of `size` blocks each.
 pub(crate) fn listed_targets(rows: &[Rows], size: usize, block: u32) -> &[u32]
     requires { (targets : List (List ℕ)) × AreLinks targets size rows.now × (block < length targets) }
     ensures { (targets : List (List ℕ)) → AreLinks targets size rows.now → block < length targets

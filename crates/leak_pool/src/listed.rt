@@ -1,4 +1,4 @@
-//! What each block leads to, and what the root words lead to, listed for who asks for them again and again.
+//! What each block leads to, and what the root words lead to, listed for a caller that asks for them again and again.
 ghost use Rattle.std.specs.Prelude.{◌≡◌, ◌≢◌, ◌↔◌, ◌<◌, ◌-◌, ◌^◌, ℕ, length, IfOk, IsErrOf};
 ghost use Rattle.leak_marks.specs.Lists.{Has, IsDistinct};
 ghost use Rattle.leak_pool.specs.Items.{targets_of_block};
@@ -26,7 +26,7 @@ pub struct Listed<'a, W: Words, L: Lookup> {
     /// What a word leads to.
     pub lookup: &'a L,
     blocks: u32,
-    /// How many blocks each row has, but for the last.
+    /// How many blocks each row has, except the last.
     size: usize,
     rows: Vec<Rows>,
     ghost many: { blocks ≡ length (all_targets (W.word_at words.now) (L.index lookup.now)) },
@@ -34,11 +34,11 @@ pub struct Listed<'a, W: Words, L: Lookup> {
     ghost exact: { kept_count rows.items ≡ target_count (all_targets (W.word_at words.now) (L.index lookup.now)) },
 }
 
-/// Lists what each live block leads to, by so many workers.
+/// Lists what each live block leads to, by this many workers.
 ///
 /// # Errors
 ///
-/// `TooMany` where there are more than 2^32 - 1 live blocks. `NoMemory` where memory is refused, and where a worker's share of
+/// `TooMany` if there are more than 2^32 - 1 live blocks. `NoMemory` if memory is refused, or if a worker's share of
 /// the blocks has more than 2^32 - 1 targets.
 pub fn list_links<'a, R: Threads + Sync, W: Words + Sync, L: Lookup + Sync>(
     rt: &R,
@@ -91,7 +91,7 @@ impl<'a, W: Words, L: Lookup> Linked for Listed<'a, W, L> {
 ///
 /// # Errors
 ///
-/// `TooMany` where there are more than 2^32 - 1 live blocks. `NoMemory` where memory is refused.
+/// `TooMany` if there are more than 2^32 - 1 live blocks. `NoMemory` if memory is refused.
 pub fn first_blocks<W: Words, L: Lookup>(
     alloc: Global,
     words: &W,

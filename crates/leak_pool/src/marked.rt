@@ -7,6 +7,6 @@ pub struct Marked {
     pub set: Vec<bool>,
     /// For each worker, the numbers of the blocks that it claimed, in the order of its claims.
     pub claims: Vec<Vec<u32>>,
-    /// How many rounds there were: 0 where there is no block, else 1 for the roots and one for each later pass.
+    /// How many rounds there were: 0 if there is no block, else 1 for the roots and one for each later pass.
     pub rounds: u64,
 }

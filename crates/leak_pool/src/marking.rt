@@ -101,7 +101,7 @@ pub fn mark_from<R: Threads + Sync, W: Words + Sync, L: Lookup + Sync, G: Gate +
     Ok(marked)
 }
 
-/// The pieces of the roots. A piece of a plan has a word, so memory alone can be missing.
+/// The pieces of the roots. A piece of a plan has a word, so only memory can be missing.
 pub(crate) fn pieces_of(alloc: Global, roots: &Roots, plan: Plan) -> Result<Pieces<'_>, AllocError>
     ensures value { IfOk result (λ pieces. pieces ≡ pieces_of plan.piece roots.now) }
     ensures cut { IfOk result (AreCut roots.now plan.piece) }

@@ -42,7 +42,7 @@ pub enum PlanError {
 }
 
 impl Plan {
-    /// Makes a plan of so many workers, words in a piece and entries in a stack.
+    /// Makes a plan of this many workers, words in a piece and entries in a stack.
     pub fn new(workers: u32, piece: u32, stack: u32) -> Result<Plan, PlanError>
         ensures workers { IsErrOf result PlanError.Workers ↔ ¬ IsBetween 1 64 workers }
         ensures piece { IsErrOf result PlanError.Piece

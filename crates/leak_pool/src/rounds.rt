@@ -18,7 +18,7 @@ use crate::worker::share_start;
 use std::alloc::{AllocError, Global};
 use std::thread::Threads;
 
-// Puts the gained lists after those of the workers, and the blocks that were left after those that wait.
+// Appends the gained lists to those of the workers, and the blocks that were left to those that wait.
 fn absorb(
     claims: &mut Vec<Vec<u32>>,
     waiting: &mut Vec<u32>,
@@ -41,7 +41,7 @@ fn absorb(
     Ok(())
 }
 
-// Adds to the steps of each worker, modulo 2^64, as many as its share of so many items has.
+// Adds to the steps of each worker, modulo 2^64, how many of the items its share has.
 fn count_steps(steps: &mut Vec<u64>, items: usize, workers: u32)
     requires few { workers ≤ 64 }
     requires steps { length steps.old.items ≡ workers }

@@ -1,3 +1,4 @@
+-- The definitions of this crate, by subject.
 pub mod Places
 pub mod Roots
 pub mod Skipped

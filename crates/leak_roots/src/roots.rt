@@ -51,8 +51,8 @@ impl Roots {
     ///
     /// They are the register words of the threads, as they are given, and the words of 8 bytes at the multiples of 8 in
     /// segments that share no byte with a live block and whose bytes the core holds: registers, stacks and static data,
-    /// as Boehm's collector takes them. Only where the threads are the core's are these the core's root words. No slack and
-    /// no link to a free chunk is left out. It fails where memory is refused, and then alone.
+    /// as Boehm's collector takes them. These are the core's root words only if the threads are the core's. No slack and
+    /// no link to a free chunk is left out. It fails only if memory is refused.
     pub fn find(
         alloc: Global,
         image: &Image,
@@ -102,7 +102,7 @@ impl Roots {
         self.memory.as_slice()
     }
 
-    /// How many places in memory hold no root word since they are freed.
+    /// How many places in memory hold no root word because they are freed.
     pub fn freed(&self) -> u64
         ensures { result ≡ self.now.freed }
     {
@@ -110,7 +110,7 @@ impl Roots {
     }
 
     /// The same root words without those in memory whose 8 bytes each lie in a span of the slack of live blocks. The
-    /// freed places stay those that were counted. It fails where memory is refused, and then alone.
+    /// number of freed places stays the same. It fails only if memory is refused.
     pub fn skip_slack(self, alloc: Global, slack: &[Span]) -> Result<Roots, AllocError>
         requires { AreApart slack.now }
         ensures registers { IfOk result (λ roots. roots.registers ≡ self.registers) }
@@ -157,7 +157,7 @@ impl Roots {
         self.skips_links
     }
 
-    /// Cuts the root words into pieces of at most so many words.
+    /// Cuts the root words into pieces of at most `words` words.
     pub fn cut(&self, alloc: Global, words: usize) -> Result<Vec<Piece>, CutError>
         ensures zero { (result ≡ Err CutError.Zero) ↔ (words ≡ 0) }
         ensures ok { IfOk result (λ pieces. AreCut self.now words pieces.items) }
@@ -173,7 +173,7 @@ impl Roots {
         Ok(pieces)
     }
 
-    /// The pieces of the root words, each of at most so many words, told by their numbers: no list of them is made.
+    /// The pieces of the root words, each of at most `words` words, given by their numbers: no list of them is made.
     pub fn pieces(&self, alloc: Global, words: usize) -> Result<Pieces<'_>, CutError>
         ensures zero { (result ≡ Err CutError.Zero) ↔ (words ≡ 0) }
         ensures value { IfOk result (λ pieces. pieces ≡ pieces_of words self.now) }

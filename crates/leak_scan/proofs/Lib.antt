@@ -1,3 +1,4 @@
+-- The lemmas of this crate, by subject.
 pub mod Ranges
 pub mod Runs
 pub mod Reached

@@ -1,3 +1,4 @@
+-- The definitions of this crate, by subject.
 pub mod Targets
 pub mod Windows
 pub mod Places

@@ -9,7 +9,7 @@ use crate::first::split_word;
 use leak_index::{Hits, Lookup, hits_are_blocks};
 use std::alloc::AllocError;
 
-/// Lists what the words of a run lead to after the others, unless that makes more than so many. Each 8 bytes are a word.
+/// Appends what the words of a run lead to, unless that makes more than `room`. Each 8 bytes are a word.
 pub fn list_run<L: Lookup>(
     lookup: &L,
     run: &[u8],
@@ -39,7 +39,7 @@ pub fn list_run<L: Lookup>(
     Ok(true)
 }
 
-/// Lists the blocks that a word leads to after the others.
+/// Appends the blocks that a word leads to.
 fn list_hits(hits: Hits, room: usize, targets: &mut Vec<u32>) -> Result<bool, AllocError>
     requires small { AllByRecursion (λ block. block < 2 ^ 32) (hits_in hits) }
     requires within { length targets.old.items ≤ room }
@@ -62,7 +62,7 @@ fn list_hits(hits: Hits, room: usize, targets: &mut Vec<u32>) -> Result<bool, Al
     }
 }
 
-/// Lists a block after the others.
+/// Appends a block.
 fn list_target(block: usize, room: usize, targets: &mut Vec<u32>) -> Result<bool, AllocError>
     requires small { block < 2 ^ 32 }
     requires within { length targets.old.items ≤ room }

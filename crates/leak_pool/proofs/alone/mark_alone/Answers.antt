@@ -1,3 +1,4 @@
+-- From the lemmas of BoolLemmas and AloneLemmas.
 use Rattle.std.proofs.Common.{ℕ, List, [], arith, ◌≡◌, ◌≤◌, ◌+◌, ◌∙◌, ap, sym, subst, ⊎_elim, true≢false, length, map, Vec, Global}
 use Rattle.leak_marks.specs.Lists.{Has}
 use Rattle.leak_marks.proofs.BoolLemmas.{equal_itself, same_number}

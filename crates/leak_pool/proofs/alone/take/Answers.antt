@@ -1,3 +1,4 @@
+-- From the lemmas of AloneLemmas.
 use Rattle.std.proofs.Common.{[]}
 use Rattle.leak_pool.proofs.AloneLemmas.{taken_none, marks_more, taken_new, taken_old}
 use Rattle.leak_pool.proofs.alone.take.Goals as goal

@@ -1,3 +1,4 @@
+-- From the lemmas of AloneLemmas.
 use Rattle.std.proofs.Common.{◌∷◌, [], arith, refl}
 use Rattle.leak_pool.proofs.AloneLemmas.{next_is_target, next_left, taken_both, taken_none}
 use Rattle.leak_pool.proofs.alone.take_all.Goals as goal

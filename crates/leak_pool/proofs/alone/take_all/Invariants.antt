@@ -1,3 +1,4 @@
+-- The targets so far were taken.
 use Rattle.std.proofs.Common.{◌≡◌, ◌++◌}
 use Rattle.leak_pool.specs.Alone.{AreMarks, AreTaken}
 use Rattle.leak_pool.proofs.alone.take_all.Given as goal

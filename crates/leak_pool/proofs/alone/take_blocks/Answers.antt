@@ -1,3 +1,4 @@
+-- From the lemmas of CountLemmas and AloneLemmas.
 use Rattle.std.proofs.Common.{ℕ, List, subst, arith, ◌≡◌, ◌∙◌, ◌<◌, ap, sym, length, get_or, []}
 use Rattle.leak_marks.specs.Lists.{Has, Within}
 use Rattle.leak_pool.specs.Alone.{AreTaken, IsFollowed}

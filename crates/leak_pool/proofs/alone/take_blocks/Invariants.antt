@@ -1,3 +1,4 @@
+-- The first blocks of the list were scanned, in no more rounds than blocks and one.
 use Rattle.std.proofs.Common.{ℕ, List, [], ◌+◌, ◌-◌, ◌≤◌, length}
 use Rattle.leak_marks.specs.Lists.{Within}
 use Rattle.leak_pool.specs.Alone.{AreMarks, IsFollowed, IsInRounds}

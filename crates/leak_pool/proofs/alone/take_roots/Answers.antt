@@ -1,3 +1,4 @@
+-- From the lemmas of AloneLemmas.
 use Rattle.std.proofs.Common.{ℕ, List, subst, ap, arith, take, length}
 use Rattle.leak_roots.specs.Places.{memory_places}
 use Rattle.leak_scan.specs.Targets.{targets_of}

@@ -1,3 +1,4 @@
+-- What the registers and the ranges so far lead to was taken.
 use Rattle.std.proofs.Common.{take}
 use Rattle.leak_roots.specs.Places.{memory_places}
 use Rattle.leak_pool.specs.Alone.{AreMarks, AreTaken}

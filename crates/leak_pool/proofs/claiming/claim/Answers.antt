@@ -1,3 +1,4 @@
+-- From the lemmas of ListLemmas.
 use Rattle.std.proofs.Common.{rules, subst, inl, inr, ⊎_elim, List, ℕ}
 use Rattle.leak_marks.specs.Lists.{Has}
 use Rattle.leak_marks.proofs.ListLemmas.{of_push}

@@ -1,3 +1,4 @@
+-- From the lemmas of ListLemmas and ScanLemmas.
 use Rattle.std.proofs.Common.{subst, sym, ap, List, ℕ, ◌∙◌, ◌++◌, ⊎_elim, inl, inr, arith}
 use Rattle.leak_marks.proofs.ListLemmas.{here}
 use Rattle.leak_marks.specs.Lists.{Has}

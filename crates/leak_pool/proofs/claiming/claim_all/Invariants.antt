@@ -1,3 +1,4 @@
+-- The targets are seen, except those that are still to come.
 use Rattle.leak_marks.specs.Lists.{Has}
 use Rattle.leak_pool.specs.Promises.{IsScanning}
 use Rattle.leak_pool.proofs.claiming.claim_all.Given as goal

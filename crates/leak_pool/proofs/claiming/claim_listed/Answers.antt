@@ -1,3 +1,4 @@
+-- From the lemmas of FromLemmas and ScanLemmas.
 use Rattle.std.proofs.Common.{subst, sym, ap, List, ℕ, ◌∙◌, ◌++◌, ⊎_elim, inl, inr, get_or, arith}
 use Rattle.std.proofs.lemmas.List.{drop_more}
 use Rattle.leak_marks.specs.Lists.{Has}

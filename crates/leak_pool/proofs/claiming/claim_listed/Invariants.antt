@@ -1,3 +1,4 @@
+-- The targets are seen, except those that are left.
 use Rattle.std.proofs.Common.{drop}
 use Rattle.leak_marks.specs.Lists.{Has}
 use Rattle.leak_pool.specs.Promises.{IsScanning}

@@ -1,3 +1,4 @@
+-- From the lemmas of HalfLemmas.
 use Rattle.std.proofs.Common.{◌≡◌, ◌<◌, ◌≤◌, ◌∙◌, ap, sym, ◌+◌, ◌-◌, ◌/◌, ℕ, List, Vec, Global, length, map, arith}
 use Rattle.leak_marks.specs.Seats.{Held, kept_half, given_half}
 use Rattle.leak_pool.specs.Gates.{ArePassed}

@@ -1,3 +1,4 @@
+-- Each half has fewer workers.
 use Rattle.std.proofs.Common.{◌+◌, ◌-◌, ◌*◌}
 use Rattle.leak_pool.proofs.halves.+fn-scan_shares-join+arg2+fn-scan_shares-join+arg3+scan_shares.Given as goal
 

@@ -1,3 +1,4 @@
+-- The blocks so far were put on the stack.
 use Rattle.std.proofs.Common.{◌≡◌, ◌++◌, take, vec_capacity}
 use Rattle.leak_pool.proofs.hand.put_away.Given as goal
 

@@ -1,3 +1,4 @@
+-- From lemmas of std.
 use Rattle.std.proofs.Common.{sym}
 use Rattle.std.proofs.lemmas.List.{get_or-map}
 use Rattle.leak_pool.specs.declared.source.Item.TheVariants.{Block}

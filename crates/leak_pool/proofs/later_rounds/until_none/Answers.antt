@@ -1,3 +1,4 @@
+-- From the lemmas of GoingLemmas.
 use Rattle.std.proofs.Common.{◌<◌, ◌≤◌, length, arith, rules}
 use Rattle.leak_pool.specs.Scene.{Scene}
 use Rattle.leak_pool.specs.declared.progress.Progress.{Progress}

@@ -1,3 +1,4 @@
+-- Marking is between two rounds, and there were no more rounds than claims and one.
 use Rattle.std.proofs.Common.{◌+◌, ◌-◌, ◌≤◌, length}
 use Rattle.leak_pool.specs.Progress.{IsBetween, HasCourseThrough}
 use Rattle.leak_pool.proofs.later_rounds.until_none.Given as goal

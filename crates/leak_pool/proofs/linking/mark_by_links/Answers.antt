@@ -1,3 +1,4 @@
+-- From the lemmas of FromLemmas.
 use Rattle.std.proofs.Common.{◌∙◌, List, length, ap, sym, arith, ◌≡◌, ◌+◌, ℕ, [], subst}
 use Rattle.leak_blocks.specs.declared.block.Block.{Block}
 use Rattle.leak_pool.proofs.DepthOfCores.{depth_of_roots}

@@ -1,3 +1,4 @@
+-- None of the rows so far is missing.
 use Rattle.std.proofs.Common.{◌≡◌, ◌++◌, map, Ok, Some}
 use Rattle.std.specs.Vec.Iter.{into_iter_items}
 use Rattle.leak_pool.proofs.links.all_rows.Given as goal

@@ -1,3 +1,4 @@
+-- By arithmetic, from what the calls promise.
 use Rattle.std.proofs.Common.{subst, ℕ, List, arith}
 use Rattle.leak_marks.specs.Lists.{Has}
 use Rattle.leak_pool.specs.ScopeLaw.{target_below}

@@ -1,3 +1,4 @@
+-- From the lemmas of LinkLemmas.
 use Rattle.std.proofs.Common.{◌≡◌, ℕ, ◌<◌, ◌≤◌, Option, Some, None, Ok, Vec, Global, map, length, get_or, sym, rules}
 use Rattle.std.specs.Prelude.{IfSome, IfNone}
 use Rattle.std.specs.Int.{div_ceil}

@@ -1,3 +1,4 @@
+-- From the lemmas of ListLemmas.
 use Rattle.std.proofs.Common.{◌≡◌, ◌++◌, [], ◌∷◌, ℕ, List, subst, sym, ap, ◌∙◌, append_assoc, arith, rules, length, ◌+◌, ◌<◌}
 use Rattle.leak_marks.specs.Lists.{Has}
 use Rattle.leak_marks.proofs.ListLemmas.{here, there}

@@ -1,3 +1,4 @@
+-- What was listed, and the targets that are still to come, are all.
 use Rattle.std.proofs.Common.{◌≡◌, ℕ, ◌<◌, ◌≤◌, ◌^◌, ◌++◌, length}
 use Rattle.leak_marks.specs.Lists.{Has}
 use Rattle.leak_pool.proofs.links.list_targets.Given as goal

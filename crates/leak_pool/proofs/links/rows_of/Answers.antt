@@ -1,3 +1,4 @@
+-- From the lemmas of LinkLemmas.
 use Rattle.std.proofs.Common.{◌∙◌, map, ap, arith, rules}
 use Rattle.std.proofs.lemmas.List.{length-map}
 use Rattle.leak_scan.specs.Targets.{block_targets}

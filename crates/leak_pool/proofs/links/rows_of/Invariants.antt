@@ -1,3 +1,4 @@
+-- The targets of the blocks so far were listed.
 use Rattle.std.proofs.Common.{◌≡◌, ◌≤◌, length, map, take}
 use Rattle.leak_scan.specs.Targets.{block_targets}
 use Rattle.leak_pool.specs.Items.{targets_of_block}

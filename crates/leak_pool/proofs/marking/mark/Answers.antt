@@ -1,3 +1,4 @@
+-- From the lemmas of FromLemmas.
 use Rattle.std.proofs.Common.{◌<◌, ℕ, List, [], length, ap, subst, arith, ◌≡◌}
 use Rattle.leak_blocks.specs.declared.block.Block.{Block}
 use Rattle.leak_pool.specs.Course.{IsByRounds, IsThroughGate}

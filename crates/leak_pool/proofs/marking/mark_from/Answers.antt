@@ -1,3 +1,4 @@
+-- From the lemmas of ScopeLemmas and FromLemmas.
 use Rattle.std.proofs.Common.{ℕ, List, [], ◌≡◌, ◌<◌, ◌∙◌, ap, sym, subst, length, arith, ◌+◌}
 use Rattle.std.specs.Prelude.{slice_index_or}
 use Rattle.leak_blocks.specs.declared.block.Block.{Block}

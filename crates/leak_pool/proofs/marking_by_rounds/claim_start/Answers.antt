@@ -1,3 +1,4 @@
+-- From the lemmas of EndLemmas.
 use Rattle.std.proofs.Common.{◌∙◌, ◌+◌, take, get_or, arith}
 use Rattle.leak_pool.proofs.EndLemmas.{start_more}
 use Rattle.std.proofs.lemmas.List.{take_more}

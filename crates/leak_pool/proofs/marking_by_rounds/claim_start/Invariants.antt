@@ -1,3 +1,4 @@
+-- The blocks of the start so far are seen, and nothing else was claimed.
 use Rattle.std.proofs.Common.{◌≡◌, take}
 use Rattle.leak_marks.specs.Lists.{Within}
 use Rattle.leak_marks.specs.Seats.{IsSound}

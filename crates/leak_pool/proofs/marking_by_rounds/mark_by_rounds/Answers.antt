@@ -1,3 +1,4 @@
+-- From the lemmas of EndLemmas.
 use Rattle.std.proofs.Common.{◌≡◌, ℕ, List, [], Vec, Global, map, length, replicate, ap, sym, subst, ◌∙◌, arith}
 use Rattle.leak_marks.specs.Lists.{mark_of}
 use Rattle.leak_pool.specs.Marking.{IsSet}

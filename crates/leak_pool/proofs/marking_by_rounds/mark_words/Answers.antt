@@ -1,3 +1,4 @@
+-- From the lemmas of StepLemmas and EndLemmas.
 use Rattle.std.proofs.Common.{◌≡◌, ℕ, List, [], Vec, Global, length, ◌∙◌, ap, subst, arith}
 use Rattle.leak_marks.specs.Lists.{times, Within, mark_of, word_count}
 use Rattle.leak_pool.specs.Course.{HaveGone, HaveLed, IsCourse}

@@ -1,3 +1,4 @@
+-- An empty list for each worker so far.
 use Rattle.std.proofs.Common.{◌≡◌, map, replicate, length, []}
 use Rattle.leak_pool.proofs.marking_by_rounds.no_claims.Given as goal
 

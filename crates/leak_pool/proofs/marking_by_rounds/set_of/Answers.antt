@@ -1,3 +1,4 @@
+-- From the lemmas of EndLemmas.
 use Rattle.std.proofs.Common.{◌≡◌}
 use Rattle.leak_marks.specs.Lists.{mark_of}
 use Rattle.leak_pool.proofs.EndLemmas.{set_none, set_more}

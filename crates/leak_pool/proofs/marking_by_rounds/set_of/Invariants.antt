@@ -1,3 +1,4 @@
+-- The tests of the blocks so far.
 use Rattle.std.proofs.Common.{◌≡◌}
 use Rattle.leak_marks.specs.Lists.{mark_of}
 use Rattle.leak_pool.specs.Marking.{IsSet}

@@ -1,3 +1,4 @@
+-- From the lemmas of AbsorbLemmas.
 use Rattle.std.proofs.Common.{ℕ, List, Vec, Global, ◌∙◌, length-set, arith}
 use Rattle.leak_pool.proofs.AbsorbLemmas.{claims_more}
 use Rattle.leak_pool.proofs.rounds.absorb.Goals as goal

@@ -1,3 +1,4 @@
+-- The gained lists so far were appended.
 use Rattle.std.proofs.Common.{◌≡◌, map, drop, length}
 use Rattle.leak_marks.specs.Rounds.{appended_from}
 use Rattle.leak_pool.proofs.rounds.absorb.Given as goal

@@ -1,3 +1,4 @@
+-- From the lemmas of StepLemmas.
 use Rattle.std.proofs.Common.{◌≡◌, ◌<◌, ◌∙◌, ap, subst, ◌∷◌, ◌++◌, ℕ, List, [], Vec, Global, map, get_or, arith}
 use Rattle.std.specs.List.{concat}
 use Rattle.leak_marks.specs.Lists.{Has}

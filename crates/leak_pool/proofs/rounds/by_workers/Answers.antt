@@ -1,3 +1,4 @@
+-- From the lemmas of StepLemmas.
 use Rattle.std.proofs.Common.{◌≡◌, ◌<◌, ◌∙◌, refl, ap, subst, ◌++◌, ℕ, List, [], Vec, Global, length, map, arith, rules}
 use Rattle.std.specs.Prelude.{IfOk}
 use Rattle.leak_marks.specs.Rounds.{appended_from}

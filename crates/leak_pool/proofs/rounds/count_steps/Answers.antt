@@ -1,3 +1,4 @@
+-- From the lemmas of HalfLemmas and AbsorbLemmas.
 use Rattle.std.proofs.Common.{ℕ, ◌∙◌, ◌+◌, ◌-◌, ◌%◌, ◌^◌, ap, length-set, arith}
 use Rattle.std.proofs.lemmas.Grind.{get_or_default_zero}
 use Rattle.leak_pool.proofs.HalfLemmas.{share-mono}

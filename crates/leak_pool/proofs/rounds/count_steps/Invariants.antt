@@ -1,3 +1,4 @@
+-- The steps of the workers so far were counted.
 use Rattle.std.proofs.Common.{◌≡◌, length}
 use Rattle.leak_pool.specs.Rounds.{AreCounted}
 use Rattle.leak_pool.proofs.rounds.count_steps.Given as goal

@@ -1,3 +1,4 @@
+-- From the lemmas of WordLemmas.
 use Rattle.std.proofs.Common.{◌∙◌, sym}
 use Rattle.leak_pool.proofs.WordLemmas.{led_with, led_without}
 use Rattle.leak_pool.proofs.scope.of_memory.Goals as goal

@@ -1,3 +1,4 @@
+-- From the law of the source.
 use Rattle.leak_pool.proofs.source.targets_are_blocks.Goals as goal
 
 pub returns : goal.returns

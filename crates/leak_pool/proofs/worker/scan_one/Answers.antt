@@ -1,3 +1,4 @@
+-- From the lemmas of FromLemmas and ScanLemmas.
 use Rattle.std.proofs.Common.{◌≡◌, ◌∙◌, ap, sym, subst, ◌-◌, ◌++◌, ℕ, List, [], length, take, drop, append_assoc}
 use Rattle.std.proofs.lemmas.List.{take_rest, drop_at}
 use Rattle.leak_marks.specs.Lists.{Has}

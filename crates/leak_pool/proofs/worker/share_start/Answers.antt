@@ -1,3 +1,4 @@
+-- From the lemmas of HalfLemmas.
 use Rattle.std.proofs.Common.{arith}
 use Rattle.leak_pool.proofs.HalfLemmas.{share_is, share_within}
 use Rattle.leak_pool.proofs.worker.share_start.Goals as goal

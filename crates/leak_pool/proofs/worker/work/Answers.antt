@@ -1,3 +1,4 @@
+-- From the lemmas of ListLemmas, HalfLemmas and WorkLemmas.
 use Rattle.std.proofs.Common.{◌≡◌, ◌<◌, ◌≤◌, ◌∙◌, ◌+◌, ◌-◌, ◌^◌, ◌∷◌, ap, sym, subst, ℕ, List, [], length, arith}
 use Rattle.std.specs.Prelude.{slice_index_or, vec_capacity}
 use Rattle.std.proofs.lemmas.List.{append-nil, length-append}

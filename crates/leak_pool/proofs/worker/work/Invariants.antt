@@ -1,3 +1,4 @@
+-- The items so far were scanned; what was claimed for them was scanned too, or is on the stack or left.
 use Rattle.std.proofs.Common.{◌+◌, ◌-◌, ◌≡◌, ◌≤◌, length, vec_capacity, ℕ, ◌%◌, ◌^◌, ◌<◌}
 use Rattle.std.specs.Prelude.{slice_index_or}
 use Rattle.leak_pool.specs.Items.{InRange}

@@ -1,3 +1,4 @@
+-- From the lemmas of ItemLemmas.
 use Rattle.std.proofs.Common.{◌≤◌, length, leb→le, sym, subst}
 use Rattle.std.specs.Prelude.{◌↔◌}
 use Rattle.std.specs.Bool.{passes}

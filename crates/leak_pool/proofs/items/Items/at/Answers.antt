@@ -1,3 +1,4 @@
+-- From the lemmas of GoingLemmas and ItemLemmas.
 use Rattle.std.proofs.Common.{◌≡◌, ◌∙◌, ap, sym, length, arith}
 use Rattle.std.specs.Prelude.{slice_index_or}
 use Rattle.leak_pool.specs.Items.{items_in}

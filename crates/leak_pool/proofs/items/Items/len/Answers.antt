@@ -1,3 +1,4 @@
+-- From the lemmas of ItemLemmas.
 use Rattle.std.proofs.Common.{◌∙◌, ap, sym, length}
 use Rattle.leak_pool.specs.Items.{items_in}
 use Rattle.leak_pool.specs.declared.items.Items.{Items}

@@ -1,3 +1,4 @@
+-- From the law of the source, by arithmetic.
 use Rattle.std.proofs.Common.{List, ℕ, subst, sym, arith}
 use Rattle.leak_marks.specs.Lists.{Has}
 use Rattle.leak_pool.specs.Items.{IsItem}

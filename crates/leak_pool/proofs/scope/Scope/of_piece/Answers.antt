@@ -1,3 +1,4 @@
+-- By the kind of the piece.
 use Rattle.std.proofs.Common.{◌≡◌, sym, subst}
 use Rattle.leak_roots.specs.Pieces.{IsPiece}
 use Rattle.leak_pool.specs.Scopes.{piece_targets}

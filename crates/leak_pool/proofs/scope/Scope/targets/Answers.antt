@@ -1,3 +1,4 @@
+-- From the lemmas of ScopeLemmas.
 use Rattle.std.proofs.Common.{ℕ, ◌-◌, ◌<◌, ◌≤◌, List, length, get_or, ◌≡◌, ◌∙◌, ap, sym, subst, arith}
 use Rattle.leak_roots.specs.declared.piece.Piece.{Piece}
 use Rattle.leak_roots.specs.declared.piece.Piece.TheVariants.{Registers}

@@ -1,3 +1,4 @@
+-- By arithmetic, from what the calls promise.
 use Rattle.std.proofs.Common.{ℕ, List, subst, arith}
 use Rattle.leak_marks.specs.Lists.{Has}
 use Rattle.leak_pool.specs.ScopeLaw.{scope_inside}

@@ -1,3 +1,4 @@
+-- From the lemmas of Cutting.
 use Rattle.std.proofs.Common.{◌∙◌, ap, sym, subst}
 use Rattle.leak_roots.specs.Places.{Places, AreRanges}
 use Rattle.leak_roots.proofs.Cutting.{range_is, read_more, read_all}

@@ -1,3 +1,4 @@
+-- From the lemmas of Gaps and LeftOut.
 use Rattle.std.proofs.Common.{◌∙◌, ap, length, List, []}
 use Rattle.leak_notes.specs.Threads.{Registers, threads_of}
 use Rattle.leak_blocks.specs.declared.small.Span.{Span}

@@ -1,3 +1,4 @@
+-- From the lemmas of LeftOut.
 use Rattle.std.proofs.Common.{ap, ◌∙◌, filter, not}
 use Rattle.leak_roots.specs.Places.{Places, memory_places}
 use Rattle.leak_roots.specs.Roots.{is_inside}
