@@ -15,4 +15,4 @@ pub mod GatherLemmas
 pub mod SmallLemmas
 pub mod ReadLemmas
 pub mod RunLemmas
-pub mod CourseLemmas
+pub mod OngoingReplayLemmas

@@ -5,7 +5,7 @@ use Rattle.leak_mtrace.specs.declared.line.Line.{Line}
 use Rattle.leak_mtrace.specs.Log.{LinesFit}
 use Rattle.leak_mtrace.specs.Reading.{Reading, HasRead, HasReadAll}
 use Rattle.leak_blocks.specs.declared.block.Block.{Block}
-use Rattle.leak_blocks.specs.declared.course.Course.{Course}
+use Rattle.leak_blocks.specs.declared.ongoing_replay.OngoingReplay.{OngoingReplay}
 use Rattle.leak_blocks.specs.Span.{AreDisjoint, span_end}
 use Rattle.leak_blocks.specs.Live.{replay_of}
 use Rattle.leak_blocks.specs.declared.stage.Stage.{Stage}
@@ -57,35 +57,35 @@ pub record IsRunAfter (lines : List Line) (allocated : List Block) (entries : Li
   pub ended : displaced ≡ (replay_of lines).displaced
 
 -- the replay has come to this after these lines
-abbrev pub IsCourseAfter : List Line → Course → Type 0
-IsCourseAfter lines course = IsRunAfter lines course.allocated.items course.numbers.entries course.run.items course.low course.high course.unknown course.displaced
+abbrev pub IsOngoingAfter : List Line → OngoingReplay → Type 0
+IsOngoingAfter lines ongoing = IsRunAfter lines ongoing.allocated.items ongoing.numbers.entries ongoing.run.items ongoing.low ongoing.high ongoing.unknown ongoing.displaced
 
 -- the next line has this number
-abbrev pub HasComeTo : ℕ → Course → Type 0
-HasComeTo number course = (lines : List Line) × (number ≡ length lines + 1) × IsCourseAfter lines course
+abbrev pub HasComeTo : ℕ → OngoingReplay → Type 0
+HasComeTo number ongoing = (lines : List Line) × (number ≡ length lines + 1) × IsOngoingAfter lines ongoing
 
 -- the replay has gone over the line
-abbrev pub IsStepOf : Line → ℕ → Course → Course → Type 0
+abbrev pub IsStepOf : Line → ℕ → OngoingReplay → OngoingReplay → Type 0
 IsStepOf x number before after =
-    (lines : List Line) → number ≡ length lines + 1 → IsCourseAfter lines before → IsCourseAfter (lines ++ x ∷ []) after
+    (lines : List Line) → number ≡ length lines + 1 → IsOngoingAfter lines before → IsOngoingAfter (lines ++ x ∷ []) after
 
 -- the reader has come as far as the replay
-pub record HaveRead (reading : Reading) (course : Course) : Type 0 where
+pub record HaveRead (reading : Reading) (ongoing : OngoingReplay) : Type 0 where
   pub lines : List Line
   pub read : HasRead reading lines
-  pub replayed : IsCourseAfter lines course
+  pub replayed : IsOngoingAfter lines ongoing
 
 -- both have come to the end of the log
-pub record HaveReadAll (reading : Reading) (course : Course) : Type 0 where
+pub record HaveReadAll (reading : Reading) (ongoing : OngoingReplay) : Type 0 where
   pub lines : List Line
   pub read : HasReadAll reading lines
   pub fit : LinesFit lines
-  pub replayed : IsCourseAfter lines course
+  pub replayed : IsOngoingAfter lines ongoing
 
 -- there may be more, or they have come to the end
-abbrev pub HaveReadOn : Bool → Reading → Course → Type 0
-HaveReadOn true reading course = HaveRead reading course
-HaveReadOn false reading course = HaveReadAll reading course
+abbrev pub HaveReadOn : Bool → Reading → OngoingReplay → Type 0
+HaveReadOn true reading ongoing = HaveRead reading ongoing
+HaveReadOn false reading ongoing = HaveReadAll reading ongoing
 
 -- the reader and a replay between two arenas have come to the end of the log
 pub record AreAtEnd (reading : Reading) (stage : Stage) : Type 0 where

@@ -10,10 +10,10 @@
 #![tactic(auto)]
 
 mod block;
-mod course;
 mod laws;
 mod live;
 mod numbers;
+mod ongoing_replay;
 mod replaying;
 mod small;
 mod stage;

@@ -6,10 +6,10 @@ ghost use Rattle.leak_mtrace.specs.Reading.{HasReadAll};
 ghost use Rattle.leak_blocks.specs.Live.{is_allocation, is_give_back, replay_of};
 ghost use Rattle.leak_blocks.specs.Numbers.{IsStageAfter};
 ghost use Rattle.leak_blocks.specs.Outcome.{ComesTo, IsReplayOf, IsSpannedReplayOf};
-ghost use Rattle.leak_blocks.specs.Runs.{IsCourseAfter, AreAtEnd, HaveRead, HaveReadOn};
+ghost use Rattle.leak_blocks.specs.Runs.{IsOngoingAfter, AreAtEnd, HaveRead, HaveReadOn};
 
-use crate::course::Course;
 use crate::live::Live;
+use crate::ongoing_replay::OngoingReplay;
 use crate::small::SmallSpans;
 use crate::stage::{Stage, arena_bytes};
 use bumpalo::Bump;
@@ -31,16 +31,16 @@ pub(crate) fn is_give_back(line: &Line) -> bool
     matches!(line.kind, Kind::Free | Kind::MoveOut) && line.addr != 0
 }
 
-impl Course<'_> {
+impl OngoingReplay<'_> {
     /// Goes over the next line, and then over others until few of the arena's bytes are left. Returns how many lines it has
     /// gone over then.
     fn go_over(&mut self, arena: &Bump, lines: &[Line], next: usize) -> Result<usize, AllocError>
         requires in_log { next < length lines.now }
         requires fit { LinesFit lines.now }
-        requires so_far { IsCourseAfter (take next lines.now) self.old }
+        requires so_far { IsOngoingAfter (take next lines.now) self.old }
         ensures later { IfOk result
             (λ later. (next < later) × (later ≤ length lines.now)) }
-        ensures after { IfOk result (λ later. IsCourseAfter (take later lines.now) self.new) }
+        ensures after { IfOk result (λ later. IsOngoingAfter (take later lines.now) self.new) }
     {
         let mut at = next;
         loop {
@@ -94,9 +94,9 @@ fn replay_lines(alloc: Global, lines: &[Line]) -> Result<Live, AllocError>
     let mut next = 0;
     while next < lines.len() {
         let arena = Bump::try_with_capacity(alloc, arena_bytes(allocations))?;
-        let mut course = stage.begin(&arena)?;
-        next = course.go_over(&arena, lines, next)?;
-        stage = course.end()?;
+        let mut ongoing = stage.begin(&arena)?;
+        next = ongoing.go_over(&arena, lines, next)?;
+        stage = ongoing.end()?;
     }
     stage.live(alloc)
 }
@@ -131,9 +131,9 @@ fn go_through(alloc: Global, bytes: &[u8]) -> Result<(Stage, Reader<'_>), LogErr
     let mut more = true;
     while more {
         let arena = Bump::try_with_capacity(alloc, arena_bytes(lines))?;
-        let mut course = stage.begin(&arena)?;
-        more = course.read_on(&arena, &mut reader)?;
-        stage = course.end()?;
+        let mut ongoing = stage.begin(&arena)?;
+        more = ongoing.read_on(&arena, &mut reader)?;
+        stage = ongoing.end()?;
     }
     Ok((stage, reader))
 }

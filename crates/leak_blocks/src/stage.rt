@@ -4,11 +4,11 @@ ghost use Rattle.leak_mtrace.specs.declared.line.Line.{Line};
 ghost use Rattle.leak_mtrace.specs.Log.{LinesFit};
 ghost use Rattle.leak_blocks.specs.Live.{replay_of};
 ghost use Rattle.leak_blocks.specs.Numbers.{HaveBlocks, AreBlocksOf, CountUp, IsStageAfter};
-ghost use Rattle.leak_blocks.specs.Runs.{IsCourseAfter};
+ghost use Rattle.leak_blocks.specs.Runs.{IsOngoingAfter};
 
 use crate::block::Block;
-use crate::course::{Course, joined, place};
 use crate::live::Live;
+use crate::ongoing_replay::{OngoingReplay, joined, place};
 use bumpalo::Bump;
 use std::alloc::{AllocError, Global};
 use std::collections::BTreeMap;
@@ -59,16 +59,16 @@ impl Stage {
     ///
     /// An arena never uses a freed node again. So when the lines would fill the old one, the allocations are placed in a new
     /// one, which is then at most four fifths full.
-    pub(crate) fn begin(self, arena: &Bump) -> Result<Course<'_>, AllocError>
+    pub(crate) fn begin(self, arena: &Bump) -> Result<OngoingReplay<'_>, AllocError>
         requires { (lines : List Line) × IsStageAfter lines self }
-        ensures { IfOk result (λ course. (lines : List Line)
-            → IsStageAfter lines self → IsCourseAfter lines course) }
+        ensures { IfOk result (λ ongoing. (lines : List Line)
+            → IsStageAfter lines self → IsOngoingAfter lines ongoing) }
     {
         let mut numbers = BTreeMap::new(arena);
         let mut run = self.numbers;
         place(&mut numbers, self.allocated.as_slice(), run.as_slice())?;
         run.clear();
-        Ok(Course {
+        Ok(OngoingReplay {
             allocated: self.allocated,
             numbers,
             run,
@@ -90,7 +90,7 @@ impl Stage {
     }
 }
 
-impl Course<'_> {
+impl OngoingReplay<'_> {
     /// Whether the arena of the map may have too few bytes left for the next line.
     pub(crate) fn is_full(&self, arena: &Bump) -> bool {
         arena.chunk_capacity() < node_bytes(self.run.len())
@@ -98,9 +98,9 @@ impl Course<'_> {
 
     /// Leaves the arena.
     pub(crate) fn end(self) -> Result<Stage, AllocError>
-        requires { (lines : List Line) × IsCourseAfter lines self }
+        requires { (lines : List Line) × IsOngoingAfter lines self }
         ensures { IfOk result (λ stage. (lines : List Line)
-            → IsCourseAfter lines self.entry → IsStageAfter lines stage) }
+            → IsOngoingAfter lines self.entry → IsStageAfter lines stage) }
     {
         let (allocated, run) = (self.allocated, self.run);
         let numbers = joined(&self.numbers, allocated.as_slice(), run)?;

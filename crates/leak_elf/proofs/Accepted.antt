@@ -10,7 +10,7 @@ use Rattle.leak_elf.specs.declared.segment.Segment.{Segment}
 use Rattle.leak_elf.specs.declared.segment.NotePart.{NotePart}
 use Rattle.leak_elf.specs.declared.error.ElfError.TheVariants.{Truncated, SizeOrder, Wrap, Overlap}
 use Rattle.leak_elf.specs.Headers.{is_load, is_note}
-use Rattle.leak_elf.specs.Segments.{by_address, ascending, segment_of, part_of, IsKept, AreKept, AreSegments, AreParts}
+use Rattle.leak_elf.specs.Segments.{by_address, ascending, segment_of, part_of, IsKeptSegment, AreKeptSegments, AreSegments, AreParts}
 use Rattle.leak_elf.specs.Headers.{has_addresses, share_address}
 use Rattle.leak_elf.specs.Refusals.{first_fault, header_fault, faults_from}
 use Rattle.leak_elf.proofs.Kept.{was}
@@ -55,7 +55,7 @@ Beside : Segment → Segment → Type 0
 Beside s t = (s.vaddr + s.memsz ≤ t.vaddr) ⊎ (t.vaddr + t.memsz ≤ s.vaddr)
 
 -- the place at which a segment is put
-pub record Place (s : Segment) (xs : List Segment) : Type 0 where
+pub record InsertionPlace (s : Segment) (xs : List Segment) : Type 0 where
   pub at : ℕ
   pub bound : at ≤ length xs
   pub is : by_address s xs ≡ insert xs at s
@@ -66,7 +66,7 @@ within_more : (s t : Segment) (ts : List Segment) (n : ℕ) → t.vaddr ≤ s.va
 within_more s t ts n h p zero d l = h
 within_more s t ts n h p (suc k) d l = p k d (omega arith)
 
-place_by : (s t : Segment) (ts : List Segment) (b : Bool) → ltb s.vaddr t.vaddr ≡ b → Place s ts → Place s (t ∷ ts)
+place_by : (s t : Segment) (ts : List Segment) (b : Bool) → ltb s.vaddr t.vaddr ≡ b → InsertionPlace s ts → InsertionPlace s (t ∷ ts)
 place_by s t ts true e r = record { at = 0; bound = omega arith; is = rw e refl; within = λ k d l. absurd (omega arith); beyond = λ d l. ltb-true _ _ e }
 place_by s t ts false e r = record {
   at = suc r.at;
@@ -76,7 +76,7 @@ place_by s t ts false e r = record {
   beyond = λ d l. r.beyond d (omega arith);
 }
 
-pub place : (s : Segment) (xs : List Segment) → Place s xs
+pub place : (s : Segment) (xs : List Segment) → InsertionPlace s xs
 place s [] = record { at = 0; bound = omega arith; is = refl; within = λ k d l. absurd (omega arith); beyond = λ d l. absurd (omega arith) }
 place s (t ∷ ts) = place_by s t ts (ltb s.vaddr t.vaddr) refl (place s ts)
 
@@ -88,7 +88,7 @@ after_it : (s t : Segment) → 0 < t.memsz → s.vaddr < t.vaddr → Beside s t 
 unfolding Beside
 after_it s t m l b = elim b [ inl h ↦ h | inr h ↦ absurd (omega arith) ]
 
-insert_apart : (s : Segment) (xs : List Segment) (p : Place s xs) → AreKept xs → IsKept s → ((k : ℕ) (d : Segment) → k < length xs → Beside s (get_or xs k d)) → AreKept (insert xs p.at s)
+insert_apart : (s : Segment) (xs : List Segment) (p : InsertionPlace s xs) → AreKeptSegments xs → IsKeptSegment s → ((k : ℕ) (d : Segment) → k < length xs → Beside s (get_or xs k d)) → AreKeptSegments (insert xs p.at s)
 insert_apart s xs p kept one beside =
     let n = length-insert xs p.at s p.bound in
     let pb = p.bound in
@@ -125,7 +125,7 @@ insert_apart s xs p kept one beside =
           ];
     }
 
-grows : (file : List ℕ) (s : Segment) (xs : List Segment) → AreSegments file xs → IsKept s → (0 < s.filesz → s.offset + s.filesz ≤ length file) → ((k : ℕ) (d : Segment) → k < length xs → Beside s (get_or xs k d)) → AreSegments file (by_address s xs)
+grows : (file : List ℕ) (s : Segment) (xs : List Segment) → AreSegments file xs → IsKeptSegment s → (0 < s.filesz → s.offset + s.filesz ≤ length file) → ((k : ℕ) (d : Segment) → k < length xs → Beside s (get_or xs k d)) → AreSegments file (by_address s xs)
 grows file s xs segs one dumped beside =
     let p = place s xs in
     let n = length-insert xs p.at s p.bound in

@@ -8,10 +8,10 @@ use Rattle.std.proofs.lemmas.Bool.Decides.{leb_tells}
 use Rattle.leak_elf.specs.declared.segment.Segment.{Segment}
 use Rattle.leak_elf.specs.Fields.{number_at}
 use Rattle.leak_elf.specs.Words.{holds_word, word_in, NoneHeld, IsNextHeld, word_of}
-use Rattle.leak_elf.specs.Segments.{IsAscending, AreKept, segments_of}
+use Rattle.leak_elf.specs.Segments.{IsAscending, AreKeptSegments, segments_of}
 use Rattle.leak_elf.specs.Words.{IsNextReadable, IsRun}
 
-pub ascend : (segs : List Segment) → AreKept segs → IsAscending segs
+pub ascend : (segs : List Segment) → AreKeptSegments segs → IsAscending segs
 ascend segs kept j k d le lt =
     elim (leb_tells k j) [
       | inl t ↦ let e : j ≡ k = omega arith in rw e (omega arith)
@@ -48,7 +48,7 @@ pub word_odd : (file : List ℕ) (segs : List Segment) (a : ℕ) → (a % 8 ≡ 
 unfolding word_in
 word_odd file segs a h = rw (ne_eqb (a % 8) 0 h) refl
 
-pub word_some : (file : List ℕ) (segs : List Segment) (a i : ℕ) (d : Segment) → AreKept segs → eqb (a % 8) 0 ≡ true → i < length segs → (get_or segs i d).vaddr ≤ a → a + 8 ≤ (get_or segs i d).vaddr + (get_or segs i d).filesz
+pub word_some : (file : List ℕ) (segs : List Segment) (a i : ℕ) (d : Segment) → AreKeptSegments segs → eqb (a % 8) 0 ≡ true → i < length segs → (get_or segs i d).vaddr ≤ a → a + 8 ≤ (get_or segs i d).vaddr + (get_or segs i d).filesz
     → word_in file segs a ≡ Some (number_at w64 file ((get_or segs i d).offset + (a - (get_or segs i d).vaddr)))
 unfolding word_in
 word_some file segs a i d kept e l low high =
@@ -57,13 +57,13 @@ word_some file segs a i d kept e l low high =
     rw (e, f) refl
 
 -- a word lies in no segment but the last that begins at its address or before it
-pub only_last : (segs : List Segment) (a n : ℕ) → AreKept segs → ((k : ℕ) (d : Segment) → k < n → (get_or segs k d).vaddr ≤ a) → n ≤ length segs → ((k : ℕ) (d : Segment) → n ≤ k → k < length segs → a < (get_or segs k d).vaddr)
+pub only_last : (segs : List Segment) (a n : ℕ) → AreKeptSegments segs → ((k : ℕ) (d : Segment) → k < n → (get_or segs k d).vaddr ≤ a) → n ≤ length segs → ((k : ℕ) (d : Segment) → n ≤ k → k < length segs → a < (get_or segs k d).vaddr)
     → (k : ℕ) (d : Segment) (b : ℕ) → k + 1 < n → a ≤ b → holds_word b (get_or segs k d) ≡ false
 only_last segs a n kept below le above k d b l ab =
     not_held b (get_or segs k d) (λ p q. let r = kept.apart k (k + 1) d (omega arith) (omega arith) in let z = kept.each k d (omega arith) in let w = below (k + 1) d l in omega arith)
 
 -- the last such segment holds no word at the address
-pub no_word_at : (file : List ℕ) (segs : List Segment) (a n : ℕ) (d : Segment) → AreKept segs → ((k : ℕ) (d : Segment) → k < n → (get_or segs k d).vaddr ≤ a) → n ≤ length segs → ((k : ℕ) (d : Segment) → n ≤ k → k < length segs → a < (get_or segs k d).vaddr)
+pub no_word_at : (file : List ℕ) (segs : List Segment) (a n : ℕ) (d : Segment) → AreKeptSegments segs → ((k : ℕ) (d : Segment) → k < n → (get_or segs k d).vaddr ≤ a) → n ≤ length segs → ((k : ℕ) (d : Segment) → n ≤ k → k < length segs → a < (get_or segs k d).vaddr)
     → (get_or segs (n - 1) d).vaddr + (get_or segs (n - 1) d).filesz - a < 8 → word_in file segs a ≡ None
 no_word_at file segs a n d kept below le above short =
     word_none file segs a d (λ k l.
@@ -81,7 +81,7 @@ get_any (s ∷ ss) zero d e l = refl
 get_any (s ∷ ss) (suc i) d e l = get_any ss i d e (omega arith)
 
 -- the first multiple of 8 in the segment, and none before
-pub next_at : (segs : List Segment) (from i : ℕ) (d : Segment) (low : ℕ) → AreKept segs → i < length segs → NoneHeld segs i from → low ≡ max from (get_or segs i d).vaddr
+pub next_at : (segs : List Segment) (from i : ℕ) (d : Segment) (low : ℕ) → AreKeptSegments segs → i < length segs → NoneHeld segs i from → low ≡ max from (get_or segs i d).vaddr
     → (8 - low % 8) % 8 + 8 ≤ (get_or segs i d).vaddr + (get_or segs i d).filesz - low → IsNextHeld segs from (Some (low + (8 - low % 8) % 8))
 next_at segs from i d low kept l none e room =
     let s = get_or segs i d in
@@ -101,7 +101,7 @@ next_at segs from i d low kept l none e room =
     )
 
 -- what `find_next` gives is the next readable address
-next_in : (file : List ℕ) (segs : List Segment) (from : ℕ) (d : Segment) (r : Option ℕ) → AreKept segs → IsNextHeld segs from r → IsNextReadable (word_in file segs) from r
+next_in : (file : List ℕ) (segs : List Segment) (from : ℕ) (d : Segment) (r : Option ℕ) → AreKeptSegments segs → IsNextHeld segs from r → IsNextReadable (word_in file segs) from r
 next_in file segs from d None kept h = λ a f.
     elim (cases_eq (a % 8) 0) [ inl e ↦ word_none file segs a d (λ k l. h k d a l f e) | inr n ↦ word_odd file segs a n ]
 next_in file segs from d (Some n) kept h =
@@ -112,7 +112,7 @@ next_in file segs from d (Some n) kept h =
       λ a f l. elim (cases_eq (a % 8) 0) [ inl e ↦ word_none file segs a d (λ k m. h.3 k d a m f l e) | inr n ↦ word_odd file segs a n ],
     )
 
-pub next_readable : (file : List ℕ) (segs : List Segment) (from : ℕ) (d : Segment) (r : Option ℕ) → segs ≡ segments_of file → AreKept segs → IsNextHeld segs from r → IsNextReadable (word_of file) from r
+pub next_readable : (file : List ℕ) (segs : List Segment) (from : ℕ) (d : Segment) (r : Option ℕ) → segs ≡ segments_of file → AreKeptSegments segs → IsNextHeld segs from r → IsNextReadable (word_of file) from r
 unfolding word_of
 next_readable file segs from d r e kept h = subst (λ (xs : List Segment). IsNextReadable (word_in file xs) from r) e (next_in file segs from d r kept h)
 
@@ -132,7 +132,7 @@ unfolding number_at
 number_in file a b k h = ap (from_le_bytes w64) (slice_of_slice file a b k h)
 
 -- the dumped bytes of a segment from an address on
-pub run_at : (file : List ℕ) (segs : List Segment) (from i start : ℕ) (d : Segment) → AreKept segs → from % 8 ≡ 0 → i < length segs → (get_or segs i d).vaddr ≤ from → from < (get_or segs i d).vaddr + (get_or segs i d).filesz → start ≡ (get_or segs i d).offset + (from - (get_or segs i d).vaddr)
+pub run_at : (file : List ℕ) (segs : List Segment) (from i start : ℕ) (d : Segment) → AreKeptSegments segs → from % 8 ≡ 0 → i < length segs → (get_or segs i d).vaddr ≤ from → from < (get_or segs i d).vaddr + (get_or segs i d).filesz → start ≡ (get_or segs i d).offset + (from - (get_or segs i d).vaddr)
     → IsRun (word_in file segs) from (slice_range file start (start + ((get_or segs i d).vaddr + (get_or segs i d).filesz - from)))
 run_at file segs from i start d kept e l low high at k h =
     let s = get_or segs i d in

@@ -4,7 +4,7 @@ use Rattle.std.proofs.lemmas.Bool.{and_parts, leb-true, cases_lt, cases_order}
 use Rattle.std.proofs.lemmas.List.{get_or-set_same, get_or-set_other}
 use Rattle.std.specs.Option.{is_some}
 use Rattle.leak_elf.specs.declared.segment.Segment.{Segment}
-use Rattle.leak_elf.specs.Segments.{AreKept}
+use Rattle.leak_elf.specs.Segments.{AreKeptSegments}
 use Rattle.leak_elf.specs.Words.{holds_word, NoneHeld, IsNextHeld, IsHolder}
 use Rattle.leak_elf.proofs.Held.{get_any, not_held, only_last}
 
@@ -60,7 +60,7 @@ holder_end segs n e = record {
 }
 
 -- the segments that begin at the address or before it hold no word from it on
-pub none_before : (segs : List Segment) (from n : ℕ) (d : Segment) → AreKept segs → n ≤ length segs → ((k : ℕ) (d : Segment) → k < n → (get_or segs k d).vaddr ≤ from) → ((k : ℕ) (d : Segment) → n ≤ k → k < length segs → from < (get_or segs k d).vaddr)
+pub none_before : (segs : List Segment) (from n : ℕ) (d : Segment) → AreKeptSegments segs → n ≤ length segs → ((k : ℕ) (d : Segment) → k < n → (get_or segs k d).vaddr ≤ from) → ((k : ℕ) (d : Segment) → n ≤ k → k < length segs → from < (get_or segs k d).vaddr)
     → (0 < n → IsNextHeld (get_or segs (n - 1) d ∷ []) from None) → NoneHeld segs n from
 none_before segs from n d kept le below above last k d' a l fa m =
     elim (cases_lt (k + 1) n) [
@@ -77,7 +77,7 @@ none_until segs from n holder none h k d a l fa m =
     ]
 
 -- what the first segment with a word gives is the least of all
-pub least_of : (segs : List Segment) (from i n : ℕ) (d : Segment) → AreKept segs → i < length segs → NoneHeld segs i from → IsNextHeld (get_or segs i d ∷ []) from (Some n) → IsNextHeld segs from (Some n)
+pub least_of : (segs : List Segment) (from i n : ℕ) (d : Segment) → AreKeptSegments segs → i < length segs → NoneHeld segs i from → IsNextHeld (get_or segs i d ∷ []) from (Some n) → IsNextHeld segs from (Some n)
 least_of segs from i n d kept l none h =
     let s = get_or segs i d in
     let here = held_alone s d h.2.0 n h.2.1 (h.2.2 d) in
@@ -103,14 +103,14 @@ least_of segs from i n d kept l none h =
     )
 
 -- so does the last segment that begins at the address or before it
-pub least_here : (segs : List Segment) (from n : ℕ) (d : Segment) (r : Option ℕ) → AreKept segs → 0 < n → n ≤ length segs → ((k : ℕ) (d : Segment) → k < n → (get_or segs k d).vaddr ≤ from) → ((k : ℕ) (d : Segment) → n ≤ k → k < length segs → from < (get_or segs k d).vaddr)
+pub least_here : (segs : List Segment) (from n : ℕ) (d : Segment) (r : Option ℕ) → AreKeptSegments segs → 0 < n → n ≤ length segs → ((k : ℕ) (d : Segment) → k < n → (get_or segs k d).vaddr ≤ from) → ((k : ℕ) (d : Segment) → n ≤ k → k < length segs → from < (get_or segs k d).vaddr)
     → IsNextHeld (get_or segs (n - 1) d ∷ []) from r → is_some r ≡ true → IsNextHeld segs from r
 least_here segs from n d None kept p le below above h t = absurd (true≢false (sym t))
 least_here segs from n d (Some x) kept p le below above h t =
     least_of segs from (n - 1) x d kept (omega arith) (λ k d' a l fa m. only_last segs from n kept below le above k d' a (omega arith) fa) h
 
 -- the holder gives a word
-pub holder_gives : (segs : List Segment) (from i n : ℕ) (d : Segment) (r : Option ℕ) → AreKept segs → i < length segs → n ≤ i → from < (get_or segs i d).vaddr → IsHolder segs n i → NoneHeld segs i from → IsNextHeld (get_or segs i d ∷ []) from r → IsNextHeld segs from r
+pub holder_gives : (segs : List Segment) (from i n : ℕ) (d : Segment) (r : Option ℕ) → AreKeptSegments segs → i < length segs → n ≤ i → from < (get_or segs i d).vaddr → IsHolder segs n i → NoneHeld segs i from → IsNextHeld (get_or segs i d ∷ []) from r → IsNextHeld segs from r
 holder_gives segs from i n d None kept l le low holder none h =
     let some = holder.some d l in
     let p = and_parts _ _ some.2 in

@@ -17,15 +17,15 @@ use Rattle.leak_elf.proofs.Held.{word_none, word_odd, word_some}
 use Rattle.leak_elf.proofs.Meets.{any_ascending}
 
 -- what is found, and what any test says of it
-data Found (q : Header → Bool) (hs : List Header) (r : Option Header) : Type 0 where
-  none : r ≡ None → list_any q hs ≡ false → Found q hs r
-  one : (h : Header) → r ≡ Some h → q h ≡ true → ((p : Header → Bool) → p h ≡ true → list_any p hs ≡ true) → Found q hs r
+data FirstHeader (q : Header → Bool) (hs : List Header) (r : Option Header) : Type 0 where
+  none : r ≡ None → list_any q hs ≡ false → FirstHeader q hs r
+  one : (h : Header) → r ≡ Some h → q h ≡ true → ((p : Header → Bool) → p h ≡ true → list_any p hs ≡ true) → FirstHeader q hs r
 
 pub or_true : (a b : Bool) → b ≡ true → (a || b) ≡ true
 or_true true b e = refl
 or_true false b e = e
 
-found_step : (q : Header → Bool) (h : Header) (hs : List Header) (b : Bool) → q h ≡ b → Found q hs (find q hs) → Found q (h ∷ hs) (find q (h ∷ hs))
+found_step : (q : Header → Bool) (h : Header) (hs : List Header) (b : Bool) → q h ≡ b → FirstHeader q hs (find q hs) → FirstHeader q (h ∷ hs) (find q (h ∷ hs))
 found_step q h hs true e f = one h (rw e refl) e (λ p t. rw t refl)
 found_step q h hs false e f =
     elim f [
@@ -33,7 +33,7 @@ found_step q h hs false e f =
       | one g r t any ↦ one g (rw e r) t (λ p u. or_true (p h) (list_any p hs) (any p u))
     ]
 
-found : (q : Header → Bool) (hs : List Header) → Found q hs (find q hs)
+found : (q : Header → Bool) (hs : List Header) → FirstHeader q hs (find q hs)
 found q [] = none refl refl
 found q (h ∷ hs) = found_step q h hs (q h) refl (found q hs)
 
@@ -104,7 +104,7 @@ load_of a h t =
     let v = and_parts (is_load h) (ltb 0 h.memsz) u.0 in
     and_from (is_load h) (holds_word a (segment_of h)) v.0 u.1
 
-plain_in : (file : List ℕ) (hs : List Header) (a : ℕ) → a % 8 ≡ 0 → AreSegments file (ascending [] (map segment_of (filter has_addresses hs))) → list_any oversized hs ≡ false → (r : Option Header) → Found (header_holds a) hs r
+plain_in : (file : List ℕ) (hs : List Header) (a : ℕ) → a % 8 ≡ 0 → AreSegments file (ascending [] (map segment_of (filter has_addresses hs))) → list_any oversized hs ≡ false → (r : Option Header) → FirstHeader (header_holds a) hs r
     → word_in file (ascending [] (map segment_of (filter has_addresses hs))) a ≡ option_map (λ h. number_at w64 file (h.offset + (a - h.vaddr))) r
 plain_in file hs a e segs fits r f =
     let xs = ascending [] (map segment_of (filter has_addresses hs)) in

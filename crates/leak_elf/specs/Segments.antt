@@ -48,7 +48,7 @@ unfoldable pub undumped_of : List ℕ → ℕ
 undumped_of file = lacking (segments_of file)
 
 -- a segment has addresses, which end below 2 ^ 64, and no more dumped bytes than addresses
-pub record IsKept (s : Segment) : Type 0 where
+pub record IsKeptSegment (s : Segment) : Type 0 where
   pub some : 0 < s.memsz
   pub sizes : s.filesz ≤ s.memsz
   pub high : s.vaddr + s.memsz < 2 ^ 64
@@ -67,13 +67,13 @@ unfoldable pub meet_within : List Header → ℕ → Bool
 meet_within hs n = any_meet (kept_of (take n hs))
 
 -- the segments ascend, and no two have an address in common
-pub record AreKept (segments : List Segment) : Type 0 where
+pub record AreKeptSegments (segments : List Segment) : Type 0 where
   pub apart : (j k : ℕ) (d : Segment) → j < k → k < length segments → (slice_index_or segments j d).vaddr + (slice_index_or segments j d).memsz ≤ (slice_index_or segments k d).vaddr
-  pub each : (k : ℕ) (d : Segment) → k < length segments → IsKept (slice_index_or segments k d)
+  pub each : (k : ℕ) (d : Segment) → k < length segments → IsKeptSegment (slice_index_or segments k d)
 
 -- and their dumped bytes are in the file
 pub record AreSegments (file : List ℕ) (segments : List Segment) : Type 0 where
-  pub kept : AreKept segments
+  pub kept : AreKeptSegments segments
   pub dumped : (k : ℕ) (d : Segment) → k < length segments → 0 < (slice_index_or segments k d).filesz → (slice_index_or segments k d).offset + (slice_index_or segments k d).filesz ≤ length file
 
 -- the bytes of each part are in the file

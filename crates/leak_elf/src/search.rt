@@ -2,7 +2,7 @@
 
 ghost use Rattle.std.specs.Prelude.{◌≡◌, ◌≤◌, ◌+◌, ◌<◌, ◌%◌, ◌^◌, ℕ, [], ◌∷◌, length, slice_index_or, IfSome, IfOk};
 ghost use Rattle.leak_elf.specs.declared.segment.Segment.{Segment};
-ghost use Rattle.leak_elf.specs.Segments.{IsAscending, AreSegments, IsKept, AreKept};
+ghost use Rattle.leak_elf.specs.Segments.{IsAscending, AreSegments, IsKeptSegment, AreKeptSegments};
 ghost use Rattle.leak_elf.specs.Words.{IsRun, word_in, IsNextHeld, AreHolders};
 
 use crate::fields::u64_at;
@@ -44,7 +44,7 @@ pub(crate) fn find_word(core: &[u8], segments: &[Segment], addr: u64) -> Option<
 
 /// The least address from `from` on whose word the segment holds.
 fn find_next_in(segment: Segment, from: u64) -> Option<u64>
-    requires { IsKept segment }
+    requires { IsKeptSegment segment }
     ensures least { IsNextHeld (segment ∷ []) from result }
     ensures place { IfSome result (λ addr. (addr % 8 ≡ 0) × (addr + 8 ≤ 2 ^ 64)) }
 {
@@ -60,7 +60,7 @@ fn find_next_in(segment: Segment, from: u64) -> Option<u64>
 /// For each segment, the number of the first segment at or after it that holds a word, or the number of
 /// segments if there is none.
 pub(crate) fn find_holders(alloc: Global, segments: &[Segment]) -> Result<Vec<usize>, AllocError>
-    requires { AreKept segments.now }
+    requires { AreKeptSegments segments.now }
     ensures { IfOk result (λ v. AreHolders segments.now v.items) }
 {
     let mut holder = segments.len();
@@ -79,7 +79,7 @@ pub(crate) fn find_holders(alloc: Global, segments: &[Segment]) -> Result<Vec<us
 /// Of the segments that begin up to `from` only the last can hold it. The table of holders gives the
 /// first of the later ones that can, since tens of thousands in a row may hold no word.
 pub(crate) fn find_next(segments: &[Segment], holders: &[usize], from: u64) -> Option<u64>
-    requires kept { AreKept segments.now }
+    requires kept { AreKeptSegments segments.now }
     requires holders { AreHolders segments.now holders.now }
     ensures least { IsNextHeld segments.now from result }
     ensures place { IfSome result (λ addr. (addr % 8 ≡ 0) × (addr + 8 ≤ 2 ^ 64)) }

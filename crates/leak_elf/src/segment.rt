@@ -3,7 +3,7 @@
 ghost use Rattle.std.specs.Prelude.{◌≡◌, ◌<◌, ℕ, length, slice_index_or, map, filter, IfOk};
 ghost use Rattle.leak_elf.specs.declared.segment.Segment.{Segment};
 ghost use Rattle.leak_elf.specs.Headers.{is_note};
-ghost use Rattle.leak_elf.specs.Segments.{kept_of, IsAscending, AreKept, segment_of, part_of, any_meet, lacking};
+ghost use Rattle.leak_elf.specs.Segments.{kept_of, IsAscending, AreKeptSegments, segment_of, part_of, any_meet, lacking};
 
 use crate::header::{Header, PF_W, PT_LOAD, PT_NOTE};
 use std::alloc::{AllocError, Global};
@@ -84,7 +84,7 @@ pub(crate) fn neighbors_meet(segments: &[Segment]) -> bool
 
 /// How many bytes the file lacks of the writable segments.
 pub(crate) fn sum_undumped(segments: &[Segment]) -> u64
-    requires { AreKept segments.now }
+    requires { AreKeptSegments segments.now }
     ensures { result ≡ lacking segments.now }
 {
     let mut total = 0;

@@ -1,6 +1,6 @@
 -- The definitions of this crate, by subject.
 pub mod Since
-pub mod Links
+pub mod Edges
 pub mod Scenes
 pub mod Text
 pub mod Rows

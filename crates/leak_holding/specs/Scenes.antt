@@ -15,7 +15,7 @@ use Rattle.leak_input.specs.declared.inputs.Input.{Input}
 use Rattle.leak_input.specs.declared.marking.Ground.{Ground}
 use Rattle.leak_input.specs.Inputs.{AreRootsFor, IsInput}
 use Rattle.leak_holding.specs.declared.scene.Scene.{Scene}
-use Rattle.leak_holding.specs.Links.{AreLinksOf}
+use Rattle.leak_holding.specs.Edges.{AreEdgesOf}
 use Rattle.leak_holding.specs.Since.{counted_of}
 
 -- what leads to what in the input
@@ -33,7 +33,7 @@ pub record IsGroundOf (reading : Distances) (input : Input) (ground : Ground) : 
 
 pub record IsSceneOf (log : List ℕ) (since : Option (List ℕ)) (reading : Distances) (input : Input) (scene : Scene) : Type 0 where
   pub of : IsGroundOf reading input scene.ground.now
-  pub listed : AreLinksOf input scene.ground.now scene.links
+  pub listed : AreEdgesOf input scene.ground.now scene.edges
   pub few : length input.live.blocks < 2 ^ 32
   pub marked : IsSet scene.set.items (length input.live.blocks) (Reach (graph_with input scene.ground.now.lookup scene.ground.now.roots))
   pub numbered : AreTexts log input.live.blocks (bytes_each scene.texts.texts.items) scene.texts.numbers.items

@@ -96,7 +96,7 @@ fn answer<R: Threads + Sync, P: Progress>(
         alloc,
         input,
         scene.ground,
-        &scene.links,
+        &scene.edges,
         &facts,
         texts.len() as u32,
         question.side,

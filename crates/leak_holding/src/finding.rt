@@ -64,9 +64,9 @@ pub fn find_holders<R: Threads + Sync, P: Progress>(
     let ground = ground_of(alloc, &input, reading)?;
     let crew = Crew::new(rt, plan.workers(), progress);
     let scene = scene_of(rt, alloc, &input, &ground, files, crew.workers)?;
-    let (ground, links) = (scene.ground, &scene.links);
+    let (ground, edges) = (scene.ground, &scene.edges);
     let (facts, texts) = (facts_of(&input, &scene), scene.texts.texts.as_slice());
-    let rows = rows_of(&crew, alloc, &input, ground, links, &facts, texts.len())?;
+    let rows = rows_of(&crew, alloc, &input, ground, edges, &facts, texts.len())?;
     let head = head_of(&input, &ground.roots, None);
     let new = new(files.since, facts.counted);
     let rows = rows.as_slice();

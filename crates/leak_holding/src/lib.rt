@@ -33,10 +33,10 @@
 mod answering;
 mod asking;
 mod choosing;
+mod edges;
 mod files;
 mod finding;
 mod held;
-mod links;
 mod ranking;
 mod scene;
 mod since;

@@ -7,8 +7,8 @@ ghost use Rattle.leak_input.specs.Inputs.{IsRead};
 ghost use Rattle.leak_holding.specs.Scenes.{AreFactsOf, IsGroundOf, IsMany, IsSceneOf};
 ghost use Rattle.leak_holding.specs.Since.{earlier};
 
+use crate::edges::{InputEdges, edges_of, mark};
 use crate::files::Files;
-use crate::links::{Links, links_of, mark};
 use crate::since::counted;
 use leak_holders::Facts;
 use leak_input::{FindError, Ground, Input};
@@ -20,7 +20,7 @@ use std::thread::Threads;
 #[derive(Drop)]
 pub(crate) struct Scene<'a, 'b> {
     pub(crate) ground: &'a Ground<'a>,
-    pub(crate) links: Links<'a>,
+    pub(crate) edges: InputEdges<'a>,
     /// For each block, whether a chain reaches it.
     pub(crate) set: Vec<bool>,
     /// The texts of the callers, and the number of each block's.
@@ -51,13 +51,13 @@ pub(crate) fn scene_of<'a, 'b, R: Threads + Sync>(
     ensures refused { IfErr result (λ e. e ≢ FindError.NoMemory
         → IsMany (length input.now.live.blocks) e) }
 {
-    let links = links_of(rt, alloc, input, ground, workers)?;
-    let set = mark(alloc, input, ground, &links)?;
+    let edges = edges_of(rt, alloc, input, ground, workers)?;
+    let set = mark(alloc, input, ground, &edges)?;
     let texts = number_texts(alloc, input.live.blocks(), files.log)?;
     let counted = counted(alloc, files.since, input.live.blocks())?;
     Ok(Scene {
         ground,
-        links,
+        edges,
         set,
         texts,
         counted,

@@ -9,7 +9,7 @@ use Rattle.leak_blocks.specs.Span.{AreDisjoint, span_end}
 use Rattle.leak_index.specs.Bounds.{AreWithin, IsCountUpTo}
 use Rattle.leak_index.specs.Hits.{hits_from}
 use Rattle.leak_index.specs.Leads.{Distances, leads, allows, is_up_to_end}
-use Rattle.leak_index.specs.Places.{IsOnlyStart}
+use Rattle.leak_index.specs.AddressPlaces.{IsOnlyStart}
 
 -- by which of two numbers is greater
 pub either : (a b : ℕ) (P : Type 0) → (a < b → P) → (b ≤ a → P) → P

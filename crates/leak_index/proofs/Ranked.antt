@@ -3,7 +3,7 @@ use Rattle.std.proofs.Common.{◌≡◌, ℕ, true, ◌+◌, ◌-◌, ◌*◌, �
 use Rattle.leak_blocks.specs.declared.block.Block.{Block}
 use Rattle.leak_index.specs.declared.ranks.Row.{Row}
 use Rattle.leak_index.specs.Bounds.{IsCountUpTo}
-use Rattle.leak_index.specs.Places.{IsOnlyStart}
+use Rattle.leak_index.specs.AddressPlaces.{IsOnlyStart}
 use Rattle.leak_index.specs.Ranks.{AreAligned, IsApart, AreRanked, IsCountBelow, IsRow, end_of, none, number_at, row_of, start_of}
 use Rattle.leak_index.proofs.Listing.{any_default}
 use Rattle.leak_index.proofs.Ones.{ones_set}

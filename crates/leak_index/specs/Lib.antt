@@ -4,7 +4,7 @@ pub mod Readings
 pub mod Hits
 pub mod Bounds
 pub mod Directory
-pub mod Places
+pub mod AddressPlaces
 pub mod Rows
 pub mod Ranks
 pub mod Finder

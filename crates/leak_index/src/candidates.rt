@@ -4,11 +4,11 @@ ghost use Rattle.leak_blocks.specs.Span.{AreDisjoint};
 ghost use Rattle.leak_index.specs.Bounds.{AreWithin, IsCountUpTo};
 ghost use Rattle.leak_index.specs.Hits.{Index, hits_in, hits_of};
 ghost use Rattle.leak_index.specs.Leads.{leads};
-ghost use Rattle.leak_index.specs.Places.{IsPlace};
+ghost use Rattle.leak_index.specs.AddressPlaces.{IsAddressPlace};
 ghost use Rattle.leak_index.specs.Readings.{distances_of};
 
+use crate::address_place::AddressPlace;
 use crate::hits::Hits;
-use crate::place::Place;
 use crate::reading::Reading;
 use leak_blocks::{Block, Live};
 use std::marker::Model;
@@ -74,14 +74,14 @@ impl<'a> Candidates<'a> {
     /// The blocks that the word leads to, given where it is among them. Each reading lets a word lead to the block that
     /// starts at it, so that no block is read there.
     #[inline(always)]
-    pub(crate) fn hits_at(&self, word: u64, place: Place) -> Hits
-        requires { IsPlace self.now.blocks word place }
+    pub(crate) fn hits_at(&self, word: u64, place: AddressPlace) -> Hits
+        requires { IsAddressPlace self.now.blocks word place }
         ensures { hits_in result ≡ hits_of self.now word }
     {
         let _ = &self.blocks;
         match place {
-            Place::Start(block) => Hits::One(block),
-            Place::After(count) => self.hits_near(word, count),
+            AddressPlace::Start(block) => Hits::One(block),
+            AddressPlace::After(count) => self.hits_near(word, count),
         }
     }
 

@@ -19,14 +19,14 @@ pub(crate) struct Directory {
     pages: Vec<u64>,
     firsts: Vec<usize>,
     /// Helps to find entries. No answer depends on it.
-    runs: Vec<Run>,
+    runs: Vec<PageRun>,
 }
 
 /// An entry, counted from 0, whose page doesn't follow that of the entry before.
 ///
 /// If blocks are small there are few of these: the entry of a page is then found by its distance from one of them.
 #[derive(Clone, Copy)]
-struct Run {
+struct PageRun {
     page: u64,
     entry: usize,
 }
@@ -119,13 +119,13 @@ impl Directory {
 }
 
 /// The entries at which runs of pages that follow one another begin.
-fn runs_of(alloc: Global, pages: &[u64]) -> Result<Vec<Run>, AllocError> {
+fn runs_of(alloc: Global, pages: &[u64]) -> Result<Vec<PageRun>, AllocError> {
     let mut runs = Vec::new(alloc);
     let mut next = 0;
     for (entry, page) in pages.iter().enumerate() {
         let page = *page;
         if entry == 0 || page != next {
-            runs.push(Run { page, entry })?;
+            runs.push(PageRun { page, entry })?;
         }
         next = page.saturating_add(1);
     }

@@ -2,10 +2,10 @@
 ghost use Rattle.std.specs.Prelude.{IfOk};
 ghost use Rattle.leak_blocks.specs.Span.{AreDisjoint};
 ghost use Rattle.leak_index.specs.Finder.{Finds};
-ghost use Rattle.leak_index.specs.Places.{IsPlace};
+ghost use Rattle.leak_index.specs.AddressPlaces.{IsAddressPlace};
 
+use crate::address_place::AddressPlace;
 use crate::directory::Directory;
-use crate::place::Place;
 use crate::ranks::{Ranks, are_aligned};
 use leak_blocks::Block;
 use std::alloc::{AllocError, Global};
@@ -34,14 +34,14 @@ impl Finder {
 
     /// Where the address is among the blocks.
     #[inline(always)]
-    pub(crate) fn place(&self, blocks: &[Block], address: u64) -> Place
+    pub(crate) fn place(&self, blocks: &[Block], address: u64) -> AddressPlace
         requires disjoint { AreDisjoint blocks.now }
         requires finds { Finds blocks.now self.now }
-        ensures { IsPlace blocks.now address result }
+        ensures { IsAddressPlace blocks.now address result }
     {
         match self {
             Finder::Rows(ranks) => ranks.place(blocks, address),
-            Finder::Pages(directory) => Place::After(directory.count_up_to(blocks, address)),
+            Finder::Pages(directory) => AddressPlace::After(directory.count_up_to(blocks, address)),
         }
     }
 }

@@ -13,6 +13,7 @@
 //! first neighbor is not kept. The contracts don't say that a word is a pointer.
 #![tactic(auto)]
 
+mod address_place;
 mod candidates;
 mod directory;
 mod error;
@@ -20,7 +21,6 @@ mod finder;
 mod hits;
 mod laws;
 mod paged;
-mod place;
 mod ranks;
 mod reading;
 mod sorted;

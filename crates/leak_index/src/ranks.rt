@@ -1,11 +1,11 @@
 //! Rows of addresses, with a bit for each place in which a block starts.
 ghost use Rattle.std.specs.Prelude.{◌≡◌, ◌+◌, ◌/◌, ◌%◌, ◌^◌, ◌<◌, ◌≤◌, length, count_ones, IfOk, IsTrue};
 ghost use Rattle.leak_blocks.specs.Span.{AreDisjoint};
-ghost use Rattle.leak_index.specs.Places.{IsPlace};
+ghost use Rattle.leak_index.specs.AddressPlaces.{IsAddressPlace};
 ghost use Rattle.leak_index.specs.Ranks.{AreAligned, IsApart, IsMadeTo, IsRanked, IsRow, end_of, row_of};
 
+use crate::address_place::AddressPlace;
 use crate::directory::count_pages;
-use crate::place::Place;
 use leak_blocks::Block;
 use std::alloc::{AllocError, Global};
 
@@ -47,17 +47,17 @@ impl Row {
 
     /// Where an address of the row is among the blocks.
     #[inline(always)]
-    fn place(&self, blocks: &[Block], address: u64) -> Place
+    fn place(&self, blocks: &[Block], address: u64) -> AddressPlace
         requires row { IsRow blocks.now (length blocks.now) (address / 1024) self.now }
         requires aligned { AreAligned blocks.now }
-        ensures { IsPlace blocks.now address result }
+        ensures { IsAddressPlace blocks.now address result }
     {
         let granule = address / GRANULE % 64;
         let count = self.first as usize + ones_below(self.bits, granule + 1);
         if self.apart && address % GRANULE == 0 && (self.bits >> granule) % 2 == 1 {
-            return Place::Start(count - 1);
+            return AddressPlace::Start(count - 1);
         }
-        Place::After(count)
+        AddressPlace::After(count)
     }
 }
 
@@ -176,15 +176,15 @@ impl Ranks {
 
     /// Where the address is among the blocks.
     #[inline(always)]
-    pub(crate) fn place(&self, blocks: &[Block], address: u64) -> Place
+    pub(crate) fn place(&self, blocks: &[Block], address: u64) -> AddressPlace
         requires ranked { IsRanked blocks.now self.now }
         requires aligned { AreAligned blocks.now }
-        ensures { IsPlace blocks.now address result }
+        ensures { IsAddressPlace blocks.now address result }
     {
         let row = address / ROW;
         let runs = count_pages(self.numbers.as_slice(), row);
         if runs == 0 {
-            return Place::After(0);
+            return AddressPlace::After(0);
         }
         let run = runs - 1;
         let place = self.places[run];
@@ -194,7 +194,7 @@ impl Ranks {
             return self.rows[place + distance as usize].place(blocks, address);
         }
         let row = self.rows[end - 1];
-        Place::After(row.first as usize + ones_below(row.bits, 64))
+        AddressPlace::After(row.first as usize + ones_below(row.bits, 64))
     }
 
     /// Where the run ends in the list of rows.

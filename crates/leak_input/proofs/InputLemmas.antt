@@ -10,7 +10,7 @@ use Rattle.leak_blocks.specs.declared.block.Block.{Block}
 use Rattle.leak_blocks.specs.Live.{Replay, live_of, replay_of}
 use Rattle.leak_blocks.proofs.LineLemmas.{live_of_lines}
 use Rattle.leak_notes.specs.Threads.{threads_of}
-use Rattle.leak_fit.specs.Fit.{fits_core, fits_of}
+use Rattle.leak_chunks.specs.Fit.{fits_core, fits_of}
 use Rattle.leak_roots.specs.Places.{Places}
 use Rattle.leak_roots.specs.Roots.{AreRootsOf}
 use Rattle.leak_roots.specs.Skipped.{spans_of}

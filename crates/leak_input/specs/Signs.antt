@@ -4,7 +4,7 @@ use Rattle.leak_elf.specs.Words.{word_of}
 use Rattle.leak_mtrace.specs.declared.line.Line.{Line}
 use Rattle.leak_mtrace.specs.Log.{IsLog, torn_of}
 use Rattle.leak_blocks.specs.Live.{live_of, replay_of}
-use Rattle.leak_fit.specs.Fit.{fits_of}
+use Rattle.leak_chunks.specs.Fit.{fits_of}
 use Rattle.leak_report.specs.declared.signs.Signs.{Signs}
 use Rattle.leak_input.specs.declared.inputs.Input.{Input}
 

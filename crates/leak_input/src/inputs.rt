@@ -11,11 +11,11 @@ ghost use Rattle.leak_input.specs.Slack.{slack_in};
 
 use crate::error::{FindError, at_core, at_log, at_notes};
 use leak_blocks::{Live, Replayed, SmallSpans, replay_bytes, replay_with_spans};
+use leak_chunks::slack_spans;
 use leak_elf::Image;
-use leak_fit::slack_spans;
 use leak_mtrace::LogError;
 use leak_notes::Threads;
-use leak_pool::LinkRoom;
+use leak_pool::EdgeRoom;
 use leak_roots::{Roots, Skip};
 use std::alloc::{AllocError, Global};
 
@@ -23,8 +23,8 @@ use std::alloc::{AllocError, Global};
 #[derive(Drop)]
 pub struct Input<'a> {
     pub image: Image<'a>,
-    /// The room that the core gives to links.
-    pub links: LinkRoom,
+    /// The room that the core gives to edges.
+    pub edges: EdgeRoom,
     pub threads: Threads,
     pub live: Live,
     /// What a search leaves out of the root words.
@@ -63,7 +63,7 @@ pub fn read_input<'a>(
 ) -> Result<Input<'a>, FindError>
     ensures ok { IfOk result (IsRead core.now log.now) }
     ensures skip { IfOk result (λ input. input.skip ≡ skip) }
-    ensures links { IfOk result (λ input. input.links ≡ room_of core.now) }
+    ensures edges { IfOk result (λ input. input.edges ≡ room_of core.now) }
     ensures refused { IfErr result (λ e. e ≢ FindError.NoMemory
         → IsInputFault number core.now log.now e) }
 {
@@ -81,7 +81,7 @@ pub fn read_input<'a>(
     };
     Ok(Input {
         image,
-        links: LinkRoom::of_core(core),
+        edges: EdgeRoom::of_core(core),
         threads,
         live: replayed.live,
         skip,

@@ -5,12 +5,12 @@ ghost use Rattle.leak_mtrace.specs.declared.line.Line.{Line};
 ghost use Rattle.leak_elf.specs.Words.{word_of};
 ghost use Rattle.leak_index.specs.Readings.{distances_of};
 ghost use Rattle.leak_pool.specs.Course.{IsByRounds};
-ghost use Rattle.leak_pool.specs.Marking.{Marks};
+ghost use Rattle.leak_pool.specs.Marking.{MarksFromRoots};
 ghost use Rattle.leak_input.specs.Inputs.{AreRootsFor, IsInput};
 
 use crate::inputs::{Input, find_roots};
 use leak_index::{Paged, Reading};
-use leak_pool::{Gate, Marked, Plan, PoolError, mark_by_links};
+use leak_pool::{Gate, Marked, Plan, PoolError, mark_by_edges};
 use leak_roots::Roots;
 use std::alloc::{AllocError, Global};
 use std::thread::Threads;
@@ -59,12 +59,12 @@ pub fn mark_input<R: Threads + Sync, G: Gate + Sync>(
 ) -> Result<Marked, PoolError>
     requires same_blocks { ground.now.lookup.blocks ≡ input.now.live.blocks }
     ensures many { IsErrOf result PoolError.TooMany ↔ (2 ^ 32 - 1 < length input.now.live.blocks) }
-    ensures marks { IfOk result (Marks (word_of input.now.image) ground.now.lookup
+    ensures marks { IfOk result (MarksFromRoots (word_of input.now.image) ground.now.lookup
         ground.now.roots workers.now.plan.workers) }
     ensures course { IfOk result (IsByRounds (word_of input.now.image) ground.now.lookup
         ground.now.roots [] [] workers.now.plan) }
 {
-    mark_by_links(
+    mark_by_edges(
         workers.rt,
         alloc,
         &input.image,
@@ -73,6 +73,6 @@ pub fn mark_input<R: Threads + Sync, G: Gate + Sync>(
         &input.live,
         workers.plan,
         workers.gate,
-        input.links,
+        input.edges,
     )
 }

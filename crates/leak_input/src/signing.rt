@@ -2,11 +2,11 @@
 
 ghost use Rattle.std.specs.Prelude.{◌≡◌, ◌++◌, [], ◌∷◌, IfOk, option_map};
 ghost use Rattle.leak_elf.specs.Words.{word_of};
-ghost use Rattle.leak_fit.specs.Fit.{fits_of};
+ghost use Rattle.leak_chunks.specs.Fit.{fits_of};
 ghost use Rattle.leak_input.specs.Signs.{signs_with, fits_with, misfits_counted};
 
 use crate::inputs::Input;
-use leak_fit::{count_misfits, fits};
+use leak_chunks::{count_misfits, fits};
 use leak_report::Signs;
 use std::alloc::{AllocError, Global};
 

@@ -9,7 +9,7 @@ use Rattle.leak_roots.specs.declared.skip.Skip.{Skip}
 use Rattle.leak_scan.specs.Heads.{heads_of}
 use Rattle.leak_marks.specs.Reach.{Reach}
 use Rattle.leak_pool.specs.Marking.{IsSet}
-use Rattle.leak_dirty.specs.Differing.{AreDiffering}
+use Rattle.leak_later.specs.Differing.{AreDiffering}
 use Rattle.leak_report.specs.declared.signs.Signs.{Signs}
 use Rattle.leak_report.specs.Totals.{leaked_in}
 use Rattle.leak_report.specs.Report.{text_of}

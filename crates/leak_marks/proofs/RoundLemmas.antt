@@ -65,18 +65,18 @@ pub record IsLine (g : Graph) (e : List ℕ) (k : ℕ) (claims : List ℕ) (run 
 abbrev pub attempt : ℕ → Option ℕ → ℕ → Attempt
 attempt k s b = record { worker = k; source = s; target = b }
 
-abbrev Source : Graph → List ℕ → ℕ → Type 0
-Source g e b = Has g.first b ⊎ ((s : ℕ) × Has e s × Has (targets_of g s) b)
+abbrev IsLed : Graph → List ℕ → ℕ → Type 0
+IsLed g e b = Has g.first b ⊎ ((s : ℕ) × Has e s × Has (targets_of g s) b)
 
-source : (g : Graph) (e : List ℕ) (b : ℕ) → Source g e b → (s : Option ℕ) × IsLedTo g e s b
+source : (g : Graph) (e : List ℕ) (b : ℕ) → IsLed g e b → (s : Option ℕ) × IsLedTo g e s b
 source g e b h = ⊎_elim (λ f. (None, f)) (λ s. (Some s.0, (s.1, s.2))) h
 
 line_of : (g : Graph) (k : ℕ) (targets : ℕ → List ℕ) (item : ℕ → Type 0) (earlier e claims : List ℕ) → ((s : ℕ) → targets s ≡ targets_of g s)
-    → AreLed targets item earlier claims → ((s : ℕ) → Has earlier s → Has e s) → ((b : ℕ) → item b → Source g e b) → ((b : ℕ) → Has claims b → Has g.given b → ⊥)
+    → AreLed targets item earlier claims → ((s : ℕ) → Has earlier s → Has e s) → ((b : ℕ) → item b → IsLed g e b) → ((b : ℕ) → Has claims b → Has g.given b → ⊥)
     → (run : List Attempt) × IsLine g e k claims run
 line_of g k targets item earlier e [] same led among items out = ([], record { targets = refl; worker = tt; lawful = tt })
 line_of g k targets item earlier e (b ∷ claims) same led among items out =
-    let from : Source g e b = ⊎_elim (λ i. items b i) (λ s. inr (s.0, among s.0 s.1, subst (λ (l : List ℕ). Has l b) (same s.0) s.2)) led.0 in
+    let from : IsLed g e b = ⊎_elim (λ i. items b i) (λ s. inr (s.0, among s.0 s.1, subst (λ (l : List ℕ). Has l b) (same s.0) s.2)) led.0 in
     let s : (s : Option ℕ) × IsLedTo g e s b = source g e b from in
     let more : (run : List Attempt) × IsLine g (b ∷ e) k claims run =
     line_of g k targets item (b ∷ earlier) (b ∷ e) claims same led.1
@@ -131,7 +131,7 @@ block_behind g workers e lists one later r q within lawful gives block = record 
 }
 
 step_run : (g : Graph) (workers k : ℕ) (targets : ℕ → List ℕ) (item : ℕ → Type 0) (e : List ℕ) (lists gained : List (List ℕ)) → ((s : ℕ) → targets s ≡ targets_of g s)
-    → k + length gained ≤ workers → length lists ≡ workers → AllByRecursion (AreLed targets item []) gained → ((b : ℕ) → item b → Source g e b)
+    → k + length gained ≤ workers → length lists ≡ workers → AllByRecursion (AreLed targets item []) gained → ((b : ℕ) → item b → IsLed g e b)
     → ((b : ℕ) → Has (concat gained) b → Has g.given b → ⊥) → IsDistinct (concat (appended_from k lists gained)) → (run : List Attempt) × IsBlock g workers e lists (appended_from k lists gained) run
 step_run g workers k targets item e lists [] same few long led items out once = ([], record { in_range = tt; lawful = tt; gives = refl })
 step_run g workers k targets item e lists (c ∷ cs) same few long led items out once =

@@ -6,7 +6,7 @@ pub mod BodyLemmas
 pub mod DecideLemmas
 pub mod PairLemmas
 pub mod SpotLemmas
-pub mod PlaceLemmas
+pub mod CallPlaceLemmas
 pub mod LineLemmas
 pub mod LogLemmas
 pub mod OneLineLemmas

@@ -8,9 +8,9 @@ use Rattle.leak_mtrace.specs.declared.line.Line.{Line}
 use Rattle.leak_mtrace.specs.declared.call.Call.{Call}
 use Rattle.leak_mtrace.specs.Line.{IsPlace, IsRemark, IsPlain, IsPlaced, IsAfterPlace, IsCall, IsLine, sign_of}
 use Rattle.leak_mtrace.specs.Decided.{Decides}
-use Rattle.leak_mtrace.specs.Place.{IsPlaceEnd}
+use Rattle.leak_mtrace.specs.CallPlace.{IsPlaceEnd}
 use Rattle.leak_mtrace.proofs.SplitLemmas.{tail, some_same, and_left}
-use Rattle.leak_mtrace.proofs.PlaceLemmas.{place_end_is}
+use Rattle.leak_mtrace.proofs.CallPlaceLemmas.{place_end_is}
 use Rattle.leak_mtrace.proofs.BodyLemmas.{call_front, call_not_remark}
 
 pub behind_placed : (text rest : List ℕ) (x : Line) → text ≡ 64 ∷ 32 ∷ rest → IsAfterPlace rest x → IsPlaced text x

@@ -2,7 +2,7 @@
 pub mod Decided
 pub mod Number
 pub mod Line
-pub mod Place
+pub mod CallPlace
 pub mod Log
 pub mod Reading
 pub mod Examples

@@ -1,7 +1,7 @@
 //! Laws of lines and logs, and worked lines. Each is a function that does nothing: its contract is the law.
 ghost use Rattle.leak_mtrace.specs.Examples.{AreLines, AreLogs, AreRefused};
 ghost use Rattle.leak_mtrace.specs.Laws.{LinesAreOne, LogsAreOne, LogsHaveNoFault, FirstFaultsAreOne, LogsHaveTheirCallers, CallersHoldTheirPlaces, LogsContinue};
-ghost use Rattle.leak_mtrace.specs.Place.{PlacesAreOne};
+ghost use Rattle.leak_mtrace.specs.CallPlace.{PlacesAreOne};
 
 /// A line says one thing at most.
 pub fn lines_are_one()

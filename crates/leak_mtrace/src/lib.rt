@@ -11,13 +11,13 @@
 #![tactic(auto)]
 
 mod call;
+mod call_place;
 mod error;
 mod laws;
 mod line;
 mod log;
 mod number;
 mod parsing;
-mod place;
 mod reader;
 
 pub use error::LogError;

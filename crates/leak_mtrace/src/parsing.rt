@@ -4,8 +4,8 @@ ghost use Rattle.leak_mtrace.specs.Decided.{Decides};
 ghost use Rattle.leak_mtrace.specs.Line.{IsAfterPlace, IsPlain, IsLine};
 
 use crate::call::read_call;
+use crate::call_place::place_end;
 use crate::line::{Kind, Line};
-use crate::place::place_end;
 
 /// Reads a call after its place, in the line's text after `@ `.
 fn placed(text: &[u8]) -> Option<Line>

@@ -17,7 +17,7 @@ use Rattle.leak_index.specs.Hits.{Index}
 use Rattle.leak_roots.specs.Places.{Places, AreRanges, IsRange, addresses_in, memory_places}
 use Rattle.leak_scan.specs.Targets.{block_words, targets_of as targets_in}
 use Rattle.leak_pool.specs.Alone.{AreMarks, AreTaken, IsFollowed}
-use Rattle.leak_pool.specs.Marking.{Marks, IsSet, graph_of, led_in_memory, led_from, led_by_roots, lists_of}
+use Rattle.leak_pool.specs.Marking.{MarksFromRoots, IsSet, graph_of, led_in_memory, led_from, led_by_roots, lists_of}
 use Rattle.leak_pool.specs.declared.marked.Marked.{Marked}
 use Rattle.leak_pool.proofs.CountLemmas.{has_at, at_has, few_distinct}
 use Rattle.leak_pool.proofs.WordLemmas.{memory-nil, memory-append}
@@ -195,7 +195,7 @@ roots_followed word_at index first none list empty t = followed_none (graph_of w
     (subst (λ (l : List ℕ). AreTaken l [] list) (sym (graph-first word_at index first [])) (subst (λ (l : List ℕ). AreTaken first l list) empty t))
 
 pub alone_marks : (word_at : ℕ → Option ℕ) (index : Index) (places : Places) (marks : List Bool) (list : List ℕ) (m : Marked) → AreMarks marks list → IsFollowed (graph_of word_at index (led_by_roots word_at index places) []) list (length list)
-    → length marks ≡ length index.blocks → m.set.items ≡ marks → lists_of m ≡ list ∷ [] → m.rounds ≤ length index.blocks + 1 → (length index.blocks ≡ 0 → m.rounds ≡ 0) → Marks word_at index places 1 m
+    → length marks ≡ length index.blocks → m.set.items ≡ marks → lists_of m ≡ list ∷ [] → m.rounds ≤ length index.blocks + 1 → (length index.blocks ≡ 0 → m.rounds ≡ 0) → MarksFromRoots word_at index places 1 m
 alone_marks word_at index places marks list m are f long set_is lists_are few none = record {
   set = subst (λ (l : List Bool). IsSet l (length index.blocks) (Reach G)) (sym set_is) (record {
     len = long;

@@ -7,12 +7,12 @@ use Rattle.leak_marks.specs.Seats.{Held}
 use Rattle.leak_marks.specs.Rounds.{AreLed, appended_from}
 use Rattle.leak_marks.proofs.ListLemmas.{here, there, has_front, has_back, of_append}
 use Rattle.leak_pool.specs.Items.{InRange, share, targets_at, targets_of_block, targets_of_item}
-use Rattle.leak_pool.specs.declared.source.Item.{Item}
-use Rattle.leak_pool.specs.declared.source.Item.TheVariants.{Root, Block}
+use Rattle.leak_pool.specs.declared.target_source.Item.{Item}
+use Rattle.leak_pool.specs.declared.target_source.Item.TheVariants.{Root, Block}
 use Rattle.leak_pool.specs.Promises.{AreOwn, AreOfWorkers, IsScanned}
 use Rattle.leak_pool.specs.Rounds.{IsStep}
 use Rattle.leak_pool.specs.Course.{Round, IsShared, AreLater, AreRounds, AreTimely, IsCourse, claims_in, with_round, with_rounds}
-use Rattle.leak_pool.specs.Progress.{HaveCome, AreOfOne, led_in}
+use Rattle.leak_pool.specs.MarkingState.{HaveCome, AreOfOne, led_in}
 use Rattle.leak_pool.proofs.HalfLemmas.{share_within}
 use Rattle.leak_pool.proofs.ScanLemmas.{none_has}
 use Rattle.leak_pool.proofs.GoingLemmas.{to_block, blocks_long}
@@ -170,20 +170,24 @@ module _ (roots targets : List (List ℕ)) (w stack n : ℕ) (x : ℕ) (ws : Lis
       → IsStep (targets_of_block targets) (Has (get_or targets x [])) w c0 m0 s0 c1 m1 s1 g1 l1 → AreOfOne (get_or targets x []) g1 l1
       → IsStep (targets_of_block targets) (InRange (targets_at roots targets items) 0 (length items)) w c1 m1 s1 c2 m2 s2 g2 l2
       → AreOfWorkers (targets_of_block targets) (targets_at roots targets items) stack (length items) w 0 g2 l2 → (next : HaveCome roots targets w stack (n + 1) c2 m2 s2.seen) × (q : Round) × (next.0 ≡ come.0 ++ q ∷ [])
-  course_more some items_are empty come one alone two own = ((
-    come.0 ++ r ∷ [],
-    length-append come.0 (r ∷ []) ∙ ap (λ (k : ℕ). k + 1) come.1,
-    record {
-      some = some;
-      are = subst (λ (l : List ℕ). AreRounds roots targets w stack (come.0 ++ r ∷ []) l) (sym (two.waiting_are ∙ ap (λ (l : List ℕ). l ++ l2) (one.waiting_are ∙ ap (λ (l : List ℕ). l ++ l1) empty)))
-          (rounds_more roots targets w stack come.0 x ws r come.2.are alone.1 (shared_blocks roots targets w stack ws items r some items_are two.few two.of_gained own));
-      timely = timely_more (targets_of_block targets) (concat roots) come.0 r come.2.timely
-          (λ b old new. ⊎_elim (λ f. one.kept.fresh b (subst (λ (l : List (List ℕ)). Has (concat l) b) (sym alone.0) (has_front l1 [] b f)) (come.3 b old)) (λ g. two.kept.fresh b g (one.kept.keeps b (come.3 b old))) (of_append l1 (concat g2) b new));
-      claims_are = two.claims_are ∙ ap (λ (l : List (List ℕ)). appended_from 0 l g2) (one.claims_are ∙ ap (λ (g : List (List ℕ)). appended_from 0 c0 g) alone.0)
-          ∙ ap (λ (l : List (List ℕ)). with_round l r) come.2.claims_are ∙ sym (lists_more (replicate w []) come.0 r);
-    },
-    λ b h. ⊎_elim (λ old. two.kept.keeps b (one.kept.keeps b (come.3 b old))) (λ new. covered b new) (led_more roots targets w stack come.0 (x ∷ ws) r (concat roots) come.2.are b h),
-  ), r, refl)
+  course_more some items_are empty come one alone two own = (
+    (
+      come.0 ++ r ∷ [],
+      length-append come.0 (r ∷ []) ∙ ap (λ (k : ℕ). k + 1) come.1,
+      record {
+        some = some;
+        are = subst (λ (l : List ℕ). AreRounds roots targets w stack (come.0 ++ r ∷ []) l) (sym (two.waiting_are ∙ ap (λ (l : List ℕ). l ++ l2) (one.waiting_are ∙ ap (λ (l : List ℕ). l ++ l1) empty)))
+            (rounds_more roots targets w stack come.0 x ws r come.2.are alone.1 (shared_blocks roots targets w stack ws items r some items_are two.few two.of_gained own));
+        timely = timely_more (targets_of_block targets) (concat roots) come.0 r come.2.timely
+            (λ b old new. ⊎_elim (λ f. one.kept.fresh b (subst (λ (l : List (List ℕ)). Has (concat l) b) (sym alone.0) (has_front l1 [] b f)) (come.3 b old)) (λ g. two.kept.fresh b g (one.kept.keeps b (come.3 b old))) (of_append l1 (concat g2) b new));
+        claims_are = two.claims_are ∙ ap (λ (l : List (List ℕ)). appended_from 0 l g2) (one.claims_are ∙ ap (λ (g : List (List ℕ)). appended_from 0 c0 g) alone.0)
+            ∙ ap (λ (l : List (List ℕ)). with_round l r) come.2.claims_are ∙ sym (lists_more (replicate w []) come.0 r);
+      },
+      λ b h. ⊎_elim (λ old. two.kept.keeps b (one.kept.keeps b (come.3 b old))) (λ new. covered b new) (led_more roots targets w stack come.0 (x ∷ ws) r (concat roots) come.2.are b h),
+    ),
+    r,
+    refl,
+  )
     where
       r : Round
       r = record { caller = l1; gained = g2; left = l2 }

@@ -7,7 +7,7 @@ use Rattle.leak_marks.specs.Partition.{Partitions}
 use Rattle.leak_pool.specs.declared.start.Start.{Start}
 use Rattle.leak_pool.specs.declared.marked.Marked.{Marked}
 use Rattle.leak_pool.specs.Plan.{Numbers}
-use Rattle.leak_pool.specs.Marking.{Marks, MarksFrom, graph_from, graph_of_roots, lists_of}
+use Rattle.leak_pool.specs.Marking.{MarksFromRoots, MarksFrom, graph_from, graph_of_roots, lists_of}
 use Rattle.leak_pool.specs.Rounds.{graph_over}
 use Rattle.leak_pool.specs.Scopes.{root_targets, all_targets}
 use Rattle.leak_pool.specs.Course.{HaveLed, IsByRounds}
@@ -28,7 +28,7 @@ depth_from word_at index places pages s plan m zero blocks by from =
     (graph_is word_at index places by.0 pages s plan.piece by.1) zero (by.2 blocks) from.claims
 
 pub depth_of_roots : (word_at : ℕ → Option ℕ) (index : Index) (places : Places) (plan : Numbers) (m : Marked) → plan.stack ≡ 0 → 0 < length index.blocks
-    → IsByRounds word_at index places [] [] plan m → Marks word_at index places plan.workers m → AreByDepth (graph_of_roots word_at index places) m.rounds
+    → IsByRounds word_at index places [] [] plan m → MarksFromRoots word_at index places plan.workers m → AreByDepth (graph_of_roots word_at index places) m.rounds
 depth_of_roots word_at index places plan m zero blocks by marks =
     of_graph (root_targets word_at index places by.0 [] []) (all_targets word_at index) [] (graph_of_roots word_at index places) plan.workers plan.stack m.rounds (lists_of m)
     (graph_of_pieces word_at index places by.0 [] plan.piece by.1) zero (by.2 blocks) marks.claims

@@ -16,8 +16,8 @@ use Rattle.leak_marks.specs.Rounds.{IsUnderWay}
 use Rattle.leak_marks.proofs.RunLemmas.{nothing_held}
 use Rattle.leak_marks.proofs.RoundLemmas.{begins, ends}
 use Rattle.leak_pool.specs.Items.{InRange, targets_at, targets_of_block, targets_of_item}
-use Rattle.leak_pool.specs.declared.source.Item.{Item}
-use Rattle.leak_pool.specs.declared.source.Item.TheVariants.{Root, Block}
+use Rattle.leak_pool.specs.declared.target_source.Item.{Item}
+use Rattle.leak_pool.specs.declared.target_source.Item.TheVariants.{Root, Block}
 use Rattle.leak_marks.proofs.ListLemmas.{has_front, has_back, of_append}
 use Rattle.leak_pool.proofs.ScanLemmas.{none_has}
 use Rattle.leak_pool.specs.Rounds.{graph_over, IsStep, IsGoing, AreWords, IsMarked, Going}

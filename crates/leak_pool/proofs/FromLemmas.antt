@@ -16,7 +16,7 @@ use Rattle.leak_marks.proofs.ListLemmas.{here, there}
 use Rattle.leak_pool.specs.declared.start.Part.{Part}
 use Rattle.leak_pool.specs.declared.start.Start.{Start}
 use Rattle.leak_pool.specs.declared.marked.Marked.{Marked}
-use Rattle.leak_pool.specs.Marking.{Marks, MarksFrom, IsSet, graph_of, graph_from, led_by_roots, lists_of, part_words}
+use Rattle.leak_pool.specs.Marking.{MarksFromRoots, MarksFrom, IsSet, graph_of, graph_from, led_by_roots, lists_of, part_words}
 use Rattle.leak_pool.specs.Rounds.{IsMarked, graph_over}
 use Rattle.leak_pool.specs.Scopes.{root_targets, all_targets, piece_targets, part_targets, AreParts}
 use Rattle.leak_pool.proofs.ScopeLemmas.{long_all}
@@ -72,7 +72,7 @@ marks_from word_at index places pieces pages s workers n m cut marked = record {
     same = graph_is word_at index places pieces pages s n cut
 
 -- from a start that marks nothing
-pub marks_from_none : (word_at : ℕ → Option ℕ) (index : Index) (places : Places) (pages : List ℕ) (s : Start) (workers : ℕ) (m : Marked) → s.marked.items ≡ [] → s.rescan.items ≡ [] → MarksFrom word_at index places pages s workers m → Marks word_at index places workers m
+pub marks_from_none : (word_at : ℕ → Option ℕ) (index : Index) (places : Places) (pages : List ℕ) (s : Start) (workers : ℕ) (m : Marked) → s.marked.items ≡ [] → s.rescan.items ≡ [] → MarksFrom word_at index places pages s workers m → MarksFromRoots word_at index places workers m
 marks_from_none word_at index places pages s workers m unmarked unread from = record {
   set = record {
     len = from.set.len;
@@ -103,7 +103,7 @@ graph_of_pieces word_at index places pieces pages n cut = ap (λ (l : List ℕ).
 -- from no start, over pieces of the roots alone
 pub marks_of_pieces : (word_at : ℕ → Option ℕ) (index : Index) (places : Places) (pieces : List Piece) (pages : List ℕ) (workers n : ℕ) (m : Marked) → AreCut places n pieces
     → IsMarked (graph_over (root_targets word_at index places pieces pages []) (all_targets word_at index) []) (length (all_targets word_at index)) workers m.set.items (lists_of m) m.rounds
-    → Marks word_at index places workers m
+    → MarksFromRoots word_at index places workers m
 unfolding graph_of
 marks_of_pieces word_at index places pieces pages workers n m cut marked = record {
   set = record {

@@ -12,8 +12,8 @@ use Rattle.leak_marks.proofs.StackLemmas.{all_led_from}
 use Rattle.std.proofs.lemmas.List.{length-map, take_all}
 use Rattle.leak_pool.proofs.CountLemmas.{has_at, at_has, few_distinct}
 use Rattle.leak_pool.specs.Items.{InRange, IsItem, targets_at, targets_of_block, targets_of_item}
-use Rattle.leak_pool.specs.declared.source.Item.{Item}
-use Rattle.leak_pool.specs.declared.source.Item.TheVariants.{Root, Block}
+use Rattle.leak_pool.specs.declared.target_source.Item.{Item}
+use Rattle.leak_pool.specs.declared.target_source.Item.TheVariants.{Root, Block}
 use Rattle.leak_marks.proofs.ListLemmas.{has_front, has_back, of_append}
 use Rattle.leak_pool.specs.Rounds.{graph_over, IsStep, IsGoing}
 

@@ -5,8 +5,8 @@ use Rattle.std.specs.List.{list_any, range_with_len}
 use Rattle.std.proofs.lemmas.List.{length-map, get_or-map}
 use Rattle.std.proofs.lemmas.List.FromFn.{length-map-range_with_len, get_or-map-range_with_len}
 use Rattle.leak_pool.specs.Items.{AreMany, is_root}
-use Rattle.leak_pool.specs.declared.source.Item.{Item}
-use Rattle.leak_pool.specs.declared.source.Item.TheVariants.{Root, Block}
+use Rattle.leak_pool.specs.declared.target_source.Item.{Item}
+use Rattle.leak_pool.specs.declared.target_source.Item.TheVariants.{Root, Block}
 
 pub roots_long : (n : ℕ) → length (map Root (range_with_len 0 n)) ≡ n
 roots_long n = length-map-range_with_len Root 0 n

@@ -7,7 +7,7 @@ pub mod WordLemmas
 pub mod AloneLemmas
 pub mod AloneRoundLemmas
 pub mod ScanLemmas
-pub mod LinkLemmas
+pub mod EdgeLemmas
 pub mod RowLemmas
 pub mod WorkLemmas
 pub mod HalfLemmas

@@ -16,10 +16,10 @@ use Rattle.leak_index.specs.Hits.{Index}
 use Rattle.leak_elf.specs.Words.{words_between}
 use Rattle.leak_scan.specs.Targets.{targets_of, block_targets}
 use Rattle.leak_pool.specs.Items.{targets_of_block}
-use Rattle.leak_pool.specs.Links.{AreListed, IsOver, IsRow, IsRowOrOver, kept_count, row_size, share_of, target_count}
+use Rattle.leak_pool.specs.Edges.{AreListed, IsOver, IsRow, IsRowOrOver, kept_count, row_size, share_of, target_count}
 use Rattle.leak_pool.specs.Scopes.{all_targets}
-use Rattle.leak_pool.specs.declared.links.Rows.{Rows}
-use Rattle.leak_pool.proofs.LinkLemmas.{IsRowAt, as_many, row_from, whole, whole_at}
+use Rattle.leak_pool.specs.declared.edges.Rows.{Rows}
+use Rattle.leak_pool.proofs.EdgeLemmas.{IsRowAt, as_many, row_from, whole, whole_at}
 
 -- ---- one row
 

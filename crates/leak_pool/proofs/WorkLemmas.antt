@@ -11,8 +11,8 @@ use Rattle.leak_marks.proofs.ListLemmas.{here, there, at_head, has_front, has_ba
 use Rattle.leak_marks.proofs.StackLemmas.{kept_more, kept_nothing, led_from}
 use Rattle.leak_pool.specs.Items.{InRange, share, targets_of_item}
 use Rattle.leak_pool.specs.declared.hand.Hand.{Hand}
-use Rattle.leak_pool.specs.declared.source.Item.{Item}
-use Rattle.leak_pool.specs.declared.source.Item.TheVariants.{Root, Block}
+use Rattle.leak_pool.specs.declared.target_source.Item.{Item}
+use Rattle.leak_pool.specs.declared.target_source.Item.TheVariants.{Root, Block}
 use Rattle.leak_pool.specs.Promises.{IsPutAway, IsWorking, IsDirect, IsHalf}
 use Rattle.leak_pool.specs.Scene.{Work, blocks_of, items_of}
 use Rattle.leak_pool.proofs.ScanLemmas.{none_has}

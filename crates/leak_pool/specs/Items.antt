@@ -2,8 +2,8 @@
 use Rattle.std.specs.Prelude.{◌≡◌, ◌⊎◌, ℕ, ◌<◌, ◌≤◌, ◌*◌, ◌/◌, Bool, true, false, List, [], ◌∷◌, length, map, Option, Some, None, slice_index_or}
 use Rattle.std.specs.List.{list_any, range_with_len}
 use Rattle.leak_marks.specs.Lists.{Has}
-use Rattle.leak_pool.specs.declared.source.Item.{Item}
-use Rattle.leak_pool.specs.declared.source.Item.TheVariants.{Root, Block}
+use Rattle.leak_pool.specs.declared.target_source.Item.{Item}
+use Rattle.leak_pool.specs.declared.target_source.Item.TheVariants.{Root, Block}
 use Rattle.leak_pool.specs.declared.items.Items.{Items}
 use Rattle.leak_pool.specs.declared.items.Items.TheVariants.{Roots, Blocks}
 

@@ -6,12 +6,12 @@ pub mod Items
 pub mod Gates
 pub mod Promises
 pub mod Rounds
-pub mod Progress
+pub mod MarkingState
 pub mod Marking
 pub mod Scopes
 pub mod Course
 pub mod Depth
 pub mod ScopeLaw
 pub mod Room
-pub mod Links
-pub mod LinksLaw
+pub mod Edges
+pub mod EdgesLaw

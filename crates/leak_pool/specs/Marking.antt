@@ -62,7 +62,7 @@ abbrev pub graph_of_roots : (ℕ → Option ℕ) → Index → Places → Graph
 graph_of_roots word_at index places = graph_of word_at index (led_by_roots word_at index places) []
 
 -- the marked set is what the roots reach, the claims partition it, and the rounds are at most one more than the blocks
-pub record Marks (word_at : ℕ → Option ℕ) (index : Index) (places : Places) (workers : ℕ)
+pub record MarksFromRoots (word_at : ℕ → Option ℕ) (index : Index) (places : Places) (workers : ℕ)
     (m : Marked) : Type 0 where
   pub set : IsSet m.set.items (length index.blocks) (Reach (graph_of_roots word_at index places))
   pub lists : length (lists_of m) ≡ workers

@@ -2,7 +2,7 @@
 use Rattle.std.specs.Prelude.{◌≡◌, ℕ, ◌<◌, ◌≤◌, ◌^◌, List, length, All}
 use Rattle.leak_marks.specs.Seats.{TableId, Held, IsSound}
 use Rattle.leak_pool.specs.Items.{IsItem, targets_at, targets_of_block, InRange, share}
-use Rattle.leak_pool.specs.declared.source.Item.{Item}
+use Rattle.leak_pool.specs.declared.target_source.Item.{Item}
 
 -- the table of the marks, what each part of the roots and each block leads to, the blocks that are marked before, how
 -- many workers there are, and how many entries a worker's stack has at most

@@ -20,8 +20,8 @@ use Rattle.leak_pool.specs.Items.{targets_of_item}
 use Rattle.leak_pool.specs.Marking.{led_in_memory}
 use Rattle.leak_pool.specs.Scopes.{root_targets, all_targets, piece_targets, part_targets, ArePieces, AreParts}
 use Rattle.leak_pool.specs.declared.start.Part.{Part}
-use Rattle.leak_pool.specs.declared.source.Item.{Item}
-use Rattle.leak_pool.specs.declared.source.Item.TheVariants.{Root, Block as OfBlock}
+use Rattle.leak_pool.specs.declared.target_source.Item.{Item}
+use Rattle.leak_pool.specs.declared.target_source.Item.TheVariants.{Root, Block as OfBlock}
 
 -- ---- what words lead to are blocks
 

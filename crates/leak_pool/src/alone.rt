@@ -3,7 +3,7 @@ ghost use Rattle.std.specs.Prelude.{◌≡◌, ◌↔◌, ℕ, ◌+◌, ◌<◌,
 ghost use Rattle.leak_marks.specs.Lists.{Has, Within};
 ghost use Rattle.leak_pool.specs.Alone.{AreMarks, AreTaken, IsFollowed};
 ghost use Rattle.leak_pool.specs.Depth.{AreByDepth};
-ghost use Rattle.leak_pool.specs.Marking.{Marks, graph_of, graph_of_roots, led_by_roots};
+ghost use Rattle.leak_pool.specs.Marking.{MarksFromRoots, graph_of, graph_of_roots, led_by_roots};
 
 use crate::error::PoolError;
 use crate::marked::Marked;
@@ -25,7 +25,7 @@ pub fn mark_alone<W: Words, L: Lookup>(
 ) -> Result<Marked, PoolError>
     requires { (L.index lookup.now).blocks ≡ live.now.blocks }
     ensures many { IsErrOf result PoolError.TooMany ↔ (2 ^ 32 - 1 < length live.now.blocks) }
-    ensures marks { IfOk result (Marks (W.word_at words.now) (L.index lookup.now) roots.now 1) }
+    ensures marks { IfOk result (MarksFromRoots (W.word_at words.now) (L.index lookup.now) roots.now 1) }
     ensures depth { let g = graph_of_roots (W.word_at words.now) (L.index lookup.now) roots.now in
         IfOk result (λ m. 0 < length live.now.blocks → AreByDepth g m.rounds) }
 {

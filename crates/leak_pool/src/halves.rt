@@ -1,4 +1,4 @@
-//! The workers of a round, forked by halves. Besides this file, `links.rt` alone starts threads.
+//! The workers of a round, forked by halves. Besides this file, `edges.rt` alone starts threads.
 ghost use Rattle.std.specs.Prelude.{◌≡◌, ◌++◌, IfOk, IsOkAnd};
 ghost use Rattle.leak_marks.specs.Seats.{IsSound, both_seats};
 ghost use Rattle.leak_pool.specs.Promises.{AreBoth, CanScan, HaveScanned};

@@ -1,10 +1,10 @@
 //! What the workers of a round scan.
 ghost use Rattle.std.specs.Prelude.{◌≡◌, ◌↔◌, ◌<◌, IsTrue, length, map, slice_index_or};
 ghost use Rattle.leak_pool.specs.Items.{items_in, AreMany};
-ghost use Rattle.leak_pool.specs.declared.source.Item.{Item};
-ghost use Rattle.leak_pool.specs.declared.source.Item.TheVariants.{Block};
+ghost use Rattle.leak_pool.specs.declared.target_source.Item.{Item};
+ghost use Rattle.leak_pool.specs.declared.target_source.Item.TheVariants.{Block};
 
-use crate::source::Item;
+use crate::target_source::Item;
 
 /// From this many blocks on a round is worth the threads that it starts. Own rule: four workers scan fewer in less time
 /// than their threads take to start.

@@ -2,19 +2,19 @@
 ghost use Rattle.std.specs.Prelude.{◌≡◌, ◌≢◌, ◌↔◌, ◌<◌, ◌-◌, ◌^◌, ℕ, length, IfOk, IsErrOf};
 ghost use Rattle.leak_marks.specs.Lists.{Has, IsDistinct};
 ghost use Rattle.leak_pool.specs.Items.{targets_of_block};
-ghost use Rattle.leak_pool.specs.Links.{AreLinks, kept_count, target_count};
-ghost use Rattle.leak_pool.specs.LinksLaw.{links_prop};
+ghost use Rattle.leak_pool.specs.Edges.{AreEdges, kept_count, target_count};
+ghost use Rattle.leak_pool.specs.EdgesLaw.{edges_prop};
 ghost use Rattle.leak_pool.specs.Marking.{led_by_roots};
 ghost use Rattle.leak_pool.specs.Scopes.{all_targets};
 
 use crate::alone::take_roots;
+use crate::edges::{Rows, list_rows, listed_targets, row_size};
 use crate::error::PoolError;
-use crate::links::{Rows, list_rows, listed_targets, row_size};
 use leak_blocks::Live;
 use leak_elf::Words;
 use leak_index::Lookup;
 use leak_roots::Roots;
-use leak_without::Linked;
+use leak_without::HasEdges;
 use std::alloc::Global;
 use std::thread::Threads;
 
@@ -30,7 +30,7 @@ pub struct Listed<'a, W: Words, L: Lookup> {
     size: usize,
     rows: Vec<Rows>,
     ghost many: { blocks ≡ length (all_targets (W.word_at words.now) (L.index lookup.now)) },
-    ghost listed: { AreLinks (all_targets (W.word_at words.now) (L.index lookup.now)) size rows.items } by { links_prop _ _ _ },
+    ghost listed: { AreEdges (all_targets (W.word_at words.now) (L.index lookup.now)) size rows.items } by { edges_prop _ _ _ },
     ghost exact: { kept_count rows.items ≡ target_count (all_targets (W.word_at words.now) (L.index lookup.now)) },
 }
 
@@ -40,7 +40,7 @@ pub struct Listed<'a, W: Words, L: Lookup> {
 ///
 /// `TooMany` if there are more than 2^32 - 1 live blocks. `NoMemory` if memory is refused, or if a worker's share of
 /// the blocks has more than 2^32 - 1 targets.
-pub fn list_links<'a, R: Threads + Sync, W: Words + Sync, L: Lookup + Sync>(
+pub fn list_edges<'a, R: Threads + Sync, W: Words + Sync, L: Lookup + Sync>(
     rt: &R,
     alloc: Global,
     words: &'a W,
@@ -71,7 +71,7 @@ pub fn list_links<'a, R: Threads + Sync, W: Words + Sync, L: Lookup + Sync>(
     })
 }
 
-impl<'a, W: Words, L: Lookup> Linked for Listed<'a, W, L> {
+impl<'a, W: Words, L: Lookup> HasEdges for Listed<'a, W, L> {
     ghost targets = { λ l. all_targets (W.word_at l.words.now) (L.index l.lookup.now) };
 
     ghost use Rattle.leak_pool.specs.ScopeLaw.{blocks_inside};

@@ -4,7 +4,7 @@ ghost use Rattle.leak_roots.specs.Cut.{pieces_of};
 ghost use Rattle.leak_roots.specs.Pieces.{AreCut};
 ghost use Rattle.leak_pool.specs.Course.{IsByRounds, IsThroughGate};
 ghost use Rattle.leak_pool.specs.Depth.{AreByDepth};
-ghost use Rattle.leak_pool.specs.Marking.{Marks, MarksFrom, IsStartOf, graph_of_roots, graph_from};
+ghost use Rattle.leak_pool.specs.Marking.{MarksFromRoots, MarksFrom, IsStartOf, graph_of_roots, graph_from};
 
 use crate::error::PoolError;
 use crate::gate::Gate;
@@ -35,7 +35,7 @@ pub fn mark<R: Threads + Sync, W: Words + Sync, L: Lookup + Sync, G: Gate + Sync
     requires { (L.index lookup.now).blocks ≡ live.now.blocks }
     ensures many { IsErrOf result PoolError.TooMany ↔ (2 ^ 32 - 1 < length live.now.blocks) }
     ensures marks { let w = W.word_at words.now in let i = L.index lookup.now in
-        IfOk result (Marks w i roots.now plan.workers) }
+        IfOk result (MarksFromRoots w i roots.now plan.workers) }
     ensures course { let w = W.word_at words.now in let i = L.index lookup.now in
         IfOk result (IsByRounds w i roots.now [] [] plan) }
     ensures depth { let g = graph_of_roots (W.word_at words.now) (L.index lookup.now) roots.now in

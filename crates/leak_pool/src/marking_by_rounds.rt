@@ -6,18 +6,18 @@ ghost use Rattle.leak_pool.specs.Course.{HaveGone, HaveLed};
 ghost use Rattle.leak_pool.specs.Gates.{HavePassed};
 ghost use Rattle.leak_pool.specs.Promises.{as_lists};
 ghost use Rattle.leak_pool.specs.Rounds.{AreWords, IsMarked, graph_over};
-ghost use Rattle.leak_pool.specs.Progress.{IsFresh, IsBetween, HasCourse};
+ghost use Rattle.leak_pool.specs.MarkingState.{IsFresh, IsBetweenRounds, HasCourse};
 ghost use Rattle.leak_pool.specs.Marking.{IsSet};
 
 use crate::gate::Gate;
 use crate::items::Items;
 use crate::later_rounds::until_none;
 use crate::marked::Marked;
+use crate::marking_state::MarkingState;
 use crate::plan::Plan;
-use crate::progress::Progress;
 use crate::rounds::by_workers;
 use crate::search::Search;
-use crate::source::{Source, targets_are_blocks};
+use crate::target_source::{TargetSource, targets_are_blocks};
 use leak_marks::laws::whole_runs;
 use leak_marks::{MarkSeat, Marks, is_marked};
 use std::alloc::{AllocError, Global};
@@ -51,27 +51,27 @@ fn no_claims(alloc: Global, workers: u32) -> Result<Vec<Vec<u32>>, AllocError>
 }
 
 /// The first round: the first seat claims the start's blocks, and the workers scan the roots.
-fn first_round<R: Threads + Sync, S: Source + Sync, G: Gate + Sync>(
+fn first_round<R: Threads + Sync, S: TargetSource + Sync, G: Gate + Sync>(
     rt: &R,
     alloc: Global,
     search: &Search<'_, S>,
     gate: &G,
-    mut progress: Progress,
-) -> Result<Progress, AllocError>
-    requires { IsFresh search.now progress }
-    ensures between { IfOk result (IsBetween search.now) }
+    mut state: MarkingState,
+) -> Result<MarkingState, AllocError>
+    requires { IsFresh search.now state }
+    ensures between { IfOk result (IsBetweenRounds search.now) }
     ensures course { IfOk result (λ p. HasCourse search.now p 1) }
     ensures gate { let items = length search.now.roots in
         IfOk result (λ p. HavePassed (G.passed gate.now) search.now.workers (items ∷ []) p.steps.items) }
 {
     targets_are_blocks(search.source);
-    claim_start(search.marks, &mut progress.seat, search.given);
+    claim_start(search.marks, &mut state.seat, search.given);
     let items = Items::Roots(search.source.roots());
-    by_workers(rt, alloc, search, gate, items, progress)
+    by_workers(rt, alloc, search, gate, items, state)
 }
 
 // The words of the marks when no block waits, the claims, and the number of rounds.
-fn mark_words<R: Threads + Sync, S: Source + Sync, G: Gate + Sync>(
+fn mark_words<R: Threads + Sync, S: TargetSource + Sync, G: Gate + Sync>(
     rt: &R,
     alloc: Global,
     source: &S,
@@ -98,7 +98,7 @@ fn mark_words<R: Threads + Sync, S: Source + Sync, G: Gate + Sync>(
     // A stack never holds more blocks than there are.
     let stack = plan.stack().min(source.blocks());
     let (marks, seat) = Marks::new(alloc, source.blocks())?;
-    let progress = Progress {
+    let state = MarkingState {
         seat,
         claims: no_claims(alloc, workers)?,
         waiting: Vec::new(alloc),
@@ -111,10 +111,10 @@ fn mark_words<R: Threads + Sync, S: Source + Sync, G: Gate + Sync>(
         workers,
         stack,
     };
-    let progress = first_round(rt, alloc, &search, gate, progress)?;
-    let (progress, rounds) = until_none(rt, alloc, &search, gate, progress)?;
-    let words = marks.close(alloc, progress.seat)?;
-    Ok((words, progress.claims, rounds))
+    let state = first_round(rt, alloc, &search, gate, state)?;
+    let (state, rounds) = until_none(rt, alloc, &search, gate, state)?;
+    let words = marks.close(alloc, state.seat)?;
+    Ok((words, state.claims, rounds))
 }
 
 // For each block whether its mark is set.
@@ -129,7 +129,7 @@ fn set_of(alloc: Global, words: &[u64], blocks: u32) -> Result<Vec<bool>, AllocE
 }
 
 /// Marks what the parts of the roots lead to, from the given blocks on.
-pub(crate) fn mark_by_rounds<R: Threads + Sync, S: Source + Sync, G: Gate + Sync>(
+pub(crate) fn mark_by_rounds<R: Threads + Sync, S: TargetSource + Sync, G: Gate + Sync>(
     rt: &R,
     alloc: Global,
     source: &S,

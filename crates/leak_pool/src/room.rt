@@ -1,20 +1,20 @@
-//! How many links are listed.
+//! How many edges are listed.
 ghost use Rattle.std.specs.Prelude.{◌≡◌};
 ghost use Rattle.leak_pool.specs.Room.{room_of};
 
 use std::marker::Model;
 
-/// Links take an eighth of the core at most, at four bytes a target.
-const LINK_SHARE: usize = 32;
+/// Edges take an eighth of the core at most, at four bytes a target.
+const EDGE_SHARE: usize = 32;
 
-/// Room for links: how many targets of blocks are listed at most. It is made of the bytes of a core alone, so a search
+/// Room for edges: how many targets of blocks are listed at most. It is made of the bytes of a core alone, so a search
 /// can't ask for more than its core gives.
 #[derive(Clone, Copy, Debug)]
-pub struct LinkRoom {
+pub struct EdgeRoom {
     targets: usize,
 }
 
-impl Model for LinkRoom {
+impl Model for EdgeRoom {
     ghost use Rattle.std.specs.Prelude.{ℕ};
 
     ghost Value = { ℕ };
@@ -24,13 +24,13 @@ impl Model for LinkRoom {
     ghost inverse = { λ n. record { targets = n } };
 }
 
-impl LinkRoom {
+impl EdgeRoom {
     /// The room that a core gives.
-    pub fn of_core(core: &[u8]) -> LinkRoom
+    pub fn of_core(core: &[u8]) -> EdgeRoom
         ensures { result ≡ room_of core.now }
     {
-        LinkRoom {
-            targets: core.len() / LINK_SHARE,
+        EdgeRoom {
+            targets: core.len() / EDGE_SHARE,
         }
     }
 

@@ -5,15 +5,15 @@ ghost use Rattle.leak_marks.specs.Rounds.{appended_from};
 ghost use Rattle.leak_pool.specs.Gates.{HavePassed};
 ghost use Rattle.leak_pool.specs.Items.{IsItem, items_in, targets_of_item};
 ghost use Rattle.leak_pool.specs.Promises.{as_lists};
-ghost use Rattle.leak_pool.specs.Progress.{IsReady, HasScanned, InItems, AreOfShares, AreOfOne};
+ghost use Rattle.leak_pool.specs.MarkingState.{IsReady, HasScanned, InItems, AreOfShares, AreOfOne};
 ghost use Rattle.leak_pool.specs.Rounds.{AreCounted};
 
 use crate::gate::Gate;
 use crate::halves::scan_shares;
 use crate::items::Items;
-use crate::progress::Progress;
+use crate::marking_state::MarkingState;
 use crate::search::{Gated, Round, Search};
-use crate::source::{Item, Source};
+use crate::target_source::{Item, TargetSource};
 use crate::worker::share_start;
 use std::alloc::{AllocError, Global};
 use std::thread::Threads;
@@ -57,34 +57,34 @@ fn count_steps(steps: &mut Vec<u64>, items: usize, workers: u32)
 }
 
 /// A round: all workers scan the items.
-pub(crate) fn by_workers<R: Threads + Sync, S: Source + Sync, G: Gate + Sync>(
+pub(crate) fn by_workers<R: Threads + Sync, S: TargetSource + Sync, G: Gate + Sync>(
     rt: &R,
     alloc: Global,
     search: &Search<'_, S>,
     gate: &G,
     items: Items<'_>,
-    progress: Progress,
-) -> Result<Progress, AllocError>
-    requires ready { IsReady search.now progress }
+    state: MarkingState,
+) -> Result<MarkingState, AllocError>
+    requires ready { IsReady search.now state }
     requires items { All (IsItem search.now.roots search.now.targets) (items_in items) }
     ensures ready { IfOk result (IsReady search.now) }
     ensures done { let all = items_in items.entry in IfOk result
-        (HasScanned (InItems search.now all) (AreOfShares search.now all) search.now progress) }
+        (HasScanned (InItems search.now all) (AreOfShares search.now all) search.now state) }
     ensures gate { let workers = search.now.workers in
         IfOk result (λ after. (rounds : List ℕ)
-        → HavePassed (G.passed gate.now) workers rounds progress.steps.items
+        → HavePassed (G.passed gate.now) workers rounds state.steps.items
         → HavePassed (G.passed gate.now) workers (rounds ++ length (items_in items.entry) ∷ [])
         after.steps.items) }
 {
     if items.len() == 0 {
-        return Ok(progress);
+        return Ok(state);
     }
-    let Progress {
+    let MarkingState {
         seat,
         mut claims,
         mut waiting,
         mut steps,
-    } = progress;
+    } = state;
     let round = Round {
         search,
         items,
@@ -96,7 +96,7 @@ pub(crate) fn by_workers<R: Threads + Sync, S: Source + Sync, G: Gate + Sync>(
     count_steps(&mut steps, items.len(), search.workers);
     let left = gained.left.as_slice();
     absorb(&mut claims, &mut waiting, gained.claims.as_slice(), left)?;
-    Ok(Progress {
+    Ok(MarkingState {
         seat,
         claims,
         waiting,
@@ -105,26 +105,26 @@ pub(crate) fn by_workers<R: Threads + Sync, S: Source + Sync, G: Gate + Sync>(
 }
 
 /// The caller scans one item, as worker 0. What it claims waits for the next round.
-pub(crate) fn by_caller<S: Source>(
+pub(crate) fn by_caller<S: TargetSource>(
     alloc: Global,
     search: &Search<'_, S>,
     item: Item,
-    progress: &mut Progress,
+    state: &mut MarkingState,
 ) -> Result<(), AllocError>
-    requires ready { IsReady search.now progress.old }
+    requires ready { IsReady search.now state.old }
     requires item { IsItem search.now.roots search.now.targets item }
-    ensures ready { IsReady search.now progress.new }
+    ensures ready { IsReady search.now state.new }
     ensures done { let targets = targets_of_item search.now.roots search.now.targets item in
         IfOk result (λ _. HasScanned (Has targets) (AreOfOne targets) search.now
-        progress.old progress.new) }
-    ensures steps { progress.new.steps.items ≡ progress.old.steps.items }
+        state.old state.new) }
+    ensures steps { state.new.steps.items ≡ state.old.steps.items }
 {
     let mut gained = Vec::with_capacity(alloc, 1)?;
     let mut list = Vec::new(alloc);
-    let seat = &mut progress.seat;
+    let seat = &mut state.seat;
     search.source.scan(search.marks, seat, &mut list, item)?;
     gained.push(list)?;
-    let claims = &mut progress.claims;
+    let claims = &mut state.claims;
     let left = gained[0].as_slice();
-    absorb(claims, &mut progress.waiting, gained.as_slice(), left)
+    absorb(claims, &mut state.waiting, gained.as_slice(), left)
 }

@@ -8,8 +8,8 @@ ghost use Rattle.leak_pool.specs.Scopes.{root_targets, all_targets, piece_target
 ghost use Rattle.leak_pool.specs.ScopeLaw.{pieces_prop, parts_prop};
 
 use crate::claiming::claim_all;
-use crate::source::{Item, Source};
 use crate::start::Part;
+use crate::target_source::{Item, TargetSource};
 use leak_blocks::{Block, Live};
 use leak_elf::Words;
 use leak_index::Lookup;
@@ -115,7 +115,7 @@ pub fn of_memory<'a, W: Words, L: Lookup>(
     }
 }
 
-impl<'a, W: Words, L: Lookup> Source for Scope<'a, W, L> {
+impl<'a, W: Words, L: Lookup> TargetSource for Scope<'a, W, L> {
     ghost use Rattle.leak_pool.specs.ScopeLaw.{scope_inside};
 
     ghost roots = { λ s. root_targets (W.word_at s.words.now) (L.index s.lookup.now)

@@ -4,13 +4,13 @@ ghost use Rattle.leak_pool.specs.Scene.{Scene, IsSearch, Work, IsRound};
 
 use crate::gate::Gate;
 use crate::items::Items;
-use crate::source::Source;
+use crate::target_source::TargetSource;
 use leak_marks::Marks;
 use std::marker::Model;
 
 /// What is searched from which blocks on, and by how many workers.
 #[derive(Drop)]
-pub(crate) struct Search<'a, S: Source> {
+pub(crate) struct Search<'a, S: TargetSource> {
     pub(crate) source: &'a S,
     pub(crate) marks: &'a Marks,
     /// The blocks that are marked before the search.
@@ -20,7 +20,7 @@ pub(crate) struct Search<'a, S: Source> {
     pub(crate) stack: u32,
 }
 
-impl<'a, S: Source> Model for Search<'a, S> {
+impl<'a, S: TargetSource> Model for Search<'a, S> {
     ghost Value = { Scene };
 
     ghost view = { λ s. record {
@@ -38,13 +38,13 @@ impl<'a, S: Source> Model for Search<'a, S> {
 
 /// The items of a round, and how many items each worker has scanned before it.
 #[derive(Drop)]
-pub(crate) struct Round<'a, 'b, S: Source> {
+pub(crate) struct Round<'a, 'b, S: TargetSource> {
     pub(crate) search: &'a Search<'b, S>,
     pub(crate) items: Items<'a>,
     pub(crate) steps: &'a [u64],
 }
 
-impl<'a, 'b, S: Source> Model for Round<'a, 'b, S> {
+impl<'a, 'b, S: TargetSource> Model for Round<'a, 'b, S> {
     ghost Value = { Work };
 
     ghost view = { λ r. record {
@@ -58,7 +58,7 @@ impl<'a, 'b, S: Source> Model for Round<'a, 'b, S> {
 
 /// A round, and the gate that its workers pass.
 #[derive(Drop)]
-pub(crate) struct Gated<'a, 'b, 'c, S: Source, G: Gate> {
+pub(crate) struct Gated<'a, 'b, 'c, S: TargetSource, G: Gate> {
     pub(crate) round: Round<'a, 'b, S>,
     pub(crate) gate: &'c G,
 }

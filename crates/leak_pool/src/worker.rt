@@ -9,7 +9,7 @@ ghost use Rattle.leak_pool.specs.Scene.{IsSeatOf, InShares, blocks_of};
 use crate::gate::Gate;
 use crate::hand::{Hand, put_away};
 use crate::search::{Gated, Round};
-use crate::source::{Item, Source, targets_are_blocks};
+use crate::target_source::{Item, TargetSource, targets_are_blocks};
 use crate::task::{Gained, Gains, Task};
 use leak_marks::{MarkSeat, Marks};
 use std::alloc::{AllocError, Global};
@@ -29,7 +29,7 @@ pub(crate) fn share_start(worker: u32, items: usize, workers: u32) -> usize
 }
 
 // Scans one item. What was claimed is put on the stack, or left.
-fn scan_one<S: Source>(
+fn scan_one<S: TargetSource>(
     round: &Round<'_, '_, S>,
     seat: &mut MarkSeat,
     hand: &mut Hand,
@@ -55,7 +55,7 @@ fn scan_one<S: Source>(
 }
 
 // How many steps the worker has made before the round.
-fn steps_before<S: Source>(round: &Round<'_, '_, S>, worker: u32) -> u64
+fn steps_before<S: TargetSource>(round: &Round<'_, '_, S>, worker: u32) -> u64
     requires { worker < round.now.scene.workers }
     ensures { result ≡ slice_index_or round.now.steps worker 0 }
 {
@@ -72,7 +72,7 @@ fn pass_next<G: Gate>(gate: &G, worker: u32, step: &mut u64)
 }
 
 // One worker scans its share. Before each next item it empties its stack, by blocks that pass no gate.
-fn work<S: Source, G: Gate>(
+fn work<S: TargetSource, G: Gate>(
     round: &Round<'_, '_, S>,
     gate: &G,
     seat: &mut MarkSeat,
@@ -118,7 +118,7 @@ fn work<S: Source, G: Gate>(
     }
 }
 
-impl<'a, 'b, 'c, S: Source, G: Gate> Task for Gated<'a, 'b, 'c, S, G> {
+impl<'a, 'b, 'c, S: TargetSource, G: Gate> Task for Gated<'a, 'b, 'c, S, G> {
     ghost use Rattle.leak_pool.specs.Gates.{IsNextPassed};
 
     ghost work = { λ task. task.round };

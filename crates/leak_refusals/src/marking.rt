@@ -3,13 +3,13 @@
 use crate::answer::Answer;
 use crate::samples::{MOVED, Sample, TWO_BLOCKS, chain, core_of, live_of, star};
 use leak_blocks::{Live, SmallSpans};
-use leak_dirty::{Carry, carry, differing, retrace};
 use leak_elf::Image;
 use leak_index::{Reading, Sorted};
+use leak_later::{Carry, carry, differing, retrace};
 use leak_marks::{Claims, Marks};
 use leak_notes::Threads;
 use leak_pool::{
-    LinkRoom, Marked, Open, Part, Plan, PoolError, Start, mark, mark_alone, mark_by_links,
+    EdgeRoom, Marked, Open, Part, Plan, PoolError, Start, mark, mark_alone, mark_by_edges,
     mark_from,
 };
 use leak_roots::Roots;
@@ -153,14 +153,14 @@ pub(crate) fn by_workers<R: AllocGlobal + std::thread::Threads + Sync>(rt: &R) -
     Some(first.worse(by_workers_on(rt, &star(alloc)?, 101)?))
 }
 
-/// `mark_by_links` of a star, with room for its links.
-pub(crate) fn by_links<R: AllocGlobal + std::thread::Threads + Sync>(rt: &R) -> Option<Answer> {
+/// `mark_by_edges` of a star, with room for its edges.
+pub(crate) fn by_edges<R: AllocGlobal + std::thread::Threads + Sync>(rt: &R) -> Option<Answer> {
     let alloc = rt.alloc();
     let sample = star(alloc)?;
     let scene = scene_of(alloc, sample.core.as_slice(), sample.log.as_str())?;
     let lookup = Sorted::new(&scene.live, Reading::interior());
     let plan = Plan::new(3, 16, 4).ok()?;
-    let marked = mark_by_links(
+    let marked = mark_by_edges(
         rt,
         alloc,
         &scene.image,
@@ -169,7 +169,7 @@ pub(crate) fn by_links<R: AllocGlobal + std::thread::Threads + Sync>(rt: &R) -> 
         &scene.live,
         plan,
         &Open,
-        LinkRoom::of_core(&[0u8; 32_000]),
+        EdgeRoom::of_core(&[0u8; 32_000]),
     );
     Some(answer_of(marked, 101))
 }

@@ -19,8 +19,8 @@ use Rattle.leak_report.proofs.Joins.{AreEntries-push, row_at}
 use Rattle.leak_report.proofs.Listed.{all_push, sorted_fits, sorted_none}
 use Rattle.leak_report.proofs.Orders.{order_of_keys_total}
 
-abbrev Entry : Type 0
-Entry = Key × CallerRow
+abbrev KeyedRow : Type 0
+KeyedRow = Key × CallerRow
 
 -- the keys are below the key
 abbrev AreBelow : Key → List Key → Type 0
@@ -29,7 +29,7 @@ AreBelow key ks = AllByRecursion (λ k. order_of_keys k key ≡ Less) ks
 same_keys : IsEquivalence (eq_by_cmp order_of_keys)
 same_keys = eq_by_cmp_equiv order_of_keys_total
 
-abbrev found : Key → List Entry → Option CallerRow
+abbrev found : Key → List KeyedRow → Option CallerRow
 found k es = found_in es k
 
 -- ---- the end of a list
@@ -63,7 +63,7 @@ cond_twice false x y z = refl
 
 -- ---- an entry at the end
 
-found_push : (es : List Entry) (key : Key) (row : CallerRow) (k : Key) → AreBelow key (keys_of es)
+found_push : (es : List KeyedRow) (key : Key) (row : CallerRow) (k : Key) → AreBelow key (keys_of es)
     → found k (es ++ (key, row) ∷ []) ≡ cond (is_eq (order_of_keys key k)) (Some row) (found k es)
 found_push [] key row k all = ap (λ t. cond t (Some row) None) (same_keys.symm k key)
 found_push (e ∷ es) key row k all = go (is_eq (order_of_keys k e.0)) refl (found_push es key row k all.1)
@@ -75,7 +75,7 @@ found_push (e ∷ es) key row k all = go (is_eq (order_of_keys k e.0)) refl (fou
         sym (ap (λ t. cond t (Some row) (Some e.1)) other)
     go false is rest = rest
 
-not_found : (es : List Entry) (key : Key) → AreBelow key (keys_of es) → found key es ≡ None
+not_found : (es : List KeyedRow) (key : Key) → AreBelow key (keys_of es) → found key es ≡ None
 not_found [] key all = refl
 not_found (e ∷ es) key all =
     let other : is_eq (order_of_keys key e.0) ≡ false = same_keys.symm key e.0 ∙ ap is_eq all.0 in
@@ -108,7 +108,7 @@ AreAscending prefix log leaks rows None = (rows ≡ []) × (leaks ≡ [])
 AreAscending prefix log leaks rows (Some key) = HasLast prefix log leaks rows key
 
 module _ (prefix log : List ℕ) (leaks : List Leak) (rows : List CallerRow) (key : Key) (l : Leak) (place : key.0 ≡ place_of prefix key.1.now) (text : key.1.now ≡ text_at log l.block.caller) where
-  pushed : (es : List Entry) → AreBelow key (keys_of es) → AreEntries prefix log leaks (es)
+  pushed : (es : List KeyedRow) → AreBelow key (keys_of es) → AreEntries prefix log leaks (es)
       → AreEntries prefix log (leaks ++ l ∷ []) ((es ++ (key, with_leak None l) ∷ []))
   pushed es below are =
       AreEntries-push prefix log leaks l key (es) ((es ++ (key, with_leak None l) ∷ [])) are place text (λ k.
@@ -129,9 +129,9 @@ module _ (prefix log : List ℕ) (leaks : List Leak) (rows : List CallerRow) (ke
     are = pushed [] tt (subst (λ (ls : List Leak). AreEntries prefix log ls ([])) (sym are.1) (sorted_none prefix log ([]) refl));
   }
   ascending_more (Some before) has less =
-      let es : List Entry = has.front ++ (before, has.row) ∷ [] in
-      let keys : keys_of es ≡ keys_of has.front ++ before ∷ [] = map_push (λ (e : Entry). e.0) has.front (before, has.row) in
-      let rest : values_of es ≡ values_of has.front ++ has.row ∷ [] = map_push (λ (e : Entry). e.1) has.front (before, has.row) in
+      let es : List KeyedRow = has.front ++ (before, has.row) ∷ [] in
+      let keys : keys_of es ≡ keys_of has.front ++ before ∷ [] = map_push (λ (e : KeyedRow). e.0) has.front (before, has.row) in
+      let rest : values_of es ≡ values_of has.front ++ has.row ∷ [] = map_push (λ (e : KeyedRow). e.1) has.front (before, has.row) in
       let below : AreBelow key (keys_of es) = subst (AreBelow key) (sym keys) (below_push (keys_of has.front) before key has.below less) in
       record {
         front = es;
@@ -177,7 +177,7 @@ pub last_has_room : (prefix log : List ℕ) (leaks : List Leak) (rows : List Cal
 last_has_room prefix log leaks rows key None b d are same room = absurd (cc)
 last_has_room prefix log leaks rows key (Some before) b d has same room =
     let at : get_or rows (length rows - 1) d ≡ has.row = ap (λ (rs : List CallerRow). get_or rs (length rs - 1) d) has.listed ∙ at_end (values_of has.front) has.row d in
-    let es : List Entry = has.front ++ (before, has.row) ∷ [] in
+    let es : List KeyedRow = has.front ++ (before, has.row) ∷ [] in
     let here : found before es ≡ Some has.row =
     found_push has.front before has.row before has.below ∙ ap (λ t. cond t (Some has.row) (found before has.front)) (same_keys.refl before) in (
       omega (arith, ap (λ (rs : List CallerRow). length rs) has.listed, long (values_of has.front) has.row),
@@ -206,7 +206,7 @@ ascending_all prefix log leaks rows None are = record {
 }
 ascending_all prefix log leaks rows (Some key) has = record {
   entries = (has.front ++ (key, has.row) ∷ []);
-  ordered = subst (IsStrictlySortedBy order_of_keys) (sym (map_push (λ (e : Entry). e.0) has.front (key, has.row))) (ascend_push (keys_of has.front) key has.ascend has.below);
+  ordered = subst (IsStrictlySortedBy order_of_keys) (sym (map_push (λ (e : KeyedRow). e.0) has.front (key, has.row))) (ascend_push (keys_of has.front) key has.ascend has.below);
   are = has.are;
-  listed = map_push (λ (e : Entry). e.1) has.front (key, has.row) ∙ sym has.listed;
+  listed = map_push (λ (e : KeyedRow). e.1) has.front (key, has.row) ∙ sym has.listed;
 }

@@ -2,7 +2,7 @@
 pub mod Address
 pub mod CommandLine
 pub mod Displacements
-pub mod Found
+pub mod FoundRows
 pub mod Questions
 pub mod Requests
 pub mod Unmatched

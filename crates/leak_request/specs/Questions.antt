@@ -5,7 +5,7 @@ use Rattle.leak_holders.specs.declared.question.Question.{Question}
 use Rattle.leak_holders.specs.declared.question.Side.{Side}
 use Rattle.leak_holders.specs.declared.question.Side.TheVariants as side
 use Rattle.leak_request.specs.Address.{IsAddress, IsBadAddress}
-use Rattle.leak_request.specs.Found.{IsGiven}
+use Rattle.leak_request.specs.FoundRows.{IsGiven}
 use Rattle.leak_request.specs.declared.fault.UsageFault.{UsageFault}
 use Rattle.leak_request.specs.declared.fault.UsageFault.TheVariants as fault
 

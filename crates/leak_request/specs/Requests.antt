@@ -12,7 +12,7 @@ use Rattle.leak_pool.specs.Plan.{IsBetween, Numbers}
 use Rattle.leak_request.specs.Address.{IsAddress, IsBadAddress}
 use Rattle.leak_request.specs.CommandLine.{address_id, command_line, grow_ids, grow_name, holders_name, name_of, path_ids, why_name}
 use Rattle.leak_request.specs.Displacements.{IsListed, displace_fault_of}
-use Rattle.leak_request.specs.Found.{IsGiven}
+use Rattle.leak_request.specs.FoundRows.{IsGiven}
 use Rattle.leak_request.specs.Questions.{IsQuestionAt, IsQuestionFault}
 use Rattle.leak_request.specs.declared.fault.DisplaceFault.{DisplaceFault}
 use Rattle.leak_request.specs.declared.fault.UsageFault.{UsageFault}

@@ -3,7 +3,7 @@
 ghost use Rattle.std.specs.Prelude.{◌≡◌, ◌<◌, IfOk, IfErr, IfNone, IfSome, Bool};
 ghost use Rattle.std.specs.Prelude.{length, map, string_bytes};
 ghost use Rattle.leak_request.specs.CommandLine.{name_of, path_ids};
-ghost use Rattle.leak_request.specs.Found.{found_rows};
+ghost use Rattle.leak_request.specs.FoundRows.{found_rows};
 ghost use Rattle.leak_request.specs.Requests.{IsGrowRefusal, IsHoldersRefusal, IsRefusedAt, IsSearchRefusal, IsWhyRefusal};
 ghost use Rattle.leak_request.specs.Requests.{HasFiles, IsGrowRequest, IsHoldersRequest, IsRequest, IsRequestOf, IsSearchRequest};
 ghost use Rattle.leak_request.specs.Requests.{IsUsageFaultOf, IsWhyRequest};
@@ -12,7 +12,7 @@ use crate::address::address;
 use crate::asking::question;
 use crate::command_line::command;
 use crate::fault::UsageFault;
-use crate::found::{bad_arguments, is_given, optional, paths, plan, reading, skip, value};
+use crate::found_values::{bad_arguments, is_given, optional, paths, plan, reading, skip, value};
 use crate::options::{
     CORE_LIMIT, GrowOptions, GrowRequest, HoldersRequest, LOG_LIMIT, Options, Request,
     SearchRequest, WhyRequest,

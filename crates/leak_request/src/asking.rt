@@ -1,12 +1,12 @@
 //! What is asked about some blocks.
 
 ghost use Rattle.std.specs.Prelude.{IfErr, IfOk};
-ghost use Rattle.leak_request.specs.Found.{found_rows};
+ghost use Rattle.leak_request.specs.FoundRows.{found_rows};
 ghost use Rattle.leak_request.specs.Questions.{IsAskedBy, IsBadFor, IsQuestionAt, IsQuestionFault};
 
 use crate::address::address;
 use crate::fault::UsageFault;
-use crate::found::{is_given, value};
+use crate::found_values::{is_given, value};
 use clap::ArgMatches;
 use leak_holders::{Question, Side};
 

@@ -17,7 +17,7 @@ mod asking;
 mod command_line;
 mod displacements;
 mod fault;
-mod found;
+mod found_values;
 mod options;
 mod unmatched;
 

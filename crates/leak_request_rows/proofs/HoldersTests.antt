@@ -10,7 +10,7 @@ use Rattle.leak_index.specs.Readings.{distances_of, listed_by}
 use Rattle.leak_request.specs.Address.{IsAddress, IsBadAddress, value_of}
 use Rattle.leak_request.specs.CommandLine.{command_line, holders_name, path_ids}
 use Rattle.leak_request.specs.Displacements.{displace_fault_of}
-use Rattle.leak_request.specs.Found.{IsGiven}
+use Rattle.leak_request.specs.FoundRows.{IsGiven}
 use Rattle.leak_request.specs.Questions.{Asks, AsksBadAddress, AsksBothSides, AsksNoSide, IsQuestionAt, IsQuestionFault, other_id, side_id}
 use Rattle.leak_request.specs.Requests.{HoldersLacks, IsHoldersRefusal, IsListTaken, IsListedBy, IsRefusedAt, IsRequest, list_in}
 use Rattle.leak_request.specs.declared.fault.DisplaceFault.{DisplaceFault}

@@ -9,7 +9,7 @@ use Rattle.leak_index.specs.Readings.{distances_of, listed_by}
 use Rattle.leak_request.specs.Address.{IsAddress, IsBadAddress, is_digit, value_of}
 use Rattle.leak_request.specs.CommandLine.{address_id, command_line, grow_ids, grow_name, holders_name, path_ids, why_name}
 use Rattle.leak_request.specs.Displacements.{displace_fault_of}
-use Rattle.leak_request.specs.Found.{IsGiven}
+use Rattle.leak_request.specs.FoundRows.{IsGiven}
 use Rattle.leak_request.specs.Requests.{IsGrowRefusal, IsListedBy, IsRefusedAt, IsRequest, IsWhyRefusal, WhyLacks, list_in}
 use Rattle.leak_request.specs.declared.fault.DisplaceFault.{DisplaceFault}
 use Rattle.leak_request.specs.declared.fault.UsageFault.{UsageFault}

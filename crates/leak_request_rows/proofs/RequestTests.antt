@@ -13,7 +13,7 @@ use Rattle.leak_index.specs.Readings.{distances_of, listed_by}
 use Rattle.leak_pool.specs.Plan.{IsBetween}
 use Rattle.leak_request.specs.CommandLine.{command_line, grow_name, holders_name, name_of, path_ids, why_name}
 use Rattle.leak_request.specs.Displacements.{displace_fault_of, displacements_of}
-use Rattle.leak_request.specs.Found.{IsGiven}
+use Rattle.leak_request.specs.FoundRows.{IsGiven}
 use Rattle.leak_request.specs.Requests.{AreAt, AreNumbersAt, IsListedBy, IsListFaultAt, IsNumberAt, IsRefusedAt, IsRequest, IsRequestOf, IsSearchRefusal, IsTakenAs, IsSearchRequest, IsUsageFaultOf, Lacks, LacksNumber, LacksOneOf, Writes, list_in}
 use Rattle.leak_request.specs.declared.fault.UsageFault.{UsageFault}
 use Rattle.leak_request.specs.declared.fault.UsageFault.TheVariants as fault

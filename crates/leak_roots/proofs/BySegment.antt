@@ -8,7 +8,7 @@ use Rattle.std.proofs.lemmas.List.Elements.{filter-append}
 use Rattle.leak_elf.specs.declared.segment.Segment.{Segment}
 use Rattle.leak_elf.specs.Headers.{headers}
 use Rattle.leak_elf.specs.Refusals.{fault_of, file_fault, faults_from}
-use Rattle.leak_elf.specs.Segments.{segments_of, AreKept, AreSegments}
+use Rattle.leak_elf.specs.Segments.{segments_of, AreKeptSegments, AreSegments}
 use Rattle.leak_elf.specs.Words.{places, word_of}
 use Rattle.leak_elf.proofs.Accepted.{accepted, no_first}
 use Rattle.leak_elf.proofs.Held.{word_some, word_odd}
@@ -24,7 +24,7 @@ unfolding fault_of segments_of
 are_segments file ok = accepted file (headers file) (no_first (file_fault file) (faults_from file [] 0 (headers file)) ok).1
 
 -- within a segment the multiples of 8 have words
-has_word : (file : List ℕ) (i a : ℕ) (d : Segment) → AreKept (segments_of file) → i < length (segments_of file) → (get_or (segments_of file) i d).vaddr ≤ a → a + 8 ≤ (get_or (segments_of file) i d).vaddr + (get_or (segments_of file) i d).filesz → is_some (word_of file a) ≡ eqb (a % 8) 0
+has_word : (file : List ℕ) (i a : ℕ) (d : Segment) → AreKeptSegments (segments_of file) → i < length (segments_of file) → (get_or (segments_of file) i d).vaddr ≤ a → a + 8 ≤ (get_or (segments_of file) i d).vaddr + (get_or (segments_of file) i d).filesz → is_some (word_of file a) ≡ eqb (a % 8) 0
 unfolding word_of
 has_word file i a d kept h low high =
     elim (cases_eq (a % 8) 0) [
@@ -32,7 +32,7 @@ has_word file i a d kept h low high =
       | inr n ↦ rw (word_odd file (segments_of file) a n, ne_eqb (a % 8) 0 n) refl
     ]
 
-places_of_segment : (file : List ℕ) (bs : List Block) (i : ℕ) (d : Segment) → AreKept (segments_of file) → i < length (segments_of file)
+places_of_segment : (file : List ℕ) (bs : List Block) (i : ℕ) (d : Segment) → AreKeptSegments (segments_of file) → i < length (segments_of file)
     → outside_places_in file bs (get_or (segments_of file) i d) ≡ filter (is_free bs) (places (get_or (segments_of file) i d).vaddr ((get_or (segments_of file) i d).vaddr + (get_or (segments_of file) i d).filesz))
 places_of_segment file bs i d kept h =
     let s = get_or (segments_of file) i d in
@@ -61,7 +61,7 @@ segment_more u file bs i d h =
     ∙ ap (flat_map (outside_places_in file bs)) (filter-append w (take i segs) (get_or segs i d ∷ []))
     ∙ flat_map-append (outside_places_in file bs) (filter w (take i segs)) (filter w (get_or segs i d ∷ []))
 
-pub found_more : (u : Bool) (file : List ℕ) (bs : List Block) (i : ℕ) (d : Segment) (memory more : List (ℕ × ℕ)) → AreKept (segments_of file) → i < length (segments_of file) → has_roots u (get_or (segments_of file) i d) ≡ true → AreFound u file bs i memory
+pub found_more : (u : Bool) (file : List ℕ) (bs : List Block) (i : ℕ) (d : Segment) (memory more : List (ℕ × ℕ)) → AreKeptSegments (segments_of file) → i < length (segments_of file) → has_roots u (get_or (segments_of file) i d) ≡ true → AreFound u file bs i memory
     → memory_places more ≡ memory_places memory ++ filter (is_free bs) (places (get_or (segments_of file) i d).vaddr ((get_or (segments_of file) i d).vaddr + (get_or (segments_of file) i d).filesz)) → AreRanges more → EndBy ((get_or (segments_of file) i d).vaddr + (get_or (segments_of file) i d).filesz) more
     → AreFound u file bs (i + 1) more
 found_more u file bs i d memory more kept h w found places' ranges' ends' =
@@ -72,7 +72,7 @@ found_more u file bs i d memory more kept h w found places' ranges' ends' =
       found = places' ∙ (rw (found.found, ← places_of_segment file bs i d kept h, segment_more u file bs i d h, one_taken u file bs s w) refl);
     }
   where
-    behind : (file : List ℕ) (i k : ℕ) (d e : Segment) → AreKept (segments_of file) → i < k → k < length (segments_of file) → (get_or (segments_of file) i d).vaddr + (get_or (segments_of file) i d).filesz ≤ (get_or (segments_of file) k e).vaddr
+    behind : (file : List ℕ) (i k : ℕ) (d e : Segment) → AreKeptSegments (segments_of file) → i < k → k < length (segments_of file) → (get_or (segments_of file) i d).vaddr + (get_or (segments_of file) i d).filesz ≤ (get_or (segments_of file) k e).vaddr
     behind file i k d e kept l m =
         let a = kept.apart i k d l m in
         let s = (kept.each i d (omega arith)).sizes in

@@ -6,7 +6,7 @@ use Rattle.std.proofs.lemmas.List.{take_more, take_all, get_or_default, length-a
 use Rattle.std.proofs.lemmas.List.Elements.{filter-append}
 use Rattle.std.proofs.lemmas.List.Sums.{sum_by-cons, count_by-le-length}
 use Rattle.leak_elf.specs.declared.segment.Segment.{Segment}
-use Rattle.leak_elf.specs.Segments.{segments_of, AreKept}
+use Rattle.leak_elf.specs.Segments.{segments_of, AreKeptSegments}
 use Rattle.leak_elf.specs.Refusals.{fault_of}
 use Rattle.leak_blocks.specs.declared.block.Block.{Block}
 use Rattle.leak_blocks.specs.declared.small.Span.{Span}
@@ -135,7 +135,7 @@ taken_yes u segs i d h w = taken u segs i d h ∙ (rw w refl)
 taken_no : (u : Bool) (segs : List Segment) (i : ℕ) (d : Segment) → i < length segs → has_roots u (get_or segs i d) ≡ false → length (filter (has_roots u) (take (i + 1) segs)) ≡ length (filter (has_roots u) (take i segs)) + 0
 taken_no u segs i d h w = taken u segs i d h ∙ (rw w refl)
 
-segments_apart : (file : List ℕ) (segs : List Segment) (i k : ℕ) (d e : Segment) → segs ≡ segments_of file → AreKept (segments_of file) → i < k → k < length segs → (get_or segs i d).vaddr + (get_or segs i d).filesz ≤ (get_or segs k e).vaddr
+segments_apart : (file : List ℕ) (segs : List Segment) (i k : ℕ) (d e : Segment) → segs ≡ segments_of file → AreKeptSegments (segments_of file) → i < k → k < length segs → (get_or segs i d).vaddr + (get_or segs i d).filesz ≤ (get_or segs k e).vaddr
 segments_apart file segs i k d e read kept l m =
     let in_file : k < length (segments_of file) = rw read at m in
     let a = kept.apart i k d l in_file in

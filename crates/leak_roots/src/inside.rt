@@ -12,7 +12,7 @@ use std::alloc::{AllocError, Global};
 
 /// Places that are all inside spans, or all outside them.
 #[derive(Clone, Copy)]
-struct Run {
+struct Stretch {
     /// Whether they are inside spans.
     inside: bool,
     /// Where they end, excluded: a multiple of 8.
@@ -61,7 +61,7 @@ fn count_before(spans: &[Span], passed: usize, addr: u64) -> usize
 }
 
 /// The first places from `from` on, up to `to` at most, that are all inside or all outside. `passed` spans end before them.
-fn run_from(spans: &[Span], passed: usize, from: u64, to: u64) -> Run
+fn stretch_from(spans: &[Span], passed: usize, from: u64, to: u64) -> Stretch
     requires apart { AreApart spans.now }
     requires range { IsRange (from, to) }
     ensures some { from < result.end }
@@ -75,7 +75,7 @@ fn run_from(spans: &[Span], passed: usize, from: u64, to: u64) -> Run
     let last = from + 7;
     let next = count_before(spans, passed, last);
     if next == spans.len() {
-        return Run {
+        return Stretch {
             inside: false,
             end: to,
             passed: next,
@@ -88,7 +88,7 @@ fn run_from(spans: &[Span], passed: usize, from: u64, to: u64) -> Run
     } else {
         (span.first - from).div_ceil(8)
     };
-    Run {
+    Stretch {
         inside,
         end: from + 8 * words.min((to - from) / 8),
         passed: next,
@@ -121,14 +121,14 @@ fn push_kept(
     let (mut from, to) = range;
     let mut inside = 0;
     while from < to {
-        let run = run_from(spans, *passed, from, to);
-        if run.inside {
-            inside += (run.end - from) / 8;
+        let stretch = stretch_from(spans, *passed, from, to);
+        if stretch.inside {
+            inside += (stretch.end - from) / 8;
         } else {
-            kept.push((from, run.end))?;
+            kept.push((from, stretch.end))?;
         }
-        from = run.end;
-        *passed = run.passed;
+        from = stretch.end;
+        *passed = stretch.passed;
     }
     Ok(inside)
 }

@@ -9,7 +9,7 @@ use Rattle.std.proofs.lemmas.Nat.{and_mask, and_mod, and_le_r, from_le_bytes-to_
 use Rattle.leak_elf.specs.Fields.{number_at}
 use Rattle.leak_elf.specs.Words.{IsRun}
 use Rattle.leak_blocks.specs.declared.block.Block.{Block}
-use Rattle.leak_fit.specs.Fit.{chunk_size, fits_core, fits_of, is_heap_chunk_for, is_mapped, is_previous_in_use, least_chunk, misfits_of}
+use Rattle.leak_chunks.specs.Fit.{chunk_size, fits_core, fits_of, is_heap_chunk_for, is_mapped, is_previous_in_use, least_chunk, misfits_of}
 use Rattle.leak_scan.proofs.Blocks.{run_dropped}
 use Rattle.leak_rows.specs.Heap.{Chunk, IsChunk, size_of, flag_of, size_word, header, heap_bytes, block_at, blocks_from, live_from}
 

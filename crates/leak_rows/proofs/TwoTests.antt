@@ -22,7 +22,7 @@ use Rattle.leak_marks.specs.Partition.{Partitions}
 use Rattle.leak_marks.specs.Reach.{Graph, Reach}
 use Rattle.leak_marks.proofs.ListLemmas.{none_has, here, there, at_head, of_has, to_has}
 use Rattle.leak_pool.specs.Marking.{IsSet}
-use Rattle.leak_dirty.specs.Differing.{AreDiffering, differs, is_changed}
+use Rattle.leak_later.specs.Differing.{AreDiffering, differs, is_changed}
 use Rattle.leak_report.proofs.Members.{Has as IsElement, same_elements}
 use Rattle.leak_report.specs.Report.{text_of}
 use Rattle.leak_report.specs.Totals.{leaked_in}

@@ -2,7 +2,7 @@
 -- blocks, and what holds one of them.
 use Rattle.std.specs.Prelude.{◌≡◌, ℕ, true, false, List, [], ◌∷◌, ◌++◌, replicate, Some, None}
 use Rattle.leak_blocks.specs.declared.block.Block.{Block}
-use Rattle.leak_fit.specs.Rows.{word_there}
+use Rattle.leak_chunks.specs.Rows.{word_there}
 use Rattle.leak_index.specs.Hits.{Index}
 use Rattle.leak_index.specs.Laws.{index_by}
 use Rattle.leak_roots.specs.Places.{Places}

@@ -5,7 +5,7 @@ use Rattle.std.specs.Int.{w64, to_le_bytes}
 use Rattle.std.specs.List.{AllByRecursion}
 use Rattle.leak_elf.specs.Words.{IsRun}
 use Rattle.leak_blocks.specs.declared.block.Block.{Block}
-use Rattle.leak_fit.specs.Fit.{fits_of, least_chunk, misfits_of}
+use Rattle.leak_chunks.specs.Fit.{fits_of, least_chunk, misfits_of}
 
 -- A chunk: how many bytes were asked for, how many rests of 16 bytes stayed with it, whether it is in use, and whether another
 -- arena than the main one has it. Before it is a word that is its block's neighbor's or says the size of a free one, and after

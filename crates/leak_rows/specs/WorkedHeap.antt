@@ -2,7 +2,7 @@
 use Rattle.std.specs.Prelude.{◌≡◌, ℕ, ◌-◌, Bool, true, false, List, [], ◌∷◌, ◌++◌, length}
 use Rattle.leak_elf.specs.Sample.{file_header, note_entry, program_header, zeros}
 use Rattle.leak_elf.specs.Words.{word_of}
-use Rattle.leak_fit.specs.Fit.{fits_of, least_chunk, misfits_of}
+use Rattle.leak_chunks.specs.Fit.{fits_of, least_chunk, misfits_of}
 use Rattle.leak_rows.specs.Heap.{Chunk, block_at, blocks_from, heap_bytes, live_from}
 
 -- a chunk of which this many bytes were asked for, with zeros in it

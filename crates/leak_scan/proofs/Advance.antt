@@ -2,8 +2,8 @@
 use Rattle.std.proofs.Common.{◌≡◌, ℕ, ◌+◌, ◌-◌, ◌<◌, ◌≤◌, Bool, true, false, refl, ap, sym, ◌∙◌, List, [], ◌∷◌, ◌++◌, Option, Some, None, IsSome, ◌⊎◌, inl, inr, if◌then◌else◌, nat_lt, ltb→lt, nltb→le, arith, filter_map, filter, cond}
 use Rattle.std.specs.Bool.{passes, fails}
 use Rattle.std.specs.List.{cons_option}
-use Rattle.leak_scan.specs.declared.reading.Found.{Found}
-use Rattle.leak_scan.specs.Places.{is_in, listed_word, words_from, words_found, IsRead, IsFirstWindowAt}
+use Rattle.leak_scan.specs.declared.reading.ReadWords.{ReadWords}
+use Rattle.leak_scan.specs.Positions.{is_in, listed_word, words_from, words_found, IsRead, IsFirstWindowAt}
 use Rattle.leak_scan.proofs.Ranges.{IsAligned, nothing_in, same_range, skip, split, agreeing}
 
 on_pages : (word_at : ℕ → Option ℕ) (pages : Option (List ℕ)) (a : ℕ) → is_in pages a ≡ true → listed_word word_at pages a ≡ word_at a
@@ -43,7 +43,7 @@ advance_end word_at pages from count start window first ended = nothing_in _ fro
     at a l (inr h) = no_word word_at pages a (ended a h)
 
 -- words were read
-pub advance_read : (word_at : ℕ → Option ℕ) (pages : Option (List ℕ)) (from count start window later left : ℕ) (found : Found) → IsAligned word_at → IsFirstWindowAt pages from count start window → IsRead word_at start window found later → left ≡ count - (later - from) →
+pub advance_read : (word_at : ℕ → Option ℕ) (pages : Option (List ℕ)) (from count start window later left : ℕ) (found : ReadWords) → IsAligned word_at → IsFirstWindowAt pages from count start window → IsRead word_at start window found later → left ≡ count - (later - from) →
     words_from (listed_word word_at pages) from count ≡ words_found found ++ words_from (listed_word word_at pages) later left
 advance_read word_at pages from count start window later left found aligned first read e =
     let f = listed_word word_at pages in

@@ -5,7 +5,7 @@ use Rattle.leak_index.specs.declared.hits.Hits.{Hits}
 use Rattle.leak_index.specs.declared.hits.Hits.TheVariants.{Zero}
 use Rattle.leak_index.specs.Hits.{Index, hits_of, hits_in}
 use Rattle.leak_scan.specs.Targets.{targets_of}
-use Rattle.leak_scan.specs.Places.{words_left, words_in, words_from}
+use Rattle.leak_scan.specs.Positions.{words_left, words_in, words_from}
 
 pub targets_none : (index : Index) → targets_of index [] ≡ []
 unfolding targets_of

@@ -7,7 +7,7 @@ use Rattle.leak_elf.specs.Fields.{number_at}
 use Rattle.leak_elf.specs.Words.{IsRun, words_between}
 use Rattle.leak_blocks.specs.declared.block.Block.{Block}
 use Rattle.leak_index.specs.Hits.{Index, hits_of}
-use Rattle.leak_scan.specs.Places.{words_in, words_from}
+use Rattle.leak_scan.specs.Positions.{words_in, words_from}
 use Rattle.leak_scan.specs.Targets.{targets_of, block_words}
 use Rattle.leak_scan.proofs.Ranges.{IsAligned, same_range}
 use Rattle.leak_scan.proofs.Runs.{number_drop, run_taken, words_more, words_none}

@@ -1,7 +1,7 @@
 -- Words at ranges of addresses.
 use Rattle.std.proofs.Common.{◌≡◌, ℕ, zero, suc, ◌+◌, ◌-◌, ◌%◌, ◌<◌, ◌≤◌, refl, ap, sym, ◌∙◌, subst, List, [], ◌∷◌, ◌++◌, Option, Some, None, IsSome, arith}
 use Rattle.std.specs.List.{cons_option}
-use Rattle.leak_scan.specs.Places.{words_from}
+use Rattle.leak_scan.specs.Positions.{words_from}
 
 -- only multiples of 8 have a word
 abbrev pub IsAligned : (ℕ → Option ℕ) → Type 0

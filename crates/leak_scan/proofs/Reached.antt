@@ -1,8 +1,8 @@
 -- What is read from an address on.
 use Rattle.std.proofs.Common.{◌≡◌, ℕ, ◌+◌, ◌-◌, ◌*◌, ◌%◌, ◌^◌, ◌<◌, ◌≤◌, min, refl, ap, sym, ◌∙◌, subst, List, ◌∷◌, length, take, Option, Some, None, IsSome, Bor, true≢false, arith}
 use Rattle.leak_elf.specs.Words.{IsRun}
-use Rattle.leak_scan.specs.declared.reading.Found.TheVariants.{Nothing, Word, Run}
-use Rattle.leak_scan.specs.Places.{words_in, IsRead}
+use Rattle.leak_scan.specs.declared.reading.ReadWords.TheVariants.{Nothing, Word, Bytes}
+use Rattle.leak_scan.specs.Positions.{words_in, IsRead}
 use Rattle.leak_scan.proofs.Runs.{run_taken}
 use Rattle.leak_scan.proofs.Ranges.{IsAligned, nothing_in, no_addresses, same_range, skip, one_word}
 use Rattle.leak_scan.proofs.Runs.{run_taken}
@@ -15,7 +15,7 @@ none_or_some x e s = true≢false (sym (subst (λ (y : Option ℕ). IsSome y) e 
 
 -- the complete words of a run that are in the window
 pub read_run : (word_at : ℕ → Option ℕ) (from window whole later : ℕ) (run : List ℕ) (front : Bor (List ℕ)) → IsAligned word_at → IsRun word_at from run → front.now ≡ take (8 * whole) run →
-    from < 2 ^ 64 → 0 < whole → 8 * whole ≤ length run → 8 * whole < min window (18446744073709551615 - from) + 8 → later ≡ min (from + 8 * whole) 18446744073709551615 → IsRead word_at from window (Run front) later
+    from < 2 ^ 64 → 0 < whole → 8 * whole ≤ length run → 8 * whole < min window (18446744073709551615 - from) + 8 → later ≡ min (from + 8 * whole) 18446744073709551615 → IsRead word_at from window (Bytes front) later
 read_run word_at from window whole later run front aligned is_run e high some fits room l =
     let first = aligned (from + 8 * 0) (some_is _ _ (is_run 0 (omega arith))) in
     let at : from % 8 ≡ 0 = omega arith in record {

@@ -4,7 +4,7 @@ use Rattle.std.proofs.lemmas.List.{drop-drop, drop-take, take-take, length-drop,
 use Rattle.std.specs.Int.{w64, from_le_bytes}
 use Rattle.leak_elf.specs.Fields.{number_at}
 use Rattle.leak_elf.specs.Words.{IsRun}
-use Rattle.leak_scan.specs.Places.{first_words, words_in, words_from}
+use Rattle.leak_scan.specs.Positions.{first_words, words_in, words_from}
 use Rattle.leak_scan.proofs.Ranges.{IsAligned, one_word, no_addresses, same_range}
 
 -- a number after dropped bytes

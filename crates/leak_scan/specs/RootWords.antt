@@ -4,7 +4,7 @@ use Rattle.std.specs.List.{AllByRecursion}
 use Rattle.std.specs.Option.{option_map_or}
 use Rattle.leak_elf.specs.Words.{places, words_between}
 use Rattle.leak_index.specs.Hits.{Index, hits_of}
-use Rattle.leak_fit.specs.FreeLinks.{without_free_links}
+use Rattle.leak_chunks.specs.FreeLinks.{without_free_links}
 use Rattle.leak_scan.specs.Targets.{targets_of}
 
 -- the blocks that the word at the place leads to, without those for which it is a link to a free chunk

@@ -2,7 +2,7 @@
 ghost use Rattle.std.specs.Prelude.{◌≡◌, ℕ, Option, IfSome};
 ghost use Rattle.leak_elf.specs.Words.{IsRun};
 ghost use Rattle.leak_scan.specs.Targets.{block_words};
-ghost use Rattle.leak_scan.specs.Places.{words_in};
+ghost use Rattle.leak_scan.specs.Positions.{words_in};
 
 use leak_blocks::Block;
 use leak_elf::Words;

@@ -4,7 +4,7 @@ ghost use Rattle.std.specs.Int.{w64};
 ghost use Rattle.leak_elf.specs.Fields.{number_at};
 ghost use Rattle.leak_index.specs.Hits.{hits_in};
 ghost use Rattle.leak_scan.specs.Targets.{targets_of};
-ghost use Rattle.leak_scan.specs.Places.{words_in};
+ghost use Rattle.leak_scan.specs.Positions.{words_in};
 
 use byteorder::{ByteOrder, LittleEndian};
 use leak_index::{Hits, Lookup};

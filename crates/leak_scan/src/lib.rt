@@ -3,7 +3,7 @@
 //! [`Targets`] goes over words in order and yields, for each, the numbers of the blocks that it leads to: over an
 //! address range, over words that are given as a list, as registers are, and over the words of a block, all of them
 //! or those on listed [`Pages`]. What it reads is any `leak_elf::Words`, what it asks any `leak_index::Lookup`. A range of
-//! root words can be scanned without malloc's links to free chunks, as `leak_fit` tells them.
+//! root words can be scanned without malloc's links to free chunks, as `leak_chunks` tells them.
 //!
 //! It takes words in runs where the memory has them, and steps from word to word otherwise, so that a block of 2^60
 //! bytes of which a page is dumped costs no more than that page. A word that leads nowhere yields nothing.
@@ -13,15 +13,15 @@
 #![tactic(auto)]
 
 mod block_runs;
-mod course;
 mod first;
 mod holding;
 mod laws;
 mod pages;
-mod place;
+mod position;
 mod reading;
 mod root_words;
 mod run_targets;
+mod scan;
 mod targets;
 
 pub use block_runs::BlockRuns;

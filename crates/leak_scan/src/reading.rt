@@ -1,17 +1,17 @@
 //! Reading words from an address on.
 ghost use Rattle.std.specs.Prelude.{◌≡◌, ◌≤◌, ◌<◌, ℕ, None, IfNone, IfSome};
-ghost use Rattle.leak_scan.specs.Places.{IsRead};
+ghost use Rattle.leak_scan.specs.Positions.{IsRead};
 
 use leak_elf::Words;
 
 /// Words that were read.
 #[derive(Clone, Copy)]
-pub(crate) enum Found<'a> {
+pub(crate) enum ReadWords<'a> {
     Nothing,
     /// One word.
     Word(u64),
     /// The bytes of one word or more.
-    Run(&'a [u8]),
+    Bytes(&'a [u8]),
 }
 
 /// The first words from the address on, and the address up to which the memory has no others. Words `window`
@@ -20,7 +20,7 @@ pub(crate) fn read_on<'a, W: Words>(
     words: &'a W,
     from: u64,
     window: u64,
-) -> Option<(Found<'a>, u64)>
+) -> Option<(ReadWords<'a>, u64)>
     requires { 0 < window }
     ensures ended { IfNone result ((a : ℕ) → from ≤ a → W.word_at words.now a ≡ None) }
     ensures read { IfSome result (λ r. IsRead (W.word_at words.now) from window r.0 r.1) }
@@ -30,12 +30,12 @@ pub(crate) fn read_on<'a, W: Words>(
     let whole = (run.len() as u64 / 8).min(room.div_ceil(8));
     if whole > 0 {
         let (front, _) = run.split_at(8 * whole as usize);
-        return Some((Found::Run(front), from.saturating_add(8 * whole)));
+        return Some((ReadWords::Bytes(front), from.saturating_add(8 * whole)));
     }
     let next = words.next(from)?;
     if next - from >= window {
-        return Some((Found::Nothing, next));
+        return Some((ReadWords::Nothing, next));
     }
     let word = words.word(next)?;
-    Some((Found::Word(word), next.saturating_add(8)))
+    Some((ReadWords::Word(word), next.saturating_add(8)))
 }

@@ -6,8 +6,8 @@ ghost use Rattle.leak_scan.specs.RootWords.{held_by, range_without_links};
 
 use crate::first::split_word;
 use leak_blocks::Live;
+use leak_chunks::without_free_links;
 use leak_elf::Words;
-use leak_fit::without_free_links;
 use leak_index::{Hits, Lookup};
 
 /// The blocks that the first such word leads to, of those whose 8 bytes lie from the address on and before `to`, and

@@ -3,7 +3,7 @@ ghost use Rattle.std.specs.Prelude.{◌≡◌, ◌<◌, ◌≤◌, ◌+◌, ◌+
 ghost use Rattle.std.specs.List.{AllByRecursion};
 ghost use Rattle.leak_index.specs.Hits.{hits_in};
 ghost use Rattle.leak_scan.specs.Targets.{targets_of};
-ghost use Rattle.leak_scan.specs.Places.{words_in};
+ghost use Rattle.leak_scan.specs.Positions.{words_in};
 
 use crate::first::split_word;
 use leak_index::{Hits, Lookup, hits_are_blocks};

@@ -5,13 +5,13 @@ ghost use Rattle.std.specs.List.{cons_option};
 ghost use Rattle.std.specs.Option.{option_copied};
 ghost use Rattle.leak_elf.specs.Words.{words_between};
 ghost use Rattle.leak_scan.specs.Targets.{targets_of, block_words, block_words_on};
-ghost use Rattle.leak_scan.specs.Places.{listed_word, words_from};
+ghost use Rattle.leak_scan.specs.Positions.{listed_word, words_from};
 ghost use Rattle.leak_scan.specs.RootWords.{range_without_links};
-ghost use Rattle.leak_scan.specs.Courses.{IsOver, targets_ahead};
+ghost use Rattle.leak_scan.specs.Scans.{IsOver, targets_ahead};
 
-use crate::course::{Course, next_on};
 use crate::pages::Pages;
-use crate::place::Place;
+use crate::position::Position;
+use crate::scan::{Scan, next_on};
 use leak_blocks::{Block, Live};
 use leak_elf::Words;
 use leak_index::{Hits, Lookup};
@@ -23,7 +23,7 @@ use std::marker::Model;
 pub struct Targets<'a, W: Words, L: Lookup> {
     words: &'a W,
     lookup: &'a L,
-    course: Course<'a>,
+    scan: Scan<'a>,
     /// The second block that the last word led to.
     second: Option<usize>,
 }
@@ -32,9 +32,9 @@ impl<'a, W: Words, L: Lookup> Model for Targets<'a, W, L> {
     ghost Value = { List ℕ };
 
     ghost view = { λ t. cons_option t.second
-        (targets_ahead (W.word_at t.words.now) (L.index t.lookup.now) t.course) };
+        (targets_ahead (W.word_at t.words.now) (L.index t.lookup.now) t.scan) };
 
-    ghost invariant = { λ t. IsOver (L.index t.lookup.now) t.course };
+    ghost invariant = { λ t. IsOver (L.index t.lookup.now) t.scan };
 }
 
 impl<'a, W: Words, L: Lookup> Targets<'a, W, L> {
@@ -62,7 +62,7 @@ impl<'a, W: Words, L: Lookup> Targets<'a, W, L> {
         Targets {
             words,
             lookup,
-            course: Course::Roots(live, from, to),
+            scan: Scan::Roots(live, from, to),
             second: None,
         }
     }
@@ -74,9 +74,9 @@ impl<'a, W: Words, L: Lookup> Targets<'a, W, L> {
         Targets {
             words,
             lookup,
-            course: Course::Plain(
+            scan: Scan::Plain(
                 None,
-                Place {
+                Position {
                     list: registers,
                     run: &[],
                     from: 0,
@@ -124,9 +124,9 @@ impl<'a, W: Words, L: Lookup> Targets<'a, W, L> {
         Targets {
             words,
             lookup,
-            course: Course::Plain(
+            scan: Scan::Plain(
                 pages,
-                Place {
+                Position {
                     list: &[],
                     run: &[],
                     from,
@@ -149,8 +149,8 @@ impl<'a, W: Words, L: Lookup> Iterator for Targets<'a, W, L> {
         if let Some(block) = self.second.take() {
             return Some(block);
         }
-        let (hits, course) = next_on(self.words, self.lookup, self.course);
-        self.course = course;
+        let (hits, scan) = next_on(self.words, self.lookup, self.scan);
+        self.scan = scan;
         match hits {
             Hits::Zero => None,
             Hits::One(block) => Some(block),

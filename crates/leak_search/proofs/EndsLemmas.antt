@@ -14,7 +14,7 @@ use Rattle.leak_roots.specs.declared.skip.Skip.{Skip}
 use Rattle.leak_roots.specs.Roots.{root_places}
 use Rattle.leak_roots.specs.Skipped.{spans_of}
 use Rattle.leak_input.specs.Slack.{slack_in}
-use Rattle.leak_fit.specs.FreeLinks.{is_free_link_past}
+use Rattle.leak_chunks.specs.FreeLinks.{is_free_link_past}
 use Rattle.leak_scan.specs.RootWords.{held_by, held_from, targets_without_links}
 use Rattle.leak_scan.specs.Targets.{block_targets, block_words, targets_of as led_by}
 use Rattle.leak_marks.specs.Lists.{Has, Within, times}
@@ -22,7 +22,7 @@ use Rattle.leak_marks.specs.Reach.{Reach, targets_of}
 use Rattle.leak_marks.proofs.ListLemmas.{times-append}
 use Rattle.leak_marks.proofs.ReachLemmas.{reach_more}
 use Rattle.leak_pool.specs.Marking.{graph_of, led_in_memory, led_from}
-use Rattle.leak_dirty.specs.Kept.{kept_of, has_marked_line}
+use Rattle.leak_later.specs.Kept.{kept_of, has_marked_line}
 use Rattle.leak_search.specs.EndsLaw.{inner, whole}
 use Rattle.leak_search.specs.Search.{first_of, graph_of_one, index_of}
 use Rattle.leak_search.specs.SearchTwo.{IsMarkedEarlier, graph_of_later, kept_blocks, new_blocks}

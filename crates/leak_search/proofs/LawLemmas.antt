@@ -21,8 +21,8 @@ use Rattle.leak_roots.specs.Roots.{has_roots, is_inside, outside_places, outside
 use Rattle.leak_roots.specs.Skipped.{spans_of}
 use Rattle.leak_input.specs.Slack.{slack_in}
 use Rattle.leak_roots.proofs.LeftOut.{no_spans_inside}
-use Rattle.leak_fit.specs.FreeLinks.{is_free_link_past}
-use Rattle.leak_fit.specs.Slack.{slack_spans_of}
+use Rattle.leak_chunks.specs.FreeLinks.{is_free_link_past}
+use Rattle.leak_chunks.specs.Slack.{slack_spans_of}
 use Rattle.leak_scan.specs.RootWords.{held_by, held_from, targets_without_links}
 use Rattle.leak_scan.specs.Targets.{targets_of}
 use Rattle.leak_marks.specs.Lists.{Has, Within, times}
@@ -30,7 +30,7 @@ use Rattle.leak_marks.specs.Reach.{Reach}
 use Rattle.leak_marks.proofs.ListLemmas.{has_back, has_front, of_append, times-append}
 use Rattle.leak_marks.proofs.ReachLemmas.{reach_within}
 use Rattle.leak_pool.specs.Marking.{graph_of, led_in_memory}
-use Rattle.leak_dirty.specs.Kept.{kept_of, has_marked_line, numbers_from}
+use Rattle.leak_later.specs.Kept.{kept_of, has_marked_line, numbers_from}
 use Rattle.leak_search.specs.Laws.{LeavesOutNoMore}
 use Rattle.leak_search.specs.Search.{first_of, graph_of_one, index_of}
 use Rattle.leak_search.specs.SearchTwo.{IsMarkedEarlier, graph_of_later, kept_blocks, new_blocks}

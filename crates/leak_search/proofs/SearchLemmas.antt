@@ -23,7 +23,7 @@ use Rattle.leak_roots.specs.declared.skip.Skip.{Skip}
 use Rattle.leak_marks.specs.Reach.{Graph, Reach}
 use Rattle.leak_marks.specs.Partition.{Partitions}
 use Rattle.leak_pool.specs.declared.marked.Marked.{Marked}
-use Rattle.leak_pool.specs.Marking.{IsSet, Marks, graph_of, led_by_roots, led_from, lists_of}
+use Rattle.leak_pool.specs.Marking.{IsSet, MarksFromRoots, graph_of, led_by_roots, led_from, lists_of}
 use Rattle.leak_report.specs.declared.head.Head.{Head}
 use Rattle.leak_report.specs.Totals.{leaked_in}
 use Rattle.leak_report.specs.Report.{text_of}
@@ -80,7 +80,7 @@ index_is reading lines blocks index are is = rw (is, are) refl
 -- a search that read, found roots and marked
 pub finds_one : (core log : List ℕ) (reading : Distances) (check : Bool) (workers : ℕ) (input : Input) (index : Index) (places : Places) (head : Head) (fits : Option (List Bool)) (marked : Marked) (found : Found)
     → (read : IsRead core log input) → length input.live.blocks < 2 ^ 32 → index ≡ record { blocks = input.live.blocks; reading = reading }
-    → AreRootsOf input.skip.unwritable core input.live.blocks (spans_of input.skip read.0) (slack_in input.skip core input.live.blocks) places → places.skips_links ≡ input.skip.links → Marks (word_of core) index places workers marked → head ≡ head_with input places None
+    → AreRootsOf input.skip.unwritable core input.live.blocks (spans_of input.skip read.0) (slack_in input.skip core input.live.blocks) places → places.skips_links ≡ input.skip.links → MarksFromRoots (word_of core) index places workers marked → head ≡ head_with input places None
     → fits ≡ fits_with check input
     → found.report.items ≡ text_of head input.live.blocks marked.set.items (heads_of (word_of core) index marked.set.items) fits log
     → found.leaked ≡ length (leaked_in marked.set.items input.live.blocks) → found.claims ≡ marked.claims
@@ -133,7 +133,7 @@ few_blocks n not_many = omega (arith, not_many)
 pub finds_read : (core log : List ℕ) (reading : Distances) (skip : Skip) (check : Bool) (workers : ℕ) (input : Input) (index : Index) (places : Places) (head : Head) (fits : Option (List Bool)) (marked : Marked) (found : Found)
     → (read : IsRead core log input) → input.skip ≡ skip → (2 ^ 32 - 1 < length input.live.blocks → IsErrOf {T = Marked} {E = PoolError} (Ok marked) TooManyForPool)
     → index ≡ record { blocks = input.live.blocks; reading = reading }
-    → AreRootsFor read.0 input places → Marks (word_of input.image) index places workers marked → head ≡ head_with input places None
+    → AreRootsFor read.0 input places → MarksFromRoots (word_of input.image) index places workers marked → head ≡ head_with input places None
     → fits ≡ fits_with check input
     → found.report.items ≡ text_with head input index marked.set.items fits log
     → found.leaked ≡ length (leaked_in marked.set.items input.live.blocks) → found.claims ≡ marked.claims
@@ -143,7 +143,7 @@ finds_read core log reading skip check workers input index places head fits mark
     (finds_one core log reading check workers input index places head fits marked found read (few_blocks (length input.live.blocks) (λ h. no_error marked (many h))) is
     (subst (λ (file : List ℕ). AreRootsOf input.skip.unwritable file input.live.blocks (spans_of input.skip read.0) (slack_in input.skip file input.live.blocks) places) read.1.image roots.roots)
     roots.links
-    (subst (λ (file : List ℕ). Marks (word_of file) index places workers marked) read.1.image marks)
+    (subst (λ (file : List ℕ). MarksFromRoots (word_of file) index places workers marked) read.1.image marks)
     head_at fits_is
     (subst (λ (file : List ℕ). found.report.items ≡ text_of head input.live.blocks marked.set.items (heads_of (word_of file) index marked.set.items) fits log) read.1.image report)
     leaked claims)

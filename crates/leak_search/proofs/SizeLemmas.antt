@@ -5,7 +5,7 @@ use Rattle.std.specs.List.Sorted.{IsStrictlyIncreasing}
 use Rattle.std.proofs.lemmas.List.Sums.{sum_by_more, sum_by-take-le, sum_by-le-sum_by}
 use Rattle.leak_blocks.specs.declared.block.Block.{Block}
 use Rattle.leak_marks.specs.Lists.{Has}
-use Rattle.leak_dirty.proofs.SizeLemmas.{rises, sizes_of, size_at}
+use Rattle.leak_later.proofs.SizeLemmas.{rises, sizes_of, size_at}
 use Rattle.leak_search.specs.SearchTwo.{size_of}
 
 pub size_none : (blocks : List Block) → 0 ≡ size_of blocks []

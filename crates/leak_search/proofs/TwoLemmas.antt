@@ -21,12 +21,12 @@ use Rattle.leak_marks.proofs.ReachLemmas.{reach_within}
 use Rattle.leak_pool.specs.declared.marked.Marked.{Marked}
 use Rattle.leak_pool.specs.declared.error.PoolError.{PoolError}
 use Rattle.leak_pool.specs.declared.error.PoolError.TheVariants.{TooMany as TooManyForPool, NoMemory as NoMemoryForPool}
-use Rattle.leak_pool.specs.Marking.{IsSet, Marks, graph_of, led_by_roots, lists_of}
-use Rattle.leak_dirty.specs.declared.kept.Carry.{Carry}
-use Rattle.leak_dirty.specs.declared.retracing.Retraced.{Retraced}
-use Rattle.leak_dirty.specs.Differing.{AreDiffering, differs, reread_of}
-use Rattle.leak_dirty.specs.Kept.{AbsentAreFresh, IsCarry, absent_of, kept_of}
-use Rattle.leak_dirty.specs.Retrace.{IsRetrace, OthersLeadWithin, SameWordsLeadWithin, graph_of_two}
+use Rattle.leak_pool.specs.Marking.{IsSet, MarksFromRoots, graph_of, led_by_roots, lists_of}
+use Rattle.leak_later.specs.declared.kept.Carry.{Carry}
+use Rattle.leak_later.specs.declared.retracing.Retraced.{Retraced}
+use Rattle.leak_later.specs.Differing.{AreDiffering, differs, reread_of}
+use Rattle.leak_later.specs.Kept.{AbsentAreFresh, IsCarry, absent_of, kept_of}
+use Rattle.leak_later.specs.Retrace.{IsRetrace, OthersLeadWithin, SameWordsLeadWithin, graph_of_two}
 use Rattle.leak_report.specs.declared.head.Head.{Head}
 use Rattle.leak_report.specs.Totals.{leaked_in}
 use Rattle.leak_report.specs.Report.{text_of}
@@ -39,7 +39,7 @@ use Rattle.leak_input.specs.declared.pairs.Inputs.{Inputs}
 use Rattle.leak_input.specs.Inputs.{AreRootsFor, IsReadOf, IsInput, at_marking, Continues, AreReadTwo}
 use Rattle.leak_input.specs.Report.{head_with, text_with}
 use Rattle.leak_search.specs.Search.{first_of, graph_of_one, index_of}
-use Rattle.leak_search.specs.SearchTwo.{IsMarkedEarlier, IsBetween, FindsLater, FindsTwo, graph_of_later, head_of_two, kept_blocks, new_blocks, numbers_of_two, size_of}
+use Rattle.leak_search.specs.SearchTwo.{IsMarkedEarlier, IsBetweenCores, FindsLater, FindsTwo, graph_of_later, head_of_two, kept_blocks, new_blocks, numbers_of_two, size_of}
 use Rattle.leak_input.specs.Signs.{fits_with}
 use Rattle.leak_input.proofs.PairLemmas.{faultless, paired}
 use Rattle.leak_input.proofs.InputLemmas.{fits_are, input_blocks}
@@ -56,7 +56,7 @@ only_memory n NoMemoryForPool f is many few = is
 
 pub marked_earlier : (reading : Distances) (workers : ℕ) (lines : List Line) (input : Input) (index : Index) (places : Places) (marked : Marked)
     → IsInput lines input → index ≡ record { blocks = input.live.blocks; reading = reading }
-    → AreRootsFor lines input places → Marks (word_of input.image) index places workers marked
+    → AreRootsFor lines input places → MarksFromRoots (word_of input.image) index places workers marked
     → IsMarkedEarlier input.image reading input.skip lines marked.set.items
 marked_earlier reading workers lines input index places marked is_input is roots marks =
     let e = input_blocks input.image is_input.log lines input is_input.read in
@@ -71,7 +71,7 @@ pub is_between : (reading : Distances) (skip : Skip) (before now : List Line) (f
     → IsMarkedEarlier first.image reading skip before set
     → c.kept.items ≡ kept_of first.live.blocks set second.live.blocks → c.fresh.items ≡ absent_of first.live.blocks second.live.blocks
     → IsCarry (length second.live.blocks) c → b.carry ≡ c → AreDiffering (word_of first.image) (word_of second.image) b.pages
-    → IsBetween first.image second.image reading skip before now b
+    → IsBetweenCores first.image second.image reading skip before now b
 is_between reading skip before now first second set c b is_first is_second continues absent marked kept fresh lists same pages =
     let e1 = input_blocks first.image is_first.log before first is_first.read in
     let e2 = input_blocks second.image is_second.log now second is_second.read in
@@ -86,7 +86,7 @@ is_between reading skip before now first second set c b is_first is_second conti
 
 -- words of kept blocks that aren't on the pages lead to kept and new blocks alone
 pub others_lead_within : (core1 core2 : List ℕ) (reading : Distances) (skip : Skip) (before now : List Line) (b : Between)
-    → IsBetween core1 core2 reading skip before now b → Continues before now → SameWordsLeadWithin
+    → IsBetweenCores core1 core2 reading skip before now b → Continues before now → SameWordsLeadWithin
     → OthersLeadWithin (word_of core2) (index_of reading now) b.pages b.carry.kept.items b.carry.fresh.items
 others_lead_within core1 core2 reading skip before now b between continues same = rw (between.kept, between.fresh, continues.1) within
   where
@@ -119,7 +119,7 @@ pub tests_of : (reading : Distances) (lines : List Line) (input : Input) (set : 
 tests_of reading lines input set is_input marked = marked.len ∙ ap length (sym (input_blocks input.image is_input.log lines input is_input.read))
 
 pub carried : (core1 core2 core log : List ℕ) (reading : Distances) (skip : Skip) (before now : List Line) (second : Input) (b : Between)
-    → IsReadOf core log now second → IsBetween core1 core2 reading skip before now b → IsCarry (length second.live.blocks) b.carry
+    → IsReadOf core log now second → IsBetweenCores core1 core2 reading skip before now b → IsCarry (length second.live.blocks) b.carry
 carried core1 core2 core log reading skip before now second b read between =
     subst (λ (bs : List Block). IsCarry (length bs) b.carry) (sym (input_blocks core log now second read)) between.lists
 
@@ -180,7 +180,7 @@ finds_later core log reading check workers lines input index places head fits pa
 finds_inputs : (log1 log2 : List ℕ) (reading : Distances) (skip : Skip) (check : Bool) (workers : ℕ) (before now : List Line) (first second : Input) (index : Index) (places : Places) (head : Head) (fits : Option (List Bool)) (b : Between) (r : Retraced) (count bytes : ℕ) (found : Found)
     → IsReadOf first.image log1 before first → IsReadOf second.image log2 now second → length first.live.blocks < 2 ^ 32 → length second.live.blocks < 2 ^ 32
     → IsTrue (is_continued_by log1 log2) → Continues before now → SameWordsLeadWithin
-    → IsBetween first.image second.image reading skip before now b → second.skip ≡ skip
+    → IsBetweenCores first.image second.image reading skip before now b → second.skip ≡ skip
     → index ≡ record { blocks = second.live.blocks; reading = reading } → AreRootsFor now second places
     → IsRetrace (word_of second.image) index places b.pages b.carry workers r → count ≡ length b.carry.fresh.items → bytes ≡ size_of second.live.blocks b.carry.fresh.items
     → head ≡ head_with second places (Some (record { fresh = count; fresh_bytes = bytes; reread = r.reread }))
@@ -208,7 +208,7 @@ finds_inputs log1 log2 reading skip check workers before now first second index 
 
 pub finds_two : (core1 log1 core2 log2 : List ℕ) (reading : Distances) (skip : Skip) (check : Bool) (workers : ℕ) (inputs : Inputs) (index : Index) (places : Places) (head : Head) (fits : Option (List Bool)) (b : Between) (r : Retraced) (count bytes : ℕ) (found : Found)
     → (read : AreReadTwo core1 log1 core2 log2 inputs) → SameWordsLeadWithin
-    → IsBetween inputs.first.image inputs.second.image reading inputs.first.skip read.before read.now b → (inputs.first.skip ≡ skip) × (inputs.second.skip ≡ skip)
+    → IsBetweenCores inputs.first.image inputs.second.image reading inputs.first.skip read.before read.now b → (inputs.first.skip ≡ skip) × (inputs.second.skip ≡ skip)
     → index ≡ record { blocks = inputs.second.live.blocks; reading = reading } → AreRootsFor read.now inputs.second places
     → IsRetrace (word_of inputs.second.image) index places b.pages b.carry workers r → count ≡ length b.carry.fresh.items → bytes ≡ size_of inputs.second.live.blocks b.carry.fresh.items
     → head ≡ head_with inputs.second places (Some (record { fresh = count; fresh_bytes = bytes; reread = r.reread }))
@@ -219,6 +219,6 @@ pub finds_two : (core1 log1 core2 log2 : List ℕ) (reading : Distances) (skip :
 finds_two core1 log1 core2 log2 reading skip check workers inputs index places head fits b r count bytes found read same between skips is roots retrace counted sized head_at fits_is report leaked claims =
     let pair = paired core1 log1 core2 log2 inputs read in
     let found_it = finds_inputs log1 log2 reading skip check workers read.before read.now inputs.first inputs.second index places head fits b r count bytes found pair.first.read pair.second.read read.few_before read.few_now read.continued read.lines same
-    (subst (λ (s : Skip). IsBetween inputs.first.image inputs.second.image reading s read.before read.now b) skips.0 between) skips.1 is roots retrace counted sized head_at fits_is report leaked claims in
+    (subst (λ (s : Skip). IsBetweenCores inputs.first.image inputs.second.image reading s read.before read.now b) skips.0 between) skips.1 is roots retrace counted sized head_at fits_is report leaked claims in
     subst (λ (file : List ℕ). FindsTwo core1 log1 file log2 reading skip check workers found) read.second.image
     (subst (λ (file : List ℕ). FindsTwo file log1 inputs.second.image log2 reading skip check workers found) read.first.image found_it)

@@ -17,9 +17,9 @@ use Rattle.leak_marks.specs.Lists.{Has}
 use Rattle.leak_marks.specs.Reach.{Graph, Reach}
 use Rattle.leak_marks.specs.Partition.{Partitions}
 use Rattle.leak_pool.specs.Marking.{IsSet}
-use Rattle.leak_dirty.specs.Differing.{AreDiffering, reread_of}
-use Rattle.leak_dirty.specs.Kept.{kept_of, fresh_of, IsCarry}
-use Rattle.leak_dirty.specs.Retrace.{graph_of_two}
+use Rattle.leak_later.specs.Differing.{AreDiffering, reread_of}
+use Rattle.leak_later.specs.Kept.{kept_of, fresh_of, IsCarry}
+use Rattle.leak_later.specs.Retrace.{graph_of_two}
 use Rattle.leak_report.specs.declared.head.Head.{Head}
 use Rattle.leak_report.specs.declared.head.Two.{Two}
 use Rattle.leak_report.specs.Totals.{leaked_in}
@@ -72,7 +72,7 @@ head_of_two core log skip lines two = record {
 }
 
 -- what the later log has in common with the earlier input: kept and new blocks, and the pages that differ
-pub record IsBetween (core1 core2 : List ℕ) (reading : Distances) (skip : Skip) (before now : List Line) (b : Between) : Type 0 where
+pub record IsBetweenCores (core1 core2 : List ℕ) (reading : Distances) (skip : Skip) (before now : List Line) (b : Between) : Type 0 where
   pub earlier : List Bool
   pub marked : IsMarkedEarlier core1 reading skip before earlier
   pub kept : b.carry.kept.items ≡ kept_blocks before earlier now

@@ -8,20 +8,20 @@ ghost use Rattle.leak_blocks.specs.Live.{live_of};
 ghost use Rattle.leak_blocks.specs.Span.{AreAddressed, AreDisjoint};
 ghost use Rattle.leak_elf.specs.Words.{word_of};
 ghost use Rattle.leak_index.specs.Readings.{distances_of};
-ghost use Rattle.leak_dirty.specs.Kept.{IsCarry};
-ghost use Rattle.leak_dirty.specs.Retrace.{IsRetrace};
+ghost use Rattle.leak_later.specs.Kept.{IsCarry};
+ghost use Rattle.leak_later.specs.Retrace.{IsRetrace};
 ghost use Rattle.leak_input.specs.Inputs.{IsInput, ArePaired, AreReadTwo, IsFaultOfTwo};
 ghost use Rattle.leak_input.specs.Signs.{AreSigns};
-ghost use Rattle.leak_search.specs.SearchTwo.{IsMarkedEarlier, IsBetween, FindsTwo, size_of};
+ghost use Rattle.leak_search.specs.SearchTwo.{IsMarkedEarlier, IsBetweenCores, FindsTwo, size_of};
 
 use leak_blocks::Block;
-use leak_dirty::{
-    Carry, Retraced, absent_are_fresh, carry, differing, retrace, same_words_lead_within,
-};
 use leak_index::Reading;
 use leak_input::{
     Aside, FindError, Found, Ground, Input, Inputs, Workers, ground_of, head_of, mark_input,
     oddities_of_two, read_two, report_of,
+};
+use leak_later::{
+    Carry, Retraced, absent_are_fresh, carry, differing, retrace, same_words_lead_within,
 };
 use leak_pool::{Gate, Marked, Plan};
 use leak_report::Two;
@@ -68,7 +68,7 @@ fn compare<R: Threads + Sync, G: Gate + Sync>(
         × (length inputs.now.second.live.blocks < 2 ^ 32) }
     ensures between { IfOk result (λ between. (before now : List Line)
         → ArePaired before now inputs.now
-        → IsBetween inputs.now.first.image inputs.now.second.image (distances_of reading)
+        → IsBetweenCores inputs.now.first.image inputs.now.second.image (distances_of reading)
         inputs.now.first.skip before now between) }
     ensures memory { IfErr result (λ e. e ≡ FindError.NoMemory) }
 {

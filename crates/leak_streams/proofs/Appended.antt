@@ -6,7 +6,7 @@ use Rattle.std.specs.Prelude.{Result, Ok, Err}
 use Rattle.std.specs.declared.io.Error.{Error}
 use Rattle.std.specs.Io.{WritesAtMost}
 use Rattle.std.specs.Io.KnownBytes.{Appends, Keeps, WriteAppends}
-use Rattle.leak_streams.specs.declared.writers.Progress.{Progress}
+use Rattle.leak_streams.specs.declared.writers.WrittenSoFar.{WrittenSoFar}
 use Rattle.leak_streams.specs.declared.fault.WriteFault.{WriteFault}
 use Rattle.leak_streams.specs.Laws.{WritesTell}
 use Rattle.leak_streams.specs.Writes.{Calls, GoesOn, Stops, IsTurn, ComesBy, HasCome, IsWrittenWhole, IsCutOff}
@@ -16,12 +16,12 @@ pub left_whole : (n : ℕ) (text : List ℕ) → take (length text - n) (drop n 
 left_whole n text = take_all _ _ (omega (arith, length-drop n text))
 
 -- if a writing goes on, no more is taken than the text, and there were not too many interruptions
-pub goes_on_within : (text : List ℕ) (now next : Progress) (answer : Result ℕ Error) → now.written ≤ length text
+pub goes_on_within : (text : List ℕ) (now next : WrittenSoFar) (answer : Result ℕ Error) → now.written ≤ length text
     → WritesAtMost answer (drop now.written text) → GoesOn now answer next → next.written ≤ length text
 goes_on_within text now next (Ok count) within bound on = let is = on.1 in omega (arith, is, bound, within, length-drop now.written text)
 goes_on_within text now next (Err e) within bound on = let is = on.1 in omega (arith, is, within)
 
-pub goes_on_few : (now next : Progress) (answer : Result ℕ Error) → now.interruptions < 1000000 → GoesOn now answer next → next.interruptions < 1000000
+pub goes_on_few : (now next : WrittenSoFar) (answer : Result ℕ Error) → now.interruptions < 1000000 → GoesOn now answer next → next.interruptions < 1000000
 goes_on_few now next (Ok count) few on = let is = on.2 in omega (arith, is, few)
 goes_on_few now next (Err e) few on = on.3
 
@@ -47,17 +47,17 @@ Appends-none (Some xs) = sym (append-nil xs)
 
 module _ {W : Type 0} (calls : Calls W) (text : List ℕ) where
   -- no turn yet
-  pub none_yet : (first : W) (now : Progress) → now.written ≡ 0 → now.interruptions ≡ 0 → HasCome calls text first first now
+  pub none_yet : (first : W) (now : WrittenSoFar) → now.written ≡ 0 → now.interruptions ≡ 0 → HasCome calls text first first now
   none_yet first now written interruptions = record { turns = []; by_turns = (refl, written, interruptions) }
 
   -- a turn, by what was given to the writer
-  pub is_turn : (now : Progress) (before after : W) (answer : Result ℕ Error) → now.written < length text
+  pub is_turn : (now : WrittenSoFar) (before after : W) (answer : Result ℕ Error) → now.written < length text
       → calls before (take (length text - now.written) (drop now.written text)) answer after → IsTurn calls text now before answer after
   is_turn now before after answer left call =
       record { left = left; call = subst (λ bytes. calls before bytes answer after) (left_whole now.written text) call }
 
   -- one turn more
-  pub one_more : (first before last : W) (was now : Progress) (answer : Result ℕ Error) → HasCome calls text first before was
+  pub one_more : (first before last : W) (was now : WrittenSoFar) (answer : Result ℕ Error) → HasCome calls text first before was
       → IsTurn calls text was before answer last → GoesOn was answer now → HasCome calls text first last now
   one_more first before last was now answer come turn on = record { turns = (answer, before) ∷ come.turns; by_turns = (was, come.by_turns, turn, on) }
 
@@ -68,13 +68,13 @@ abbrev pub tells : {W : Type 0} → (W → Option (List ℕ)) → Calls W
 tells contents before bytes answer after = WriteAppends (contents before) (contents after) answer bytes × WritesAtMost answer bytes
 
 module _ {W : Type 0} (contents : W → Option (List ℕ)) (text : List ℕ) (first : W) where
-  goes_on_appends : (before last : W) (was now : Progress) (answer : Result ℕ Error) → Appends (contents first) (contents before) (take was.written text)
+  goes_on_appends : (before last : W) (was now : WrittenSoFar) (answer : Result ℕ Error) → Appends (contents first) (contents before) (take was.written text)
       → IsTurn (tells contents) text was before answer last → GoesOn was answer now → Appends (contents first) (contents last) (take now.written text)
   goes_on_appends before last was now (Ok count) so_far turn on =
       rw (on.1) (Appends-more _ (contents before) _ was.written count text so_far turn.call.0)
   goes_on_appends before last was now (Err e) so_far turn on = rw (on.1) (Appends-kept _ (contents before) _ _ so_far turn.call.0)
 
-  come_appends : (turns : List (Result ℕ Error × W)) (last : W) (now : Progress) → ComesBy (tells contents) text first turns last now
+  come_appends : (turns : List (Result ℕ Error × W)) (last : W) (now : WrittenSoFar) → ComesBy (tells contents) text first turns last now
       → Appends (contents first) (contents last) (take now.written text)
   come_appends [] last now come = rw (come.0, come.1) (Appends-none _)
   come_appends (turn ∷ turns) last now come =
@@ -86,7 +86,7 @@ module _ {W : Type 0} (contents : W → Option (List ℕ)) (text : List ℕ) (fi
       subst (λ bytes. Appends (contents first) (contents last) bytes) (rw (whole.all) (take_all _ _ (omega arith)))
       (come_appends whole.come.turns last whole.now whole.come.by_turns)
 
-  stops_appends : (before last : W) (now : Progress) (answer : Result ℕ Error) → Appends (contents first) (contents before) (take now.written text)
+  stops_appends : (before last : W) (now : WrittenSoFar) (answer : Result ℕ Error) → Appends (contents first) (contents before) (take now.written text)
       → IsTurn (tells contents) text now before answer last → Stops now answer → Appends (contents first) (contents last) (take now.written text)
   stops_appends before last now (Ok count) so_far turn stops =
       let more = Appends-more _ (contents before) (contents last) now.written count text so_far turn.call.0 in

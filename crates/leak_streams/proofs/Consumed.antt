@@ -10,7 +10,7 @@ use Rattle.leak_streams.specs.declared.fault.ReadFault.TheVariants.{TooLong, Dev
 use Rattle.leak_streams.specs.declared.readers.Turn.TheVariants.{End, Bytes, Again, Stop}
 use Rattle.leak_streams.specs.Laws.{ReadsTell}
 use Rattle.leak_streams.specs.Reading.{IsWholeInput, IsStopped}
-use Rattle.leak_streams.specs.Reads.{Calls, StopsBy, IsEnd, Follows, Progress, GoesOn, OneRead, IsRead, ComesBy, HasCome, IsReadWhole, IsCutOff, IsGivenUp}
+use Rattle.leak_streams.specs.Reads.{Calls, StopsBy, IsEnd, Follows, ReadSoFar, GoesOn, OneRead, IsRead, ComesBy, HasCome, IsReadWhole, IsCutOff, IsGivenUp}
 
 -- ---- bytes that are taken one after the other
 
@@ -99,7 +99,7 @@ piece_length limit len counted sum room new piece few is_len is_sum is_room is_p
     (omega (arith, h, few, is_len, is_sum, is_room, is_piece), omega (arith, h, few, is_len, is_sum, is_room, is_piece))
 
 module _ {R : Type 0} (calls : Calls R) (limit : ℕ) where
-  pub is_read : (counted sum room : ℕ) (now : Progress) (before after : R) (new piece : List ℕ) (answer : Result ℕ Error) → length now.bytes ≤ limit
+  pub is_read : (counted sum room : ℕ) (now : ReadSoFar) (before after : R) (new piece : List ℕ) (answer : Result ℕ Error) → length now.bytes ≤ limit
       → counted ≡ length now.bytes → sum ≡ min (limit - counted + 1) 18446744073709551615 → room ≡ min sum 262144 → length piece ≡ 262144
       → length new ≡ length (take room piece) → ReadsAtMost answer new → calls before new answer after
       → IsRead calls limit now (record { before = before; piece = new; answer = answer }) after
@@ -112,7 +112,7 @@ module _ {R : Type 0} (calls : Calls R) (limit : ℕ) where
   none_yet first = record { reads = []; by_reads = (refl, refl, refl) }
 
   -- one read more
-  pub one_more : (first last : R) (read : OneRead R) (was now : Progress) → HasCome calls limit first read.before was
+  pub one_more : (first last : R) (read : OneRead R) (was now : ReadSoFar) → HasCome calls limit first read.before was
       → IsRead calls limit was read last → GoesOn limit was read.piece read.answer now → HasCome calls limit first last now
   one_more first last read was now come is_read on = record { reads = read ∷ come.reads; by_reads = (was, come.by_reads, is_read, on) }
 
@@ -141,24 +141,24 @@ abbrev pub tells : {R : Type 0} → (R → Option (List ℕ)) → Calls R
 tells remaining before piece answer after = ReadConsumes (remaining before) (remaining after) answer piece × ReadsAtMost answer piece
 
 module _ {R : Type 0} (remaining : R → Option (List ℕ)) (limit : ℕ) (first : R) where
-  on_consumes : (before last : R) (piece : List ℕ) (answer : Result ℕ Error) (was now : Progress) → Consumes (remaining first) (remaining before) was.bytes
+  on_consumes : (before last : R) (piece : List ℕ) (answer : Result ℕ Error) (was now : ReadSoFar) → Consumes (remaining first) (remaining before) was.bytes
       → tells remaining before piece answer last → GoesOn limit was piece answer now → Consumes (remaining first) (remaining last) now.bytes
   on_consumes before last piece (Ok count) was now so_far call on =
       rw (on.2) (consumes_more _ (remaining before) _ was.bytes (take count piece) so_far call.0.0)
   on_consumes before last piece (Err e) was now so_far call on = rw (on.1) (consumes_kept _ (remaining before) _ was.bytes so_far call.0)
 
-  on_within : (piece : List ℕ) (answer : Result ℕ Error) (was now : Progress) → length was.bytes ≤ limit → IfOk answer (λ count. count ≤ length piece)
+  on_within : (piece : List ℕ) (answer : Result ℕ Error) (was now : ReadSoFar) → length was.bytes ≤ limit → IfOk answer (λ count. count ≤ length piece)
       → GoesOn limit was piece answer now → length now.bytes ≤ limit
   on_within piece (Ok count) was now few within on = rw (on.2, taken_length count was.bytes piece within) (on.1)
   on_within piece (Err e) was now few within on = rw (on.1) few
 
-  come_consumes : (reads : List (OneRead R)) (last : R) (now : Progress) → ComesBy (tells remaining) limit first reads last now
+  come_consumes : (reads : List (OneRead R)) (last : R) (now : ReadSoFar) → ComesBy (tells remaining) limit first reads last now
       → Consumes (remaining first) (remaining last) now.bytes
   come_consumes [] last now come = rw (come.0, come.1) (consumes_none _)
   come_consumes (read ∷ reads) last now come =
       on_consumes read.before last read.piece read.answer come.0 now (come_consumes reads read.before come.0 come.1) come.2.call come.3
 
-  come_within : (reads : List (OneRead R)) (last : R) (now : Progress) → ComesBy (tells remaining) limit first reads last now → length now.bytes ≤ limit
+  come_within : (reads : List (OneRead R)) (last : R) (now : ReadSoFar) → ComesBy (tells remaining) limit first reads last now → length now.bytes ≤ limit
   come_within [] last now come = rw (come.1) (omega arith)
   come_within (read ∷ reads) last now come =
       on_within read.piece read.answer come.0 now (come_within reads read.before come.0 come.1) come.2.within come.3

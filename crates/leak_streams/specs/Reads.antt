@@ -38,12 +38,12 @@ Follows left interruptions (Err e) (Again turns) =
     (error_kind e ≡ Interrupted) × (turns ≡ interruptions + 1) × (turns < 1000000)
 
 -- how far an input is read: the bytes so far, and how many reads were interrupted
-pub record Progress : Type 0 where
+pub record ReadSoFar : Type 0 where
   pub bytes : List ℕ
   pub interruptions : ℕ
 
 -- the reading goes on: bytes within the limit were read, or the read was interrupted, and fewer than 1,000,000 were
-abbrev pub GoesOn : ℕ → Progress → List ℕ → Result ℕ Error → Progress → Type 0
+abbrev pub GoesOn : ℕ → ReadSoFar → List ℕ → Result ℕ Error → ReadSoFar → Type 0
 GoesOn limit was piece (Ok count) now =
     (0 < count) × (length was.bytes + count ≤ limit)
     × (now.bytes ≡ was.bytes ++ take count piece) × (now.interruptions ≡ was.interruptions)
@@ -58,7 +58,7 @@ pub record OneRead (R : Type 0) : Type 0 where
   pub answer : Result ℕ Error
 
 -- a read into a piece of one byte at least, which has no room for more than a byte over the limit
-pub record IsRead {R : Type 0} (calls : Calls R) (limit : ℕ) (was : Progress) (read : OneRead R)
+pub record IsRead {R : Type 0} (calls : Calls R) (limit : ℕ) (was : ReadSoFar) (read : OneRead R)
     (after : R) : Type 0 where
   pub asks : 0 < length read.piece
   pub bounded : length was.bytes + length read.piece ≤ limit + 1
@@ -66,22 +66,22 @@ pub record IsRead {R : Type 0} (calls : Calls R) (limit : ℕ) (was : Progress) 
   pub call : calls read.before read.piece read.answer after
 
 -- the reading came so far by these reads, the last one first
-abbrev pub ComesBy : {R : Type 0} → Calls R → ℕ → R → List (OneRead R) → R → Progress → Type 0
+abbrev pub ComesBy : {R : Type 0} → Calls R → ℕ → R → List (OneRead R) → R → ReadSoFar → Type 0
 ComesBy calls limit first [] last now = (last ≡ first) × (now.bytes ≡ []) × (now.interruptions ≡ 0)
 ComesBy calls limit first (read ∷ reads) last now =
-    (was : Progress) × ComesBy calls limit first reads read.before was
+    (was : ReadSoFar) × ComesBy calls limit first reads read.before was
     × IsRead calls limit was read last × GoesOn limit was read.piece read.answer now
 
 -- from the first reader to the last, the reading came so far by reads that let it go on
 pub record HasCome {R : Type 0} (calls : Calls R) (limit : ℕ) (first last : R)
-    (now : Progress) : Type 0 where
+    (now : ReadSoFar) : Type 0 where
   pub reads : List (OneRead R)
   pub by_reads : ComesBy calls limit first reads last now
 
 -- the reading went on until a read found the end, and these are the bytes
 pub record IsReadWhole {R : Type 0} (calls : Calls R) (limit : ℕ) (first last : R)
     (bytes : List ℕ) : Type 0 where
-  pub now : Progress
+  pub now : ReadSoFar
   pub read : OneRead R
   pub come : HasCome calls limit first read.before now
   pub is_read : IsRead calls limit now read last
@@ -91,7 +91,7 @@ pub record IsReadWhole {R : Type 0} (calls : Calls R) (limit : ℕ) (first last 
 -- the reading went on until a read ended it with the fault
 pub record IsCutOff {R : Type 0} (calls : Calls R) (limit : ℕ) (first last : R)
     (f : ReadFault) : Type 0 where
-  pub now : Progress
+  pub now : ReadSoFar
   pub read : OneRead R
   pub come : HasCome calls limit first read.before now
   pub is_read : IsRead calls limit now read last
@@ -99,5 +99,5 @@ pub record IsCutOff {R : Type 0} (calls : Calls R) (limit : ℕ) (first last : R
 
 -- why there are no bytes: a read ended the reading, or memory was refused between two reads
 abbrev pub IsGivenUp : {R : Type 0} → Calls R → ℕ → R → R → ReadFault → Type 0
-IsGivenUp calls limit first last NoMemory = (now : Progress) × HasCome calls limit first last now
+IsGivenUp calls limit first last NoMemory = (now : ReadSoFar) × HasCome calls limit first last now
 IsGivenUp calls limit first last f = IsCutOff calls limit first last f

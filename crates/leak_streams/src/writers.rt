@@ -14,7 +14,7 @@ const MOST_INTERRUPTIONS: u32 = 1_000_000;
 
 /// How far a text is written.
 #[derive(Clone, Copy)]
-struct Progress {
+struct WrittenSoFar {
     /// How many of its bytes were taken.
     written: usize,
     /// How many writes were interrupted.
@@ -52,7 +52,7 @@ pub fn write<W: WriteCalls>(text: &[u8], writer: &mut W) -> Result<(), WriteFaul
     ensures fault { IfErr result (IsCutOff W.calls text.now writer.old writer.new) }
     ensures short { IfErr result (λ f. f.written < length text.now) }
 {
-    let mut now = Progress {
+    let mut now = WrittenSoFar {
         written: 0,
         interruptions: 0,
     };
@@ -71,7 +71,7 @@ pub fn write<W: WriteCalls>(text: &[u8], writer: &mut W) -> Result<(), WriteFaul
 }
 
 /// How far the text is written after the answer of a write, or `None` if it stops the writing.
-fn after(now: Progress, answer: io::Result<usize>) -> Option<Progress>
+fn after(now: WrittenSoFar, answer: io::Result<usize>) -> Option<WrittenSoFar>
     requires few { now.interruptions < MOST_INTERRUPTIONS }
     requires fits { IfOk answer (λ count. now.written + count ≤ usize.MAX) }
     ensures goes_on { IfSome result (GoesOn now answer) }
@@ -79,14 +79,14 @@ fn after(now: Progress, answer: io::Result<usize>) -> Option<Progress>
 {
     match answer {
         Ok(0) => None,
-        Ok(count) => Some(Progress {
+        Ok(count) => Some(WrittenSoFar {
             written: now.written + count,
             interruptions: now.interruptions,
         }),
         Err(error) => {
             let interruptions = now.interruptions + 1;
             if error.kind() == ErrorKind::Interrupted && interruptions < MOST_INTERRUPTIONS {
-                return Some(Progress {
+                return Some(WrittenSoFar {
                     written: now.written,
                     interruptions,
                 });

@@ -2,7 +2,7 @@
 ghost use Rattle.std.specs.Prelude.{◌≡◌, ℕ, ◌<◌, [], length, map, slice_index_or, IsTrue};
 ghost use Rattle.leak_marks.specs.Lists.{Has};
 
-use leak_without::{Linked, mark_without, mark_without_set};
+use leak_without::{HasEdges, mark_without, mark_without_set};
 use std::alloc::{AllocError, Global};
 use std::process::Abort;
 
@@ -16,7 +16,7 @@ pub struct Lists<'a> {
         → b < length (map (λ list. list.now) lists.now) },
 }
 
-impl<'a> Linked for Lists<'a> {
+impl<'a> HasEdges for Lists<'a> {
     ghost targets = { λ l. map (λ list. list.now) l.lists.now };
 
     ghost inside = { λ l. l.within };

@@ -10,15 +10,15 @@ const TURNS: u64 = 1_000_000_000;
 
 /// A place in the memory, and whether it has been asked for.
 #[derive(Drop)]
-struct Place {
+struct MeetingPlace {
     addr: u64,
     asked: AtomicU64,
 }
 
-impl Place {
+impl MeetingPlace {
     /// A place that nobody has asked for.
-    fn of(addr: u64) -> Place {
-        Place {
+    fn of(addr: u64) -> MeetingPlace {
+        MeetingPlace {
             addr,
             asked: AtomicU64::new(0),
         }
@@ -41,8 +41,8 @@ pub struct Appointment<'a> {
     image: &'a Image<'a>,
     /// Whether bytes of several words are given at once.
     in_runs: bool,
-    first: Place,
-    second: Place,
+    first: MeetingPlace,
+    second: MeetingPlace,
     late: AtomicU64,
 }
 
@@ -52,8 +52,8 @@ impl<'a> Appointment<'a> {
         Appointment {
             image,
             in_runs,
-            first: Place::of(first),
-            second: Place::of(second),
+            first: MeetingPlace::of(first),
+            second: MeetingPlace::of(second),
             late: AtomicU64::new(0),
         }
     }
@@ -75,7 +75,7 @@ impl<'a> Appointment<'a> {
     }
 
     /// Asks for one place, and waits for the other.
-    fn meet(&self, here: &Place, there: &Place) {
+    fn meet(&self, here: &MeetingPlace, there: &MeetingPlace) {
         here.asked.store(1, Ordering::SeqCst);
         if !there.is_asked_in_time() {
             self.late.store(1, Ordering::SeqCst);

@@ -29,11 +29,11 @@ mod index_ends;
 
 // Blocks that fit the heap of a core.
 #[cfg(test)]
-mod fit;
+mod chunks;
 
 // Links to free chunks.
 #[cfg(test)]
-mod fit_links;
+mod chunk_links;
 
 // Root words.
 #[cfg(test)]
@@ -65,16 +65,16 @@ mod pool;
 
 // Pages of two cores that differ.
 #[cfg(test)]
-mod dirty;
+mod later;
 
 // Two cores with many kept blocks.
 #[cfg(test)]
-mod dirty_many_kept;
+mod later_many_kept;
 
 // Claims of the first core that are traced in the second.
 #[cfg(test)]
-mod dirty_retracing;
+mod later_retracing;
 
 // Kept and new blocks that are scanned again at the same time.
 #[cfg(test)]
-mod dirty_at_once;
+mod later_at_once;

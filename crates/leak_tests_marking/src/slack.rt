@@ -1,10 +1,10 @@
 //! What malloc gives blocks past their size, and root words without that.
 
+use crate::chunks::core_with;
 use crate::comparisons::same;
-use crate::fit::core_with;
 use leak_blocks::{SmallSpans, Span, replay};
+use leak_chunks::slack_spans;
 use leak_elf::Image;
-use leak_fit::slack_spans;
 use leak_mtrace::Log;
 use leak_notes::Threads;
 use leak_roots::Roots;

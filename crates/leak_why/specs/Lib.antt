@@ -2,5 +2,5 @@
 pub mod Asked
 pub mod Leading
 pub mod Chains
-pub mod Entries
+pub mod ReachedBlocks
 pub mod Text

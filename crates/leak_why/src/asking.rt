@@ -4,7 +4,7 @@ ghost use Rattle.leak_marks.specs.Reach.{Reach};
 ghost use Rattle.leak_why.specs.Chains.{IsWhy, search_graph};
 
 use crate::chain::Chain;
-use crate::found::number_of;
+use crate::reached_block::number_of;
 use crate::spreading::spread;
 use crate::tracing::{root_of, trace};
 use leak_blocks::Live;

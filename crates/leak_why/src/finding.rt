@@ -5,8 +5,8 @@ ghost use Rattle.leak_marks.specs.Lists.{Has};
 ghost use Rattle.leak_why.specs.Leading.{IsLeading, NoneLeads, led_by};
 
 use leak_blocks::Live;
+use leak_chunks::without_free_links;
 use leak_elf::Words;
-use leak_fit::without_free_links;
 use leak_index::{Hits, Lookup};
 use leak_roots::Roots;
 

@@ -13,7 +13,7 @@ mod asked;
 mod asking;
 mod chain;
 mod finding;
-mod found;
+mod reached_block;
 mod spreading;
 mod telling;
 mod tracing;

@@ -3,9 +3,9 @@ ghost use Rattle.std.specs.Prelude.{◌≡◌, ℕ, ◌<◌, [], ◌∷◌, leng
 ghost use Rattle.leak_marks.specs.Lists.{Has};
 ghost use Rattle.leak_roots.specs.Places.{Places};
 ghost use Rattle.leak_pool.specs.Alone.{AreMarks};
-ghost use Rattle.leak_why.specs.Entries.{AreFound, AreRooted, AreFollowed, AreWhole, blocks_of};
+ghost use Rattle.leak_why.specs.ReachedBlocks.{AreFound, AreRooted, AreFollowed, AreWhole, blocks_of};
 
-use crate::found::{Entry, Origin, Source};
+use crate::reached_block::{FirstLead, Origin, ReachedBlock};
 use leak_blocks::{Block, Live};
 use leak_elf::Words;
 use leak_index::Lookup;
@@ -21,7 +21,7 @@ pub(crate) fn spread<W: Words, L: Lookup>(
     lookup: &L,
     roots: &Roots,
     live: &Live,
-) -> Result<Vec<Entry>, AllocError>
+) -> Result<Vec<ReachedBlock>, AllocError>
     requires { (L.index lookup.now).blocks ≡ live.now.blocks }
     ensures { IfOk result (λ entries.
         AreWhole (W.word_at words.now) (L.index lookup.now) roots.now entries.items) }
@@ -42,7 +42,7 @@ fn find_first<W: Words, L: Lookup>(
     live: &Live,
     roots: &Roots,
     seen: &mut [bool],
-    entries: &mut Vec<Entry>,
+    entries: &mut Vec<ReachedBlock>,
 ) -> Result<(), AllocError>
     requires same_blocks { (L.index lookup.now).blocks ≡ live.now.blocks }
     requires blocks { length seen.old ≡ length (L.index lookup.now).blocks }
@@ -53,10 +53,10 @@ fn find_first<W: Words, L: Lookup>(
         AreRooted (W.word_at words.now) (L.index lookup.now) roots.now entries.new.items) }
 {
     let targets = Targets::of_registers(words, roots.registers(), lookup);
-    find_all(targets, Source::Root(Origin::Registers), seen, entries)?;
+    find_all(targets, FirstLead::Root(Origin::Registers), seen, entries)?;
     for (i, range) in roots.memory().iter().enumerate() {
         let targets = of_memory(words, lookup, live, roots, *range);
-        find_all(targets, Source::Root(Origin::Range(i)), seen, entries)?;
+        find_all(targets, FirstLead::Root(Origin::Range(i)), seen, entries)?;
     }
     Ok(())
 }
@@ -67,7 +67,7 @@ fn find_others<W: Words, L: Lookup>(
     lookup: &L,
     blocks: &[Block],
     seen: &mut [bool],
-    entries: &mut Vec<Entry>,
+    entries: &mut Vec<ReachedBlock>,
 ) -> Result<(), AllocError>
     requires blocks { (L.index lookup.now).blocks ≡ blocks.now }
     requires long { length seen.old ≡ length blocks.now }
@@ -81,7 +81,7 @@ fn find_others<W: Words, L: Lookup>(
     'follow: while scanned < entries.len() {
         let block = &blocks[entries[scanned].block];
         let targets = Targets::of_block(words, lookup, block);
-        find_all(targets, Source::Earlier(scanned), seen, entries)?;
+        find_all(targets, FirstLead::Earlier(scanned), seen, entries)?;
         scanned += 1;
     }
     Ok(())
@@ -90,9 +90,9 @@ fn find_others<W: Words, L: Lookup>(
 /// Adds the targets that were not seen.
 fn find_all<W: Words, L: Lookup>(
     targets: Targets<'_, W, L>,
-    source: Source,
+    source: FirstLead,
     seen: &mut [bool],
-    entries: &mut Vec<Entry>,
+    entries: &mut Vec<ReachedBlock>,
 ) -> Result<(), AllocError>
     requires inside { (b : ℕ) → Has targets b → b < length seen.old }
     requires marks { AreMarks seen.old (blocks_of entries.old.items) }
@@ -101,13 +101,17 @@ fn find_all<W: Words, L: Lookup>(
         AreFound source targets.entry entries.old.items entries.new.items) }
 {
     for block in targets {
-        find(seen, entries, Entry { block, source })?;
+        find(seen, entries, ReachedBlock { block, source })?;
     }
     Ok(())
 }
 
 /// Adds a block, unless it was seen.
-fn find(seen: &mut [bool], entries: &mut Vec<Entry>, entry: Entry) -> Result<(), AllocError>
+fn find(
+    seen: &mut [bool],
+    entries: &mut Vec<ReachedBlock>,
+    entry: ReachedBlock,
+) -> Result<(), AllocError>
     requires block { entry.block < length seen.old }
     requires marks { AreMarks seen.old (blocks_of entries.old.items) }
     ensures marks { AreMarks seen.new (blocks_of entries.new.items) }

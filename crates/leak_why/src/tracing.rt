@@ -5,11 +5,11 @@ ghost use Rattle.leak_blocks.specs.Span.{AreAddressed};
 ghost use Rattle.leak_marks.specs.Lists.{Has};
 ghost use Rattle.leak_scan.specs.Targets.{block_targets};
 ghost use Rattle.leak_why.specs.Chains.{IsRoot, IsLink};
-ghost use Rattle.leak_why.specs.Entries.{AreLedByBlocks, AreTraced, IsOrigin, led_of_origin};
+ghost use Rattle.leak_why.specs.ReachedBlocks.{AreLedByBlocks, AreTraced, IsOrigin, led_of_origin};
 
 use crate::chain::{Chain, Link, RootPlace, RootWord};
 use crate::finding::{first_register, first_root_word, first_word};
-use crate::found::{Entry, Origin, Source};
+use crate::reached_block::{FirstLead, Origin, ReachedBlock};
 use leak_blocks::{Block, Live};
 use leak_elf::Words;
 use leak_index::Lookup;
@@ -50,7 +50,7 @@ pub(crate) fn trace<W: Words, L: Lookup>(
     words: &W,
     lookup: &L,
     blocks: &[Block],
-    entries: &[Entry],
+    entries: &[ReachedBlock],
     last: usize,
     links: &mut Vec<Link>,
 ) -> Result<(Origin, usize), AllocError>
@@ -66,8 +66,8 @@ pub(crate) fn trace<W: Words, L: Lookup>(
     'back: loop {
         let entry = entries[at];
         match entry.source {
-            Source::Root(origin) => return Ok((origin, entry.block)),
-            Source::Earlier(number) => {
+            FirstLead::Root(origin) => return Ok((origin, entry.block)),
+            FirstLead::Earlier(number) => {
                 let holder = entries[number].block;
                 links.push(link_to(words, lookup, blocks, holder, entry.block))?;
                 at = number;

@@ -4,7 +4,7 @@ use crate::samples::{Scene, core_of, scene_of};
 use leak_blocks::Live;
 use leak_elf::Image;
 use leak_index::{Reading, Sorted};
-use leak_pool::{LinkRoom, Open, Plan, Start, mark, mark_alone, mark_by_links, mark_from};
+use leak_pool::{EdgeRoom, Open, Plan, Start, mark, mark_alone, mark_by_edges, mark_from};
 use leak_roots::Roots;
 use leak_scan::Pages;
 use std::alloc::Global;
@@ -55,8 +55,8 @@ fn workers_mark<R: std::thread::Threads + Sync>(
     let lookup = Sorted::new(live, Reading::interior());
     let plan = Plan::new(2, 512, 1024)?;
     let over_words = mark(rt, alloc, image, &lookup, roots, live, plan, &Open)?;
-    let room = LinkRoom::of_core(&[0u8; 32_000]);
-    let over_links = mark_by_links(rt, alloc, image, &lookup, roots, live, plan, &Open, room)?;
+    let room = EdgeRoom::of_core(&[0u8; 32_000]);
+    let over_edges = mark_by_edges(rt, alloc, image, &lookup, roots, live, plan, &Open, room)?;
     let start = Start {
         marked: Vec::new(alloc),
         rescan: Vec::new(alloc),
@@ -67,7 +67,7 @@ fn workers_mark<R: std::thread::Threads + Sync>(
     let from_nothing = mark_from(
         rt, alloc, image, &lookup, roots, live, plan, &Open, &start, &pages,
     )?;
-    let is_set = over_words.set.as_slice() == set && over_links.set.as_slice() == set;
+    let is_set = over_words.set.as_slice() == set && over_edges.set.as_slice() == set;
     Ok(is_set && from_nothing.set.as_slice() == set)
 }
 

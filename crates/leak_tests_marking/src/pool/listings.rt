@@ -1,10 +1,10 @@
-//! Workers that list links at the same time.
+//! Workers that list edges at the same time.
 
 use crate::appointment::Appointment;
 use crate::comparisons::same;
 use crate::samples::{core_of, scene_of};
 use leak_index::{Reading, Sorted};
-use leak_pool::{LinkRoom, Open, Plan, list_links, mark_by_links};
+use leak_pool::{EdgeRoom, Open, Plan, list_edges, mark_by_edges};
 use std::test::Fail;
 
 /// Two blocks. A root word leads to the first, and its first word to the second.
@@ -12,20 +12,20 @@ const LINKED: [(u64, u64); 2] = [(0x10008, 0x10100), (0x10100, 0x10200)];
 
 const LOG: &str = "+ 0x10100 0x20\n+ 0x10200 0x10\n";
 
-// Each of two workers lists the links of one block, whose first word it gets in a run or alone.
+// Each of two workers lists the edges of one block, whose first word it gets in a run or alone.
 
 #[test]
-fn two_workers_list_links_before_marking_at_the_same_time(rt: HostRuntime) -> Result<(), Fail> {
+fn two_workers_list_edges_before_marking_at_the_same_time(rt: HostRuntime) -> Result<(), Fail> {
     let alloc = rt.alloc();
     let core = core_of(alloc, &LINKED)?;
     let scene = scene_of(alloc, core.as_slice(), LOG)?;
     let lookup = Sorted::new(&scene.live, Reading::interior());
     let plan = Plan::new(2, 512, 1024)?;
-    let room = LinkRoom::of_core(core.as_slice());
+    let room = EdgeRoom::of_core(core.as_slice());
     for in_runs in [false, true] {
         let words = Appointment::of(&scene.image, in_runs, 0x10100, 0x10200);
         let (roots, live) = (&scene.roots, &scene.live);
-        let marked = mark_by_links(&rt, alloc, &words, &lookup, roots, live, plan, &Open, room)?;
+        let marked = mark_by_edges(&rt, alloc, &words, &lookup, roots, live, plan, &Open, room)?;
         assert!(rt; words.is_kept(), "in runs: {in_runs}");
         same(&rt, marked.set.as_slice(), [true, true].as_slice());
     }
@@ -33,14 +33,14 @@ fn two_workers_list_links_before_marking_at_the_same_time(rt: HostRuntime) -> Re
 }
 
 #[test]
-fn two_workers_list_links_for_later_at_the_same_time(rt: HostRuntime) -> Result<(), Fail> {
+fn two_workers_list_edges_for_later_at_the_same_time(rt: HostRuntime) -> Result<(), Fail> {
     let alloc = rt.alloc();
     let core = core_of(alloc, &LINKED)?;
     let scene = scene_of(alloc, core.as_slice(), LOG)?;
     let lookup = Sorted::new(&scene.live, Reading::interior());
     for in_runs in [false, true] {
         let words = Appointment::of(&scene.image, in_runs, 0x10100, 0x10200);
-        let listed = list_links(&rt, alloc, &words, &lookup, &scene.live, 2)?;
+        let listed = list_edges(&rt, alloc, &words, &lookup, &scene.live, 2)?;
         assert!(rt; listed.words.is_kept(), "in runs: {in_runs}");
     }
     Ok(())

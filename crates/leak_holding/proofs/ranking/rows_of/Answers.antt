@@ -14,7 +14,7 @@ pub holders-requires-clause-reached : goal.holders-requires-clause-reached
 holders-requires-clause-reached g c κs lives =
     subst (λ (h : Graph). AreReached h c.args.facts.now.reached.now)
     (sym (same_listed _ _ _ _ _ _ c.as_slice-first.ensures.value c.requires.listed.words c.requires.listed.lookup))
-    (same_marked (word_of c.args.input.now.image) c.args.ground.now.lookup c.args.links.now.first.items
+    (same_marked (word_of c.args.input.now.image) c.args.ground.now.lookup c.args.edges.now.first.items
     (led_by_roots (word_of c.args.input.now.image) c.args.ground.now.lookup c.args.ground.now.roots) c.requires.listed.led
     c.args.facts.now.reached.now (length c.args.input.now.live.blocks) (ap length (sym c.requires.same_blocks)) c.requires.marked)
 
@@ -23,9 +23,9 @@ returns g c =
     let words = word_of c.args.input.now.image in
     let led = led_by_roots words c.args.ground.now.lookup c.args.ground.now.roots in
     IfOk-weaker c.holders.result
-    (λ v. AreHolders (graph_by c.as_slice-first.result.now (all_targets (word_of c.args.links.now.listed.words.now) c.args.links.now.listed.lookup.now)) c.args.facts.now c.args.texts v.items)
+    (λ v. AreHolders (graph_by c.as_slice-first.result.now (all_targets (word_of c.args.edges.now.listed.words.now) c.args.edges.now.listed.lookup.now)) c.args.facts.now c.args.texts v.items)
     (λ v. AreHolders (graph_of words c.args.ground.now.lookup led []) c.args.facts.now c.args.texts v.items)
-    (λ v is. same_holders words c.args.ground.now.lookup c.args.links.now.first.items led c.requires.listed.led c.args.facts.now c.args.texts v.items
+    (λ v is. same_holders words c.args.ground.now.lookup c.args.edges.now.first.items led c.requires.listed.led c.args.facts.now c.args.texts v.items
     (subst (λ (h : Graph). AreHolders h c.args.facts.now c.args.texts v.items)
     (same_listed _ _ _ _ _ _ c.as_slice-first.ensures.value c.requires.listed.words c.requires.listed.lookup) is))
     c.holders.ensures

@@ -16,8 +16,8 @@ number_texts-requires-clause-in_log g c =
 pub returns-clause-ok : goal.returns-clause-ok
 returns-clause-ok g c = λ reading of. record {
   of = of;
-  listed = c.in_ok-links.ensures.listed;
-  few = few_marked _ (length c.args.input.now.live.blocks) c.in_ok-links.ensures.many;
+  listed = c.in_ok-edges.ensures.listed;
+  few = few_marked _ (length c.args.input.now.live.blocks) c.in_ok-edges.ensures.many;
   marked = c.in_ok-set.ensures;
   numbered =
       subst (λ (bs : List Block). AreTexts c.args.files.now.log.now bs (bytes_each c.in_ok-texts.texts.texts.items) c.in_ok-texts.texts.numbers.items)

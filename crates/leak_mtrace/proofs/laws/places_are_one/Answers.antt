@@ -7,11 +7,11 @@ use Rattle.std.proofs.lemmas.Slice.Eq.{ends_is}
 use Rattle.std.specs.List.{ends_with}
 use Rattle.leak_mtrace.specs.declared.line.Line.{Line}
 use Rattle.leak_mtrace.specs.Line.{IsBody, IsCall, IsPlace, sign_of}
-use Rattle.leak_mtrace.specs.Place.{has_bracket, BeginsCall, IsWhere}
+use Rattle.leak_mtrace.specs.CallPlace.{has_bracket, BeginsCall, IsWhere}
 use Rattle.leak_mtrace.proofs.SplitLemmas.{some_same}
 use Rattle.leak_mtrace.proofs.CallLemmas.{Begins, call_spaces}
 use Rattle.leak_mtrace.proofs.BodyLemmas.{call_body, call_not_remark}
-use Rattle.leak_mtrace.proofs.PlaceLemmas.{call_plain, sign_is, no_sign, ends_so, bracket_false, not_or_left, not_or_right}
+use Rattle.leak_mtrace.proofs.CallPlaceLemmas.{call_plain, sign_is, no_sign, ends_so, bracket_false, not_or_left, not_or_right}
 use Rattle.leak_mtrace.proofs.laws.places_are_one.Goals as goal
 
 not_true : (b : Bool) → b ≡ false → not b ≡ true

@@ -2,9 +2,9 @@
 use Rattle.std.proofs.Common.{◌+◌, Some, take, arith, sym, subst, ap, ◌∙◌}
 use Rattle.std.proofs.lemmas.List.{take_rest, length-take-le}
 use Rattle.leak_mtrace.specs.Line.{IsAfterPlace}
-use Rattle.leak_mtrace.specs.Place.{IsPlaceEnd}
+use Rattle.leak_mtrace.specs.CallPlace.{IsPlaceEnd}
 use Rattle.leak_mtrace.proofs.DecideLemmas.{decides_none}
-use Rattle.leak_mtrace.proofs.PlaceLemmas.{place_end_within, place_end_place}
+use Rattle.leak_mtrace.proofs.CallPlaceLemmas.{place_end_within, place_end_place}
 use Rattle.leak_mtrace.proofs.LineLemmas.{behind_no_end, behind_end_zero, behind_no_space, behind_no_call, behind_whole}
 use Rattle.leak_mtrace.proofs.parsing.placed.Goals as goal
 

@@ -1,7 +1,7 @@
 -- From lemmas of std.
 use Rattle.std.proofs.Common.{sym}
 use Rattle.std.proofs.lemmas.List.{get_or-map}
-use Rattle.leak_pool.specs.declared.source.Item.TheVariants.{Block}
+use Rattle.leak_pool.specs.declared.target_source.Item.TheVariants.{Block}
 use Rattle.leak_pool.proofs.items.block_at.Goals as goal
 
 pub returns : goal.returns

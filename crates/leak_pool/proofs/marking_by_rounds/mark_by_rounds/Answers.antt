@@ -11,8 +11,8 @@ items v = v.items
 
 pub returns-clause-marks : goal.returns-clause-marks
 returns-clause-marks g c =
-    let roots : List (List ℕ) = g.S.Source.roots c.args.source.now in
-    let targets : List (List ℕ) = g.S.Source.targets c.args.source.now in
+    let roots : List (List ℕ) = g.S.TargetSource.roots c.args.source.now in
+    let targets : List (List ℕ) = g.S.TargetSource.targets c.args.source.now in
     let first : c.blocks-2.result ≡ length targets = c.blocks-2.ensures in
     let set : IsSet c.in_ok-set.set.items c.blocks-3.result (λ b. mark_of c.as_slice.result.now b ≡ 1) = c.in_ok-set.ensures in
     let same : IsSet c.in_ok-set.set.items (length targets) (λ b. mark_of c.as_slice.result.now b ≡ 1) =
@@ -22,7 +22,7 @@ returns-clause-marks g c =
     (subst (λ (l : List ℕ). IsSet c.in_ok-set.set.items (length targets) (λ b. mark_of l b ≡ 1)) c.as_slice.ensures.value same)
 
 pub returns-then-blocks-eq0-clause-marks : goal.returns-then-blocks-eq0-clause-marks
-returns-then-blocks-eq0-clause-marks g c = marked_none (g.S.Source.roots c.args.source.now) (g.S.Source.targets c.args.source.now) c.args.given.now c.args.plan.workers (map items c.in_ok-no_claims.field-0.items) _
+returns-then-blocks-eq0-clause-marks g c = marked_none (g.S.TargetSource.roots c.args.source.now) (g.S.TargetSource.targets c.args.source.now) c.args.given.now c.args.plan.workers (map items c.in_ok-no_claims.field-0.items) _
     (sym c.blocks-2.ensures ∙ c.if-blocks-eq0.true) (c.in_ok-no_claims.ensures.lists ∙ ap (λ (n : ℕ). replicate n []) c.workers.ensures.number) c.new.ensures.items (λ i b h. c.targets_are_blocks.ensures i b h)
 
 pub returns-clause-gate : goal.returns-clause-gate

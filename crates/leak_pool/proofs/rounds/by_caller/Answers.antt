@@ -15,7 +15,7 @@ items v = v.items
 
 pub returns-clause-done : goal.returns-clause-done
 returns-clause-done g c =
-    let scene = c.args.search.now in let p = c.args.progress.now in let list : Vec ℕ Global = c.scan.new.list in
+    let scene = c.args.search.now in let p = c.args.state.now in let list : Vec ℕ Global = c.scan.new.list in
     let pushed : c.push.new.self.items ≡ list ∷ [] = c.in_ok-push.ensures.items ∙ ap (λ (l : List (Vec ℕ Global)). l ++ list ∷ []) c.in_ok-gained.ensures.items in
     let one : map items c.as_slice.result.now ≡ list.items ∷ [] = ap (λ (l : List (Vec ℕ Global)). map items l) (c.as_slice.ensures.value ∙ pushed) in
     let read : c.index.result.now ≡ list = c.index.ensures ∙ ap (λ (l : List (Vec ℕ Global)). get_or l 0 c.index.result.now) pushed in

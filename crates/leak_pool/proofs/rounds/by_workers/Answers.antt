@@ -17,7 +17,7 @@ items v = v.items
 
 pub returns-clause-done : goal.returns-clause-done
 returns-clause-done g c =
-    let scene = c.args.search.now in let p = c.args.progress in
+    let scene = c.args.search.now in let p = c.args.state in
     let blocks = targets_of_block scene.targets in
     let targets = targets_at scene.roots scene.targets (items_in c.args.items) in
     let n : ℕ = length (items_in c.args.items) in
@@ -41,13 +41,13 @@ returns-clause-done g c =
 
 pub returns-then-len-eq0-clause-done : goal.returns-then-len-eq0-clause-done
 returns-then-len-eq0-clause-done g c =
-    let scene = c.args.search.now in let p = c.args.progress in
+    let scene = c.args.search.now in let p = c.args.state in
     let none : length (items_in c.args.items) ≡ 0 = search rules in
     ([], [], step_of_none (targets_of_block scene.targets) (targets_at scene.roots scene.targets (items_in c.args.items)) (length (items_in c.args.items)) scene.workers (map items p.claims.items) p.waiting.items p.seat none c.requires.ready.sound, record { own = tt; direct = λ z. tt; all_left = λ z. refl })
 
 pub returns-clause-gate : goal.returns-clause-gate
 returns-clause-gate g c =
-    let p = c.args.progress in
+    let p = c.args.state in
     let n : ℕ = length (items_in c.args.items) in let w : ℕ = c.args.search.now.workers in
     let passed : ℕ → ℕ → Type 0 = g.G.Gate.passed c.args.gate.now in
     let same_workers : c.search.inside.workers ≡ w = ap (λ (s : Scene). s.workers) c.search.view_is in
@@ -64,4 +64,4 @@ returns-clause-gate g c =
 pub returns-then-len-eq0-clause-gate : goal.returns-then-len-eq0-clause-gate
 returns-then-len-eq0-clause-gate g c =
     let none : length (items_in c.args.items) ≡ 0 = search rules in
-    λ rounds was. round_none (g.G.Gate.passed c.args.gate.now) c.args.search.now.workers (length (items_in c.args.items)) rounds c.args.progress.steps.items none was
+    λ rounds was. round_none (g.G.Gate.passed c.args.gate.now) c.args.search.now.workers (length (items_in c.args.items)) rounds c.args.state.steps.items none was

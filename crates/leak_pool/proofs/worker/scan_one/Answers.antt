@@ -5,7 +5,7 @@ use Rattle.leak_marks.specs.Lists.{Has}
 use Rattle.leak_pool.specs.Items.{items_in, targets_of_item}
 use Rattle.leak_pool.specs.Promises.{IsScanned}
 use Rattle.leak_pool.specs.Scene.{Scene, Work}
-use Rattle.leak_pool.specs.declared.source.Item.{Item}
+use Rattle.leak_pool.specs.declared.target_source.Item.{Item}
 use Rattle.leak_pool.proofs.FromLemmas.{if_ok}
 use Rattle.leak_pool.proofs.ScanLemmas.{kept_of_scan}
 use Rattle.leak_pool.proofs.worker.scan_one.Goals as goal

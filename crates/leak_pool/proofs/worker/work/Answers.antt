@@ -6,8 +6,8 @@ use Rattle.leak_marks.specs.Lists.{Has}
 use Rattle.leak_marks.proofs.ListLemmas.{has_back, has_last}
 use Rattle.leak_pool.specs.Items.{InRange, items_in, targets_of_item, share}
 use Rattle.leak_pool.specs.declared.hand.Hand.{Hand}
-use Rattle.leak_pool.specs.declared.source.Item.{Item}
-use Rattle.leak_pool.specs.declared.source.Item.TheVariants.{Root}
+use Rattle.leak_pool.specs.declared.target_source.Item.{Item}
+use Rattle.leak_pool.specs.declared.target_source.Item.TheVariants.{Root}
 use Rattle.leak_pool.specs.Promises.{IsPutAway, IsWorking}
 use Rattle.leak_pool.specs.Scene.{Scene, Work, blocks_of, items_of}
 use Rattle.leak_pool.specs.Gates.{IsNextPassed}

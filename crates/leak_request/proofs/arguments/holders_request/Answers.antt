@@ -3,7 +3,7 @@ use Rattle.std.proofs.Common.{rules, subst, ◌≤◌}
 use Rattle.std.proofs.lemmas.Result.{err_from_is_err_and}
 use Rattle.leak_index.specs.Readings.{listed_by}
 use Rattle.leak_pool.specs.Plan.{IsBetween}
-use Rattle.leak_request.specs.Found.{found_rows}
+use Rattle.leak_request.specs.FoundRows.{found_rows}
 use Rattle.leak_request.specs.Requests.{AreAt}
 use Rattle.leak_request.proofs.Complete.{none_lacks_holders, question_refused}
 use Rattle.leak_request.proofs.arguments.holders_request.Goals as goal

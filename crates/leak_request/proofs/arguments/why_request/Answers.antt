@@ -3,7 +3,7 @@ use Rattle.std.proofs.Common.{subst}
 use Rattle.std.specs.Prelude.{IsSomeAnd}
 use Rattle.leak_index.specs.Readings.{listed_by}
 use Rattle.leak_request.specs.Address.{IsBadAddress}
-use Rattle.leak_request.specs.Found.{found_rows}
+use Rattle.leak_request.specs.FoundRows.{found_rows}
 use Rattle.leak_request.specs.Requests.{AreAt}
 use Rattle.leak_request.proofs.Complete.{none_lacks_why}
 use Rattle.leak_request.proofs.arguments.why_request.Goals as goal

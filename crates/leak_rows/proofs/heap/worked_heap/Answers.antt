@@ -5,7 +5,7 @@ use Rattle.leak_elf.specs.Headers.{headers, header_at}
 use Rattle.leak_elf.specs.Sample.{zeros, file_header, program_header, note_entry}
 use Rattle.leak_elf.specs.Segments.{segments_of}
 use Rattle.leak_elf.specs.Words.{word_in, word_of}
-use Rattle.leak_fit.specs.Fit.{fits_core}
+use Rattle.leak_chunks.specs.Fit.{fits_core}
 use Rattle.leak_rows.specs.WorkedHeap.{heap_core}
 use Rattle.leak_rows.proofs.heap.worked_heap.Goals as goal
 

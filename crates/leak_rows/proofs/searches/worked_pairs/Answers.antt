@@ -19,8 +19,8 @@ use Rattle.leak_pool.specs.Marking.{graph_of}
 use Rattle.leak_report.specs.Report.{text_of}
 use Rattle.leak_report.specs.Totals.{rows_of}
 use Rattle.leak_elf.specs.declared.segment.Segment.{Segment}
-use Rattle.leak_dirty.specs.Differing.{reread_of}
-use Rattle.leak_dirty.specs.Kept.{fresh_of, kept_of}
+use Rattle.leak_later.specs.Differing.{reread_of}
+use Rattle.leak_later.specs.Kept.{fresh_of, kept_of}
 use Rattle.leak_search.specs.SearchTwo.{size_of}
 use Rattle.leak_rows.specs.Searches.{core_of}
 use Rattle.leak_rows.specs.TwoSearches.{found_again, kept_and_new, new_alone}

@@ -1,7 +1,7 @@
 -- Each row is computed: a chain, and levels of the blocks, or a set that chains don't leave.
 use Rattle.std.proofs.Common.{refl, [], ◌∷◌}
 use Rattle.leak_index.specs.Hits.{hits_of}
-use Rattle.leak_fit.specs.FreeLinks.{is_free_link}
+use Rattle.leak_chunks.specs.FreeLinks.{is_free_link}
 use Rattle.leak_elf.specs.Words.{words_between}
 use Rattle.leak_scan.specs.Targets.{block_targets, targets_of}
 use Rattle.leak_scan.specs.RootWords.{targets_without_links}

@@ -1,6 +1,6 @@
 -- One more word.
 use Rattle.std.proofs.Common.{◌≡◌, ◌∷◌, ◌∙◌, ap, ◌++◌, sym}
-use Rattle.leak_scan.specs.Places.{words_in}
+use Rattle.leak_scan.specs.Positions.{words_in}
 use Rattle.leak_scan.specs.Targets.{targets_of}
 use Rattle.leak_scan.proofs.Ahead.{targets_skip, targets_more}
 use Rattle.leak_scan.proofs.Runs.{words_more, words_none}

@@ -1,6 +1,6 @@
 -- The words before the rest lead nowhere.
 use Rattle.std.proofs.Common.{◌≡◌, length}
-use Rattle.leak_scan.specs.Places.{words_in}
+use Rattle.leak_scan.specs.Positions.{words_in}
 use Rattle.leak_scan.specs.Targets.{targets_of}
 use Rattle.leak_scan.proofs.first.first_of_run.Given as goal
 

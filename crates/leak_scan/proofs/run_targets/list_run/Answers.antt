@@ -1,7 +1,7 @@
 -- One more word, which fits or does not.
 use Rattle.std.proofs.Common.{◌≡◌, ◌∷◌, ◌∙◌, ◌++◌, ◌^◌, ap, sym, subst, ◌<◌, ℕ, List, length, arith, rules}
 use Rattle.std.specs.List.{AllByRecursion}
-use Rattle.leak_scan.specs.Places.{words_in}
+use Rattle.leak_scan.specs.Positions.{words_in}
 use Rattle.leak_scan.specs.Targets.{targets_of}
 use Rattle.leak_scan.proofs.Blocks.{word_listed, all_listed, all_over, all_small, kept_on}
 use Rattle.leak_scan.proofs.Runs.{words_more}

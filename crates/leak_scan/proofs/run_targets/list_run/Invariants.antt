@@ -1,6 +1,6 @@
 -- What is listed and what the rest leads to are all.
 use Rattle.std.proofs.Common.{◌≡◌, ◌≤◌, ◌++◌, length, take}
-use Rattle.leak_scan.specs.Places.{words_in}
+use Rattle.leak_scan.specs.Positions.{words_in}
 use Rattle.leak_scan.specs.Targets.{targets_of}
 use Rattle.leak_scan.proofs.run_targets.list_run.Given as goal
 

@@ -1,6 +1,6 @@
 -- From the lemmas of TwoLemmas.
 use Rattle.std.proofs.Common.{◌∙◌, ap, List, Bool, length, refl}
-use Rattle.leak_dirty.specs.Kept.{kept_of}
+use Rattle.leak_later.specs.Kept.{kept_of}
 use Rattle.leak_search.proofs.TwoLemmas.{is_between, tests_of}
 use Rattle.leak_search.proofs.two_cores.compare.Goals as goal
 

@@ -1,7 +1,7 @@
 -- From the lemmas of Consumed.
 use Rattle.std.proofs.Common.{◌≡◌, refl, subst, rules, arith, ◌-◌, [], ◌++◌, ◌∙◌, length, take}
 use Rattle.std.proofs.lemmas.Result.{err_from_is_err_and}
-use Rattle.leak_streams.specs.Reads.{Progress, StopsBy}
+use Rattle.leak_streams.specs.Reads.{ReadSoFar, StopsBy}
 use Rattle.leak_streams.proofs.Consumed.{as_many, count_fits, count_within, ended, front, given_up, in_front, is_read, nearer_by_bytes, nearer_by_turn, none_yet, on_by_bytes, on_by_interruption, one_more, still_long, stopped_by, taken_length, turns_more}
 use Rattle.leak_streams.proofs.readers.read_sized.Goals as goal
 
@@ -21,7 +21,7 @@ returns-in_err-buffer-clause-refused g c =
 pub returns-in-End-clause-ok : goal.returns-in-End-clause-ok
 returns-in-End-clause-ok g c =
     let is : c.len.result ≡ length c.reading.bytes.items = search rules in
-    let so_far : Progress = record { bytes = c.reading.bytes.items; interruptions = c.reading.interruptions } in
+    let so_far : ReadSoFar = record { bytes = c.reading.bytes.items; interruptions = c.reading.interruptions } in
     record {
       now = so_far;
       read = record { before = c.reading.reader; piece = c.read_some-answer.new.piece; answer = c.read_some-answer.result };
@@ -50,7 +50,7 @@ reading-smaller-in-Continue-branch-2 g c =
 pub reading-preserved-in-Continue-branch-2 : goal.reading-preserved-in-Continue-branch-2
 reading-preserved-in-Continue-branch-2 g c =
     let is : c.len.result ≡ length c.reading.bytes.items = search rules in
-    let so_far : Progress = record { bytes = c.reading.bytes.items; interruptions = c.reading.interruptions } in
+    let so_far : ReadSoFar = record { bytes = c.reading.bytes.items; interruptions = c.reading.interruptions } in
     let within = count_within (c.args.limit - c.len.result) c.reading.interruptions c.read_some-answer.result c.in-Bytes.count c.read_some-answer.new.piece c.read_some-answer.ensures.bound c.in-Bytes.ensures in
     let items = c.in_ok-extend_from_slice-in-Bytes.ensures.items ∙ front c.in-Bytes.count c.reading.bytes.items c.read_some-answer.new.piece _ within in
     let on = on_by_bytes c.args.limit c.len.result c.reading.interruptions c.in-Bytes.count c.reading.bytes.items c.read_some-answer.new.piece c.read_some-answer.result is c.reading.invariant.few c.in-Bytes.ensures in
@@ -66,7 +66,7 @@ reading-preserved-in-Continue-branch-2 g c =
 pub returns-in_err-extend_from_slice-in-Bytes-clause-refused : goal.returns-in_err-extend_from_slice-in-Bytes-clause-refused
 returns-in_err-extend_from_slice-in-Bytes-clause-refused g c =
     let is : c.len.result ≡ length c.reading.bytes.items = search rules in
-    let so_far : Progress = record { bytes = c.reading.bytes.items; interruptions = c.reading.interruptions } in
+    let so_far : ReadSoFar = record { bytes = c.reading.bytes.items; interruptions = c.reading.interruptions } in
     let p = err_from_is_err_and c.from_residual-in_err-extend_from_slice-in-Bytes.result c.from_residual-in_err-extend_from_slice-in-Bytes.ensures.1 in
     let on = on_by_bytes c.args.limit c.len.result c.reading.interruptions c.in-Bytes.count c.reading.bytes.items c.read_some-answer.new.piece c.read_some-answer.result is c.reading.invariant.few c.in-Bytes.ensures in
     let read = is_read g.R.ReadCalls.calls c.args.limit c.len.result c.saturating_add.result c.min-room.result so_far c.reading.reader c.read_some-answer.new.self c.read_some-answer.new.piece c.reading.piece c.read_some-answer.result c.reading.invariant.few is c.saturating_add.ensures c.min-room.ensures c.reading.invariant.room c.read_some-answer.auto.piece c.read_some-answer.ensures.bound c.read_some-answer.ensures.call in
@@ -78,7 +78,7 @@ reading-smaller g c = nearer_by_turn _ c.reading.interruptions c.in-Again.turns 
 pub reading-preserved : goal.reading-preserved
 reading-preserved g c =
     let is : c.len.result ≡ length c.reading.bytes.items = search rules in
-    let so_far : Progress = record { bytes = c.reading.bytes.items; interruptions = c.reading.interruptions } in
+    let so_far : ReadSoFar = record { bytes = c.reading.bytes.items; interruptions = c.reading.interruptions } in
     let read = is_read g.R.ReadCalls.calls c.args.limit c.len.result c.saturating_add.result c.min-room.result so_far c.reading.reader c.read_some-answer.new.self c.read_some-answer.new.piece c.reading.piece c.read_some-answer.result c.reading.invariant.few is c.saturating_add.ensures c.min-room.ensures c.reading.invariant.room c.read_some-answer.auto.piece c.read_some-answer.ensures.bound c.read_some-answer.ensures.call in
     record {
       room = still_long _ _ c.reading.piece c.read_some-answer.auto.piece ∙ c.reading.invariant.room;
@@ -90,7 +90,7 @@ reading-preserved g c =
 pub returns-in-Stop-clause-refused : goal.returns-in-Stop-clause-refused
 returns-in-Stop-clause-refused g c =
     let is : c.len.result ≡ length c.reading.bytes.items = search rules in
-    let so_far : Progress = record { bytes = c.reading.bytes.items; interruptions = c.reading.interruptions } in
+    let so_far : ReadSoFar = record { bytes = c.reading.bytes.items; interruptions = c.reading.interruptions } in
     let stops = stopped_by (c.args.limit - c.len.result) c.reading.interruptions c.read_some-answer.result c.in-Stop.fault c.in-Stop.ensures in
     given_up _ _ _ _ _ (record {
       now = so_far;

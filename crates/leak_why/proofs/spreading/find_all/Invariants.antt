@@ -1,7 +1,7 @@
 -- The targets so far were found.
 use Rattle.std.proofs.Common.{◌≡◌, ◌++◌}
 use Rattle.leak_pool.specs.Alone.{AreMarks}
-use Rattle.leak_why.specs.Entries.{AreFound, blocks_of}
+use Rattle.leak_why.specs.ReachedBlocks.{AreFound, blocks_of}
 use Rattle.leak_why.proofs.spreading.find_all.Given as goal
 
 abbrev pub invariant-loop-block : goal.invariant-loop-block

@@ -7,11 +7,11 @@ use Rattle.leak_pool.specs.Alone.{AreTaken}
 use Rattle.leak_pool.specs.Marking.{led_in_memory}
 use Rattle.leak_pool.specs.ScopeLaw.{target_below, memory_inside}
 use Rattle.leak_pool.proofs.AloneLemmas.{range_at, range_taken, registers_taken, roots_taken}
-use Rattle.leak_why.specs.declared.found.Entry.{Entry}
-use Rattle.leak_why.specs.declared.found.Origin.TheVariants.{Registers, Range}
-use Rattle.leak_why.specs.declared.found.Source.TheVariants.{Root}
-use Rattle.leak_why.specs.Entries.{blocks_of}
-use Rattle.leak_why.proofs.EntryLemmas.{of_roots_none, of_roots_more, found_taken}
+use Rattle.leak_why.specs.declared.reached_block.ReachedBlock.{ReachedBlock}
+use Rattle.leak_why.specs.declared.reached_block.Origin.TheVariants.{Registers, Range}
+use Rattle.leak_why.specs.declared.reached_block.FirstLead.TheVariants.{Root}
+use Rattle.leak_why.specs.ReachedBlocks.{blocks_of}
+use Rattle.leak_why.proofs.ReachedBlockLemmas.{of_roots_none, of_roots_more, found_taken}
 use Rattle.leak_why.proofs.spreading.find_first.Goals as goal
 
 pub find_all-requires-clause-inside : goal.find_all-requires-clause-inside
@@ -29,8 +29,8 @@ pub loop-i-init : goal.loop-i-init
 loop-i-init g c =
     let word_at = g.W.Words.word_at c.args.words.now in
     let index = g.L.Lookup.index c.args.lookup.now in
-    let before : List Entry = c.args.entries.now.items in
-    let after : List Entry = c.find_all.new.entries.items in
+    let before : List ReachedBlock = c.args.entries.now.items in
+    let after : List ReachedBlock = c.find_all.new.entries.items in
     let same : c.of_registers-targets.result ≡ targets_of index c.args.roots.now.registers = c.of_registers-targets.ensures ∙ ap (λ (l : List ℕ). targets_of index l) c.registers.ensures in
     record {
       marks = c.find_all.ensures.marks;
@@ -45,8 +45,8 @@ loop-i-preserved g c =
     let index = g.L.Lookup.index c.args.lookup.now in
     let p = c.args.roots.now in
     let i = c.loop-i.i in
-    let before : List Entry = c.loop-i.entries.items in
-    let after : List Entry = c.find_all-in-loop-i.new.entries.items in
+    let before : List ReachedBlock = c.loop-i.entries.items in
+    let after : List ReachedBlock = c.find_all-in-loop-i.new.entries.items in
     let inside : i < length p.memory = (let e = ap (λ (l : List (ℕ × ℕ)). length l) c.memory-range-items.ensures.value in let t = c.loop-i-test.true in omega arith) in
     let same : c.of_memory-targets.result ≡ led_in_memory p.skips_links word_at index (addresses_in (get_or p.memory i (0, 0))) =
     c.of_memory-targets.ensures ∙ ap (λ (l : List (ℕ × ℕ)). led_in_memory p.skips_links word_at index (addresses_in (get_or l i (0, 0)))) c.memory-range-items.ensures.value in

@@ -6,10 +6,10 @@ use Rattle.leak_blocks.specs.declared.block.Block.{Block}
 use Rattle.leak_marks.specs.Lists.{Has}
 use Rattle.leak_pool.specs.ScopeLaw.{target_below}
 use Rattle.leak_pool.proofs.AloneLemmas.{marks_few}
-use Rattle.leak_why.specs.declared.found.Entry.{Entry}
-use Rattle.leak_why.specs.declared.found.Source.TheVariants.{Earlier}
-use Rattle.leak_why.specs.Entries.{AreFound, AreFollowed, blocks_of}
-use Rattle.leak_why.proofs.EntryLemmas.{has_block, followed_first, followed_more, found_long, targets_same}
+use Rattle.leak_why.specs.declared.reached_block.ReachedBlock.{ReachedBlock}
+use Rattle.leak_why.specs.declared.reached_block.FirstLead.TheVariants.{Earlier}
+use Rattle.leak_why.specs.ReachedBlocks.{AreFound, AreFollowed, blocks_of}
+use Rattle.leak_why.proofs.ReachedBlockLemmas.{has_block, followed_first, followed_more, found_long, targets_same}
 use Rattle.leak_why.proofs.spreading.find_others.Goals as goal
 
 pub follow-init : goal.follow-init
@@ -40,15 +40,15 @@ find_all-requires-clause-inside g c b h =
 pub follow-smaller : goal.follow-smaller
 follow-smaller g c =
     let f = marks_few c.follow.seen (blocks_of c.follow.entries.items) c.follow.invariant.marks in
-    let l = length-map c.follow.entries.items (λ (e : Entry). e.block) in
+    let l = length-map c.follow.entries.items (λ (e : ReachedBlock). e.block) in
     let t = c.follow-test.true in omega (arith, f, l, c.requires.long, c.follow.auto.seen)
 
 pub follow-preserved : goal.follow-preserved
 follow-preserved g c =
     let word_at = g.W.Words.word_at c.args.words.now in
     let index = g.L.Lookup.index c.args.lookup.now in
-    let before : List Entry = c.follow.entries.items in
-    let after : List Entry = c.find_all.new.entries.items in
+    let before : List ReachedBlock = c.follow.entries.items in
+    let after : List ReachedBlock = c.find_all.new.entries.items in
     let in_list : c.follow.scanned < length before = (let t = c.follow-test.true in omega arith) in
     let is = slice_get_read before (length before) c.follow.scanned c.index.result.now refl in_list c.index.ensures in
     let i = c.follow.invariant.marks.inside c.index.result.now.block (has_block before c.follow.scanned c.index.result.now is) in

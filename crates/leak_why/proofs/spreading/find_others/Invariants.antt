@@ -2,7 +2,7 @@
 use Rattle.std.proofs.Common.{◌-◌, ◌≤◌, length}
 use Rattle.leak_roots.specs.Places.{Places}
 use Rattle.leak_pool.specs.Alone.{AreMarks}
-use Rattle.leak_why.specs.Entries.{AreRooted, AreFollowed, blocks_of}
+use Rattle.leak_why.specs.ReachedBlocks.{AreRooted, AreFollowed, blocks_of}
 use Rattle.leak_why.proofs.spreading.find_others.Given as goal
 
 abbrev pub invariant-follow : goal.invariant-follow

@@ -5,9 +5,9 @@ use Rattle.leak_roots.specs.Places.{addresses_in, memory_places}
 use Rattle.leak_pool.specs.Marking.{led_in_memory}
 use Rattle.leak_scan.specs.Targets.{targets_of}
 use Rattle.leak_marks.specs.Lists.{Has}
-use Rattle.leak_why.specs.declared.found.Origin.{Origin}
-use Rattle.leak_why.specs.declared.found.Origin.TheVariants.{Range}
-use Rattle.leak_why.specs.Entries.{IsOrigin, led_of_origin}
+use Rattle.leak_why.specs.declared.reached_block.Origin.{Origin}
+use Rattle.leak_why.specs.declared.reached_block.Origin.TheVariants.{Range}
+use Rattle.leak_why.specs.ReachedBlocks.{IsOrigin, led_of_origin}
 use Rattle.leak_why.proofs.WordLemmas.{none_listed, none_place, place_in}
 use Rattle.leak_why.proofs.tracing.root_of.Goals as goal
 

@@ -1,7 +1,7 @@
 -- From the lemmas of Held.
 use Rattle.std.proofs.Common.{◌∙◌, sym, subst, false}
 use Rattle.leak_elf.specs.declared.segment.Segment.{Segment}
-use Rattle.leak_elf.specs.Segments.{AreKept}
+use Rattle.leak_elf.specs.Segments.{AreKeptSegments}
 use Rattle.leak_elf.proofs.Held.{next_readable}
 use Rattle.leak_elf.proofs.image.ImageWords.next.Goals as goal
 
@@ -12,5 +12,5 @@ pub returns-clause-least : goal.returns-clause-least
 returns-clause-least c =
     let v = c.self.invariant in
     let slice = c.as_slice.ensures.value in
-    let made = next_readable c.self.inside.core.now c.as_slice.result.now c.args.from empty c.find_next.result (slice ∙ v.1) (subst AreKept (sym slice) v.3.kept) c.find_next.ensures.least in
+    let made = next_readable c.self.inside.core.now c.as_slice.result.now c.args.from empty c.find_next.result (slice ∙ v.1) (subst AreKeptSegments (sym slice) v.3.kept) c.find_next.ensures.least in
     rw (← c.self.view_is) made

@@ -5,7 +5,7 @@ use Rattle.leak_roots.specs.declared.piece.Piece.TheVariants.{Registers}
 use Rattle.leak_roots.specs.Pieces.{IsPiece}
 use Rattle.leak_pool.specs.Items.{IsItem, targets_of_item}
 use Rattle.leak_pool.specs.Scopes.{root_targets, all_targets, piece_targets, part_targets}
-use Rattle.leak_pool.specs.declared.source.Item.{Item}
+use Rattle.leak_pool.specs.declared.target_source.Item.{Item}
 use Rattle.leak_pool.specs.declared.start.Part.{Part}
 use Rattle.leak_pool.specs.declared.start.Part.TheVariants.{Whole}
 use Rattle.leak_pool.proofs.ScopeLemmas.{all_at, long_roots, of_block, of_piece, of_part}

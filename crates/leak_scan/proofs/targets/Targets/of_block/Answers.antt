@@ -2,7 +2,7 @@
 use Rattle.std.proofs.Common.{◌≡◌, ◌+◌, ◌-◌, ◌∙◌, ap, arith}
 use Rattle.std.specs.List.{range_with_len, filter_map}
 use Rattle.leak_elf.specs.Words.{words_between}
-use Rattle.leak_scan.specs.Places.{words_from}
+use Rattle.leak_scan.specs.Positions.{words_from}
 use Rattle.leak_scan.specs.Targets.{targets_of}
 use Rattle.leak_scan.proofs.targets.Targets.of_block.Goals as goal
 

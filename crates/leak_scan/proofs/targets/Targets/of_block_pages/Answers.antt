@@ -1,7 +1,7 @@
 -- The words at the addresses of the block that are on listed pages.
 use Rattle.std.proofs.Common.{◌≡◌, ◌+◌, ◌-◌, ◌∙◌, ap, arith, filter, filter_map}
 use Rattle.std.specs.List.{range_with_len}
-use Rattle.leak_scan.specs.Places.{words_from}
+use Rattle.leak_scan.specs.Positions.{words_from}
 use Rattle.leak_scan.specs.Targets.{targets_of, block_words_on, is_on}
 use Rattle.leak_scan.proofs.Advance.{filtered}
 use Rattle.leak_scan.proofs.targets.Targets.of_block_pages.Goals as goal

@@ -1,7 +1,7 @@
 -- The words at the addresses between.
 use Rattle.std.proofs.Common.{refl}
 use Rattle.leak_elf.specs.Words.{words_between}
-use Rattle.leak_scan.specs.Places.{words_from}
+use Rattle.leak_scan.specs.Positions.{words_from}
 use Rattle.leak_scan.proofs.targets.Targets.of_range.Goals as goal
 
 pub returns : goal.returns

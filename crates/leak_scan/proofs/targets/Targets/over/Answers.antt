@@ -1,6 +1,6 @@
 -- There is no list and no run.
 use Rattle.std.proofs.Common.{refl}
-use Rattle.leak_scan.specs.Places.{words_left, words_in}
+use Rattle.leak_scan.specs.Positions.{words_left, words_in}
 use Rattle.leak_scan.proofs.targets.Targets.over.Goals as goal
 
 pub returns : goal.returns

@@ -1,0 +1,75 @@
+//! Which live blocks the heap of a core has.
+ghost use Rattle.std.specs.Prelude.{◌≡◌, ◌+◌, ◌<◌, ◌≤◌, not, count_by, IfOk};
+ghost use Rattle.leak_chunks.specs.Fit.{follows_one_in_use, fits_word, fits_core, fits_of};
+
+use crate::chunk::{SizeWord, is_heap_chunk_for, is_mapping_for};
+use leak_blocks::{Block, Live};
+use leak_elf::Words;
+use std::alloc::{AllocError, Global};
+
+/// For each live block, whether the memory has a chunk in use of its size.
+///
+/// It reads at most two words for each block.
+pub fn fits<W: Words>(alloc: Global, words: &W, live: &Live) -> Result<Vec<bool>, AllocError>
+    ensures { IfOk result (λ fits. fits.items ≡ fits_of (W.word_at words.now) live.now.blocks) }
+{
+    // Not collected: that could go on after its first request for room was refused.
+    let blocks = live.blocks();
+    let mut fits = Vec::with_capacity(alloc, blocks.len())?;
+    for block in blocks {
+        fits.push(fits_core(words, block))?;
+    }
+    Ok(fits)
+}
+
+/// The number of the blocks that do not fit.
+pub fn count_misfits(fits: &[bool]) -> u64
+    ensures { result ≡ count_by not fits.now }
+{
+    fits.iter().filter(|fit| !**fit).count() as u64
+}
+
+/// Whether the memory has a chunk in use of the block's size.
+#[tactic(auto, unfolding(crate::specs::Fit::fits_core))]
+fn fits_core<W: Words>(words: &W, block: &Block) -> bool
+    requires { 0 < block.now.start }
+    ensures { result ≡ fits_core (W.word_at words.now) block.now }
+{
+    if block.start % 16 != 0 {
+        return false;
+    }
+    match words.word(block.start - 8) {
+        Some(word) => fits_word(words, block, SizeWord(word)),
+        None => false,
+    }
+}
+
+/// Whether the size word, which is the word before the block, is that of a chunk in use of the block's size.
+pub(crate) fn fits_word<W: Words>(words: &W, block: &Block, word: SizeWord) -> bool
+    requires { 8 ≤ block.now.start }
+    ensures { result ≡ fits_word (W.word_at words.now) block.now word.0 }
+{
+    let chunk = word.chunk_size();
+    if word.is_mapped() {
+        return is_mapping_for(block.size, chunk);
+    }
+    is_heap_chunk_for(block.size, chunk) && follows_one_in_use(words, block.start - 8, chunk)
+}
+
+/// Whether the word that many bytes after the address is a size word which says that the chunk before it is in use.
+fn follows_one_in_use<W: Words>(words: &W, addr: u64, bytes: u64) -> bool
+    ensures { result ≡ follows_one_in_use (W.word_at words.now) (addr + bytes) }
+{
+    word_after(words, addr, bytes).is_some_and(|word| SizeWord(word).is_previous_in_use())
+}
+
+/// The word that many bytes after the address, if there is one.
+pub(crate) fn word_after<W: Words>(words: &W, addr: u64, bytes: u64) -> Option<u64>
+    ensures { result ≡ W.word_at words.now (addr + bytes) }
+{
+    match addr.checked_add(bytes) {
+        Some(place) => words.word(place),
+        // No word begins at the last address, nor after it, so this gives none.
+        None => words.next(u64::MAX),
+    }
+}

@@ -1,0 +1,132 @@
+//! Slack: what malloc gives a block beyond the bytes that were asked for.
+ghost use Rattle.std.specs.Prelude.{◌≡◌, ◌+◌, ◌<◌, ◌≤◌, ◌^◌, ◌||◌, ℕ, IfOk, OnOk, List};
+ghost use Rattle.leak_blocks.specs.declared.small.Span.{Span};
+ghost use Rattle.leak_blocks.specs.Small.{AreApart, CoverSame, holds, is_covered};
+ghost use Rattle.leak_blocks.specs.Span.{IsAddressed};
+ghost use Rattle.leak_chunks.specs.Slack.{BeginBy, slack_by, slack_of, slack_spans_of};
+
+use crate::chunk::SizeWord;
+use crate::fitting::fits_word;
+use leak_blocks::{Block, Live, Span};
+use leak_elf::Words;
+use std::alloc::{AllocError, Global};
+use std::marker::Model;
+
+/// How many bytes before its block a mapping begins. So it ends this many bytes before the block's start plus the chunk's size.
+const BEFORE_BLOCK: u64 = 16;
+/// The same in a heap, where a block also has the first word of the next chunk's header.
+const BEFORE_BLOCK_IN_HEAP: u64 = 8;
+
+/// The addresses of slack, as ranges.
+#[derive(Drop)]
+pub struct SlackSpans {
+    ranges: Vec<Span>,
+}
+
+impl Model for SlackSpans {
+    ghost Value = { List Span };
+
+    ghost view = { λ spans. spans.ranges.items };
+
+    ghost invariant = { λ spans. AreApart spans.ranges.items };
+}
+
+impl SlackSpans {
+    /// The addresses as ranges, by ascending address. Between two of them is an address that is in none.
+    pub fn ranges(&self) -> &[Span]
+        ensures value { result.now ≡ self.now }
+        ensures apart { AreApart result.now }
+    {
+        self.ranges.as_slice()
+    }
+}
+
+/// The slack of a block whose chunk has the size word, if there is any.
+fn slack_by(block: &Block, word: SizeWord) -> Option<Span>
+    requires { IsAddressed block.now }
+    ensures { result ≡ slack_by block.now word.0 }
+{
+    let Some(after) = block.start.checked_add(word.chunk_size()) else {
+        return None;
+    };
+    let taken = if word.is_mapped() {
+        BEFORE_BLOCK
+    } else {
+        BEFORE_BLOCK_IN_HEAP
+    };
+    let end = after.saturating_sub(taken);
+    let first = block.start + block.size;
+    if end <= first {
+        return None;
+    }
+    Some(Span {
+        first,
+        last: end - 1,
+    })
+}
+
+/// The slack of the block, if it fits the memory and has any.
+#[tactic(auto, unfolding(crate::specs::Fit::fits_core))]
+fn slack_of<W: Words>(words: &W, block: &Block) -> Option<Span>
+    requires { IsAddressed block.now }
+    ensures { result ≡ slack_of (W.word_at words.now) block.now }
+{
+    if block.start % 16 != 0 {
+        return None;
+    }
+    let Some(word) = words.word(block.start - 8) else {
+        return None;
+    };
+    if !fits_word(words, block, SizeWord(word)) {
+        return None;
+    }
+    slack_by(block, SizeWord(word))
+}
+
+/// Adds a span that begins where the others do, or later. If it meets the last of them, that one is lengthened.
+fn add(spans: &mut Vec<Span>, span: Span) -> Result<(), AllocError>
+    requires apart { AreApart spans.old.items }
+    requires later { BeginBy span.first spans.old.items }
+    requires one { span.first ≤ span.last }
+    ensures apart { OnOk result (AreApart spans.new.items) }
+    ensures later { OnOk result (BeginBy span.first spans.new.items) }
+    ensures same { OnOk result ((a : ℕ) → is_covered spans.new.items a
+        ≡ (is_covered spans.old.items a || holds a span)) }
+{
+    let Some(last) = spans.pop() else {
+        spans.push(span)?;
+        return Ok(());
+    };
+    if span.first <= last.last.saturating_add(1) {
+        let longer = last.last.max(span.last);
+        spans.push(Span {
+            last: longer,
+            ..last
+        })?;
+        return Ok(());
+    }
+    spans.push(last)?;
+    spans.push(span)?;
+    Ok(())
+}
+
+/// The slack of the live blocks that fit the memory.
+///
+/// It reads at most two words for each block.
+pub fn slack_spans<W: Words>(
+    alloc: Global,
+    words: &W,
+    live: &Live,
+) -> Result<SlackSpans, AllocError>
+    ensures { IfOk result (λ spans.
+        CoverSame spans (slack_spans_of (W.word_at words.now) live.now.blocks)) }
+{
+    let blocks = live.blocks();
+    let mut ranges = Vec::new(alloc);
+    for block in blocks {
+        if let Some(span) = slack_of(words, block) {
+            add(&mut ranges, span)?;
+        }
+    }
+    Ok(SlackSpans { ranges })
+}

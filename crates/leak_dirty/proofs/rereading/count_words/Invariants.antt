@@ -1,7 +1,0 @@
--- The words of the blocks so far were counted.
-use Rattle.std.proofs.Common.{◌≡◌, take}
-use Rattle.leak_dirty.specs.Differing.{reread_of}
-use Rattle.leak_dirty.proofs.rereading.count_words.Given as goal
-
-abbrev pub invariant-loop-number : goal.invariant-loop-number
-invariant-loop-number g l = l.count ≡ reread_of (g.W.Words.word_at l.words) l.pages l.blocks (take l.number-index l.numbers)

@@ -1,7 +1,0 @@
--- An entry for each block so far.
-use Rattle.std.proofs.Common.{◌≡◌, take}
-use Rattle.leak_fit.specs.Fit.{fits_of}
-use Rattle.leak_fit.proofs.fitting.fits.Given as goal
-
-abbrev pub invariant-loop-block : goal.invariant-loop-block
-invariant-loop-block g l = l.fits.items ≡ fits_of (g.W.Words.word_at l.words) (take l.block-index l.blocks)

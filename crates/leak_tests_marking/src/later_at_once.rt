@@ -1,0 +1,67 @@
+//! Workers that scan blocks of the later core again at the same time.
+
+use crate::appointment::Appointment;
+use crate::comparisons::same;
+use crate::samples::{Scene, core_of, scene_of};
+use leak_index::{Reading, Sorted};
+use leak_later::{Retraced, carry, differing, retrace};
+use leak_pool::{Open, Plan, PoolError};
+use std::alloc::Global;
+use std::process::Abort;
+use std::test::Fail;
+use std::thread::Threads;
+
+/// Four blocks that are marked in the earlier core, and two that nothing leads to there.
+const EARLIER: &str = "+ 0x10000 0x10\n+ 0x10010 0x10\n+ 0x10020 0x10\n+ 0x10030 0x10\n\
+                       + 0x10100 0x10\n+ 0x10200 0x10\n";
+
+/// Those and four new ones.
+const LATER: &str = "+ 0x10000 0x10\n+ 0x10010 0x10\n+ 0x10020 0x10\n+ 0x10030 0x10\n\
+                     + 0x10100 0x10\n+ 0x10200 0x10\n\
+                     + 0x10040 0x10\n+ 0x10050 0x10\n+ 0x10060 0x10\n+ 0x10070 0x10\n";
+
+/// In the later core the first kept block leads to one of the two, and the last new block to the other.
+const LEADS: [(u64, u64); 2] = [(0x10000, 0x10100), (0x10070, 0x10200)];
+
+/// Marks again by two workers. The earlier core is all zeros.
+fn traced_by_two<R: Threads + Sync + Abort>(
+    rt: &R,
+    alloc: Global,
+    words: &Appointment,
+    later: &Scene,
+) -> Result<Retraced, Fail> {
+    let zeros = core_of(alloc, &[])?;
+    let earlier = scene_of(alloc, zeros.as_slice(), EARLIER)?;
+    if later.live.blocks().len() > u32::MAX as usize {
+        return Err(Fail::from(PoolError::TooMany));
+    }
+    let marked = vec![in alloc; true, true, true, true, false, false]?;
+    assert!(rt; marked.len() == earlier.live.blocks().len());
+    let carried = carry(alloc, &earlier.live, &marked, &later.live)?;
+    let pages = differing(rt, alloc, &earlier.image, &later.image)?;
+    let lookup = Sorted::new(&later.live, Reading::interior());
+    let (roots, live) = (&later.roots, &later.live);
+    // The registers, three ranges of memory and eight blocks: each worker scans six of them, the second all new blocks.
+    let plan = Plan::new(2, 65_536, 0)?;
+    Ok(retrace(
+        rt, alloc, words, &lookup, roots, live, &carried, &pages, plan, &Open,
+    )?)
+}
+
+#[test]
+fn two_workers_scan_kept_and_new_blocks_at_the_same_time(rt: HostRuntime) -> Result<(), Fail> {
+    let alloc = rt.alloc();
+    let core = core_of(alloc, &LEADS)?;
+    let later = scene_of(alloc, core.as_slice(), LATER)?;
+    for in_runs in [false, true] {
+        let words = Appointment::of(&later.image, in_runs, 0x10000, 0x10070);
+        let Retraced { marked, reread } = traced_by_two(&rt, alloc, &words, &later)?;
+        assert!(rt; words.is_kept(), "in runs: {in_runs}");
+        same(&rt, marked.set.as_slice(), [true; 10].as_slice());
+        assert!(rt; marked.claims.len() == 2);
+        same(&rt, marked.claims[0].as_slice(), [8u32].as_slice());
+        same(&rt, marked.claims[1].as_slice(), [9u32].as_slice());
+        same(&rt, reread, 8);
+    }
+    Ok(())
+}

@@ -1,0 +1,132 @@
+//! Claims of the first core that are traced in the second.
+ghost use Rattle.leak_elf.specs.Words.{word_of};
+ghost use Rattle.leak_elf.specs.Aligned.{aligned_words};
+
+use crate::comparisons::same;
+use crate::samples::{core_of, scene_of};
+use leak_elf::{Image, Words};
+use leak_index::{Reading, Sorted};
+use leak_later::{Retraced, carry, differing, retrace};
+use leak_pool::{Open, Plan, PoolError};
+use std::alloc::Global;
+use std::sync::atomic::{AtomicU64, Ordering};
+use std::test::Fail;
+
+/// The words of a core, with a count of those of two blocks that are read: of 32 bytes at 0x10100 and of 16 at
+/// 0x10200.
+#[derive(Drop)]
+struct Counting<'a> {
+    image: &'a Image<'a>,
+    asked: &'a AtomicU64,
+}
+
+impl<'a> Counting<'a> {
+    fn count(&self, addr: u64) {
+        if (0x10100..0x10120).contains(&addr) || (0x10200..0x10210).contains(&addr) {
+            self.asked.fetch_add(1, Ordering::SeqCst);
+        }
+    }
+}
+
+impl<'a> Words for Counting<'a> {
+    ghost word_at = { λ counting. word_of counting.image.now };
+
+    fn word(&self, addr: u64) -> Option<u64> {
+        self.count(addr);
+        self.image.word(addr)
+    }
+
+    fn next(&self, from: u64) -> Option<u64> {
+        let next = self.image.next(from);
+        if let Some(addr) = next {
+            self.count(addr);
+        }
+        next
+    }
+
+    ghost aligned = { λ counting. aligned_words counting.image.now };
+}
+
+/// Marks again in the later of two cores, by one worker, after all blocks of the earlier log were marked or none.
+fn traced<R: std::thread::Threads + Sync>(
+    rt: &R,
+    alloc: Global,
+    cores: [&[(u64, u64)]; 2],
+    logs: [&str; 2],
+    is_marked: bool,
+    asked: &AtomicU64,
+) -> Result<Retraced, Fail> {
+    let first = core_of(alloc, cores[0])?;
+    let second = core_of(alloc, cores[1])?;
+    let earlier = scene_of(alloc, first.as_slice(), logs[0])?;
+    let later = scene_of(alloc, second.as_slice(), logs[1])?;
+    if later.live.blocks().len() > u32::MAX as usize {
+        return Err(Fail::from(PoolError::TooMany));
+    }
+    let pages = differing(rt, alloc, &earlier.image, &later.image)?;
+    let marked = vec![in alloc; is_marked; earlier.live.blocks().len()]?;
+    let carried = carry(alloc, &earlier.live, &marked, &later.live)?;
+    let lookup = Sorted::new(&later.live, Reading::interior());
+    let words = Counting {
+        image: &later.image,
+        asked,
+    };
+    let plan = Plan::new(1, 512, 1024)?;
+    Ok(retrace(
+        rt,
+        alloc,
+        &words,
+        &lookup,
+        &later.roots,
+        &later.live,
+        &carried,
+        &pages,
+        plan,
+        &Open,
+    )?)
+}
+
+#[test]
+fn a_fresh_block_is_scanned_where_nothing_differs(rt: HostRuntime) -> Result<(), Fail> {
+    let asked = AtomicU64::new(0);
+    let words = [(0x10100u64, 0x10200u64)];
+    let logs = [
+        "+ 0x10100 0x20\n+ 0x10200 0x10\n",
+        "+ 0x10100 0x20\n+ 0x10200 0x10\n< 0x10100\n> 0x10100 0x20\n",
+    ];
+    let cores = [words.as_slice(), words.as_slice()];
+    let retraced = traced(&rt, rt.alloc(), cores, logs, false, &asked)?;
+    same(&rt, retraced.marked.set.as_slice(), [true, true].as_slice());
+    same(&rt, retraced.marked.claims.len(), 1);
+    for claims in retraced.marked.claims.as_slice() {
+        same(&rt, claims.as_slice(), [1u32].as_slice());
+    }
+    same(&rt, retraced.reread, 0);
+    Ok(())
+}
+
+#[test]
+fn no_word_of_a_kept_block_is_read_where_nothing_differs(rt: HostRuntime) -> Result<(), Fail> {
+    let asked = AtomicU64::new(0);
+    let words = [(0x10008u64, 0x10200u64), (0x10200, 0x10120)];
+    let changed = [(0x10008u64, 0x10200u64), (0x10200, 0x10120), (0x10ff8, 1)];
+    let logs = [
+        "+ 0x10100 0x20\n+ 0x10120 0x10\n+ 0x10200 0x10\n",
+        "+ 0x10100 0x20\n+ 0x10120 0x10\n+ 0x10200 0x10\n- 0x10120\n",
+    ];
+    let cores = [words.as_slice(), words.as_slice()];
+    let retraced = traced(&rt, rt.alloc(), cores, logs, true, &asked)?;
+    same(&rt, retraced.marked.set.as_slice(), [true, true].as_slice());
+    same(&rt, retraced.reread, 0);
+    same(&rt, asked.load(Ordering::SeqCst), 0);
+
+    let cores = [words.as_slice(), changed.as_slice()];
+    let retraced = traced(&rt, rt.alloc(), cores, logs, true, &asked)?;
+    same(&rt, retraced.marked.set.as_slice(), [true, true].as_slice());
+    for claims in retraced.marked.claims.as_slice() {
+        assert!(rt; claims.is_empty());
+    }
+    same(&rt, retraced.reread, 6);
+    assert!(rt; asked.load(Ordering::SeqCst) > 0);
+    Ok(())
+}
