@@ -34,3 +34,8 @@ mod mtrace;
 // Live blocks of a log.
 #[cfg(test)]
 mod blocks;
+
+// Worked values of the sample core, by a law: they are computed as it is proved.
+mod elf_values;
+
+pub use elf_values::sample_values;

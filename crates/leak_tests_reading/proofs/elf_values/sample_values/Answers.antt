@@ -6,7 +6,7 @@ use Rattle.leak_elf.specs.Refusals.{file_fault, header_fault, fault_of}
 use Rattle.leak_elf.specs.Segments.{segments_of, note_parts_of, undumped_of}
 use Rattle.leak_elf.specs.Words.{word_in, word_of}
 use Rattle.leak_elf.specs.Sample.{zeros, file_header, program_header, note_entry, front, sample, sample_with, sample_of_three}
-use Rattle.leak_elf_rows.proofs.values.sample_values.Goals as goal
+use Rattle.leak_tests_reading.proofs.elf_values.sample_values.Goals as goal
 
 pub returns : goal.returns
 unfolding number_at headers header_at file_fault header_fault fault_of word_of segments_of note_parts_of undumped_of word_in zeros file_header program_header note_entry front sample sample_with sample_of_three

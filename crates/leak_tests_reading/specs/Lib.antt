@@ -1,2 +1,2 @@
 -- The definitions of this crate, by subject.
-pub mod Values
+pub mod ElfValues
