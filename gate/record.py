@@ -1,16 +1,25 @@
 """The record of refused wrong bodies: gate/refused.txt, a line for each crate all of whose wrong bodies were refused.
 
-A line has the crate's name, how many wrong bodies it has, and a checksum of all that their checks read: the kit, the scripts
-that judge, the crate's line of crates.txt, its sources, specs, proofs and wrong bodies, and those but the last of each crate
-of the repository below it. When any of these changes, the line no longer speaks of the crate.
+A line has the crate's name, how many wrong bodies it has, and a checksum of all that decides whether they are wrong: the kit,
+the scripts that judge, the crate's line of crates.txt, its sources, specs, proofs and wrong bodies; and of the crates of the
+repository below it the public types, heads and clauses, as `rt ci` left them in out/, and the definitions that these or the crate
+name, directly or not. When any of these changes, the line no longer speaks of the crate.
+
+A body that is wrong by a contract stays so whatever becomes of bodies, inner functions and lemmas of the crates below, so these
+count nowhere; nor do lines that are comments, but in wrong bodies.
 """
 import hashlib
 import os
+import re
 import subprocess
 
 PARTS = ("src", "specs", "proofs")
 JUDGES = ("edits.py", "judging.py", "record.py", "wrong_bodies.py")
 FILE = "gate/refused.txt"
+COMMENT = {".rt": "//", ".antt": "--"}
+# A library's definitions that a text names, as 'use Rattle.leak_elf.specs.Words.{word_of}' or '.. as words'; and the head of a function.
+NAMED = re.compile(r"\buse Rattle\.(\w+)\.specs\.([\w.]+?)(?:\.\{([^}]*)\}| as (\w+))")
+HEAD = re.compile(r"(?:^| )fn \w")
 
 
 def files_below(folder):
@@ -18,23 +27,79 @@ def files_below(folder):
     return sorted(os.path.join(at, it) for at, _, files in os.walk(folder) for it in files)
 
 
+def text_of(path):
+    """Returns the text of a file without the lines that are comments."""
+    sign = COMMENT.get(os.path.splitext(path)[1])
+    with open(path, encoding="utf-8", errors="surrogateescape") as it:
+        return "".join(line for line in it if not (sign and line.lstrip().startswith(sign)))
+
+
+def with_clauses(interface, heads):
+    """Returns the text of a library's interface, with the clauses of its functions, which `heads` has for inner ones too."""
+    found, lines = [], heads.split("\n")
+    for head in interface.split("\n"):
+        found.append(head)
+        for at in (at for at, line in enumerate(lines) if line == head and HEAD.search(line)):
+            end = next((end for end in range(at, len(lines)) if lines[end].rstrip().endswith(";")), at)
+            found += lines[at + 1:end + 1]
+    return "\n".join(found)
+
+
+def public_texts(root, name):
+    """Returns what a built library declares to others, file by file: (text, the definitions that the file names)."""
+    library = f"{root}/crates/{name}/out/rlib/{name}.rlib"
+    for path in files_below(f"{library}/interface/lang"):
+        with_heads = path.replace("/interface/lang/", "/lang/")
+        whole = text_of(with_heads) if os.path.isfile(with_heads) else ""
+        text = with_clauses(text_of(path), whole)
+        words = set(re.findall(r"[^\s(){}.,;]+", text))
+        yield text, [it for it in NAMED.findall(whole) if words & set((it[2] + it[3]).replace(",", " ").split())]
+
+
+def file_of(root, crate, module):
+    """Returns the file of a module of definitions. One that begins with 'declared' is a type of the sources, as a library has them."""
+    parts = module.split(".")
+    if parts[0] != "declared":
+        return f"{root}/crates/{crate}/specs/{'/'.join(parts)}.antt"
+    sources = f"{root}/crates/{crate}/out/rlib/{crate}.rlib/lang/src"
+    files = (f"{sources}/{'/'.join(parts[1:end])}.rt" for end in range(len(parts), 1, -1))
+    return next((it for it in files if os.path.isfile(it)), f"{sources}/lib.rt")
+
+
+def definitions(root, below, named):
+    """Returns the texts of the definitions that are named, and of those that these name in turn, in the crates below, by their paths."""
+    found, waiting = {}, list(named)
+    while waiting:
+        crate, module, *_ = waiting.pop()
+        path = file_of(root, crate, module)
+        if crate in below and path not in found:
+            found[path] = text_of(path) if os.path.isfile(path) else ""
+            waiting += NAMED.findall(found[path])
+    return found
+
+
 def sum_of(root, crate, libraries, below):
-    """Returns the checksum of all that the checks of a crate's wrong bodies read."""
+    """Returns the checksum of all that decides whether a crate's wrong bodies are wrong."""
     found = hashlib.sha256()
 
     def add(*texts):
-        for text in texts:
+        for text in (text.encode(errors="surrogateescape") for text in texts):
             # (its length keeps a text apart from the next)
             found.update(b"%d:" % len(text) + text)
 
-    add(subprocess.run(["rt", "version"], capture_output=True, check=True).stdout)
-    files = [f"{os.path.dirname(os.path.abspath(__file__))}/{it}" for it in JUDGES]
+    add(subprocess.run(["rt", "version"], capture_output=True, text=True, check=True).stdout)
+    for name in JUDGES:
+        add(name, text_of(f"{os.path.dirname(os.path.abspath(__file__))}/{name}"))
+    own = {it: text_of(it) for part in (*PARTS, "wrong") for it in files_below(f"{root}/crates/{crate}/{part}")}
+    named = [it for text in own.values() for it in NAMED.findall(text)]
     for name in (crate, *sorted(below)):
-        add(" ".join([name, *libraries[name]]).encode())
-        files += [it for part in PARTS for it in files_below(f"{root}/crates/{name}/{part}")]
-    for path in files + files_below(f"{root}/crates/{crate}/wrong"):
-        with open(path, "rb") as it:
-            add(os.path.relpath(path, root).encode() if path.startswith(f"{root}/crates/") else os.path.basename(path).encode(), it.read())
+        add(" ".join([name, *libraries[name]]))
+    for name in sorted(below):
+        for text, names in public_texts(root, name):
+            add(text)
+            named += names
+    for path, text in sorted((own | definitions(root, below, named)).items()):
+        add(os.path.relpath(path, root), text)
     return found.hexdigest()
 
 
