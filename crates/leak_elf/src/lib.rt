@@ -15,6 +15,7 @@ mod fields;
 mod header;
 mod image;
 mod laws;
+mod layout;
 mod refusal;
 mod sample;
 mod search;
