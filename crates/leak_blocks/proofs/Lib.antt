@@ -15,4 +15,6 @@ pub mod GatherLemmas
 pub mod SmallLemmas
 pub mod ReadLemmas
 pub mod RunLemmas
+pub mod PartLemmas
+pub mod PlacedLemmas
 pub mod OngoingReplayLemmas

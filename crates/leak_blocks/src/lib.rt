@@ -1,10 +1,13 @@
 //! The live blocks of an allocation log.
 //!
-//! [`replay`] goes over the lines of a `leak_mtrace::Log` and gives [`Live`]: each [`Block`] that no later line ends,
-//! by ascending address, with the number of give-backs that met no live block and the number of allocations that
-//! another allocation ended. [`replay_bytes`] does so while it reads the lines, and keeps none; [`replay_with_spans`] also gives
-//! the addresses of small allocations. glibc's mtrace says what a line reports; which line ends which block is own rule, stated
-//! in `specs/Live.antt` over pairs of lines. [`Live`] keeps callers as ranges of the log's bytes, and no bytes.
+//! [`replay_bytes`] goes over the lines of a log while it reads them, keeps none, and gives [`Live`]: each [`Block`] that no
+//! later line ends, by ascending address, with the number of give-backs that met no live block and the number of
+//! allocations that another allocation ended. [`replay_with_spans`] also gives the addresses of small allocations: the program
+//! goes by it if freed memory is left out, and by [`replay_bytes`] otherwise. [`replay`] and [`small_spans`], which find the same
+//! from the lines of a `leak_mtrace::Log`, are for libraries and tests.
+//!
+//! glibc's mtrace says what a line reports; which line ends which block is own rule, stated in `specs/Live.antt` over pairs
+//! of lines. [`Live`] keeps callers as ranges of the log's bytes, and no bytes.
 //!
 //! The contracts don't say that the log is complete, nor that its lines are in the order of the calls.
 #![tactic(auto)]

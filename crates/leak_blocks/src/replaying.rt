@@ -101,7 +101,7 @@ fn replay_lines(alloc: Global, lines: &[Line]) -> Result<Live, AllocError>
     stage.live(alloc)
 }
 
-/// Finds the live blocks of a log.
+/// Finds the live blocks of a log. It is for libraries and tests: the program goes by [`replay_bytes`].
 pub fn replay(alloc: Global, log: &Log) -> Result<Live, AllocError>
     ensures { IfOk result (λ live. live ≡ replay_of log.now.lines) }
 {

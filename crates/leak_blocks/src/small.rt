@@ -193,7 +193,8 @@ impl SmallSpans {
 /// The addresses of the log's small allocations: each span of fewer than 131,072 bytes, whether its block is live, was
 /// given back or was displaced.
 ///
-/// While they are found it takes 16 bytes for each line, and as much again for each small allocation.
+/// While they are found it takes 16 bytes for each line, and as much again for each small allocation. It is for libraries and
+/// tests: the program goes by [`replay_with_spans`](crate::replay_with_spans).
 pub fn small_spans(alloc: Global, log: &Log) -> Result<SmallSpans, AllocError>
     ensures { IfOk result (λ spans. CoverSame spans (small_spans_of log.now.lines)) }
 {

@@ -6,6 +6,10 @@ ghost use Rattle.leak_elf.specs.Headers.{header_at, header_count, found_count, h
 
 use crate::error::ElfError;
 use crate::fields::{u16_at, u32_at, u64_at};
+use crate::layout::{
+    E_PHNUM, E_PHOFF, E_SHOFF, HEADER_SIZE, P_FILESZ, P_FLAGS, P_MEMSZ, P_OFFSET, P_TYPE, P_VADDR,
+    SECTION_HEADER_SIZE, SH_INFO,
+};
 use std::alloc::Global;
 
 /// The type of a header that describes a segment in memory.
@@ -22,13 +26,6 @@ pub(crate) const ET_CORE: u16 = 4;
 pub(crate) const EM_X86_64: u16 = 62;
 /// The count that says that the number of program headers is in section header 0.
 const PN_XNUM: u16 = 0xffff;
-
-/// The size in bytes of a file header.
-pub(crate) const FILE_HEADER_SIZE: usize = 64;
-/// The size in bytes of a section header.
-const SECTION_HEADER_SIZE: usize = 64;
-/// The size in bytes of a program header.
-pub(crate) const HEADER_SIZE: usize = 56;
 
 /// A program header. Its physical address and its alignment are not read.
 #[derive(Clone, Copy)]
@@ -54,12 +51,12 @@ fn read_header(core: &[u8], at: usize) -> Header
     ensures { result ≡ header_at core.now at }
 {
     Header {
-        kind: u32_at(core, at),
-        flags: u32_at(core, at + 4),
-        offset: u64_at(core, at + 8),
-        vaddr: u64_at(core, at + 16),
-        filesz: u64_at(core, at + 32),
-        memsz: u64_at(core, at + 40),
+        kind: u32_at(core, at + P_TYPE),
+        flags: u32_at(core, at + P_FLAGS),
+        offset: u64_at(core, at + P_OFFSET),
+        vaddr: u64_at(core, at + P_VADDR),
+        filesz: u64_at(core, at + P_FILESZ),
+        memsz: u64_at(core, at + P_MEMSZ),
     }
 }
 
@@ -72,15 +69,15 @@ pub(crate) fn count_headers(core: &[u8]) -> Option<usize>
     ensures value { result ≡ found_count core.now }
     ensures size { IfSome result (λ count. count < 2 ^ 32) }
 {
-    let count = u16_at(core, 56);
+    let count = u16_at(core, E_PHNUM);
     if count != PN_XNUM {
         return Some(count as usize);
     }
-    let start = u64_at(core, 40);
+    let start = u64_at(core, E_SHOFF);
     if start == 0 || start > (core.len() - SECTION_HEADER_SIZE) as u64 {
         return None;
     }
-    Some(u32_at(core, start as usize + 44) as usize)
+    Some(u32_at(core, start as usize + SH_INFO) as usize)
 }
 
 /// All program headers, in the order of the file. The count is how many there are.
@@ -96,7 +93,7 @@ pub(crate) fn read_headers(
     ensures ok { IfOk result (λ v. v.items ≡ headers core.now) }
     ensures refused { IfErr result (λ e. e ≡ ElfError.NoMemory) }
 {
-    let start = u64_at(core, 32) as usize;
+    let start = u64_at(core, E_PHOFF) as usize;
     let mut headers = Vec::new(alloc);
     for i in 0..count {
         headers.push(read_header(core, start + HEADER_SIZE * i))?;

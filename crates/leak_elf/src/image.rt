@@ -98,7 +98,7 @@ impl<'a> Image<'a> {
         self.parts.as_slice()
     }
 
-    /// The dumped bytes of the segment with the number, from 0.
+    /// The dumped bytes of the segment with the number, from 0. It is for libraries and tests.
     #[tactic(auto, unfolding(crate::specs::Segments::segments_of))]
     pub fn bytes_of(&self, i: usize) -> &'a [u8]
         requires { i < length (segments_of self.now) }

@@ -2,7 +2,9 @@
 //!
 //! [`Image::read`] accepts the bytes of a file or gives the first reason against it, an [`ElfError`].
 //! An [`Image`] borrows those bytes. It gives segments by ascending address, the parts of the file
-//! that hold notes, and, as [`Words`], the word at each address that is dumped.
+//! that hold notes, and, as [`Words`], the word at each address that is dumped. [`core_k`] makes the
+//! sample core that the program searches if it is given no word. [`Image::bytes_of`], the dumped bytes
+//! of one segment, is for libraries and tests.
 //!
 //! The rules are those of the System V gABI and elf(5). Bytes past the file size of a segment are
 //! not in the file, so they are no words, and no zeros are made up for them. Of section headers only
@@ -15,6 +17,7 @@ mod fields;
 mod header;
 mod image;
 mod laws;
+mod layout;
 mod refusal;
 mod sample;
 mod search;

@@ -8,8 +8,10 @@ ghost use Rattle.leak_elf.specs.Segments.{kept_of, meet_within};
 
 use crate::error::ElfError;
 use crate::fields::{u16_at, u64_at};
-use crate::header::{
-    EM_X86_64, ET_CORE, FILE_HEADER_SIZE, HEADER_SIZE, Header, PT_LOAD, PT_NOTE, count_headers,
+use crate::header::{EM_X86_64, ET_CORE, Header, PT_LOAD, PT_NOTE, count_headers};
+use crate::layout::{
+    E_MACHINE, E_PHENTSIZE, E_PHOFF, E_TYPE, EI_CLASS, EI_DATA, EI_VERSION, ELFCLASS64,
+    ELFDATA2LSB, ELFMAG, EV_CURRENT, FILE_HEADER_SIZE, HEADER_SIZE,
 };
 use crate::segment::{Segment, kept_segments, neighbors_meet};
 use std::alloc::{AllocError, Global};
@@ -26,32 +28,32 @@ pub(crate) fn check_file(core: &[u8]) -> Result<usize, ElfError>
     if core.len() < FILE_HEADER_SIZE {
         return Err(ElfError::Short);
     }
-    if core[..4] != [0x7f, 0x45, 0x4c, 0x46] {
+    if &core[..ELFMAG.len()] != ELFMAG {
         return Err(ElfError::Magic);
     }
-    if core[4] != 2 {
+    if core[EI_CLASS] != ELFCLASS64 {
         return Err(ElfError::Class);
     }
-    if core[5] != 1 {
+    if core[EI_DATA] != ELFDATA2LSB {
         return Err(ElfError::Data);
     }
-    if core[6] != 1 {
+    if core[EI_VERSION] != EV_CURRENT {
         return Err(ElfError::Version);
     }
-    if u16_at(core, 16) != ET_CORE {
+    if u16_at(core, E_TYPE) != ET_CORE {
         return Err(ElfError::Kind);
     }
-    if u16_at(core, 18) != EM_X86_64 {
+    if u16_at(core, E_MACHINE) != EM_X86_64 {
         return Err(ElfError::Machine);
     }
-    if u16_at(core, 54) as usize != HEADER_SIZE {
+    if u16_at(core, E_PHENTSIZE) as usize != HEADER_SIZE {
         return Err(ElfError::EntrySize);
     }
     let Some(count) = count_headers(core) else {
         return Err(ElfError::Extended);
     };
     let table = HEADER_SIZE * count;
-    if core.len() < table || ((core.len() - table) as u64) < u64_at(core, 32) {
+    if core.len() < table || ((core.len() - table) as u64) < u64_at(core, E_PHOFF) {
         return Err(ElfError::TableCut);
     }
     Ok(count)

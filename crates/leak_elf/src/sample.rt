@@ -5,6 +5,7 @@ ghost use Rattle.std.specs.Int.{w64, to_le_bytes};
 ghost use Rattle.leak_elf.specs.Sample.{patched, with_words, zeros, file_header, program_header, note_entry, sample, sample_with, IsSampleAddress};
 
 use crate::header::{EM_X86_64, ET_CORE, Header, PT_LOAD, PT_NOTE};
+use crate::layout::{ELFCLASS64, ELFDATA2LSB, ELFMAG, EV_CURRENT, FILE_HEADER_SIZE, HEADER_SIZE};
 use std::alloc::{AllocError, Global};
 
 /// The address of a word of the segment, less its file offset.
@@ -80,16 +81,17 @@ fn zero_core(alloc: Global) -> Result<Vec<u8>, AllocError>
 fn push_file_header(core: &mut Vec<u8>, count: u16) -> Result<(), AllocError>
     ensures { OnOk result (core.new.items ≡ core.old.items ++ file_header count) }
 {
-    push(core, &[0x7f, 0x45, 0x4c, 0x46, 2, 1, 1])?;
+    push(core, ELFMAG)?;
+    push(core, &[ELFCLASS64, ELFDATA2LSB, EV_CURRENT])?;
     push_zeros(core, 9)?;
     push(core, &ET_CORE.to_le_bytes())?;
     push(core, &EM_X86_64.to_le_bytes())?;
-    push(core, &1u32.to_le_bytes())?;
+    push(core, &(EV_CURRENT as u32).to_le_bytes())?;
     push_zeros(core, 8)?;
-    push(core, &64u64.to_le_bytes())?;
+    push(core, &(FILE_HEADER_SIZE as u64).to_le_bytes())?;
     push_zeros(core, 12)?;
-    push(core, &64u16.to_le_bytes())?;
-    push(core, &56u16.to_le_bytes())?;
+    push(core, &(FILE_HEADER_SIZE as u16).to_le_bytes())?;
+    push(core, &(HEADER_SIZE as u16).to_le_bytes())?;
     push(core, &count.to_le_bytes())?;
     push_zeros(core, 6)
 }

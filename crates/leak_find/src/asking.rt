@@ -52,7 +52,8 @@ pub(crate) fn at_asking(error: WhyError) -> RunFault
 /// warning, 3.
 ///
 /// Both inputs are read in order before the block is looked for, and answer and warnings are made before anything is
-/// written. After a refusal the readers are where the reads left them, and the second writer was not written to.
+/// written. After a refusal the readers are where the reads left them, and the second writer was not written to. It is for
+/// libraries and tests: the program goes by [`run_why_sized`], which this calls without sizes.
 pub fn run_why<R: Read, W: Write, V: Write>(
     alloc: Global,
     readers: &mut [R],

@@ -5,17 +5,24 @@
 //! other marked block is claimed by exactly one worker, and no block that can be reached in the second core is reported.
 //! If an input is not accepted, the answer is the first refusal by the order of [`FindError`].
 //!
-//! [`find_alone`] searches one core on the caller's thread, [`find_one`] by worker threads, under the same promise, and
-//! [`find_two`] searches a later core from what an earlier one says. [`find_why`] tells why a block is held. These are
-//! in `leak_search`, which also says what a leak, a root and a chain are. [`run_sized`] and [`run_why_sized`] do
-//! the same from readers to writers, [`run_holders_sized`] tells who holds the memory or what some blocks hold, and
-//! [`run_grow_sized`] what grew between two logs.
+//! The program makes a [`Request`] of the words of a command line by [`request`], and then one of four calls, which go from
+//! readers that are said to have sizes to writers:
+//!
+//! - [`run_sized`] searches one core by [`find_one`], or a later core by [`find_two`] from what an earlier one says;
+//! - [`run_why_sized`] tells by [`find_why`] why a block is held;
+//! - [`run_holders_sized`] tells by [`find_holders`] who holds the memory, or by [`find_held`] what some blocks hold;
+//! - [`run_grow_sized`] tells by [`find_growth`] what grew between two logs.
+//!
+//! The searches are in `leak_search`, which also says what a leak, a root and a chain are, in `leak_holding` and in `leak_growth`.
+//!
+//! [`run`] and [`run_why`] are for libraries and tests: they call [`run_sized`] and [`run_why_sized`] without sizes. So are
+//! [`find_alone`], which searches one core on the caller's thread under the promise of [`find_one`], and [`read_all`].
 //!
 //! `specs/Run.antt`, `Why.antt`, `Holders.antt` and `Grow.antt` say what a run does to its readers and writers, over
 //! what is known of reading one and of writing to one (`specs/Streams.antt`). The runs promise it by each call of a reader
-//! and of a writer (`leak_streams`), so also of a file, of whose bytes no contract knows. [`run`] and [`run_why`], which have
-//! no sizes, promise it by the bytes that a reader has left and a writer holds; [`runs_tell`] is the law that each promise by
-//! calls is one by bytes too.
+//! and of a writer (`leak_streams`), so also of a file, of whose bytes no contract knows. [`run`] and [`run_why`] promise it by
+//! the bytes that a reader has left and a writer holds; [`runs_tell`] is the law that each promise by calls is one by bytes
+//! too.
 //!
 //! An allocation of 32 bytes, and a core in which no word leads to it:
 //!

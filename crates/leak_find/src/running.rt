@@ -170,7 +170,8 @@ pub(crate) fn write_both<W: WriteCalls, V: WriteCalls>(
 ///
 /// All inputs are read in order before the search is made, and report and warnings are made before anything is written.
 /// After a refusal the readers are where the reads left them, and the second writer was not written to. If the second
-/// writer fails, it has a first part of the warnings, and the status is the same.
+/// writer fails, it has a first part of the warnings, and the status is the same. It is for libraries and tests: the program
+/// goes by [`run_sized`], which this calls without sizes.
 pub fn run<T: Threads + Sync, R: Read, W: Write, V: Write>(
     rt: &T,
     alloc: Global,

@@ -1,9 +1,10 @@
 //! An input of a search, from its bytes to its report.
 //!
 //! An input is a core and the log of its allocations. [`read_input`] reads it or gives its first fault, and [`read_two`]
-//! reads two of one process. [`find_roots`] finds root words, [`ground_of`] makes what marking asks besides, and
-//! [`mark_input`] marks blocks by workers. [`oddities_of_one`] and [`oddities_of_two`] tell what is odd about inputs,
-//! [`head_of`] the numbers of a report's first lines, and [`report_of`] makes the report of what is marked.
+//! reads two of one process. [`oddities_of_one`] and [`oddities_of_two`] tell what is odd about inputs. [`ground_of`] finds the
+//! root words, by [`find_roots`], and makes the lookup, and [`mark_input`] marks blocks over them by workers. [`head_of`] tells
+//! the numbers of a report's first lines, and [`report_of`] makes the report of what is marked. Who searches on the caller's
+//! thread calls [`find_roots`] alone, and marks by itself.
 //!
 //! `specs/Inputs.antt` says what an accepted input is, and which of its faults comes first.
 //!

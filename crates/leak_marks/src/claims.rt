@@ -5,7 +5,8 @@ ghost use Rattle.leak_marks.specs.Claims.{IsClaimed, attempted};
 use std::alloc::{AllocError, Global};
 use std::marker::Model;
 
-/// One list of claimed blocks for each worker. A block is on one list at most, once.
+/// One list of claimed blocks for each worker. A block is on one list at most, once. It is for libraries and tests: the
+/// program claims by [`Marks`](crate::Marks).
 #[derive(Drop)]
 pub struct Claims {
     lists: Vec<Vec<u32>>,

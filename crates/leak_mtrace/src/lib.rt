@@ -1,10 +1,12 @@
 //! Reads an allocation log as glibc's mtrace writes it.
 //!
-//! [`parse_line`] reads one [`Line`]. [`Log::read`] reads all lines of a log, or gives the number of the first that it
-//! refuses. A [`Reader`] gives them one after another, and keeps none. Only lines as glibc's `malloc/mtrace-impl.c` prints
-//! them are accepted: skipping a line could turn a block that was given back into a leak. Of the place of a call only its
-//! end is looked for, since the names of files and functions may hold any byte but a line feed; where it ends is our own
-//! rule.
+//! The program goes by a [`Reader`]: [`Reader::next_line`] gives the lines of a log one after another, each a [`Line`] that
+//! [`parse_line`] reads, or the number of the first that it refuses. It keeps none. [`Log::read`], which keeps all lines in a
+//! [`Log`], is for libraries and tests.
+//!
+//! Only lines as glibc's `malloc/mtrace-impl.c` prints them are accepted: skipping a line could turn a block that was given
+//! back into a leak. Of the place of a call only its end is looked for, since the names of files and functions may hold any
+//! byte but a line feed; where it ends is our own rule.
 //!
 //! The contracts don't say that there is enough memory, nor that a log is complete: a log that wasn't flushed, or to
 //! which two processes wrote, can lack lines and still be read.

@@ -9,7 +9,7 @@ use memchr::memchr_iter;
 use std::alloc::Global;
 use std::marker::Model;
 
-/// The lines of a log.
+/// The lines of a log. It is for libraries and tests: the program goes by a [`Reader`].
 #[derive(Debug, Drop)]
 pub struct Log {
     lines: Vec<Line>,

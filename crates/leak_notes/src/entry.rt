@@ -8,6 +8,12 @@ ghost use Rattle.leak_notes.specs.Entry.{name_size, desc_size, kind, padded, nam
 use byteorder::{ByteOrder, LittleEndian};
 use std::marker::Model;
 
+/// Where the size of the name is, in bytes from the entry's first (elf(5), `Elf64_Nhdr`).
+const N_NAMESZ: usize = 0;
+/// Where the size of the descriptor is (elf(5), `Elf64_Nhdr`).
+const N_DESCSZ: usize = 4;
+/// Where the type is (elf(5), `Elf64_Nhdr`).
+const N_TYPE: usize = 8;
 /// The size in bytes of an entry's three fields.
 const FIELDS_SIZE: usize = 12;
 
@@ -90,7 +96,7 @@ impl<'a> Entry<'a> {
         ensures value { result ≡ name_size self.now }
         ensures fits { result < 2 ^ 32 }
     {
-        u32_at(self.bytes, 0) as usize
+        u32_at(self.bytes, N_NAMESZ) as usize
     }
 
     /// The size of its descriptor in bytes, `descsz`.
@@ -99,7 +105,7 @@ impl<'a> Entry<'a> {
         ensures value { result ≡ desc_size self.now }
         ensures fits { result < 2 ^ 32 }
     {
-        u32_at(self.bytes, 4) as usize
+        u32_at(self.bytes, N_DESCSZ) as usize
     }
 
     /// Where its descriptor begins, counted from its first byte.
@@ -123,7 +129,7 @@ impl<'a> Entry<'a> {
         requires { 12 ≤ length self.now.bytes }
         ensures { result ≡ kind self.now }
     {
-        u32_at(self.bytes, 8)
+        u32_at(self.bytes, N_TYPE)
     }
 
     /// Whether it has the name of Linux's first register sets.

@@ -94,7 +94,7 @@ impl Threads {
         Ok(threads)
     }
 
-    /// How many threads there are.
+    /// How many threads there are. It is for libraries and tests.
     pub fn count(&self) -> usize
         ensures { result ≡ self.now.threads }
     {

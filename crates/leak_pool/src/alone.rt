@@ -15,7 +15,8 @@ use leak_roots::Roots;
 use leak_scan::Targets;
 use std::alloc::{AllocError, Global};
 
-/// Marks what the roots lead to, on the caller's thread. There is one list of claims.
+/// Marks what the roots lead to, on the caller's thread. There is one list of claims. It is for libraries and tests: the
+/// program marks by [`mark_by_edges`](crate::mark_by_edges).
 pub fn mark_alone<W: Words, L: Lookup>(
     alloc: Global,
     words: &W,

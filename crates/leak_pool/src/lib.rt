@@ -1,8 +1,13 @@
 //! Marks the blocks that chains of words reach from the roots, by worker threads or alone.
 //!
-//! [`mark_alone`] marks on the caller's thread. [`mark`] shares the work out among the workers of a [`Plan`], and
-//! [`mark_from`] does so from blocks that are marked already ([`Start`]). Each gives a [`Marked`]: for each block
-//! whether it is marked, the blocks that each worker claimed, and the number of rounds.
+//! The program marks a core by [`mark_by_edges`]. The workers of a [`Plan`] list first what each block leads to, and then mark
+//! over these lists; if those pass an [`EdgeRoom`], they mark over the words. In the later of two cores it marks by [`mark_from`],
+//! over the words, from blocks that are marked already ([`Start`]). Each gives a [`Marked`]: for each block whether it is
+//! marked, the blocks that each worker claimed, and the number of rounds. To tell who holds the memory, it lists what each
+//! block leads to by [`list_edges`], as [`Listed`], in whatever room that takes, and what the roots lead to by [`first_blocks`].
+//!
+//! [`mark`], which marks one core over its words, and [`mark_alone`], which does so on the caller's thread, are for libraries
+//! and tests. So are gates ([`Gate`]) that hold a worker: the program's is [`Open`].
 //!
 //! Marking goes by rounds. After each item a worker empties its stack, on which it puts the blocks that it claims while
 //! the stack has fewer entries than the plan says; the others are left for the next round.

@@ -3,8 +3,8 @@
 ghost use Rattle.std.specs.Prelude.{◌≡◌, false};
 
 use crate::answer::Answer;
+use crate::running::{is_wanting, options};
 use crate::samples::core_of;
-use crate::whole::{is_wanting, options};
 use leak_find::{
     Files, FindError, GrowOptions, Plan, Question, Reading, Side, Silent, Skip, WhyError,
     find_growth, find_held, find_holders, run_grow_sized, run_holders_sized,

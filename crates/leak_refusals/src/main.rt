@@ -6,11 +6,13 @@
 //! the inputs was refused.
 #![tactic(auto)]
 
+mod alone;
 mod answer;
 mod asking;
 mod marking;
 mod reading;
 mod reporting;
+mod running;
 mod samples;
 mod searching;
 mod whole;
@@ -151,12 +153,12 @@ fn answer_of<R: AllocGlobal + Threads + Sync>(rt: &R, name: &str) -> Option<Answ
         "heads" => marking::headed(alloc),
         "Totals::of" => reporting::totals(alloc),
         "text" => reporting::report(alloc),
-        "find_alone" => whole::alone(alloc),
-        "find_alone_vectors" => whole::vectors(alloc),
-        "find_alone_unfreed" => whole::unfreed(alloc),
-        "find_alone_checked" => whole::checked(alloc),
-        "find_alone_unlinked" => whole::unlinked(alloc),
-        "find_alone_unslacked" => whole::unslacked(alloc),
+        "find_alone" => alone::alone(alloc),
+        "find_alone_vectors" => alone::vectors(alloc),
+        "find_alone_unfreed" => alone::unfreed(alloc),
+        "find_alone_checked" => alone::checked(alloc),
+        "find_alone_unlinked" => alone::unlinked(alloc),
+        "find_alone_unslacked" => alone::unslacked(alloc),
         "find_one" => whole::by_workers(rt),
         "find_two" => whole::two_cores(rt),
         "find_why" => whole::held_by(alloc),
@@ -166,11 +168,11 @@ fn answer_of<R: AllocGlobal + Threads + Sync>(rt: &R, name: &str) -> Option<Answ
         "find_held_of" => asking::held_of(rt),
         "find_growth" => asking::growth(alloc),
         "read_all" => whole::input(alloc),
-        "run" => whole::runs(rt),
-        "run_sized" => whole::runs_sized(rt),
-        "run_two" => whole::runs_two(rt),
-        "run_why" => whole::runs_why(alloc),
-        "run_why_sized" => whole::runs_why_sized(alloc),
+        "run" => running::runs(rt),
+        "run_sized" => running::runs_sized(rt),
+        "run_two" => running::runs_two(rt),
+        "run_why" => running::runs_why(alloc),
+        "run_why_sized" => running::runs_why_sized(alloc),
         "run_holders_sized" => asking::runs_holders(rt),
         "run_held_sized" => asking::runs_held(rt),
         "run_grow_sized" => asking::runs_grow(alloc),

@@ -2,8 +2,9 @@
 //!
 //! [`Roots::find`] takes the register words of all threads, and the words in writable segments, or in all, that share
 //! no byte with a live block: globals, stacks, and what the allocator keeps between blocks. [`Roots`] holds memory as
-//! ranges of addresses, so it is small. [`Roots::cut`] makes [`Piece`]s of it, units of work of bounded size. [`Roots::pieces`]
-//! gives each of them by its number instead, and lists none.
+//! ranges of addresses, so it is small. [`Roots::pieces`] makes [`Piece`]s of it, units of work of bounded size: it gives each by
+//! its number, and lists none. [`Roots::cut`], which lists them all, and [`Skip::spans`], which takes the spans of freed memory
+//! from the lines of a log, are for libraries and tests.
 //!
 //! Registers and writable memory are roots after bdwgc, all readable memory after LeakSanitizer. Own rule: freed memory and
 //! dead stack are roots too, so that no stack limit is read from a register. If the spans of small allocations are given, the

@@ -157,7 +157,8 @@ impl Roots {
         self.skips_links
     }
 
-    /// Cuts the root words into pieces of at most `words` words.
+    /// Cuts the root words into pieces of at most `words` words. It is for libraries and tests: the program goes by
+    /// [`Roots::pieces`].
     pub fn cut(&self, alloc: Global, words: usize) -> Result<Vec<Piece>, CutError>
         ensures zero { (result ≡ Err CutError.Zero) ↔ (words ≡ 0) }
         ensures ok { IfOk result (λ pieces. AreCut self.now words pieces.items) }

@@ -35,7 +35,8 @@ impl Skip {
         }
     }
 
-    /// The spans of a log whose freed places are left out.
+    /// The spans of a log whose freed places are left out. It is for libraries and tests: the program has them from
+    /// [`leak_blocks::replay_with_spans`].
     pub fn spans(self, alloc: Global, log: &Log) -> Result<SmallSpans, AllocError>
         ensures { IfOk result (λ spans. CoverSame spans (spans_of self log.now.lines)) }
     {

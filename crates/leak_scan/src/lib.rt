@@ -5,8 +5,12 @@
 //! or those on listed [`Pages`]. What it reads is any `leak_elf::Words`, what it asks any `leak_index::Lookup`. A range of
 //! root words can be scanned without malloc's links to free chunks, as `leak_chunks` tells them.
 //!
-//! It takes words in runs where the memory has them, and steps from word to word otherwise, so that a block of 2^60
+//! It takes words in runs if the memory has them, and steps from word to word otherwise, so that a block of 2^60
 //! bytes of which a page is dumped costs no more than that page. A word that leads nowhere yields nothing.
+//!
+//! Who lists what all blocks lead to takes the bytes of one block after another from [`BlockRuns`], and what their words lead
+//! to from [`list_run`]. [`heads`] tells which of the leaked blocks no other leads to. [`Pages::numbers`] and [`Pages::has`] are for
+//! libraries and tests.
 //!
 //! The words of a block are the aligned ones that lie completely inside it, as bdwgc scans an object. Pages of 4096
 //! addresses are those of x86-64. The contracts don't say how much is read.

@@ -32,14 +32,14 @@ impl Pages {
         None
     }
 
-    /// The numbers, ascending.
+    /// The numbers, ascending. It is for libraries and tests.
     pub fn numbers(&self) -> &[u64]
         ensures { result.now ≡ self.now }
     {
         self.numbers.as_slice()
     }
 
-    /// Whether the page with the number is listed.
+    /// Whether the page with the number is listed. It is for libraries and tests.
     pub fn has(&self, page: u64) -> bool
         ensures { result ≡ is_listed self.now page }
     {

@@ -17,7 +17,8 @@ use std::alloc::Global;
 /// Searches a core and its log on the caller's thread, with one list of claims.
 ///
 /// `check` says whether the report lists the misfits, and `other_heap` that the heap is another than glibc's. It gives what
-/// [`find_one`](crate::find_one) gives with one worker, and refuses what that refuses, in the same order.
+/// [`find_one`](crate::find_one) gives with one worker, and refuses what that refuses, in the same order. It is for libraries
+/// and tests.
 pub fn find_alone(
     alloc: Global,
     core: &[u8],

@@ -5,9 +5,10 @@
 //! other marked block is claimed by exactly one worker, and no block that can be reached in the second core is reported.
 //! If an input is not accepted, the answer is the first refusal by the order of [`FindError`].
 //!
-//! [`find_alone`] searches one core on the caller's thread, [`find_one`] by worker threads, under the same promise, and
-//! [`find_two`] searches a later core from what an earlier one says. [`find_why`] tells why a block is held.
-//! `specs/Search.antt` says what a leak, a root and a chain are and, for two cores, `specs/SearchTwo.antt`.
+//! [`find_one`] searches one core by worker threads, and [`find_two`] a later core from what an earlier one says. [`find_why`] tells
+//! why a block is held. The program goes by these three. [`find_alone`], which searches one core on the caller's thread, under
+//! the promise of [`find_one`], is for libraries and tests. `specs/Search.antt` says what a leak, a root and a chain are
+//! and, for two cores, `specs/SearchTwo.antt`.
 //!
 //! An allocation of 32 bytes, and a core in which no word leads to it:
 //!

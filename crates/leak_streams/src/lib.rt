@@ -1,7 +1,8 @@
 //! Streams: an input is read to its end, and a text is written out.
 //!
-//! [`read_all`] takes all bytes that a reader has, up to a limit, or says why it does not; [`read_sized`] does the same if the
-//! reader's size is told. [`write`] hands a text to a writer until all of it is taken. Of a reader or a writer they
+//! [`read_sized`] takes all bytes that a reader has, up to a limit, or says why it does not; the reader's size is told, or 0 if
+//! it is unknown. [`write`] hands a text to a writer until all of it is taken. The program goes by these two. [`read_all`], which is
+//! [`read_sized`] without a size, is for libraries and tests. Of a reader or a writer they
 //! know nothing but its single calls, [`ReadCalls`] and [`WriteCalls`], so their contracts name each call that was made, its answer
 //! and the device before and after it: read by read in `specs/Reads.antt`, write by write in `specs/Writes.antt`. Everything that is
 //! `Read` has such reads, and everything that is `Write` such writes.

@@ -42,7 +42,7 @@ impl<R: Read> ReadCalls for R {
 
 /// Reads all bytes that the reader has, at most `limit` bytes.
 ///
-/// What was read before a refusal is dropped.
+/// What was read before a refusal is dropped. It is for libraries and tests: the program goes by [`read_sized`].
 pub fn read_all<R: ReadCalls>(
     alloc: Global,
     reader: &mut R,

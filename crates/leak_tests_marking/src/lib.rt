@@ -39,6 +39,14 @@ mod chunk_links;
 #[cfg(test)]
 mod roots;
 
+// Pieces of the root words.
+#[cfg(test)]
+mod roots_pieces;
+
+// Root words outside freed memory.
+#[cfg(test)]
+mod roots_freed;
+
 // What malloc gives blocks past their size, and root words without that.
 #[cfg(test)]
 mod slack;

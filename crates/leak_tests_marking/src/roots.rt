@@ -1,11 +1,11 @@
 //! Root words.
 
-use crate::comparisons::{same, same_in};
+use crate::comparisons::same;
 use leak_blocks::{Live, SmallSpans, replay};
 use leak_elf::{Image, core_k};
 use leak_mtrace::Log;
 use leak_notes::Threads;
-use leak_roots::{CutError, Piece, Roots, Skip};
+use leak_roots::{Piece, Roots, Skip};
 use std::alloc::Global;
 use std::test::Fail;
 
@@ -26,7 +26,7 @@ fn roots(alloc: Global, core: &[u8], log: &[u8]) -> Result<Roots, Fail> {
 }
 
 /// The root words of the sample core outside freed memory.
-fn unfreed_roots_of(alloc: Global, log: &str) -> Result<Roots, Fail> {
+pub(crate) fn unfreed_roots_of(alloc: Global, log: &str) -> Result<Roots, Fail> {
     let core = core_k(alloc, &[])?;
     let skip = Skip {
         freed: true,
@@ -36,7 +36,7 @@ fn unfreed_roots_of(alloc: Global, log: &str) -> Result<Roots, Fail> {
 }
 
 /// The root words of the sample core.
-fn roots_of(alloc: Global, log: &[u8]) -> Result<Roots, Fail> {
+pub(crate) fn roots_of(alloc: Global, log: &[u8]) -> Result<Roots, Fail> {
     let core = core_k(alloc, &[])?;
     roots(alloc, core.as_slice(), log)
 }
@@ -196,161 +196,6 @@ fn a_segment_that_is_not_writable_has_roots_where_it_is_not_left_out(
             roots.memory(),
             [(0x10000, 0x10100), (0x10120, 0x11000)].as_slice(),
         );
-    }
-    Ok(())
-}
-
-#[test]
-fn pieces_have_the_words_that_are_asked(rt: HostRuntime) -> Result<(), Fail> {
-    let without = roots_of(rt.alloc(), b"+ 0x10100 0x20\n")?;
-    same(&rt, without.cut(rt.alloc(), 0).err(), Some(CutError::Zero));
-    let hundreds = without.cut(rt.alloc(), 100)?;
-    let expected = [
-        Piece::Registers(0, 27),
-        Piece::Memory(0x10000, 0x10100),
-        Piece::Memory(0x10120, 0x10440),
-        Piece::Memory(0x10440, 0x10760),
-        Piece::Memory(0x10760, 0x10a80),
-        Piece::Memory(0x10a80, 0x10da0),
-        Piece::Memory(0x10da0, 0x11000),
-    ];
-    same(&rt, hundreds.as_slice(), expected.as_slice());
-    same(&rt, without.cut(rt.alloc(), 1)?.len(), 535);
-    let most = without.cut(rt.alloc(), usize::MAX)?;
-    same(&rt, most.len(), 3);
-    Ok(())
-}
-
-#[test]
-fn pieces_are_told_by_their_numbers(rt: HostRuntime) -> Result<(), Fail> {
-    let log = b"+ 0x10010 0x10\n+ 0x10060 0x10\n+ 0x10080 0xf80\n";
-    let all = roots_of(rt.alloc(), log)?;
-    same(&rt, all.pieces(rt.alloc(), 0).err(), Some(CutError::Zero));
-    let pieces = all.pieces(rt.alloc(), 5)?;
-    let last = [
-        Piece::Registers(25, 27),
-        Piece::Memory(0x10000, 0x10010),
-        Piece::Memory(0x10020, 0x10048),
-        Piece::Memory(0x10048, 0x10060),
-        Piece::Memory(0x10070, 0x10080),
-    ];
-    same(&rt, pieces.len(), 10);
-    for place in 5..pieces.len() {
-        same(&rt, last.get(place - 5).copied(), Some(pieces.at(place)));
-    }
-    Ok(())
-}
-
-#[test]
-fn pieces_by_number_are_those_of_the_list(rt: HostRuntime) -> Result<(), Fail> {
-    let logs = [
-        // no range, one of 512 words, and short ranges alone
-        "+ 0x8000 0x10000\n",
-        "",
-        "+ 0x10010 0x10\n+ 0x10030 0x10\n+ 0x10050 0xfb0\n",
-        // a range of 8 words before short ones, between them, and after them
-        "+ 0x10040 0x10\n+ 0x10060 0x10\n+ 0x10080 0xf80\n",
-        "+ 0x10010 0x10\n+ 0x10060 0x10\n+ 0x10080 0xf80\n",
-        "+ 0x10010 0x10\n+ 0x10030 0x10\n+ 0x10080 0xf80\n",
-        // two such ranges side by side, and with short ranges between them
-        "+ 0x10040 0x10\n+ 0x10090 0xf70\n",
-        "+ 0x10040 0x10\n+ 0x10060 0x10\n+ 0x10080 0x10\n+ 0x100d0 0x10\n+ 0x100f0 0xf10\n",
-    ];
-    for log in logs {
-        let all = roots_of(rt.alloc(), log.as_bytes())?;
-        for words in [1, 2, 3, 5, 7, 8, 26, 27, 100, usize::MAX] {
-            let list = all.cut(rt.alloc(), words)?;
-            let pieces = all.pieces(rt.alloc(), words)?;
-            same_in(&rt, &(log, words), pieces.len(), list.len());
-            for place in 0..pieces.len() {
-                let piece = list.get(place).copied();
-                same_in(&rt, &(log, words, place), piece, Some(pieces.at(place)));
-            }
-        }
-    }
-    Ok(())
-}
-
-/// A log, how many places of the sample core are freed, and the ranges of the other places.
-type Case<'a> = (&'a str, u64, &'a [(u64, u64)]);
-
-#[test]
-fn freed_places_are_no_roots(rt: HostRuntime) -> Result<(), Fail> {
-    let cases: [Case; 5] = [
-        ("", 0, &[(0x10000, 0x11000)]),
-        (
-            "+ 0x10100 0x20\n- 0x10100\n",
-            4,
-            &[(0x10000, 0x10100), (0x10120, 0x11000)],
-        ),
-        // a place that is half outside the span stays
-        (
-            "+ 0x10100 0xc\n- 0x10100\n",
-            1,
-            &[(0x10000, 0x10100), (0x10108, 0x11000)],
-        ),
-        // two spans hold the bytes of one place
-        (
-            "+ 0x10100 0x4\n+ 0x10104 0x4\n- 0x10100\n- 0x10104\n",
-            1,
-            &[(0x10000, 0x10100), (0x10108, 0x11000)],
-        ),
-        // what lies in a live block is no place, and is not counted
-        (
-            "+ 0x10100 0x20\n+ 0x10110 0x10\n",
-            2,
-            &[(0x10000, 0x10100), (0x10120, 0x11000)],
-        ),
-    ];
-    for (log, freed, memory) in cases {
-        let roots = unfreed_roots_of(rt.alloc(), log)?;
-        same_in(&rt, &log, roots.freed(), freed);
-        same_in(&rt, &log, roots.memory(), memory);
-    }
-    Ok(())
-}
-
-#[test]
-fn freed_places_of_large_and_small_spans(rt: HostRuntime) -> Result<(), Fail> {
-    let cases: [Case; 4] = [
-        // spans may pass the ends of the segment
-        (
-            "+ 0xff00 0x108\n- 0xff00\n+ 0x10ff4 0x100\n- 0x10ff4\n",
-            2,
-            &[(0x10008, 0x10ff8)],
-        ),
-        ("+ 0x10100 0x1ffff\n- 0x10100\n", 480, &[(0x10000, 0x10100)]),
-        ("+ 0x10100 0x20000\n- 0x10100\n", 0, &[(0x10000, 0x11000)]),
-        (
-            "+ 0x10002 0x4\n- 0x10002\n+ 0x10010 0x7\n- 0x10010\n",
-            0,
-            &[(0x10000, 0x10010), (0x10010, 0x11000)],
-        ),
-    ];
-    for (log, freed, memory) in cases {
-        let roots = unfreed_roots_of(rt.alloc(), log)?;
-        same_in(&rt, &log, roots.freed(), freed);
-        same_in(&rt, &log, roots.memory(), memory);
-    }
-    Ok(())
-}
-
-#[test]
-fn without_spans_nothing_is_freed(rt: HostRuntime) -> Result<(), Fail> {
-    let all = roots_of(rt.alloc(), b"+ 0x10100 0x20\n- 0x10100\n")?;
-    same(&rt, all.freed(), 0);
-    same(&rt, all.memory(), [(0x10000, 0x11000)].as_slice());
-    Ok(())
-}
-
-#[test]
-fn each_reason_has_its_text(rt: HostRuntime) -> Result<(), Fail> {
-    let texts = [
-        (CutError::Zero, "a piece needs a word"),
-        (CutError::NoMemory, "out of memory"),
-    ];
-    for (error, text) in texts {
-        same(&rt, format!(in rt.alloc(); "{error}")?.as_str(), text);
     }
     Ok(())
 }

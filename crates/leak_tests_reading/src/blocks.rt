@@ -1,9 +1,7 @@
 //! Live blocks of a log.
 
 use crate::comparisons::same_in;
-use leak_blocks::{
-    Block, Live, Replayed, SmallSpans, Span, replay, replay_bytes, replay_with_spans, small_spans,
-};
+use leak_blocks::{Block, Live, Replayed, replay, replay_bytes, replay_with_spans};
 use leak_mtrace::{Log, LogError};
 use std::alloc::Global;
 use std::fmt::Write;
@@ -11,10 +9,10 @@ use std::process::Abort;
 use std::test::Fail;
 
 /// A log, its live blocks as start, size and line, and how many of its lines are unknown, displaced and torn.
-type Case = (&'static str, &'static [(u64, u64, usize)], Counts);
+pub(crate) type Case = (&'static str, &'static [(u64, u64, usize)], Counts);
 
 /// How many lines are unknown, displaced and torn.
-type Counts = (u64, u64, u64);
+pub(crate) type Counts = (u64, u64, u64);
 
 fn counts_of(live: &Live, torn: u64) -> Counts {
     (live.unknown(), live.displaced(), torn)
@@ -49,7 +47,7 @@ fn comes_to(rt: &impl Abort, alloc: Global, case: &Case) -> Result<(), Fail> {
 }
 
 /// Ends the test if one of the logs comes to something else.
-fn replays(rt: &impl Abort, alloc: Global, cases: &[Case]) -> Result<(), Fail> {
+pub(crate) fn replays(rt: &impl Abort, alloc: Global, cases: &[Case]) -> Result<(), Fail> {
     for case in cases {
         comes_to(rt, alloc, case)?;
     }
@@ -178,7 +176,13 @@ fn sizes_and_callers(rt: HostRuntime) -> Result<(), Fail> {
 }
 
 /// Appends `count` allocations of the size, the first at `from`, each the step after the one before it.
-fn allocate(text: &mut String, from: u64, step: u64, count: u64, size: u64) -> Result<(), Fail> {
+pub(crate) fn allocate(
+    text: &mut String,
+    from: u64,
+    step: u64,
+    count: u64,
+    size: u64,
+) -> Result<(), Fail> {
     for i in 0..count {
         let addr = from.wrapping_add(step.wrapping_mul(i));
         write!(text, "+ {addr:#x} {size:#x}\n")?;
@@ -187,7 +191,7 @@ fn allocate(text: &mut String, from: u64, step: u64, count: u64, size: u64) -> R
 }
 
 /// Appends `count` give-backs, the first at `from`, each the step after the one before it.
-fn give_back(text: &mut String, from: u64, step: u64, count: u64) -> Result<(), Fail> {
+pub(crate) fn give_back(text: &mut String, from: u64, step: u64, count: u64) -> Result<(), Fail> {
     for i in 0..count {
         let addr = from.wrapping_add(step.wrapping_mul(i));
         write!(text, "- {addr:#x}\n")?;
@@ -196,7 +200,7 @@ fn give_back(text: &mut String, from: u64, step: u64, count: u64) -> Result<(), 
 }
 
 /// Ends the test if the log has another number of live blocks, or other counts, by its bytes or by its lines.
-fn has_counts(
+pub(crate) fn has_counts(
     rt: &impl Abort,
     alloc: Global,
     text: &str,
@@ -237,190 +241,4 @@ fn nodes_made_over_and_over(rt: HostRuntime) -> Result<(), Fail> {
     let mut text = String::new(rt.alloc());
     over_and_over(&mut text)?;
     has_counts(&rt, rt.alloc(), text.as_str(), 600 + 16 * 7, (2, 1, 0))
-}
-
-/// Ends the test if these are other ranges.
-fn are_ranges(rt: &impl Abort, text: &str, ranges: &[Span], wanted: &[(u64, u64)]) {
-    same_in(rt, text, ranges.len(), wanted.len());
-    for (range, row) in ranges.iter().zip(wanted) {
-        same_in(rt, text, (range.first, range.last), *row);
-    }
-}
-
-/// A log, and the ranges of its small allocations, as the first and the last address of each.
-type Ranges = (&'static str, &'static [(u64, u64)]);
-
-/// Ends the test if the small allocations have other ranges, by the lines of the log.
-fn have_ranges_by_lines(rt: &impl Abort, alloc: Global, case: &Ranges) -> Result<(), Fail> {
-    let log = Log::read(alloc, case.0.as_bytes())?;
-    let spans = small_spans(alloc, &log)?;
-    are_ranges(rt, case.0, spans.ranges(), case.1);
-    Ok(())
-}
-
-/// Ends the test if the small allocations have other ranges, by the bytes of the log.
-fn have_ranges_by_bytes(rt: &impl Abort, alloc: Global, case: &Ranges) -> Result<(), Fail> {
-    let (replayed, spans) = replay_with_spans(alloc, case.0.as_bytes())?;
-    are_ranges(rt, case.0, spans.ranges(), case.1);
-    same_in(rt, case.0, replayed.whole_len, case.0.len());
-    Ok(())
-}
-
-/// Ends the test if the small allocations of a log have other ranges, by its lines or by its bytes.
-fn have_ranges(rt: &impl Abort, alloc: Global, cases: &[Ranges]) -> Result<(), Fail> {
-    for case in cases {
-        have_ranges_by_lines(rt, alloc, case)?;
-        have_ranges_by_bytes(rt, alloc, case)?;
-    }
-    Ok(())
-}
-
-static SMALL: [Ranges; 8] = [
-    ("+ 0x100 0x20\n- 0x100\n", &[(0x100, 0x11f)]),
-    // live blocks and displaced ones are taken as well
-    ("+ 0x100 0x20\n+ 0x110 0x8\n", &[(0x100, 0x11f)]),
-    // those that touch are one range, whatever their order
-    ("+ 0x120 0x10\n+ 0x100 0x20\n", &[(0x100, 0x12f)]),
-    (
-        "+ 0x121 0x10\n+ 0x100 0x20\n",
-        &[(0x100, 0x11f), (0x121, 0x130)],
-    ),
-    // an allocation of no bytes has its first address
-    ("+ 0x100 0\n+ 0x102 0\n", &[(0x100, 0x100), (0x102, 0x102)]),
-    ("+ 0x1000 0x1ffff\n", &[(0x1000, 0x20ffe)]),
-    // a move allocates, and a failed one does not
-    (
-        "+ 0x100 0x8\n< 0x100\n> 0x200 0x8\n",
-        &[(0x100, 0x107), (0x200, 0x207)],
-    ),
-    (
-        "+ 0xffffffffffffffff 0\n+ 0xfffffffffffffff0 0xe\n",
-        &[
-            (0xffff_ffff_ffff_fff0, 0xffff_ffff_ffff_fffd),
-            (0xffff_ffff_ffff_ffff, 0xffff_ffff_ffff_ffff),
-        ],
-    ),
-];
-
-#[test]
-fn small_allocations_as_ranges(rt: HostRuntime) -> Result<(), Fail> {
-    have_ranges(&rt, rt.alloc(), &SMALL)
-}
-
-static NONE_SMALL: [Ranges; 4] = [
-    ("", &[]),
-    ("+ 0x1000 0x20000\n", &[]),
-    ("! 0x100 0x20\n- 0x300\n", &[]),
-    ("+ (nil) 0x20\n", &[]),
-];
-
-#[test]
-fn logs_without_a_small_allocation(rt: HostRuntime) -> Result<(), Fail> {
-    assert!(rt; SmallSpans::none(rt.alloc()).ranges().is_empty());
-    have_ranges(&rt, rt.alloc(), &NONE_SMALL)
-}
-
-/// Runs of blocks at ascending addresses.
-static ASCENDING: [Case; 5] = [
-    // blocks in the middle of the run, its last one and others are given back
-    (
-        "+ 0x100 0x10\n+ 0x110 0x10\n+ 0x120 0x10\n- 0x110\n",
-        &[(0x100, 16, 1), (0x120, 16, 3)],
-        (0, 0, 0),
-    ),
-    (
-        "+ 0x100 0x10\n+ 0x110 0x10\n- 0x110\n+ 0x110 0x40\n- 0x100\n",
-        &[(0x110, 64, 4)],
-        (0, 0, 0),
-    ),
-    (
-        "+ 0x100 0x10\n+ 0x110 0x10\n- 0x118\n- 0x90\n- 0x300\n",
-        &[(0x100, 16, 1), (0x110, 16, 2)],
-        (3, 0, 0),
-    ),
-    // a run that grows up to the block above it, and into that
-    (
-        "+ 0x1000 0x10\n+ 0x100 0x10\n+ 0x110 0x10\n+ 0x120 0xee0\n",
-        &[
-            (0x100, 16, 2),
-            (0x110, 16, 3),
-            (0x120, 0xee0, 4),
-            (0x1000, 16, 1),
-        ],
-        (0, 0, 0),
-    ),
-    (
-        "+ 0x1000 0x10\n+ 0x100 0x10\n+ 0x110 0x10\n+ 0x120 0xee1\n",
-        &[(0x100, 16, 2), (0x110, 16, 3), (0x120, 0xee1, 4)],
-        (0, 1, 0),
-    ),
-];
-
-#[test]
-fn allocations_at_ascending_addresses(rt: HostRuntime) -> Result<(), Fail> {
-    replays(&rt, rt.alloc(), &ASCENDING)
-}
-
-/// Allocations over blocks of a run and beside one.
-static BESIDE_A_RUN: [Case; 4] = [
-    // all are live, and the first two lie the other way round
-    (
-        "+ 0x200 0x10\n+ 0x100 0x10\n+ 0x300 0x10\n+ 0x310 0x8\n",
-        &[
-            (0x100, 16, 2),
-            (0x200, 16, 1),
-            (0x300, 16, 3),
-            (0x310, 8, 4),
-        ],
-        (0, 0, 0),
-    ),
-    // an allocation over two blocks of the run
-    (
-        "+ 0x100 0x10\n+ 0x110 0x10\n+ 0x120 0x10\n+ 0x108 0x10\n- 0x100\n",
-        &[(0x108, 16, 4), (0x120, 16, 3)],
-        (1, 2, 0),
-    ),
-    // moves out of the run, above it, and back
-    (
-        "+ 0x100 0x10\n+ 0x110 0x10\n< 0x100\n> 0x200 0x20\n< 0x200\n> 0x120 0x40\n",
-        &[(0x110, 16, 2), (0x120, 64, 6)],
-        (0, 0, 0),
-    ),
-    // a run between two blocks
-    (
-        "+ 0x100 0x10\n+ 0x900 0x10\n+ 0x500 0x10\n+ 0x510 0x10\n",
-        &[
-            (0x100, 16, 1),
-            (0x500, 16, 3),
-            (0x510, 16, 4),
-            (0x900, 16, 2),
-        ],
-        (0, 0, 0),
-    ),
-];
-
-#[test]
-fn allocations_over_and_beside_a_run(rt: HostRuntime) -> Result<(), Fail> {
-    replays(&rt, rt.alloc(), &BESIDE_A_RUN)
-}
-
-/// A log of runs in twenty regions, from the highest down.
-fn in_regions(text: &mut String) -> Result<(), Fail> {
-    for turn in 1..=20u64 {
-        let base = (21 - turn) * 0x10000;
-        allocate(text, base + 0x40, 0x40, 30, 0x40)?;
-        give_back(text, base + 0xc0, 0xc0, 10)?;
-        // over the first two of the region, and a give-back of one of them
-        allocate(text, base + 0x60, 0, 1, 0x40)?;
-        give_back(text, base + 0x40, 0, 1)?;
-    }
-    Ok(())
-}
-
-/// Runs in twenty regions, from the highest down: each is put in the map when the next begins.
-#[test]
-fn runs_one_after_another(rt: HostRuntime) -> Result<(), Fail> {
-    let mut text = String::new(rt.alloc());
-    in_regions(&mut text)?;
-    has_counts(&rt, rt.alloc(), text.as_str(), 20 * 19, (20, 40, 0))
 }

@@ -35,6 +35,14 @@ mod mtrace;
 #[cfg(test)]
 mod blocks;
 
+// Live blocks of logs whose allocations ascend, in whole or in runs.
+#[cfg(test)]
+mod blocks_runs;
+
+// The addresses of small allocations, as ranges.
+#[cfg(test)]
+mod blocks_small;
+
 // Worked values of the sample core, by a law: they are computed as it is proved.
 mod elf_values;
 

@@ -1,7 +1,8 @@
 -- The map's numbers follow the run's; those that begin below it are then put before it.
 use Rattle.std.proofs.Common.{◌≡◌, ◌∙◌, sym, ap, subst, ℕ, List, length, slice_get, filter}
 use Rattle.leak_blocks.specs.Numbers.{IsNumbered}
-use Rattle.leak_blocks.proofs.RunLemmas.{is_until, is_from, all_back, number_of_allocation, IsParted, parted_at_first, parted_at_none, joined_parts}
+use Rattle.leak_blocks.proofs.RunLemmas.{all_back, number_of_allocation}
+use Rattle.leak_blocks.proofs.PartLemmas.{is_until, is_from, IsParted, parted_at_first, parted_at_none, joined_parts}
 use Rattle.leak_blocks.proofs.ongoing_replay.joined.Goals as goal
 use Rattle.leak_blocks.proofs.ongoing_replay.joined.Goals.{in-Some, in-None}
 

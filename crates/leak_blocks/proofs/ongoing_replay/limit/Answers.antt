@@ -1,6 +1,6 @@
 -- From the first block that begins at the address or above it.
 use Rattle.std.proofs.Common.{◌≡◌, filter, sym, ap, ◌∙◌}
-use Rattle.leak_blocks.proofs.RunLemmas.{is_from, none_from, first_from}
+use Rattle.leak_blocks.proofs.PartLemmas.{is_from, none_from, first_from}
 use Rattle.leak_blocks.proofs.ongoing_replay.limit.Goals as goal
 
 pub returns-in-Some : goal.returns-in-Some

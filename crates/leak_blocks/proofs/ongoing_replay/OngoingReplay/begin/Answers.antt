@@ -7,9 +7,10 @@ use Rattle.leak_blocks.specs.Live.{block_of}
 use Rattle.leak_blocks.specs.Numbers.{AreOf}
 use Rattle.leak_blocks.specs.Runs.{IsRunAfter, ArePlacedOf}
 use Rattle.leak_blocks.proofs.ChangeLemmas.{unmet}
-use Rattle.leak_blocks.proofs.RunLemmas.{own_limit}
+use Rattle.leak_blocks.proofs.PartLemmas.{own_limit}
 use Rattle.leak_blocks.proofs.StepLemmas.{displaced_fits}
-use Rattle.leak_blocks.proofs.OngoingReplayLemmas.{of_as, placed_as, placed_of, left_of, ended, after_displacing}
+use Rattle.leak_blocks.proofs.PlacedLemmas.{of_as, placed_as, placed_of}
+use Rattle.leak_blocks.proofs.OngoingReplayLemmas.{left_of, ended, after_displacing}
 use Rattle.leak_blocks.proofs.ongoing_replay.OngoingReplay.begin.Goals as goal
 use Rattle.leak_blocks.proofs.ongoing_replay.OngoingReplay.begin.Goals.{then-near, else-near}
 

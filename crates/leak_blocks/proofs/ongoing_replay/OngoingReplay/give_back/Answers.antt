@@ -6,7 +6,8 @@ use Rattle.leak_blocks.specs.Numbers.{IsAllocationAt}
 use Rattle.leak_blocks.specs.Runs.{IsRunAfter}
 use Rattle.leak_blocks.proofs.RunLemmas.{last_got}
 use Rattle.leak_blocks.proofs.StepLemmas.{unknown_fits}
-use Rattle.leak_blocks.proofs.OngoingReplayLemmas.{placed_as, number_within, given_above, after_popping, after_giving, after_missing}
+use Rattle.leak_blocks.proofs.PlacedLemmas.{placed_as, number_within}
+use Rattle.leak_blocks.proofs.OngoingReplayLemmas.{given_above, after_popping, after_giving, after_missing}
 use Rattle.leak_blocks.proofs.ongoing_replay.OngoingReplay.give_back.Goals as goal
 use Rattle.leak_blocks.proofs.ongoing_replay.OngoingReplay.give_back.Goals.{in-Some+else-block_at-line, in_default}
 

@@ -2,7 +2,7 @@
 use Rattle.std.proofs.Common.{sym, subst, List, ℕ}
 use Rattle.leak_blocks.specs.declared.block.Block.{Block}
 use Rattle.leak_blocks.specs.Runs.{MayBePlaced, ArePlacedOf}
-use Rattle.leak_blocks.proofs.OngoingReplayLemmas.{first_may_be_placed, run_after}
+use Rattle.leak_blocks.proofs.PlacedLemmas.{first_may_be_placed, run_after}
 use Rattle.leak_blocks.proofs.stage.Stage.begin.Goals as goal
 
 pub place-requires : goal.place-requires

@@ -1,0 +1,152 @@
+//! Whole runs, from readers to writers.
+
+ghost use Rattle.std.specs.Prelude.{◌≡◌};
+
+use crate::alone::{HELD, LOST};
+use crate::answer::Answer;
+use crate::samples::{MOVED, ONE_BLOCK, TWO_BLOCKS, core_of};
+use crate::whole::{ASKED, HOLDING, TWO, holding_core, later_core};
+use leak_find::{
+    FindError, Options, ReadFault, RunFault, Skip, run, run_sized, run_why, run_why_sized,
+};
+use leak_index::Reading;
+use leak_pool::Plan;
+use std::alloc::Global;
+use std::io::Cursor;
+use std::thread::Threads;
+
+/// Whether a run met want of memory, in reading or in the search.
+pub(crate) fn is_wanting(fault: &RunFault) -> bool {
+    match fault {
+        RunFault::Read(_, ReadFault::NoMemory) => true,
+        RunFault::Find(FindError::NoMemory) => true,
+        _ => false,
+    }
+}
+
+/// How the runs search, by the workers of the plan.
+pub(crate) fn options(two: bool, plan: Plan) -> Options
+    ensures { result.two ≡ two }
+{
+    Options {
+        two,
+        reading: Reading::interior(),
+        skip: Skip::usual(),
+        plan,
+        other_heap: false,
+        check: false,
+        strict: false,
+        core_limit: 8192,
+        log_limit: 8192,
+    }
+}
+
+/// What a run over the inputs answers, if it is to write the report and to end with the status. The writer has room for
+/// all of it, and after want of memory nothing is written. If sizes are given, the readers come with them.
+fn run_of<R: AllocGlobal + Threads + Sync>(
+    rt: &R,
+    inputs: Vec<Vec<u8>>,
+    sizes: Option<&[u64]>,
+    two: bool,
+    report: &str,
+    status: u8,
+) -> Option<Answer> {
+    let mut readers = Vec::new(rt.alloc());
+    for input in inputs {
+        readers.push(Cursor::new(input)).ok()?;
+    }
+    let options = options(two, Plan::new(3, 16, 4).ok()?);
+    if readers.len() != if two { 4 } else { 2 } {
+        return Some(Answer::Other);
+    }
+    let mut written: Vec<u8> = Vec::with_capacity(rt.alloc(), 1000).ok()?;
+    let mut warned: Vec<u8> = Vec::with_capacity(rt.alloc(), 1000).ok()?;
+    let (alloc, readers) = (rt.alloc(), readers.as_mut_slice());
+    let answer = match sizes {
+        Some(sizes) => run_sized(
+            rt,
+            alloc,
+            readers,
+            sizes,
+            &options,
+            &mut written,
+            &mut warned,
+        ),
+        None => run(rt, alloc, readers, &options, &mut written, &mut warned),
+    };
+    match answer {
+        Ok(given) => Some(Answer::of(given == status && written.as_slice() == report.as_bytes())),
+        Err(fault) => Some(Answer::of_refusal(
+            is_wanting(&fault) && written.is_empty() && warned.is_empty(),
+        )),
+    }
+}
+
+/// `run` over one lost block, and over one that is held.
+pub(crate) fn runs<R: AllocGlobal + Threads + Sync>(rt: &R) -> Option<Answer> {
+    lost_and_held(rt, None)
+}
+
+/// `run_sized` over the same, with the sizes of the core and the log.
+pub(crate) fn runs_sized<R: AllocGlobal + Threads + Sync>(rt: &R) -> Option<Answer> {
+    lost_and_held(rt, Some(&[8192, ONE_BLOCK.len() as u64]))
+}
+
+/// A run over one lost block, and over one that is held.
+fn lost_and_held<R: AllocGlobal + Threads + Sync>(rt: &R, sizes: Option<&[u64]>) -> Option<Answer> {
+    let alloc = rt.alloc();
+    let mut lost = Vec::new(alloc);
+    lost.push(core_of(alloc, &[])?).ok()?;
+    lost.push(ONE_BLOCK.as_bytes().to_vec(alloc).ok()?).ok()?;
+    let mut held = Vec::new(alloc);
+    held.push(core_of(alloc, &[(0x10008, 0x10100)])?).ok()?;
+    held.push(ONE_BLOCK.as_bytes().to_vec(alloc).ok()?).ok()?;
+    let first = run_of(rt, lost, sizes, false, LOST, 1)?;
+    Some(first.worse(run_of(rt, held, sizes, false, HELD, 0)?))
+}
+
+/// `run` over two cores.
+pub(crate) fn runs_two<R: AllocGlobal + Threads + Sync>(rt: &R) -> Option<Answer> {
+    let alloc = rt.alloc();
+    let mut inputs = Vec::new(alloc);
+    inputs.push(core_of(alloc, &[(0x10100, 0x10200)])?).ok()?;
+    inputs.push(TWO_BLOCKS.as_bytes().to_vec(alloc).ok()?).ok()?;
+    inputs.push(later_core(alloc)?).ok()?;
+    inputs.push(MOVED.as_bytes().to_vec(alloc).ok()?).ok()?;
+    run_of(rt, inputs, None, true, TWO, 0)
+}
+
+/// `run_why` of the same block.
+pub(crate) fn runs_why(alloc: Global) -> Option<Answer> {
+    why_of(alloc, None)
+}
+
+/// `run_why_sized` of the same block, with the sizes of the core and the log.
+pub(crate) fn runs_why_sized(alloc: Global) -> Option<Answer> {
+    why_of(alloc, Some(&[8192, HOLDING.len() as u64]))
+}
+
+/// What a run that asks for the block answers. If sizes are given, the readers come with them.
+fn why_of(alloc: Global, sizes: Option<&[u64]>) -> Option<Answer> {
+    let mut readers = Vec::new(alloc);
+    readers.push(Cursor::new(holding_core(alloc)?)).ok()?;
+    readers
+        .push(Cursor::new(HOLDING.as_bytes().to_vec(alloc).ok()?))
+        .ok()?;
+    let options = options(false, Plan::new(1, 1, 0).ok()?);
+    if readers.len() != 2 {
+        return Some(Answer::Other);
+    }
+    let mut written: Vec<u8> = Vec::with_capacity(alloc, 1000).ok()?;
+    let mut told: Vec<u8> = Vec::with_capacity(alloc, 1000).ok()?;
+    let (readers, out, warner) = (readers.as_mut_slice(), &mut written, &mut told);
+    let answer = match sizes {
+        Some(sizes) => run_why_sized(alloc, readers, sizes, &options, 0x10200, out, warner),
+        None => run_why(alloc, readers, &options, 0x10200, out, warner),
+    };
+    let answer = match answer {
+        Ok(status) => Answer::of(status == 0 && written.as_slice() == ASKED.as_bytes()),
+        Err(fault) => Answer::of_refusal(is_wanting(&fault) && written.is_empty()),
+    };
+    Some(answer)
+}

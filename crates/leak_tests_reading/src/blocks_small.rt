@@ -1,0 +1,89 @@
+//! The addresses of small allocations, as ranges.
+
+use crate::comparisons::same_in;
+use leak_blocks::{SmallSpans, Span, replay_with_spans, small_spans};
+use leak_mtrace::Log;
+use std::alloc::Global;
+use std::process::Abort;
+use std::test::Fail;
+
+/// Ends the test if these are other ranges.
+fn are_ranges(rt: &impl Abort, text: &str, ranges: &[Span], wanted: &[(u64, u64)]) {
+    same_in(rt, text, ranges.len(), wanted.len());
+    for (range, row) in ranges.iter().zip(wanted) {
+        same_in(rt, text, (range.first, range.last), *row);
+    }
+}
+
+/// A log, and the ranges of its small allocations, as the first and the last address of each.
+type Ranges = (&'static str, &'static [(u64, u64)]);
+
+/// Ends the test if the small allocations have other ranges, by the lines of the log.
+fn have_ranges_by_lines(rt: &impl Abort, alloc: Global, case: &Ranges) -> Result<(), Fail> {
+    let log = Log::read(alloc, case.0.as_bytes())?;
+    let spans = small_spans(alloc, &log)?;
+    are_ranges(rt, case.0, spans.ranges(), case.1);
+    Ok(())
+}
+
+/// Ends the test if the small allocations have other ranges, by the bytes of the log.
+fn have_ranges_by_bytes(rt: &impl Abort, alloc: Global, case: &Ranges) -> Result<(), Fail> {
+    let (replayed, spans) = replay_with_spans(alloc, case.0.as_bytes())?;
+    are_ranges(rt, case.0, spans.ranges(), case.1);
+    same_in(rt, case.0, replayed.whole_len, case.0.len());
+    Ok(())
+}
+
+/// Ends the test if the small allocations of a log have other ranges, by its lines or by its bytes.
+fn have_ranges(rt: &impl Abort, alloc: Global, cases: &[Ranges]) -> Result<(), Fail> {
+    for case in cases {
+        have_ranges_by_lines(rt, alloc, case)?;
+        have_ranges_by_bytes(rt, alloc, case)?;
+    }
+    Ok(())
+}
+
+static SMALL: [Ranges; 8] = [
+    ("+ 0x100 0x20\n- 0x100\n", &[(0x100, 0x11f)]),
+    // live blocks and displaced ones are taken as well
+    ("+ 0x100 0x20\n+ 0x110 0x8\n", &[(0x100, 0x11f)]),
+    // those that touch are one range, whatever their order
+    ("+ 0x120 0x10\n+ 0x100 0x20\n", &[(0x100, 0x12f)]),
+    (
+        "+ 0x121 0x10\n+ 0x100 0x20\n",
+        &[(0x100, 0x11f), (0x121, 0x130)],
+    ),
+    // an allocation of no bytes has its first address
+    ("+ 0x100 0\n+ 0x102 0\n", &[(0x100, 0x100), (0x102, 0x102)]),
+    ("+ 0x1000 0x1ffff\n", &[(0x1000, 0x20ffe)]),
+    // a move allocates, and a failed one does not
+    (
+        "+ 0x100 0x8\n< 0x100\n> 0x200 0x8\n",
+        &[(0x100, 0x107), (0x200, 0x207)],
+    ),
+    (
+        "+ 0xffffffffffffffff 0\n+ 0xfffffffffffffff0 0xe\n",
+        &[
+            (0xffff_ffff_ffff_fff0, 0xffff_ffff_ffff_fffd),
+            (0xffff_ffff_ffff_ffff, 0xffff_ffff_ffff_ffff),
+        ],
+    ),
+];
+
+#[test]
+fn small_allocations_as_ranges(rt: HostRuntime) -> Result<(), Fail> {
+    have_ranges(&rt, rt.alloc(), &SMALL)
+}
+
+static NONE_SMALL: [Ranges; 4] = [
+    ("", &[]),
+    ("+ 0x1000 0x20000\n", &[]),
+    ("! 0x100 0x20\n- 0x300\n", &[]),
+    ("+ (nil) 0x20\n", &[]),
+];
+
+#[test]
+fn logs_without_a_small_allocation(rt: HostRuntime) -> Result<(), Fail> {
+    assert!(rt; SmallSpans::none(rt.alloc()).ranges().is_empty());
+    have_ranges(&rt, rt.alloc(), &NONE_SMALL)
+}
