@@ -10,3 +10,7 @@ mod lists;
 // Which numbers hold each block.
 #[cfg(test)]
 mod holding;
+
+// The same as one plain marking for each number.
+#[cfg(test)]
+mod plain;
