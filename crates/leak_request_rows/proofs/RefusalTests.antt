@@ -15,7 +15,8 @@ use Rattle.leak_request.specs.declared.fault.UsageFault.TheVariants as fault
 use Rattle.leak_request.specs.declared.options.Request.{Request}
 use Rattle.leak_request.specs.declared.options.Request.TheVariants.{Search, Why, Holders, Grow, Text as Shown}
 use Rattle.leak_request_rows.specs.Requests.{AreRefused, AreRefusedByClap, AskFor, IsShown, IsText, Planned}
-use Rattle.leak_request_rows.proofs.RequestTests.{AreNumbers, AreTaken, HasPlan, IsSeen, flag_value, name_in, not_grow, not_holders, not_why, plan_seen, refused_at, request_at, rows_in, search_ids, search_lacks, search_refusal, seen, sees, value_at}
+use Rattle.leak_request_rows.proofs.RequestTests.{AreTaken, IsSeen, name_in, refused_at, request_at, rows_in, seen, sees, value_at}
+use Rattle.leak_request_rows.proofs.SearchTests.{AreNumbers, HasPlan, flag_value, not_grow, not_holders, not_why, plan_seen, search_ids, search_lacks, search_refusal}
 
 -- ---- words that clap refuses, or answers with a text
 

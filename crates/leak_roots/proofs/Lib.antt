@@ -5,6 +5,7 @@ pub mod Gaps
 pub mod BySegment
 pub mod Cutting
 pub mod Bridges
+pub mod Spans
 pub mod LeftOut
 pub mod Few
 pub mod Numbered

@@ -4,7 +4,7 @@ use Rattle.std.specs.Fmt.{digits}
 use Rattle.clap.specs.Faults.{defaults_fault, flags_fault, walk_fault}
 use Rattle.clap.specs.Walk.{bundle_met, walked}
 use Rattle.leak_request_rows.proofs.RefusalTests.{refused_by_clap}
-use Rattle.leak_request_rows.proofs.QuestionTests.{sees_grow}
+use Rattle.leak_request_rows.proofs.GrowTests.{sees_grow}
 use Rattle.leak_request_rows.proofs.lines.worked_grow_lines.Goals as goal
 
 pub returns : goal.returns

@@ -8,7 +8,8 @@ use Rattle.leak_request.specs.declared.fault.DisplaceFault.TheVariants.{Number}
 use Rattle.leak_request.specs.declared.fault.UsageFault.TheVariants.{Address, Block, Sides}
 use Rattle.leak_request_rows.specs.Requests.{by_default, one_input}
 use Rattle.leak_request_rows.proofs.RefusalTests.{refused_by_clap}
-use Rattle.leak_request_rows.proofs.HoldersTests.{asks_question, no_question, refuses_block, refuses_held, refuses_holders_list, refuses_question, refuses_sides, sees_holders}
+use Rattle.leak_request_rows.proofs.HoldersTests.{asks_question, no_question, sees_holders}
+use Rattle.leak_request_rows.proofs.RefusedQuestionTests.{refuses_block, refuses_held, refuses_holders_list, refuses_question, refuses_sides}
 use Rattle.leak_request_rows.proofs.lines.worked_holders_lines.Goals as goal
 
 pub returns : goal.returns

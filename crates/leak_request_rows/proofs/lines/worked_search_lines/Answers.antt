@@ -3,7 +3,7 @@ use Rattle.std.proofs.Common.{None, Some, refl, codes, arith}
 use Rattle.std.specs.Fmt.{digits}
 use Rattle.clap.specs.Faults.{defaults_fault, flags_fault, walk_fault}
 use Rattle.clap.specs.Walk.{bundle_met, walked}
-use Rattle.leak_request_rows.proofs.RequestTests.{sees_search}
+use Rattle.leak_request_rows.proofs.SearchTests.{sees_search}
 use Rattle.leak_request_rows.proofs.lines.worked_search_lines.Goals as goal
 
 pub returns : goal.returns

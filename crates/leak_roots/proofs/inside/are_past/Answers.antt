@@ -1,7 +1,7 @@
 -- From the lemmas of LeftOut.
 use Rattle.std.proofs.Common.{arith, ◌<◌, inl, inr}
 use Rattle.std.proofs.lemmas.Bool.{ltb-true, cases_lt}
-use Rattle.leak_roots.proofs.LeftOut.{all_past}
+use Rattle.leak_roots.proofs.Spans.{all_past}
 use Rattle.leak_roots.proofs.inside.are_past.Goals as goal
 
 pub returns-else-many-eq0-clause-within : goal.returns-else-many-eq0-clause-within

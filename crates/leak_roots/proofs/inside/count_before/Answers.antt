@@ -1,5 +1,5 @@
 -- From the lemmas of LeftOut.
-use Rattle.leak_roots.proofs.LeftOut.{past_more, later_last}
+use Rattle.leak_roots.proofs.Spans.{past_more, later_last}
 use Rattle.leak_roots.proofs.inside.count_before.Goals as goal
 
 pub loop-count-init : goal.loop-count-init

@@ -1,6 +1,6 @@
 -- The spans that were passed end before the address.
 use Rattle.std.proofs.Common.{length, ◌-◌}
-use Rattle.leak_roots.proofs.LeftOut.{ArePast}
+use Rattle.leak_roots.proofs.Spans.{ArePast}
 use Rattle.leak_roots.proofs.inside.count_before.Given as goal
 
 abbrev pub invariant-loop-count : goal.invariant-loop-count

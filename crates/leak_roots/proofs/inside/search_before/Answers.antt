@@ -4,7 +4,7 @@ use Rattle.std.proofs.lemmas.Bool.{ltb-true, ltb-false, lt-ltb}
 use Rattle.std.proofs.lemmas.List.Sorted.{IsPartitionPoint-from_clause}
 use Rattle.std.specs.List.Sorted.{IsPartitionedBy}
 use Rattle.leak_blocks.specs.declared.small.Span.{Span}
-use Rattle.leak_roots.proofs.LeftOut.{lasts_ascend}
+use Rattle.leak_roots.proofs.Spans.{lasts_ascend}
 use Rattle.leak_roots.proofs.inside.search_before.Goals as goal
 
 pub returns-clause-within : goal.returns-clause-within

@@ -1,7 +1,8 @@
 -- From the lemmas of LeftOut.
 use Rattle.std.proofs.Common.{true≢false, arith, ◌≤◌, ◌<◌, length, get_or, sym, ◌∙◌}
 use Rattle.std.proofs.lemmas.Bool.{le-leb, lt-leb}
-use Rattle.leak_roots.proofs.LeftOut.{no_span, all_inside, none_inside, firsts_ascend}
+use Rattle.leak_roots.proofs.LeftOut.{no_span}
+use Rattle.leak_roots.proofs.Spans.{all_inside, none_inside, firsts_ascend}
 use Rattle.leak_roots.proofs.Few.{span_between}
 use Rattle.leak_roots.proofs.inside.stretch_from.Goals as goal
 use Rattle.leak_roots.proofs.inside.stretch_from.Goals.{then-inside, else-inside}

@@ -7,7 +7,8 @@ use Rattle.leak_why.specs.declared.chain.Link.{Link}
 use Rattle.leak_why.specs.declared.reached_block.ReachedBlock.{ReachedBlock}
 use Rattle.leak_why.specs.ReachedBlocks.{AreLinks, AreLedByBlocks, IsAt, led_of_origin}
 use Rattle.leak_why.proofs.WordLemmas.{chain_blocks}
-use Rattle.leak_why.proofs.ReachedBlockLemmas.{none_chain, no_shorter, chain_of_links}
+use Rattle.leak_why.proofs.ReachedBlockLemmas.{none_chain, no_shorter}
+use Rattle.leak_why.proofs.FoundLemmas.{chain_of_links}
 use Rattle.leak_why.proofs.asking.why.Goals as goal
 
 pub returns-in_default-clause-why : goal.returns-in_default-clause-why

@@ -2,7 +2,8 @@
 use Rattle.std.proofs.Common.{◌∷◌, [], ap, ◌∙◌}
 use Rattle.leak_pool.proofs.AloneLemmas.{marks_more}
 use Rattle.leak_why.specs.ReachedBlocks.{blocks_of}
-use Rattle.leak_why.proofs.ReachedBlockLemmas.{blocks-append, found_old, found_new}
+use Rattle.leak_why.proofs.EntryLemmas.{blocks-append}
+use Rattle.leak_why.proofs.FoundLemmas.{found_old, found_new}
 use Rattle.leak_why.proofs.spreading.find.Goals as goal
 
 pub returns-clause-marks : goal.returns-clause-marks

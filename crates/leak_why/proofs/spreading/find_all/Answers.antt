@@ -1,7 +1,7 @@
 -- From the lemmas of AloneLemmas and EntryLemmas.
 use Rattle.std.proofs.Common.{◌∷◌, [], arith}
 use Rattle.leak_pool.proofs.AloneLemmas.{next_is_target, next_left}
-use Rattle.leak_why.proofs.ReachedBlockLemmas.{found_none, found_both}
+use Rattle.leak_why.proofs.FoundLemmas.{found_none, found_both}
 use Rattle.leak_why.proofs.spreading.find_all.Goals as goal
 
 pub find-requires-clause-block : goal.find-requires-clause-block

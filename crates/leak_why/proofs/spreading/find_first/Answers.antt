@@ -11,7 +11,7 @@ use Rattle.leak_why.specs.declared.reached_block.ReachedBlock.{ReachedBlock}
 use Rattle.leak_why.specs.declared.reached_block.Origin.TheVariants.{Registers, Range}
 use Rattle.leak_why.specs.declared.reached_block.FirstLead.TheVariants.{Root}
 use Rattle.leak_why.specs.ReachedBlocks.{blocks_of}
-use Rattle.leak_why.proofs.ReachedBlockLemmas.{of_roots_none, of_roots_more, found_taken}
+use Rattle.leak_why.proofs.FoundLemmas.{of_roots_none, of_roots_more, found_taken}
 use Rattle.leak_why.proofs.spreading.find_first.Goals as goal
 
 pub find_all-requires-clause-inside : goal.find_all-requires-clause-inside

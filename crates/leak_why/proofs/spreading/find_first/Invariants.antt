@@ -4,7 +4,7 @@ use Rattle.leak_roots.specs.Places.{memory_places}
 use Rattle.leak_pool.specs.Alone.{AreMarks, AreTaken}
 use Rattle.leak_pool.specs.Marking.{led_from}
 use Rattle.leak_why.specs.ReachedBlocks.{blocks_of}
-use Rattle.leak_why.proofs.ReachedBlockLemmas.{AreOfRoots}
+use Rattle.leak_why.proofs.FoundLemmas.{AreOfRoots}
 use Rattle.leak_why.proofs.spreading.find_first.Given as goal
 
 abbrev pub invariant-loop-i : goal.invariant-loop-i

@@ -9,7 +9,8 @@ use Rattle.leak_pool.proofs.AloneLemmas.{marks_few}
 use Rattle.leak_why.specs.declared.reached_block.ReachedBlock.{ReachedBlock}
 use Rattle.leak_why.specs.declared.reached_block.FirstLead.TheVariants.{Earlier}
 use Rattle.leak_why.specs.ReachedBlocks.{AreFound, AreFollowed, blocks_of}
-use Rattle.leak_why.proofs.ReachedBlockLemmas.{has_block, followed_first, followed_more, found_long, targets_same}
+use Rattle.leak_why.proofs.EntryLemmas.{has_block}
+use Rattle.leak_why.proofs.FoundLemmas.{followed_first, followed_more, found_long, targets_same}
 use Rattle.leak_why.proofs.spreading.find_others.Goals as goal
 
 pub follow-init : goal.follow-init

@@ -7,7 +7,8 @@ use Rattle.leak_scan.specs.Targets.{block_targets}
 use Rattle.leak_why.specs.declared.chain.Link.{Link}
 use Rattle.leak_why.specs.declared.reached_block.ReachedBlock.{ReachedBlock}
 use Rattle.leak_why.specs.ReachedBlocks.{AreLinks, IsAt}
-use Rattle.leak_why.proofs.ReachedBlockLemmas.{nothing, same_entry, links_more}
+use Rattle.leak_why.proofs.EntryLemmas.{nothing, same_entry}
+use Rattle.leak_why.proofs.FoundLemmas.{links_more}
 use Rattle.leak_why.proofs.tracing.trace.Goals as goal
 
 pub offset_bounds-entries-number : goal.offset_bounds-entries-number
