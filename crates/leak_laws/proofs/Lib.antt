@@ -34,3 +34,4 @@ pub mod HeldTexts
 pub mod HeldRunLemmas
 pub mod PartSums
 pub mod HolderTexts
+pub mod EscapeReading

@@ -19,3 +19,4 @@ pub mod ZeroRows
 pub mod HeldOneLine
 pub mod HeldRuns
 pub mod InSums
+pub mod EscapedTexts

@@ -10,7 +10,8 @@
 //!   [`runs_write_reports`], [`holders_belong_together`], [`texts_have_holders`], [`in_lines_add_up`],
 //!   [`growths_add_up`].
 //! - **Bytes tell the lines**: [`reports_read_back`], [`texts_are_of_one_line`], [`growth_reads_back`],
-//!   [`holders_read_back`], [`why_reads_back`], [`answers_are_of_lines`].
+//!   [`holders_read_back`], [`why_reads_back`], [`answers_are_of_lines`], and what is escaped in a message
+//!   ([`escaped_texts_read_back`]).
 //! - **Worked rows**: [`worked_growths`], [`roots_at_zero`].
 //!
 //! What the lines of a report say is in `specs/Told.antt`, and how they belong together in `specs/Together.antt`.
@@ -20,6 +21,7 @@ mod answers;
 mod growth;
 mod held;
 mod leaks;
+mod messages;
 mod reports;
 mod runs;
 mod same;
@@ -33,6 +35,7 @@ pub use held::{
     reports_of_holders_are_one, texts_have_holders,
 };
 pub use leaks::{earlier_cores_keep_blocks, reported_stay_reported};
+pub use messages::escaped_texts_read_back;
 pub use reports::{
     check_adds_misfits, lines_belong_together, reports_read_back, texts_are_of_one_line,
 };
