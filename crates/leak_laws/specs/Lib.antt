@@ -19,4 +19,5 @@ pub mod ZeroRows
 pub mod HeldOneLine
 pub mod HeldRuns
 pub mod InSums
+pub mod HolderLines
 pub mod EscapedTexts
