@@ -43,4 +43,8 @@ pub mod TextBlocks
 pub mod LineHolders
 pub mod HolderReports
 pub mod HolderTexts
+pub mod ChosenBlocks
+pub mod PartRows
+pub mod LineParts
+pub mod PartReports
 pub mod EscapeReading

@@ -21,3 +21,4 @@ pub mod HeldRuns
 pub mod InSums
 pub mod HolderLines
 pub mod EscapedTexts
+pub mod PartLines

@@ -2,6 +2,7 @@
 
 ghost use Rattle.leak_laws.specs.HeldTogether.{HolderTextsDiffer, HoldersBelongTogether, MarkedHaveHolders, OwnBlocksAreMarked};
 ghost use Rattle.leak_laws.specs.HolderLines.{AloneAreWithinNone, HoldersHaveLines, LinesAreOfMarked, OutermostHoldMarked};
+ghost use Rattle.leak_laws.specs.PartLines.{ByTextsHaveLines, InTextsHaveLines, PartsAreOrdered};
 ghost use Rattle.leak_laws.specs.InSums.{InLinesAddUp};
 ghost use Rattle.leak_laws.specs.Held.{AnswersAreOne, AnswersOfWhyAreAsLong, ReportsOfHoldersAreOne};
 
@@ -48,4 +49,12 @@ pub fn outermost_hold_all()
 /// The lines of what chosen blocks hold have the sums of the held blocks.
 pub fn in_lines_add_up()
     ensures { InLinesAddUp }
+{}
+
+/// In an answer about chosen blocks the lines are in order, and no text has two. Of what the blocks hold, a text has a line exactly if they
+/// hold a counted block of it; of who holds them, exactly if it is another text than that of the asked block, and holds a counted one of them.
+pub fn parts_have_lines()
+    ensures ordered { PartsAreOrdered }
+    ensures in_lines { InTextsHaveLines }
+    ensures by_lines { ByTextsHaveLines }
 {}
