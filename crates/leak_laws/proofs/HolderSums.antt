@@ -1,33 +1,24 @@
 -- Each marked block is one of one line's own.
-use Rattle.std.proofs.Common.{◌≡◌, ℕ, zero, suc, ◌+◌, ◌<◌, Bool, true, false, ◌&&◌, cond, List, [], ◌∷◌, length, map, filter, sum_by, None, Some, slice_get, get_or, refl, sym, ap, ◌∙◌, arith, IsTrue}
-use Rattle.std.specs.Prelude.{◌↔◌, slice_index_or}
+use Rattle.std.proofs.Common.{◌≡◌, ℕ, zero, suc, ◌+◌, ◌<◌, Bool, true, false, ◌&&◌, cond, List, [], ◌∷◌, length, map, filter, sum_by, None, get_or, refl, sym, ap, ◌∙◌, arith}
+use Rattle.std.specs.Prelude.{slice_index_or}
 use Rattle.std.specs.List.{range_with_len}
-use Rattle.std.proofs.lemmas.List.{length-map}
 use Rattle.std.proofs.lemmas.List.Sums.{sum_by-cons}
-use Rattle.std.proofs.lemmas.Option.{get_or_from_slice_get, slice_get-get_or}
-use Rattle.leak_mtrace.proofs.FitLemmas.{lines_fit}
 use Rattle.leak_blocks.specs.declared.block.Block.{Block}
 use Rattle.leak_blocks.specs.Live.{live_of}
-use Rattle.leak_blocks.proofs.DisjointLemmas.{live_disjoint}
-use Rattle.leak_blocks.proofs.LineLemmas.{live_addressed}
-use Rattle.leak_blocks.proofs.SumLemmas.{sum_fits}
 use Rattle.leak_index.specs.Leads.{Distances}
 use Rattle.leak_roots.specs.declared.skip.Skip.{Skip}
 use Rattle.leak_report.specs.Totals.{bytes_of, marked_in}
 use Rattle.leak_report.proofs.Members.{each_from_All, each_implied, each_mapped}
 use Rattle.leak_holders.specs.declared.facts.Facts.{Facts}
-use Rattle.leak_holders.specs.Holders.{AreComplete, AreReached}
-use Rattle.leak_holders.specs.Laws.{AreRowsOf, IsBounded, reached_of}
+use Rattle.leak_holders.specs.Laws.{IsBounded, reached_of}
 use Rattle.leak_holders.specs.Words.{facts_of}
 use Rattle.leak_holders.proofs.AddedUp.{are_bounded, own_add_up}
 use Rattle.leak_search.specs.Search.{graph_of_one}
 use Rattle.leak_holding.specs.declared.finding.Holding.{Holding}
 use Rattle.leak_holding.specs.Holders.{FindsHolders}
-use Rattle.leak_holding.proofs.NumberLemmas.{are_numbers}
 use Rattle.leak_laws.specs.HeldTogether.{IsWithin, OwnAreMarked, told_by_holders}
 use Rattle.leak_laws.specs.ToldHolders.{ToldHolder, told_holder}
-use Rattle.leak_laws.proofs.SameHeld.{one_each}
-use Rattle.leak_laws.proofs.SameRows.{plain_rows}
+use Rattle.leak_laws.proofs.HolderFacts.{rows_of_report}
 use Rattle.leak_laws.proofs.TextSums.{sum_map}
 
 -- ---- numbers of blocks, and blocks
@@ -86,12 +77,6 @@ and_true : (b : Bool) (c : Bool) → c ≡ true → (b && c) ≡ b
 and_true true c e = e
 and_true false c e = refl
 
-some_true : (set : List Bool) (i : ℕ) → i < length set → ((slice_get set i ≡ Some true) ↔ IsTrue (slice_index_or set i false))
-some_true set i low = (
-  λ e. get_or_from_slice_get set i true false e,
-  λ e. slice_get-get_or set i false low ∙ ap (λ (b : Bool). Some b) e,
-)
-
 default : (bs : List Block) (i : ℕ) (d e : Block) → i < length bs → get_or bs i d ≡ get_or bs i e
 default [] i d e low = absurd (omega arith)
 default (b ∷ bs) zero d e low = refl
@@ -100,29 +85,7 @@ default (b ∷ bs) (suc i) d e low = default bs i d e (omega arith)
 pub own_are_marked : (core log : List ℕ) (reading : Distances) (skip : Skip) (found : Holding) → (f : FindsHolders core log None reading skip found) → OwnAreMarked (told_by_holders f)
 own_are_marked core log reading skip found f =
     let known : Facts = facts_of (live_of f.lines) f.numbers f.set (map (λ b. true) (live_of f.lines)) in
-    let n = are_numbers log (live_of f.lines) f.texts f.numbers f.numbered f.few in
-    let long = one_each core reading skip f.lines in
-    let complete : AreComplete (length f.texts) (facts_of (live_of f.lines) f.numbers f.set (map (λ b. true) (live_of f.lines))) = record {
-      numbered = n.one_each;
-      of_texts = λ b h. n.of_texts b (omega (arith, h, n.one_each));
-      reached = f.marked.len;
-      counted = length-map (live_of f.lines) (λ (b : Block). true);
-      few = f.few;
-      fits = sum_fits (live_of f.lines) (live_addressed f.lines (lines_fit log f.lines f.is_log)) (live_disjoint f.lines);
-    } in
-    let reached : AreReached (graph_of_one core reading skip f.lines) f.set = record {
-      len = f.marked.len ∙ long;
-      each = λ b h.
-          let inside : b < length (live_of f.lines) = omega (arith, h, long) in
-          let low : b < length f.set = omega (arith, inside, f.marked.len) in
-          (λ e. (f.marked.each b inside).0 ((some_true f.set b low).1 e), λ r. (some_true f.set b low).0 ((f.marked.each b inside).1 r));
-    } in
-    let of : AreRowsOf (graph_of_one core reading skip f.lines) (facts_of (live_of f.lines) f.numbers f.set (map (λ b. true) (live_of f.lines))) (length f.texts) f.rows = record {
-      one_each = long;
-      complete = complete;
-      reached = reached;
-      hold = plain_rows (graph_of_one core reading skip f.lines) (live_of f.lines) f.numbers f.set (map (λ b. true) (live_of f.lines)) (length f.texts) f.rows f.are;
-    } in
+    let of = rows_of_report core log None reading skip found f in
     let sums = own_add_up (graph_of_one core reading skip f.lines) known (length f.texts) f.rows of in
     let bounds = are_bounded (graph_of_one core reading skip f.lines) known (length f.texts) f.rows of in
     let tell : Tell (λ b. slice_index_or f.set b false && slice_index_or (map (λ b. true) (live_of f.lines)) b false) (λ b. (slice_index_or (live_of f.lines) b (record { start = 0; size = 0; line = 0; caller = (0, 0) })).size) 0 f.set (live_of f.lines) = record {

@@ -110,6 +110,11 @@ plain_of graph f texts set but told parts p = record {
   };
 }
 
+pub known_of : (graph : Graph) (blocks : List Block) (numbers : List ℕ) (reached counted : List Bool) (texts : ℕ) (set : List Bool) (but : ℕ) (told : List Bool) (parts : List Part) (f : Facts) → AreKnown blocks numbers reached counted f
+    → AreHeldOf graph f texts set but told parts → AreHeldOf graph (facts_of blocks numbers reached counted) texts set but told parts
+known_of graph blocks numbers reached counted texts set but told parts f known p =
+    subst (λ (k : Facts). AreHeldOf graph k texts set but told parts) (plain_is blocks numbers reached counted f known) (plain_of graph f texts set but told parts p)
+
 plain_held : (side : Side) (graph : Graph) (f : Facts) (texts : ℕ) (set : List Bool) (but : ℕ) (told : List Bool) (parts : List Part) → AreHeld side graph f texts set but told parts → AreHeld side graph (plain f) texts set but told parts
 plain_held In graph f texts set but told parts p = plain_in graph f texts set told parts p
 plain_held Of graph f texts set but told parts p = plain_of graph f texts set but told parts p

@@ -19,3 +19,6 @@ pub mod ZeroRows
 pub mod HeldOneLine
 pub mod HeldRuns
 pub mod InSums
+pub mod HolderLines
+pub mod EscapedTexts
+pub mod PartLines

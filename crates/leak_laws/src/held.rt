@@ -1,6 +1,8 @@
 //! What is held: answers are one, and the lines of a report belong together.
 
 ghost use Rattle.leak_laws.specs.HeldTogether.{HolderTextsDiffer, HoldersBelongTogether, MarkedHaveHolders, OwnBlocksAreMarked};
+ghost use Rattle.leak_laws.specs.HolderLines.{AloneAreWithinNone, HoldersHaveLines, LinesAreOfMarked, OutermostHoldMarked};
+ghost use Rattle.leak_laws.specs.PartLines.{ByTextsHaveLines, InTextsHaveLines, PartsAreOrdered};
 ghost use Rattle.leak_laws.specs.InSums.{InLinesAddUp};
 ghost use Rattle.leak_laws.specs.Held.{AnswersAreOne, AnswersOfWhyAreAsLong, ReportsOfHoldersAreOne};
 
@@ -30,7 +32,29 @@ pub fn texts_have_holders()
     ensures each { MarkedHaveHolders }
 {}
 
+/// A text has a line in a report on who holds the memory exactly if its blocks hold a counted block; and each line's text is that of a
+/// marked block.
+pub fn holders_have_lines()
+    ensures exactly { HoldersHaveLines }
+    ensures marked { LinesAreOfMarked }
+{}
+
+/// A line is within 0 exactly if no other text holds each marked block of its text; and each counted block that is marked is held by
+/// the text of a line that is within 0.
+pub fn outermost_hold_all()
+    ensures alone { AloneAreWithinNone }
+    ensures all { OutermostHoldMarked }
+{}
+
 /// The lines of what chosen blocks hold have the sums of the held blocks.
 pub fn in_lines_add_up()
     ensures { InLinesAddUp }
+{}
+
+/// In an answer about chosen blocks the lines are in order, and no text has two. Of what the blocks hold, a text has a line exactly if they
+/// hold a counted block of it; of who holds them, exactly if it is another text than that of the asked block, and holds a counted one of them.
+pub fn parts_have_lines()
+    ensures ordered { PartsAreOrdered }
+    ensures in_lines { InTextsHaveLines }
+    ensures by_lines { ByTextsHaveLines }
 {}
