@@ -1,5 +1,5 @@
 -- What command lines ask of two logs, by the values that clap found.
-use Rattle.std.proofs.Common.{◌≡◌, ◌⊎◌, inl, inr, ⊎_elim, Bool, List, [], ◌∷◌, codes, map, Some, refl, sym, ◌∙◌}
+use Rattle.std.proofs.Common.{◌≡◌, inl, inr, ⊎_elim, Bool, List, [], ◌∷◌, codes, map, Some, refl, sym, ◌∙◌}
 use Rattle.clap.specs.Words.{Text}
 use Rattle.clap.specs.Faults.{fault_of}
 use Rattle.leak_request.specs.CommandLine.{command_line, grow_ids, grow_name}

@@ -2,7 +2,6 @@
 
 use crate::comparisons::same;
 use leak_find::{FindError, ReadFault, RunFault};
-use leak_pool::{PlanError, PoolError};
 use leak_streams::WriteFault;
 use std::test::Fail;
 
@@ -44,25 +43,5 @@ fn texts_of_devices(rt: HostRuntime) -> Result<(), Fail> {
     let fault = RunFault::Write(WriteFault { written: 10 });
     let text = fault.to_string(rt.alloc())?;
     same(&rt, text.as_str(), "write failed after 10 bytes");
-    Ok(())
-}
-
-#[test]
-fn texts_of_plans_and_pools(rt: HostRuntime) -> Result<(), Fail> {
-    let plans = [
-        (PlanError::Workers, "workers must be 1 to 64"),
-        (PlanError::Piece, "piece must be 1 to 65536"),
-        (PlanError::Stack, "stack must be 0 to 65536"),
-    ];
-    for (error, text) in plans {
-        same(&rt, error.to_string(rt.alloc())?.as_str(), text);
-    }
-    let pools = [
-        (PoolError::TooMany, "too many blocks"),
-        (PoolError::NoMemory, "out of memory"),
-    ];
-    for (error, text) in pools {
-        same(&rt, error.to_string(rt.alloc())?.as_str(), text);
-    }
     Ok(())
 }
