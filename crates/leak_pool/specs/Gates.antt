@@ -16,6 +16,10 @@ abbrev pub ArePassed : (ℕ → ℕ → Type 0) → ℕ → ℕ → ℕ → ℕ 
 ArePassed passed n workers low high =
     (k j : ℕ) → low ≤ k → k < high → j < share_size k n workers → passed k j
 
+-- the step after those of the worker k of m in a round of n items: from this one on, one for each item of its share
+abbrev pub step_after : ℕ → ℕ → ℕ → ℕ → ℕ
+step_after step k n m = (step + share_size k n m) % 2 ^ 64
+
 -- how many items the worker k of m has in rounds of so many items each
 abbrev pub sizes_of : ℕ → ℕ → List ℕ → ℕ
 sizes_of k m [] = 0
