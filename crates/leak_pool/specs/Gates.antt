@@ -1,7 +1,8 @@
 -- Which steps of the workers a gate let through. Before each item a worker makes a step, and its steps are counted from 0
 -- over the whole call, modulo 2^64.
-use Rattle.std.specs.Prelude.{◌≡◌, ℕ, ◌+◌, ◌-◌, ◌%◌, ◌^◌, ◌<◌, ◌≤◌, List, [], ◌∷◌, slice_index_or}
+use Rattle.std.specs.Prelude.{◌≡◌, ℕ, ◌+◌, ◌-◌, ◌%◌, ◌^◌, ◌<◌, ◌≤◌, List, [], ◌∷◌, length, slice_index_or}
 use Rattle.leak_pool.specs.Items.{share}
+use Rattle.leak_pool.specs.Scene.{Work}
 
 -- how many of n items the worker k of m has
 abbrev pub share_size : ℕ → ℕ → ℕ → ℕ
@@ -16,9 +17,14 @@ abbrev pub ArePassed : (ℕ → ℕ → Type 0) → ℕ → ℕ → ℕ → ℕ 
 ArePassed passed n workers low high =
     (k j : ℕ) → low ≤ k → k < high → j < share_size k n workers → passed k j
 
--- the step after those of the worker k of m in a round of n items: from this one on, one for each item of its share
-abbrev pub step_after : ℕ → ℕ → ℕ → ℕ → ℕ
-step_after step k n m = (step + share_size k n m) % 2 ^ 64
+-- in a round the worker was let through to each item of its share
+abbrev pub HasPassedShare : (ℕ → ℕ → Type 0) → Work → ℕ → Type 0
+HasPassedShare passed work worker =
+    ArePassed (IsNextPassed passed work.steps) (length work.items) work.scene.workers worker (worker + 1)
+
+-- the worker's step after the round: from this one on, one for each item of its share
+abbrev pub step_after : Work → ℕ → ℕ → ℕ
+step_after work worker step = (step + share_size worker (length work.items) work.scene.workers) % 2 ^ 64
 
 -- how many items the worker k of m has in rounds of so many items each
 abbrev pub sizes_of : ℕ → ℕ → List ℕ → ℕ

@@ -1,10 +1,10 @@
 //! What one worker does in a round.
-ghost use Rattle.std.specs.Prelude.{◌≡◌, ◌<◌, ◌≤◌, ◌+◌, [], length, slice_index_or, IfOk, vec_capacity};
+ghost use Rattle.std.specs.Prelude.{◌≡◌, ◌<◌, ◌≤◌, slice_index_or, IfOk, vec_capacity};
 ghost use Rattle.leak_marks.specs.Seats.{IsSound};
-ghost use Rattle.leak_pool.specs.Gates.{IsNextPassed, ArePassed, step_after};
+ghost use Rattle.leak_pool.specs.Gates.{HasPassedShare, step_after};
 ghost use Rattle.leak_pool.specs.Items.{IsItem, share, targets_of_item};
-ghost use Rattle.leak_pool.specs.Promises.{IsDirect, IsHolding, IsPutAway, IsWorking};
-ghost use Rattle.leak_pool.specs.Scene.{IsSeatOf, InShares, blocks_of};
+ghost use Rattle.leak_pool.specs.Promises.{HasWorked, HasWorkedDirectly, IsEmptyHand, IsHolding, IsPutAway};
+ghost use Rattle.leak_pool.specs.Scene.{IsSeatOf};
 
 use crate::door::Door;
 use crate::gate::Gate;
@@ -73,27 +73,16 @@ fn work<S: TargetSource, G: Gate>(
 ) -> Result<(), AllocError>
     requires seat { IsSeatOf round.now.scene seat.old }
     requires worker { worker < round.now.scene.workers }
-    requires none { (hand.old.list.items ≡ []) × (hand.old.stack.items ≡ [])
-        × (hand.old.left.items ≡ []) }
+    requires none { IsEmptyHand hand.old }
     requires room { round.now.scene.stack ≤ vec_capacity hand.old.stack }
     requires door { (door.old.worker ≡ worker)
         × (door.old.step ≡ slice_index_or round.now.steps worker 0) }
     ensures same { (seat.new.table ≡ seat.old.table) × (seat.new.share ≡ seat.old.share) }
     ensures sound { IsSound seat.new }
-    ensures done { let share = InShares round.now worker (worker + 1) in
-        IfOk result (λ _.
-        IsWorking (blocks_of round.now) share seat.old seat.new
-        hand.new.list.items [] hand.new.left.items) }
-    ensures direct { let share = InShares round.now worker (worker + 1) in
-        IfOk result (λ _.
-        round.now.scene.stack ≡ 0 → IsDirect share hand.new.list.items hand.new.left.items) }
-    ensures gate { let scene = round.now.scene in
-        let passed = IsNextPassed (G.passed door.old.gate.now) round.now.steps in
-        IfOk result (λ _.
-        ArePassed passed (length round.now.items) scene.workers worker (worker + 1)) }
-    ensures once { let items = length round.now.items in
-        let step = step_after door.old.step worker items round.now.scene.workers in
-        IfOk result (λ _. door.new.step ≡ step) }
+    ensures done { IfOk result (λ _. HasWorked round.now worker seat.old seat.new hand.new) }
+    ensures direct { IfOk result (λ _. HasWorkedDirectly round.now worker hand.new) }
+    ensures gate { IfOk result (λ _. HasPassedShare (G.passed door.old.gate.now) round.now worker) }
+    ensures once { IfOk result (λ _. door.new.step ≡ step_after round.now worker door.old.step) }
     ensures door { (door.new.gate ≡ door.old.gate) × (door.new.worker ≡ door.old.worker) }
 {
     let search = round.search;
