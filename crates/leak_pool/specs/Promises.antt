@@ -6,7 +6,7 @@ use Rattle.std.specs.List.{concat}
 use Rattle.leak_marks.specs.Rounds.{AreLed, IsKept, IsKeptInRounds}
 use Rattle.leak_pool.specs.Items.{InRange, share}
 use Rattle.leak_pool.specs.Gates.{ArePassed}
-use Rattle.leak_pool.specs.Scene.{Work, blocks_of, items_of}
+use Rattle.leak_pool.specs.Scene.{Work, InShares, blocks_of, items_of}
 use Rattle.leak_pool.specs.declared.hand.Hand.{Hand}
 use Rattle.leak_pool.specs.declared.task.Gains.{Gains}
 use Rattle.leak_marks.specs.Lists.{Has, Within}
@@ -59,6 +59,16 @@ pub record IsWorking (blocks : ℕ → List ℕ) (item : ℕ → Type 0) (before
   pub few : length left + length stack ≤ length list
   pub kept : IsKept blocks item before.seen after.seen (list ∷ []) (left ++ stack)
 
+-- a hand that holds nothing
+abbrev pub IsEmptyHand : Hand → Type 0
+IsEmptyHand hand = (hand.list.items ≡ []) × (hand.stack.items ≡ []) × (hand.left.items ≡ [])
+
+-- a worker at the end of its share, with an empty stack
+abbrev pub HasWorked : Work → ℕ → Held → Held → Hand → Type 0
+HasWorked work worker before after hand =
+    IsWorking (blocks_of work) (InShares work worker (worker + 1)) before after hand.list.items []
+    hand.left.items
+
 -- The lists of the workers from k on: each claim is a target of an item of that worker's share, or of an earlier claim
 -- of its list.
 abbrev pub AreOwn : (ℕ → List ℕ) → (ℕ → List ℕ) → ℕ → ℕ → ℕ → List (List ℕ) → Type 0
@@ -78,6 +88,12 @@ pub record AreOfWorkers (blocks targets : ℕ → List ℕ) (stack items workers
 pub record IsDirect (item : ℕ → Type 0) (list left : List ℕ) : Type 0 where
   pub all_left : left ≡ list
   pub of_items : (b : ℕ) → Has list b → item b
+
+-- such a worker at the end of its share, if its stack holds no entry
+abbrev pub HasWorkedDirectly : Work → ℕ → Hand → Type 0
+HasWorkedDirectly work worker hand =
+    work.scene.stack ≡ 0
+    → IsDirect (InShares work worker (worker + 1)) hand.list.items hand.left.items
 
 -- The workers from low up to high have scanned their shares of a round's items: one list for each of them, and together
 -- the claims that the seat gained. Of these, the left ones are not scanned.
