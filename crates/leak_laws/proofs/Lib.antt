@@ -41,6 +41,8 @@ pub mod OuterTexts
 pub mod HolderRows
 pub mod TextBlocks
 pub mod LineHolders
+pub mod RangeLists
+pub mod LineMeaning
 pub mod HolderReports
 pub mod HolderTexts
 pub mod ChosenBlocks

@@ -2,6 +2,7 @@
 
 ghost use Rattle.leak_laws.specs.HeldTogether.{HolderTextsDiffer, HoldersBelongTogether, MarkedHaveHolders, OwnBlocksAreMarked};
 ghost use Rattle.leak_laws.specs.HolderLines.{AloneAreWithinNone, HoldersHaveLines, LinesAreOfMarked, OutermostHoldMarked};
+ghost use Rattle.leak_laws.specs.HolderMeaning.{LinesAreSaid};
 ghost use Rattle.leak_laws.specs.PartLines.{ByTextsHaveLines, InTextsHaveLines, PartsAreOrdered};
 ghost use Rattle.leak_laws.specs.InSums.{InLinesAddUp};
 ghost use Rattle.leak_laws.specs.Held.{AnswersAreOne, AnswersOfWhyAreAsLong, ReportsOfHoldersAreOne};
@@ -49,6 +50,12 @@ pub fn outermost_hold_all()
 /// The lines of what chosen blocks hold have the sums of the held blocks.
 pub fn in_lines_add_up()
     ensures { InLinesAddUp }
+{}
+
+/// Each line of a report on who holds the memory says of its text what docs/FORMAT.md says: how many counted blocks it holds, and how many
+/// are its own, with the sums of their sizes; how many other texts hold each of its marked blocks; and where the first of these is.
+pub fn holder_lines_say()
+    ensures { LinesAreSaid }
 {}
 
 /// In an answer about chosen blocks the lines are in order, and no text has two. Of what the blocks hold, a text has a line exactly if they
