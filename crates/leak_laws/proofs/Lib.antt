@@ -48,5 +48,6 @@ pub mod HolderTexts
 pub mod ChosenBlocks
 pub mod PartRows
 pub mod LineParts
+pub mod PartMeaning
 pub mod PartReports
 pub mod EscapeReading

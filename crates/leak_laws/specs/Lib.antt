@@ -23,3 +23,4 @@ pub mod HolderLines
 pub mod EscapedTexts
 pub mod PartLines
 pub mod HolderMeaning
+pub mod PartMeaning

@@ -4,6 +4,7 @@ ghost use Rattle.leak_laws.specs.HeldTogether.{HolderTextsDiffer, HoldersBelongT
 ghost use Rattle.leak_laws.specs.HolderLines.{AloneAreWithinNone, HoldersHaveLines, LinesAreOfMarked, OutermostHoldMarked};
 ghost use Rattle.leak_laws.specs.HolderMeaning.{LinesAreSaid};
 ghost use Rattle.leak_laws.specs.PartLines.{ByTextsHaveLines, InTextsHaveLines, PartsAreOrdered};
+ghost use Rattle.leak_laws.specs.PartMeaning.{ByLinesAreSums, InLinesAreSums};
 ghost use Rattle.leak_laws.specs.InSums.{InLinesAddUp};
 ghost use Rattle.leak_laws.specs.Held.{AnswersAreOne, AnswersOfWhyAreAsLong, ReportsOfHoldersAreOne};
 
@@ -64,4 +65,11 @@ pub fn parts_have_lines()
     ensures ordered { PartsAreOrdered }
     ensures in_lines { InTextsHaveLines }
     ensures by_lines { ByTextsHaveLines }
+{}
+
+/// Each line of an answer about chosen blocks counts the blocks of its text that they hold, or of who holds them, those of them that its text
+/// holds, and has the sum of their sizes.
+pub fn part_lines_say()
+    ensures in_lines { InLinesAreSums }
+    ensures by_lines { ByLinesAreSums }
 {}
