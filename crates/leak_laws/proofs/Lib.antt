@@ -41,10 +41,13 @@ pub mod OuterTexts
 pub mod HolderRows
 pub mod TextBlocks
 pub mod LineHolders
+pub mod RangeLists
+pub mod LineMeaning
 pub mod HolderReports
 pub mod HolderTexts
 pub mod ChosenBlocks
 pub mod PartRows
 pub mod LineParts
+pub mod PartMeaning
 pub mod PartReports
 pub mod EscapeReading

@@ -42,7 +42,7 @@ any_of {X} {R} p P (x ∷ xs) all f some = go (p x) refl some (λ rest. any_of p
     go true e any later = f x all.0 e
     go false e any later = later any
 
-contained : {X : Type 0} (xs : List X) (x : X) → Has xs x → Contains xs x
+pub contained : {X : Type 0} (xs : List X) (x : X) → Has xs x → Contains xs x
 contained [] x has = absurd has
 contained (y ∷ ys) x (inl e) = (0, omega arith, e)
 contained (y ∷ ys) x (inr has) = let at = contained ys x has in (suc at.0, omega (arith, at.1), at.2)

@@ -40,10 +40,10 @@ use Rattle.leak_laws.proofs.ToldOrder.{told_differ, told_sorted}
 
 -- ---- lines of rows
 
-abbrev lines_of : List (List ℕ) → List Holder → List ToldPart
+abbrev pub lines_of : List (List ℕ) → List Holder → List ToldPart
 lines_of texts rows = map (told_part texts) (map part_of_row rows)
 
-lines_each : (texts : List (List ℕ)) (P : ToldPart → Type 0) (rows : List Holder) → AllByRecursion (λ r. P (told_part texts (part_of_row r))) rows → AllByRecursion P (lines_of texts rows)
+pub lines_each : (texts : List (List ℕ)) (P : ToldPart → Type 0) (rows : List Holder) → AllByRecursion (λ r. P (told_part texts (part_of_row r))) rows → AllByRecursion P (lines_of texts rows)
 lines_each texts P rows all = each_mapped (told_part texts) P (map part_of_row rows) (each_mapped part_of_row (λ p. P (told_part texts p)) rows all)
 
 line_in : (texts : List (List ℕ)) (rows : List Holder) (r : Holder) (text : List ℕ) → Has rows r → text_with texts r.text ≡ text → HasPart (lines_of texts rows) text
@@ -83,7 +83,7 @@ module _ (first : List ℕ) (targets : List (List ℕ)) (log : List ℕ) (blocks
 
   -- ---- what the chosen blocks hold
 
-  in_each : (held : List Bool) → AllByRecursion (λ r. IsRow (in_row facts (length texts) held) (λ t. refl) (length texts) r) (in_rows facts (length texts) held)
+  pub in_each : (held : List Bool) → AllByRecursion (λ r. IsRow (in_row facts (length texts) held) (λ t. refl) (length texts) r) (in_rows facts (length texts) held)
   in_each held = rows_each (in_row facts (length texts) held) (λ t. refl) (length texts)
 
   pub in_ordered : (held : List Bool) → AreOrdered (map (told_part texts) (parts_by facts (λ b. slice_index_or held b false) (length texts)))
@@ -135,7 +135,7 @@ module _ (first : List ℕ) (targets : List (List ℕ)) (log : List ℕ) (blocks
     abbrev counts_own : ℕ → Bool
     counts_own b = slice_index_or counted b false && slice_index_or own b false
 
-    abbrev rows_of_set : AreRowsOf (graph_of first targets) (counted_in facts own) (length texts) of.holders
+    abbrev pub rows_of_set : AreRowsOf (graph_of first targets) (counted_in facts own) (length texts) of.holders
     rows_of_set = record {
       one_each = known.one_each;
       complete = record {
@@ -150,16 +150,16 @@ module _ (first : List ℕ) (targets : List (List ℕ)) (log : List ℕ) (blocks
       hold = of.hold;
     }
 
-    counted_at : (b : ℕ) → b < length blocks → is_counted (counted_in facts own) b ≡ counts_own b
+    pub counted_at : (b : ℕ) → b < length blocks → is_counted (counted_in facts own) b ≡ counts_own b
     counted_at b low = get_or-map-range_with_len (λ c. counts_own c) 0 (length blocks) b b false low (omega arith)
 
-    abbrev passes : Holder → Bool
+    abbrev pub passes : Holder → Bool
     passes r = not (r.text == but)
 
     abbrev Row : Holder → Type 0
     Row r = RowOf (graph_of first targets) (counted_in facts own) (length texts) of.holders rows_of_set r
 
-    by_each : AllByRecursion (λ r. Row r × (passes r ≡ true)) (filter passes of.holders)
+    pub by_each : AllByRecursion (λ r. Row r × (passes r ≡ true)) (filter passes of.holders)
     by_each = each_filtered passes Row of.holders (holder_rows (graph_of first targets) (counted_in facts own) (length texts) of.holders rows_of_set)
 
     pub by_ordered : AreOrdered (map (told_part texts) parts)

@@ -1,7 +1,7 @@
 -- Which texts have a line in an answer about chosen blocks, and in what order.
 use Rattle.std.proofs.Common.{◌≡◌, ◌↔◌, ℕ, Bool, true, false, List, [], length, map, Option, Some, None, sym, subst}
 use Rattle.std.specs.Prelude.{IfSome, if◌then◌else◌, slice_index}
-use Rattle.std.specs.List.{list_any}
+use Rattle.std.specs.List.{AllByRecursion, list_any}
 use Rattle.std.proofs.lemmas.List.{get_or-map}
 use Rattle.leak_blocks.specs.declared.block.Block.{Block}
 use Rattle.leak_blocks.specs.Live.{live_of}
@@ -22,10 +22,12 @@ use Rattle.leak_holding.specs.Held.{AreHeld, AreHeldIn, AreHeldOf, FindsHeld, bo
 use Rattle.leak_holding.specs.Since.{counted_of}
 use Rattle.leak_laws.specs.HeldOneLine.{told_by_answer}
 use Rattle.leak_laws.specs.PartLines.{AreOrdered, ByTextsHaveLines, HasPart, HoldsChosen, InTextsHaveLines, IsHeldWith, PartsAreOrdered, chosen_blocks}
+use Rattle.leak_laws.specs.PartMeaning.{ByLinesAreSums, InLinesAreSums, IsBy, IsIn, IsSum}
 use Rattle.leak_laws.specs.Reports.{sum_of}
 use Rattle.leak_laws.specs.ToldAnswers.{ToldPart, ToldRows, told_part, told_rows}
 use Rattle.leak_laws.proofs.HolderFacts.{IsKnown, known_blocks}
 use Rattle.leak_laws.proofs.LineParts.{by_lines, by_ordered, in_lines, in_ordered}
+use Rattle.leak_laws.proofs.PartMeaning.{by_sums, in_sums}
 use Rattle.leak_laws.proofs.SameRows.{known_in, known_of}
 
 -- what holds of the lines holds of those of an answer, if it has lines
@@ -95,6 +97,31 @@ module _ (core log : List ℕ) (since : Option (List ℕ)) (reading : Distances)
   by_shown e = shown (λ parts. (text : List ℕ) → HasPart parts text ↔ ((text ≡ (told_by_answer f).asked.text → ⊥) × HoldsChosen graph log blocks counted (chosen_blocks log blocks f.block question.alone) text))
       blocks (both own f.set) f.told f.texts f.parts (by_texts (subst Are e f.are))
 
+  abbrev InSum : ToldPart → Type 0
+  InSum p = IsSum blocks (IsIn graph log blocks counted (chosen_blocks log blocks f.block question.alone) p.text) p
+
+  abbrev BySum : ToldPart → Type 0
+  BySum p = IsSum blocks (IsBy graph log blocks counted (chosen_blocks log blocks f.block question.alone) p.text) p
+
+  in_said : Are In → AllByRecursion InSum (map (told_part f.texts) f.parts)
+  unfolding graph_of
+  in_said are =
+      let k = held_in are in
+      subst (λ (parts : List Part). AllByRecursion InSum (map (told_part f.texts) parts)) (sym k.rows)
+      (in_sums graph.first graph.targets log blocks f.texts f.numbers f.set counted known f.block question.alone f.asked.inside k.held k.holds)
+
+  by_said : Are Of → AllByRecursion BySum (map (told_part f.texts) f.parts)
+  unfolding graph_of
+  by_said are = by_sums graph.first graph.targets log blocks f.texts f.numbers f.set counted known f.block question.alone f.asked.inside f.parts (held_of are).rows
+
+  in_all : question.side ≡ In → IfSome (told_by_answer f).rows (λ r. AllByRecursion InSum r.parts)
+  in_all e = shown (AllByRecursion InSum) blocks (both own f.set) f.told f.texts f.parts
+      (in_said (subst Are e f.are))
+
+  by_all : question.side ≡ Of → IfSome (told_by_answer f).rows (λ r. AllByRecursion BySum r.parts)
+  by_all e = shown (AllByRecursion BySum) blocks (both own f.set) f.told f.texts f.parts
+      (by_said (subst Are e f.are))
+
 pub parts_are_ordered : PartsAreOrdered
 parts_are_ordered core log since reading skip question found f = ordered core log since reading skip question found f
 
@@ -103,3 +130,9 @@ in_texts_have_lines core log since reading skip question found f e = in_shown co
 
 pub by_texts_have_lines : ByTextsHaveLines
 by_texts_have_lines core log since reading skip question found f e = by_shown core log since reading skip question found f e
+
+pub in_lines_are_sums : InLinesAreSums
+in_lines_are_sums core log since reading skip question found f e = in_all core log since reading skip question found f e
+
+pub by_lines_are_sums : ByLinesAreSums
+by_lines_are_sums core log since reading skip question found f e = by_all core log since reading skip question found f e

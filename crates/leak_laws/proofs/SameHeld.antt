@@ -64,7 +64,7 @@ one_holders core log since reading skip a b f g =
 
 -- ---- the block that is asked for
 
-apart_at : (bs : List Block) (i j : ℕ) (d : Block) → AreDisjoint bs → i < j → j < length bs → span_end (get_or bs i d) ≤ (get_or bs j d).start
+pub apart_at : (bs : List Block) (i j : ℕ) (d : Block) → AreDisjoint bs → i < j → j < length bs → span_end (get_or bs i d) ≤ (get_or bs j d).start
 apart_at [] i j d apart lt low = absurd (omega arith)
 apart_at (b ∷ bs) i zero d apart lt low = absurd (omega arith)
 apart_at (b ∷ bs) zero (suc j) d apart lt low = All-from_each (λ c. span_end b ≤ c.start) bs apart.0 j d (omega arith)

@@ -27,7 +27,7 @@ then_less Less x y e h = refl
 then_less Equal x y e h = h e
 then_less Greater x y e h = cc
 
-less_is : (m n : ℕ) → nat_cmp m n ≡ Less → m < n
+pub less_is : (m n : ℕ) → nat_cmp m n ≡ Less → m < n
 less_is m n e = go (nat_lt m n) refl e
   where
     go : (b : Bool) → nat_lt m n ≡ b → cond b Less (cond (m == n) Equal Greater) ≡ Less → m < n

@@ -22,3 +22,5 @@ pub mod InSums
 pub mod HolderLines
 pub mod EscapedTexts
 pub mod PartLines
+pub mod HolderMeaning
+pub mod PartMeaning

@@ -2,7 +2,9 @@
 
 ghost use Rattle.leak_laws.specs.HeldTogether.{HolderTextsDiffer, HoldersBelongTogether, MarkedHaveHolders, OwnBlocksAreMarked};
 ghost use Rattle.leak_laws.specs.HolderLines.{AloneAreWithinNone, HoldersHaveLines, LinesAreOfMarked, OutermostHoldMarked};
+ghost use Rattle.leak_laws.specs.HolderMeaning.{LinesAreSaid};
 ghost use Rattle.leak_laws.specs.PartLines.{ByTextsHaveLines, InTextsHaveLines, PartsAreOrdered};
+ghost use Rattle.leak_laws.specs.PartMeaning.{ByLinesAreSums, InLinesAreSums};
 ghost use Rattle.leak_laws.specs.InSums.{InLinesAddUp};
 ghost use Rattle.leak_laws.specs.Held.{AnswersAreOne, AnswersOfWhyAreAsLong, ReportsOfHoldersAreOne};
 
@@ -51,10 +53,23 @@ pub fn in_lines_add_up()
     ensures { InLinesAddUp }
 {}
 
+/// Each line of a report on who holds the memory says of its text what docs/FORMAT.md says: how many counted blocks it holds, and how many
+/// are its own, with the sums of their sizes; how many other texts hold each of its marked blocks; and where the first of these is.
+pub fn holder_lines_say()
+    ensures { LinesAreSaid }
+{}
+
 /// In an answer about chosen blocks the lines are in order, and no text has two. Of what the blocks hold, a text has a line exactly if they
 /// hold a counted block of it; of who holds them, exactly if it is another text than that of the asked block, and holds a counted one of them.
 pub fn parts_have_lines()
     ensures ordered { PartsAreOrdered }
     ensures in_lines { InTextsHaveLines }
     ensures by_lines { ByTextsHaveLines }
+{}
+
+/// Each line of an answer about chosen blocks counts the blocks of its text that they hold, or of who holds them, those of them that its text
+/// holds, and has the sum of their sizes.
+pub fn part_lines_say()
+    ensures in_lines { InLinesAreSums }
+    ensures by_lines { ByLinesAreSums }
 {}

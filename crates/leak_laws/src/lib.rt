@@ -8,7 +8,8 @@
 //! - **What leaks by other options**: [`reported_stay_reported`], [`earlier_cores_keep_blocks`].
 //! - **Lines belong together**, as docs/FORMAT.md says: [`lines_belong_together`], [`check_adds_misfits`],
 //!   [`runs_write_reports`], [`holders_belong_together`], [`texts_have_holders`], [`holders_have_lines`],
-//!   [`outermost_hold_all`], [`parts_have_lines`], [`in_lines_add_up`], [`growths_add_up`].
+//!   [`holder_lines_say`], [`outermost_hold_all`], [`parts_have_lines`], [`part_lines_say`],
+//!   [`in_lines_add_up`], [`growths_add_up`].
 //! - **Bytes tell the lines**: [`reports_read_back`], [`texts_are_of_one_line`], [`growth_reads_back`],
 //!   [`holders_read_back`], [`why_reads_back`], [`answers_are_of_lines`], and what is escaped in a message
 //!   ([`escaped_texts_read_back`]).
@@ -31,8 +32,9 @@ pub use answers::{
 };
 pub use growth::{growths_add_up, reports_of_growth_are_one, worked_growths};
 pub use held::{
-    answers_of_why_are_as_long, holders_belong_together, holders_have_lines, in_lines_add_up,
-    outermost_hold_all, parts_have_lines, reports_of_holders_are_one, texts_have_holders,
+    answers_of_why_are_as_long, holder_lines_say, holders_belong_together, holders_have_lines,
+    in_lines_add_up, outermost_hold_all, part_lines_say, parts_have_lines,
+    reports_of_holders_are_one, texts_have_holders,
 };
 pub use leaks::{earlier_cores_keep_blocks, reported_stay_reported};
 pub use messages::escaped_texts_read_back;
