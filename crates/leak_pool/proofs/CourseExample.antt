@@ -39,7 +39,7 @@ of_shares blocks = (
 nothing : (caller : List ℕ) → IsShared (targets_of_block targets) 2 0 [] (round caller [] [])
 nothing caller = record {
   few = omega arith;
-  own = record { own = tt; direct = λ z. tt; all_left = λ z. refl };
+  own = record { own = tt; full = omega arith; direct = λ z. tt; all_left = λ z. refl };
   of_gained = λ b h. none_has b h;
 }
 
@@ -54,14 +54,14 @@ four_rounds = (
       refl,
       record {
         few = omega arith;
-        own = record { own = of_shares (targets_of_block targets); direct = λ z. of_shares (λ s. []); all_left = λ z. refl };
+        own = record { own = of_shares (targets_of_block targets); full = omega arith; direct = λ z. of_shares (λ s. []); all_left = λ z. refl };
         of_gained = λ b h. h;
       },
       (
         λ b h. h,
         record {
           few = omega arith;
-          own = record { own = (tt, (tt, tt)); direct = λ z. (tt, (tt, tt)); all_left = λ z. refl };
+          own = record { own = (tt, (tt, tt)); full = omega arith; direct = λ z. (tt, (tt, tt)); all_left = λ z. refl };
           of_gained = λ b h. none_has b h;
         },
         (λ b h. h, nothing (4 ∷ []), (λ b h. none_has b h, nothing [], refl)),

@@ -1,5 +1,5 @@
 -- What scanning comes to.
-use Rattle.std.specs.Prelude.{◌≡◌, ℕ, ◌+◌, ◌-◌, ◌*◌, ◌<◌, ◌≤◌, ◌⊎◌, ⊤, List, [], ◌∷◌, ◌++◌, length, map, take, drop, Result, IfOk, Vec, vec_capacity}
+use Rattle.std.specs.Prelude.{◌≡◌, ℕ, ◌+◌, ◌-◌, ◌*◌, ◌<◌, ◌≤◌, ◌⊎◌, ⊤, List, [], ◌∷◌, ◌++◌, length, map, sum_by, take, drop, Result, IfOk, Vec, vec_capacity}
 use Rattle.std.specs.declared.alloc.Global.{Global}
 use Rattle.std.specs.declared.alloc.AllocError.{AllocError}
 use Rattle.std.specs.List.{concat}
@@ -67,10 +67,13 @@ AreOwn blocks targets items workers k (g ∷ gained) =
     AreLed blocks (InRange targets (share k items workers) (share (k + 1) items workers)) [] g
     × AreOwn blocks targets items workers (k + 1) gained
 
--- The same, and if stacks hold no entry all claims are left, and each is a target of an item.
+-- The same, and what is left is what stacks could not hold: at most as many blocks as each worker claimed above what its
+-- stack holds, so none of a worker that claimed no more than that. If stacks hold no entry all claims are left, and each is
+-- a target of an item.
 pub record AreOfWorkers (blocks targets : ℕ → List ℕ) (stack items workers low : ℕ)
     (gained : List (List ℕ)) (left : List ℕ) : Type 0 where
   pub own : AreOwn blocks targets items workers low gained
+  pub full : length left ≤ sum_by (λ l. length l - stack) gained
   pub direct : stack ≡ 0 → AreOwn (λ s. []) targets items workers low gained
   pub all_left : stack ≡ 0 → left ≡ concat gained
 
@@ -78,6 +81,11 @@ pub record AreOfWorkers (blocks targets : ℕ → List ℕ) (stack items workers
 pub record IsDirect (item : ℕ → Type 0) (list left : List ℕ) : Type 0 where
   pub all_left : left ≡ list
   pub of_items : (b : ℕ) → Has list b → item b
+
+-- What a worker left of its list: at most what it claimed above what its stack holds, and all if that is no entry.
+pub record IsByStack (stack : ℕ) (item : ℕ → Type 0) (list left : List ℕ) : Type 0 where
+  pub full : length left ≤ length list - stack
+  pub direct : stack ≡ 0 → IsDirect item list left
 
 -- The workers from low up to high have scanned their shares of a round's items: one list for each of them, and together
 -- the claims that the seat gained. Of these, the left ones are not scanned.

@@ -3,7 +3,7 @@ ghost use Rattle.std.specs.Prelude.{◌≡◌, ◌<◌, ◌≤◌, ◌+◌, ◌%
 ghost use Rattle.leak_marks.specs.Seats.{IsSound};
 ghost use Rattle.leak_pool.specs.Gates.{IsNextPassed, ArePassed};
 ghost use Rattle.leak_pool.specs.Items.{IsItem, share, targets_of_item};
-ghost use Rattle.leak_pool.specs.Promises.{IsDirect, IsHolding, IsPutAway, IsWorking};
+ghost use Rattle.leak_pool.specs.Promises.{IsByStack, IsHolding, IsPutAway, IsWorking};
 ghost use Rattle.leak_pool.specs.Scene.{IsSeatOf, InShares, blocks_of};
 
 use crate::gate::Gate;
@@ -90,9 +90,9 @@ fn work<S: TargetSource, G: Gate>(
         IfOk result (λ _.
         IsWorking (blocks_of round.now) share seat.old seat.new
         hand.new.list.items [] hand.new.left.items) }
-    ensures direct { let share = InShares round.now worker (worker + 1) in
+    ensures left { let share = InShares round.now worker (worker + 1) in
         IfOk result (λ _.
-        round.now.scene.stack ≡ 0 → IsDirect share hand.new.list.items hand.new.left.items) }
+        IsByStack round.now.scene.stack share hand.new.list.items hand.new.left.items) }
     ensures gate { let scene = round.now.scene in
         let passed = IsNextPassed (G.passed gate.now) round.now.steps in
         IfOk result (λ _.
