@@ -1,7 +1,8 @@
 -- Which steps of the workers a gate let through. Before each item a worker makes a step, and its steps are counted from 0
 -- over the whole call, modulo 2^64.
-use Rattle.std.specs.Prelude.{◌≡◌, ℕ, ◌+◌, ◌-◌, ◌%◌, ◌^◌, ◌<◌, ◌≤◌, List, [], ◌∷◌, slice_index_or}
+use Rattle.std.specs.Prelude.{◌≡◌, ℕ, ◌+◌, ◌-◌, ◌%◌, ◌^◌, ◌<◌, ◌≤◌, List, [], ◌∷◌, length, slice_index_or}
 use Rattle.leak_pool.specs.Items.{share}
+use Rattle.leak_pool.specs.Scene.{Work}
 
 -- how many of n items the worker k of m has
 abbrev pub share_size : ℕ → ℕ → ℕ → ℕ
@@ -15,6 +16,15 @@ IsNextPassed passed steps k j = passed k ((slice_index_or steps k 0 + j) % 2 ^ 6
 abbrev pub ArePassed : (ℕ → ℕ → Type 0) → ℕ → ℕ → ℕ → ℕ → Type 0
 ArePassed passed n workers low high =
     (k j : ℕ) → low ≤ k → k < high → j < share_size k n workers → passed k j
+
+-- in a round the worker was let through to each item of its share
+abbrev pub HasPassedShare : (ℕ → ℕ → Type 0) → Work → ℕ → Type 0
+HasPassedShare passed work worker =
+    ArePassed (IsNextPassed passed work.steps) (length work.items) work.scene.workers worker (worker + 1)
+
+-- the worker's step after the round: from this one on, one for each item of its share
+abbrev pub step_after : Work → ℕ → ℕ → ℕ
+step_after work worker step = (step + share_size worker (length work.items) work.scene.workers) % 2 ^ 64
 
 -- how many items the worker k of m has in rounds of so many items each
 abbrev pub sizes_of : ℕ → ℕ → List ℕ → ℕ

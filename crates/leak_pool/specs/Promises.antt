@@ -6,7 +6,7 @@ use Rattle.std.specs.List.{concat}
 use Rattle.leak_marks.specs.Rounds.{AreLed, IsKept, IsKeptInRounds}
 use Rattle.leak_pool.specs.Items.{InRange, share}
 use Rattle.leak_pool.specs.Gates.{ArePassed}
-use Rattle.leak_pool.specs.Scene.{Work, blocks_of, items_of}
+use Rattle.leak_pool.specs.Scene.{Work, InShares, blocks_of, items_of}
 use Rattle.leak_pool.specs.declared.hand.Hand.{Hand}
 use Rattle.leak_pool.specs.declared.task.Gains.{Gains}
 use Rattle.leak_marks.specs.Lists.{Has, Within}
@@ -59,6 +59,16 @@ pub record IsWorking (blocks : ℕ → List ℕ) (item : ℕ → Type 0) (before
   pub few : length left + length stack ≤ length list
   pub kept : IsKept blocks item before.seen after.seen (list ∷ []) (left ++ stack)
 
+-- a hand that holds nothing
+abbrev pub IsEmptyHand : Hand → Type 0
+IsEmptyHand hand = (hand.list.items ≡ []) × (hand.stack.items ≡ []) × (hand.left.items ≡ [])
+
+-- a worker at the end of its share, with an empty stack
+abbrev pub HasWorked : Work → ℕ → Held → Held → Hand → Type 0
+HasWorked work worker before after hand =
+    IsWorking (blocks_of work) (InShares work worker (worker + 1)) before after hand.list.items []
+    hand.left.items
+
 -- The lists of the workers from k on: each claim is a target of an item of that worker's share, or of an earlier claim
 -- of its list.
 abbrev pub AreOwn : (ℕ → List ℕ) → (ℕ → List ℕ) → ℕ → ℕ → ℕ → List (List ℕ) → Type 0
@@ -67,8 +77,8 @@ AreOwn blocks targets items workers k (g ∷ gained) =
     AreLed blocks (InRange targets (share k items workers) (share (k + 1) items workers)) [] g
     × AreOwn blocks targets items workers (k + 1) gained
 
--- The same, and what is left is what stacks could not hold: at most as many blocks as each worker claimed above what its
--- stack holds, so none of a worker that claimed no more than that. If stacks hold no entry all claims are left, and each is
+-- The same, and what is left is what stacks could not hold: together at most as many blocks as each worker claimed above
+-- what its stack holds, so none if each claimed no more than that. If stacks hold no entry all claims are left, and each is
 -- a target of an item.
 pub record AreOfWorkers (blocks targets : ℕ → List ℕ) (stack items workers low : ℕ)
     (gained : List (List ℕ)) (left : List ℕ) : Type 0 where
@@ -86,6 +96,11 @@ pub record IsDirect (item : ℕ → Type 0) (list left : List ℕ) : Type 0 wher
 pub record IsByStack (stack : ℕ) (item : ℕ → Type 0) (list left : List ℕ) : Type 0 where
   pub full : length left ≤ length list - stack
   pub direct : stack ≡ 0 → IsDirect item list left
+
+-- what such a worker left at the end of its share
+abbrev pub HasLeft : Work → ℕ → Hand → Type 0
+HasLeft work worker hand =
+    IsByStack work.scene.stack (InShares work worker (worker + 1)) hand.list.items hand.left.items
 
 -- The workers from low up to high have scanned their shares of a round's items: one list for each of them, and together
 -- the claims that the seat gained. Of these, the left ones are not scanned.

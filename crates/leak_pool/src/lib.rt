@@ -12,12 +12,15 @@
 //!
 //! The contracts say which worker claimed what, round by round (specs/Course.antt), that over these rounds each worker
 //! passes the gate at a step for each item of its shares, and how many rounds there are with stacks of no entry, or alone.
-//! No contract says that two workers run at the same time, that a step passes the gate before its item is scanned and only
-//! once, or that stacks make the rounds fewer: tests show these.
+//! That a worker makes no other step in a round, an inner contract says (`worker::work`).
+//!
+//! No contract says that two workers run at the same time, that a step passes the gate before its item is scanned, that a
+//! door calls its gate only once at each step, or that stacks make the rounds fewer: tests show these.
 #![tactic(auto)]
 
 mod alone;
 mod claiming;
+mod door;
 mod edges;
 mod error;
 mod gate;

@@ -63,7 +63,7 @@ pub(crate) fn by_workers<R: Threads + Sync, S: TargetSource + Sync, G: Gate + Sy
     search: &Search<'_, S>,
     gate: &G,
     items: Items<'_>,
-    state: MarkingState,
+    mut state: MarkingState,
 ) -> Result<MarkingState, AllocError>
     requires ready { IsReady search.now state }
     requires items { All (IsItem search.now.roots search.now.targets) (items_in items) }
@@ -79,29 +79,22 @@ pub(crate) fn by_workers<R: Threads + Sync, S: TargetSource + Sync, G: Gate + Sy
     if items.len() == 0 {
         return Ok(state);
     }
-    let MarkingState {
-        seat,
-        mut claims,
-        mut waiting,
-        mut steps,
-    } = state;
+    let mut steps = state.steps;
     let round = Round {
         search,
         items,
         steps: steps.as_slice(),
     };
     let task = Gated { round, gate };
-    let (seat, gained) = scan_shares(rt, alloc, &task, seat, 0, search.workers);
+    let (seat, gained) = scan_shares(rt, alloc, &task, state.seat, 0, search.workers);
     let gained = gained?;
     count_steps(&mut steps, items.len(), search.workers);
+    state.seat = seat;
+    state.steps = steps;
+    let claims = gained.claims.as_slice();
     let left = gained.left.as_slice();
-    absorb(&mut claims, &mut waiting, gained.claims.as_slice(), left)?;
-    Ok(MarkingState {
-        seat,
-        claims,
-        waiting,
-        steps,
-    })
+    absorb(&mut state.claims, &mut state.waiting, claims, left)?;
+    Ok(state)
 }
 
 /// The caller scans one item, as worker 0. What it claims waits for the next round.

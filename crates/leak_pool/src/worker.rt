@@ -1,11 +1,12 @@
 //! What one worker does in a round.
-ghost use Rattle.std.specs.Prelude.{◌≡◌, ◌<◌, ◌≤◌, ◌+◌, ◌%◌, ◌^◌, [], length, slice_index_or, IfOk, vec_capacity};
+ghost use Rattle.std.specs.Prelude.{◌≡◌, ◌<◌, ◌≤◌, slice_index_or, IfOk, vec_capacity};
 ghost use Rattle.leak_marks.specs.Seats.{IsSound};
-ghost use Rattle.leak_pool.specs.Gates.{IsNextPassed, ArePassed};
+ghost use Rattle.leak_pool.specs.Gates.{HasPassedShare, step_after};
 ghost use Rattle.leak_pool.specs.Items.{IsItem, share, targets_of_item};
-ghost use Rattle.leak_pool.specs.Promises.{IsByStack, IsHolding, IsPutAway, IsWorking};
-ghost use Rattle.leak_pool.specs.Scene.{IsSeatOf, InShares, blocks_of};
+ghost use Rattle.leak_pool.specs.Promises.{HasLeft, HasWorked, IsEmptyHand, IsHolding, IsPutAway};
+ghost use Rattle.leak_pool.specs.Scene.{IsSeatOf};
 
+use crate::door::Door;
 use crate::gate::Gate;
 use crate::hand::{Hand, put_away};
 use crate::search::{Gated, Round};
@@ -62,41 +63,27 @@ fn steps_before<S: TargetSource>(round: &Round<'_, '_, S>, worker: u32) -> u64
     round.steps[worker as usize]
 }
 
-// The worker's next step through the gate.
-fn pass_next<G: Gate>(gate: &G, worker: u32, step: &mut u64)
-    ensures passed { G.passed gate.now worker step.old }
-    ensures counted { step.new ≡ (step.old + 1) % 2 ^ 64 }
-{
-    gate.pass(worker, *step);
-    *step = step.wrapping_add(1);
-}
-
 // One worker scans its share. Before each next item it empties its stack, by blocks that pass no gate.
 fn work<S: TargetSource, G: Gate>(
     round: &Round<'_, '_, S>,
-    gate: &G,
+    door: &mut Door<'_, G>,
     seat: &mut MarkSeat,
     hand: &mut Hand,
     worker: u32,
 ) -> Result<(), AllocError>
     requires seat { IsSeatOf round.now.scene seat.old }
     requires worker { worker < round.now.scene.workers }
-    requires none { (hand.old.list.items ≡ []) × (hand.old.stack.items ≡ [])
-        × (hand.old.left.items ≡ []) }
+    requires none { IsEmptyHand hand.old }
     requires room { round.now.scene.stack ≤ vec_capacity hand.old.stack }
+    requires door { (door.old.worker ≡ worker)
+        × (door.old.step ≡ slice_index_or round.now.steps worker 0) }
     ensures same { (seat.new.table ≡ seat.old.table) × (seat.new.share ≡ seat.old.share) }
     ensures sound { IsSound seat.new }
-    ensures done { let share = InShares round.now worker (worker + 1) in
-        IfOk result (λ _.
-        IsWorking (blocks_of round.now) share seat.old seat.new
-        hand.new.list.items [] hand.new.left.items) }
-    ensures left { let share = InShares round.now worker (worker + 1) in
-        IfOk result (λ _.
-        IsByStack round.now.scene.stack share hand.new.list.items hand.new.left.items) }
-    ensures gate { let scene = round.now.scene in
-        let passed = IsNextPassed (G.passed gate.now) round.now.steps in
-        IfOk result (λ _.
-        ArePassed passed (length round.now.items) scene.workers worker (worker + 1)) }
+    ensures done { IfOk result (λ _. HasWorked round.now worker seat.old seat.new hand.new) }
+    ensures left { IfOk result (λ _. HasLeft round.now worker hand.new) }
+    ensures gate { IfOk result (λ _. HasPassedShare (G.passed door.old.gate.now) round.now worker) }
+    ensures once { IfOk result (λ _. door.new.step ≡ step_after round.now worker door.old.step) }
+    ensures door { (door.new.gate ≡ door.old.gate) × (door.new.worker ≡ door.old.worker) }
 {
     let search = round.search;
     targets_are_blocks(search.source);
@@ -104,12 +91,11 @@ fn work<S: TargetSource, G: Gate>(
     let count = items.len();
     let mut next = share_start(worker, count, search.workers);
     let end = share_start(worker + 1, count, search.workers);
-    let mut step = steps_before(round, worker);
     'scan: loop {
         if let Some(block) = hand.stack.pop() {
             scan_one(round, seat, hand, Item::Block(block))?;
         } else if next < end {
-            pass_next(gate, worker, &mut step);
+            door.pass();
             scan_one(round, seat, hand, items.at(next))?;
             next += 1;
         } else {
@@ -148,7 +134,8 @@ impl<'a, 'b, 'c, S: TargetSource, G: Gate> Task for Gated<'a, 'b, 'c, S, G> {
             stack: Vec::with_capacity(alloc, search.stack as usize)?,
             left: Vec::new(alloc),
         };
-        work(&self.round, self.gate, seat, &mut hand, worker)?;
+        let mut door = Door::new(self.gate, worker, steps_before(&self.round, worker));
+        work(&self.round, &mut door, seat, &mut hand, worker)?;
         let Hand { list, left, .. } = hand;
         claims.push(list)?;
         Ok(Gains { claims, left })

@@ -28,7 +28,7 @@ returns-clause-done g c =
     let gains : Gains = c.in_ok-gained.gained in
     let done = subst (λ (k : ℕ). IfOk c.scan_shares-seat.result.1 (λ (g : Gains). IsHalf blocks targets scene.stack n w 0 k p.seat c.scan_shares-seat.result.0 (map items g.claims.items) g.left.items)) same_workers scanned.done in
     let h = ok_at c.scan_shares-seat.result.1 gains (λ (g : Gains). IsHalf blocks targets scene.stack n w 0 w p.seat c.scan_shares-seat.result.0 (map items g.claims.items) g.left.items) c.in_ok-gained.was done in
-    let same : c.as_slice-2.result.now ≡ gains.claims.items = c.as_slice-2.ensures.value in
+    let same : c.as_slice-claims.result.now ≡ gains.claims.items = c.as_slice-claims.ensures.value in
     let left : c.as_slice-left.result.now ≡ gains.left.items = c.as_slice-left.ensures.value in (
       map items gains.claims.items,
       gains.left.items,

@@ -1,5 +1,5 @@
 -- From the lemmas of ListLemmas, HalfLemmas and WorkLemmas.
-use Rattle.std.proofs.Common.{◌≡◌, ◌<◌, ◌≤◌, ◌∙◌, ◌+◌, ◌-◌, ◌^◌, ◌∷◌, ap, sym, subst, ℕ, List, [], length, arith}
+use Rattle.std.proofs.Common.{◌≡◌, refl, ◌<◌, ◌≤◌, ◌∙◌, ◌+◌, ◌-◌, ◌%◌, ◌^◌, ◌∷◌, ap, sym, subst, ℕ, List, [], length, arith}
 use Rattle.std.specs.Prelude.{slice_index_or, vec_capacity}
 use Rattle.std.proofs.lemmas.List.{append-nil, length-append}
 use Rattle.leak_marks.specs.Lists.{Has}
@@ -29,7 +29,8 @@ scan-init g c =
       to = omega (arith, mono, c.share_start-next.ensures.start, c.share_start-end.ensures.start);
       room = c.requires.room;
       few = omega arith;
-      step = c.steps_before-step.ensures ∙ first_step (slice_index_or w.steps k 0) first (subst (λ (x : ℕ). x < 2 ^ 64) c.steps_before-step.ensures c.steps_before-step.type_inv);
+      door = (refl, refl);
+      step = c.requires.door.1 ∙ first_step (slice_index_or w.steps k 0) first (subst (λ (x : ℕ). x < 2 ^ 64) c.requires.door.1 (omega arith));
       passed = λ j below. absurd (omega arith);
       working = working_none (blocks_of w) (InRange (items_of w) first first) c.args.seat.now c.args.hand.now.list.items c.args.hand.now.stack.items c.args.hand.now.left.items
           (λ b r. let from : first ≤ r.0 = r.1 in let below : r.0 < first = r.2 in absurd (omega arith)) c.requires.seat.sound c.requires.none.0 c.requires.none.1 c.requires.none.2;
@@ -59,6 +60,7 @@ scan-preserved-in-Continue-1 g c =
       to = i.to;
       room = let a = i.room in let b : vec_capacity later.stack ≡ vec_capacity c.scan.hand.stack = c.in_ok-scan_one.ensures.room ∙ c.pop.ensures.capacity in omega arith;
       few = put_few _ w.scene.stack c.scan.seat c.scan_one.new.seat hand later less p;
+      door = i.door;
       step = i.step;
       passed = i.passed;
       working = put_block w w.scene.stack c.share_start-next.result c.scan.next c.in-Some.block c.args.seat.now c.scan.seat c.scan_one.new.seat hand later c.scan.hand.stack.items c.in-Some.ensures.items i.working
@@ -102,8 +104,11 @@ scan-preserved g c =
       to = let t = c.if-next-end.true in omega arith;
       room = let a = i.room in let b : vec_capacity later.stack ≡ vec_capacity c.scan.hand.stack = c.in_ok-scan_one-2.ensures.room ∙ c.pop.ensures.capacity in omega arith;
       few = put_few _ w.scene.stack c.scan.seat after hand later less p;
-      step = c.pass_next.ensures.counted ∙ next_step (slice_index_or w.steps c.args.worker 0) c.share_start-next.result c.scan.next c.scan.step i.from i.step;
-      passed = next_passed (g.G.Gate.passed c.args.gate.now) w.steps c.args.worker c.share_start-next.result c.scan.next c.scan.step i.from i.step c.pass_next.ensures.passed i.passed;
+      door = (c.pass.ensures.same.0 ∙ i.door.0, c.pass.ensures.same.1 ∙ i.door.1);
+      step = c.pass.ensures.counted ∙ next_step (slice_index_or w.steps c.args.worker 0) c.share_start-next.result c.scan.next c.scan.door.step i.from i.step;
+      passed = next_passed (g.G.Gate.passed c.args.door.now.gate.now) w.steps c.args.worker c.share_start-next.result c.scan.next c.scan.door.step i.from i.step
+          (subst (λ (k : ℕ). g.G.Gate.passed c.args.door.now.gate.now k c.scan.door.step) (i.door.1 ∙ c.requires.door.0)
+          (subst (λ d. g.G.Gate.passed d.now c.scan.door.worker c.scan.door.step) i.door.0 c.pass.ensures.passed)) i.passed;
       working = put_item w w.scene.stack c.share_start-next.result c.scan.next c.args.seat.now c.scan.seat after hand later i.from
           (subst (λ (l : List ℕ). IsWorking (blocks_of w) (InRange (items_of w) c.share_start-next.result c.scan.next) c.args.seat.now c.scan.seat c.scan.hand.list.items l c.scan.hand.left.items) was i.working)
           c.scan_one-then-next-end.ensures.same.0 c.scan_one-then-next-end.ensures.same.1 c.scan_one-then-next-end.ensures.sound p;
@@ -146,5 +151,19 @@ returns-else-next-end-clause-gate g c =
     let first : c.share_start-next.result ≡ share k n m = c.share_start-next.ensures.start ∙ ap (λ (x : ℕ). share k x c.search.inside.workers) many ∙ ap (λ (x : ℕ). share k n x) same in
     let end : c.share_start-end.result ≡ share (k + 1) n m = c.share_start-end.ensures.start ∙ ap (λ (x : ℕ). share (k + 1) x c.search.inside.workers) many ∙ ap (λ (x : ℕ). share (k + 1) n x) same in
     let last : c.scan.next ≡ c.share_start-end.result = let t = i.to in let f = c.if-next-end.false in omega arith in
-    alone_passed (IsNextPassed (g.G.Gate.passed c.args.gate.now) w.steps) n m k
+    alone_passed (IsNextPassed (g.G.Gate.passed c.args.door.now.gate.now) w.steps) n m k
     (λ j below. i.passed j (let b : j < share (k + 1) n m - share k n m = below in omega arith))
+
+pub returns-else-next-end-clause-once : goal.returns-else-next-end-clause-once
+returns-else-next-end-clause-once g c =
+    let w = c.args.round.now in let k = c.args.worker in let i = c.scan.invariant in
+    let n : ℕ = length w.items in let m : ℕ = w.scene.workers in
+    let all = ap (λ (s : Scene). work (items_in c.round.inside.items) c.round.inside.steps.now s) c.search.view_is ∙ c.round.view_is in
+    let many : c.len-count.result ≡ n = c.len-count.ensures ∙ ap (λ (v : Work). length v.items) all in
+    let same : c.search.inside.workers ≡ m = ap (λ (v : Work). v.scene.workers) all in
+    let first : c.share_start-next.result ≡ share k n m = c.share_start-next.ensures.start ∙ ap (λ (x : ℕ). share k x c.search.inside.workers) many ∙ ap (λ (x : ℕ). share k n x) same in
+    let end : c.share_start-end.result ≡ share (k + 1) n m = c.share_start-end.ensures.start ∙ ap (λ (x : ℕ). share (k + 1) x c.search.inside.workers) many ∙ ap (λ (x : ℕ). share (k + 1) n x) same in
+    let last : c.scan.next ≡ c.share_start-end.result = let t = i.to in let f = c.if-next-end.false in omega arith in
+    let size : c.scan.next - c.share_start-next.result ≡ share (k + 1) n m - share k n m = omega arith in
+    i.step ∙ ap (λ (x : ℕ). (slice_index_or w.steps k 0 + x) % 2 ^ 64) size
+    ∙ ap (λ (x : ℕ). (x + (share (k + 1) n m - share k n m)) % 2 ^ 64) (sym c.requires.door.1)

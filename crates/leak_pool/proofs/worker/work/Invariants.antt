@@ -13,8 +13,9 @@ invariant-scan g l = record {
   to : l.next ≤ l.end;
   room : l.round.scene.stack ≤ vec_capacity l.hand.stack;
   few : length l.hand.stack.items ≤ l.round.scene.stack;
-  step : l.step ≡ (slice_index_or l.round.steps l.worker 0 + (l.next - l.initial.next)) % 2 ^ 64;
-  passed : (j : ℕ) → j < l.next - l.initial.next → IsNextPassed (g.G.Gate.passed l.gate) l.round.steps l.worker j;
+  door : (l.door.gate ≡ l.initial.door.gate) × (l.door.worker ≡ l.initial.door.worker);
+  step : l.door.step ≡ (slice_index_or l.round.steps l.worker 0 + (l.next - l.initial.next)) % 2 ^ 64;
+  passed : (j : ℕ) → j < l.next - l.initial.next → IsNextPassed (g.G.Gate.passed l.initial.door.gate.now) l.round.steps l.worker j;
   working : IsWorking (blocks_of l.round) (InRange (items_of l.round) l.initial.next l.next) l.initial.seat l.seat l.hand.list.items l.hand.stack.items l.hand.left.items;
   by_stack : IsByStack l.round.scene.stack (InRange (items_of l.round) l.initial.next l.next) l.hand.list.items l.hand.left.items;
 }
