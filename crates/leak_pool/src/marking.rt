@@ -1,5 +1,5 @@
 //! Marking by worker threads.
-ghost use Rattle.std.specs.Prelude.{◌≡◌, ◌↔◌, ◌<◌, ◌-◌, ◌^◌, [], IfOk, IsErrOf, length};
+ghost use Rattle.std.specs.Prelude.{◌≡◌, ◌↔◌, ◌<◌, ◌≤◌, ◌-◌, ◌^◌, [], IfOk, IsErrOf, length};
 ghost use Rattle.leak_roots.specs.Cut.{pieces_of};
 ghost use Rattle.leak_roots.specs.Pieces.{AreCut};
 ghost use Rattle.leak_pool.specs.Course.{IsByRounds, IsThroughGate};
@@ -13,7 +13,7 @@ use crate::marking_by_rounds::mark_by_rounds;
 use crate::plan::Plan;
 use crate::scope::Scope;
 use crate::start::Start;
-use leak_blocks::Live;
+use leak_blocks::{Block, Live};
 use leak_elf::Words;
 use leak_index::Lookup;
 use leak_roots::{Pieces, Roots};
@@ -74,17 +74,12 @@ pub fn mark_from<R: Threads + Sync, W: Words + Sync, L: Lookup + Sync, G: Gate +
     ensures course { let w = W.word_at words.now in let i = L.index lookup.now in
         IfOk result (IsByRounds w i roots.now pages.now start.now.rescan.items plan) }
     ensures depth { let w = W.word_at words.now in let i = L.index lookup.now in
-        let graph = graph_from w i roots.now pages.now start.now in
-        IfOk result (λ m.
+        let graph = graph_from w i roots.now pages.now start.now in IfOk result (λ m.
         plan.stack ≡ 0 → 0 < length live.now.blocks → AreByDepth graph m.rounds) }
-    ensures gate { let w = W.word_at words.now in let i = L.index lookup.now in
-        let again = start.now.rescan.items in
-        IfOk result (IsThroughGate (G.passed gate.now) w i roots.now pages.now again plan) }
+    ensures gate { let w = W.word_at words.now in let i = L.index lookup.now in IfOk result
+        (IsThroughGate (G.passed gate.now) w i roots.now pages.now start.now.rescan.items plan) }
 {
-    let blocks = live.blocks();
-    if blocks.len() > u32::MAX as usize {
-        return Err(PoolError::TooMany);
-    }
+    let blocks = numbered_blocks(live)?;
     let pieces = pieces_of(alloc, roots, plan)?;
     let scope = Scope {
         words,
@@ -96,9 +91,20 @@ pub fn mark_from<R: Threads + Sync, W: Words + Sync, L: Lookup + Sync, G: Gate +
         rescan: start.rescan.as_slice(),
         pages,
     };
-    let given = start.marked.as_slice();
-    let marked = mark_by_rounds(rt, alloc, &scope, gate, plan, given)?;
-    Ok(marked)
+    Ok(mark_by_rounds(rt, alloc, &scope, gate, plan, start.marked.as_slice())?)
+}
+
+/// The live blocks, unless there are more than claims can name.
+pub(crate) fn numbered_blocks(live: &Live) -> Result<&[Block], PoolError>
+    ensures many { IsErrOf result PoolError.TooMany ↔ (2 ^ 32 - 1 < length live.now.blocks) }
+    ensures blocks { IfOk result (λ blocks. blocks.now ≡ live.now.blocks) }
+    ensures few { IfOk result (λ _. length live.now.blocks ≤ 2 ^ 32 - 1) }
+{
+    let blocks = live.blocks();
+    if blocks.len() > u32::MAX as usize {
+        return Err(PoolError::TooMany);
+    }
+    Ok(blocks)
 }
 
 /// The pieces of the roots. A piece of a plan has a word, so only memory can be missing.

@@ -10,7 +10,7 @@ use crate::edges::{Edges, edges_of};
 use crate::error::PoolError;
 use crate::gate::Gate;
 use crate::marked::Marked;
-use crate::marking::pieces_of;
+use crate::marking::{numbered_blocks, pieces_of};
 use crate::marking_by_rounds::mark_by_rounds;
 use crate::plan::Plan;
 use crate::room::EdgeRoom;
@@ -50,10 +50,7 @@ pub fn mark_by_edges<R: Threads + Sync, W: Words + Sync, L: Lookup + Sync, G: Ga
     ensures gate { let w = W.word_at words.now in let i = L.index lookup.now in
         IfOk result (IsThroughGate (G.passed gate.now) w i roots.now [] [] plan) }
 {
-    let blocks = live.blocks();
-    if blocks.len() > u32::MAX as usize {
-        return Err(PoolError::TooMany);
-    }
+    let blocks = numbered_blocks(live)?;
     let pieces = pieces_of(alloc, roots, plan)?;
     let pages = Pages::new(Vec::new(alloc)).unwrap();
     let scope = Scope {

@@ -50,6 +50,22 @@ fn no_claims(alloc: Global, workers: u32) -> Result<Vec<Vec<u32>>, AllocError>
     Ok(claims)
 }
 
+// Marking before its first round: nothing is claimed, and no worker has made a step.
+fn fresh_state(alloc: Global, seat: MarkSeat, workers: u32) -> Result<MarkingState, AllocError>
+    ensures seat { IfOk result (λ p. p.seat ≡ seat) }
+    ensures claims { IfOk result (λ p. as_lists p.claims.items ≡ replicate workers []) }
+    ensures count { IfOk result (λ p. length p.claims.items ≡ workers) }
+    ensures waiting { IfOk result (λ p. p.waiting.items ≡ []) }
+    ensures steps { IfOk result (λ p. p.steps.items ≡ replicate workers 0) }
+{
+    Ok(MarkingState {
+        seat,
+        claims: no_claims(alloc, workers)?,
+        waiting: Vec::new(alloc),
+        steps: vec![in alloc; 0u64; workers as usize]?,
+    })
+}
+
 /// The first round: the first seat claims the start's blocks, and the workers scan the roots.
 fn first_round<R: Threads + Sync, S: TargetSource + Sync, G: Gate + Sync>(
     rt: &R,
@@ -81,8 +97,7 @@ fn mark_words<R: Threads + Sync, S: TargetSource + Sync, G: Gate + Sync>(
 ) -> Result<(Vec<u64>, Vec<Vec<u32>>, u64), AllocError>
     requires { All (λ b. b < length (S.targets source.now)) given.now }
     ensures words { let targets = S.targets source.now in
-        let graph = graph_over (S.roots source.now) targets given.now in
-        IfOk result (λ r.
+        let graph = graph_over (S.roots source.now) targets given.now in IfOk result (λ r.
         AreWords graph (length targets) plan.workers r.0.items (as_lists r.1.items) r.2) }
     ensures course { let targets = S.targets source.now in
         IfOk result (λ r.
@@ -98,12 +113,7 @@ fn mark_words<R: Threads + Sync, S: TargetSource + Sync, G: Gate + Sync>(
     // A stack never holds more blocks than there are.
     let stack = plan.stack().min(source.blocks());
     let (marks, seat) = Marks::new(alloc, source.blocks())?;
-    let state = MarkingState {
-        seat,
-        claims: no_claims(alloc, workers)?,
-        waiting: Vec::new(alloc),
-        steps: vec![in alloc; 0u64; workers as usize]?,
-    };
+    let state = fresh_state(alloc, seat, workers)?;
     let search = Search {
         source,
         marks: &marks,

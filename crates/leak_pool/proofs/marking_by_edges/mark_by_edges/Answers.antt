@@ -14,9 +14,10 @@ use Rattle.leak_pool.proofs.marking_by_edges.mark_by_edges.Goals as goal
 
 pub invariant_of-scope : goal.invariant_of-scope
 invariant_of-scope g c =
-    let f = c.if-blocks.false in record {
+    let e = ap (λ (l : List Block). length l) c.in_ok-blocks.ensures.blocks in
+    let f = c.in_ok-blocks.ensures.few in record {
       of_live = c.requires;
-      same = c.requires ∙ sym c.blocks-blocks.ensures.value;
+      same = c.requires ∙ sym c.in_ok-blocks.ensures.blocks;
       few = omega arith;
       in_roots = c.in_ok-pieces.ensures.cut.each;
       in_blocks = tt;
