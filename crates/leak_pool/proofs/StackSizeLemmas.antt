@@ -1,14 +1,15 @@
--- A stack never holds more blocks than there are, so one of the plan's size leaves no fewer than one cut to that.
-use Rattle.std.proofs.Common.{◌≡◌, ℕ, ◌+◌, ◌-◌, ◌<◌, ◌≤◌, List, [], ◌∷◌, ◌++◌, length, map, arith}
+-- A stack never holds more blocks than there are, so one of the plan's size leaves no fewer than one cut to that. If it holds
+-- all, there is one round.
+use Rattle.std.proofs.Common.{◌≡◌, ℕ, ◌+◌, ◌-◌, ◌<◌, ◌≤◌, List, [], ◌∷◌, ◌++◌, length, map, ap, sym, ◌∙◌, subst, arith}
 use Rattle.std.specs.Prelude.{min}
 use Rattle.std.specs.List.{concat, sum_by}
-use Rattle.std.proofs.lemmas.List.{length-append}
+use Rattle.std.proofs.lemmas.List.{length-append, nil_from_length}
 use Rattle.std.proofs.lemmas.List.Sums.{sum_by-cons}
-use Rattle.leak_marks.specs.Lists.{times}
+use Rattle.leak_marks.specs.Lists.{times, Has, IsDistinct}
 use Rattle.leak_marks.specs.Seats.{Held}
 use Rattle.leak_pool.specs.Items.{targets_of_block}
 use Rattle.leak_pool.specs.Rounds.{IsGoing, Going, graph_over}
-use Rattle.leak_pool.specs.Course.{Round, IsShared, AreLater, AreRounds, IsCourse, claims_in}
+use Rattle.leak_pool.specs.Course.{Round, IsShared, AreLater, AreRounds, IsCourse, HaveLed, claims_in}
 use Rattle.leak_pool.proofs.CountLemmas.{few_distinct}
 use Rattle.leak_pool.proofs.DepthLemmas.{times_course}
 
@@ -82,3 +83,43 @@ course_by_plan roots targets start w stack plan claims seat rounds cut going c =
   timely = c.timely;
   claims_are = c.claims_are;
 }
+
+-- ---- stacks that hold all blocks
+
+none_above : (stack : ℕ) (gained : List (List ℕ)) → length (concat gained) ≤ stack → sum_by (λ (l : List ℕ). length l - stack) gained ≡ 0
+none_above stack [] few = omega arith
+none_above stack (g ∷ gained) few =
+    let a : sum_by (λ (l : List ℕ). length l - stack) (g ∷ gained) ≡ (length g - stack) + sum_by (λ (l : List ℕ). length l - stack) gained = sum_by-cons (λ (l : List ℕ). length l - stack) g gained in
+    let b : length (concat (g ∷ gained)) ≡ length g + length (concat gained) = length-append g (concat gained) in
+    let r : sum_by (λ (l : List ℕ). length l - stack) gained ≡ 0 = none_above stack gained (omega arith) in omega arith
+
+-- then nothing is left
+pub one_round : (roots targets : List (List ℕ)) (w stack count : ℕ) (claims : List (List ℕ)) → IsDistinct (concat claims) → ((b : ℕ) → Has (concat claims) b → b < length targets) → length targets ≤ stack
+    → HaveLed roots targets w stack count claims [] → count ≡ 1
+one_round roots targets w stack count claims once inside many led = go led.0 led.1 led.2
+  where
+    go : (rounds : List Round) → length rounds ≡ count → IsCourse roots targets w stack claims [] rounds → count ≡ 1
+    go [] long c = absurd c.are
+    go (r ∷ rounds) long c = alone rounds long (subst (λ (l : List ℕ). AreLater (targets_of_block targets) w stack l rounds []) none_waits c.are.2)
+      where
+        same : (b : ℕ) → times b (concat claims) ≡ times b (claims_in (r ∷ rounds))
+        same b = times_course b w c.some roots targets stack claims (r ∷ rounds) c
+
+        few : length (claims_in (r ∷ rounds)) ≤ length targets
+        few = few_distinct (length targets) (claims_in (r ∷ rounds)) (λ b. let t = same b in let o : times b (concat claims) ≤ 1 = once b in omega arith)
+            (λ b h. inside b (let t = same b in let o : 0 < times b (claims_in (r ∷ rounds)) = h in let z : 0 < times b (concat claims) = omega arith in z))
+
+        gained_few : length (concat r.gained) ≤ stack
+        gained_few =
+            let a : length (claims_in (r ∷ rounds)) ≡ length (r.caller ++ concat r.gained) + length (claims_in rounds) = length-append (r.caller ++ concat r.gained) (claims_in rounds) in
+            let b : length (r.caller ++ concat r.gained) ≡ length r.caller + length (concat r.gained) = length-append r.caller (concat r.gained) in let f = few in omega arith
+
+        none_left : length r.left ≡ 0
+        none_left = let f = c.are.1.own.full in let z = none_above stack r.gained gained_few in omega arith
+
+        none_waits : r.caller ++ r.left ≡ []
+        none_waits = ap (λ (l : List ℕ). l ++ r.left) c.are.0 ∙ nil_from_length r.left none_left
+
+        alone : (more : List Round) → length (r ∷ more) ≡ count → AreLater (targets_of_block targets) w stack [] more [] → count ≡ 1
+        alone [] is later = sym is
+        alone (q ∷ more) is later = absurd later
