@@ -1,12 +1,13 @@
--- A worked course: two workers, two parts of the roots, five blocks, stacks of no entry.
-use Rattle.std.proofs.Common.{ℕ, List, [], ◌∷◌, refl, sym, subst, inl, ⊎_elim, slice_index_or, arith}
+-- A worked course: two workers, two parts of the roots, five blocks, stacks of no entry. It is none of stacks that hold all.
+use Rattle.std.proofs.Common.{◌≡◌, ℕ, ◌<◌, List, [], ◌∷◌, refl, sym, subst, inl, ⊎_elim, slice_index_or, arith}
 use Rattle.std.specs.List.{AllByRecursion}
 use Rattle.leak_marks.specs.Lists.{Has}
-use Rattle.leak_marks.proofs.ListLemmas.{here, there, at_head}
+use Rattle.leak_marks.proofs.ListLemmas.{here, there, at_head, distinct_nil, distinct_push}
 use Rattle.leak_pool.specs.Items.{share, targets_of_block}
 use Rattle.leak_pool.specs.Promises.{AreOwn}
 use Rattle.leak_pool.specs.Course.{Round, IsShared, HaveLed}
 use Rattle.leak_pool.proofs.ScanLemmas.{none_has}
+use Rattle.leak_pool.proofs.StackSizeLemmas.{one_round}
 
 -- the parts of the roots lead to 0 and 1, and to 2; 0 and 2 lead to 3, and 3 to 4
 abbrev roots : List (List ℕ)
@@ -39,7 +40,7 @@ of_shares blocks = (
 nothing : (caller : List ℕ) → IsShared (targets_of_block targets) 2 0 [] (round caller [] [])
 nothing caller = record {
   few = omega arith;
-  own = record { own = tt; direct = λ z. tt; all_left = λ z. refl };
+  own = record { own = tt; full = omega arith; direct = λ z. tt; all_left = λ z. refl };
   of_gained = λ b h. none_has b h;
 }
 
@@ -54,14 +55,14 @@ four_rounds = (
       refl,
       record {
         few = omega arith;
-        own = record { own = of_shares (targets_of_block targets); direct = λ z. of_shares (λ s. []); all_left = λ z. refl };
+        own = record { own = of_shares (targets_of_block targets); full = omega arith; direct = λ z. of_shares (λ s. []); all_left = λ z. refl };
         of_gained = λ b h. h;
       },
       (
         λ b h. h,
         record {
           few = omega arith;
-          own = record { own = (tt, (tt, tt)); direct = λ z. (tt, (tt, tt)); all_left = λ z. refl };
+          own = record { own = (tt, (tt, tt)); full = omega arith; direct = λ z. (tt, (tt, tt)); all_left = λ z. refl };
           of_gained = λ b h. none_has b h;
         },
         (λ b h. h, nothing (4 ∷ []), (λ b h. none_has b h, nothing [], refl)),
@@ -74,3 +75,20 @@ four_rounds = (
     claims_are = refl;
   },
 )
+
+inside : (n : ℕ) (xs : List ℕ) → AllByRecursion (λ x. x < n) xs → (b : ℕ) → Has xs b → b < n
+inside n [] all b h = none_has b h
+inside n (x ∷ xs) all b h = ⊎_elim (λ e. subst (λ (z : ℕ). z < n) e all.0) (λ r. inside n xs all.1 b r) (at_head x xs b h)
+
+one_or_four : (n : ℕ) → n ≡ 1 → n ≡ 4 → ⊥
+one_or_four n one four = omega arith
+
+-- If stacks hold five blocks, nothing waits after the first round. So workers that use no stack in place of such ones don't
+-- keep the contract.
+pub not_four_rounds : HaveLed roots targets 2 5 4 ((0 ∷ 1 ∷ 3 ∷ 4 ∷ []) ∷ (2 ∷ []) ∷ []) [] → ⊥
+not_four_rounds led = one_or_four 4
+    (one_round roots targets 2 5 4 ((0 ∷ 1 ∷ 3 ∷ 4 ∷ []) ∷ (2 ∷ []) ∷ [])
+    (distinct_push (0 ∷ 1 ∷ 3 ∷ 4 ∷ []) 2 (λ h. none_has 2 h) (distinct_push (0 ∷ 1 ∷ 3 ∷ []) 4 (λ h. none_has 4 h)
+    (distinct_push (0 ∷ 1 ∷ []) 3 (λ h. none_has 3 h) (distinct_push (0 ∷ []) 1 (λ h. none_has 1 h) (distinct_push [] 0 (λ h. none_has 0 h) distinct_nil)))))
+    (inside 5 (0 ∷ 1 ∷ 3 ∷ 4 ∷ 2 ∷ []) (omega arith, (omega arith, (omega arith, (omega arith, (omega arith, tt)))))) (omega arith) led)
+    refl

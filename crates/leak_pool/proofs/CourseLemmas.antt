@@ -11,7 +11,7 @@ use Rattle.leak_pool.specs.declared.target_source.Item.{Item}
 use Rattle.leak_pool.specs.declared.target_source.Item.TheVariants.{Root, Block}
 use Rattle.leak_pool.specs.Promises.{AreOwn, AreOfWorkers, IsScanned}
 use Rattle.leak_pool.specs.Rounds.{IsStep}
-use Rattle.leak_pool.specs.Course.{Round, IsShared, AreLater, AreRounds, AreTimely, IsCourse, claims_in, with_round, with_rounds}
+use Rattle.leak_pool.specs.Course.{Round, IsShared, AreLater, AreRounds, AreTimely, claims_in, with_round, with_rounds}
 use Rattle.leak_pool.specs.MarkingState.{HaveCome, AreOfOne, led_in}
 use Rattle.leak_pool.proofs.HalfLemmas.{share_within}
 use Rattle.leak_pool.proofs.ScanLemmas.{none_has}
@@ -38,6 +38,7 @@ module _ (T T' : ℕ → List ℕ) (n w : ℕ) (some : 0 < w) (same : (j : ℕ) 
   workers_same : (blocks : ℕ → List ℕ) (stack : ℕ) (gained : List (List ℕ)) (left : List ℕ) → length gained ≤ w → AreOfWorkers blocks T stack n w 0 gained left → AreOfWorkers blocks T' stack n w 0 gained left
   workers_same blocks stack gained left few a = record {
     own = own_same blocks 0 gained (omega arith) a.own;
+    full = a.full;
     direct = λ z. own_same (λ s. []) 0 gained (omega arith) (a.direct z);
     all_left = a.all_left;
   }
@@ -197,26 +198,3 @@ module _ (roots targets : List (List ℕ)) (w stack n : ℕ) (x : ℕ) (ws : Lis
           (λ m. let p = of_flat_map (targets_of_block targets) ws b m in
           two.kept.covers b (subst (λ (l : List Item). InRange (targets_at roots targets l) 0 (length l) b) (sym items_are) (to_block roots targets ws p.0 b p.1 p.2 (blocks_long ws))))
           (of_append (targets_of_block targets x) (flat_map (targets_of_block targets) ws) b h)
-
--- ---- fewer entries
-
-shared_less : (blocks : ℕ → List ℕ) (w stack less : ℕ) (items : List (List ℕ)) (r : Round) → (less ≡ 0 → stack ≡ 0) → IsShared blocks w stack items r → IsShared blocks w less items r
-shared_less blocks w stack less items r none s = record {
-  few = s.few;
-  own = record { own = s.own.own; direct = λ z. s.own.direct (none z); all_left = λ z. s.own.all_left (none z) };
-  of_gained = s.of_gained;
-}
-
-later_less : (blocks : ℕ → List ℕ) (w stack less : ℕ) (waiting : List ℕ) (rounds : List Round) (end : List ℕ) → (less ≡ 0 → stack ≡ 0) → AreLater blocks w stack waiting rounds end → AreLater blocks w less waiting rounds end
-later_less blocks w stack less waiting [] end none later = later
-later_less blocks w stack less [] (r ∷ rounds) end none later = absurd later
-later_less blocks w stack less (x ∷ waiting) (r ∷ rounds) end none later =
-    (later.0, shared_less blocks w stack less (map blocks waiting) r none later.1, later_less blocks w stack less (r.caller ++ r.left) rounds end none later.2)
-
-rounds_less : (roots targets : List (List ℕ)) (w stack less : ℕ) (rounds : List Round) (end : List ℕ) → (less ≡ 0 → stack ≡ 0) → AreRounds roots targets w stack rounds end → AreRounds roots targets w less rounds end
-rounds_less roots targets w stack less [] end none are = absurd are
-rounds_less roots targets w stack less (r ∷ rounds) end none are =
-    (are.0, shared_less (targets_of_block targets) w stack less roots r none are.1, later_less (targets_of_block targets) w stack less (r.caller ++ r.left) rounds end none are.2)
-
-pub course_less : (roots targets : List (List ℕ)) (w stack less : ℕ) (claims : List (List ℕ)) (waiting : List ℕ) (rounds : List Round) → (less ≡ 0 → stack ≡ 0) → IsCourse roots targets w stack claims waiting rounds → IsCourse roots targets w less claims waiting rounds
-course_less roots targets w stack less claims waiting rounds none c = record { some = c.some; are = rounds_less roots targets w stack less rounds waiting none c.are; timely = c.timely; claims_are = c.claims_are }

@@ -156,6 +156,18 @@ module _ (b : ℕ) (w : ℕ) (some : 0 < w) where
       let one : times b (concat (with_round claims r)) ≡ times b (concat claims) + times b (r.caller ++ concat r.gained) = times_round claims r later.1.few long in
       let all : times b (claims_in (r ∷ rounds)) ≡ times b (r.caller ++ concat r.gained) + times b (claims_in rounds) = times-append b (r.caller ++ concat r.gained) (claims_in rounds) in omega arith
 
+  pub times_course : (roots targets : List (List ℕ)) (stack : ℕ) (claims : List (List ℕ)) (rounds : List Round) → IsCourse roots targets w stack claims [] rounds → times b (concat claims) ≡ times b (claims_in rounds)
+  times_course roots targets stack claims [] c = absurd c.are
+  times_course roots targets stack claims (r ∷ rounds) c =
+      let none_at_first : List (List ℕ) = replicate w [] in
+      let l : length none_at_first ≡ w = length-replicate {A = List ℕ} w [] in
+      let none : times b (concat none_at_first) ≡ 0 = ap (λ (l : List ℕ). times b l) (nothing_held w) in
+      let one : times b (concat (with_round none_at_first r)) ≡ times b (concat none_at_first) + times b (r.caller ++ concat r.gained) = times_round none_at_first r c.are.1.few l in
+      let rest : times b (concat (with_rounds none_at_first (r ∷ rounds))) ≡ times b (concat (with_round none_at_first r)) + times b (claims_in rounds) =
+      times_later (targets_of_block targets) stack (r.caller ++ r.left) rounds (with_round none_at_first r) c.are.2 (long_round none_at_first r ∙ l) in
+      let all : times b (claims_in (r ∷ rounds)) ≡ times b (r.caller ++ concat r.gained) + times b (claims_in rounds) = times-append b (r.caller ++ concat r.gained) (claims_in rounds) in
+      let whole : times b (concat claims) ≡ times b (concat (with_rounds none_at_first (r ∷ rounds))) = ap (λ (x : List (List ℕ)). times b (concat x)) c.claims_are in omega arith
+
 -- ---- the law
 
 depth_of_rounds : (roots targets : List (List ℕ)) (given : List ℕ) (w : ℕ) (claims : List (List ℕ)) (r : Round) (rounds : List Round) → IsCourse roots targets w 0 claims [] (r ∷ rounds) → Partitions claims (Reach (graph_over roots targets given))
@@ -182,15 +194,7 @@ depth_of_rounds roots targets given w claims r rounds c part = record {
     is = waits (targets_of_block targets) w roots r c.are.1
 
     counts : (b : ℕ) → times b (concat claims) ≡ times b (claims_in (r ∷ rounds))
-    counts b =
-        let none_at_first : List (List ℕ) = replicate w [] in
-        let l : length none_at_first ≡ w = length-replicate {A = List ℕ} w [] in
-        let none : times b (concat none_at_first) ≡ 0 = ap (λ (l : List ℕ). times b l) (nothing_held w) in
-        let one : times b (concat (with_round none_at_first r)) ≡ times b (concat none_at_first) + times b (r.caller ++ concat r.gained) = times_round b w c.some none_at_first r c.are.1.few l in
-        let rest : times b (concat (with_rounds none_at_first (r ∷ rounds))) ≡ times b (concat (with_round none_at_first r)) + times b (claims_in rounds) =
-        times_later b w c.some (targets_of_block targets) 0 (r.caller ++ r.left) rounds (with_round none_at_first r) later (long_round b w c.some none_at_first r ∙ l) in
-        let all : times b (claims_in (r ∷ rounds)) ≡ times b (r.caller ++ concat r.gained) + times b (claims_in rounds) = times-append b (r.caller ++ concat r.gained) (claims_in rounds) in
-        let whole : times b (concat claims) ≡ times b (concat (with_rounds none_at_first (r ∷ rounds))) = ap (λ (x : List (List ℕ)). times b (concat x)) c.claims_are in omega arith
+    counts b = times_course b w c.some roots targets 0 claims (r ∷ rounds) c
 
     reached : (b : ℕ) → Has (claims_in (r ∷ rounds)) b → Reach g b
     reached b h = part.only b (let t = counts b in let o : 0 < times b (claims_in (r ∷ rounds)) = h in let z : 0 < times b (concat claims) = omega arith in z)

@@ -1,12 +1,13 @@
 -- Promises of halves, put together.
-use Rattle.std.proofs.Common.{◌≡◌, ◌⊎◌, ℕ, ◌+◌, ◌-◌, ◌*◌, ◌/◌, ◌%◌, ◌<◌, ◌≤◌, List, [], ◌∷◌, ◌++◌, length, map, Ok, Err, sym, ap, ◌∙◌, subst, inl, inr, ⊎_elim, arith, append_assoc}
+use Rattle.std.proofs.Common.{◌≡◌, ◌⊎◌, ℕ, ◌+◌, ◌-◌, ◌*◌, ◌/◌, ◌%◌, ◌<◌, ◌≤◌, List, [], ◌∷◌, ◌++◌, length, map, Ok, Err, sym, ap, ◌∙◌, subst, inl, inr, arith, append_assoc}
 use Rattle.std.specs.Prelude.{Option, Some, IfSome, Result, IfOk, IsOkAnd}
-use Rattle.std.specs.List.{concat}
+use Rattle.std.specs.List.{concat, sum_by}
 use Rattle.std.proofs.lemmas.Nat.{le-div}
 use Rattle.std.proofs.Math.Nat.{div-mul-le_self, mul-le-mul_right, mul-add-div_right, mul-div_cancel_left, mul-div-le, mul-add, mul_assoc}
 use Rattle.std.proofs.lemmas.Nat.{div-add-mod'}
 use Rattle.std.proofs.lemmas.List.{length-append, map-append}
 use Rattle.std.proofs.lemmas.List.Folds.{concat-append}
+use Rattle.std.proofs.lemmas.List.Sums.{sum_by-append}
 use mathlib.Core.Logic.{dite}
 use native.Mathlib.Decide.{dec_lt}
 use Rattle.leak_marks.specs.Seats.{Held, held}
@@ -65,6 +66,9 @@ workers_both : (blocks targets : ℕ → List ℕ) (stack items workers low midd
     → AreOfWorkers blocks targets stack items workers low g1 l1 → AreOfWorkers blocks targets stack items workers middle g2 l2 → AreOfWorkers blocks targets stack items workers low (g1 ++ g2) (l1 ++ l2)
 workers_both blocks targets stack items workers low middle g1 g2 l1 l2 count a b = record {
   own = own_both blocks targets items workers low middle g1 g2 count a.own b.own;
+  full = let above : List ℕ → ℕ = λ l. length l - stack in
+      let s : sum_by above (g1 ++ g2) ≡ sum_by above g1 + sum_by above g2 = sum_by-append above g1 g2 in
+      let l = length-append l1 l2 in let p = a.full in let q = b.full in omega arith;
   direct = λ z. own_both (λ s. []) targets items workers low middle g1 g2 count (a.direct z) (b.direct z);
   all_left = λ z. ap (λ (l : List ℕ). l ++ l2) (a.all_left z) ∙ ap (λ (l : List ℕ). concat g1 ++ l) (b.all_left z) ∙ sym (concat-append g1 g2);
 }

@@ -18,6 +18,7 @@ pub mod EndLemmas
 pub mod ItemLemmas
 pub mod CourseLemmas
 pub mod DepthLemmas
+pub mod StackSizeLemmas
 pub mod DepthOfCores
 pub mod CourseExample
 pub mod GateLemmas

@@ -1,10 +1,11 @@
 -- A worker on the way through its share.
 use Rattle.std.proofs.Common.{◌≡◌, ◌⊎◌, ℕ, ◌+◌, ◌-◌, ◌<◌, ◌≤◌, zero, suc, List, [], ◌∷◌, ◌++◌, length, get_or, take, drop, refl, sym, ap, ◌∙◌, subst, inl, inr, ⊎_elim, arith, append_assoc}
-use Rattle.std.specs.List.{concat}
-use Rattle.std.proofs.lemmas.List.{append-nil, length-append, take-append-drop}
+use Rattle.std.specs.List.{concat, sum_by}
+use Rattle.std.proofs.lemmas.List.{append-nil, length-append, length-drop, take-append-drop}
+use Rattle.std.proofs.lemmas.List.Sums.{sum_by-cons}
 use mathlib.Core.Logic.{dite}
 use native.Mathlib.Decide.{dec_lt}
-use Rattle.leak_marks.specs.Lists.{Has, Within, IsDistinct}
+use Rattle.leak_marks.specs.Lists.{Has, IsDistinct}
 use Rattle.leak_marks.specs.Seats.{Held, IsSound}
 use Rattle.leak_marks.specs.Rounds.{AreLed, IsKept, IsKeptInRounds}
 use Rattle.leak_marks.proofs.ListLemmas.{here, there, at_head, has_front, has_back, of_append, distinct_back}
@@ -13,7 +14,7 @@ use Rattle.leak_pool.specs.Items.{InRange, share, targets_of_item}
 use Rattle.leak_pool.specs.declared.hand.Hand.{Hand}
 use Rattle.leak_pool.specs.declared.target_source.Item.{Item}
 use Rattle.leak_pool.specs.declared.target_source.Item.TheVariants.{Root, Block}
-use Rattle.leak_pool.specs.Promises.{IsPutAway, IsWorking, IsDirect, IsHalf}
+use Rattle.leak_pool.specs.Promises.{IsPutAway, IsWorking, IsByStack, IsDirect, IsHalf}
 use Rattle.leak_pool.specs.Scene.{Work, blocks_of, items_of}
 use Rattle.leak_pool.proofs.ScanLemmas.{none_has}
 use Rattle.leak_pool.proofs.CountLemmas.{few_distinct}
@@ -162,6 +163,16 @@ pub put_longer : (targets : List ℕ) (limit : ℕ) (mid after : Held) (hand lat
 put_longer targets limit mid after hand later p =
     let b : length later.list.items ≡ length hand.list.items + length p.more = ap (λ (l : List ℕ). length l) p.list_is ∙ length-append hand.list.items p.more in omega arith
 
+-- a block is left only while the stack is full
+pub put_full : (targets : List ℕ) (limit : ℕ) (mid after : Held) (hand later : Hand) → length hand.left.items + length hand.stack.items ≤ length hand.list.items → length hand.stack.items ≤ limit
+    → length hand.left.items ≤ length hand.list.items - limit → IsPutAway targets limit mid after hand later → length later.left.items ≤ length later.list.items - limit
+put_full targets limit mid after hand later held few full p =
+    let len : List ℕ → ℕ = λ l. length l in
+    let n : ℕ = limit - length hand.stack.items in
+    let a : length later.left.items ≡ length hand.left.items + length (drop n p.more) = ap len p.left_is ∙ length-append hand.left.items (drop n p.more) in
+    let b : length later.list.items ≡ length hand.list.items + length p.more = ap len p.list_is ∙ length-append hand.list.items p.more in
+    let c : length (drop n p.more) ≡ length p.more - n = length-drop n p.more in omega arith
+
 -- ---- if the stack holds no entry
 
 pub direct_none : (item : ℕ → Type 0) (list left : List ℕ) → list ≡ [] → left ≡ [] → IsDirect item list left
@@ -178,6 +189,14 @@ direct_item targets first i limit mid after hand later low empty d p = record {
     none : limit - length hand.stack.items ≡ 0
     none = let z = empty in omega arith
 
+-- ---- what is left, by what the stack holds
+
+pub by_stack_none : (stack : ℕ) (item : ℕ → Type 0) (list left : List ℕ) → list ≡ [] → left ≡ [] → IsByStack stack item list left
+by_stack_none stack item list left list_is left_is = record {
+  full = let z : length left ≡ 0 = ap (λ (l : List ℕ). length l) left_is in omega arith;
+  direct = λ z. direct_none item list left list_is left_is;
+}
+
 -- claims of items alone
 led_direct : (blocks : ℕ → List ℕ) (item : ℕ → Type 0) (earlier list : List ℕ) → ((b : ℕ) → Has list b → item b) → AreLed blocks item earlier list
 led_direct blocks item earlier [] all = tt
@@ -185,9 +204,9 @@ led_direct blocks item earlier (b ∷ list) all = (inl (all b (here b list)), le
 
 -- at the end of its share
 pub half_of_one : (blocks targets : ℕ → List ℕ) (stack items workers k : ℕ) (before after : Held) (list left : List ℕ) (gained : List (List ℕ)) (rest : List ℕ)
-    → IsWorking blocks (InRange targets (share k items workers) (share (k + 1) items workers)) before after list [] left → (stack ≡ 0 → IsDirect (InRange targets (share k items workers) (share (k + 1) items workers)) list left) → gained ≡ list ∷ [] → rest ≡ left
+    → IsWorking blocks (InRange targets (share k items workers) (share (k + 1) items workers)) before after list [] left → IsByStack stack (InRange targets (share k items workers) (share (k + 1) items workers)) list left → gained ≡ list ∷ [] → rest ≡ left
     → IsHalf blocks targets stack items workers k (k + 1) before after gained rest
-half_of_one blocks targets stack items workers k before after list left gained rest w alone one rest_is =
+half_of_one blocks targets stack items workers k before after list left gained rest w by one rest_is =
     subst (λ (l : List (List ℕ)). IsHalf blocks targets stack items workers k (k + 1) before after l rest) (sym one)
     (subst (λ (l : List ℕ). IsHalf blocks targets stack items workers k (k + 1) before after (list ∷ []) l) (sym rest_is) (record {
       count = refl;
@@ -196,8 +215,10 @@ half_of_one blocks targets stack items workers k before after list left gained r
       few = let f = w.few in let e : length (concat (list ∷ [])) ≡ length list = ap (λ (l : List ℕ). length l) whole in omega arith;
       own = record {
         own = (w.kept.led.0, tt);
-        direct = λ z. (led_direct (λ s. []) (InRange targets (share k items workers) (share (k + 1) items workers)) [] list (alone z).of_items, tt);
-        all_left = λ z. (alone z).all_left ∙ sym whole;
+        full = let above : List ℕ → ℕ = λ l. length l - stack in
+            let s : sum_by above (list ∷ []) ≡ (length list - stack) + sum_by above [] = sum_by-cons above list [] in let f = by.full in omega arith;
+        direct = λ z. (led_direct (λ s. []) (InRange targets (share k items workers) (share (k + 1) items workers)) [] list (by.direct z).of_items, tt);
+        all_left = λ z. (by.direct z).all_left ∙ sym whole;
       };
       kept = subst (λ (l : List ℕ). IsKept blocks (InRange targets (share k items workers) (share (k + 1) items workers)) before.seen after.seen (list ∷ []) l) (append-nil left) w.kept;
     }))

@@ -38,8 +38,9 @@ claims_in [] = []
 claims_in (r ∷ rounds) = (r.caller ++ concat r.gained) ++ claims_in rounds
 
 -- The workers shared out items that lead to these lists. Each claim on the list of worker k is a target of an item of
--- its share, or of an earlier claim of that list, and what was left was claimed. With stacks of no entry each is a target
--- of an item, and all is left.
+-- its share, or of an earlier claim of that list, and what was left was claimed. What was left is what stacks could not hold:
+-- together at most as many blocks as each worker claimed above what its stack holds, so none if each claimed no more than
+-- that. With stacks of no entry each is a target of an item, and all is left.
 pub record IsShared (blocks : ℕ → List ℕ) (workers stack : ℕ) (items : List (List ℕ)) (r : Round) : Type 0 where
   pub few : length r.gained ≤ workers
   pub own : AreOfWorkers blocks (λ k. slice_index_or items k []) stack (length items) workers 0 r.gained r.left

@@ -1,5 +1,5 @@
 -- What scanning comes to.
-use Rattle.std.specs.Prelude.{◌≡◌, ℕ, ◌+◌, ◌-◌, ◌*◌, ◌<◌, ◌≤◌, ◌⊎◌, ⊤, List, [], ◌∷◌, ◌++◌, length, map, take, drop, Result, IfOk, Vec, vec_capacity}
+use Rattle.std.specs.Prelude.{◌≡◌, ℕ, ◌+◌, ◌-◌, ◌*◌, ◌<◌, ◌≤◌, ◌⊎◌, ⊤, List, [], ◌∷◌, ◌++◌, length, map, sum_by, take, drop, Result, IfOk, Vec, vec_capacity}
 use Rattle.std.specs.declared.alloc.Global.{Global}
 use Rattle.std.specs.declared.alloc.AllocError.{AllocError}
 use Rattle.std.specs.List.{concat}
@@ -77,10 +77,13 @@ AreOwn blocks targets items workers k (g ∷ gained) =
     AreLed blocks (InRange targets (share k items workers) (share (k + 1) items workers)) [] g
     × AreOwn blocks targets items workers (k + 1) gained
 
--- The same, and if stacks hold no entry all claims are left, and each is a target of an item.
+-- The same, and what is left is what stacks could not hold: together at most as many blocks as each worker claimed above
+-- what its stack holds, so none if each claimed no more than that. If stacks hold no entry all claims are left, and each is
+-- a target of an item.
 pub record AreOfWorkers (blocks targets : ℕ → List ℕ) (stack items workers low : ℕ)
     (gained : List (List ℕ)) (left : List ℕ) : Type 0 where
   pub own : AreOwn blocks targets items workers low gained
+  pub full : length left ≤ sum_by (λ l. length l - stack) gained
   pub direct : stack ≡ 0 → AreOwn (λ s. []) targets items workers low gained
   pub all_left : stack ≡ 0 → left ≡ concat gained
 
@@ -89,11 +92,15 @@ pub record IsDirect (item : ℕ → Type 0) (list left : List ℕ) : Type 0 wher
   pub all_left : left ≡ list
   pub of_items : (b : ℕ) → Has list b → item b
 
--- such a worker at the end of its share, if its stack holds no entry
-abbrev pub HasWorkedDirectly : Work → ℕ → Hand → Type 0
-HasWorkedDirectly work worker hand =
-    work.scene.stack ≡ 0
-    → IsDirect (InShares work worker (worker + 1)) hand.list.items hand.left.items
+-- What a worker left of its list: at most what it claimed above what its stack holds, and all if that is no entry.
+pub record IsByStack (stack : ℕ) (item : ℕ → Type 0) (list left : List ℕ) : Type 0 where
+  pub full : length left ≤ length list - stack
+  pub direct : stack ≡ 0 → IsDirect item list left
+
+-- what such a worker left at the end of its share
+abbrev pub HasLeft : Work → ℕ → Hand → Type 0
+HasLeft work worker hand =
+    IsByStack work.scene.stack (InShares work worker (worker + 1)) hand.list.items hand.left.items
 
 -- The workers from low up to high have scanned their shares of a round's items: one list for each of them, and together
 -- the claims that the seat gained. Of these, the left ones are not scanned.

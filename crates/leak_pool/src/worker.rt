@@ -3,7 +3,7 @@ ghost use Rattle.std.specs.Prelude.{◌≡◌, ◌<◌, ◌≤◌, slice_index_o
 ghost use Rattle.leak_marks.specs.Seats.{IsSound};
 ghost use Rattle.leak_pool.specs.Gates.{HasPassedShare, step_after};
 ghost use Rattle.leak_pool.specs.Items.{IsItem, share, targets_of_item};
-ghost use Rattle.leak_pool.specs.Promises.{HasWorked, HasWorkedDirectly, IsEmptyHand, IsHolding, IsPutAway};
+ghost use Rattle.leak_pool.specs.Promises.{HasLeft, HasWorked, IsEmptyHand, IsHolding, IsPutAway};
 ghost use Rattle.leak_pool.specs.Scene.{IsSeatOf};
 
 use crate::door::Door;
@@ -80,7 +80,7 @@ fn work<S: TargetSource, G: Gate>(
     ensures same { (seat.new.table ≡ seat.old.table) × (seat.new.share ≡ seat.old.share) }
     ensures sound { IsSound seat.new }
     ensures done { IfOk result (λ _. HasWorked round.now worker seat.old seat.new hand.new) }
-    ensures direct { IfOk result (λ _. HasWorkedDirectly round.now worker hand.new) }
+    ensures left { IfOk result (λ _. HasLeft round.now worker hand.new) }
     ensures gate { IfOk result (λ _. HasPassedShare (G.passed door.old.gate.now) round.now worker) }
     ensures once { IfOk result (λ _. door.new.step ≡ step_after round.now worker door.old.step) }
     ensures door { (door.new.gate ≡ door.old.gate) × (door.new.worker ≡ door.old.worker) }

@@ -43,7 +43,7 @@ pub returns-then-len-eq0-clause-done : goal.returns-then-len-eq0-clause-done
 returns-then-len-eq0-clause-done g c =
     let scene = c.args.search.now in let p = c.args.state in
     let none : length (items_in c.args.items) ≡ 0 = search rules in
-    ([], [], step_of_none (targets_of_block scene.targets) (targets_at scene.roots scene.targets (items_in c.args.items)) (length (items_in c.args.items)) scene.workers (map items p.claims.items) p.waiting.items p.seat none c.requires.ready.sound, record { own = tt; direct = λ z. tt; all_left = λ z. refl })
+    ([], [], step_of_none (targets_of_block scene.targets) (targets_at scene.roots scene.targets (items_in c.args.items)) (length (items_in c.args.items)) scene.workers (map items p.claims.items) p.waiting.items p.seat none c.requires.ready.sound, record { own = tt; full = omega arith; direct = λ z. tt; all_left = λ z. refl })
 
 pub returns-clause-gate : goal.returns-clause-gate
 returns-clause-gate g c =

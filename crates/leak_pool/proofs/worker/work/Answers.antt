@@ -12,7 +12,7 @@ use Rattle.leak_pool.specs.Promises.{IsPutAway, IsWorking}
 use Rattle.leak_pool.specs.Scene.{Scene, Work, blocks_of, items_of}
 use Rattle.leak_pool.specs.Gates.{IsNextPassed}
 use Rattle.leak_pool.proofs.HalfLemmas.{share-mono}
-use Rattle.leak_pool.proofs.WorkLemmas.{working_none, worker_inside, worker_few, put_block, put_item, put_few, put_grown, put_longer, direct_none, direct_item}
+use Rattle.leak_pool.proofs.WorkLemmas.{working_none, worker_inside, worker_few, put_block, put_item, put_few, put_grown, put_longer, put_full, direct_item, by_stack_none}
 use Rattle.leak_pool.proofs.GateLemmas.{next_passed, first_step, next_step, alone_passed}
 use Rattle.leak_pool.proofs.worker.work.Goals as goal
 
@@ -34,7 +34,7 @@ scan-init g c =
       passed = λ j below. absurd (omega arith);
       working = working_none (blocks_of w) (InRange (items_of w) first first) c.args.seat.now c.args.hand.now.list.items c.args.hand.now.stack.items c.args.hand.now.left.items
           (λ b r. let from : first ≤ r.0 = r.1 in let below : r.0 < first = r.2 in absurd (omega arith)) c.requires.seat.sound c.requires.none.0 c.requires.none.1 c.requires.none.2;
-      direct = λ z. direct_none (InRange (items_of w) first first) c.args.hand.now.list.items c.args.hand.now.left.items c.requires.none.0 c.requires.none.2;
+      by_stack = by_stack_none w.scene.stack (InRange (items_of w) first first) c.args.hand.now.list.items c.args.hand.now.left.items c.requires.none.0 c.requires.none.2;
     }
 
 pub scan_one-requires-clause-item : goal.scan_one-requires-clause-item
@@ -65,7 +65,10 @@ scan-preserved-in-Continue-1 g c =
       passed = i.passed;
       working = put_block w w.scene.stack c.share_start-next.result c.scan.next c.in-Some.block c.args.seat.now c.scan.seat c.scan_one.new.seat hand later c.scan.hand.stack.items c.in-Some.ensures.items i.working
           c.scan_one.ensures.same.0 c.scan_one.ensures.same.1 c.scan_one.ensures.sound p;
-      direct = λ z. absurd (let f = i.few in omega arith);
+      by_stack = record {
+        full = put_full _ w.scene.stack c.scan.seat c.scan_one.new.seat hand later (let h = i.working.few in omega arith) less i.by_stack.full p;
+        direct = λ z. absurd (let f = i.few in omega arith);
+      };
     }
 
 pub scan-smaller-in-Continue-1 : goal.scan-smaller-in-Continue-1
@@ -109,7 +112,10 @@ scan-preserved g c =
       working = put_item w w.scene.stack c.share_start-next.result c.scan.next c.args.seat.now c.scan.seat after hand later i.from
           (subst (λ (l : List ℕ). IsWorking (blocks_of w) (InRange (items_of w) c.share_start-next.result c.scan.next) c.args.seat.now c.scan.seat c.scan.hand.list.items l c.scan.hand.left.items) was i.working)
           c.scan_one-then-next-end.ensures.same.0 c.scan_one-then-next-end.ensures.same.1 c.scan_one-then-next-end.ensures.sound p;
-      direct = λ z. direct_item (items_of w) c.share_start-next.result c.scan.next w.scene.stack c.scan.seat after hand later i.from z (i.direct z) p;
+      by_stack = record {
+        full = put_full _ w.scene.stack c.scan.seat after hand later (let h = i.working.few in let e = ap (λ (l : List ℕ). length l) was in omega arith) less i.by_stack.full p;
+        direct = λ z. direct_item (items_of w) c.share_start-next.result c.scan.next w.scene.stack c.scan.seat after hand later i.from z (i.by_stack.direct z) p;
+      };
     }
 
 pub scan-smaller : goal.scan-smaller

@@ -2,7 +2,7 @@
 use Rattle.std.proofs.Common.{◌+◌, ◌-◌, ◌≡◌, ◌≤◌, length, vec_capacity, ℕ, ◌%◌, ◌^◌, ◌<◌}
 use Rattle.std.specs.Prelude.{slice_index_or}
 use Rattle.leak_pool.specs.Items.{InRange}
-use Rattle.leak_pool.specs.Promises.{IsWorking, IsDirect}
+use Rattle.leak_pool.specs.Promises.{IsWorking, IsByStack}
 use Rattle.leak_pool.specs.Gates.{IsNextPassed}
 use Rattle.leak_pool.specs.Scene.{blocks_of, items_of}
 use Rattle.leak_pool.proofs.worker.work.Given as goal
@@ -17,7 +17,7 @@ invariant-scan g l = record {
   step : l.door.step ≡ (slice_index_or l.round.steps l.worker 0 + (l.next - l.initial.next)) % 2 ^ 64;
   passed : (j : ℕ) → j < l.next - l.initial.next → IsNextPassed (g.G.Gate.passed l.initial.door.gate.now) l.round.steps l.worker j;
   working : IsWorking (blocks_of l.round) (InRange (items_of l.round) l.initial.next l.next) l.initial.seat l.seat l.hand.list.items l.hand.stack.items l.hand.left.items;
-  direct : l.round.scene.stack ≡ 0 → IsDirect (InRange (items_of l.round) l.initial.next l.next) l.hand.list.items l.hand.left.items;
+  by_stack : IsByStack l.round.scene.stack (InRange (items_of l.round) l.initial.next l.next) l.hand.list.items l.hand.left.items;
 }
 
 abbrev pub decreases-scan : goal.decreases-scan

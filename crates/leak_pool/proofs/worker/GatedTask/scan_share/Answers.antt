@@ -15,6 +15,6 @@ returns g c =
       share = c.work.ensures.same.1;
       sound = c.work.ensures.sound;
       done = half_of_one (blocks_of w) (items_of w) w.scene.stack (length w.items) w.scene.workers c.args.worker c.args.seat.now c.work.new.seat list.items c.work.new.hand.left.items
-          (map items c.push.new.self.items) c.work.new.hand.left.items c.in_ok-work.ensures.done c.in_ok-work.ensures.direct (ap (λ (l : List (Vec ℕ Global)). map items l) pushed) refl;
+          (map items c.push.new.self.items) c.work.new.hand.left.items c.in_ok-work.ensures.done c.in_ok-work.ensures.left (ap (λ (l : List (Vec ℕ Global)). map items l) pushed) refl;
       gate = search rules;
     }
