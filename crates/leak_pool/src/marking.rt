@@ -21,7 +21,8 @@ use leak_scan::Pages;
 use std::alloc::{AllocError, Global};
 use std::thread::Threads;
 
-/// Marks what the roots lead to, by the workers of the plan. There is one list of claims for each worker.
+/// Marks what the roots lead to, by the workers of the plan. There is one list of claims for each worker. It is for libraries and
+/// tests: the program marks by edges.
 pub fn mark<R: Threads + Sync, W: Words + Sync, L: Lookup + Sync, G: Gate + Sync>(
     rt: &R,
     alloc: Global,
