@@ -3,7 +3,8 @@
 //! An input is a core and the log of its allocations. [`read_input`] reads it or gives its first fault, and [`read_two`]
 //! reads two of one process. [`find_roots`] finds root words, [`ground_of`] makes what marking asks besides, and
 //! [`mark_input`] marks blocks by workers. [`oddities_of_one`] and [`oddities_of_two`] tell what is odd about inputs,
-//! [`head_of`] the numbers of a report's first lines, and [`report_of`] makes the report of what is marked.
+//! [`head_of`] the numbers of a report's first lines, and [`report_of`] makes the report of what is marked. [`Rules`] says by
+//! what rules an input is searched.
 //!
 //! `specs/Inputs.antt` says what an accepted input is, and which of its faults comes first.
 //!
@@ -29,6 +30,7 @@ mod inputs;
 mod marking;
 mod pairs;
 mod reporting;
+mod rules;
 mod signing;
 
 pub use error::FindError;
@@ -37,4 +39,5 @@ pub use inputs::{Input, find_roots, read_input};
 pub use marking::{Ground, Workers, ground_of, mark_input};
 pub use pairs::{Inputs, read_two};
 pub use reporting::{Aside, head_of, report_of};
+pub use rules::Rules;
 pub use signing::{Oddities, oddities_of_one, oddities_of_two};
