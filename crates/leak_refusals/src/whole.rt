@@ -5,8 +5,8 @@ ghost use Rattle.std.specs.Prelude.{◌≡◌};
 use crate::answer::Answer;
 use crate::samples::{MOVED, ONE_BLOCK, Sample, TWO_BLOCKS, chain, core_of, set, vector_core};
 use leak_find::{
-    FindError, Found, Options, ReadFault, Request, RunFault, Skip, UsageFault, WhyError,
-    find_alone, find_one, find_two, find_why, read_all, request, run, run_sized, run_why,
+    FindError, Found, Options, ReadFault, Request, Rules, RunFault, Skip, UsageFault, WhyError,
+    Workers, find_alone, find_one, find_two, find_why, read_all, request, run, run_sized, run_why,
     run_why_sized,
 };
 use leak_index::Reading;
@@ -66,9 +66,7 @@ pub(crate) fn alone(alloc: Global) -> Option<Answer> {
         alloc,
         core.as_slice(),
         ONE_BLOCK.as_bytes(),
-        Reading::interior(),
-        Skip::usual(),
-        false,
+        Rules::usual(),
         false,
     );
     Some(answer_of(found, LOST))
@@ -81,9 +79,7 @@ pub(crate) fn vectors(alloc: Global) -> Option<Answer> {
         alloc,
         core.as_slice(),
         ONE_BLOCK.as_bytes(),
-        Reading::interior(),
-        Skip::usual(),
-        false,
+        Rules::usual(),
         false,
     );
     Some(answer_of(found, HELD))
@@ -107,12 +103,13 @@ pub(crate) fn unfreed(alloc: Global) -> Option<Answer> {
         alloc,
         core.as_slice(),
         b"+ 0x10100 0x20\n+ 0x10200 0x10\n- 0x10100\n",
-        Reading::interior(),
-        Skip {
-            freed: true,
-            ..Skip::usual()
+        Rules {
+            skip: Skip {
+                freed: true,
+                ..Skip::usual()
+            },
+            ..Rules::usual()
         },
-        false,
         false,
     );
     Some(answer_of(found, UNFREED))
@@ -137,10 +134,8 @@ pub(crate) fn checked(alloc: Global) -> Option<Answer> {
         alloc,
         core.as_slice(),
         ONE_BLOCK.as_bytes(),
-        Reading::interior(),
-        Skip::usual(),
+        Rules::usual(),
         true,
-        false,
     );
     Some(answer_of(found, MISFIT))
 }
@@ -168,12 +163,13 @@ pub(crate) fn unlinked(alloc: Global) -> Option<Answer> {
         alloc,
         core.as_slice(),
         b"+ 0x10100 0x20\n+ 0x10200 0x10\n",
-        Reading::interior(),
-        Skip {
-            links: true,
-            ..Skip::usual()
+        Rules {
+            skip: Skip {
+                links: true,
+                ..Skip::usual()
+            },
+            ..Rules::usual()
         },
-        false,
         false,
     );
     Some(answer_of(found, UNLINKED))
@@ -203,12 +199,13 @@ pub(crate) fn unslacked(alloc: Global) -> Option<Answer> {
         alloc,
         core.as_slice(),
         b"+ 0x10100 0x8\n+ 0x10200 0x10\n",
-        Reading::interior(),
-        Skip {
-            slack: true,
-            ..Skip::usual()
+        Rules {
+            skip: Skip {
+                slack: true,
+                ..Skip::usual()
+            },
+            ..Rules::usual()
         },
-        false,
         false,
     );
     Some(answer_of(found, UNSLACKED))
@@ -217,17 +214,15 @@ pub(crate) fn unslacked(alloc: Global) -> Option<Answer> {
 /// `find_one` of the chain of a hundred by three workers.
 pub(crate) fn by_workers<R: AllocGlobal + Threads + Sync>(rt: &R) -> Option<Answer> {
     let sample: Sample = chain(rt.alloc())?;
+    let (plan, gate) = (Plan::new(3, 16, 4).ok()?, &Open);
+    let workers = Workers { rt, plan, gate };
     let found = find_one(
-        rt,
+        &workers,
         rt.alloc(),
         sample.core.as_slice(),
         sample.log.as_bytes(),
-        Reading::interior(),
-        Skip::usual(),
+        Rules::usual(),
         false,
-        false,
-        Plan::new(3, 16, 4).ok()?,
-        &Open,
     );
     Some(answer_of(found, CHAIN))
 }
@@ -243,19 +238,17 @@ fn later_core(alloc: Global) -> Option<Vec<u8>> {
 pub(crate) fn two_cores<R: AllocGlobal + Threads + Sync>(rt: &R) -> Option<Answer> {
     let first = core_of(rt.alloc(), &[(0x10100, 0x10200)])?;
     let second = later_core(rt.alloc())?;
+    let (plan, gate) = (Plan::new(3, 16, 4).ok()?, &Open);
+    let workers = Workers { rt, plan, gate };
     let found = find_two(
-        rt,
+        &workers,
         rt.alloc(),
         first.as_slice(),
         TWO_BLOCKS.as_bytes(),
         second.as_slice(),
         MOVED.as_bytes(),
-        Reading::interior(),
-        Skip::usual(),
+        Rules::usual(),
         false,
-        false,
-        Plan::new(3, 16, 4).ok()?,
-        &Open,
     );
     Some(answer_of(found, TWO))
 }
@@ -388,16 +381,7 @@ fn holding_core(alloc: Global) -> Option<Vec<u8>> {
 /// `find_why` of a block that another holds.
 pub(crate) fn held_by(alloc: Global) -> Option<Answer> {
     let core = holding_core(alloc)?;
-    let reading = Reading::interior();
-    let answer = match find_why(
-        alloc,
-        &core,
-        HOLDING.as_bytes(),
-        reading,
-        Skip::usual(),
-        false,
-        0x10200,
-    ) {
+    let answer = match find_why(alloc, &core, HOLDING.as_bytes(), Rules::usual(), 0x10200) {
         Ok(why) => Answer::of(why.held && why.text.as_slice() == ASKED.as_bytes()),
         Err(error) => Answer::of_refusal(error == WhyError::Find(FindError::NoMemory)),
     };
