@@ -9,6 +9,7 @@ use Rattle.leak_find.specs.declared.fault.RunFault.TheVariants.{Read, Find, NoBl
 use Rattle.leak_input.specs.declared.found.Found.{Found}
 use Rattle.leak_request.specs.declared.options.Options.{Options}
 use Rattle.leak_input.specs.Inputs.{IsFaultOfOne, IsFaultOfTwo}
+use Rattle.leak_input.specs.declared.rules.Rules.{Rules}
 use Rattle.leak_request.specs.Requests.{file_count}
 use Rattle.leak_search.specs.Holding.{IsWhyFault, TellsWhy}
 use Rattle.leak_search.specs.declared.holding.Why.{Why}
@@ -20,6 +21,7 @@ use Rattle.leak_search.specs.SearchTwo.{FindsTwo}
 use Rattle.leak_find.specs.Streams.{Source}
 use Rattle.leak_find.specs.Inputs.{AreRead, IsReaderFault}
 use Rattle.leak_find.specs.Run.{Finds, HasFound, IsFaultOf, IsFindFault, IsSearchFault, limit_at}
+use Rattle.leak_find.specs.Rules.{rules_in}
 use Rattle.leak_find.specs.Why.{HasTold, IsAskFault, IsHoldingFault, at_asking}
 use Rattle.leak_find.proofs.InputLemmas.{stopped_within}
 
@@ -51,18 +53,21 @@ of_one two n one h = subst (λ (b : Bool). n ≤ file_count b) (sym one) h
 pub of_two : (two : Bool) (n : ℕ) → two ≡ true → n ≤ 4 → n ≤ file_count two
 of_two two n is h = subst (λ (b : Bool). n ≤ file_count b) (sym is) h
 
-pub found_one : {R : Type 0} (source : Source R) (o : Options) (before after : List R) (core log core_read log_read : List ℕ) (found : Found) → o.two ≡ false
-    → AreRead source (limit_at o) before after (core ∷ log ∷ []) → core_read ≡ core → log_read ≡ log
-    → FindsOne core_read log_read (distances_of o.reading) o.skip o.check o.plan.workers found → AreSigns o.other_heap (core_read ∷ log_read ∷ []) found.signs.items → HasFound source o before after found
-found_one source o before after core log core_read log_read found one so_far core_is log_is finds signs = record {
+pub found_one : {R : Type 0} (source : Source R) (o : Options) (before after : List R) (core log core_read log_read : List ℕ) (rules : Rules) (found : Found) → o.two ≡ false
+    → AreRead source (limit_at o) before after (core ∷ log ∷ []) → core_read ≡ core → log_read ≡ log → rules ≡ rules_in o
+    → FindsOne core_read log_read (distances_of rules.reading) rules.skip o.check o.plan.workers found → AreSigns rules.other_heap (core_read ∷ log_read ∷ []) found.signs.items
+    → HasFound source o before after found
+found_one source o before after core log core_read log_read rules found one so_far core_is log_is rules_are finds signs = record {
   inputs = core ∷ log ∷ [];
   count = rw (one) refl;
   read = so_far;
   finds = subst (λ (b : Bool). Finds b o (core ∷ log ∷ []) found) (sym one)
       (subst (λ (l : List ℕ). FindsOne core l (distances_of o.reading) o.skip o.check o.plan.workers found) log_is
-      (subst (λ (c : List ℕ). FindsOne c log_read (distances_of o.reading) o.skip o.check o.plan.workers found) core_is finds));
+      (subst (λ (c : List ℕ). FindsOne c log_read (distances_of o.reading) o.skip o.check o.plan.workers found) core_is
+      (subst (λ (r : Rules). FindsOne core_read log_read (distances_of r.reading) r.skip o.check o.plan.workers found) rules_are finds)));
   signs = subst (λ (l : List ℕ). AreSigns o.other_heap (core ∷ l ∷ []) found.signs.items) log_is
-      (subst (λ (c : List ℕ). AreSigns o.other_heap (c ∷ log_read ∷ []) found.signs.items) core_is signs);
+      (subst (λ (c : List ℕ). AreSigns o.other_heap (c ∷ log_read ∷ []) found.signs.items) core_is
+      (subst (λ (r : Rules). AreSigns r.other_heap (core_read ∷ log_read ∷ []) found.signs.items) rules_are signs));
 }
 
 pub fault_one : {R : Type 0} (source : Source R) (o : Options) (before after : List R) (core log core_read log_read : List ℕ) (e : FindError) → o.two ≡ false
@@ -80,16 +85,18 @@ fault_one source o before after core log core_read log_read e one so_far core_is
 
 module _ {R : Type 0} (source : Source R) (o : Options) (address : ℕ) (before after : List R) (core log core_read log_read : List ℕ)
     (so_far : AreRead source (limit_at o) before after (core ∷ log ∷ [])) (core_is : core_read ≡ core) (log_is : log_read ≡ log) where
-  pub has_told : (why : Why) → TellsWhy core_read log_read (distances_of o.reading) o.skip address why
-      → AreSigns o.other_heap (core_read ∷ log_read ∷ []) why.signs.items → HasTold source o address before after why
-  has_told why tells signs = record {
+  pub has_told : (rules : Rules) (why : Why) → rules ≡ rules_in o → TellsWhy core_read log_read (distances_of rules.reading) rules.skip address why
+      → AreSigns rules.other_heap (core_read ∷ log_read ∷ []) why.signs.items → HasTold source o address before after why
+  has_told rules why rules_are tells signs = record {
     inputs = core ∷ log ∷ [];
     count = refl;
     read = so_far;
     tells = subst (λ (l : List ℕ). TellsWhy core l (distances_of o.reading) o.skip address why) log_is
-        (subst (λ (c : List ℕ). TellsWhy c log_read (distances_of o.reading) o.skip address why) core_is tells);
+        (subst (λ (c : List ℕ). TellsWhy c log_read (distances_of o.reading) o.skip address why) core_is
+        (subst (λ (r : Rules). TellsWhy core_read log_read (distances_of r.reading) r.skip address why) rules_are tells));
     signs = subst (λ (l : List ℕ). AreSigns o.other_heap (core ∷ l ∷ []) why.signs.items) log_is
-        (subst (λ (c : List ℕ). AreSigns o.other_heap (c ∷ log_read ∷ []) why.signs.items) core_is signs);
+        (subst (λ (c : List ℕ). AreSigns o.other_heap (c ∷ log_read ∷ []) why.signs.items) core_is
+        (subst (λ (r : Rules). AreSigns r.other_heap (core_read ∷ log_read ∷ []) why.signs.items) rules_are signs));
   }
 
   pub holding_fault : (e : WhyError) → (e ≢ Refused NoMemory → IsWhyFault core_read log_read address e) → IsHoldingFault source o address before after e
@@ -107,9 +114,9 @@ module _ {R : Type 0} (source : Source R) (o : Options) (address : ℕ) (before 
 
 module _ {R : Type 0} (source : Source R) (o : Options) (before after : List R) (core1 log1 core2 log2 core1_read log1_read core2_read log2_read : List ℕ) (two : o.two ≡ true)
     (so_far : AreRead source (limit_at o) before after (core1 ∷ log1 ∷ core2 ∷ log2 ∷ [])) (core1_is : core1_read ≡ core1) (log1_is : log1_read ≡ log1) (core2_is : core2_read ≡ core2) (log2_is : log2_read ≡ log2) where
-  pub found_two : (found : Found) → FindsTwo core1_read log1_read core2_read log2_read (distances_of o.reading) o.skip o.check o.plan.workers found
-      → AreSigns o.other_heap (core1_read ∷ log1_read ∷ core2_read ∷ log2_read ∷ []) found.signs.items → HasFound source o before after found
-  found_two found finds signs = record {
+  pub found_two : (rules : Rules) (found : Found) → rules ≡ rules_in o → FindsTwo core1_read log1_read core2_read log2_read (distances_of rules.reading) rules.skip o.check o.plan.workers found
+      → AreSigns rules.other_heap (core1_read ∷ log1_read ∷ core2_read ∷ log2_read ∷ []) found.signs.items → HasFound source o before after found
+  found_two rules found rules_are finds signs = record {
     inputs = core1 ∷ log1 ∷ core2 ∷ log2 ∷ [];
     count = rw (two) refl;
     read = so_far;
@@ -117,11 +124,13 @@ module _ {R : Type 0} (source : Source R) (o : Options) (before after : List R) 
         (subst (λ (l : List ℕ). FindsTwo core1 log1 core2 l (distances_of o.reading) o.skip o.check o.plan.workers found) log2_is
         (subst (λ (c : List ℕ). FindsTwo core1 log1 c log2_read (distances_of o.reading) o.skip o.check o.plan.workers found) core2_is
         (subst (λ (l : List ℕ). FindsTwo core1 l core2_read log2_read (distances_of o.reading) o.skip o.check o.plan.workers found) log1_is
-        (subst (λ (c : List ℕ). FindsTwo c log1_read core2_read log2_read (distances_of o.reading) o.skip o.check o.plan.workers found) core1_is finds))));
+        (subst (λ (c : List ℕ). FindsTwo c log1_read core2_read log2_read (distances_of o.reading) o.skip o.check o.plan.workers found) core1_is
+        (subst (λ (r : Rules). FindsTwo core1_read log1_read core2_read log2_read (distances_of r.reading) r.skip o.check o.plan.workers found) rules_are finds)))));
     signs = subst (λ (l : List ℕ). AreSigns o.other_heap (core1 ∷ log1 ∷ core2 ∷ l ∷ []) found.signs.items) log2_is
         (subst (λ (c : List ℕ). AreSigns o.other_heap (core1 ∷ log1 ∷ c ∷ log2_read ∷ []) found.signs.items) core2_is
         (subst (λ (l : List ℕ). AreSigns o.other_heap (core1 ∷ l ∷ core2_read ∷ log2_read ∷ []) found.signs.items) log1_is
-        (subst (λ (c : List ℕ). AreSigns o.other_heap (c ∷ log1_read ∷ core2_read ∷ log2_read ∷ []) found.signs.items) core1_is signs)));
+        (subst (λ (c : List ℕ). AreSigns o.other_heap (c ∷ log1_read ∷ core2_read ∷ log2_read ∷ []) found.signs.items) core1_is
+        (subst (λ (r : Rules). AreSigns r.other_heap (core1_read ∷ log1_read ∷ core2_read ∷ log2_read ∷ []) found.signs.items) rules_are signs))));
   }
 
   pub fault_two : (e : FindError) → (e ≢ NoMemory → IsFaultOfTwo core1_read log1_read core2_read log2_read e) → IsFindFault source o before after e

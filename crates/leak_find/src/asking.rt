@@ -5,6 +5,7 @@ ghost use Rattle.leak_find.specs.Streams.{by_bytes_held, by_bytes_left, by_reads
 ghost use Rattle.leak_find.specs.Why.{HasTold, IsAskFault, IsWhyRunFault, RunsWhy, at_asking, leaked_if_not};
 
 use crate::fault::RunFault;
+use crate::rules::rules_of;
 use crate::running::{read_reader, status_of, write_both};
 use leak_report::warnings;
 use leak_request::Options;
@@ -30,8 +31,7 @@ fn ask<R: ReadCalls>(
 {
     let core = read_reader(alloc, readers, sizes, 0, options.core_limit)?;
     let log = read_reader(alloc, readers, sizes, 1, options.log_limit)?;
-    let (reading, skip, other_heap) = (options.reading, options.skip, options.other_heap);
-    match find_why(alloc, &core, &log, reading, skip, other_heap, address) {
+    match find_why(alloc, &core, &log, rules_of(options), address) {
         Ok(why) => Ok(why),
         Err(error) => Err(at_asking(error)),
     }

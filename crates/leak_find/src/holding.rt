@@ -12,6 +12,7 @@ ghost use Rattle.leak_find.specs.HeldInputs.{bytes_in};
 
 use crate::asking::at_asking;
 use crate::fault::RunFault;
+use crate::rules::rules_of;
 use crate::running::{read_reader, status_of, write_both};
 use leak_holders::Question;
 use leak_holding::{Files, Holding, Progress, find_held, find_holders};
@@ -85,13 +86,10 @@ fn tell<T: Threads + Sync, P: Progress>(
     ensures refused { IfErr result (λ e. e ≢ Refused NoMemory
         → IsNotTold question files.now.core.now files.now.log.now (earlier files.now.since) e) }
 {
-    let (reading, skip, plan) = (options.reading, options.skip, options.plan);
-    let heap = options.other_heap;
+    let (rules, plan) = (rules_of(options), options.plan);
     match question {
-        Some(question) => find_held(
-            rt, alloc, files, question, reading, skip, heap, plan, progress,
-        ),
-        None => match find_holders(rt, alloc, files, reading, skip, heap, plan, progress) {
+        Some(question) => find_held(rt, alloc, files, question, rules, plan, progress),
+        None => match find_holders(rt, alloc, files, rules, plan, progress) {
             Ok(holding) => Ok(holding),
             Err(error) => Err(WhyError::Find(error)),
         },

@@ -28,11 +28,11 @@
 //!
 //! ```text
 //! use leak_elf::core_k;
-//! use leak_find::{Reading, Skip, find_alone};
+//! use leak_find::{Rules, find_alone};
 //!
 //! let core = core_k(alloc, &[])?;
 //! let log = b"@ ./a.out:[0x401136] + 0x10100 0x20\n";
-//! let found = find_alone(alloc, &core, log, Reading::interior(), Skip::usual(), false, false)?;
+//! let found = find_alone(alloc, &core, log, Rules::usual(), false)?;
 //! assert_eq!(rt; found.leaked, 1);
 //! ```
 //!
@@ -45,6 +45,7 @@ mod fault;
 mod growing;
 mod holding;
 mod laws;
+mod rules;
 mod running;
 
 pub use asking::{run_why, run_why_sized};
@@ -64,7 +65,8 @@ pub use leak_request::{
 };
 pub use leak_roots::Skip;
 pub use leak_search::{
-    FindError, Found, Why, WhyError, find_alone, find_one, find_two, find_why, leaked_stay_leaked,
+    FindError, Found, Rules, Why, WhyError, Workers, find_alone, find_one, find_two, find_why,
+    leaked_stay_leaked,
 };
 pub use leak_streams::{ReadCalls, ReadFault, WriteCalls, WriteFault, read_all, write};
 pub use running::{run, run_sized};

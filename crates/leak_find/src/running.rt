@@ -8,10 +8,11 @@ ghost use Rattle.leak_find.specs.Inputs.{IsReadAt, IsReaderFault};
 ghost use Rattle.leak_find.specs.Run.{status_by, HasFound, IsSearchFault, Runs, IsRunFault};
 
 use crate::fault::RunFault;
+use crate::rules::rules_of;
 use leak_pool::Open;
 use leak_report::warnings;
 use leak_request::Options;
-use leak_search::{FindError, Found, find_one, find_two};
+use leak_search::{FindError, Found, Workers, find_one, find_two};
 use leak_streams::{ReadCalls, WriteCalls, WriteFault, read_sized, write};
 use std::alloc::Global;
 use std::io::{Read, Write};
@@ -58,18 +59,10 @@ fn search_one<T: Threads + Sync, R: ReadCalls>(
 {
     let core = read_reader(alloc, readers, sizes, 0, options.core_limit)?;
     let log = read_reader(alloc, readers, sizes, 1, options.log_limit)?;
-    match find_one(
-        rt,
-        alloc,
-        &core,
-        &log,
-        options.reading,
-        options.skip,
-        options.check,
-        options.other_heap,
-        options.plan,
-        &Open,
-    ) {
+    let (plan, gate) = (options.plan, &Open);
+    let workers = Workers { rt, plan, gate };
+    let rules = rules_of(options);
+    match find_one(&workers, alloc, &core, &log, rules, options.check) {
         Ok(found) => Ok(found),
         Err(error) => Err(RunFault::Find(error)),
     }
@@ -94,19 +87,18 @@ fn search_two<T: Threads + Sync, R: ReadCalls>(
     let log1 = read_reader(alloc, readers, sizes, 1, options.log_limit)?;
     let core2 = read_reader(alloc, readers, sizes, 2, options.core_limit)?;
     let log2 = read_reader(alloc, readers, sizes, 3, options.log_limit)?;
+    let (plan, gate) = (options.plan, &Open);
+    let workers = Workers { rt, plan, gate };
+    let rules = rules_of(options);
     match find_two(
-        rt,
+        &workers,
         alloc,
         &core1,
         &log1,
         &core2,
         &log2,
-        options.reading,
-        options.skip,
+        rules,
         options.check,
-        options.other_heap,
-        options.plan,
-        &Open,
     ) {
         Ok(found) => Ok(found),
         Err(error) => Err(RunFault::Find(error)),

@@ -17,20 +17,17 @@ use crate::held::held_of;
 use crate::scene::{Scene, facts_of, scene_of};
 use crate::since::is_continued;
 use leak_holders::{Crew, Progress, Question};
-use leak_index::Reading;
-use leak_input::{FindError, Input, ground_of, oddities_of_one, read_input};
+use leak_input::{FindError, Input, Rules, ground_of, oddities_of_one, read_input};
 use leak_pool::Plan;
-use leak_roots::Skip;
 use leak_search::WhyError;
 use leak_why::block_at;
 use std::alloc::Global;
 use std::thread::Threads;
 
-/// Searches a core and its log, and answers a question about the live block of an address, or about all blocks of its text.
+/// Searches a core and its log by the rules, and answers a question about the live block of an address, or about all blocks of its text.
 ///
 /// What these hold are the blocks that no chain of words reaches without passing one of them, by the texts of their callers. Who holds them
-/// are the other texts without whose blocks no chain reaches one of them. `other_heap` is as of
-/// [`find_holders`](crate::find_holders). The answer doesn't depend on the plan, on the progress, or on how
+/// are the other texts without whose blocks no chain reaches one of them. The answer doesn't depend on the plan, on the progress, or on how
 /// the workers meet.
 ///
 /// # Errors
@@ -41,25 +38,23 @@ pub fn find_held<R: Threads + Sync, P: Progress>(
     alloc: Global,
     files: &Files,
     question: Question,
-    reading: Reading,
-    skip: Skip,
-    other_heap: bool,
+    rules: Rules,
     plan: Plan,
     progress: &P,
 ) -> Result<Holding, WhyError>
     ensures ok { IfOk result (FindsHeld files.now.core.now files.now.log.now
-        (earlier files.now.since) (distances_of reading) skip question) }
-    ensures signs { IfOk result (λ found.
-        AreSigns other_heap (files.now.core.now ∷ files.now.log.now ∷ []) found.signs.items) }
+        (earlier files.now.since) (distances_of rules.reading) rules.skip question) }
+    ensures signs { IfOk result (λ found. AreSigns rules.other_heap
+        (files.now.core.now ∷ files.now.log.now ∷ []) found.signs.items) }
     ensures refused { IfErr result (λ e. e ≢ Find NoMemory → IsHeldFault files.now.core.now
         files.now.log.now (earlier files.now.since) question.address e) }
 {
-    let input = read_input(alloc, 1, skip, files.core, files.log)?;
+    let input = read_input(alloc, 1, rules.skip, files.core, files.log)?;
     if !is_continued(files) {
         return Err(WhyError::Find(FindError::NotPrefix));
     }
-    let oddities = oddities_of_one(alloc, &input, false, other_heap)?;
-    let ground = ground_of(alloc, &input, reading)?;
+    let oddities = oddities_of_one(alloc, &input, false, rules.other_heap)?;
+    let ground = ground_of(alloc, &input, rules.reading)?;
     let crew = Crew::new(rt, plan.workers(), progress);
     let scene = scene_of(rt, alloc, &input, &ground, files, crew.workers)?;
     let Some(block) = block_at(&input.live, question.address) else {

@@ -12,11 +12,9 @@ use crate::scene::{facts_of, scene_of};
 use crate::since::{is_continued, new};
 use crate::telling::text;
 use leak_holders::{Crew, Progress};
-use leak_index::Reading;
-use leak_input::{FindError, ground_of, head_of, oddities_of_one, read_input};
+use leak_input::{FindError, Rules, ground_of, head_of, oddities_of_one, read_input};
 use leak_pool::Plan;
 use leak_report::Signs;
-use leak_roots::Skip;
 use std::alloc::Global;
 use std::thread::Threads;
 
@@ -29,11 +27,10 @@ pub struct Holding {
     pub signs: Vec<Signs>,
 }
 
-/// Searches a core and its log, and tells which texts of callers hold the blocks that chains of words reach.
+/// Searches a core and its log by the rules, and tells which texts of callers hold the blocks that chains of words reach.
 ///
-/// `reading` says which words lead to a block. What each block leads to is listed once, and then marked over: once for all blocks, and once
-/// for each 64 texts. The progress is told of these. `other_heap` says that the heap is another than glibc's, so no misfit is a sign.
-/// The report doesn't depend on the plan, on the progress, or on how the workers meet.
+/// What each block leads to is listed once, and then marked over: once for all blocks, and once for each 64 texts. The progress is told of
+/// these. The report doesn't depend on the plan, on the progress, or on how the workers meet.
 ///
 /// # Errors
 ///
@@ -43,25 +40,23 @@ pub fn find_holders<R: Threads + Sync, P: Progress>(
     rt: &R,
     alloc: Global,
     files: &Files,
-    reading: Reading,
-    skip: Skip,
-    other_heap: bool,
+    rules: Rules,
     plan: Plan,
     progress: &P,
 ) -> Result<Holding, FindError>
     ensures ok { IfOk result (FindsHolders files.now.core.now files.now.log.now
-        (earlier files.now.since) (distances_of reading) skip) }
-    ensures signs { IfOk result (λ found.
-        AreSigns other_heap (files.now.core.now ∷ files.now.log.now ∷ []) found.signs.items) }
+        (earlier files.now.since) (distances_of rules.reading) rules.skip) }
+    ensures signs { IfOk result (λ found. AreSigns rules.other_heap
+        (files.now.core.now ∷ files.now.log.now ∷ []) found.signs.items) }
     ensures refused { IfErr result (λ e. e ≢ FindError.NoMemory
         → IsFaultOfHolders files.now.core.now files.now.log.now (earlier files.now.since) e) }
 {
-    let input = read_input(alloc, 1, skip, files.core, files.log)?;
+    let input = read_input(alloc, 1, rules.skip, files.core, files.log)?;
     if !is_continued(files) {
         return Err(FindError::NotPrefix);
     }
-    let oddities = oddities_of_one(alloc, &input, false, other_heap)?;
-    let ground = ground_of(alloc, &input, reading)?;
+    let oddities = oddities_of_one(alloc, &input, false, rules.other_heap)?;
+    let ground = ground_of(alloc, &input, rules.reading)?;
     let crew = Crew::new(rt, plan.workers(), progress);
     let scene = scene_of(rt, alloc, &input, &ground, files, crew.workers)?;
     let (ground, edges) = (scene.ground, &scene.edges);

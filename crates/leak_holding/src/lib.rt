@@ -15,15 +15,14 @@
 //! ```text
 //! use leak_elf::core_k;
 //! use leak_holding::{Files, Silent, find_holders};
-//! use leak_index::Reading;
+//! use leak_input::Rules;
 //! use leak_pool::Plan;
-//! use leak_roots::Skip;
 //!
 //! let core = core_k(alloc, &[(0x10008, 0x10100)])?;
 //! let log = b"@ ./a.out:[0x401136] + 0x10100 0x20\n";
 //! let files = Files { core: &core, log, since: None };
 //! let plan = Plan::new(4, 1024, 256)?;
-//! let found = find_holders(rt, alloc, &files, Reading::interior(), Skip::usual(), false, plan, &Silent)?;
+//! let found = find_holders(rt, alloc, &files, Rules::usual(), plan, &Silent)?;
 //! // Its last line is 'holder 1 32 1 32 0 0x10100 ./a.out:[0x401136]'
 //! ```
 //!

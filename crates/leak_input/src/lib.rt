@@ -4,7 +4,7 @@
 //! reads two of one process. [`oddities_of_one`] and [`oddities_of_two`] tell what is odd about inputs. [`ground_of`] finds the
 //! root words, by [`find_roots`], and makes the lookup, and [`mark_input`] marks blocks over them by workers. [`head_of`] tells
 //! the numbers of a report's first lines, and [`report_of`] makes the report of what is marked. Who searches on the caller's
-//! thread calls [`find_roots`] alone, and marks by itself.
+//! thread calls [`find_roots`] alone, and marks by itself. [`Rules`] says by what rules an input is searched.
 //!
 //! `specs/Inputs.antt` says what an accepted input is, and which of its faults comes first.
 //!
@@ -30,6 +30,7 @@ mod inputs;
 mod marking;
 mod pairs;
 mod reporting;
+mod rules;
 mod signing;
 
 pub use error::FindError;
@@ -38,4 +39,5 @@ pub use inputs::{Input, find_roots, read_input};
 pub use marking::{Ground, Workers, ground_of, mark_input};
 pub use pairs::{Inputs, read_two};
 pub use reporting::{Aside, head_of, report_of};
+pub use rules::Rules;
 pub use signing::{Oddities, oddities_of_one, oddities_of_two};

@@ -3,8 +3,7 @@
 use crate::answer::Answer;
 use crate::samples::{ONE_BLOCK, core_of, vector_core};
 use crate::whole::answer_of;
-use leak_find::{Skip, find_alone};
-use leak_index::Reading;
+use leak_find::{Rules, Skip, find_alone};
 use std::alloc::Global;
 
 /// The report of one lost block.
@@ -32,9 +31,7 @@ pub(crate) fn alone(alloc: Global) -> Option<Answer> {
         alloc,
         core.as_slice(),
         ONE_BLOCK.as_bytes(),
-        Reading::interior(),
-        Skip::usual(),
-        false,
+        Rules::usual(),
         false,
     );
     Some(answer_of(found, LOST))
@@ -47,9 +44,7 @@ pub(crate) fn vectors(alloc: Global) -> Option<Answer> {
         alloc,
         core.as_slice(),
         ONE_BLOCK.as_bytes(),
-        Reading::interior(),
-        Skip::usual(),
-        false,
+        Rules::usual(),
         false,
     );
     Some(answer_of(found, HELD))
@@ -73,12 +68,13 @@ pub(crate) fn unfreed(alloc: Global) -> Option<Answer> {
         alloc,
         core.as_slice(),
         b"+ 0x10100 0x20\n+ 0x10200 0x10\n- 0x10100\n",
-        Reading::interior(),
-        Skip {
-            freed: true,
-            ..Skip::usual()
+        Rules {
+            skip: Skip {
+                freed: true,
+                ..Skip::usual()
+            },
+            ..Rules::usual()
         },
-        false,
         false,
     );
     Some(answer_of(found, UNFREED))
@@ -103,10 +99,8 @@ pub(crate) fn checked(alloc: Global) -> Option<Answer> {
         alloc,
         core.as_slice(),
         ONE_BLOCK.as_bytes(),
-        Reading::interior(),
-        Skip::usual(),
+        Rules::usual(),
         true,
-        false,
     );
     Some(answer_of(found, MISFIT))
 }
@@ -134,12 +128,13 @@ pub(crate) fn unlinked(alloc: Global) -> Option<Answer> {
         alloc,
         core.as_slice(),
         b"+ 0x10100 0x20\n+ 0x10200 0x10\n",
-        Reading::interior(),
-        Skip {
-            links: true,
-            ..Skip::usual()
+        Rules {
+            skip: Skip {
+                links: true,
+                ..Skip::usual()
+            },
+            ..Rules::usual()
         },
-        false,
         false,
     );
     Some(answer_of(found, UNLINKED))
@@ -169,12 +164,13 @@ pub(crate) fn unslacked(alloc: Global) -> Option<Answer> {
         alloc,
         core.as_slice(),
         b"+ 0x10100 0x8\n+ 0x10200 0x10\n",
-        Reading::interior(),
-        Skip {
-            slack: true,
-            ..Skip::usual()
+        Rules {
+            skip: Skip {
+                slack: true,
+                ..Skip::usual()
+            },
+            ..Rules::usual()
         },
-        false,
         false,
     );
     Some(answer_of(found, UNSLACKED))

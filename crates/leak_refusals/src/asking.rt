@@ -6,8 +6,8 @@ use crate::answer::Answer;
 use crate::running::{is_wanting, options};
 use crate::samples::core_of;
 use leak_find::{
-    Files, FindError, GrowOptions, Plan, Question, Reading, Side, Silent, Skip, WhyError,
-    find_growth, find_held, find_holders, run_grow_sized, run_holders_sized,
+    Files, FindError, GrowOptions, Plan, Question, Rules, Side, Silent, WhyError, find_growth,
+    find_held, find_holders, run_grow_sized, run_holders_sized,
 };
 use std::alloc::Global;
 use std::io::Cursor;
@@ -65,13 +65,12 @@ fn holders_by<R: AllocGlobal + Threads + Sync>(
 ) -> Option<Answer> {
     let core = holding_core(rt.alloc())?;
     let plan = Plan::new(3, 16, 4).ok()?;
-    let (reading, skip) = (Reading::interior(), Skip::usual());
     let files = Files {
         core: &core,
         log: HELD.as_bytes(),
         since,
     };
-    let answer = match find_holders(rt, rt.alloc(), &files, reading, skip, false, plan, &Silent) {
+    let answer = match find_holders(rt, rt.alloc(), &files, Rules::usual(), plan, &Silent) {
         Ok(found) => Answer::of(found.report.as_slice() == wanted.as_bytes()),
         Err(error) => Answer::of_refusal(error == FindError::NoMemory),
     };
@@ -105,7 +104,6 @@ fn held_by<R: AllocGlobal + Threads + Sync>(
 ) -> Option<Answer> {
     let core = holding_core(rt.alloc())?;
     let plan = Plan::new(3, 16, 4).ok()?;
-    let (reading, skip) = (Reading::interior(), Skip::usual());
     let files = Files {
         core: &core,
         log: HELD.as_bytes(),
@@ -116,9 +114,7 @@ fn held_by<R: AllocGlobal + Threads + Sync>(
         rt.alloc(),
         &files,
         question,
-        reading,
-        skip,
-        false,
+        Rules::usual(),
         plan,
         &Silent,
     ) {

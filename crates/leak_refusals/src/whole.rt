@@ -3,8 +3,8 @@
 use crate::answer::Answer;
 use crate::samples::{MOVED, Sample, TWO_BLOCKS, chain, core_of, set};
 use leak_find::{
-    FindError, Found, ReadFault, Request, Skip, UsageFault, WhyError, find_one, find_two, find_why,
-    read_all, request,
+    FindError, Found, ReadFault, Request, Rules, Skip, UsageFault, WhyError, Workers, find_one,
+    find_two, find_why, read_all, request,
 };
 use leak_index::Reading;
 use leak_pool::{Open, Plan};
@@ -41,17 +41,15 @@ pub(crate) const TWO: &str = "blocks 2 bytes 48\n\
 /// `find_one` of the chain of a hundred by three workers.
 pub(crate) fn by_workers<R: AllocGlobal + Threads + Sync>(rt: &R) -> Option<Answer> {
     let sample: Sample = chain(rt.alloc())?;
+    let (plan, gate) = (Plan::new(3, 16, 4).ok()?, &Open);
+    let workers = Workers { rt, plan, gate };
     let found = find_one(
-        rt,
+        &workers,
         rt.alloc(),
         sample.core.as_slice(),
         sample.log.as_bytes(),
-        Reading::interior(),
-        Skip::usual(),
+        Rules::usual(),
         false,
-        false,
-        Plan::new(3, 16, 4).ok()?,
-        &Open,
     );
     Some(answer_of(found, CHAIN))
 }
@@ -67,19 +65,17 @@ pub(crate) fn later_core(alloc: Global) -> Option<Vec<u8>> {
 pub(crate) fn two_cores<R: AllocGlobal + Threads + Sync>(rt: &R) -> Option<Answer> {
     let first = core_of(rt.alloc(), &[(0x10100, 0x10200)])?;
     let second = later_core(rt.alloc())?;
+    let (plan, gate) = (Plan::new(3, 16, 4).ok()?, &Open);
+    let workers = Workers { rt, plan, gate };
     let found = find_two(
-        rt,
+        &workers,
         rt.alloc(),
         first.as_slice(),
         TWO_BLOCKS.as_bytes(),
         second.as_slice(),
         MOVED.as_bytes(),
-        Reading::interior(),
-        Skip::usual(),
+        Rules::usual(),
         false,
-        false,
-        Plan::new(3, 16, 4).ok()?,
-        &Open,
     );
     Some(answer_of(found, TWO))
 }
@@ -102,16 +98,7 @@ pub(crate) fn holding_core(alloc: Global) -> Option<Vec<u8>> {
 /// `find_why` of a block that another holds.
 pub(crate) fn held_by(alloc: Global) -> Option<Answer> {
     let core = holding_core(alloc)?;
-    let reading = Reading::interior();
-    let answer = match find_why(
-        alloc,
-        &core,
-        HOLDING.as_bytes(),
-        reading,
-        Skip::usual(),
-        false,
-        0x10200,
-    ) {
+    let answer = match find_why(alloc, &core, HOLDING.as_bytes(), Rules::usual(), 0x10200) {
         Ok(why) => Answer::of(why.held && why.text.as_slice() == ASKED.as_bytes()),
         Err(error) => Answer::of_refusal(error == WhyError::Find(FindError::NoMemory)),
     };

@@ -6,38 +6,35 @@ ghost use Rattle.leak_input.specs.Inputs.{IsFaultOfOne};
 ghost use Rattle.leak_search.specs.Search.{FindsOne};
 ghost use Rattle.leak_input.specs.Signs.{AreSigns};
 
-use leak_index::{Reading, Sorted};
+use leak_index::Sorted;
 use leak_input::{
-    Aside, FindError, Found, find_roots, head_of, oddities_of_one, read_input, report_of,
+    Aside, FindError, Found, Rules, find_roots, head_of, oddities_of_one, read_input, report_of,
 };
 use leak_pool::mark_alone;
-use leak_roots::Skip;
 use std::alloc::Global;
 
-/// Searches a core and its log on the caller's thread, with one list of claims.
+/// Searches a core and its log by the rules on the caller's thread, with one list of claims.
 ///
-/// `check` says whether the report lists the misfits, and `other_heap` that the heap is another than glibc's. It gives what
-/// [`find_one`](crate::find_one) gives with one worker, and refuses what that refuses, in the same order. It is for libraries
-/// and tests.
+/// `lists_misfits` says whether the report lists the misfits. It gives what [`find_one`](crate::find_one) gives with one
+/// worker, and refuses what that refuses, in the same order. It is for libraries and tests.
 pub fn find_alone(
     alloc: Global,
     core: &[u8],
     log: &[u8],
-    reading: Reading,
-    skip: Skip,
-    check: bool,
-    other_heap: bool,
+    rules: Rules,
+    lists_misfits: bool,
 ) -> Result<Found, FindError>
-    ensures ok { IfOk result (FindsOne core.now log.now (distances_of reading) skip check 1) }
+    ensures ok { IfOk result
+        (FindsOne core.now log.now (distances_of rules.reading) rules.skip lists_misfits 1) }
     ensures signs { IfOk result (λ found.
-        AreSigns other_heap (core.now ∷ log.now ∷ []) found.signs.items) }
+        AreSigns rules.other_heap (core.now ∷ log.now ∷ []) found.signs.items) }
     ensures refused { IfErr result (λ e. e ≢ FindError.NoMemory
         → IsFaultOfOne core.now log.now e) }
 {
-    let input = read_input(alloc, 1, skip, core, log)?;
-    let oddities = oddities_of_one(alloc, &input, check, other_heap)?;
+    let input = read_input(alloc, 1, rules.skip, core, log)?;
+    let oddities = oddities_of_one(alloc, &input, lists_misfits, rules.other_heap)?;
     let roots = find_roots(alloc, &input)?;
-    let lookup = Sorted::new(&input.live, reading);
+    let lookup = Sorted::new(&input.live, rules.reading);
     let marked = mark_alone(alloc, &input.image, &lookup, &roots, &input.live)?;
     let head = head_of(&input, &roots, None);
     let aside = Aside { head, oddities };

@@ -7,11 +7,10 @@ ghost use Rattle.leak_input.specs.declared.error.FindError.TheVariants.{NoMemory
 ghost use Rattle.leak_search.specs.declared.holding.WhyError.TheVariants.{Find};
 ghost use Rattle.leak_search.specs.Holding.{IsWhyFault, TellsWhy};
 
-use leak_index::{Reading, Sorted};
-use leak_input::{FindError, find_roots, oddities_of_one, read_input};
+use leak_index::Sorted;
+use leak_input::{FindError, Rules, find_roots, oddities_of_one, read_input};
 use leak_notes::register_sets;
 use leak_report::Signs;
-use leak_roots::Skip;
 use leak_why::{block_at, text, why};
 use std::alloc::{AllocError, Global};
 use thiserror::Error;
@@ -54,29 +53,29 @@ impl From<AllocError> for WhyError {
     }
 }
 
-/// Tells the shortest chain of words that holds the live block of the address, or that it leaked, on the caller's thread.
-/// `other_heap` says that the heap is another than glibc's, so no misfit is a sign.
+/// Tells the shortest chain of words that holds the live block of the address, or that it leaked, by the rules, on the
+/// caller's thread.
 pub fn find_why(
     alloc: Global,
     core: &[u8],
     log: &[u8],
-    reading: Reading,
-    skip: Skip,
-    other_heap: bool,
+    rules: Rules,
     address: u64,
 ) -> Result<Why, WhyError>
-    ensures ok { IfOk result (TellsWhy core.now log.now (distances_of reading) skip address) }
-    ensures signs { IfOk result (λ why. AreSigns other_heap (core.now ∷ log.now ∷ []) why.signs.items) }
+    ensures ok { IfOk result
+        (TellsWhy core.now log.now (distances_of rules.reading) rules.skip address) }
+    ensures signs { IfOk result (λ why.
+        AreSigns rules.other_heap (core.now ∷ log.now ∷ []) why.signs.items) }
     ensures refused { IfErr result
         (λ e. e ≢ Find NoMemory → IsWhyFault core.now log.now address e) }
 {
-    let input = read_input(alloc, 1, skip, core, log)?;
+    let input = read_input(alloc, 1, rules.skip, core, log)?;
     let Some(block) = block_at(&input.live, address) else {
         return Err(WhyError::NoBlock(address));
     };
-    let oddities = oddities_of_one(alloc, &input, false, other_heap)?;
+    let oddities = oddities_of_one(alloc, &input, false, rules.other_heap)?;
     let roots = find_roots(alloc, &input)?;
-    let lookup = Sorted::new(&input.live, reading);
+    let lookup = Sorted::new(&input.live, rules.reading);
     let chain = why(alloc, &input.image, &lookup, &roots, &input.live, block)?;
     let sets = register_sets(alloc, &input.image)?;
     let text = text(alloc, &input.live, block, &chain, sets.as_slice(), log)?;

@@ -6,21 +6,19 @@
 //! If an input is not accepted, the answer is the first refusal by the order of [`FindError`].
 //!
 //! [`find_one`] searches one core by worker threads, and [`find_two`] a later core from what an earlier one says. [`find_why`] tells
-//! why a block is held. The program goes by these three. [`find_alone`], which searches one core on the caller's thread, under
-//! the promise of [`find_one`], is for libraries and tests. `specs/Search.antt` says what a leak, a root and a chain are
-//! and, for two cores, `specs/SearchTwo.antt`.
+//! why a block is held. The program goes by these three: each by [`Rules`], and those with threads by [`Workers`].
+//! [`find_alone`], which searches one core on the caller's thread, under the promise of [`find_one`], is for libraries and
+//! tests. `specs/Search.antt` says what a leak, a root and a chain are and, for two cores, `specs/SearchTwo.antt`.
 //!
 //! An allocation of 32 bytes, and a core in which no word leads to it:
 //!
 //! ```text
 //! use leak_elf::core_k;
-//! use leak_index::Reading;
-//! use leak_roots::Skip;
-//! use leak_search::find_alone;
+//! use leak_search::{Rules, find_alone};
 //!
 //! let core = core_k(alloc, &[])?;
 //! let log = b"@ ./a.out:[0x401136] + 0x10100 0x20\n";
-//! let found = find_alone(alloc, &core, log, Reading::interior(), Skip::usual(), false, false)?;
+//! let found = find_alone(alloc, &core, log, Rules::usual(), false)?;
 //! assert_eq!(rt; found.leaked, 1);
 //! ```
 //!
@@ -37,6 +35,6 @@ mod two_cores;
 pub use alone::find_alone;
 pub use holding::{Why, WhyError, find_why};
 pub use laws::{leaked_stay_leaked, leaked_stay_leaked_without_ends};
-pub use leak_input::{FindError, Found};
+pub use leak_input::{FindError, Found, Rules, Workers};
 pub use one_core::find_one;
 pub use two_cores::find_two;

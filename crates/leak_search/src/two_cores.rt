@@ -17,15 +17,14 @@ ghost use Rattle.leak_search.specs.SearchTwo.{IsMarkedEarlier, IsBetweenCores, F
 use leak_blocks::Block;
 use leak_index::Reading;
 use leak_input::{
-    Aside, FindError, Found, Ground, Input, Inputs, Workers, ground_of, head_of, mark_input,
+    Aside, FindError, Found, Ground, Input, Inputs, Rules, Workers, ground_of, head_of, mark_input,
     oddities_of_two, read_two, report_of,
 };
 use leak_later::{
     Carry, Retraced, absent_are_fresh, carry, differing, retrace, same_words_lead_within,
 };
-use leak_pool::{Gate, Marked, Plan};
+use leak_pool::{Gate, Marked};
 use leak_report::Two;
-use leak_roots::Skip;
 use leak_scan::Pages;
 use std::alloc::Global;
 use std::thread::Threads;
@@ -147,49 +146,44 @@ fn numbers_of(input: &Input, carry: &Carry, reread: u64) -> Two
     }
 }
 
-/// Searches two cores of one process and their logs by the workers of the plan, with a list of claims for each.
+/// Searches two cores of one process and their logs by the rules and by the workers, with a list of claims for each worker.
 ///
 /// The first log has to begin the second, up to its own last line feed. Marked in the second core are the blocks that
 /// were marked in the first core and are still live, those allocated since, and what chains lead to from these and from
 /// the roots (after Boehm, Demers and Shenker, PLDI 1991; that new blocks count is own rule). The report is that of the
-/// second core and its log, whose misfits it lists if `check` is set, and the claims are of the marking there. `other_heap` says that the heap is another
-/// than glibc's, as of [`find_one`](crate::find_one).
+/// second core and its log, whose misfits it lists if `lists_misfits` is set, and the claims are of the marking there.
 ///
 /// # Errors
 ///
 /// The first refusal of input 1 (`Core`, `Notes`, `Log`), then of input 2, then `NotPrefix`, then `TooMany`. `NoMemory` can
 /// come at any time.
 pub fn find_two<R: Threads + Sync, G: Gate + Sync>(
-    rt: &R,
+    workers: &Workers<'_, R, G>,
     alloc: Global,
     core1: &[u8],
     log1: &[u8],
     core2: &[u8],
     log2: &[u8],
-    reading: Reading,
-    skip: Skip,
-    check: bool,
-    other_heap: bool,
-    plan: Plan,
-    gate: &G,
+    rules: Rules,
+    lists_misfits: bool,
 ) -> Result<Found, FindError>
     ensures ok { IfOk result (FindsTwo core1.now log1.now core2.now log2.now
-        (distances_of reading) skip check plan.workers) }
-    ensures signs { IfOk result (λ found.
-        AreSigns other_heap (core1.now ∷ log1.now ∷ core2.now ∷ log2.now ∷ []) found.signs.items) }
+        (distances_of rules.reading) rules.skip lists_misfits workers.now.plan.workers) }
+    ensures signs { IfOk result (λ found. AreSigns rules.other_heap
+        (core1.now ∷ log1.now ∷ core2.now ∷ log2.now ∷ []) found.signs.items) }
     ensures refused { IfErr result (λ e. e ≢ FindError.NoMemory
         → IsFaultOfTwo core1.now log1.now core2.now log2.now e) }
 {
     // (a law, for the proof: words on pages that are the same need no second scan)
     same_words_lead_within();
-    let workers = Workers { rt, plan, gate };
-    let inputs = read_two(alloc, skip, core1, log1, core2, log2)?;
-    let between = compare(&workers, alloc, &inputs, reading)?;
-    let oddities = oddities_of_two(alloc, &inputs.first, &inputs.second, check, other_heap)?;
+    let inputs = read_two(alloc, rules.skip, core1, log1, core2, log2)?;
+    let between = compare(workers, alloc, &inputs, rules.reading)?;
+    let (earlier, later) = (&inputs.first, &inputs.second);
+    let oddities = oddities_of_two(alloc, earlier, later, lists_misfits, rules.other_heap)?;
     let Inputs { first, second } = inputs;
     drop(first); // no more is asked of it
-    let ground = ground_of(alloc, &second, reading)?;
-    let retraced = mark_later(&workers, alloc, &second, &ground, &between)?;
+    let ground = ground_of(alloc, &second, rules.reading)?;
+    let retraced = mark_later(workers, alloc, &second, &ground, &between)?;
     let two = numbers_of(&second, &between.carry, retraced.reread);
     let head = head_of(&second, &ground.roots, Some(two));
     let aside = Aside { head, oddities };

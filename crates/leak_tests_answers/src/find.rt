@@ -4,7 +4,7 @@ ghost use Rattle.std.specs.Prelude.{IfOk, false, ◌≡◌};
 use crate::comparisons::{same, same_in};
 use leak_elf::core_k;
 use leak_find::{
-    Options, Plan, ReadFault, Reading, RunFault, Skip, find_alone, read_all, run_sized,
+    Options, Plan, ReadFault, Reading, Rules, RunFault, Skip, find_alone, read_all, run_sized,
     run_why_sized,
 };
 use std::test::*;
@@ -145,15 +145,7 @@ fn a_question_with_sizes_gives_the_answer_without(rt: HostRuntime) -> Result<(),
 fn the_example_of_the_front_page(rt: HostRuntime) -> Result<(), Fail> {
     let alloc = rt.alloc();
     let core = core_k(alloc, &[])?;
-    let found = find_alone(
-        alloc,
-        &core,
-        ONE_BLOCK,
-        Reading::interior(),
-        Skip::usual(),
-        false,
-        false,
-    )?;
+    let found = find_alone(alloc, &core, ONE_BLOCK, Rules::usual(), false)?;
     same(&rt, found.leaked, 1);
     Ok(())
 }

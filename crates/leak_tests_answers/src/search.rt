@@ -2,9 +2,7 @@
 
 use crate::comparisons::same;
 use leak_elf::core_k;
-use leak_index::Reading;
-use leak_roots::Skip;
-use leak_search::find_alone;
+use leak_search::{Rules, find_alone};
 use std::test::*;
 
 #[test]
@@ -12,15 +10,7 @@ fn the_example_of_the_front_page(rt: HostRuntime) -> Result<(), Fail> {
     let alloc = rt.alloc();
     let core = core_k(alloc, &[])?;
     let log = b"@ ./a.out:[0x401136] + 0x10100 0x20\n";
-    let found = find_alone(
-        alloc,
-        &core,
-        log,
-        Reading::interior(),
-        Skip::usual(),
-        false,
-        false,
-    )?;
+    let found = find_alone(alloc, &core, log, Rules::usual(), false)?;
     same(&rt, found.leaked, 1);
     Ok(())
 }

@@ -6,8 +6,7 @@ use crate::hundreds::{CHAIN, chain};
 use crate::samples::core_of;
 use crate::searches::reports;
 use crate::two_cores::with_lines;
-use leak_find::{Skip, find_one, find_two};
-use leak_index::Reading;
+use leak_find::{Rules, Workers, find_one, find_two};
 use leak_pool::{Gate, Plan};
 use std::sync::atomic::{AtomicU64, Ordering};
 use std::test::Fail;
@@ -63,18 +62,12 @@ fn either_of_two_workers_may_begin(rt: HostRuntime) -> Result<(), Fail> {
     for held in [0, 1] {
         let gate = Holding::of(held);
         let plan = Plan::new(2, 1, 0)?;
-        let found = find_one(
-            &rt,
-            rt.alloc(),
-            core,
-            log,
-            Reading::interior(),
-            Skip::usual(),
-            false,
-            false,
+        let workers = Workers {
+            rt: &rt,
             plan,
-            &gate,
-        )?;
+            gate: &gate,
+        };
+        let found = find_one(&workers, rt.alloc(), core, log, Rules::usual(), false)?;
         same_in(&rt, &held, gate.passed.load(Ordering::SeqCst), 1);
         same_in(&rt, &held, gate.late.load(Ordering::SeqCst), 0);
         reports(&rt, &held, &found, CHAIN);
@@ -94,21 +87,21 @@ fn either_of_two_workers_may_begin_in_two_cores(rt: HostRuntime) -> Result<(), F
     let wanted = with_lines(alloc, CHAIN, "new 0 bytes 0\nreread 0\n")?;
     for held in [0, 1] {
         let gate = Holding::of(held);
-        let reading = Reading::interior();
         let plan = Plan::new(2, 1, 0)?;
+        let workers = Workers {
+            rt: &rt,
+            plan,
+            gate: &gate,
+        };
         let found = find_two(
-            &rt,
+            &workers,
             alloc,
             core1,
             log,
             core2,
             log,
-            reading,
-            Skip::usual(),
+            Rules::usual(),
             false,
-            false,
-            plan,
-            &gate,
         )?;
         same_in(&rt, &held, gate.passed.load(Ordering::SeqCst), 1);
         same_in(&rt, &held, gate.late.load(Ordering::SeqCst), 0);
@@ -168,19 +161,20 @@ fn two_workers_mark_the_later_core_at_the_same_time(rt: HostRuntime) -> Result<(
         begun: [AtomicU64::new(0), AtomicU64::new(0)],
         late: AtomicU64::new(0),
     };
+    let workers = Workers {
+        rt: &rt,
+        plan: Plan::new(2, 1, 0)?,
+        gate: &gate,
+    };
     let found = find_two(
-        &rt,
+        &workers,
         alloc,
         zeros.as_slice(),
         log,
         sample.core.as_slice(),
         log,
-        Reading::interior(),
-        Skip::usual(),
+        Rules::usual(),
         false,
-        false,
-        Plan::new(2, 1, 0)?,
-        &gate,
     )?;
     same_in(&rt, &"late", gate.late.load(Ordering::SeqCst), 0);
     for begun in gate.begun.iter() {

@@ -4,8 +4,9 @@ ghost use Rattle.std.specs.Prelude.{◌≡◌, length};
 ghost use Rattle.leak_request.specs.Requests.{file_count};
 
 use crate::comparisons::same_in;
-use leak_find::{FindError, Found, Options, RunFault, Skip, find_alone, find_one, find_two, run};
-use leak_index::Reading;
+use leak_find::{
+    FindError, Found, Options, Rules, RunFault, Workers, find_alone, find_one, find_two, run,
+};
 use leak_pool::{Open, Plan};
 use std::alloc::Global;
 use std::fmt::Debug;
@@ -15,15 +16,7 @@ use std::thread::Threads;
 
 /// What the caller's thread finds in a core and its log.
 pub fn alone(alloc: Global, core: &[u8], log: &[u8]) -> Result<Found, FindError> {
-    find_alone(
-        alloc,
-        core,
-        log,
-        Reading::interior(),
-        Skip::usual(),
-        false,
-        false,
-    )
+    find_alone(alloc, core, log, Rules::usual(), false)
 }
 
 /// What the workers of the plan find in a core and its log.
@@ -34,18 +27,9 @@ pub fn by_plan<R: Threads + Sync>(
     log: &[u8],
     plan: Plan,
 ) -> Result<Found, FindError> {
-    find_one(
-        rt,
-        alloc,
-        core,
-        log,
-        Reading::interior(),
-        Skip::usual(),
-        false,
-        false,
-        plan,
-        &Open,
-    )
+    let gate = &Open;
+    let workers = Workers { rt, plan, gate };
+    find_one(&workers, alloc, core, log, Rules::usual(), false)
 }
 
 /// What they find in two cores, each with its log.
@@ -58,19 +42,17 @@ pub fn of_two<R: Threads + Sync>(
 ) -> Result<Found, FindError> {
     let (core1, log1) = first;
     let (core2, log2) = second;
+    let gate = &Open;
+    let workers = Workers { rt, plan, gate };
     find_two(
-        rt,
+        &workers,
         alloc,
         core1,
         log1,
         core2,
         log2,
-        Reading::interior(),
-        Skip::usual(),
+        Rules::usual(),
         false,
-        false,
-        plan,
-        &Open,
     )
 }
 

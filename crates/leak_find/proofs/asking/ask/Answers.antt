@@ -30,7 +30,7 @@ returns-in-Ok-clause-ok g c =
     let read1 = one_more source limit c.args.readers.now c.args.readers.now c.read_reader.new.readers [] c.in_ok-core.core.items refl c.in_ok-core.ensures.ok in
     let read2 = one_more source limit c.args.readers.now c.read_reader.new.readers c.read_reader-2.new.readers (c.in_ok-core.core.items ∷ []) c.in_ok-log.log.items read1 c.in_ok-log.ensures.ok in
     has_told source c.args.options.now c.args.address c.args.readers.now c.read_reader-2.new.readers c.in_ok-core.core.items c.in_ok-log.log.items _ _ read2
-    c.deref.ensures.value c.deref-2.ensures.value c.in-Ok.why c.in-Ok.ensures.ok c.in-Ok.ensures.signs
+    c.deref.ensures.value c.deref-2.ensures.value _ c.in-Ok.why c.rules_of.ensures c.in-Ok.ensures.ok c.in-Ok.ensures.signs
 
 pub returns-clause-refused : goal.returns-clause-refused
 returns-clause-refused g c =

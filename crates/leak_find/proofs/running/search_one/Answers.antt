@@ -28,8 +28,8 @@ returns-in-Ok-clause-ok g c =
     let limit = limit_at c.args.options.now in
     let read1 = one_more source limit c.args.readers.now c.args.readers.now c.read_reader.new.readers [] c.in_ok-core.core.items refl c.in_ok-core.ensures.ok in
     let read2 = one_more source limit c.args.readers.now c.read_reader.new.readers c.read_reader-2.new.readers (c.in_ok-core.core.items ∷ []) c.in_ok-log.log.items read1 c.in_ok-log.ensures.ok in
-    found_one source c.args.options.now c.args.readers.now c.read_reader-2.new.readers c.in_ok-core.core.items c.in_ok-log.log.items _ _ c.in-Ok.found c.requires.one
-    read2 c.deref.ensures.value c.deref-2.ensures.value c.in-Ok.ensures.ok c.in-Ok.ensures.signs
+    found_one source c.args.options.now c.args.readers.now c.read_reader-2.new.readers c.in_ok-core.core.items c.in_ok-log.log.items _ _ _ c.in-Ok.found c.requires.one
+    read2 c.deref.ensures.value c.deref-2.ensures.value c.rules_of-rules.ensures c.in-Ok.ensures.ok c.in-Ok.ensures.signs
 
 pub returns-clause-refused : goal.returns-clause-refused
 returns-clause-refused g c =

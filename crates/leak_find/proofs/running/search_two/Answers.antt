@@ -50,7 +50,7 @@ returns-in-Ok-clause-ok g c =
     let read3 = one_more source limit c.args.readers.now c.read_reader-2.new.readers c.read_reader-3.new.readers (c.in_ok-core1.core1.items ∷ c.in_ok-log1.log1.items ∷ []) c.in_ok-core2.core2.items read2 c.in_ok-core2.ensures.ok in
     let read4 = one_more source limit c.args.readers.now c.read_reader-3.new.readers c.read_reader-4.new.readers (c.in_ok-core1.core1.items ∷ c.in_ok-log1.log1.items ∷ c.in_ok-core2.core2.items ∷ []) c.in_ok-log2.log2.items read3 c.in_ok-log2.ensures.ok in
     found_two source c.args.options.now c.args.readers.now c.read_reader-4.new.readers c.in_ok-core1.core1.items c.in_ok-log1.log1.items c.in_ok-core2.core2.items c.in_ok-log2.log2.items _ _ _ _ c.requires.two
-    read4 c.deref.ensures.value c.deref-2.ensures.value c.deref-3.ensures.value c.deref-4.ensures.value c.in-Ok.found c.in-Ok.ensures.ok c.in-Ok.ensures.signs
+    read4 c.deref.ensures.value c.deref-2.ensures.value c.deref-3.ensures.value c.deref-4.ensures.value _ c.in-Ok.found c.rules_of-rules.ensures c.in-Ok.ensures.ok c.in-Ok.ensures.signs
 
 pub returns-clause-refused : goal.returns-clause-refused
 returns-clause-refused g c =

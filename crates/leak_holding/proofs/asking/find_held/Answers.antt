@@ -22,21 +22,21 @@ pub answer-requires-clause-known : goal.answer-requires-clause-known
 answer-requires-clause-known g c κs within = record {
   core = c.args.files.now.core.now;
   since = earlier c.args.files.now.since;
-  reading = distances_of c.args.reading;
+  reading = distances_of c.args.rules.reading;
   read = c.in_ok-input.ensures.ok;
-  is_scene = c.in_ok-scene.ensures.ok (distances_of c.args.reading) (record { lookup = c.in_ok-ground.ensures.lookup; roots = c.in_ok-ground.ensures.roots });
+  is_scene = c.in_ok-scene.ensures.ok (distances_of c.args.rules.reading) (record { lookup = c.in_ok-ground.ensures.lookup; roots = c.in_ok-ground.ensures.roots });
 }
 
 pub returns-clause-signs : goal.returns-clause-signs
 returns-clause-signs g c =
-    are_of_one c.args.other_heap c.args.files.now.core.now c.args.files.now.log.now c.in_ok-input.input c.in_ok-oddities.oddities.signs.items c.in_ok-input.ensures.ok c.in_ok-oddities.ensures.signs
+    are_of_one c.args.rules.other_heap c.args.files.now.core.now c.args.files.now.log.now c.in_ok-input.input c.in_ok-oddities.oddities.signs.items c.in_ok-input.ensures.ok c.in_ok-oddities.ensures.signs
 
 pub returns-in_default-clause-refused : goal.returns-in_default-clause-refused
 returns-in_default-clause-refused g c = λ other.
-    none_asked _ _ (earlier c.args.files.now.since) _ c.in_ok-input.input _ c.in_ok-input.ensures.ok (c.in_ok-scene.ensures.ok (distances_of c.args.reading) (record { lookup = c.in_ok-ground.ensures.lookup; roots = c.in_ok-ground.ensures.roots })) c.args.question.address
+    none_asked _ _ (earlier c.args.files.now.since) _ c.in_ok-input.input _ c.in_ok-input.ensures.ok (c.in_ok-scene.ensures.ok (distances_of c.args.rules.reading) (record { lookup = c.in_ok-ground.ensures.lookup; roots = c.in_ok-ground.ensures.roots })) c.args.question.address
     (sym c.is_continued.ensures ∙ c.if-not-is_continued.false) c.in_default.ensures.none
 
 pub returns-clause-ok : goal.returns-clause-ok
 returns-clause-ok g c =
-    finds_held _ _ (earlier c.args.files.now.since) _ c.in_ok-input.input _ c.in_ok-input.ensures.ok (c.in_ok-scene.ensures.ok (distances_of c.args.reading) (record { lookup = c.in_ok-ground.ensures.lookup; roots = c.in_ok-ground.ensures.roots })) _ c.args.question c.in-Some.block _ _
+    finds_held _ _ (earlier c.args.files.now.since) _ c.in_ok-input.input _ c.in_ok-input.ensures.ok (c.in_ok-scene.ensures.ok (distances_of c.args.rules.reading) (record { lookup = c.in_ok-ground.ensures.lookup; roots = c.in_ok-ground.ensures.roots })) _ c.args.question c.in-Some.block _ _
     c.in_ok-input.ensures.skip (sym c.is_continued.ensures ∙ c.if-not-is_continued.false) c.in-Some.ensures.some c.in_ok-report.ensures.answer refl

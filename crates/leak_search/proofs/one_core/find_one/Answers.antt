@@ -18,7 +18,7 @@ pub report_of-requires-clause-in_log : goal.report_of-requires-clause-in_log
 report_of-requires-clause-in_log g c = input_callers _ _ _ c.in_ok-input.ensures.ok
 
 pub report_of-requires-clause-a_fit_each : goal.report_of-requires-clause-a_fit_each
-report_of-requires-clause-a_fit_each g c = fits_each c.in_ok-oddities.oddities.fits c.args.check c.in_ok-input.input c.in_ok-oddities.ensures.fits
+report_of-requires-clause-a_fit_each g c = fits_each c.in_ok-oddities.oddities.fits c.args.lists_misfits c.in_ok-input.input c.in_ok-oddities.ensures.fits
 
 pub returns-clause-ok : goal.returns-clause-ok
 returns-clause-ok g c = ok_by _ _ (λ found is.
@@ -30,6 +30,6 @@ pub returns-clause-refused : goal.returns-clause-refused
 returns-clause-refused g c = for_memory _ _ c.report_of.ensures.memory
 
 pub returns-clause-signs : goal.returns-clause-signs
-returns-clause-signs g c = ok_by (λ (found : Found). AreSigns c.args.other_heap (c.args.core.now ∷ c.args.log.now ∷ []) found.signs.items) c.report_of.result (λ found is.
-    are_of_one c.args.other_heap c.args.core.now c.args.log.now c.in_ok-input.input found.signs.items c.in_ok-input.ensures.ok
+returns-clause-signs g c = ok_by (λ (found : Found). AreSigns c.args.rules.other_heap (c.args.core.now ∷ c.args.log.now ∷ []) found.signs.items) c.report_of.result (λ found is.
+    are_of_one c.args.rules.other_heap c.args.core.now c.args.log.now c.in_ok-input.input found.signs.items c.in_ok-input.ensures.ok
     (at_ok (λ (f : Found). f.signs.items ≡ c.in_ok-oddities.oddities.signs.items) c.report_of.result found is c.report_of.ensures.signs ∙ c.in_ok-oddities.ensures.signs))

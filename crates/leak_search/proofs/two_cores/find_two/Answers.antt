@@ -24,7 +24,7 @@ pub report_of-requires-clause-in_log : goal.report_of-requires-clause-in_log
 report_of-requires-clause-in_log g c = input_callers _ _ _ (c.in_ok-inputs.ensures.read.now, c.in_ok-inputs.ensures.read.second)
 
 pub report_of-requires-clause-a_fit_each : goal.report_of-requires-clause-a_fit_each
-report_of-requires-clause-a_fit_each g c = fits_each c.in_ok-oddities.oddities.fits c.args.check c.in_ok-inputs.inputs.second c.in_ok-oddities.ensures.fits
+report_of-requires-clause-a_fit_each g c = fits_each c.in_ok-oddities.oddities.fits c.args.lists_misfits c.in_ok-inputs.inputs.second c.in_ok-oddities.ensures.fits
 
 pub returns-clause-refused : goal.returns-clause-refused
 returns-clause-refused g c = for_memory _ _ c.report_of.ensures.memory
@@ -38,7 +38,7 @@ returns-clause-ok g c = ok_by _ _ (λ found is.
 
 pub returns-clause-signs : goal.returns-clause-signs
 returns-clause-signs g c = ok_by
-    (λ (found : Found). AreSigns c.args.other_heap (c.args.core1.now ∷ c.args.log1.now ∷ c.args.core2.now ∷ c.args.log2.now ∷ []) found.signs.items) c.report_of.result (λ found is.
-    are_of_two c.args.other_heap c.args.core1.now c.args.log1.now c.args.core2.now c.args.log2.now c.in_ok-inputs.inputs.first c.in_ok-inputs.inputs.second found.signs.items
+    (λ (found : Found). AreSigns c.args.rules.other_heap (c.args.core1.now ∷ c.args.log1.now ∷ c.args.core2.now ∷ c.args.log2.now ∷ []) found.signs.items) c.report_of.result (λ found is.
+    are_of_two c.args.rules.other_heap c.args.core1.now c.args.log1.now c.args.core2.now c.args.log2.now c.in_ok-inputs.inputs.first c.in_ok-inputs.inputs.second found.signs.items
     (c.in_ok-inputs.ensures.read.before, c.in_ok-inputs.ensures.read.first) (c.in_ok-inputs.ensures.read.now, c.in_ok-inputs.ensures.read.second)
     (at_ok (λ (f : Found). f.signs.items ≡ c.in_ok-oddities.oddities.signs.items) c.report_of.result found is c.report_of.ensures.signs ∙ c.in_ok-oddities.ensures.signs))
