@@ -3,10 +3,9 @@
 use crate::answer::Answer;
 use crate::samples::{MOVED, Sample, TWO_BLOCKS, chain, core_of, set};
 use leak_find::{
-    FindError, Found, ReadFault, Request, Rules, Skip, UsageFault, WhyError, Workers, find_one,
-    find_two, find_why, read_all, request,
+    FindError, Found, ReadFault, Request, Rules, UsageFault, WhyError, Workers, find_one, find_two,
+    find_why, read_all, request,
 };
-use leak_index::Reading;
 use leak_pool::{Open, Plan};
 use std::alloc::Global;
 use std::io::Cursor;
