@@ -90,8 +90,10 @@ def whole(report, kind):
 
 
 def kind_of(report):
-    """The kind of the report's rows, by its other lines where it has none, or "" where it has no such lines either."""
+    """The kind of the report's rows, by its other lines if it has none, or "" if it has no such lines either."""
     if report.rows:
         return next(iter(report.rows))
-    kinds = [kind for word, kind in BESIDE.items() if any(part.line.startswith(word) for part in report.parts)]
-    return kinds[0] if kinds else ""
+    kind = next((kind for word, kind in BESIDE.items() if any(part.line.startswith(word) for part in report.parts)), "")
+    # Each block that chosen blocks hold is in a row, so if no row tells of held blocks, it was asked who holds them.
+    is_of = kind == "in" and any(re.match("held [1-9]", part.line) for part in report.parts)
+    return "by" if is_of else kind

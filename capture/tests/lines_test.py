@@ -52,6 +52,12 @@ class Report(unittest.TestCase):
                                    (["now 1 bytes 7"], "grew", None)):
             self.assertEqual(report.whole(report.read(lines), kind), whole)
 
+    def test_an_answer_without_rows_of_held_blocks_is_of_who_holds_them(self):
+        asked = "asked 0x10100 1 8 ?"
+        for lines, kind in (([asked, "held 1 bytes 8"], "by"), ([asked, "held 0 bytes 0"], "in"), ([asked, "held 1 bytes 8", "in 1 8 ?"], "in"),
+                            (["then 1 bytes 8", "held 1 bytes 8"], "grew"), ([asked, "leaked"], "")):
+            self.assertEqual(report.kind_of(report.read(lines)), kind)
+
     def test_a_table_stands_where_its_first_row_stood(self):
         read = report.read(["a", "in 1 2 t", "b", "in 3 4 u"])
         self.assertEqual(read.parts, [report.Part("a", ""), report.Part("", "in"), report.Part("b", "")])
