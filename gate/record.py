@@ -17,9 +17,10 @@ PARTS = ("src", "specs", "proofs")
 JUDGES = ("edits.py", "judging.py", "record.py", "wrong_bodies.py")
 FILE = "gate/refused.txt"
 COMMENT = {".rt": "//", ".antt": "--"}
-# A library's definitions that a text names, as 'use Rattle.leak_elf.specs.Words.{word_of}' or '.. as words'; and the head of a function.
+# A library's definitions that a text names, as 'use Rattle.leak_elf.specs.Words.{word_of}' or '.. as words'; the heads of a function and of a type.
 NAMED = re.compile(r"\buse Rattle\.(\w+)\.specs\.([\w.]+?)(?:\.\{([^}]*)\}| as (\w+))")
 HEAD = re.compile(r"(?:^| )fn \w")
+TYPE = re.compile(r"\b(?:struct|enum) \w")
 
 
 def files_below(folder):
@@ -66,6 +67,16 @@ def file_of(root, crate, module):
     return next((it for it in files if os.path.isfile(it)), f"{sources}/lib.rt")
 
 
+def types_in(text):
+    """Returns the types that a source text of a library declares, without its functions."""
+    found, depth = [], 0
+    for line in text.split("\n"):
+        if depth or TYPE.search(line):
+            found.append(line)
+            depth += line.count("{") - line.count("}")
+    return "\n".join(found)
+
+
 def definitions(root, below, named):
     """Returns the texts of the definitions that are named, and of those that these name in turn, in the crates below, by their paths."""
     found, waiting = {}, list(named)
@@ -73,7 +84,8 @@ def definitions(root, below, named):
         crate, module, *_ = waiting.pop()
         path = file_of(root, crate, module)
         if crate in below and path not in found:
-            found[path] = text_of(path) if os.path.isfile(path) else ""
+            text = text_of(path) if os.path.isfile(path) else ""
+            found[path] = text if path.endswith(".antt") else types_in(text)
             waiting += NAMED.findall(found[path])
     return found
 
