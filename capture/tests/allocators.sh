@@ -18,7 +18,7 @@ judge_heap() {
     stop $process
     verdict "$1: the options that are told" "one $3" "$(sed -n 's/.*now search: leak_find \(.*\) [^ ]*core [^ ]*log$/\1/p' said)"
     echo "     planted, found, others: $(wc -l < lost) $(found --other-heap); with $3: $(found $3)"
-    verdict "$1: found with them" "$4 or more, others 0" "$(found $3 | awk -v least="$4" '{ print $1 >= least ? least " or more, others " $2 : $1 ", others " $2 }')"
+    verdict "$1: found with them" "$4 or more, others 0" "$(found $3 | awk -v least="$4" '{ print ($1 >= least ? least " or more" : $1) ", others " $2 }')"
     verdict "$1: none but lost ones are found without" 0 "$(found --other-heap | cut -d ' ' -f 2)"
 }
 judge_heap glibc '' '--skip-freed --skip-links' 590
