@@ -1,10 +1,13 @@
 //! Texts in the order in which they are met.
 ghost use Rattle.std.specs.Prelude.{◌≡◌, ◌+◌, ◌^◌, ◌<◌, length, IfOk, OnOk};
-ghost use Rattle.leak_texts.specs.Numbered.{bytes_each};
+ghost use Rattle.leak_report.specs.Totals.{HaveCallersIn};
+ghost use Rattle.leak_texts.specs.Numbered.{bytes_each, texts_of};
 ghost use Rattle.leak_texts.specs.Meeting.{AreMet, IsMet, AreNumberedAsMet};
 
 use crate::tail::tail;
 use crate::texts::Texts;
+use leak_blocks::Block;
+use leak_report::caller_text;
 use std::alloc::{AllocError, Global};
 use std::collections::BTreeMap;
 
@@ -43,6 +46,27 @@ pub(crate) fn meet_each<'a>(alloc: Global, given: &[&'a [u8]]) -> Result<Texts<'
     let mut texts = Vec::new(alloc);
     let mut numbers = Vec::with_capacity(alloc, given.len())?;
     for text in given {
+        numbers.push(meet(&mut found, &mut texts, text)?)?;
+    }
+    Ok(Texts { texts, numbers })
+}
+
+/// Numbers the texts of the callers of blocks in the order in which they are first met. The callers' ranges are of the log.
+pub(crate) fn meet_callers<'a>(
+    alloc: Global,
+    blocks: &[Block],
+    log: &'a [u8],
+) -> Result<Texts<'a>, AllocError>
+    requires in_log { HaveCallersIn log.now blocks.now }
+    requires few { length blocks.now < 2 ^ 32 }
+    ensures { IfOk result (λ met. AreNumberedAsMet (texts_of log.now blocks.now)
+        (bytes_each met.texts.items) met.numbers.items) }
+{
+    let mut found = BTreeMap::new(alloc);
+    let mut texts = Vec::new(alloc);
+    let mut numbers = Vec::with_capacity(alloc, blocks.len())?;
+    for block in blocks {
+        let text = caller_text(log, block.caller);
         numbers.push(meet(&mut found, &mut texts, text)?)?;
     }
     Ok(Texts { texts, numbers })
