@@ -3,6 +3,7 @@ ghost use Rattle.std.specs.Prelude.{◌≡◌, ◌+◌, ◌<◌, ◌≤◌, not,
 ghost use Rattle.leak_chunks.specs.Fit.{follows_one_in_use, fits_word, fits_core, fits_of};
 
 use crate::chunk::{SizeWord, is_heap_chunk_for, is_mapping_for};
+use crate::near::Near;
 use leak_blocks::{Block, Live};
 use leak_elf::Words;
 use std::alloc::{AllocError, Global};
@@ -16,8 +17,10 @@ pub fn fits<W: Words>(alloc: Global, words: &W, live: &Live) -> Result<Vec<bool>
     // Not collected: that could go on after its first request for room was refused.
     let blocks = live.blocks();
     let mut fits = Vec::with_capacity(alloc, blocks.len())?;
+    let mut near = Near::new(words);
     for block in blocks {
-        fits.push(fits_core(words, block))?;
+        near.go_to(block.start.saturating_sub(8));
+        fits.push(fits_core(&near, block))?;
     }
     Ok(fits)
 }

@@ -20,6 +20,7 @@ mod chunk;
 mod fitting;
 mod free_link;
 mod laws;
+mod near;
 mod slack;
 
 pub use fitting::{count_misfits, fits};

@@ -7,6 +7,7 @@ ghost use Rattle.leak_chunks.specs.Slack.{BeginBy, slack_by, slack_of, slack_spa
 
 use crate::chunk::SizeWord;
 use crate::fitting::fits_word;
+use crate::near::Near;
 use leak_blocks::{Block, Live, Span};
 use leak_elf::Words;
 use std::alloc::{AllocError, Global};
@@ -123,8 +124,10 @@ pub fn slack_spans<W: Words>(
 {
     let blocks = live.blocks();
     let mut ranges = Vec::new(alloc);
+    let mut near = Near::new(words);
     for block in blocks {
-        if let Some(span) = slack_of(words, block) {
+        near.go_to(block.start.saturating_sub(8));
+        if let Some(span) = slack_of(&near, block) {
             add(&mut ranges, span)?;
         }
     }

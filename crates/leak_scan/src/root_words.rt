@@ -32,6 +32,10 @@ pub(crate) fn next_held<W: Words, L: Lookup>(
             Hits::Zero => {}
             hits => return (hits, later),
         }
+        // Most ranges are the word or two between blocks, and end here.
+        if to.saturating_sub(later) < 8 {
+            return (Hits::Zero, to);
+        }
         let Some(place) = words.next(later) else {
             return (Hits::Zero, to);
         };
