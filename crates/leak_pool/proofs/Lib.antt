@@ -7,6 +7,7 @@ pub mod WordLemmas
 pub mod AloneLemmas
 pub mod AloneRoundLemmas
 pub mod ScanLemmas
+pub mod PartLemmas
 pub mod EdgeLemmas
 pub mod RowLemmas
 pub mod WorkLemmas

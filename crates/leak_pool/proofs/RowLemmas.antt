@@ -1,5 +1,5 @@
 -- How many targets rows have, and what is over their room.
-use Rattle.std.proofs.Common.{◌≡◌, refl, ℕ, zero, suc, ◌+◌, ◌-◌, ◌*◌, ◌/◌, ◌%◌, ◌<◌, ◌≤◌, min, List, [], ◌∷◌, ◌++◌, length, map, get_or, take, drop, Option, Some, None, Result, Ok, sym, ap, ◌∙◌, subst, ⊎_elim, arith, length-append, append-nil}
+use Rattle.std.proofs.Common.{◌≡◌, refl, ℕ, zero, suc, ◌+◌, ◌*◌, ◌/◌, ◌%◌, ◌<◌, ◌≤◌, min, List, [], ◌∷◌, ◌++◌, length, map, get_or, take, drop, Option, Some, None, Result, Ok, sym, ap, ◌∙◌, subst, ⊎_elim, arith, length-append, append-nil}
 use Rattle.std.proofs.Math.Nat.{mod-lt, mul_comm, suc-mul, div-le_of_le-mul, mul-le-mul_left, mul-le-mul_right, mul-div-le}
 use Rattle.std.proofs.lemmas.Bool.{cases_lt}
 use Rattle.std.proofs.lemmas.Nat.{div-add-mod', mul-le}

@@ -2,7 +2,7 @@
 use Rattle.std.proofs.Common.{◌≡◌, ◌⊎◌, ℕ, ◌<◌, List, [], ◌∷◌, ◌++◌, refl, sym, ap, ◌∙◌, subst, inl, inr, ⊎_elim, arith, append_assoc}
 use Rattle.leak_marks.specs.Lists.{Has, IsDistinct}
 use Rattle.leak_marks.specs.Seats.{Held, IsSound}
-use Rattle.leak_marks.proofs.ListLemmas.{here, there, at_head, has_front, has_back, has_last, distinct_back, distinct_apart}
+use Rattle.leak_marks.proofs.ListLemmas.{here, there, at_head, has_front, has_back, has_last, of_append, distinct_back, distinct_apart}
 use Rattle.std.proofs.lemmas.List.{append-nil}
 use Rattle.leak_marks.specs.Rounds.{IsKeptInRounds}
 use Rattle.leak_pool.specs.Promises.{IsScanned, IsScanning}
@@ -47,6 +47,29 @@ scanning_more item rest later t before list mid longer after longest s is table 
   where
     seen_more : (b : ℕ) → Has mid.seen b → Has after.seen b
     seen_more b h = subst (λ (l : List ℕ). Has l b) (sym seen) (has_front mid.seen (t ∷ []) b h)
+
+-- some targets more, that were scanned by themselves
+pub scanning_part : (item : ℕ → Type 0) (rest now later : List ℕ) (before : Held) (list : List ℕ) (mid : Held) (longer : List ℕ) (after : Held) (longest : List ℕ)
+    → IsScanning item rest before list mid longer → rest ≡ now ++ later → after.table ≡ mid.table → after.share ≡ mid.share → IsSound after
+    → ((base : List ℕ) → mid.claims ≡ base ++ longer → after.claims ≡ base ++ longest)
+    → IsScanned (Has now) [] mid.seen longer after.seen longest → IsScanning item later before list after longest
+scanning_part item rest now later before list mid longer after longest s is table share sound listed part = record {
+  table = table ∙ s.table;
+  share = share ∙ s.share;
+  sound = sound;
+  listed = λ base e. listed base (s.listed base e);
+  some = λ b h. s.some b (subst (λ (l : List ℕ). Has l b) (sym is) (has_back now later b h));
+  scanned = record {
+    keeps = λ b h. part.keeps b (s.scanned.keeps b h);
+    covers = λ b i. ⊎_elim (λ d. inl (part.keeps b d))
+        (λ r. ⊎_elim (λ f. ⊎_elim (λ d. inl d) (λ n. none_has b n) (part.covers b f)) (λ l. inr l) (of_append now later b (subst (λ (l : List ℕ). Has l b) is r)))
+        (s.scanned.covers b i);
+    gains = λ b h. ⊎_elim (λ old. s.scanned.gains b old)
+        (λ new. inr (s.some b (subst (λ (l : List ℕ). Has l b) (sym is) (has_front now later b new.0)), λ was. new.1 (s.scanned.keeps b was)))
+        (part.gains b h);
+    grown = (s.scanned.grown.0 ++ part.grown.0, part.grown.1 ∙ ap (λ (l : List ℕ). l ++ part.grown.0) s.scanned.grown.1 ∙ append_assoc list s.scanned.grown.0 part.grown.0);
+  };
+}
 
 -- ---- what was claimed
 

@@ -1,10 +1,9 @@
 -- Steps, from what halves and scans promise.
-use Rattle.std.proofs.Common.{◌≡◌, ℕ, ◌+◌, ◌*◌, ◌<◌, ◌≤◌, List, [], ◌∷◌, ◌++◌, length, Ok, Err, refl, sym, ap, ◌∙◌, subst, ⊎_elim, arith}
+use Rattle.std.proofs.Common.{◌≡◌, ℕ, ◌+◌, ◌*◌, ◌<◌, ◌≤◌, List, [], ◌∷◌, ◌++◌, length, Ok, Err, refl, sym, ap, ◌∙◌, subst, arith}
 use Rattle.std.specs.Prelude.{Result, IfOk}
 use Rattle.std.specs.List.{concat}
 use Rattle.std.proofs.Math.Nat.{div-le_self, mul-div_cancel_left}
 use Rattle.std.proofs.lemmas.List.{append-nil, length-append}
-use Rattle.leak_marks.specs.Lists.{Has}
 use Rattle.leak_marks.specs.Seats.{Held, IsSound}
 use Rattle.leak_marks.specs.Rounds.{IsKept, IsKeptInRounds, appended_from}
 use Rattle.leak_marks.proofs.RoundLemmas.{in_rounds}

@@ -6,7 +6,7 @@ use Rattle.std.proofs.lemmas.List.{take_all}
 use Rattle.std.proofs.lemmas.Grind.{flat_map-append}
 use Rattle.leak_elf.specs.Words.{words_between}
 use Rattle.leak_roots.specs.Places.{Places, addresses_in, memory_places, IsRange}
-use Rattle.leak_roots.specs.Pieces.{Place, InRegisters, InMemory, places_of, IsPiece, AreCut, all_places}
+use Rattle.leak_roots.specs.Pieces.{Place, InRegisters, InMemory, places_of, IsPiece, AreCut}
 use Rattle.leak_roots.specs.declared.piece.Piece.{Piece}
 use Rattle.leak_roots.specs.declared.piece.Piece.TheVariants.{Registers, Memory}
 use Rattle.leak_index.specs.Hits.{Index, hits_of}

@@ -1,5 +1,5 @@
 -- A worker on the way through its share.
-use Rattle.std.proofs.Common.{◌≡◌, ◌⊎◌, ℕ, ◌+◌, ◌-◌, ◌<◌, ◌≤◌, zero, suc, List, [], ◌∷◌, ◌++◌, length, get_or, take, drop, refl, sym, ap, ◌∙◌, subst, inl, inr, ⊎_elim, arith, append_assoc}
+use Rattle.std.proofs.Common.{◌≡◌, ◌⊎◌, ℕ, ◌+◌, ◌-◌, ◌<◌, ◌≤◌, zero, suc, List, [], ◌∷◌, ◌++◌, length, flat_map, get_or, take, drop, refl, sym, ap, ◌∙◌, subst, inl, inr, ⊎_elim, arith, append_assoc}
 use Rattle.std.specs.List.{concat, sum_by}
 use Rattle.std.proofs.lemmas.List.{append-nil, length-append, length-drop, take-append-drop}
 use Rattle.std.proofs.lemmas.List.Sums.{sum_by-cons}
@@ -8,7 +8,7 @@ use native.Mathlib.Decide.{dec_lt}
 use Rattle.leak_marks.specs.Lists.{Has, IsDistinct}
 use Rattle.leak_marks.specs.Seats.{Held, IsSound}
 use Rattle.leak_marks.specs.Rounds.{AreLed, IsKept, IsKeptInRounds}
-use Rattle.leak_marks.proofs.ListLemmas.{here, there, at_head, has_front, has_back, of_append, distinct_back}
+use Rattle.leak_marks.proofs.ListLemmas.{here, there, has_front, has_back, of_append, distinct_back}
 use Rattle.leak_marks.proofs.StackLemmas.{kept_more, kept_nothing, led_from}
 use Rattle.leak_pool.specs.Items.{InRange, share, targets_of_item}
 use Rattle.leak_pool.specs.declared.hand.Hand.{Hand}
@@ -16,7 +16,9 @@ use Rattle.leak_pool.specs.declared.target_source.Item.{Item}
 use Rattle.leak_pool.specs.declared.target_source.Item.TheVariants.{Root, Block}
 use Rattle.leak_pool.specs.Promises.{IsPutAway, IsWorking, IsByStack, IsDirect, IsHalf}
 use Rattle.leak_pool.specs.Scene.{Work, blocks_of, items_of}
+use Rattle.leak_pool.specs.Tops.{IsTopScanned}
 use Rattle.leak_pool.proofs.ScanLemmas.{none_has}
+use Rattle.leak_pool.proofs.PartLemmas.{of_parts, has_part}
 use Rattle.leak_pool.proofs.CountLemmas.{few_distinct}
 
 -- before the first item
@@ -89,17 +91,17 @@ working_item blocks targets first i before mid after n list stack left more long
     (λ b h. inl (i, low, omega arith, h))
     (λ s h. none_has s h) (sym (append-nil stack)) w
 
--- the block on top of the stack
-pub working_block : (blocks : ℕ → List ℕ) (item : ℕ → Type 0) (block : ℕ) (before mid after : Held) (n : ℕ) (list stack top left more longer stack' left' : List ℕ) → top ≡ stack ++ block ∷ []
+-- the blocks on top of the stack
+pub working_top : (blocks : ℕ → List ℕ) (item : ℕ → Type 0) (gone : List ℕ) (before mid after : Held) (n : ℕ) (list stack top left more longer stack' left' : List ℕ) → top ≡ stack ++ gone
     → IsWorking blocks item before mid list top left
-    → after.table ≡ mid.table → after.share ≡ mid.share → IsSound after → after.claims ≡ mid.claims ++ more → IsKeptInRounds (Has (blocks block)) mid.seen after.seen more
+    → after.table ≡ mid.table → after.share ≡ mid.share → IsSound after → after.claims ≡ mid.claims ++ more → IsKeptInRounds (Has (flat_map blocks gone)) mid.seen after.seen more
     → longer ≡ list ++ more → stack' ≡ stack ++ take n more → left' ≡ left ++ drop n more
     → IsWorking blocks item before after longer stack' left'
-working_block blocks item block before mid after n list stack top left more longer stack' left' top_is w =
-    working_more blocks item (Has (blocks block)) item before mid after n list stack (block ∷ []) top left more longer stack' left'
+working_top blocks item gone before mid after n list stack top left more longer stack' left' top_is w =
+    working_more blocks item (Has (flat_map blocks gone)) item before mid after n list stack gone top left more longer stack' left'
     (λ b h. h) (λ b h. inl h)
-    (λ b h. inr (block, w.of_list block (has_back left top block (subst (λ (l : List ℕ). Has l block) (sym top_is) (has_back stack (block ∷ []) block (here block [])))), h))
-    (λ s h b t. ⊎_elim (λ is. subst (λ (y : ℕ). Has (blocks y) b) (sym is) t) (λ no. none_has s no) (at_head block [] s h)) top_is w
+    (λ b h. let o = of_parts blocks gone b h in inr (o.0, w.of_list o.0 (has_back left top o.0 (subst (λ (l : List ℕ). Has l o.0) (sym top_is) (has_back stack gone o.0 o.1))), o.2))
+    (λ s h b t. has_part blocks gone s b h t) top_is w
 
 -- its claims are blocks
 pub working_inside : (blocks : ℕ → List ℕ) (item : ℕ → Type 0) (count : ℕ) (before after : Held) (list stack left : List ℕ) → IsWorking blocks item before after list stack left
@@ -123,12 +125,12 @@ module _ (w : Work) (count : ℕ) (inside : (i : Item) (b : ℕ) → Has (target
   pub worker_few : length list ≤ count
   worker_few = working_few (blocks_of w) (InRange (items_of w) first next) count before after list stack left working (λ b r. inside (get_or w.items r.0 (Root 0)) b r.3) (λ s b h. inside (Block s) b h)
 
-pub put_block : (w : Work) (limit first next block : ℕ) (before mid after : Held) (hand later : Hand) (top : List ℕ) → top ≡ hand.stack.items ++ block ∷ []
-    → IsWorking (blocks_of w) (InRange (items_of w) first next) before mid hand.list.items top hand.left.items → after.table ≡ mid.table → after.share ≡ mid.share → IsSound after
-    → IsPutAway (blocks_of w block) limit mid after hand later → IsWorking (blocks_of w) (InRange (items_of w) first next) before after later.list.items later.stack.items later.left.items
-put_block w limit first next block before mid after hand later top top_is working table share sound p =
-    working_block (blocks_of w) (InRange (items_of w) first next) block before mid after (limit - length hand.stack.items) hand.list.items hand.stack.items top hand.left.items p.more
-    later.list.items later.stack.items later.left.items top_is working table share sound p.claims_are p.kept p.list_is p.stack_is p.left_is
+pub put_top : (w : Work) (limit first next : ℕ) (before mid after : Held) (hand later : Hand)
+    → IsWorking (blocks_of w) (InRange (items_of w) first next) before mid hand.list.items hand.stack.items hand.left.items → after.table ≡ mid.table → after.share ≡ mid.share → IsSound after
+    → IsTopScanned w.scene.targets limit mid after hand later → IsWorking (blocks_of w) (InRange (items_of w) first next) before after later.list.items later.stack.items later.left.items
+put_top w limit first next before mid after hand later working table share sound p =
+    working_top (blocks_of w) (InRange (items_of w) first next) p.top before mid after (limit - length p.rest) hand.list.items p.rest hand.stack.items hand.left.items p.more
+    later.list.items later.stack.items later.left.items p.stack_was working table share sound p.claims_are p.kept p.list_is p.stack_is p.left_is
 
 pub put_item : (w : Work) (limit first next : ℕ) (before mid after : Held) (hand later : Hand) → first ≤ next
     → IsWorking (blocks_of w) (InRange (items_of w) first next) before mid hand.list.items hand.stack.items hand.left.items → after.table ≡ mid.table → after.share ≡ mid.share → IsSound after
@@ -172,6 +174,40 @@ put_full targets limit mid after hand later held few full p =
     let a : length later.left.items ≡ length hand.left.items + length (drop n p.more) = ap len p.left_is ∙ length-append hand.left.items (drop n p.more) in
     let b : length later.list.items ≡ length hand.list.items + length p.more = ap len p.list_is ∙ length-append hand.list.items p.more in
     let c : length (drop n p.more) ≡ length p.more - n = length-drop n p.more in omega arith
+
+-- the same of the blocks on top of the stack
+
+module _ (targets : List (List ℕ)) (limit : ℕ) (mid after : Held) (hand later : Hand) (p : IsTopScanned targets limit mid after hand later) where
+  was : length hand.stack.items ≡ length p.rest + length p.top
+  was = ap (λ (l : List ℕ). length l) p.stack_was ∙ length-append p.rest p.top
+
+  stack_long : length later.stack.items ≡ length p.rest + length (take (limit - length p.rest) p.more)
+  stack_long = ap (λ (l : List ℕ). length l) p.stack_is ∙ length-append p.rest (take (limit - length p.rest) p.more)
+
+  list_long : length later.list.items ≡ length hand.list.items + length p.more
+  list_long = ap (λ (l : List ℕ). length l) p.list_is ∙ length-append hand.list.items p.more
+
+  pub top_few : length hand.stack.items ≤ limit → length later.stack.items ≤ limit
+  top_few few = let a = stack_long in let w = was in let b = take_short (limit - length p.rest) p.more in omega arith
+
+  -- fewer blocks come to the stack than to the list, since some are gone
+  pub top_grown : length later.stack.items + length hand.list.items < length hand.stack.items + length later.list.items
+  top_grown =
+      let n : ℕ = limit - length p.rest in
+      let t : length (take n p.more) + length (drop n p.more) ≡ length p.more =
+      sym (length-append (take n p.more) (drop n p.more)) ∙ ap (λ (l : List ℕ). length l) (take-append-drop n p.more) in
+      let a = stack_long in let w = was in let l = list_long in let s = p.some in omega arith
+
+  pub top_longer : length hand.list.items ≤ length later.list.items
+  top_longer = let l = list_long in omega arith
+
+  pub top_full : length hand.left.items + length hand.stack.items ≤ length hand.list.items → length hand.stack.items ≤ limit
+      → length hand.left.items ≤ length hand.list.items - limit → length later.left.items ≤ length later.list.items - limit
+  top_full held few full =
+      let n : ℕ = limit - length p.rest in
+      let a : length later.left.items ≡ length hand.left.items + length (drop n p.more) = ap (λ (l : List ℕ). length l) p.left_is ∙ length-append hand.left.items (drop n p.more) in
+      let w = was in let l = list_long in
+      let c : length (drop n p.more) ≡ length p.more - n = length-drop n p.more in omega arith
 
 -- ---- if the stack holds no entry
 

@@ -15,3 +15,4 @@ pub mod ScopeLaw
 pub mod Room
 pub mod Edges
 pub mod EdgesLaw
+pub mod Tops

@@ -1,5 +1,5 @@
 //! Claims what words lead to.
-ghost use Rattle.std.specs.Prelude.{◌≡◌, ◌⊎◌, ℕ, ◌<◌, ◌^◌, List, [], ◌∷◌, ◌++◌, IfOk, vec_len, vec_capacity};
+ghost use Rattle.std.specs.Prelude.{◌≡◌, ◌⊎◌, ℕ, ◌<◌, ◌^◌, List, [], ◌∷◌, ◌++◌, flat_map, IfOk, vec_len, vec_capacity};
 ghost use Rattle.leak_marks.specs.Lists.{Has};
 ghost use Rattle.leak_marks.specs.Seats.{IsSound};
 ghost use Rattle.leak_pool.specs.Promises.{IsScanned};
@@ -56,6 +56,29 @@ pub(crate) fn claim_listed(
     for block in targets {
         list.reserve(1)?;
         claim(marks, seat, list, *block);
+    }
+    Ok(())
+}
+
+/// Claims the blocks of some lists, list by list, as [`claim_listed`] does.
+pub(crate) fn claim_lists(
+    lists: &[&[u32]],
+    marks: &Marks,
+    seat: &mut MarkSeat,
+    list: &mut Vec<u32>,
+) -> Result<(), AllocError>
+    requires table { seat.old.table ≡ marks.now.table }
+    requires inside { (b : ℕ) → Has (flat_map (λ l. l.now) lists.now) b → b < marks.now.blocks }
+    requires sound { IsSound seat.old }
+    ensures same { (seat.new.table ≡ seat.old.table) × (seat.new.share ≡ seat.old.share) }
+    ensures sound { IsSound seat.new }
+    ensures listed { (base : List ℕ) → seat.old.claims ≡ base ++ list.old.items
+        → seat.new.claims ≡ base ++ list.new.items }
+    ensures done { IfOk result (λ _. IsScanned (Has (flat_map (λ l. l.now) lists.now)) []
+        seat.old.seen list.old.items seat.new.seen list.new.items) }
+{
+    for targets in lists {
+        claim_listed(targets, marks, seat, list)?;
     }
     Ok(())
 }

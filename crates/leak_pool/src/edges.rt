@@ -11,7 +11,7 @@ ghost use Rattle.leak_pool.specs.EdgesLaw.{edges_prop};
 ghost use Rattle.leak_pool.specs.Promises.{IsScanned};
 ghost use Rattle.leak_pool.specs.Scopes.{all_targets};
 
-use crate::claiming::claim_listed;
+use crate::claiming::{claim_listed, claim_lists};
 use crate::room::EdgeRoom;
 use crate::scope::Scope;
 use crate::target_source::{Item, TargetSource};
@@ -105,8 +105,8 @@ fn rows_of<W: Words, L: Lookup>(
         IfOk result (IsRowOrOver targets room) }
 {
     let mut starts = Vec::new(alloc);
-    starts.reserve(blocks.len())?;
     starts.push(0)?;
+    starts.reserve(blocks.len())?;
     let mut targets = Vec::new(alloc);
     let mut runs = BlockRuns::new(words);
     for k in 0..blocks.len() {
@@ -235,6 +235,28 @@ pub(crate) fn listed_targets(rows: &[Rows], size: usize, block: u32) -> &[u32]
     &row.targets[start..end]
 }
 
+/// What some blocks lead to, block by block. Where each list lies is asked for before any is read, so that a processor
+/// waits for all of them at once.
+fn lists_of<'a>(
+    alloc: Global,
+    rows: &'a [Rows],
+    size: usize,
+    blocks: &[u32],
+) -> Result<Vec<&'a [u32]>, AllocError>
+    requires { (targets : List (List ℕ)) × AreEdges targets size rows.now
+        × ((b : ℕ) → Has blocks.now b → b < length targets) }
+    ensures { (targets : List (List ℕ)) → AreEdges targets size rows.now
+        → ((b : ℕ) → Has blocks.now b → b < length targets)
+        → IfOk result (λ lists.
+        map (λ l. l.now) lists.items ≡ map (targets_of_block targets) blocks.now) }
+{
+    let mut lists = Vec::with_capacity(alloc, blocks.len())?;
+    for block in blocks {
+        lists.push(listed_targets(rows, size, *block))?;
+    }
+    Ok(lists)
+}
+
 impl<'a, S: TargetSource> TargetSource for Edges<'a, S> {
     ghost roots = { λ l. S.roots l.source.now };
 
@@ -268,5 +290,17 @@ impl<'a, S: TargetSource> TargetSource for Edges<'a, S> {
                 )
             }
         }
+    }
+
+    fn scan_blocks(
+        &self,
+        alloc: Global,
+        marks: &Marks,
+        seat: &mut MarkSeat,
+        list: &mut Vec<u32>,
+        blocks: &[u32],
+    ) -> Result<(), AllocError> {
+        let lists = lists_of(alloc, &self.rows, self.size, blocks)?;
+        claim_lists(&lists, marks, seat, list)
     }
 }

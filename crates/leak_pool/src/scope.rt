@@ -16,7 +16,7 @@ use leak_index::Lookup;
 use leak_marks::{MarkSeat, Marks};
 use leak_roots::{Piece, Pieces, Roots};
 use leak_scan::{Pages, Targets};
-use std::alloc::AllocError;
+use std::alloc::{AllocError, Global};
 
 /// The pieces of the root words, after them the parts of blocks that are scanned again, and the blocks.
 #[derive(Drop)]
@@ -142,5 +142,19 @@ impl<'a, W: Words, L: Lookup> TargetSource for Scope<'a, W, L> {
         item: Item,
     ) -> Result<(), AllocError> {
         claim_all(self.targets(item), marks, seat, list)
+    }
+
+    fn scan_blocks(
+        &self,
+        _alloc: Global,
+        marks: &Marks,
+        seat: &mut MarkSeat,
+        list: &mut Vec<u32>,
+        blocks: &[u32],
+    ) -> Result<(), AllocError> {
+        for block in blocks {
+            self.scan(marks, seat, list, Item::Block(*block))?;
+        }
+        Ok(())
     }
 }

@@ -4,10 +4,11 @@ ghost use Rattle.leak_marks.specs.Lists.{Has};
 ghost use Rattle.leak_marks.specs.Seats.{IsSound};
 ghost use Rattle.leak_pool.specs.Items.{targets_of_item, IsItem};
 ghost use Rattle.leak_pool.specs.Promises.{IsScanned};
+ghost use Rattle.leak_pool.specs.Tops.{targets_of_blocks};
 ghost use Rattle.leak_pool.specs.declared.target_source.Item.{Item};
 
 use leak_marks::{MarkSeat, Marks};
-use std::alloc::AllocError;
+use std::alloc::{AllocError, Global};
 
 /// What a worker scans at once: a part of the roots, or a block.
 #[derive(Clone, Copy)]
@@ -51,6 +52,28 @@ pub(crate) trait TargetSource {
             → seat.new.claims ≡ base ++ list.new.items }
         ensures done { IfOk result (λ _.
             IsScanned (Has (targets_of_item (roots self.now) (targets self.now) item)) []
+            seat.old.seen list.old.items seat.new.seen list.new.items) };
+
+    /// Claims what some blocks lead to, block by block, and adds each claim to the list. After an error too, each claim is
+    /// on the list.
+    fn scan_blocks(
+        &self,
+        alloc: Global,
+        marks: &Marks,
+        seat: &mut MarkSeat,
+        list: &mut Vec<u32>,
+        blocks: &[u32],
+    ) -> Result<(), AllocError>
+        requires table { seat.old.table ≡ marks.now.table }
+        requires blocks { marks.now.blocks ≡ length (targets self.now) }
+        requires inside { (b : ℕ) → Has blocks.now b → b < length (targets self.now) }
+        requires sound { IsSound seat.old }
+        ensures same { (seat.new.table ≡ seat.old.table) × (seat.new.share ≡ seat.old.share) }
+        ensures sound { IsSound seat.new }
+        ensures listed { (base : List ℕ) → seat.old.claims ≡ base ++ list.old.items
+            → seat.new.claims ≡ base ++ list.new.items }
+        ensures done { IfOk result (λ _.
+            IsScanned (Has (targets_of_blocks (targets self.now) blocks.now)) []
             seat.old.seen list.old.items seat.new.seen list.new.items) };
 
     // a target is a block

@@ -1,10 +1,12 @@
 //! What one worker does in a round.
-ghost use Rattle.std.specs.Prelude.{◌≡◌, ◌<◌, ◌≤◌, slice_index_or, IfOk, vec_capacity};
+ghost use Rattle.std.specs.Prelude.{◌≡◌, ◌<◌, ◌≤◌, ℕ, length, slice_index_or, IfOk, vec_capacity};
+ghost use Rattle.leak_marks.specs.Lists.{Has};
 ghost use Rattle.leak_marks.specs.Seats.{IsSound};
 ghost use Rattle.leak_pool.specs.Gates.{HasPassedShare, step_after};
 ghost use Rattle.leak_pool.specs.Items.{IsItem, share, targets_of_item};
 ghost use Rattle.leak_pool.specs.Promises.{HasLeft, HasWorked, IsEmptyHand, IsHolding, IsPutAway};
 ghost use Rattle.leak_pool.specs.Scene.{IsSeatOf};
+ghost use Rattle.leak_pool.specs.Tops.{IsTopScanned};
 
 use crate::door::Door;
 use crate::gate::Gate;
@@ -14,6 +16,10 @@ use crate::target_source::{Item, TargetSource, targets_are_blocks};
 use crate::task::{Gained, Gains, Task};
 use leak_marks::{MarkSeat, Marks};
 use std::alloc::{AllocError, Global};
+
+/// How many blocks of its stack a worker scans at once. Own rule: what they lead to lies anywhere in memory, and a processor
+/// waits for a number of places in the time that it waits for one.
+const TOP: usize = 16;
 
 /// The first item of a worker's share, where the share before it ends: `worker * items / workers`, computed so that
 /// nothing overflows.
@@ -55,6 +61,37 @@ fn scan_one<S: TargetSource>(
     put_away(claimed, limit, &mut hand.stack, &mut hand.left)
 }
 
+// Scans the blocks on top of the stack, several at once. What was claimed is put on the stack, or left.
+fn scan_top<S: TargetSource>(
+    alloc: Global,
+    round: &Round<'_, '_, S>,
+    seat: &mut MarkSeat,
+    hand: &mut Hand,
+) -> Result<(), AllocError>
+    requires seat { IsSeatOf round.now.scene seat.old }
+    requires hand { IsHolding round.now.scene.stack seat.old hand.old }
+    requires some { 0 < length hand.old.stack.items }
+    requires inside { (b : ℕ) → Has hand.old.stack.items b → b < length round.now.scene.targets }
+    ensures same { (seat.new.table ≡ seat.old.table) × (seat.new.share ≡ seat.old.share) }
+    ensures sound { IsSound seat.new }
+    ensures done { let scene = round.now.scene in
+        IfOk result (λ _. IsTopScanned scene.targets scene.stack seat.old seat.new hand.old hand.new) }
+    ensures room { IfOk result (λ _. vec_capacity hand.new.stack ≡ vec_capacity hand.old.stack) }
+{
+    let search = round.search;
+    let from = hand.list.len();
+    let rest = hand.stack.len().saturating_sub(TOP);
+    let list = &mut hand.list;
+    let top = &hand.stack[rest..];
+    search
+        .source
+        .scan_blocks(alloc, search.marks, seat, list, top)?;
+    hand.stack.truncate(rest);
+    let claimed = &hand.list[from..];
+    let stack = &mut hand.stack;
+    put_away(claimed, search.stack as usize, stack, &mut hand.left)
+}
+
 // How many steps the worker has made before the round.
 fn steps_before<S: TargetSource>(round: &Round<'_, '_, S>, worker: u32) -> u64
     requires { worker < round.now.scene.workers }
@@ -63,8 +100,9 @@ fn steps_before<S: TargetSource>(round: &Round<'_, '_, S>, worker: u32) -> u64
     round.steps[worker as usize]
 }
 
-// One worker scans its share. Before each next item it empties its stack, by blocks that pass no gate.
+// One worker scans its share. Before each next item it empties its stack, several blocks at once, which pass no gate.
 fn work<S: TargetSource, G: Gate>(
+    alloc: Global,
     round: &Round<'_, '_, S>,
     door: &mut Door<'_, G>,
     seat: &mut MarkSeat,
@@ -92,8 +130,8 @@ fn work<S: TargetSource, G: Gate>(
     let mut next = share_start(worker, count, search.workers);
     let end = share_start(worker + 1, count, search.workers);
     'scan: loop {
-        if let Some(block) = hand.stack.pop() {
-            scan_one(round, seat, hand, Item::Block(block))?;
+        if !hand.stack.is_empty() {
+            scan_top(alloc, round, seat, hand)?;
         } else if next < end {
             door.pass();
             scan_one(round, seat, hand, items.at(next))?;
@@ -135,7 +173,7 @@ impl<'a, 'b, 'c, S: TargetSource, G: Gate> Task for Gated<'a, 'b, 'c, S, G> {
             left: Vec::new(alloc),
         };
         let mut door = Door::new(self.gate, worker, steps_before(&self.round, worker));
-        work(&self.round, &mut door, seat, &mut hand, worker)?;
+        work(alloc, &self.round, &mut door, seat, &mut hand, worker)?;
         let Hand { list, left, .. } = hand;
         claims.push(list)?;
         Ok(Gains { claims, left })

@@ -1,5 +1,5 @@
 -- From the lemmas.
-use Rattle.std.proofs.Common.{◌≡◌, ◌<◌, ◌∙◌, ap, sym, subst, ◌∷◌, ℕ, List, [], Vec, Global, length, map, get_or, take, drop, ◌-◌, ◌+◌, arith, ◌++◌}
+use Rattle.std.proofs.Common.{◌≡◌, ◌<◌, ◌∙◌, ap, sym, subst, ◌∷◌, ℕ, List, [], Vec, Global, length, map, get_or, take, drop, ◌-◌, arith, ◌++◌}
 use Rattle.std.proofs.lemmas.List.{get_or_read}
 use Rattle.leak_marks.specs.Lists.{Has}
 use Rattle.leak_pool.specs.Gates.{HavePassed}

@@ -1,9 +1,9 @@
 -- From the lemmas of ListLemmas, HalfLemmas and WorkLemmas.
-use Rattle.std.proofs.Common.{◌≡◌, refl, ◌<◌, ◌≤◌, ◌∙◌, ◌+◌, ◌-◌, ◌%◌, ◌^◌, ◌∷◌, ap, sym, subst, ℕ, List, [], length, arith}
+use Rattle.std.proofs.Common.{◌≡◌, refl, ◌<◌, ◌≤◌, ◌∙◌, ◌+◌, ◌-◌, ◌%◌, ◌^◌, ap, sym, subst, ℕ, List, length, arith}
 use Rattle.std.specs.Prelude.{slice_index_or, vec_capacity}
-use Rattle.std.proofs.lemmas.List.{append-nil, length-append}
+use Rattle.std.proofs.lemmas.List.{length-append}
 use Rattle.leak_marks.specs.Lists.{Has}
-use Rattle.leak_marks.proofs.ListLemmas.{has_back, has_last}
+use Rattle.leak_marks.proofs.ListLemmas.{has_back}
 use Rattle.leak_pool.specs.Items.{InRange, items_in, targets_of_item, share}
 use Rattle.leak_pool.specs.declared.hand.Hand.{Hand}
 use Rattle.leak_pool.specs.declared.target_source.Item.{Item}
@@ -11,8 +11,9 @@ use Rattle.leak_pool.specs.declared.target_source.Item.TheVariants.{Root}
 use Rattle.leak_pool.specs.Promises.{IsPutAway, IsWorking}
 use Rattle.leak_pool.specs.Scene.{Scene, Work, blocks_of, items_of}
 use Rattle.leak_pool.specs.Gates.{IsNextPassed}
+use Rattle.leak_pool.specs.Tops.{IsTopScanned}
 use Rattle.leak_pool.proofs.HalfLemmas.{share-mono}
-use Rattle.leak_pool.proofs.WorkLemmas.{working_none, worker_inside, worker_few, put_block, put_item, put_few, put_grown, put_longer, put_full, direct_item, by_stack_none}
+use Rattle.leak_pool.proofs.WorkLemmas.{working_none, worker_inside, worker_few, put_top, put_item, put_few, put_grown, put_longer, put_full, top_few, top_grown, top_longer, top_full, direct_item, by_stack_none}
 use Rattle.leak_pool.proofs.GateLemmas.{next_passed, first_step, next_step, alone_passed}
 use Rattle.leak_pool.proofs.worker.work.Goals as goal
 
@@ -36,110 +37,6 @@ scan-init g c =
           (λ b r. let from : first ≤ r.0 = r.1 in let below : r.0 < first = r.2 in absurd (omega arith)) c.requires.seat.sound c.requires.none.0 c.requires.none.1 c.requires.none.2;
       by_stack = by_stack_none w.scene.stack (InRange (items_of w) first first) c.args.hand.now.list.items c.args.hand.now.left.items c.requires.none.0 c.requires.none.2;
     }
-
-pub scan_one-requires-clause-item : goal.scan_one-requires-clause-item
-scan_one-requires-clause-item g c =
-    let w = c.args.round.now in
-    let is = ap (λ (v : Work). v.scene) (ap (λ (s : Scene). work (items_in c.round.inside.items) c.round.inside.steps.now s) c.search.view_is ∙ c.round.view_is) in
-    let inside = subst (λ (s : Scene). (i : Item) (b : ℕ) → Has (targets_of_item s.roots s.targets i) b → b < length s.targets) is (λ i b h. c.targets_are_blocks.ensures i b h) in
-    let working = c.scan.invariant.working in
-    worker_inside w (length w.scene.targets) inside c.share_start-next.result c.scan.next c.args.seat.now c.scan.seat c.scan.hand.list.items c.scan.hand.stack.items c.scan.hand.left.items working c.in-Some.block
-    (working.of_list c.in-Some.block (has_back c.scan.hand.left.items c.scan.hand.stack.items c.in-Some.block
-    (subst (λ (l : List ℕ). Has l c.in-Some.block) (sym c.in-Some.ensures.items) (has_last c.pop.new.self.items c.in-Some.block))))
-
-pub scan-preserved-in-Continue-1 : goal.scan-preserved-in-Continue-1
-scan-preserved-in-Continue-1 g c =
-    let w = c.args.round.now in let i = c.scan.invariant in
-    let hand : Hand = record { list = c.scan.hand.list; stack = c.pop.new.self; left = c.scan.hand.left } in
-    let later : Hand = c.scan_one.new.hand in
-    let p : IsPutAway (blocks_of w c.in-Some.block) w.scene.stack c.scan.seat c.scan_one.new.seat hand later = c.in_ok-scan_one.ensures.done in
-    let popped : length c.scan.hand.stack.items ≡ length hand.stack.items + 1 = ap (λ (l : List ℕ). length l) c.in-Some.ensures.items ∙ length-append hand.stack.items (c.in-Some.block ∷ []) in
-    let less : length hand.stack.items ≤ w.scene.stack = let f = i.few in omega arith in
-    record {
-      from = i.from;
-      to = i.to;
-      room = let a = i.room in let b : vec_capacity later.stack ≡ vec_capacity c.scan.hand.stack = c.in_ok-scan_one.ensures.room ∙ c.pop.ensures.capacity in omega arith;
-      few = put_few _ w.scene.stack c.scan.seat c.scan_one.new.seat hand later less p;
-      door = i.door;
-      step = i.step;
-      passed = i.passed;
-      working = put_block w w.scene.stack c.share_start-next.result c.scan.next c.in-Some.block c.args.seat.now c.scan.seat c.scan_one.new.seat hand later c.scan.hand.stack.items c.in-Some.ensures.items i.working
-          c.scan_one.ensures.same.0 c.scan_one.ensures.same.1 c.scan_one.ensures.sound p;
-      by_stack = record {
-        full = put_full _ w.scene.stack c.scan.seat c.scan_one.new.seat hand later (let h = i.working.few in omega arith) less i.by_stack.full p;
-        direct = λ z. absurd (let f = i.few in omega arith);
-      };
-    }
-
-pub scan-smaller-in-Continue-1 : goal.scan-smaller-in-Continue-1
-scan-smaller-in-Continue-1 g c =
-    let w = c.args.round.now in let i = c.scan.invariant in
-    let is = ap (λ (v : Work). v.scene) (ap (λ (s : Scene). work (items_in c.round.inside.items) c.round.inside.steps.now s) c.search.view_is ∙ c.round.view_is) in
-    let inside = subst (λ (s : Scene). (i : Item) (b : ℕ) → Has (targets_of_item s.roots s.targets i) b → b < length s.targets) is (λ i b h. c.targets_are_blocks.ensures i b h) in
-    let hand : Hand = record { list = c.scan.hand.list; stack = c.pop.new.self; left = c.scan.hand.left } in
-    let later : Hand = c.scan_one.new.hand in
-    let p : IsPutAway (blocks_of w c.in-Some.block) w.scene.stack c.scan.seat c.scan_one.new.seat hand later = c.in_ok-scan_one.ensures.done in
-    let popped : length c.scan.hand.stack.items ≡ length hand.stack.items + 1 = ap (λ (l : List ℕ). length l) c.in-Some.ensures.items ∙ length-append hand.stack.items (c.in-Some.block ∷ []) in
-    let working : IsWorking (blocks_of w) (InRange (items_of w) c.share_start-next.result c.scan.next) c.args.seat.now c.scan_one.new.seat later.list.items later.stack.items later.left.items =
-    put_block w w.scene.stack c.share_start-next.result c.scan.next c.in-Some.block c.args.seat.now c.scan.seat c.scan_one.new.seat hand later c.scan.hand.stack.items c.in-Some.ensures.items i.working
-    c.scan_one.ensures.same.0 c.scan_one.ensures.same.1 c.scan_one.ensures.sound p in
-    let few : length later.list.items ≤ length w.scene.targets = worker_few w (length w.scene.targets) inside c.share_start-next.result c.scan.next c.args.seat.now c.scan_one.new.seat later.list.items later.stack.items later.left.items working in
-    let grown : length later.stack.items + length c.scan.hand.list.items ≤ length hand.stack.items + length later.list.items = put_grown _ w.scene.stack c.scan.seat c.scan_one.new.seat hand later p in
-    let longer : length c.scan.hand.list.items ≤ length later.list.items = put_longer _ w.scene.stack c.scan.seat c.scan_one.new.seat hand later p in
-    omega arith
-
-pub scan-preserved : goal.scan-preserved
-scan-preserved g c =
-    let w = c.args.round.now in let i = c.scan.invariant in
-    let hand : Hand = record { list = c.scan.hand.list; stack = c.pop.new.self; left = c.scan.hand.left } in
-    let later : Hand = c.scan_one-then-next-end.new.hand in let after = c.scan_one-then-next-end.new.seat in
-    let items : (items_in c.round.inside.items) ≡ w.items = ap (λ (v : Work). v.items) c.round.view_is in
-    let p : IsPutAway (items_of w c.scan.next) w.scene.stack c.scan.seat after hand later =
-    subst (λ (l : List Item). IsPutAway (targets_of_item w.scene.roots w.scene.targets (slice_index_or l c.scan.next (Root 0))) w.scene.stack c.scan.seat after hand later) items
-    (subst (λ (i : Item). IsPutAway (targets_of_item w.scene.roots w.scene.targets i) w.scene.stack c.scan.seat after hand later) (c.at.ensures (Root 0)) c.in_ok-scan_one-2.ensures.done) in
-    let was : c.scan.hand.stack.items ≡ hand.stack.items = c.in_default.ensures.items ∙ append-nil hand.stack.items in
-    let less : length hand.stack.items ≤ w.scene.stack = let f = i.few in let e = ap (λ (l : List ℕ). length l) was in omega arith in
-    record {
-      from = let f = i.from in omega arith;
-      to = let t = c.if-next-end.true in omega arith;
-      room = let a = i.room in let b : vec_capacity later.stack ≡ vec_capacity c.scan.hand.stack = c.in_ok-scan_one-2.ensures.room ∙ c.pop.ensures.capacity in omega arith;
-      few = put_few _ w.scene.stack c.scan.seat after hand later less p;
-      door = (c.pass.ensures.same.0 ∙ i.door.0, c.pass.ensures.same.1 ∙ i.door.1);
-      step = c.pass.ensures.counted ∙ next_step (slice_index_or w.steps c.args.worker 0) c.share_start-next.result c.scan.next c.scan.door.step i.from i.step;
-      passed = next_passed (g.G.Gate.passed c.args.door.now.gate.now) w.steps c.args.worker c.share_start-next.result c.scan.next c.scan.door.step i.from i.step
-          (subst (λ (k : ℕ). g.G.Gate.passed c.args.door.now.gate.now k c.scan.door.step) (i.door.1 ∙ c.requires.door.0)
-          (subst (λ d. g.G.Gate.passed d.now c.scan.door.worker c.scan.door.step) i.door.0 c.pass.ensures.passed)) i.passed;
-      working = put_item w w.scene.stack c.share_start-next.result c.scan.next c.args.seat.now c.scan.seat after hand later i.from
-          (subst (λ (l : List ℕ). IsWorking (blocks_of w) (InRange (items_of w) c.share_start-next.result c.scan.next) c.args.seat.now c.scan.seat c.scan.hand.list.items l c.scan.hand.left.items) was i.working)
-          c.scan_one-then-next-end.ensures.same.0 c.scan_one-then-next-end.ensures.same.1 c.scan_one-then-next-end.ensures.sound p;
-      by_stack = record {
-        full = put_full _ w.scene.stack c.scan.seat after hand later (let h = i.working.few in let e = ap (λ (l : List ℕ). length l) was in omega arith) less i.by_stack.full p;
-        direct = λ z. direct_item (items_of w) c.share_start-next.result c.scan.next w.scene.stack c.scan.seat after hand later i.from z (i.by_stack.direct z) p;
-      };
-    }
-
-pub scan-smaller : goal.scan-smaller
-scan-smaller g c =
-    let w = c.args.round.now in let i = c.scan.invariant in
-    let is = ap (λ (v : Work). v.scene) (ap (λ (s : Scene). work (items_in c.round.inside.items) c.round.inside.steps.now s) c.search.view_is ∙ c.round.view_is) in
-    let inside = subst (λ (s : Scene). (i : Item) (b : ℕ) → Has (targets_of_item s.roots s.targets i) b → b < length s.targets) is (λ i b h. c.targets_are_blocks.ensures i b h) in
-    let hand : Hand = record { list = c.scan.hand.list; stack = c.pop.new.self; left = c.scan.hand.left } in
-    let later : Hand = c.scan_one-then-next-end.new.hand in let after = c.scan_one-then-next-end.new.seat in
-    let items : (items_in c.round.inside.items) ≡ w.items = ap (λ (v : Work). v.items) c.round.view_is in
-    let p : IsPutAway (items_of w c.scan.next) w.scene.stack c.scan.seat after hand later =
-    subst (λ (l : List Item). IsPutAway (targets_of_item w.scene.roots w.scene.targets (slice_index_or l c.scan.next (Root 0))) w.scene.stack c.scan.seat after hand later) items
-    (subst (λ (i : Item). IsPutAway (targets_of_item w.scene.roots w.scene.targets i) w.scene.stack c.scan.seat after hand later) (c.at.ensures (Root 0)) c.in_ok-scan_one-2.ensures.done) in
-    let was : c.scan.hand.stack.items ≡ hand.stack.items = c.in_default.ensures.items ∙ append-nil hand.stack.items in
-    let same : length c.scan.hand.stack.items ≡ length hand.stack.items = ap (λ (l : List ℕ). length l) was in
-    let working : IsWorking (blocks_of w) (InRange (items_of w) c.share_start-next.result (c.scan.next + 1)) c.args.seat.now after later.list.items later.stack.items later.left.items =
-    put_item w w.scene.stack c.share_start-next.result c.scan.next c.args.seat.now c.scan.seat after hand later i.from
-    (subst (λ (l : List ℕ). IsWorking (blocks_of w) (InRange (items_of w) c.share_start-next.result c.scan.next) c.args.seat.now c.scan.seat c.scan.hand.list.items l c.scan.hand.left.items) was i.working)
-    c.scan_one-then-next-end.ensures.same.0 c.scan_one-then-next-end.ensures.same.1 c.scan_one-then-next-end.ensures.sound p in
-    let few : length later.list.items ≤ length w.scene.targets = worker_few w (length w.scene.targets) inside c.share_start-next.result (c.scan.next + 1) c.args.seat.now after later.list.items later.stack.items later.left.items working in
-    let grown : length later.stack.items + length c.scan.hand.list.items ≤ length hand.stack.items + length later.list.items = put_grown _ w.scene.stack c.scan.seat after hand later p in
-    let longer : length c.scan.hand.list.items ≤ length later.list.items = put_longer _ w.scene.stack c.scan.seat after hand later p in
-    let next : c.scan.next < c.share_start-end.result = c.if-next-end.true in
-    omega arith
 
 pub returns-else-next-end-clause-gate : goal.returns-else-next-end-clause-gate
 returns-else-next-end-clause-gate g c =
@@ -167,3 +64,94 @@ returns-else-next-end-clause-once g c =
     let size : c.scan.next - c.share_start-next.result ≡ share (k + 1) n m - share k n m = omega arith in
     i.step ∙ ap (λ (x : ℕ). (slice_index_or w.steps k 0 + x) % 2 ^ 64) size
     ∙ ap (λ (x : ℕ). (x + (share (k + 1) n m - share k n m)) % 2 ^ 64) (sym c.requires.door.1)
+
+pub scan_top-requires-clause-inside : goal.scan_top-requires-clause-inside
+scan_top-requires-clause-inside g c b h =
+    let w = c.args.round.now in
+    let is = ap (λ (v : Work). v.scene) (ap (λ (s : Scene). work (items_in c.round.inside.items) c.round.inside.steps.now s) c.search.view_is ∙ c.round.view_is) in
+    let inside = subst (λ (s : Scene). (i : Item) (b : ℕ) → Has (targets_of_item s.roots s.targets i) b → b < length s.targets) is (λ i b h. c.targets_are_blocks.ensures i b h) in
+    let working = c.scan.invariant.working in
+    worker_inside w (length w.scene.targets) inside c.share_start-next.result c.scan.next c.args.seat.now c.scan.seat c.scan.hand.list.items c.scan.hand.stack.items c.scan.hand.left.items working b
+    (working.of_list b (has_back c.scan.hand.left.items c.scan.hand.stack.items b h))
+
+pub scan-preserved-in-Continue-1 : goal.scan-preserved-in-Continue-1
+scan-preserved-in-Continue-1 g c =
+    let w = c.args.round.now in let i = c.scan.invariant in
+    let hand : Hand = c.scan.hand in let later : Hand = c.scan_top.new.hand in let after = c.scan_top.new.seat in
+    let p : IsTopScanned w.scene.targets w.scene.stack c.scan.seat after hand later = c.in_ok-scan_top.ensures.done in
+    record {
+      from = i.from;
+      to = i.to;
+      room = let a = i.room in let b : vec_capacity later.stack ≡ vec_capacity hand.stack = c.in_ok-scan_top.ensures.room in omega arith;
+      few = top_few w.scene.targets w.scene.stack c.scan.seat after hand later p i.few;
+      door = i.door;
+      step = i.step;
+      passed = i.passed;
+      working = put_top w w.scene.stack c.share_start-next.result c.scan.next c.args.seat.now c.scan.seat after hand later i.working
+          c.scan_top.ensures.same.0 c.scan_top.ensures.same.1 c.scan_top.ensures.sound p;
+      by_stack = record {
+        full = top_full w.scene.targets w.scene.stack c.scan.seat after hand later p i.working.few i.few i.by_stack.full;
+        direct = λ z. absurd (let f = i.few in let s = p.some in
+            let l : length hand.stack.items ≡ length p.rest + length p.top = ap (λ (l : List ℕ). length l) p.stack_was ∙ length-append p.rest p.top in omega arith);
+      };
+    }
+
+pub scan-smaller-in-Continue-1 : goal.scan-smaller-in-Continue-1
+scan-smaller-in-Continue-1 g c =
+    let w = c.args.round.now in let i = c.scan.invariant in
+    let is = ap (λ (v : Work). v.scene) (ap (λ (s : Scene). work (items_in c.round.inside.items) c.round.inside.steps.now s) c.search.view_is ∙ c.round.view_is) in
+    let inside = subst (λ (s : Scene). (i : Item) (b : ℕ) → Has (targets_of_item s.roots s.targets i) b → b < length s.targets) is (λ i b h. c.targets_are_blocks.ensures i b h) in
+    let hand : Hand = c.scan.hand in let later : Hand = c.scan_top.new.hand in let after = c.scan_top.new.seat in
+    let p : IsTopScanned w.scene.targets w.scene.stack c.scan.seat after hand later = c.in_ok-scan_top.ensures.done in
+    let working : IsWorking (blocks_of w) (InRange (items_of w) c.share_start-next.result c.scan.next) c.args.seat.now after later.list.items later.stack.items later.left.items =
+    put_top w w.scene.stack c.share_start-next.result c.scan.next c.args.seat.now c.scan.seat after hand later i.working
+    c.scan_top.ensures.same.0 c.scan_top.ensures.same.1 c.scan_top.ensures.sound p in
+    let few : length later.list.items ≤ length w.scene.targets = worker_few w (length w.scene.targets) inside c.share_start-next.result c.scan.next c.args.seat.now after later.list.items later.stack.items later.left.items working in
+    let grown : length later.stack.items + length hand.list.items < length hand.stack.items + length later.list.items = top_grown w.scene.targets w.scene.stack c.scan.seat after hand later p in
+    let longer : length hand.list.items ≤ length later.list.items = top_longer w.scene.targets w.scene.stack c.scan.seat after hand later p in
+    omega arith
+
+pub scan-preserved : goal.scan-preserved
+scan-preserved g c =
+    let w = c.args.round.now in let i = c.scan.invariant in
+    let hand : Hand = c.scan.hand in let later : Hand = c.scan_one.new.hand in let after = c.scan_one.new.seat in
+    let items : (items_in c.round.inside.items) ≡ w.items = ap (λ (v : Work). v.items) c.round.view_is in
+    let p : IsPutAway (items_of w c.scan.next) w.scene.stack c.scan.seat after hand later =
+    subst (λ (l : List Item). IsPutAway (targets_of_item w.scene.roots w.scene.targets (slice_index_or l c.scan.next (Root 0))) w.scene.stack c.scan.seat after hand later) items
+    (subst (λ (i : Item). IsPutAway (targets_of_item w.scene.roots w.scene.targets i) w.scene.stack c.scan.seat after hand later) (c.at.ensures (Root 0)) c.in_ok-scan_one.ensures.done) in
+    record {
+      from = let f = i.from in omega arith;
+      to = let t = c.if-next-end.true in omega arith;
+      room = let a = i.room in let b : vec_capacity later.stack ≡ vec_capacity hand.stack = c.in_ok-scan_one.ensures.room in omega arith;
+      few = put_few _ w.scene.stack c.scan.seat after hand later i.few p;
+      door = (c.pass.ensures.same.0 ∙ i.door.0, c.pass.ensures.same.1 ∙ i.door.1);
+      step = c.pass.ensures.counted ∙ next_step (slice_index_or w.steps c.args.worker 0) c.share_start-next.result c.scan.next c.scan.door.step i.from i.step;
+      passed = next_passed (g.G.Gate.passed c.args.door.now.gate.now) w.steps c.args.worker c.share_start-next.result c.scan.next c.scan.door.step i.from i.step
+          (subst (λ (k : ℕ). g.G.Gate.passed c.args.door.now.gate.now k c.scan.door.step) (i.door.1 ∙ c.requires.door.0)
+          (subst (λ d. g.G.Gate.passed d.now c.scan.door.worker c.scan.door.step) i.door.0 c.pass.ensures.passed)) i.passed;
+      working = put_item w w.scene.stack c.share_start-next.result c.scan.next c.args.seat.now c.scan.seat after hand later i.from i.working
+          c.scan_one.ensures.same.0 c.scan_one.ensures.same.1 c.scan_one.ensures.sound p;
+      by_stack = record {
+        full = put_full _ w.scene.stack c.scan.seat after hand later i.working.few i.few i.by_stack.full p;
+        direct = λ z. direct_item (items_of w) c.share_start-next.result c.scan.next w.scene.stack c.scan.seat after hand later i.from z (i.by_stack.direct z) p;
+      };
+    }
+
+pub scan-smaller : goal.scan-smaller
+scan-smaller g c =
+    let w = c.args.round.now in let i = c.scan.invariant in
+    let is = ap (λ (v : Work). v.scene) (ap (λ (s : Scene). work (items_in c.round.inside.items) c.round.inside.steps.now s) c.search.view_is ∙ c.round.view_is) in
+    let inside = subst (λ (s : Scene). (i : Item) (b : ℕ) → Has (targets_of_item s.roots s.targets i) b → b < length s.targets) is (λ i b h. c.targets_are_blocks.ensures i b h) in
+    let hand : Hand = c.scan.hand in let later : Hand = c.scan_one.new.hand in let after = c.scan_one.new.seat in
+    let items : (items_in c.round.inside.items) ≡ w.items = ap (λ (v : Work). v.items) c.round.view_is in
+    let p : IsPutAway (items_of w c.scan.next) w.scene.stack c.scan.seat after hand later =
+    subst (λ (l : List Item). IsPutAway (targets_of_item w.scene.roots w.scene.targets (slice_index_or l c.scan.next (Root 0))) w.scene.stack c.scan.seat after hand later) items
+    (subst (λ (i : Item). IsPutAway (targets_of_item w.scene.roots w.scene.targets i) w.scene.stack c.scan.seat after hand later) (c.at.ensures (Root 0)) c.in_ok-scan_one.ensures.done) in
+    let working : IsWorking (blocks_of w) (InRange (items_of w) c.share_start-next.result (c.scan.next + 1)) c.args.seat.now after later.list.items later.stack.items later.left.items =
+    put_item w w.scene.stack c.share_start-next.result c.scan.next c.args.seat.now c.scan.seat after hand later i.from i.working
+    c.scan_one.ensures.same.0 c.scan_one.ensures.same.1 c.scan_one.ensures.sound p in
+    let few : length later.list.items ≤ length w.scene.targets = worker_few w (length w.scene.targets) inside c.share_start-next.result (c.scan.next + 1) c.args.seat.now after later.list.items later.stack.items later.left.items working in
+    let grown : length later.stack.items + length hand.list.items ≤ length hand.stack.items + length later.list.items = put_grown _ w.scene.stack c.scan.seat after hand later p in
+    let longer : length hand.list.items ≤ length later.list.items = put_longer _ w.scene.stack c.scan.seat after hand later p in
+    let next : c.scan.next < c.share_start-end.result = c.if-next-end.true in
+    omega arith
