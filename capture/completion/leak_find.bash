@@ -15,7 +15,7 @@ _leak_options() {
     leak_dump) echo '--after --core --size' ;;
     leak_log) echo '--after' ;;
     leak_walk) echo '--partial --quiet --after' ;;
-    leak_report) echo '--keep --after --list -n' ;;
+    leak_report) echo "--keep --after --list -n $skips --other-heap --check --strict --workers --piece --stack" ;;
     leak_lines) echo '-n --suppress --exit-code --folded --json --html --since --no-lines' ;;
     esac
 }

@@ -5,9 +5,10 @@ import re
 KIT = os.path.join(os.path.dirname(os.path.realpath(__file__)), "..")
 HELP = os.path.join(KIT, "..", "gate", "help")
 SUBCOMMANDS = ("one", "two", "why", "holders", "grow")
-SOURCES = {"leak_trace": "leak_trace", "leak_dump": "leak_dump", "leak_report": "leak_report", "leak_lines": "lines/options.py",
+SOURCES = {"leak_trace": "leak_trace", "leak_dump": "leak_dump", "leak_report": "scripts/report_words.sh", "leak_lines": "lines/options.py",
         "leak_log": "log/leak_log.c", "leak_walk": "walk/leak_walk.c"}
 OPTION = re.compile(r"(?<![\w/-])--?[a-z][a-z-]*")
+LISTED = re.compile(r"^(?:  |[a-z]+ +)(--?[a-z][a-z-]*)(?= )", re.MULTILINE)
 PAGE_OPTION = re.compile(r"(?:\\fB|^\.B [a-z_]+ (?=-))(--?[a-zA-Z][a-z-]*)", re.MULTILINE)
 
 
@@ -28,7 +29,9 @@ def of_program(name):
 
 
 def of_usage(text):
-    """The options that the lines of a usage have."""
+    """The options that the lines of a usage have, or if it says [OPTION..], those that have a line each."""
+    if "[OPTION..]" in text:
+        return set(LISTED.findall(text))
     return set(OPTION.findall("\n".join(re.findall(r"usage: .*(?:\n +leak_.*)?", text))))
 
 

@@ -77,20 +77,41 @@ verdict 'a core that is compressed' '2 leak_dump: packed.core is compressed: unp
 LEAK_FIND=/nonexistent reported kind $$
 verdict 'no leak_find' '2 leak_report: LEAK_FIND is /nonexistent, which is no program' "$status $(cat kind.said)"
 printf '#!/bin/sh\nexit 137\n' > ends && chmod +x ends
+cat > asked_finder << 'END'
+#!/bin/sh
+[ "$2" = /dev/null ] || printf '%s\n' "$@" > asked
+echo 'leaked 0 bytes 0'
+END
+chmod +x asked_finder
 if [ "$attaches" ]; then
     unprepared ./walk_leaks
+    all=$("$finder" one --help 2>&1 | sed -n 's/^ *\(--[a-z-]*\) <[A-Z]*>.*/\1 8/p; s/^ *\(--[a-z-]*\)  .*/\1/p' | tr '\n' ' ')
+    LEAK_FIND=$PWD/asked_finder reported kind $all $process
+    verdict 'every option of a search is handed on' "0 one $all" "$status $(sed 2,3d asked | tr '\n' ' ')"
+    LEAK_FIND=$PWD/asked_finder reported kind --skip-ends --displace=8,16 --skip-links $process
+    verdict 'those that fit come behind, once' 'one --skip-ends --displace 8,16 --skip-links --skip-freed' \
+        "$(sed '/dump/d' asked | paste -s -d ' ')"
+    LEAK_FIND=$PWD/asked_finder reported kind --other-heap $process
+    verdict 'those of another heap' 'one --other-heap --skip-ends' "$(sed '/dump/d' asked | paste -s -d ' ')"
+    reported kind --workers none $process
+    verdict 'a wrong value is refused before the process is stopped' "2 1 0" \
+        "$status $(grep -c "^leak_report: leak_find: error: invalid value 'none'" kind.said) $(grep -c 'stood still' kind.said)"
     LEAK_FIND=$PWD/ends reported kind $process
     verdict 'a search that is killed' '2 leak_report: leak_find ended with status 137: there is no whole report' "$status $(tail -n 1 kind.said)"
     verdict 'no folder that goes is named' 0 "$(grep -c leak_report\\. kind.said)"
     stop $process
 fi
 reported nothing
-verdict 'no word' 'usage: leak_report [--keep DIR] [--after DIR] [--list] [-n N] PID | CORE [TABLE]' "$(cat nothing.said)"
+verdict 'no word' 'usage: leak_report [OPTION..] PID | CORE [TABLE]' "$(cat nothing.said)"
 reported odd --other 1
 verdict 'no option' 2 $status
 for number in '' 0 x 1x -1 1000000000000000000000; do
     reported number -n "$number" 999999999
-    verdict "-n '$number'" "2 usage: leak_report [--keep DIR] [--after DIR] [--list] [-n N] PID | CORE [TABLE]" "$status $(cat number.said)"
+    verdict "-n '$number'" "2 usage: leak_report [OPTION..] PID | CORE [TABLE]" "$status $(cat number.said)"
+done
+for words in --keep --displace '--list=1' '--piece='; do
+    reported odd $words
+    verdict "a wrong value: $words" '2 usage: leak_report [OPTION..] PID | CORE [TABLE]' "$status $(cat odd.said)"
 done
 verdict 'no output where it refuses' '' "$(cat none.out nothing.out odd.out number.out word.out kind.out)"
 unset LEAK_FIND

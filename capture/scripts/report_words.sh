@@ -1,0 +1,92 @@
+# The words of leak_report.
+
+# Its options, once each: who takes it, its name and value, and what it does. `report` is leak_report itself; `dump`, `find` and
+# `lines` are leak_dump, leak_find and leak_lines, to which the option is handed on as it is.
+options() {
+    cat << 'END'
+report  --keep DIR       keeps core, log and report in the folder
+report  --after DIR      tells what was lost at both moments: now, and when DIR was kept
+report  --list           prints a line for each lost block too
+lines   -n N             shows the first N rows of the table
+find    --skip-freed     leaves out pointers in freed memory [taken if the heap is glibc's]
+find    --skip-links     leaves out the links of glibc's malloc to free memory [taken if the heap is glibc's]
+find    --skip-slack     leaves out pointers in what malloc gave a block past its size
+find    --skip-ends      leaves out pointers one past the end of a block [taken if the heap is not glibc's]
+find    --displace LIST  byte offsets at which a pointer keeps a block, besides 0, as 8,16 [any]
+find    --all-memory     takes pointers in memory that can't be written too
+find    --other-heap     the allocator is not glibc's [taken if the log says so]
+find    --check          lists the live blocks that have no chunk of their size in use
+find    --strict         status 3 if there is a warning
+find    --workers N      threads that search, 1 to 64
+find    --piece N        root words that a thread takes at a time
+find    --stack N        blocks that a thread's stack holds
+END
+}
+
+usage() {
+    echo 'usage: leak_report [OPTION..] PID | CORE [TABLE]' >&2
+    [ "${1-}" != help ] || {
+        cat << 'END'
+Tells what a C or C++ program has lost: memory that was allocated, not given back, and that nothing leads to any more.
+
+  PID              a running process: one of yours, or as root any; it stands still for a moment, and goes on
+  CORE             a core that the kernel wrote of a dead one (a core whose name is a number: ./4711)
+  TABLE            the table that it left, if it ran under leak_trace (leak_trace --list): so the report has functions
+END
+        options | sed 's/^[a-z]*  *-/  -/'
+        cat << 'END'
+
+status: 0 if nothing is lost; 1 if something is; 2 if there is no answer, with a line on standard error; 3 if --strict asks for it
+END
+    } >&2
+    exit 2
+}
+
+# take OPTION [VALUE]: sets a variable of leak_report's own options, or adds to the words of who takes it.
+take() {
+    case $1 in
+    --keep) keep=$2 ;;
+    --after) after=$2 ;;
+    --list) list=1 ;;
+    *) eval "${taker}_words=\$${taker}_words\$(quoted \"\$@\")" ;;
+    esac
+}
+
+# Is the value what the option takes? What leak_find takes it says itself.
+check_value() {
+    case $1 in
+    -n) case $2 in '' | 0* | *[!0-9]* | ???????????????????*) usage ;; esac ;;
+    *) [ "$2" ] || usage ;;
+    esac
+}
+
+# read_words WORD..: reads the options, and gives how many words they are.
+read_words() {
+    keep='' after='' list='' dump_words='' find_words='' lines_words='' read=0
+    while [ $# -gt 0 ]; do
+        case $1 in
+        -h | --help) usage help ;;
+        -*) ;;
+        *) return ;;
+        esac
+        option=$(options | awk -v name="${1%%=*}" '$2 == name { print $1, $2, $3 ~ /^[A-Z]+$/ }')
+        taker=${option%% *}
+        case "$option $1" in
+        ' '* | *' 0 '*=*) usage ;;
+        *' 0 '*) take "$1" ;;
+        *=*)
+            check_value "${1%%=*}" "${1#*=}"
+            take "${1%%=*}" "${1#*=}"
+            ;;
+        *)
+            [ $# -gt 1 ] || usage
+            check_value "$1" "$2"
+            take "$1" "$2"
+            read=$((read + 1))
+            shift
+            ;;
+        esac
+        read=$((read + 1))
+        shift
+    done
+}
