@@ -12,10 +12,10 @@ _leak_options() {
     why) echo "$skips --other-heap --strict -h --help" ;;
     grow) echo '--strict -h --help' ;;
     leak_trace) echo '-o -d -m -w -k -e --list --remove' ;;
-    leak_dump) echo '--after --core --size' ;;
+    leak_dump) echo '--after --core --size --whole-stack' ;;
     leak_log) echo '--after' ;;
     leak_walk) echo '--partial --quiet --after' ;;
-    leak_report) echo "--keep --after --list -n $skips --other-heap --check --strict --workers --piece --stack" ;;
+    leak_report) echo "--keep --after --list --whole-stack -n $skips --other-heap --check --strict --workers --piece --stack" ;;
     leak_lines) echo '-n --suppress --exit-code --folded --json --html --since --no-lines' ;;
     esac
 }

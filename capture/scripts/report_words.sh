@@ -7,6 +7,7 @@ options() {
 report  --keep DIR       keeps core, log and report in the folder
 report  --after DIR      tells what was lost at both moments: now, and when DIR was kept
 report  --list           prints a line for each lost block too
+dump    --whole-stack    keeps what lies below the stack pointers, which hides leaks
 lines   -n N             shows the first N rows of the table
 find    --skip-freed     leaves out pointers in freed memory [taken if the heap is glibc's]
 find    --skip-links     leaves out the links of glibc's malloc to free memory [taken if the heap is glibc's]

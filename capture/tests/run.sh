@@ -21,6 +21,7 @@ part() {
 }
 
 part dump "$attaches"
+part dead_stack "$attaches"
 part known "$dumps"
 part pages
 part lines
