@@ -15,8 +15,8 @@ _leak_options() {
     leak_dump) echo '--after --core --size --whole-stack' ;;
     leak_log) echo '--after' ;;
     leak_walk) echo '--partial --quiet --after' ;;
-    leak_report) echo "--keep --after --list --whole-stack -n $skips --other-heap --check --strict --workers --piece --stack" ;;
-    leak_lines) echo '-n --suppress --exit-code --folded --json --html --since --no-lines' ;;
+    leak_report) echo "--keep --after --list --whole-stack -n --structures $skips --other-heap --check --strict --workers --piece --stack" ;;
+    leak_lines) echo '-n --suppress --exit-code --folded --json --html --since --no-lines --what --structures' ;;
     esac
 }
 
@@ -27,7 +27,7 @@ _leak_value() {
     *' --in' | *' --of') echo address ;;
     'leak_report --keep' | 'leak_report --after') echo folder ;;
     'leak_dump --size') echo process ;;
-    *' --after' | *' --core' | *' --suppress' | *' --since' | *' --html' | *' -o') echo file ;;
+    *' --after' | *' --core' | *' --suppress' | *' --since' | *' --html' | *' --what' | *' -o') echo file ;;
     esac
 }
 

@@ -4,7 +4,7 @@ from typing import NamedTuple
 from lines import frames, progress, report
 
 # Which numbers of a row are its own blocks and their bytes: what holders hold overlaps, and of growth what is there now counts.
-OWN = {"caller": (0, 1), "holder": (2, 3), "in": (0, 1), "by": (0, 1), "grew": (3, 4)}
+OWN = {"caller": (0, 1), "holder": (2, 3), "in": (0, 1), "by": (0, 1), "grew": (3, 4), "structure": (0, 1)}
 
 
 class Caller(NamedTuple):
@@ -13,10 +13,25 @@ class Caller(NamedTuple):
     places: list
 
 
+class What(NamedTuple):
+    """By a row's text and address the lines below it in a table and its facts; and by the address of a lost block its own facts."""
+    of_row: dict
+    of_block: dict
+
+    def below(self, row):
+        """The lines below a row."""
+        return self.of_row.get((row.text, row.address), ([], []))[0]
+
+    def facts(self, row):
+        """The facts of a row, each with how many blocks share it."""
+        return self.of_row.get((row.text, row.address), ([], []))[1]
+
+
 class Callers(NamedTuple):
-    """By kind the callers that are shown, in the report's order, and those that are suppressed."""
+    """By kind the callers that are shown, in the report's order, and those that are suppressed; and what is said of lost blocks."""
     shown: dict
     suppressed: dict
+    what: What = What({}, {})
 
 
 def sums(callers_by_kind):

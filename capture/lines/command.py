@@ -2,7 +2,7 @@
 import signal
 import sys
 
-from lines import callers, document, folded, html, judging, options, progress, report, since, suppressions, tables
+from lines import callers, document, folded, html, judging, options, progress, report, since, structures, suppressions, tables, what
 from lines.options import Refused
 
 
@@ -52,11 +52,23 @@ def run_since(asked, rules):
     return text_of_lines(lines), since.status_of(found, asked) if asked.is_judged else 0
 
 
+def with_facts(asked, read):
+    """The report with the rows that are asked for, and what its blocks are."""
+    if asked.what is None:
+        return read, callers.What({}, {})
+    facts = what.read(read_lines(asked.what), asked.what)
+    if asked.by_structures:
+        read, of_row = structures.grouped(read, facts)
+    else:
+        of_row = what.below_rows(read, facts)
+    return read, callers.What(of_row, facts.of_block)
+
+
 def run_one(asked, rules):
     """The text of one report, and the exit status."""
-    read = read_report(asked.path, asked)
+    read, said = with_facts(asked, read_report(asked.path, asked))
     most = asked.most if asked.form == "table" and not asked.is_judged else None
-    found = callers.name({kind: rows[:most] for kind, rows in read.rows.items()}, rules)
+    found = callers.name({kind: rows[:most] for kind, rows in read.rows.items()}, rules)._replace(what=said)
     return text_of_lines(lines_in(asked, read, found)), judging.status_of(found) if asked.is_judged else 0
 
 

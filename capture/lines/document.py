@@ -11,9 +11,10 @@ NAMES = {
     "holder": ("blocks", "bytes", "own_blocks", "own_bytes", "within"),
     "in": ("blocks", "bytes"),
     "by": ("blocks", "bytes"),
+    "structure": ("blocks", "bytes", "structures"),
     "grew": ("growth", "blocks_then", "bytes_then", "blocks", "bytes", "new_blocks", "new_bytes"),
 }
-REPORTS = {"caller": "leaks", "holder": "holders", "in": "in", "by": "by", "grew": "grow"}
+REPORTS = {"caller": "leaks", "holder": "holders", "in": "in", "by": "by", "grew": "grow", "structure": "structures"}
 PAIR = re.compile("([a-z]+) ([0-9]+)")
 SIZED = re.compile("([a-z]+) ([0-9]+) bytes ([0-9]+)")
 
@@ -43,10 +44,17 @@ def frame_of(place):
             "inlined": place.is_inlined, "text": clean(place.text)})
 
 
-def caller_of(kind, caller):
+def facts_of(caller, said):
+    """What is said of the row's blocks: each fact with one block that it is of, and how many share it."""
+    found = [{"fact": clean(it.fact.kind), "text": clean(it.fact.text), "blocks": it.count, "block": it.address}
+             for it in said.facts(caller.row)]
+    return {"what": found} if said.of_block else {}
+
+
+def caller_of(kind, caller, said):
     """A row with its frames, as JSON. Frames are many, and mostly the same ones."""
-    address = {"address": caller.row.address} if kind == "holder" else {}
-    numbers = json.dumps({**dict(zip(NAMES[kind], caller.row.numbers)), **address})
+    address = {"address": caller.row.address} if caller.row.address else {}
+    numbers = json.dumps({**dict(zip(NAMES[kind], caller.row.numbers)), **address, **facts_of(caller, said)})
     return numbers.removesuffix("}") + ', "frames": [' + ", ".join(map(frame_of, caller.places)) + "]}"
 
 
@@ -59,6 +67,6 @@ def head_of(read, found, kind):
 def lines_of(read, found):
     """The document, with a line for each caller, so that line by line is a way to read it too."""
     kind = report.kind_of(read)
-    rows = [caller_of(kind, it) for it in found.shown.get(kind, [])]
+    rows = [caller_of(kind, it, found.what) for it in found.shown.get(kind, [])]
     first = json.dumps(head_of(read, found, kind)).removesuffix("}") + ', "callers": ['
     return [first] + [row + "," for row in rows[:-1]] + rows[-1:] + ["]}"]

@@ -1,6 +1,6 @@
 """Stacks for flame graphs, a line for each, as flamegraph.pl takes them: the outermost frame first, and the bytes."""
 # The number of a row that is told.
-BYTES = {"caller": 1, "holder": 1, "in": 1, "by": 1, "grew": 0}
+BYTES = {"caller": 1, "holder": 1, "in": 1, "by": 1, "grew": 0, "structure": 1}
 
 
 def stack_of(places):

@@ -28,6 +28,12 @@ def frame_of(place):
     return [document.clean(text) for text in (*place.cells, place.module, place.label or "?")]
 
 
+def what_of(row, said):
+    """What the page shows of the row's blocks: what a table shows, and all facts."""
+    facts = [f"{it.fact.text}: {it.count} blocks, {it.address}" for it in said.facts(row.row)]
+    return [[document.clean(text) for text in texts] for texts in (said.below(row.row), facts)]
+
+
 def data_of(read, found):
     """What the script reads. Callers name their frames, the innermost first, by the places in a list: callers share most of them."""
     kind = report.kind_of(read)
@@ -38,7 +44,7 @@ def data_of(read, found):
     return {
         **document.head_of(read, found, kind), "warnings": warnings_of(read), "columns": columns,
         "weight": folded.BYTES[kind], "frames": [frame_of(place) for place in index],
-        "callers": [{"numbers": row.row.numbers, "address": row.row.address, "frames": stack} for row, stack in zip(rows, stacks)],
+        "callers": [{"numbers": row.row.numbers, "address": row.row.address, "frames": stack, "what": what_of(row, found.what)} for row, stack in zip(rows, stacks)],
     }
 
 

@@ -20,4 +20,4 @@ def check_whole(read):
 
 def status_of(found):
     """The status of callers: that of other rows is 0."""
-    return 1 if found.shown.get("caller") else 0
+    return 1 if found.shown.get("caller") or found.shown.get("structure") else 0

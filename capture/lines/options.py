@@ -2,7 +2,7 @@
 import re
 from typing import NamedTuple
 
-USAGE = """usage: leak_lines [-n N] [--suppress FILE].. [--exit-code] [--folded | --json | --html FILE] [REPORT]
+USAGE = """usage: leak_lines [-n N] [--suppress FILE].. [--exit-code] [--folded | --json | --html FILE] [--what FILE [--structures]] [REPORT]
        leak_lines --since OLD [--no-lines] [-n N] [--suppress FILE].. [--exit-code] [NEW]"""
 HELP = USAGE + """
 Copies a report of leak_find, with its rows as a table by function, file and line.
@@ -16,12 +16,14 @@ Copies a report of leak_find, with its rows as a table by function, file and lin
   --folded         stacks for flame graphs
   --json           a document for programs
   --html FILE      writes a page
+  --what FILE      says what the lost blocks are, as leak_what wrote it
+  --structures     with it: a row for each kind of structure that was lost, in place of callers
 
 status: 0, or 1 as above; 2 if there is no answer, with a line on standard error"""
 HELP_WORDS = ("-h", "--help")
-VALUED = ("--suppress", "--since", "--html")
+VALUED = ("--suppress", "--since", "--html", "--what")
 FORMS = {"--folded": "folded", "--json": "json"}
-FLAGS = ("--exit-code", "--no-lines")
+FLAGS = {"--exit-code": {"is_judged": True}, "--no-lines": {"has_lines": False}, "--structures": {"by_structures": True}}
 NUMBER = re.compile("[1-9][0-9]{0,17}")
 
 
@@ -39,6 +41,8 @@ class Options(NamedTuple):
     page: str = None  # the file of a page of HTML
     since: str = None  # the older report
     has_lines: bool = True  # whether lines of sources are compared too
+    what: str = None  # the file with what lost blocks are
+    by_structures: bool = False  # whether rows are of structures
 
 
 def valued(word, words):
@@ -61,12 +65,14 @@ def with_option(options, name, value):
         return options._replace(suppress=options.suppress + (value,), is_judged=True)
     if name == "--since":
         return options._replace(since=value)
+    if name == "--what":
+        return options._replace(what=value)
     if name == "--html" and options.form in ("table", "html"):
         return options._replace(form="html", page=value)
     if name in FORMS and options.form in ("table", FORMS[name]):
         return options._replace(form=FORMS[name])
     if name in FLAGS:
-        return options._replace(**({"is_judged": True} if name == "--exit-code" else {"has_lines": False}))
+        return options._replace(**FLAGS[name])
     raise Refused(USAGE)
 
 
@@ -80,6 +86,8 @@ def read(words):
         if word in HELP_WORDS:
             raise Refused(HELP)
         options = with_option(options, *valued(word, words))
+    if options.what is None and options.by_structures or options.what is not None and options.since is not None:
+        raise Refused(USAGE)
     if len(words) > 1 or (options.form != "table" if options.since is not None else not options.has_lines):
         raise Refused(USAGE)
     return options._replace(path=words[0] if words and words[0] != "-" else None)

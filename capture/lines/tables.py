@@ -4,17 +4,30 @@ import re
 from lines import callers, report, table, views
 
 LEAK = re.compile("leak 0x[0-9a-f]{1,16} [0-9]+ [0-9]+ (.*)", re.DOTALL)
+BLOCK = re.compile("leak (0x[0-9a-f]{1,16}) ")
 KIND = re.compile("head |held ")
 
 
-def table_of(read, kind, shown, left_out):
+def table_of(read, kind, shown, left_out, said):
     """The lines of the table of a kind, with a last one of the rows that are left out. Callers' tables have a form of their own, which
     is older."""
     whole = report.whole(read, kind)
-    entries = [table.Entry(views.CELLS[kind](caller.row, whole), [place.cells for place in caller.places]) for caller in shown]
+    entries = [table.Entry(views.CELLS[kind](caller.row, whole), [place.cells for place in caller.places] + below(caller.row, said))
+               for caller in shown]
     is_caller = kind == "caller"
     lines = table.lay_out(views.TITLES[kind], entries, " " if is_caller else "  ", not is_caller)
     return lines + ([views.rest(kind, left_out)] if left_out else [])
+
+
+def below(row, said):
+    """What is said of the row's blocks, as further places."""
+    return [("", line) for line in said.below(row)]
+
+
+def lines_of_leak(line, said):
+    """The line about a leaked block, and those with what it is."""
+    match = BLOCK.match(line) if said.of_block else None
+    return [line] + ([f"what {match[1]} {fact.text}" for fact in said.of_block.get(match[1], [])] if match else [])
 
 
 def text_of_leak(line, has_heads):
@@ -30,10 +43,10 @@ def lines_of(read, found, most):
     out = []
     for part in read.parts:
         if not part.kind:
-            out += [part.line] if not hidden or text_of_leak(part.line, read.has_heads) not in hidden else []
+            out += lines_of_leak(part.line, found.what) if not hidden or text_of_leak(part.line, read.has_heads) not in hidden else []
         elif part.kind in found.shown:
             left = [row for row in read.rows[part.kind] if row.text not in hidden]
-            out += table_of(read, part.kind, found.shown[part.kind][:most], left[most or len(left):])
+            out += table_of(read, part.kind, found.shown[part.kind][:most], left[most or len(left):], found.what)
     return out
 
 

@@ -10,6 +10,7 @@ TITLES = {
     "in": ("held", "share", "blocks"),
     "by": ("held", "share", "blocks"),
     "grew": ("growth", "share", "blocks", "new"),
+    "structure": ("bytes", "blocks", "structures"),
 }
 
 
@@ -37,7 +38,8 @@ def growth_cells(row, whole):
     return [signed_size(growth), share(growth, whole), str(blocks), f"+{new}" if new else "0"]
 
 
-CELLS = {"caller": caller_cells, "holder": holder_cells, "in": held_cells, "by": held_cells, "grew": growth_cells}
+CELLS = {"caller": caller_cells, "holder": holder_cells, "in": held_cells, "by": held_cells, "grew": growth_cells,
+         "structure": caller_cells}
 
 
 def total(rows, index):
@@ -51,6 +53,8 @@ def rest(kind, rows):
     if kind == "caller":
         heads = f", {total(rows, 2)} heads" if len(rows[0].numbers) > 2 else ""
         return f"{begin}: {total(rows, 1)} bytes, {total(rows, 0)} blocks{heads}"
+    if kind == "structure":
+        return f"{begin}: {total(rows, 1)} bytes, {total(rows, 0)} blocks, {total(rows, 2)} structures"
     if kind == "holder":
         return f"{begin}, none holds more than {size(rows[0].numbers[1])}: {size(total(rows, 3))} in {total(rows, 2)} own blocks"
     if kind == "by":

@@ -9,6 +9,7 @@ report  --after DIR      tells what was lost at both moments: now, and when DIR 
 report  --list           prints a line for each lost block too
 dump    --whole-stack    keeps what lies below the stack pointers, which hides leaks
 lines   -n N             shows the first N rows of the table
+lines   --structures     shows a row for each kind of lost structure
 find    --skip-freed     leaves out pointers in freed memory [taken if the heap is glibc's]
 find    --skip-links     leaves out the links of glibc's malloc to free memory [taken if the heap is glibc's]
 find    --skip-slack     leaves out pointers in what malloc gave a block past its size

@@ -49,7 +49,7 @@ class Bash(unittest.TestCase):
 
     def test_begun_options(self):
         self.assertEqual(offered("leak_find", "one", "core", "log", "--skip-f"), {"--skip-freed"})
-        self.assertEqual(offered("/opt/bin/leak_lines", "--s"), {"--since", "--suppress"})
+        self.assertEqual(offered("/opt/bin/leak_lines", "--s"), {"--since", "--structures", "--suppress"})
 
     def test_subcommands(self):
         self.assertEqual(offered("leak_find", ""), {*options_of.SUBCOMMANDS, "help"})

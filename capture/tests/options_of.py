@@ -6,7 +6,7 @@ KIT = os.path.join(os.path.dirname(os.path.realpath(__file__)), "..")
 HELP = os.path.join(KIT, "..", "gate", "help")
 SUBCOMMANDS = ("one", "two", "why", "holders", "grow")
 SOURCES = {"leak_trace": "leak_trace", "leak_dump": "leak_dump", "leak_report": "scripts/report_words.sh", "leak_lines": "lines/options.py",
-        "leak_log": "log/leak_log.c", "leak_walk": "walk/leak_walk.c"}
+        "leak_log": "log/leak_log.c", "leak_walk": "walk/leak_walk.c", "leak_what": "what/leak_what.c"}
 OPTION = re.compile(r"(?<![\w/-])--?[a-z][a-z-]*")
 LISTED = re.compile(r"^(?:  |[a-z]+ +)(--?[a-z][a-z-]*)(?= )", re.MULTILINE)
 PAGE_OPTION = re.compile(r"(?:\\fB|^\.B [a-z_]+ (?=-))(--?[a-zA-Z][a-z-]*)", re.MULTILINE)

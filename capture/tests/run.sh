@@ -30,6 +30,7 @@ part lines_options
 part stops
 part freed "$dumps"
 part walk
+part what "$dumps"
 part frames "$dumps"
 part tables "$dumps"
 part limits "$attaches"

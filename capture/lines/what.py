@@ -1,0 +1,158 @@
+"""What lost blocks are, as leak_what tells it: a line for each fact. docs/FORMAT.md defines the lines."""
+import re
+import subprocess
+from collections import Counter
+from typing import NamedTuple
+
+from lines.options import Refused
+from lines.units import size
+
+ADDRESS, QUOTED = "(0x[0-9a-f]{1,16})", '("(?:[^"\\\\]|\\\\.)*"(?:\\.\\.)?)'
+SHAPES = {
+    "stdio": re.compile(f"stdio {ADDRESS}"),
+    "like": re.compile(f"like {ADDRESS} {ADDRESS} ([0-9]+) (.*)"),
+    "text": re.compile(f"text {ADDRESS} ([0-9]+) {QUOTED}"),
+    "word": re.compile(f"word {ADDRESS} (\\+0x[0-9a-f]+) (.+)"),
+    "literal": re.compile(f"literal {ADDRESS} (\\+0x[0-9a-f]+) {QUOTED}"),
+    "holds": re.compile(f"holds {ADDRESS} ([0-9]+) bytes ([0-9]+)"),
+    "part": re.compile(f"part {ADDRESS} {ADDRESS}"),
+}
+TELLING = ("stdio", "like", "text", "word", "literal", "holds")  # the most telling first
+LEAK = re.compile(f"leak {ADDRESS} ([0-9]+) [0-9]+ (.*)", re.DOTALL)
+KIND = re.compile("(head|held) ")
+WIDEST = 60
+MANGLED = re.compile(r"\b_Z\w+")
+
+
+class Fact(NamedTuple):
+    """A fact of a block: its kind, and the words after the block's address."""
+    kind: str
+    words: tuple
+
+    @property
+    def same(self):
+        """What is equal of blocks of one kind. All texts are one kind; what leads to a held block says which kind that is."""
+        return (self.kind,) + {"like": self.words[2:], "word": self.words, "literal": self.words}.get(self.kind, ())
+
+    @property
+    def text(self):
+        """The fact in words."""
+        if self.kind == "like":
+            return f"looks like {self.words[0]} ({self.words[1]} held{', by ' + self.words[2] if self.words[2] else ''})"
+        if self.kind == "text":
+            return f"begins {self.words[1]}"
+        if self.kind == "holds":
+            return f"holds {self.words[0]} lost block{'' if self.words[0] == '1' else 's'} of {size(int(self.words[1]))}"
+        return {"stdio": "FILE of stdio"}.get(self.kind) or " ".join(self.words)
+
+
+class Block(NamedTuple):
+    """A lost block of the report: its address, its size, and the text of its caller."""
+    address: str
+    size: int
+    text: str
+
+
+class Shared(NamedTuple):
+    """A fact that so many blocks share, the address of one of them, and how many other texts those have."""
+    fact: Fact
+    count: int
+    address: str
+    others: int
+
+
+class Facts(NamedTuple):
+    """By address, the facts of a block, and the first block of the structure that it is part of."""
+    of_block: dict
+    top: dict
+
+
+def visible(text):
+    """The text with each character escaped that doesn't show, or that changes how others show."""
+    return "".join(it if it.isprintable() else f"\\u{{{ord(it):x}}}" for it in text)
+
+
+def shortened(text):
+    """The text in at most 60 characters."""
+    return text if len(text) <= WIDEST else text[:WIDEST - 2] + ".."
+
+
+def demangled(lines):
+    """The lines with the names of C++ as its sources have them, if c++filt is there."""
+    if not any(MANGLED.search(line) for line in lines):
+        return lines
+    try:
+        run = subprocess.run(["c++filt"], input="\n".join(lines), capture_output=True, text=True, errors="surrogateescape", check=False)
+    except FileNotFoundError:
+        return lines
+    found = run.stdout.split("\n")
+    return found if len(found) == len(lines) else lines
+
+
+def read(lines, place):
+    """The facts of these lines."""
+    facts = Facts({}, {})
+    for line in demangled(lines):
+        shape = SHAPES.get(line.split(" ", 1)[0])
+        match = shape and shape.fullmatch(line)
+        if not match:
+            raise Refused(f"leak_lines: {place}: this is no output of leak_what: {visible(shortened(line))}")
+        kind, address, words = line.split(" ", 1)[0], match[1], tuple(visible(it) for it in match.groups()[1:])
+        if kind == "part":
+            facts.top[address] = words[0]
+        else:
+            facts.of_block.setdefault(address, []).append(Fact(kind, words))
+    return facts
+
+
+def blocks_of(report):
+    """The lost blocks of the report's lines."""
+    found = []
+    for part in report.parts:
+        match = LEAK.fullmatch(part.line)
+        if match:
+            text = KIND.sub("", match[3], count=1) if report.has_heads else match[3]
+            found.append(Block(match[1], int(match[2]), text))
+    return found
+
+
+def most_telling(facts):
+    """The fact that tells most. Of several words into files it is the first."""
+    return min(facts, key=lambda it: TELLING.index(it.kind))
+
+
+def shared(pairs):
+    """What blocks have in common: pairs of an address and a fact. The one that most share comes first."""
+    groups = {}
+    for address, fact in pairs:
+        groups.setdefault(fact.same, []).append((fact, address))
+    found = []
+    for group in groups.values():
+        counts = Counter(fact for fact, _ in group)
+        fact = counts.most_common(1)[0][0]
+        address = next(address for it, address in group if it == fact)
+        found.append(Shared(fact, len(group), address, len(counts) - 1 if fact.kind == "text" else 0))
+    return sorted(found, key=lambda it: -it.count)
+
+
+def told_of(addresses, facts):
+    """What a table shows of the blocks with these addresses, in a list of a line or none; and all their facts."""
+    known = [(address, facts.of_block[address]) for address in addresses if address in facts.of_block]
+    telling = shared((address, most_telling(found)) for address, found in known)
+    return line_of(telling, len(addresses)) if telling else [], shared((address, it) for address, found in known for it in found)
+
+
+def line_of(found, blocks):
+    """What a table shows of the facts of so many blocks, of which each has one here at most."""
+    first = found[0]
+    text = shortened(first.fact.text) + (f" and {first.others} other text{'s' if first.others > 1 else ''}" if first.others else "")
+    kinds = f", {len(found)} kinds" if len(found) > 1 else ""
+    return [text if blocks == 1 else f"{text}: {first.count} of {blocks}{kinds}"]
+
+
+def below_rows(report, facts):
+    """By the text and the address of a row of callers, what is shown below it and its facts."""
+    addresses = {}
+    for block in blocks_of(report):
+        addresses.setdefault(block.text, []).append(block.address)
+    return {(text, ""): told_of(it, facts) for text, it in addresses.items()}

@@ -1,0 +1,127 @@
+/* Which held block a lost one looks like. */
+#include "classes.h"
+
+enum { LEAST_STRONG = 3, CONTRADICTION = -150, LAST_WEIGHT = 30, WHOLE_WEIGHT = 100 };
+static const uint64_t most_compared = (uint64_t)1 << 27; /* so that the time is bounded */
+
+struct fit {
+    int64_t score;              /* in hundredths */
+    int strong, against;
+};
+
+/* What two words of one kind say for likeness, in hundredths. */
+static int of_one_kind(enum kind kind, uint32_t a, uint32_t b, struct fit *fit)
+{
+    static const int plain[] = { [NULL_WORD] = 30, [FREED] = 100, [STACK] = 100, [TEXT] = 50, [OTHER] = 30 };
+    int is_same = a == b, is_named = (a & NAMED) != 0, is_other_named = (b & NAMED) != 0;
+
+    if (kind == SMALL)
+        return is_same ? 100 : 50;
+    if (kind == BLOCK) {
+        fit->strong += is_same;
+        return is_same ? 300 : is_named == is_other_named ? 70 : 0;
+    }
+    if (kind != IN_FILE)
+        return plain[kind];
+    if (!is_same)
+        return is_named || is_other_named ? CONTRADICTION : 0;
+    fit->strong += is_named ? 3 : 0;
+    return is_named ? 800 : 200;
+}
+
+/* What two words of different kinds say, in hundredths: a pointer may be null, and what was freed may have been a block; but a
+ * number is no pointer. From CONTRADICTION on down the blocks are not alike. */
+static int of_two_kinds(enum kind a, enum kind b)
+{
+    static const int table[OTHER + 1][OTHER + 1] = {
+        [NULL_WORD] = { [SMALL] = -20, [BLOCK] = -30, [FREED] = -30, [IN_FILE] = -70, [STACK] = -30, [TEXT] = -80, [OTHER] = -30 },
+        [SMALL] = { [BLOCK] = -300, [FREED] = -200, [IN_FILE] = -300, [STACK] = -40, [TEXT] = -70, [OTHER] = -40 },
+        [BLOCK] = { [FREED] = 70, [IN_FILE] = -150, [STACK] = -100, [TEXT] = -300, [OTHER] = -250 },
+        [FREED] = { [IN_FILE] = -150, [STACK] = -150, [TEXT] = -200, [OTHER] = -150 },
+        [IN_FILE] = { [STACK] = -250, [TEXT] = -300, [OTHER] = -250 },
+        [STACK] = { [TEXT] = -50, [OTHER] = -50 },
+        [TEXT] = { [OTHER] = -50 },
+    };
+
+    return a < b ? table[a][b] : table[b][a];
+}
+
+/* Compares the words of two blocks of one size. */
+static struct fit compare(const uint32_t *a, const uint32_t *b, size_t count)
+{
+    struct fit fit = { 0 };
+
+    for (size_t i = 0; i < count; i++) {
+        enum kind x = a[i] >> KIND_AT, y = b[i] >> KIND_AT;
+        int points = x == y ? of_one_kind(x, a[i] & DETAIL, b[i] & DETAIL, &fit) : of_two_kinds(x, y);
+        fit.against += x != y && points <= CONTRADICTION;
+        fit.score += points * (i + 1 == count ? LAST_WEIGHT : WHOLE_WEIGHT) / WHOLE_WEIGHT;
+    }
+    return fit;
+}
+
+/* How many held blocks of this size the variable leads to that the role begins with. */
+static uint64_t held_like(const struct classes *c, const struct size *size, int32_t role)
+{
+    uint64_t wanted = (uint64_t)c->root[role] << 32 | (uint64_t)(size - c->sizes), count = 0;
+    size_t low = 0, high = c->held_count;
+
+    while (low < high) {
+        size_t middle = low + (high - low) / 2;
+        if (c->held[middle] < wanted)
+            low = middle + 1;
+        else
+            high = middle;
+    }
+    while (low + count < c->held_count && c->held[low + count] == wanted)
+        count++;
+    return count;
+}
+
+/* The class that fits best, if enough speaks for it and nothing against it. */
+static struct likeness best_of(struct classes *c, const struct size *size, const uint32_t *codes, size_t count)
+{
+    enum { MOST_COUNTED = 10, FOR_EACH = 2 };
+    struct fit best = { .score = INT64_MIN };
+    const struct class *found = NULL;
+
+    for (uint32_t i = size->first; i && c->compared < most_compared; i = c->list[i - 1].next) {
+        const struct class *class = c->list + i - 1;
+        struct fit fit = compare(codes, c->pool + class->codes, count);
+        fit.score += FOR_EACH * (class->count < MOST_COUNTED ? class->count : MOST_COUNTED);
+        c->compared += count;
+        if (fit.score > best.score)
+            best = fit, found = class;
+    }
+    if (!found || best.strong < LEAST_STRONG || best.against || c->compared >= most_compared)
+        return (struct likeness){ NONE, NONE, 0 };
+    return (struct likeness){ found->first, found->role, held_like(c, size, found->role) };
+}
+
+/* The held block that a lost one is like. Equal lost blocks get the same answer: numbers in them don't count for that. */
+struct likeness like_of(struct what *what, struct classes *c, long block)
+{
+    const struct size *size = is_candidate(what, block) ? size_of(c, what->blocks.list[block].size) : NULL;
+    uint32_t codes[MOST_WORDS];
+    uint64_t hash = what->blocks.list[block].size;
+    size_t count, at;
+
+    if (!size)
+        return (struct likeness){ NONE, NONE, 0 };
+    count = read_codes(what, what->blocks.list + block, codes);
+    for (size_t i = 0; i < count; i++)
+        hash = mixed(hash, codes[i] >> KIND_AT == SMALL ? (uint32_t)SMALL << KIND_AT : codes[i]);
+    hash |= 1;
+    for (at = hash % c->known_size; c->known[at].hash; at = (at + 1) % c->known_size)
+        if (c->known[at].hash == hash)
+            return c->known[at].likeness;
+    c->left_out += c->compared >= most_compared;
+    c->known[at] = (struct known){ hash, best_of(c, size, codes, count) };
+    return c->known[at].likeness;
+}
+
+void tell_left_out(const struct classes *c)
+{
+    if (c->left_out)
+        warn("too many kinds of blocks: %llu kinds of lost ones were not compared with held ones", (unsigned long long)c->left_out);
+}

@@ -1,0 +1,79 @@
+/* Which kind of word it is: what tells blocks of one program's type from those of another. */
+#include "what.h"
+
+enum { LEAST_ADDRESS = 4096, LEAST_TEXT = 4, ADDRESS_BITS = 47 };
+
+/* A word that begins with letters, at least four, and has zeros after them. */
+static int is_text(uint64_t word)
+{
+    int count = 0;
+
+    for (; count < WORD && ((word & 255) >= ' ' ? (word & 255) < 127 : (word & 255) == '\t' || (word & 255) == '\n' || (word & 255) == '\r'); count++)
+        word >>= 8;
+    return count >= LEAST_TEXT && !word;
+}
+
+/* The kind of an address, and in `to` the number of the block or of the file that it leads to; OTHER if it is none. */
+static enum kind kind_of_address(struct what *what, uint64_t word, long *to)
+{
+    const struct segment *s;
+
+    *to = block_of(&what->blocks, word);
+    if (*to != NONE)
+        return BLOCK;
+    *to = module_of(&what->modules, word);
+    if (*to != NONE)
+        return IN_FILE;
+    s = segment_at(&what->core, word);
+    if (s && s->is_stack)
+        return STACK;
+    return word >> 32 && word >= what->blocks.low && word < what->blocks.high && is_freed(&what->blocks, word) ? FREED : OTHER;
+}
+
+enum kind kind_of(struct what *what, uint64_t word, long *to)
+{
+    enum kind found = OTHER;
+
+    *to = NONE;
+    if (!word)
+        return NULL_WORD;
+    if (word >= LEAST_ADDRESS && !(word >> ADDRESS_BITS))
+        found = kind_of_address(what, word, to);
+    if (found != OTHER)
+        return found;
+    if (is_text(word))
+        return TEXT;
+    return word >> 32 == 0 || word > ~(uint64_t)0xffff ? SMALL : OTHER;
+}
+
+/* What of an address in a file tells blocks apart: its symbol, or if it has none its section; of code the address itself. */
+static uint32_t code_of_place(struct what *what, uint64_t word, long module)
+{
+    const struct symbol *symbol = symbol_at(&what->modules, module, word);
+    const struct section *section;
+
+    if (symbol)
+        return ((module * 1000003u + (uint32_t)(symbol - what->modules.list[module].symbols) * 31u) & (NAMED - 1)) | NAMED;
+    section = section_at(&what->modules, module, word);
+    if (section && section->is_code)
+        return ((uint32_t)(word * 2654435761u) & (NAMED - 1)) | NAMED;
+    return section ? (uint32_t)(section - what->modules.list[module].sections + module * 64) & (NAMED - 1) : 1;
+}
+
+/* The word in 32 bits: its kind, and of a number its low bits, of an address the size of its block, or its symbol. */
+uint32_t code_of(struct what *what, uint64_t word)
+{
+    long to;
+    enum kind kind = kind_of(what, word, &to);
+    uint32_t detail = 0;
+
+    if (kind == BLOCK) {
+        const struct block *block = what->blocks.list + to;
+        detail = (block->size < NAMED - 1 ? block->size : NAMED - 1) | (word != block->start ? NAMED : 0);
+    } else if (kind == IN_FILE) {
+        detail = code_of_place(what, word, to);
+    } else if (kind == SMALL) {
+        detail = word & 0xffffff;
+    }
+    return (uint32_t)kind << KIND_AT | detail;
+}
