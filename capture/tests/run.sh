@@ -20,6 +20,7 @@ part() {
     fi
 }
 
+part built
 part dump "$attaches"
 part dead_stack "$attaches"
 part known "$dumps"
