@@ -112,6 +112,15 @@ start() {
     if [ "${wait-}" ]; then sleep "$wait"; else settle $process; fi
 }
 
+# be_ready NAME PROGRAM ARGS..: runs it in the background, its output in NAME.out, until it says so. Its id is in `process`.
+be_ready() {
+    "${@:2}" > "$1.out" 2>&1 &
+    process=$!
+    started[$process]=1
+    until_true 30 grep -qsx ready "$1.out" || echo "no sign of $1: $(cat "$1.out")" >&2
+    sleep 0.1
+}
+
 # unprepared PROGRAM..: runs it as it is, and gives its id in `process`.
 unprepared() {
     rm -f in && mkfifo in

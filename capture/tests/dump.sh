@@ -4,15 +4,6 @@ build dump_kinds.c && build dump_many.c
 gcc -std=gnu11 -O1 -g -pthread -DFAULT "$kit"/dump/*.c -o faulty
 reads() { python3 "$kit/tests/dump.py" "$@"; }
 
-# be_ready NAME PROGRAM ARGS..: runs it in the background, its output in NAME.out, until it says so. Its id is in `process`.
-be_ready() {
-    "${@:2}" > "$1.out" 2>&1 &
-    process=$!
-    started[$process]=1
-    until_true 30 grep -qsx ready "$1.out" || echo "no sign of $1: $(cat "$1.out")" >&2
-    sleep 0.1
-}
-
 # states PID: how many threads are in which state, and who traces them.
 states() { cat /proc/"$1"/task/*/status | awk '/^State:/ { state = $2 } /^TracerPid:/ { print state, $2 }' | sort | uniq -c | xargs; }
 # has_states PID STATES, for until_true; is_as_it_was: the same in words.
@@ -101,7 +92,7 @@ verdict 'SIGTERM at every second step' '' "$(cat faults)"
 for i in $(seq 2 3 $((steps - 2))); do try_step KILL "$i"; done > faults
 verdict 'SIGKILL at every third step leaves no core' '' "$(cat faults)"
 wait_at 12 "$kinds" bad.core
-verdict 'a process under a debugger' "leak_core: process $kinds is under a debugger or tracer already: process $dumper (faulty) must \
+verdict 'a process under a debugger' "leak_core: process $kinds is under a debugger or tracer already: process $(pgrep -P $dumper) (faulty) must \
 let it go first" "$("$kit/leak_core" "$kinds" other.core 2>&1)"
 kill $dumper
 wait $dumper

@@ -1,0 +1,84 @@
+# Processes and files that are made to hold others up, or to take memory or disk: each dump and each walk of one ends in time, with little.
+build hostile_pages.c
+build hostile_disk.c
+[ -x faulty ] || gcc -std=gnu11 -O1 -g -pthread -DFAULT "$kit"/dump/*.c -o faulty
+reads() { python3 "$kit/tests/dump.py" "$@"; }
+
+# goes_on PID: whether no thread of it is stopped, or traced.
+goes_on() { ! grep -lqsE '^(State:.*[tT] \(|TracerPid:.*[1-9])' "/proc/$1"/task/*/status; }
+# freed_within SECONDS PID: whether it goes on by then.
+freed_within() { until_true "$1" goes_on "$2" && echo yes || grep -hE '^(State|TracerPid)' "/proc/$2/status"; }
+# is_gone PID: whether the process has ended, whoever waits for it.
+is_gone() { ! grep -qs '^State:.*[^ZX] (' "/proc/$1/status"; }
+
+section pages that the process itself would supply
+be_ready pages ./hostile_pages
+if grep -qx ready pages.out; then
+    limited 20 "$kit/leak_core" "$process" pages.core 2> pages.said
+    verdict 'a dump waits for no page under userfaultfd' 0 $?
+    verdict 'what is there is in the core, and the rest is not' '0x1122334455667788 0x1122334455667788 0x1122334455667788 absent' \
+        "$(reads word pages.core $(awk 'NF == 2 { print $2 }' pages.out))"
+    verdict 'of three mappings of 16 pages all but two pages are missing' $(((15 + 15 + 16) * 4096)) "$(reads sizes pages.core | cut -d ' ' -f 3)"
+    verdict 'it is told' $(((15 + 15 + 13) * 4096)) "$(sed -n 's/^leak_core: \([0-9]*\) bytes are not there, and the program is to supply.*/\1/p' pages.said)"
+    verdict 'what can not be read is told too' $((3 * 4096)) "$(sed -n 's/^leak_core: \([0-9]*\) bytes could not be read.*/\1/p' pages.said)"
+    verdict 'the process goes on' yes "$(freed_within 5 "$process")"
+else
+    leave_out "pages under userfaultfd: $(cat pages.out)"
+fi
+stop "$process"
+rm -f pages.core
+
+section a limit of the standstill
+sleep 600 &
+held=$!
+started[$held]=1
+
+# dumps_to FOLDER WORD..: begins a dump of `held` by these words, and waits until the process is stopped. Its id is in `dumper`.
+dumps_to() {
+    "${@:2}" "$held" "$1/x.core" 2> held.said &
+    dumper=$!
+    started[$dumper]=1
+    until_true 10 is_held
+}
+is_held() { ! goes_on "$held" || is_gone "$dumper"; }
+# ends NAME: the dump must end with status 2 within twenty seconds.
+ends() {
+    local status=none
+    until_true 20 is_gone "$dumper" && { wait "$dumper"; status=$?; } 2> /dev/null
+    verdict "$1" 2 "$status"
+}
+
+mkdir -p hung
+for place in 'make 35' 'ask_for_room 17'; do
+    read -r what opcode <<< "$place"
+    be_ready disk ./hostile_disk hung "$opcode"
+    grep -qx ready disk.out || { leave_out "a disk that hangs: no file system can be mounted here"; stop "$process"; break; }
+    dumps_to hung "$kit/leak_core" --hold 1
+    verdict "a disk that hangs ($what): the process goes on after --hold" yes "$(freed_within 20 "$held")"
+    ends "a disk that hangs ($what): the dump ends"
+    verdict "a disk that hangs ($what): one line says why" 'leak_core: the process stood still for 1 s (--hold) and goes on' "$(cut -d : -f 1,2 held.said)"
+    dumps_to hung "$kit/leak_core"
+    kill "$dumper"
+    verdict "a disk that hangs ($what): SIGTERM frees the process at once" yes "$(freed_within 5 "$held")"
+    ends "a disk that hangs ($what): SIGTERM ends the dump"
+    verdict "a disk that hangs ($what): one line says that" 'leak_core: ended by signal 15: no core is written' "$(cat held.said)"
+    dumps_to hung "$kit/leak_core"
+    { kill -9 "$dumper" && wait "$dumper"; } 2> /dev/null
+    verdict "a disk that hangs ($what): SIGKILL frees it too" yes "$(freed_within 5 "$held")"
+    [ "$what" = make ] || verdict "a disk that hangs ($what): the unfinished file is removed" 'removed x.core.part' "$(tail -n 1 disk.out)"
+    stop "$process"
+    umount -l hung
+done
+
+# The tracer itself hangs, with all signals blocked, where a process in front can end it alone.
+LEAK_CORE_HANG=3 dumps_to . ./faulty --hold 1
+verdict 'a tracer that hangs is ended after --hold' yes "$(freed_within 20 "$held")"
+ends 'its dump ends'
+verdict 'one line says why' 'leak_core: the process stood still for 1 s (--hold) and goes on: no core is written' "$(grep -v '^hangs' held.said)"
+LEAK_CORE_HANG=12 dumps_to . ./faulty
+kill "$dumper"
+verdict 'SIGTERM frees the process at once' yes "$(freed_within 5 "$held")"
+ends 'and ends that dump'
+verdict 'no file is left of any' '' "$(ls x.core* 2> /dev/null)"
+verdict 'no number of seconds' "leak_core: --hold takes seconds, from 0.1 to 86400: not '0'" "$("$kit/leak_core" --hold 0 "$held" x.core 2>&1)"
+stop "$held"
