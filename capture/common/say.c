@@ -4,14 +4,18 @@
 #include <string.h>
 
 #include "common.h"
+#include "escape.h"
 
-enum { REFUSED = 2 };
+enum { REFUSED = 2, MOST_TEXT = 8192 };
 
+/* One line, whatever the names in it are: a core says which files a process had. */
 void say(const char *form, va_list values)
 {
-    fprintf(stderr, "%s: ", program);
-    vfprintf(stderr, form, values);
-    fputc('\n', stderr);
+    char text[MOST_TEXT], line[LONGEST_ESCAPE * MOST_TEXT];
+
+    vsnprintf(text, sizeof text, form, values);
+    escape_text(line, sizeof line, text);
+    fprintf(stderr, "%s: %s\n", program, line);
 }
 
 void warn(const char *form, ...)

@@ -22,7 +22,8 @@ be_ready vfork ./dump_many vfork
 vfork=$process
 verdict 'a parent by vfork is refused, in time' "leak_core: thread $vfork of process $vfork does not stop (state D): it waits in the \
 kernel for a device, or by vfork for a child; try again later" "$(limited 5 "$kit/leak_core" "$vfork" vfork.core 2>&1)"
-be_ready kinds ./dump_kinds
+printf 'a table' > table.file
+be_ready kinds ./dump_kinds table.file
 kinds=$process
 before=$(states "$kinds")
 size=$("$kit/leak_core" --size "$kinds")
@@ -56,7 +57,6 @@ else
 fi
 
 section faults and signals at each step
-printf 'a table' > table.file
 # wait_at N WORD..: starts a dump, which waits at the step N. Its id is in `dumper`.
 wait_at() {
     : > said

@@ -1,4 +1,5 @@
-/* Threads that rest at known places, and memory of each kind with a word that is known: for leak_core. Prints where each is. */
+/* Threads that rest at known places, and memory of each kind with a word that is known: for leak_core. Prints where each is. dump_kinds [FILE]:
+ * maps a file too. */
 #define _GNU_SOURCE
 #include <pthread.h>
 #include <stdint.h>
@@ -67,7 +68,7 @@ static void *rest(void *depth)
     return NULL;
 }
 
-int main(void)
+int main(int count, char **words)
 {
     pthread_t thread;
     char *file;
@@ -89,6 +90,8 @@ int main(void)
     file = mmap(NULL, 2 * PAGE, PROT_READ | PROT_WRITE, MAP_PRIVATE, fileno(self), 0);
     *(uint64_t *)(file + PAGE) = MARK;
     printf("file %p\n", file + PAGE);
+    if (count > 1 && mmap(NULL, PAGE, PROT_READ, MAP_SHARED, fileno(fopen(words[1], "re")), 0) == MAP_FAILED)
+        abort();
     for (long i = 1; i < 4; i++)
         pthread_create(&thread, NULL, rest, (void *)i);
     if (__builtin_cpu_supports("avx2"))

@@ -1,6 +1,7 @@
 # Processes and files that are made to hold others up, or to take memory or disk: each dump and each walk of one ends in time, with little.
 build hostile_pages.c
 build hostile_disk.c
+build hostile_tables.c
 [ -x faulty ] || gcc -std=gnu11 -O1 -g -pthread -DFAULT "$kit"/dump/*.c -o faulty
 reads() { python3 "$kit/tests/dump.py" "$@"; }
 
@@ -81,4 +82,58 @@ verdict 'SIGTERM frees the process at once' yes "$(freed_within 5 "$held")"
 ends 'and ends that dump'
 verdict 'no file is left of any' '' "$(ls x.core* 2> /dev/null)"
 verdict 'no number of seconds' "leak_core: --hold takes seconds, from 0.1 to 86400: not '0'" "$("$kit/leak_core" --hold 0 "$held" x.core 2>&1)"
+stop "$held"
+
+section files that the process chose
+mkdir -p tables
+be_ready tables ./hostile_tables 12000 tables
+timeout -k 5 60 "$kit/leak_core" "$process" x.core 2> tables.said
+verdict '12,000 files that look like tables: a core' 0 $?
+echo "     $(sed -n 's/.*stood still for/standstill/p' tables.said)"
+verdict '12,000 files that look like tables: at most 10 s of standstill' yes "$(awk '/stood still/ && $(NF - 1) <= 10000 { print "yes" }' tables.said)"
+stop "$process"
+rm -rf tables x.core
+
+if be_ready disk ./hostile_disk hung 17 'x (deleted)' && grep -qx ready disk.out; then
+    disk=$process
+    be_ready mapper python3 -c 'import mmap, os, signal, sys
+memory = mmap.mmap(os.open(sys.argv[1], os.O_RDWR), 4096)
+print("ready" if not memory[0] else "", flush=True)
+signal.pause()' 'hung/x (deleted)'
+    timeout -k 5 15 "$kit/leak_core" "$process" x.core 2> mapper.said
+    verdict 'a mapped file of a disk that hangs, which looks like memory: a core' 0 $?
+    stop "$process" "$disk"
+    umount -l hung
+else
+    leave_out 'a mapped file of a disk that hangs: no file system can be mounted here'
+    stop "$process"
+fi
+
+sleep 600 &
+held=$!
+started[$held]=1
+rm -f x.core
+mkfifo fifo && ln -s /dev/zero link && echo text > other
+# copies FILE: what leak_core --copy says of it.
+copies() { timeout -k 5 15 "$kit/leak_core" --copy "$1" copy "$held" x.core 2>&1; echo "status $? $(ls copy* x.core* 2> /dev/null)"; }
+while read -r file why; do
+    verdict "--copy of what is no mapped file: $file" "leak_core: $file: $why
+status 2 " "$(copies "$file")"
+done << 'END'
+fifo no regular file
+link no regular file
+/dev/zero no regular file
+other the process has no such file mapped
+END
+exec 8< "$(readlink "/proc/$held/exe")"
+verdict '--copy of a descriptor that is handed on' "leak_core: /proc/self/fd/8: the process has no such file mapped" "$(copies /proc/self/fd/8 | head -n 1)"
+exec 8<&-
+
+section names for a terminal
+cp faulty $'red\033[31m'
+LEAK_CORE_WAIT=3 dumps_to . $'./red\033[31m'
+verdict "a tracer's name is escaped" "leak_core: process $held is under a debugger or tracer already: process $(pgrep -P "$dumper") (red\\x1b[31m) must let it go first" \
+    "$("$kit/leak_core" "$held" y.core 2>&1)"
+kill "$dumper"
+ends 'and that tracer ends'
 stop "$held"
