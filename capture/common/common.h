@@ -8,12 +8,14 @@
 #include <stdint.h>
 #include <string.h>
 
-enum { PAGE = 4096 };
+enum { PAGE = 4096, REFUSED = 2 };
 
 struct file {
     const uint8_t *bytes;       /* mapped */
     uint64_t size;
     const char *path;
+    int descriptor;
+    uint64_t data, data_end;    /* where the data begins and ends that was looked for last */
 };
 
 /* The program headers of a core (gABI, Program Header). */
@@ -40,6 +42,8 @@ struct part {
 struct parts {
     struct part *list;          /* by ascending start, once sorted */
     size_t count;
+    uint64_t path_bytes;        /* of paths that are in the log */
+    int is_full;                /* has the log no room for more? */
 };
 
 /* say.c; each program defines its name and its help */
@@ -52,6 +56,7 @@ void *grown(void *list, size_t count, size_t each);
 
 /* file.c */
 struct file map_file(const char *path);
+uint64_t next_data(struct file *file, uint64_t at);
 int begins(const char *at, const char *stop, const char *with);
 const char *end_of_line(struct file log, const char *at);
 
@@ -67,6 +72,7 @@ void add_parts(struct parts *parts, const struct note *note);
 const struct part *part_of(struct parts *parts, uint64_t address);
 const char *name_of(const struct part *part);
 const struct part *other_allocator(const struct parts *parts);
+int takes_path(struct parts *parts, const struct part *part, uint64_t size);
 
 /* output.c */
 void put_bytes(const uint8_t *bytes, uint64_t size);

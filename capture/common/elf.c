@@ -1,4 +1,5 @@
 /* The headers and the notes of a core file (gABI, ELF Header, Program Header, Note Section; elf(5)). */
+#include <stdlib.h>
 #include <string.h>
 
 #include "common.h"
@@ -21,9 +22,47 @@ static uint64_t count_of(struct file core, const Elf64_Ehdr *header)
     return section.sh_info;
 }
 
+struct extent {
+    uint64_t start, end;        /* in the file */
+};
+
+static void refuse_overlap(struct file core, struct extent *notes, size_t count)
+{
+    if (count)
+        qsort(notes, count, sizeof *notes, by_start);
+    for (size_t i = 1; i < count; i++)
+        if (notes[i].start < notes[i - 1].end)
+            fail("%s: damaged: parts of its notes overlap", core.path);
+    free(notes);
+}
+
+/* Any number of headers may name the same bytes, so a small core could stand for any amount of memory and notes. In a right one the
+ * parts lie one after the other. */
+static void check_parts(struct file core, struct headers headers)
+{
+    struct extent *notes = NULL;
+    size_t count = 0;
+    uint64_t left = core.size;
+
+    for (uint64_t i = 0; i < headers.count; i++) {
+        Elf64_Phdr p = header_at(core, headers, i);
+        if ((p.p_type != PT_LOAD && p.p_type != PT_NOTE) || !p.p_filesz)
+            continue;
+        if (p.p_filesz > left)
+            fail("%s: damaged: its parts are larger than the file", core.path);
+        left -= p.p_filesz;
+        if (p.p_type == PT_NOTE) {
+            notes = grown(notes, count, sizeof *notes);
+            notes[count++] = (struct extent){ p.p_offset, p.p_offset + p.p_filesz };
+        }
+    }
+    refuse_overlap(core, notes, count);
+}
+
 struct headers headers_of(struct file core)
 {
     Elf64_Ehdr header;
+    struct headers headers;
     uint64_t count;
 
     if (core.size >= sizeof header)
@@ -35,7 +74,9 @@ struct headers headers_of(struct file core)
     count = count_of(core, &header);
     if (!has(core, header.e_phoff, count * sizeof(Elf64_Phdr)))
         fail("%s: the core is cut off", core.path);
-    return (struct headers){ core.bytes + header.e_phoff, count };
+    headers = (struct headers){ core.bytes + header.e_phoff, count };
+    check_parts(core, headers);
+    return headers;
 }
 
 /* A header, of which the file has what it says if that is asked for: memory and notes. */

@@ -1,6 +1,9 @@
 /* Files, mapped completely, and lines of earlier logs. */
+#define _GNU_SOURCE
 #include <errno.h>
 #include <fcntl.h>
+#include <signal.h>
+#include <stdio.h>
 #include <string.h>
 #include <sys/mman.h>
 #include <sys/stat.h>
@@ -8,23 +11,46 @@
 
 #include "common.h"
 
+/* A mapped file that became shorter meanwhile, or that its disk can't read. */
+static void refuse_fault(int signal)
+{
+    (void)signal;
+    dprintf(STDERR_FILENO, "%s: a file can't be read any more: it became shorter, or its disk has a fault\n", program);
+    _exit(REFUSED);
+}
+
+/* A FIFO or a device is no file to be mapped, and is not waited for. */
 struct file map_file(const char *path)
 {
-    struct file file = { (const uint8_t *)"", 0, path };
+    struct file file = { .bytes = (const uint8_t *)"", .path = path, .descriptor = open(path, O_RDONLY | O_NONBLOCK | O_CLOEXEC) };
     struct stat about;
-    int descriptor = open(path, O_RDONLY);
 
-    if (descriptor < 0 || fstat(descriptor, &about))
+    if (file.descriptor < 0 || fstat(file.descriptor, &about))
         fail("%s: %s", path, strerror(errno));
-    if (S_ISDIR(about.st_mode))
-        fail("%s: %s", path, strerror(EISDIR));
+    if (!S_ISREG(about.st_mode))
+        fail("%s: %s", path, S_ISDIR(about.st_mode) ? strerror(EISDIR) : "no regular file");
+    signal(SIGBUS, refuse_fault);
     file.size = about.st_size;
     if (file.size)
-        file.bytes = mmap(NULL, file.size, PROT_READ, MAP_PRIVATE, descriptor, 0);
+        file.bytes = mmap(NULL, file.size, PROT_READ, MAP_PRIVATE, file.descriptor, 0);
     if (file.bytes == MAP_FAILED)
         fail("%s: %s", path, strerror(errno));
-    close(descriptor);
     return file;
+}
+
+/* Where in the file there is data, at the place or after it, or the file's size: what lies between is a hole, which has only zeros and may
+ * be any number of times larger than what the file takes of its disk (lseek(2)). */
+uint64_t next_data(struct file *file, uint64_t at)
+{
+    if (at >= file->data && at < file->data_end)
+        return at;
+    off_t data = lseek(file->descriptor, at, SEEK_DATA), hole;
+    if (data < 0)
+        return errno == ENXIO ? file->size : at;
+    hole = lseek(file->descriptor, data, SEEK_HOLE);
+    file->data = data;
+    file->data_end = hole < 0 ? file->size : (uint64_t)hole;
+    return data;
 }
 
 int begins(const char *at, const char *stop, const char *with)

@@ -1,5 +1,6 @@
 /* Which parts of files the process had mapped (Linux, NT_FILE), and where an address is in such a file. */
 #include <fcntl.h>
+#include <limits.h>
 #include <string.h>
 #include <unistd.h>
 
@@ -36,9 +37,11 @@ void add_parts(struct parts *parts, const struct note *note)
     for (uint64_t i = 0; i < count && path < end && memchr(path, 0, end - path); i++) {
         const uint8_t *at = note->bytes + NOTE_HEAD + NOTE_PART * i;
         parts->list = grown(parts->list, parts->count, sizeof *parts->list);
-        if (get(at) < get(at + 8) && !strchr(path, '\n')) /* a line of the log can't have such a name */
+        size_t length = strlen(path);
+        /* a line of the log can't have such a name, nor the system one that long */
+        if (get(at) < get(at + 8) && length < PATH_MAX && !memchr(path, '\n', length))
             parts->list[parts->count++] = (struct part){ get(at), get(at + 8), get(at + 16) * get(note->bytes + 8), 0, path, 0 };
-        path += strlen(path) + 1;
+        path += length + 1;
     }
 }
 
@@ -128,4 +131,20 @@ const struct part *other_allocator(const struct parts *parts)
         if (is_allocator(name_of(parts->list + i)))
             return parts->list + i;
     return NULL;
+}
+
+/* Whether the log may have the part's path once more. Each block may ask for one, and a path be a hundred times as long as a block: all paths
+ * have at most four times the core's size, and 16 MiB. */
+int takes_path(struct parts *parts, const struct part *part, uint64_t size)
+{
+    enum { TIMES = 4, MORE = 16 << 20 };
+    uint64_t length = strlen(part->path);
+
+    if (parts->is_full)
+        return 0;
+    parts->is_full = length > TIMES * size + MORE - parts->path_bytes;
+    parts->path_bytes += length;
+    if (parts->is_full)
+        warn("paths of files are left out of the log from here on: they would be more than four times as large as the core");
+    return !parts->is_full;
 }

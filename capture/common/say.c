@@ -6,7 +6,7 @@
 #include "common.h"
 #include "escape.h"
 
-enum { REFUSED = 2, MOST_TEXT = 8192 };
+enum { MOST_TEXT = 8192 };
 
 /* One line, whatever the names in it are: a core says which files a process had. */
 void say(const char *form, va_list values)

@@ -51,14 +51,23 @@ static const struct table_head *head_of(struct file file, const struct core *cor
     fail("%s: the table is not of this core's process", file.path);
 }
 
+/* The entry, or the first one after it that has a byte of data: a table is sparse, and holes hold no blocks. */
+static uint64_t next_entry(struct file *file, uint64_t entry, uint64_t bytes)
+{
+    uint64_t at = HEAD_BYTES + entry * bytes, data = next_data(file, at);
+
+    return data < at + bytes ? entry : (data - HEAD_BYTES) / bytes;
+}
+
 struct blocks read_table(struct file file, const struct core *core)
 {
     const struct table_head *head = head_of(file, core);
     struct blocks blocks = { .depth = head->depth, .base = head->base };
-    const uint64_t *word = (const uint64_t *)(file.bytes + HEAD_BYTES);
+    const uint64_t words = ENTRY_CALLERS + head->depth;
     size_t moving = 0;
 
-    for (uint64_t i = 0; i < head->used; i++, word += ENTRY_CALLERS + head->depth) {
+    for (uint64_t i = next_entry(&file, 0, words * 8); i < head->used; i = next_entry(&file, i + 1, words * 8)) {
+        const uint64_t *word = (const uint64_t *)(file.bytes + HEAD_BYTES) + i * words;
         moving += word[ENTRY_START] && !(word[ENTRY_START] & ENTRY_HELD);
         if (!(word[ENTRY_START] & ENTRY_HELD))
             continue;

@@ -54,18 +54,25 @@ static int by_region(const void *a, const void *b)
     return (x < y) - (x > y);   /* they are complemented */
 }
 
-/* The used leaves of the table, by ascending region. Gives how many. */
+/* The used leaves of the table, by ascending region. Gives how many. A hole of the file has none. */
 static size_t find_leaves(struct file file, const uint64_t ***leaves)
 {
+    enum { LEAF_BYTES = 8 * LEAF_WORDS };
     const struct table_head *head = (const void *)file.bytes;
-    const uint64_t *leaf = (const uint64_t *)(file.bytes + head->leaves_at);
     size_t count = 0;
 
-    for (uint64_t i = 0; i < head->leaves; i++, leaf += LEAF_WORDS)
+    for (uint64_t i = 0; i < head->leaves; i++) {
+        uint64_t at = head->leaves_at + i * LEAF_BYTES, data = next_data(&file, at);
+        if (data >= at + LEAF_BYTES) {
+            i = (data - head->leaves_at) / LEAF_BYTES - 1;
+            continue;
+        }
+        const uint64_t *leaf = (const uint64_t *)(file.bytes + at);
         if (*leaf) {
             *leaves = grown(*leaves, count, sizeof **leaves);
             (*leaves)[count++] = leaf;
         }
+    }
     if (count)
         qsort(*leaves, count, sizeof **leaves, by_region);
     return count;

@@ -8,6 +8,8 @@ void print_block(struct core *core, const struct block *block, uint64_t depth)
     for (uint64_t k = 0; k < depth && (!k || ~block->callers[k]); k++) {
         uint64_t caller = ~block->callers[k];
         const struct part *part = part_of(&core->parts, caller);
+        if (part && !takes_path(&core->parts, part, core->file.size))
+            part = NULL;
         if (k)
             put_text(" < ");
         if (part)

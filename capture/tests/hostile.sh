@@ -137,3 +137,38 @@ verdict "a tracer's name is escaped" "leak_core: process $held is under a debugg
 kill "$dumper"
 ends 'and that tracer ends'
 stop "$held"
+
+section small cores that ask for much
+walk=$kit/leak_walk
+# asks_much WHAT STATUS SECONDS MEGABYTES LOG PROGRAM FILE..: the program over the files ends so, within these bounds.
+asks_much() {
+    verdict "$1" "$2 in bounds" "$(python3 "$kit/tests/measured.py" "$3" "$4" "$5" asked.log "${@:6}" 2> asked.figures)"
+    echo "     $(stat -c %s "${!#}") bytes: $(tail -n 1 asked.figures)"
+}
+while read -r kind status seconds megabytes log what; do
+    python3 "$kit/tests/hostile_cores.py" "$kind" asking.core
+    asks_much "$what" "$status" "$seconds" "$megabytes" "$log" "$walk" asking.core
+done << 'END'
+top      0 20  64  2000000 a top chunk of 2^46 bytes
+notes    2 20  64        0 11,000 headers of the same notes
+segments 2 20  64        0 9,000 headers of the same memory
+threads  2 20  64        0 800 threads, 200 arenas, and 64 pages that look like a heap's begin
+pages    2 20  64        0 200 arenas, and 128 such pages
+path     0 20  64  2000000 a path of 400 KB
+long     0 20  64 24000000 32,000 blocks with a path of 4 KB each
+headers  0 20  64  2000000 30,000 files that begin with 65,535 headers
+sparse   0 60 128  2000000 64 GiB without a block of the disk
+END
+python3 "$kit/tests/hostile_cores.py" names asking.core
+verdict 'a name with control characters' 'leak_walk: /x/libjemalloc\x1b[31m.so: its blocks are not in the log' "$("$walk" --quiet asking.core 2>&1 > asked.log)"
+python3 "$kit/tests/hostile_cores.py" table asking.table asking.core
+asks_much 'a table of 256 GiB, sparse' 0 20 64 1000 "$kit/leak_log" asking.core asking.table
+python3 "$kit/tests/hostile_cores.py" paths asking.table asking.core
+asks_much '3,000 blocks of 32 callers with a path of 4 KB' 0 20 64 24000000 "$kit/leak_log" asking.core asking.table
+verdict 'a FIFO is no core' 'leak_walk: fifo: no regular file' "$(timeout 10 "$walk" fifo 2>&1)"
+verdict 'nor a table' 'leak_log: fifo: no regular file' "$(timeout 10 "$kit/leak_log" asking.core fifo 2>&1)"
+gcc -O1 -shared -fPIC "$kit/tests/hostile_shrink.c" -o hostile_shrink.so
+python3 "$kit/tests/hostile_cores.py" path asking.core
+verdict 'a core that becomes shorter' "leak_walk: a file can't be read any more: it became shorter, or its disk has a fault
+status 2, 0 bytes" "$(SHRINK=asking.core LD_PRELOAD=$work/hostile_shrink.so "$walk" asking.core 2>&1 > asked.log; echo "status $?, $(stat -c %s asked.log) bytes")"
+rm -f asking.core asking.table asked.log

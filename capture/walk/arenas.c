@@ -52,6 +52,10 @@ static void find_bins(struct heap *heap, const struct segment *s)
 
     for (; at - s->start < s->size && word(heap->core, at, &value); at += 8) {
         uint64_t bin = at - FD;
+        if (at % PAGE == 0 && !value && after_hole(heap->core, at) > at + PAGE) {
+            at = after_hole(heap->core, at) - 8;
+            continue;
+        }
         if (value != bin || bin < TO_LAST_BIN || !is_word(heap->core, bin + BK, bin) || !has_bins(heap->core, bin - TO_LAST_BIN))
             continue;
         heap->arenas = grown(heap->arenas, heap->arena_count, sizeof *heap->arenas);

@@ -80,7 +80,7 @@ static struct chain run(struct heap *heap, struct chain chain, int looks)
 
     while (next_chunk(heap->core, &chain, &chunk))
         if (looks && !chain.due.at)
-            chain.due = due_at(heap->core, &chain);
+            chain.due = due_at(heap, &chain);
     take_steps(heap, chain.count - before, chain.at);
     return chain;
 }
@@ -98,7 +98,7 @@ static struct chain over_top(struct heap *heap, struct chain chain)
 
     word(heap->core, chain.at + CHUNK_HEAD, &head);
     size = head & ~(uint64_t)FLAGS;
-    if (!has_in_hand(heap->core, chain.at, chain.top))
+    if (!has_in_hand(heap, chain.at, chain.top))
         chain.stop = BROKEN;
     if (chain.stop == BROKEN || size == chain.limit - chain.at)
         return chain;
@@ -130,7 +130,9 @@ static uint64_t find_chain_in(struct heap *heap, uint64_t from, uint64_t to, str
 {
     for (uint64_t at = (from + PAGE - 1) & -(uint64_t)PAGE; at >= from && at < to; at += PAGE) {
         uint64_t head;
-        if (!word(heap->core, at + CHUNK_HEAD, &head) || (head & FLAGS) != PREV_INUSE || head < LEAST)
+        at = after_hole(heap->core, at);
+        take_steps(heap, 1, at);
+        if (at >= to || !word(heap->core, at + CHUNK_HEAD, &head) || (head & FLAGS) != PREV_INUSE || head < LEAST)
             continue;
         chain.at = at;
         *found = run_chain(heap, chain);

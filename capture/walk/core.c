@@ -69,6 +69,7 @@ struct core read_core(const char *path)
     }
     if (core.segment_count)
         qsort(core.segments, core.segment_count, sizeof *core.segments, by_start);
+    sort_registers(&core);
     fill_gaps(&core);
     find_run_starts(&core);
     find_run_ends(&core);
@@ -130,6 +131,22 @@ int word_elsewhere(struct core *core, uint64_t address, uint64_t *value)
         return 0;
     move_window(core, s, address);
     return word(core, address, value);
+}
+
+/* The address, or if the file has a hole there the page after it in the same segment, or the segment's end: a hole has zeros alone, and may be of
+ * any size. */
+uint64_t after_hole(struct core *core, uint64_t address)
+{
+    const struct segment *s = segment_at(core, address);
+    uint64_t place, data;
+
+    if (!s || address - s->start >= s->size)
+        return address;
+    place = s->bytes - core->file.bytes + (address - s->start);
+    data = next_data(&core->file, place);
+    if (data == place)
+        return address;
+    return data - place < s->start + s->size - address ? address + ((data - place) & -(uint64_t)PAGE) : s->start + s->size;
 }
 
 int is_word(struct core *core, uint64_t address, uint64_t wanted)

@@ -2,6 +2,7 @@
  * can stop between any two of them: then the size word of the new free chunk is what memory had there before. But the thread
  * still has the chunk's address and its size in registers, since it was to store them next (glibc, malloc/malloc.c, set_head).
  * */
+#include <stdlib.h>
 #include <sys/procfs.h>
 
 #include "walk.h"
@@ -41,14 +42,65 @@ static int has_chunk(const struct thread *thread, uint64_t chunk)
     return chunk && (has(thread, chunk) || has(thread, chunk + TO_BLOCK));
 }
 
-/* Whether a thread has both chunks, or their blocks, in its registers. */
-int has_in_hand(const struct core *core, uint64_t one, uint64_t other)
+static int by_value_and_thread(const void *a, const void *b)
 {
+    const struct holder *x = a, *y = b;
+
+    return x->value != y->value ? (x->value < y->value ? -1 : 1) : (x->thread > y->thread) - (x->thread < y->thread);
+}
+
+/* Sorts what the registers of all threads hold, so that who has a value is found by halving. */
+void sort_registers(struct core *core)
+{
+    size_t left = 0, count = core->thread_count * REGISTERS;
+
+    core->holders = malloc((count + 1) * sizeof *core->holders);
+    if (!core->holders)
+        fail("out of memory");
+    for (size_t i = 0; i < count; i++)
+        core->holders[i] = (struct holder){ core->threads[i / REGISTERS].words[i % REGISTERS], i / REGISTERS };
+    qsort(core->holders, count, sizeof *core->holders, by_value_and_thread);
+    for (size_t i = 0; i < count; i++)
+        if (!left || by_value_and_thread(core->holders + left - 1, core->holders + i))
+            core->holders[left++] = core->holders[i];
+    core->holder_count = left;
+}
+
+/* The threads that have the value in a register, one after the other. They count as steps: a thousand threads may have any value. */
+static struct held {
+    const struct holder *at, *end;
+} held_by(struct heap *heap, uint64_t value)
+{
+    const struct core *core = heap->core;
+    size_t low = 0, high = core->holder_count;
+
+    while (low < high) {
+        size_t middle = low + (high - low) / 2;
+        if (core->holders[middle].value < value)
+            low = middle + 1;
+        else
+            high = middle;
+    }
+    for (high = low; high < core->holder_count && core->holders[high].value == value;)
+        high++;
+    take_steps(heap, high - low, value);
+    return (struct held){ core->holders + low, core->holders + high };
+}
+
+static int has_both(struct heap *heap, uint64_t value, uint64_t other)
+{
+    struct held held = held_by(heap, value);
     int found = 0;
 
-    for (size_t i = 0; i < core->thread_count; i++)
-        found |= has_chunk(core->threads + i, one) && has_chunk(core->threads + i, other);
+    for (; held.at < held.end; held.at++)
+        found |= has_chunk(heap->core->threads + held.at->thread, other);
     return found;
+}
+
+/* Whether a thread has both chunks, or their blocks, in its registers. */
+int has_in_hand(struct heap *heap, uint64_t one, uint64_t other)
+{
+    return one && (has_both(heap, one, other) || has_both(heap, one + TO_BLOCK, other));
 }
 
 /* Whether a list of free chunks has it, which leads back to it. */
@@ -88,37 +140,46 @@ static enum evidence evidence_of(struct core *core, const struct chain *chain, c
     return next & PREV_INUSE ? NONE : WEAK;
 }
 
-/* What may be due where the chain is, by the register: the size of a chunk of which the thread has the address too. */
-static enum evidence look(struct core *core, const struct chain *chain, size_t number, struct due *due)
+/* What may be due where the chain is, by the register of a thread that has the address too: the size of a chunk. */
+static enum evidence look(struct core *core, const struct chain *chain, const struct thread *thread, uint64_t head, struct due *due)
 {
-    const struct thread *thread = core->threads + number / REGISTERS;
-    uint64_t head = thread->words[number % REGISTERS], size = head & ~(uint64_t)FLAGS;
+    uint64_t size = head & ~(uint64_t)FLAGS;
 
-    if (size % ALIGNMENT || size < LEAST || size > chain->limit - chain->at || !has(thread, chain->at))
+    if (size % ALIGNMENT || size < LEAST || size > chain->limit - chain->at)
         return NONE;
     *due = (struct due){ chain->at, size };
     return evidence_of(core, chain, thread, head);
 }
 
 /* What is surely due where the chain is. */
-struct due due_at(struct core *core, const struct chain *chain)
+struct due due_at(struct heap *heap, const struct chain *chain)
 {
+    struct core *core = heap->core;
+    struct held held = { 0 };
     struct due due;
 
-    for (size_t i = 0; core->hints[hint_of(chain->at)] && i < core->thread_count * REGISTERS; i++)
-        if (chain->at < chain->limit && look(core, chain, i, &due) == STRONG)
+    if (core->hints[hint_of(chain->at)] && chain->at < chain->limit)
+        held = held_by(heap, chain->at);
+    for (size_t i = 0; i < (held.end - held.at) * (size_t)REGISTERS; i++) {
+        const struct thread *thread = core->threads + held.at[i / REGISTERS].thread;
+        if (look(core, chain, thread, thread->words[i % REGISTERS], &due) == STRONG)
             return due;
+    }
     return (struct due){ 0 };
 }
 
 /* Whether the chain ends well with something that may be due here; then that is the chain. */
 static int try_here(struct heap *heap, struct chain *chain, enum evidence least)
 {
+    struct held held = { 0 };
     struct chain trial;
 
-    for (size_t i = 0; chain->at < chain->limit && i < heap->core->thread_count * REGISTERS; i++) {
+    if (chain->at < chain->limit)
+        held = held_by(heap, chain->at);
+    for (size_t i = 0; i < (held.end - held.at) * (size_t)REGISTERS; i++) {
+        const struct thread *thread = heap->core->threads + held.at[i / REGISTERS].thread;
         trial = *chain;
-        if (look(heap->core, chain, i, &trial.due) < least)
+        if (look(heap->core, chain, thread, thread->words[i % REGISTERS], &trial.due) < least)
             continue;
         trial = run_as_is(heap, trial);
         if (!ends_well(&trial))

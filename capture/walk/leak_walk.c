@@ -7,7 +7,7 @@
 
 #include "walk.h"
 
-enum { COMPLETE = 0, PARTIAL = 1, REFUSED = 2 };
+enum { COMPLETE = 0, PARTIAL = 1 };
 
 const char program[] = "leak_walk", usage[] = "usage: leak_walk [--partial] [--quiet] [--after LOG] CORE\n", help[] =
     "Writes to standard output a log of the blocks that were in use in the heap of glibc's malloc, for leak_find.\n\n"

@@ -22,7 +22,7 @@ static void put_what(struct heap *heap, uint64_t start, uint64_t size)
     const struct part *part = word(heap->core, start, &first) ? part_of(&heap->core->parts, first) : NULL;
     const struct segment *s = part ? segment_at(heap->core, first) : NULL;
 
-    if (part) {
+    if (part && takes_path(&heap->core->parts, part, heap->core->file.size)) {
         put_text(part->path);
         put_hex(":[0x", first + part->bias + (s && s->is_code));
         put_text("]");
@@ -49,19 +49,31 @@ static void put_block(struct visitor *visitor, uint64_t start, uint64_t size)
     put_text("\n");
 }
 
-static void put_unused(struct visitor *visitor, uint64_t from, uint64_t to)
+static void put_free(uint64_t from, uint64_t to)
 {
-    struct writer *w = (struct writer *)visitor;
     uint64_t size;
 
-    w->totals.free_count += from < to;
-    w->totals.free_bytes += to - from;
     for (; from < to; from += size) {
         size = to - from < MOST_PIECE ? to - from : MOST_PIECE;
         put_hex("+ 0x", from);
         put_hex(" 0x", size);
         put_hex("\n- 0x", from);
         put_text("\n");
+    }
+}
+
+/* Written where the core has bytes: elsewhere there is no word to be left out, and a size word may say anything. */
+static void put_unused(struct visitor *visitor, uint64_t from, uint64_t to)
+{
+    struct writer *w = (struct writer *)visitor;
+    const struct core *core = w->heap->core;
+
+    w->totals.free_count += from < to;
+    w->totals.free_bytes += to - from;
+    for (size_t i = first_behind(core, from); i < core->segment_count && core->segments[i].start < to; i++) {
+        const struct segment *s = core->segments + i;
+        uint64_t end = s->start + s->size;
+        put_free(from > s->start ? from : s->start, to < end ? to : end);
     }
 }
 

@@ -69,8 +69,8 @@ static uint64_t find_between(struct heap *heap, uint64_t from, uint64_t to, uint
     uint64_t at = (from + PAGE - 1) & -(uint64_t)PAGE;
 
     while (at >= from && at < to) {
-        uint64_t end = mapping_at(heap, at, limit);
-        at = end ? end : at + PAGE;
+        uint64_t end = mapping_at(heap, at, limit), next = after_hole(heap->core, at);
+        at = end ? end : next > at ? next : at + PAGE;
     }
     return at < from ? UINT64_MAX : at;
 }

@@ -77,7 +77,8 @@ static void find_heaps_in(struct heap *heap, const struct segment *s)
 {
     for (uint64_t base = aligned(s->start, HEAP_BYTES); base >= s->start && base - s->start < s->size; base += HEAP_BYTES) {
         uint64_t start;
-        const struct arena *arena = word(heap->core, base, &start) ? arena_at(heap, start) : NULL;
+        int is_hole = after_hole(heap->core, base) != base;
+        const struct arena *arena = !is_hole && word(heap->core, base, &start) ? arena_at(heap, start) : NULL;
         if (arena && arena->first_heap)
             add_heap(heap, base, arena);
         if (base > UINT64_MAX - HEAP_BYTES)

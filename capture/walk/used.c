@@ -60,13 +60,12 @@ static int is_unsettled(struct heap *heap, const struct region *r, const struct 
 
 /* Whether registers show that a thread is at work on the chunk, by where it begins, where it ends or where the free one
  * before it begins. If there are more such chunks than threads can have in hand, the heap is damaged. */
-static int is_held(const struct heap *heap, const struct chunk *chunk, uint64_t before)
+static int is_held(struct heap *heap, const struct chunk *chunk, uint64_t before)
 {
-    const struct core *core = heap->core;
     uint64_t end = chunk->at + chunk->size;
 
-    return heap->odd_chunks.count <= 2 * core->thread_count
-        && (has_in_hand(core, chunk->at, chunk->at) || has_in_hand(core, end, end) || has_in_hand(core, before, before));
+    return heap->odd_chunks.count <= 2 * heap->core->thread_count
+        && (has_in_hand(heap, chunk->at, chunk->at) || has_in_hand(heap, end, end) || has_in_hand(heap, before, before));
 }
 
 /* Sorts out a chunk that is unsettled: if a thread has it, it is known as one in hand, also if it is a block that realloc

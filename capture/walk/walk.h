@@ -27,6 +27,12 @@ struct thread {
     uint64_t words[REGISTERS];
 };
 
+/* A thread that has a value in a register. */
+struct holder {
+    uint64_t value;
+    uint32_t thread;            /* its number in the core */
+};
+
 /* The part of a segment that words were read from last. */
 struct window {
     uint64_t start, places;     /* how many addresses from start on a word begins at */
@@ -46,6 +52,8 @@ struct core {
     size_t range_count;
     struct thread *threads;
     size_t thread_count;
+    struct holder *holders;     /* of all registers, by value and thread */
+    size_t holder_count;
     uint8_t hints[HINTS];       /* by some bits of its address: may a register have the chunk? */
 };
 
@@ -163,6 +171,7 @@ static inline int place_of(struct core *core, uint64_t address, uint64_t *place)
 }
 
 int is_word(struct core *core, uint64_t address, uint64_t wanted);
+uint64_t after_hole(struct core *core, uint64_t address);
 
 /* gaps.c */
 void read_ranges(struct core *core, const struct note *note);
@@ -184,9 +193,10 @@ void tell_break(struct heap *heap, const char *what, uint64_t start, const struc
 
 /* hand.c */
 void read_registers(struct core *core, const struct note *note);
-int has_in_hand(const struct core *core, uint64_t one, uint64_t other);
+void sort_registers(struct core *core);
+int has_in_hand(struct heap *heap, uint64_t one, uint64_t other);
 int is_listed(struct core *core, uint64_t chunk);
-struct due due_at(struct core *core, const struct chain *chain);
+struct due due_at(struct heap *heap, const struct chain *chain);
 struct chain mended(struct heap *heap, const struct chain *start, const struct chain *broken);
 
 /* main_heap.c, thread_heaps.c */
