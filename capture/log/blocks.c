@@ -26,7 +26,8 @@ static size_t keep_newest(struct blocks *blocks, int even_empty)
     size_t left = 0, count = blocks->count;
     struct block *list = blocks->list;
 
-    qsort(list, count, sizeof *list, by_start_and_stamp);
+    if (count)
+        qsort(list, count, sizeof *list, by_start_and_stamp);
     for (size_t i = 0; i < count; i++)
         if ((i + 1 == count || list[i + 1].start != list[i].start) && (list[i].size || even_empty))
             list[left++] = list[i];

@@ -114,6 +114,7 @@ start() {
 
 # be_ready NAME PROGRAM ARGS..: runs it in the background, its output in NAME.out, until it says so. Its id is in `process`.
 be_ready() {
+    rm -f "$1.out" # of one before, which was ready too
     "${@:2}" > "$1.out" 2>&1 &
     process=$!
     started[$process]=1

@@ -6,6 +6,7 @@ build dead_stack.c
 
 # hold_still MODE [COMMAND..]: runs the program in the background, by the command if there is one, until it is ready.
 hold_still() {
+    rm -f "$1.out" # of one before, which was ready too
     "${@:2}" ./dead_stack "$1" > "$1.out" 2>&1 &
     process=$!
     started[$process]=1

@@ -4,7 +4,9 @@ threads: threads whose registers have chunks' addresses, arenas, and pages that 
 path: each block is an object of a class in a file whose path has 400 KB. long: in files whose paths are as long as a path can be. names: a file's
 path has control characters. sparse: 64 GiB of zeros, without a block of its disk. headers: an ELF header with 65,535 program headers, which
 each of the mapped files begins with.
+small: nothing of that, for a fuzzer to begin with: blocks, a free chunk in a list, a block with a mapping of its own, two threads, a file.
 hostile_cores.py table TABLE CORE: a table of leak_trace of 256 GiB, sparse, and a core of its process.
+hostile_cores.py few TABLE CORE: a table of three blocks and a leaf, for a fuzzer too, and a core of its process.
 hostile_cores.py paths TABLE CORE: a table whose blocks each have 32 callers in a file with a long path."""
 import struct
 import sys
@@ -99,7 +101,22 @@ def many_headers():
     return core(heap_of(1000, FILE + 8) + [(FILE, data)], files(parts))
 
 
+def small():
+    """The third of ten chunks is free, in the list of the arena's first bin."""
+    (at, arena_bytes), (heap, data) = heap_of(10, FILE + 64)
+    words, free, first = bytearray(data), heap + 64, at + TO_TOP
+    struct.pack_into('<QQQQ', words, 64, 0, 0x21, first, first)
+    struct.pack_into('<QQ', words, 96, 0x20, 0x20)
+    bins = bytearray(arena_bytes)
+    struct.pack_into('<QQ', bins, TO_TOP + 16, free, free)
+    mapped = struct.pack('<QQ', 0, PAGE | 2) + bytes(PAGE - 16)
+    threads = status([heap + 32 * i for i in range(26)] + [0x21]) + status([0] * 27)
+    return core([(at, bytes(bins)), (heap, bytes(words)), (TABLE, mapped)], threads + files([(FILE, FILE + PAGE, b'/lib/x')]))
+
+
 def made(kind):
+    if kind == 'small':
+        return small()
     if kind == 'top':
         return core(heap_of(30000, 0, 1 << 46), b'')
     if kind == 'notes':
@@ -119,10 +136,10 @@ def made(kind):
     return many_headers()
 
 
-def table(depth, used, entries):
-    """The head of a table, without leaves (table.h)."""
+def table(depth, used, entries, leaves=0):
+    """A table: the head, the entries, and after them the leaves (table.h)."""
     head = bytearray(8192)
-    struct.pack_into('<8sQQQQQQQQQ', head, 0, b'leaktab4', 1, depth, TABLE, used, 0, 0, 0, 8192, 0)
+    struct.pack_into('<8sQQQQQQQQQ', head, 0, b'leaktab4', 1, depth, TABLE, used, 0, 0, 0, 8192 + used * 8 * (3 + depth) if leaves else 8192, leaves)
     return bytes(head) + entries
 
 
@@ -132,6 +149,10 @@ def main():
         if kind == 'table':
             file.write(table(1, (1 << 38) // 32 - 256, b''))
             file.truncate(1 << 38)
+        elif kind == 'few':
+            words = [~value % (1 << 64) for i in range(3) for value in (0x10000 + 64 * i, 40, i, FILE + 64)]
+            leaf = struct.pack('<65Q', ~1 % (1 << 64), 0xffff, *[0] * 63)
+            file.write(table(1, 3, struct.pack('<12Q', *words) + leaf, 1))
         elif kind == 'paths':
             entry = struct.pack('<35Q', *[~value % (1 << 64) for value in [0x1000, 16, 1] + [FILE + 64] * 32])
             file.write(table(32, 3000, b''.join(struct.pack('<Q', ~(0x1001 + 32 * i) % (1 << 64) | 1) + entry[8:] for i in range(3000))))
@@ -140,9 +161,10 @@ def main():
             file.truncate(file.tell() + (1 << 36))
         else:
             file.write(made(kind))
-    if kind in ('table', 'paths'):
+    if kind in ('table', 'few', 'paths'):
         with open(sys.argv[3], 'wb') as file:
-            file.write(core(heap_of(10, 0), files([(TABLE, TABLE + (1 << 38), b'/t'), (FILE, FILE + PAGE, b'/' + b'x' * 4090)])))
+            name = b'/' + b'x' * (1 if kind == 'few' else 4090)
+            file.write(core(heap_of(10, 0), files([(TABLE, TABLE + (1 << 38), b'/t'), (FILE, FILE + PAGE, name)])))
 
 
 main()

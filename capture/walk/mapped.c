@@ -82,7 +82,7 @@ static void find_in(struct heap *heap, const struct segment *s, size_t *region)
     uint64_t at = last_end > s->start ? last_end : s->start;
 
     while (at < s->start + s->size) {
-        const struct region *r = heap->regions + *region;
+        const struct region *r = heap->region_count ? heap->regions + *region : NULL;
         if (*region < heap->region_count && r->limit <= at) {
             ++*region;
         } else if (*region == heap->region_count || r->start >= s->run_end) {
