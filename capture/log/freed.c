@@ -31,9 +31,8 @@ static void write_row(const struct walk *walk)
 /* A word that was in a block once: it is free if no block has a byte of it now. One of size 0 counts as one byte. */
 static void look_at(struct walk *walk, uint64_t word)
 {
-    const struct block *block = walk->live->list + walk->next;
-
-    for (; walk->next < walk->live->count && block->start < word + 8; block++, walk->next++) {
+    for (; walk->next < walk->live->count && walk->live->list[walk->next].start < word + 8; walk->next++) {
+        const struct block *block = walk->live->list + walk->next;
         uint64_t end = block->start + (block->size ? block->size : 1);
         if (walk->covered < end)
             walk->covered = end;
