@@ -72,14 +72,18 @@ for place in 'make 35' 'ask_for_room 17'; do
 done
 
 # The tracer itself hangs, with all signals blocked, where a process in front can end it alone.
-LEAK_CORE_HANG=3 dumps_to . ./faulty --hold 1
-verdict 'a tracer that hangs is ended after --hold' yes "$(freed_within 20 "$held")"
-ends 'its dump ends'
-verdict 'one line says why' 'leak_core: the process stood still for 1 s (--hold) and goes on: no core is written' "$(grep -v '^hangs' held.said)"
-LEAK_CORE_HANG=12 dumps_to . ./faulty
-kill "$dumper"
-verdict 'SIGTERM frees the process at once' yes "$(freed_within 5 "$held")"
-ends 'and ends that dump'
+# So it is with what the tracer leaves to its second thread.
+for step in 'the mappings are read' 'a file is made'; do
+    LEAK_CORE_HANG=$step dumps_to . ./faulty --hold 1
+    verdict "a dump that hangs when $step ends after --hold" yes "$(freed_within 20 "$held")"
+    ends "it has status 2, when $step"
+    verdict "one line says why, when $step" 'leak_core: the process stood still for 1 s (--hold) and goes on' "$(sed '/^hangs/d; s/ on: .*/ on/' held.said)"
+    LEAK_CORE_HANG=$step dumps_to . ./faulty
+    until_true 10 grep -q '^hangs' held.said
+    kill "$dumper"
+    verdict "SIGTERM frees the process at once, when $step" yes "$(freed_within 5 "$held")"
+    ends "and ends that dump, when $step"
+done
 verdict 'no file is left of any' '' "$(ls x.core* 2> /dev/null)"
 verdict 'no number of seconds' "leak_core: --hold takes seconds, from 0.1 to 86400: not '0'" "$("$kit/leak_core" --hold 0 "$held" x.core 2>&1)"
 stop "$held"
