@@ -46,6 +46,15 @@ struct parts {
     int is_full;                /* has the log no room for more? */
 };
 
+/* What a core says of alternate signal stacks. */
+struct signal_stacks {
+    uint64_t threads;           /* of the core */
+    uint64_t unasked;           /* threads that were not asked, if others were */
+    uint64_t words_at;          /* where leak_core's segment of words that the kernel holds begins, or 0 */
+    uint64_t usual_size;        /* sysconf(_SC_SIGSTKSZ), or 0 */
+    int is_asked;               /* by leak_core */
+};
+
 /* say.c; each program defines its name and its help */
 extern const char program[], usage[], help[];
 void say(const char *form, va_list values);
@@ -73,6 +82,11 @@ const struct part *part_of(struct parts *parts, uint64_t address);
 const char *name_of(const struct part *part);
 const struct part *other_allocator(const struct parts *parts);
 int takes_path(struct parts *parts, const struct part *part, uint64_t size);
+
+/* signal_stacks.c */
+void read_signal_stacks(struct signal_stacks *stacks, const struct note *note);
+uint64_t unknown_stacks(const struct signal_stacks *stacks);
+void put_stacks_remark(const struct signal_stacks *stacks, uint64_t unknown);
 
 /* output.c */
 void put_bytes(const uint8_t *bytes, uint64_t size);

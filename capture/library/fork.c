@@ -51,6 +51,7 @@ void after_fork(void)
     if (forks_are_traced && open_table(old.words - ENTRY_CALLERS)) {
         copy_entries(&old);
         copy_kept_out(old.head);
+        copy_signal_stack();
         finder->on = 1;
     } else if (forks_are_traced)
         tell_untraced(old.head, getpid(), program_name);

@@ -243,4 +243,8 @@ extern int forks_are_traced;
 void before_fork(void);
 void after_fork(void);
 
+/* ---- stacks.c: alternate signal stacks ---- */
+
+void copy_signal_stack(void);
+
 #endif

@@ -2,7 +2,8 @@
 import signal
 import sys
 
-from lines import callers, document, folded, html, judging, options, progress, report, since, structures, suppressions, tables, what
+from lines import callers, document, folded, html, judging, kernel_words, options, progress, report, since, structures, suppressions
+from lines import tables, what
 from lines.options import Refused
 
 
@@ -40,6 +41,15 @@ def read_report(path, asked):
     return read
 
 
+def with_words(read, path):
+    """The report with what the core at this path says of its roots."""
+    try:
+        address, texts = kernel_words.read(path)
+    except OSError as error:
+        raise Refused(f"leak_lines: {path}: {error.strerror}") from error
+    return read._replace(parts=[part._replace(line=kernel_words.told(part.line, address, texts)) for part in read.parts])
+
+
 def run_since(asked, rules):
     """The text of two reports compared, and the exit status."""
     if asked.path is None and asked.since == "-":
@@ -67,6 +77,7 @@ def with_facts(asked, read):
 def run_one(asked, rules):
     """The text of one report, and the exit status."""
     read, said = with_facts(asked, read_report(asked.path, asked))
+    read = with_words(read, asked.core) if asked.core is not None else read
     most = asked.most if asked.form == "table" and not asked.is_judged else None
     found = callers.name({kind: rows[:most] for kind, rows in read.rows.items()}, rules)._replace(what=said)
     return text_of_lines(lines_in(asked, read, found)), judging.status_of(found) if asked.is_judged else 0

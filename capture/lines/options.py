@@ -2,7 +2,8 @@
 import re
 from typing import NamedTuple
 
-USAGE = """usage: leak_lines [-n N] [--suppress FILE].. [--exit-code] [--folded | --json | --html FILE] [--what FILE [--structures]] [REPORT]
+USAGE = """usage: leak_lines [-n N] [--suppress FILE].. [--exit-code] [--folded | --json | --html FILE] [--what FILE [--structures]]
+                  [--core CORE] [REPORT]
        leak_lines --since OLD [--no-lines] [-n N] [--suppress FILE].. [--exit-code] [NEW]"""
 HELP = USAGE + """
 Copies a report of leak_find, with its rows as a table by function, file and line.
@@ -18,10 +19,11 @@ Copies a report of leak_find, with its rows as a table by function, file and lin
   --html FILE      writes a page
   --what FILE      says what the lost blocks are, as leak_what wrote it
   --structures     with it: a row for each kind of structure that was lost, in place of callers
+  --core CORE      the core that leak_find why was asked about: says what a word is that only the kernel holds
 
 status: 0, or 1 as above; 2 if there is no answer, with a line on standard error"""
 HELP_WORDS = ("-h", "--help")
-VALUED = ("--suppress", "--since", "--html", "--what")
+VALUED = ("--suppress", "--since", "--html", "--what", "--core")
 FORMS = {"--folded": "folded", "--json": "json"}
 FLAGS = {"--exit-code": {"is_judged": True}, "--no-lines": {"has_lines": False}, "--structures": {"by_structures": True}}
 NUMBER = re.compile("[1-9][0-9]{0,17}")
@@ -43,6 +45,7 @@ class Options(NamedTuple):
     has_lines: bool = True  # whether lines of sources are compared too
     what: str = None  # the file with what lost blocks are
     by_structures: bool = False  # whether rows are of structures
+    core: str = None  # which says what words are that only the kernel holds
 
 
 def valued(word, words):
@@ -63,10 +66,8 @@ def with_option(options, name, value):
         return options._replace(most=int(value))
     if name == "--suppress":
         return options._replace(suppress=options.suppress + (value,), is_judged=True)
-    if name == "--since":
-        return options._replace(since=value)
-    if name == "--what":
-        return options._replace(what=value)
+    if name in ("--since", "--what", "--core"):
+        return options._replace(**{name[2:]: value})
     if name == "--html" and options.form in ("table", "html"):
         return options._replace(form="html", page=value)
     if name in FORMS and options.form in ("table", FORMS[name]):

@@ -1,9 +1,27 @@
 /* A core file: its segments, and where files were mapped (gABI, Program Header; Linux, NT_FILE). */
 #include <stdlib.h>
+#include <sys/procfs.h>
 
 #include "log.h"
 
 enum { MEMORY_NOTE = 0x4d454d };    /* by leak_core */
+
+/* The numbers of threads and process (Linux, struct elf_prstatus, struct elf_prpsinfo). */
+static void read_ids(struct ids *ids, const struct note *note)
+{
+    struct elf_prstatus status;
+    struct elf_prpsinfo about;
+
+    if (is_note(note, NT_PRSTATUS, "CORE") && note->size >= sizeof status) {
+        memcpy(&status, note->bytes, sizeof status);
+        ids->list = grown(ids->list, ids->count, sizeof *ids->list);
+        ids->list[ids->count++] = status.pr_pid;
+    }
+    if (is_note(note, NT_PRPSINFO, "CORE") && note->size >= sizeof about) {
+        memcpy(&about, note->bytes, sizeof about);
+        ids->process = about.pr_pid;
+    }
+}
 
 static void read_notes(struct core *core, const uint8_t *at, const uint8_t *end)
 {
@@ -13,6 +31,8 @@ static void read_notes(struct core *core, const uint8_t *at, const uint8_t *end)
         if (is_note(&note, NT_FILE, "CORE"))
             add_parts(&core->parts, &note);
         core->is_whole |= is_note(&note, MEMORY_NOTE, "LEAK_CORE");
+        read_signal_stacks(&core->stacks, &note);
+        read_ids(&core->ids, &note);
     }
 }
 

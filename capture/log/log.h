@@ -10,6 +10,12 @@ struct core {
     struct headers headers;
     struct parts parts;
     int is_whole;               /* by leak_core, which has what the program keeps out of cores */
+    struct signal_stacks stacks;
+    struct ids {
+        uint64_t *list;         /* the threads, as the core has them */
+        size_t count;
+        uint64_t process;       /* or 0 */
+    } ids;
 };
 
 /* A block of the table, or of an earlier log: then the stamp counts the lines, and there are no callers. */
@@ -34,6 +40,9 @@ struct blocks {
 struct core read_core(const char *path);
 void tell_undumped(const struct core *core, const struct table_head *head);
 uint64_t kept_out_bytes(const struct core *core, const struct table_head *head);
+
+/* stacks.c */
+uint64_t leave_out_stacks(struct blocks *fresh, const struct blocks *all, const struct table_head *head, const struct core *core);
 
 /* place.c */
 void print_block(struct core *core, const struct block *block, uint64_t depth);

@@ -8,6 +8,8 @@ report  --keep DIR       keeps core, log and report in the folder
 report  --after DIR      tells what was lost at both moments: now, and when DIR was kept
 report  --list           prints a line for each lost block too
 dump    --whole-stack    keeps what lies below the stack pointers, which hides leaks
+dump    --no-calls       makes no system call in the process's threads, and so does not know their alternate signal stacks
+dump    --pipes          counts words that wait in pipes as held
 lines   -n N             shows the first N rows of the table
 lines   --structures     shows a row for each kind of lost structure
 find    --skip-freed     leaves out pointers in freed memory [taken if the heap is glibc's]

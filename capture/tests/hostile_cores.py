@@ -138,8 +138,8 @@ def made(kind):
 
 def table(depth, used, entries, leaves=0):
     """A table: the head, the entries, and after them the leaves (table.h)."""
-    head = bytearray(8192)
-    struct.pack_into('<8sQQQQQQQQQ', head, 0, b'leaktab4', 1, depth, TABLE, used, 0, 0, 0, 8192 + used * 8 * (3 + depth) if leaves else 8192, leaves)
+    head = bytearray(16384)
+    struct.pack_into('<8sQQQQQQQQQ', head, 0, b'leaktab5', 1, depth, TABLE, used, 0, 0, 0, 16384 + used * 8 * (3 + depth) if leaves else 16384, leaves)
     return bytes(head) + entries
 
 
@@ -147,7 +147,7 @@ def main():
     kind, path = sys.argv[1:3]
     with open(path, 'wb') as file:
         if kind == 'table':
-            file.write(table(1, (1 << 38) // 32 - 256, b''))
+            file.write(table(1, (1 << 38) // 32 - 512, b''))
             file.truncate(1 << 38)
         elif kind == 'few':
             words = [~value % (1 << 64) for i in range(3) for value in (0x10000 + 64 * i, 40, i, FILE + 64)]

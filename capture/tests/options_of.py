@@ -32,7 +32,7 @@ def of_usage(text):
     """The options that the lines of a usage have, or if it says [OPTION..], those that have a line each."""
     if "[OPTION..]" in text:
         return set(LISTED.findall(text))
-    return set(OPTION.findall("\n".join(re.findall(r"usage: .*(?:\n +leak_.*)?", text))))
+    return set(OPTION.findall("\n".join(re.findall(r"usage: .*(?:\n {7,}.*)*", text))))
 
 
 def of_help(subcommand):

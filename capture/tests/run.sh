@@ -23,6 +23,7 @@ part() {
 part built
 part dump "$attaches"
 part dead_stack "$attaches"
+part kernel_words "$attaches"
 part hostile "$attaches"
 part known "$dumps"
 part pages

@@ -18,11 +18,15 @@ static void read_notes(struct core *core, const uint8_t *at, const uint8_t *end)
             read_registers(core, &note);
         if (is_note(&note, NOTE_MEMORY, "LEAK_CORE"))
             read_ranges(core, &note);
+        read_signal_stacks(&core->stacks, &note);
     }
 }
 
+/* Words that the kernel holds are a segment of leak_core's, and no memory of the process: it is left out. */
 static void add_segment(struct core *core, const Elf64_Phdr *p)
 {
+    if (core->stacks.words_at && p->p_vaddr == core->stacks.words_at)
+        return;
     if (p->p_filesz > p->p_memsz || p->p_memsz > UINT64_MAX - p->p_vaddr)
         fail("%s: the segment at 0x%llx has a wrong size", core->path, (unsigned long long)p->p_vaddr);
     core->segments = grown(core->segments, core->segment_count, sizeof *core->segments);
@@ -64,6 +68,9 @@ struct core read_core(const char *path)
         Elf64_Phdr p = header_at(core.file, headers, i);
         if (p.p_type == PT_NOTE && p.p_filesz)
             read_notes(&core, core.file.bytes + p.p_offset, core.file.bytes + p.p_offset + p.p_filesz);
+    }
+    for (uint64_t i = 0; i < headers.count; i++) {
+        Elf64_Phdr p = header_at(core.file, headers, i);
         if (p.p_type == PT_LOAD && p.p_memsz)
             add_segment(&core, &p);
     }

@@ -84,6 +84,7 @@ struct totals write_log(struct heap *heap, const struct old_log *old)
 
     put_hex("= leak_walk arena 0x", main_arena(heap)->start);
     put_text("\n");
+    put_stacks_remark(&heap->core->stacks, unknown_stacks(&heap->core->stacks));
     visit(heap, &w.visitor);
     return w.totals;
 }

@@ -50,6 +50,7 @@ struct core {
     struct parts parts;
     struct range *ranges;       /* whole mappings of memory without a file, by leak_core's note */
     size_t range_count;
+    struct signal_stacks stacks;
     struct thread *threads;
     size_t thread_count;
     struct holder *holders;     /* of all registers, by value and thread */
