@@ -188,6 +188,7 @@ void leave_front(double seconds, const sigset_t *ends)
     if (shared == MAP_FAILED)
         shared = NULL, fail("no memory for what two processes share");
     sigaddset(&awaited, SIGCHLD);
+    signal(SIGCHLD, SIG_DFL);       /* whoever started this may have it ignored, and then no child can be waited for */
     sigprocmask(SIG_BLOCK, &awaited, &before);
     child = fork();
     if (child < 0)

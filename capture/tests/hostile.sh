@@ -85,6 +85,11 @@ for step in 'the mappings are read' 'a file is made'; do
     ends "and ends that dump, when $step"
 done
 verdict 'no file is left of any' '' "$(ls x.core* 2> /dev/null)"
+(trap '' CHLD; exec "$kit/leak_core" "$held" y.core 2> held.said) & dumper=$!
+started[$dumper]=1
+verdict 'who ignores SIGCHLD gets a core all the same' 'ended, a core' "$(until_true 20 is_gone "$dumper" && echo ended), $([ -s y.core ] && echo a core)"
+stop "$dumper"
+rm -f y.core
 verdict 'no number of seconds' "leak_core: --hold takes seconds, from 0.1 to 86400: not '0'" "$("$kit/leak_core" --hold 0 "$held" x.core 2>&1)"
 stop "$held"
 
