@@ -43,11 +43,11 @@ static void wait_for_second(void)
 {
     while (apart_of.work) {
         struct timespec until;
-        clock_gettime(CLOCK_REALTIME, &until);
+        clock_gettime(CLOCK_MONOTONIC, &until);
         until.tv_nsec += LOOK_NS;
         until.tv_sec += until.tv_nsec / SECOND_NS;
         until.tv_nsec %= SECOND_NS;
-        pthread_cond_timedwait(&apart_of.changed, &apart_of.lock, &until);
+        pthread_cond_clockwait(&apart_of.changed, &apart_of.lock, CLOCK_MONOTONIC, &until);
         if (apart_of.fault)
             fail("%s", apart_of.fault);
         end_if_asked();
