@@ -14,7 +14,7 @@ _leak_options() {
     leak_trace) echo '-o -d -m -w -k -e --list --remove' ;;
     leak_dump) echo '--after --core --size --whole-stack --no-calls --pipes' ;;
     leak_log) echo '--after' ;;
-    leak_walk) echo '--partial --quiet --after' ;;
+    leak_walk) echo '--partial --quiet --after --arenas' ;;
     leak_report) echo "--keep --after --list --whole-stack --no-calls --pipes -n --structures $skips --other-heap --check --strict --workers --piece --stack" ;;
     leak_lines) echo '-n --suppress --exit-code --folded --json --html --since --no-lines --what --structures --core' ;;
     esac

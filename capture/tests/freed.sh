@@ -48,13 +48,27 @@ settle "$child"
 freed freed-child freed.c "$child"
 stop $process $child
 
+# Where one of malloc's lists begins is freed memory too, and where a mapping of a block ends is not in the block.
+build fast.c
+build mapped.c
+for name in fast mapped; do
+    start ./$name
+    dump $process "$work/$name"
+    find_leaks one --skip-freed --skip-links "$name.core" "$name.log" > "$name.report" 2>&1
+    verdict "$name, traced" "$(expected "$kit/tests/$name.c")" "$(named $name.report)"
+    "$kit/leak_walk" --quiet "$name.core" > "$name.walk"
+    find_leaks one --check --skip-freed --skip-links "$name.core" "$name.walk" > "$name.report" 2>&1
+    verdict "$name, by the heap" "1 0" "$(awk '$1 == "leaked" || $1 == "misfits" { print $2 }' $name.report | xargs)"
+    stop $process
+done
+
 # If a block is just being moved, or one found no place in the table, no memory is said to be free.
 if [ "$attaches" ]; then
     build moving.c
     gcc -O1 -shared -fPIC "$kit/tests/stopped.c" -o stopped.so
     LD_PRELOAD=$work/stopped.so start ./moving
     limited 120 "$kit/leak_dump" $process "$work/moving" 2> said
-    verdict 'while realloc moves a block' '0 spans, 0 bytes' "$(python3 "$kit/tests/spans.py" moving.log | sed 's/, over.*//')"
+    verdict "while realloc moves a block: malloc's own words alone" '1 spans, 2200 bytes' "$(python3 "$kit/tests/spans.py" moving.log | sed 's/, over.*//')"
     verdict 'it is said' 1 "$(grep -c 'just being moved by realloc' said)"
 fi
 rm -f ./*.core

@@ -3,7 +3,7 @@ both, in one alone, and have a size that malloc doesn't give for what was asked.
 wrong, freed memory lies over a block, or more than MORE blocks (none) are in the walk alone."""
 import bisect, re, sys
 
-PAGE, CHUNK_HEAD, LEAST_USABLE, MOST_ALIGNMENT = 4096, 8, 24, 1 << 16
+PAGE, CHUNK_HEAD, LEAST_USABLE, MOST_ALIGNMENT, LAST = 4096, 8, 24, 1 << 16, 8
 
 def read(path):
     live, freed, last = {}, [], None
@@ -27,14 +27,14 @@ def read(path):
 
 def is_usable(start, usable, asked):
     """What malloc_usable_size may say: a remainder too small for a chunk stays at the block; pvalloc gives whole pages; a block with a mapping of
-    its own goes up to the end of a page, and an aligned one may have begun as much later as its alignment."""
+    its own goes up to the last word of a page, and an aligned one may have begun as much later as its alignment."""
     exact = max(LEAST_USABLE, (asked + CHUNK_HEAD + 15) // 16 * 16 - CHUNK_HEAD)
     if start % PAGE == 0:
         exact_pages = (asked + PAGE - 1) // PAGE * PAGE + CHUNK_HEAD
         if exact_pages <= usable <= exact_pages + 32:
             return True
     alignment = min(start & -start, MOST_ALIGNMENT)
-    return exact <= usable <= exact + 32 or (asked <= usable < asked + PAGE + max(PAGE, alignment + 1) and (start + usable) % PAGE == 0)
+    return exact <= usable <= exact + 32 or (asked <= usable < asked + PAGE + max(PAGE, alignment + 1) and (start + usable + LAST) % PAGE == 0)
 
 def over(freed, live):
     starts = sorted(live)

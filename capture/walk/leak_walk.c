@@ -1,7 +1,8 @@
-/* leak_walk [--partial] [--quiet] [--after LOG] CORE: walks the heap of glibc's malloc inside a core, and writes a log in
- * mtrace's format for leak_find: which blocks were in use, and which memory was free. It needs no symbols and no version, and
- * the process no preparation. With --after it writes LOG first, which it made of an earlier core of the same process, and then
- * what came and went since. */
+/* leak_walk [--partial] [--quiet] [--after LOG] CORE | --arenas CORE: walks the heap of glibc's malloc inside a core,
+ * and writes a log in mtrace's format for leak_find: which blocks were in use, and which memory was free. It needs no
+ * symbols and no version, and the process no preparation. With --after it writes LOG first, which it made of an earlier
+ * core of the same process, and then what came and went since. With --arenas it writes malloc's own words alone, for
+ * the log of a table. */
 #include <stdio.h>
 #include <stdlib.h>
 
@@ -9,11 +10,13 @@
 
 enum { COMPLETE = 0, PARTIAL = 1 };
 
-const char program[] = "leak_walk", usage[] = "usage: leak_walk [--partial] [--quiet] [--after LOG] CORE\n", help[] =
+const char program[] = "leak_walk",
+    usage[] = "usage: leak_walk [--partial] [--quiet] [--after LOG] CORE | leak_walk --arenas CORE\n", help[] =
     "Writes to standard output a log of the blocks that were in use in the heap of glibc's malloc, for leak_find.\n\n"
     "  CORE         a core of the process: by leak_core, gcore or the kernel\n"
     "  --after LOG  writes LOG first, made of an earlier core of the same process, and then what came and went since\n"
     "  --partial    goes on if the heap is damaged, and says what is left out\n"
+    "  --arenas     writes of the heap only where malloc's own lists begin, as freed memory\n"
     "  --quiet      does not say how many blocks, arenas and free chunks there are\n\n"
     "status: 0; 1 if --partial left something out; 2 if there is no log, with a line on standard error\n";
 
@@ -101,11 +104,18 @@ static void tell(const struct heap *heap)
         warn("the log is not complete: %llu bytes of the heap are left out", (unsigned long long)heap->left_out);
 }
 
+static int is_of_arenas(int count, char **words)
+{
+    return count == 3 && !strcmp(words[1], "--arenas");
+}
+
 /* Reads the options, and gives the core's path, or NULL. */
 static const char *read_arguments(int count, char **words, int *is_quiet, const char **earlier)
 {
     int i = 1;
 
+    if (is_of_arenas(count, words))
+        return words[2];
     for (; i < count && words[i][0] == '-'; i++)
         if (!strcmp(words[i], "--partial"))
             may_be_partial = 1;
@@ -128,6 +138,12 @@ int main(int count, char **words)
         refuse_words(count, words);
     struct core core = read_core(path);
     struct heap heap = { .core = &core };
+    if (is_of_arenas(count, words)) {
+        find_arenas(&heap);
+        write_arenas(&heap);
+        put_end();
+        return COMPLETE;
+    }
     walk(&heap);
     if (earlier) {
         old = read_old_log(earlier);

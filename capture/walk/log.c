@@ -77,6 +77,14 @@ static void put_unused(struct visitor *visitor, uint64_t from, uint64_t to)
     }
 }
 
+/* Writes the arenas' own words as free, and nothing of their chunks. */
+void write_arenas(struct heap *heap)
+{
+    struct writer w = { .visitor = { put_block, put_unused }, .heap = heap };
+
+    visit_arenas(heap, &w.visitor);
+}
+
 /* Writes what is in use and what is free; of blocks that the old log has too, nothing. */
 struct totals write_log(struct heap *heap, const struct old_log *old)
 {

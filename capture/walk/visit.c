@@ -1,4 +1,8 @@
-/* All memory of malloc, by ascending address, except main arenas' own words, which lie in the C library. */
+/* All memory of malloc, by ascending address, except main arenas' own words, which lie in the C library.
+ *
+ * A block with a mapping of its own has less than its usable size: malloc never gives its last word, nor can a program
+ * ask for it (malloc/malloc.c, sysmalloc_mmap: the next page's start after chunk and SIZE_SZ). So the address at which
+ * the next mapping begins, which others hold, is not one past the block's end. */
 #include "walk.h"
 
 enum { TO_BLOCK = 16, LAST_WORD = 8, FENCE = 16 };
@@ -41,6 +45,12 @@ static void visit_main_arenas(const struct heap *heap, struct visitor *v)
             v->unused(v, heap->arenas[i].start, end_of(heap->arenas + i));
 }
 
+void visit_arenas(const struct heap *heap, struct visitor *visitor)
+{
+    for (const struct arena *a = heap->arenas; a < heap->arenas + heap->arena_count; a++)
+        visitor->unused(visitor, a->start, end_of(a));
+}
+
 void visit(struct heap *heap, struct visitor *visitor)
 {
     const struct mapping *m = heap->mappings;
@@ -51,7 +61,7 @@ void visit(struct heap *heap, struct visitor *visitor)
         if (k == heap->mapping_count || (i < heap->region_count && heap->regions[i].start < m[k].start)) {
             visit_region(heap, heap->regions + i++, visitor);
         } else {
-            visitor->block(visitor, m[k].block, m[k].end - m[k].block);
+            visitor->block(visitor, m[k].block, m[k].end - m[k].block - LAST_WORD);
             k++;
         }
 }

@@ -227,6 +227,7 @@ void find_mapped(struct heap *heap);
 
 /* visit.c */
 void visit(struct heap *heap, struct visitor *visitor);
+void visit_arenas(const struct heap *heap, struct visitor *visitor);
 
 /* log.c, after.c */
 struct old_block {
@@ -248,5 +249,6 @@ struct totals {
 struct old_log read_old_log(const char *path);
 void write_old_log(struct heap *heap, struct old_log *old);
 struct totals write_log(struct heap *heap, const struct old_log *old);
+void write_arenas(struct heap *heap);
 
 #endif
