@@ -47,5 +47,6 @@ part report "$dumps"
 if [ ! "$quick" ]; then
     part mtrace "$attaches"
     part servers "$attaches"
+    part planted "$attaches"
 fi
 complete=1
