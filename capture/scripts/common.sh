@@ -45,3 +45,51 @@ fitting() {
         echo '--skip-freed --skip-links'
     fi
 }
+
+# check_folder FILE: root makes no file in a folder where others may put another one in its place.
+check_folder() {
+    [ "$(id -u)" = 0 ] || return 0
+    about=$(stat -L -c '%A %u %g' -- "$(dirname -- "$1")" 2> /dev/null)
+    case $about in
+    ?????????[tT]* | *' '*' 0') is_open='' ;;
+    ?????w*) [ "${about##* }" = "$(printf '%s\n' "$about" | cut -d ' ' -f 2)" ] && is_open='' || is_open=1 ;; # a group of one's own
+    *) is_open='' ;;
+    esac
+    case $about in ????????w[!tT]*) is_open=1 ;; esac
+    [ ! "$is_open" ] || fail "others may write in $(dirname -- "$1"), which has no sticky bit: as root take another folder"
+}
+
+# run COMMAND..: runs it, so that a signal which ends this script ends the command first, and isn't heeded only after it.
+run() {
+    "$@" <&0 &
+    child=$!
+    wait "$child"
+    ran=$?
+    child=''
+    return $ran
+}
+
+# into FILE COMMAND..: runs it with its output in the file, which is there once it is whole, and for its owner alone. A status of 0, 1
+# or 3 is an answer. No link that stands in the file's place is followed.
+into() {
+    file=$1
+    shift
+    part=$(mktemp -- "$file.XXXXXX") || exit 2
+    run "$@" > "$part"
+    case $ran in
+    0 | 1 | 3) mv -fT -- "$part" "$file" || exit 2 ;;
+    *) rm -f -- "$part" ;;
+    esac
+    part=''
+    return $ran
+}
+
+# end_well: what a signal is to do. It ends the command that runs, and sets `ended`; the EXIT trap then removes what is half done.
+end_well() {
+    trap '' INT TERM HUP QUIT PIPE
+    ended=1
+    [ ! "$child" ] || { kill -TERM "$child"; wait "$child"; } 2> /dev/null
+    exit 2
+}
+child='' part='' ended=''
+umask 077

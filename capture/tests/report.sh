@@ -8,9 +8,10 @@ export LEAK_FIND=$finder
 reported() {
     local name=$1
     shift
-    limited 120 "$kit/leak_report" "$@" > "$name.out" 2> "$name.said"
+    TMPDIR=$work/temporary limited 120 "$kit/leak_report" "$@" > "$name.out" 2> "$name.said"
     status=$?
 }
+mkdir -p temporary
 
 # listed NAME: the sizes of the blocks that the table of NAME.out is about, each with how many there are.
 listed() { awk '$1 == "bytes" && $2 == "blocks" { in_table = 1; next } in_table && /^ *[0-9]/ { print $1 / $2 }' "$1.out" | sort -n | tr '\n' ' '; }
@@ -28,7 +29,7 @@ if [ "$attaches" ]; then
     settle $process
     reported pair --after first --list $process
     verdict 'of two moments: what was lost at both' "$(expected "$kit/tests/walk_leaks.c")" "$(named pair.out | in_steps)"
-    verdict 'no file is left behind' '' "$(ls -d "${TMPDIR:-/tmp}"/leak_report.* 2> /dev/null)"
+    verdict 'no file is left behind' '' "$(ls "$work/temporary")"
     reported again --keep first $process
     verdict 'a folder with a dump' '2 leak_report: first has a dump already' "$status $(cat again.said)"
     reported later --after none $process

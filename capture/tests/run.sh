@@ -44,6 +44,7 @@ part allocators "$attaches"
 part moments "$attaches"
 part untraced
 part report "$dumps"
+part remains "$attaches"
 if [ ! "$quick" ]; then
     part mtrace "$attaches"
     part servers "$attaches"

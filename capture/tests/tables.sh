@@ -31,9 +31,10 @@ verdict 'the program of one' "./plain, $work/table.$process" \
 verdict 'nothing else is said, where SIGPIPE is ignored, as in a service' '' \
     "$(trap '' PIPE; "$kit/leak_trace" --list 2>&1 > /dev/null)"
 other=1 as=
+mkdir -p public && cp -r "$kit/leak_dump" "$kit/scripts" public && chmod 755 . public
 [ "$(id -u)" = 0 ] && other=$process as='setpriv --reuid=65534 --regid=65534 --clear-groups'
 verdict 'the process of another user' "leak_dump: process $other is of user 0: run this as that user or as root" \
-    "$($as sh -s -- "$other" other < "$kit/leak_dump" 2>&1)"
+    "$($as public/leak_dump "$other" other 2>&1)"
 "$kit/leak_trace" --remove > /dev/null
 verdict 'the dead one is removed' "$process live" "$("$kit/leak_trace" --list | awk 'NR > 1 { print $1, $2 }')"
 if [ -e crash.core ]; then
