@@ -55,6 +55,12 @@ struct signal_stacks {
     int is_asked;               /* by leak_core */
 };
 
+/* Where the program's headers are in its memory, and where its interpreter is mapped: 0 if it has none. */
+struct start {
+    uint64_t headers, interpreter;
+    int is_known;
+};
+
 /* say.c; each program defines its name and its help */
 extern const char program[], usage[], help[];
 void say(const char *form, va_list values);
@@ -78,7 +84,8 @@ int is_note(const struct note *note, uint32_t type, const char *name);
 /* parts.c */
 int by_start(const void *a, const void *b);
 void add_parts(struct parts *parts, const struct note *note);
-const struct part *part_of(struct parts *parts, uint64_t address);
+struct part *part_at(const struct parts *parts, uint64_t address);
+const struct part *part_of(const struct parts *parts, uint64_t address);
 const char *name_of(const struct part *part);
 const struct part *other_allocator(const struct parts *parts);
 int takes_path(struct parts *parts, const struct part *part, uint64_t size);
@@ -87,6 +94,17 @@ int takes_path(struct parts *parts, const struct part *part, uint64_t size);
 void read_signal_stacks(struct signal_stacks *stacks, const struct note *note);
 uint64_t unknown_stacks(const struct signal_stacks *stacks);
 void put_stacks_remark(const struct signal_stacks *stacks, uint64_t unknown);
+
+/* start.c */
+void read_start(struct start *start, const struct note *note);
+int is_static(const struct start *start, const struct parts *parts);
+void put_allocator(const char *name, const struct start *start, const struct parts *parts);
+
+/* exports.c */
+int may_export(const char *path, const char *name);
+
+/* undumped.c */
+void tell_undumped_files(struct file core, const struct parts *parts, int is_by_leak_core, int (*is_own)(uint64_t address));
 
 /* output.c */
 void put_bytes(const uint8_t *bytes, uint64_t size);

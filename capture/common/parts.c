@@ -88,8 +88,8 @@ static void learn(const struct parts *parts, struct part *part)
     close(file);
 }
 
-/* The part that has the address, or NULL. */
-const struct part *part_of(struct parts *parts, uint64_t address)
+/* The part that has the address, or NULL: its bias may not be known yet. */
+struct part *part_at(const struct parts *parts, uint64_t address)
 {
     size_t low = 0, high = parts->count;
 
@@ -102,11 +102,16 @@ const struct part *part_of(struct parts *parts, uint64_t address)
         else
             high = middle;
     }
-    if (low == parts->count || parts->list[low].start > address)
-        return NULL;
-    if (!parts->list[low].is_known)
-        learn(parts, parts->list + low);
-    return parts->list + low;
+    return low == parts->count || parts->list[low].start > address ? NULL : parts->list + low;
+}
+
+const struct part *part_of(const struct parts *parts, uint64_t address)
+{
+    struct part *part = part_at(parts, address);
+
+    if (part && !part->is_known)
+        learn(parts, part);
+    return part;
 }
 
 /* The file's name without its folders. */

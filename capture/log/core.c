@@ -30,6 +30,8 @@ static void read_notes(struct core *core, const uint8_t *at, const uint8_t *end)
     while (next_note(&at, end, &note)) {
         if (is_note(&note, NT_FILE, "CORE"))
             add_parts(&core->parts, &note);
+        if (is_note(&note, NT_AUXV, "CORE"))
+            read_start(&core->start, &note);
         core->is_whole |= is_note(&note, MEMORY_NOTE, "LEAK_CORE");
         read_signal_stacks(&core->stacks, &note);
         read_ids(&core->ids, &note);
@@ -52,31 +54,35 @@ struct core read_core(const char *path)
     return core;
 }
 
-static int is_own(const struct table_head *head, uint64_t address)
+static const struct table_head *own_head;
+
+static int is_own(uint64_t address)
 {
-    for (size_t i = 0; i < head->own_count && i < MOST_OWN; i++)
-        if (address - head->own[i].start < head->own[i].bytes)
+    for (size_t i = 0; i < own_head->own_count && i < MOST_OWN; i++)
+        if (address - own_head->own[i].start < own_head->own[i].bytes)
             return 1;
     return 0;
 }
 
 /* Says of how much writable memory the core has no contents, and how much of that is the library's own, in
- * which no block of the program is led to. A kernel's core lists such memory, leak_core's does not. */
+ * which no block of the program is led to. A kernel's core lists such memory, leak_core's does not. Says then whose the rest is. */
 void tell_undumped(const struct core *core, const struct table_head *head)
 {
     uint64_t all = 0, own = 0;
 
+    own_head = head;
     for (uint64_t i = 0; i < core->headers.count; i++) {
         Elf64_Phdr p = header_at(core->file, core->headers, i);
         if (p.p_type != PT_LOAD || !(p.p_flags & PF_W))
             continue;
         all += p.p_memsz - p.p_filesz;
-        if (!p.p_filesz && is_own(head, p.p_vaddr))
+        if (!p.p_filesz && is_own(p.p_vaddr))
             own += p.p_memsz;
     }
     if (own)
         warn("undumped: of %llu bytes %llu are leak_trace's own, where no pointer is missed; %llu are the program's",
              (unsigned long long)all, (unsigned long long)own, (unsigned long long)(all - own));
+    tell_undumped_files(core->file, &core->parts, core->is_whole, is_own);
 }
 
 /* The bytes from `start` to `end` of which the core has no contents, if no two segments overlap. */

@@ -68,18 +68,26 @@ static int stand_side_by_side(const struct blocks *blocks)
     return count > blocks->count / 100;
 }
 
-/* Says by a remark of the log, and to the user, that the heap is not glibc's: by the name of a library, or else by its blocks. */
+/* jemalloc keeps addresses of blocks that are in use, which no option leaves out. Seen with 5.3: of 1,000 lost blocks of 24 bytes, of 1 KiB
+ * and of 14 KiB + 1, 896, 742 and none were found. */
+static void warn_of_records(const char *name)
+{
+    if (begins(name, name + strlen(name), "libjemalloc"))
+        warn("%s keeps addresses of blocks, so leaks may be hidden: in each thread up to 200 of the newest of each size (not if the program "
+             "starts with MALLOC_CONF=tcache:false), the first of each of its runs, as one in four of 1 KiB, and each of more than 14 KiB",
+             name);
+}
+
+/* Says by a remark of the log whose the heap is, by the name of a library, or else by its blocks; and to the user, if it is not
+ * glibc's. */
 static void tell_allocator(const struct core *core, const struct blocks *blocks)
 {
     const struct part *part = other_allocator(&core->parts);
     const char *name = part ? name_of(part) : stand_side_by_side(blocks) ? "unknown" : NULL;
 
-    if (!name)
-        return;
-    put_text("= leak_log allocator ");
-    put_text(name);
-    put_text("\n");
-    warn("the allocator is %s: search with --other-heap --skip-ends", name);
+    put_allocator(name ? name : "glibc", &core->start, &core->parts);
+    if (name)
+        warn("the allocator is %s: search with --other-heap --skip-ends", name), warn_of_records(name);
 }
 
 /* Writes the earlier log and the ends of its blocks, and gives the new blocks. */

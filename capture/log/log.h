@@ -9,6 +9,7 @@ struct core {
     struct file file;
     struct headers headers;
     struct parts parts;
+    struct start start;
     int is_whole;               /* by leak_core, which has what the program keeps out of cores */
     struct signal_stacks stacks;
     struct ids {

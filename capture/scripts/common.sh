@@ -1,16 +1,22 @@
 # What the scripts share: messages, the programs beside them, words that are handed on, and the options of a search.
 program=$(basename "$0")
 
-# shown TEXT: the text with each control character and each backslash escaped, since the names of files are anybody's.
+# shown TEXT: the text with each control character (of C1 in UTF-8 too) and each backslash escaped, since the names of files are anybody's.
 shown() {
     case $1 in
-    *[[:cntrl:]\\]*) printf '%s' "$1" | od -A n -v -t u1 | LC_ALL=C awk '{
-        for (i = 1; i <= NF; i++)
-            printf($i == 92 ? "\\\\" : $i < 32 || $i == 127 ? "\\x%02x" : "%c", $i)
+    *[[:cntrl:]\\]* | *"$first_of_c1"*) printf '%s' "$1" | od -A n -v -t u1 | LC_ALL=C awk '
+        { for (i = 1; i <= NF; i++) byte[++count] = $i }
+        END {
+            named[92] = "\\\\"; named[9] = "\\t"; named[10] = "\\n"; named[13] = "\\r"
+            for (i = 1; i <= count; i++)
+                if (byte[i] in named) printf "%s", named[byte[i]]
+                else if (byte[i] == 194 && byte[i + 1] >= 128 && byte[i + 1] < 160) printf "\\x%02x", byte[++i]
+                else printf(byte[i] < 32 || byte[i] == 127 ? "\\x%02x" : "%c", byte[i])
         }' ;;
     *) printf '%s' "$1" ;;
     esac
 }
+first_of_c1=$(printf '\302')
 say() { printf '%s\n' "$program: $(shown "$*")" >&2; }
 fail() {
     say "$@"
@@ -36,13 +42,17 @@ quoted() {
 # remarks KIND LOG: what the log says of this kind, a line each.
 remarks() { LC_ALL=C sed -n "s/^= leak_log $1 //p" "$2"; }
 
+# other_allocator LOG: the allocator that the log names, if it is not glibc's alone.
+other_allocator() { remarks allocator "$1" | grep -v '^glibc' | tail -n 1; }
+
 # fitting LOG [OTHER]: the options that fit the heap of a log, which is not glibc's if OTHER says so. glibc's own links and what was
 # freed are known where no other allocator is named; others lay blocks side by side, so that the start of one is the end of another.
+# Memory that can't be written holds blocks too: a static program of glibc has pointers there.
 fitting() {
-    if [ "${2-}" ] || [ "$(remarks allocator "$1" | head -n 1)" ]; then
-        echo '--other-heap --skip-ends'
+    if [ "${2-}" ] || [ "$(other_allocator "$1")" ]; then
+        echo '--other-heap --skip-ends --all-memory'
     else
-        echo '--skip-freed --skip-links'
+        echo '--skip-freed --skip-links --all-memory'
     fi
 }
 
@@ -92,4 +102,3 @@ end_well() {
     exit 2
 }
 child='' part='' ended=''
-umask 077

@@ -17,7 +17,7 @@ find    --skip-links     leaves out the links of glibc's malloc to free memory [
 find    --skip-slack     leaves out pointers in what malloc gave a block past its size
 find    --skip-ends      leaves out pointers one past the end of a block [taken if the heap is not glibc's]
 find    --displace LIST  byte offsets at which a pointer keeps a block, besides 0, as 8,16 [any]
-find    --all-memory     takes pointers in memory that can't be written too
+find    --all-memory     takes pointers in memory that can't be written too [always taken]
 find    --other-heap     the allocator is not glibc's [taken if the log says so]
 find    --check          lists the live blocks that have no chunk of their size in use
 find    --strict         status 3 if there is a warning

@@ -21,15 +21,16 @@ judge_heap() {
     verdict "$1: found with them" "$4 or more, others 0" "$(found $3 | awk -v least="$4" '{ print ($1 >= least ? least " or more" : $1) ", others " $2 }')"
     verdict "$1: none but lost ones are found without" 0 "$(found --other-heap | cut -d ' ' -f 2)"
 }
-judge_heap glibc '' '--skip-freed --skip-links' 590
-judge_heap 'one that nobody knows' "$work/side_by_side.so" '--other-heap --skip-ends' 590
+judge_heap glibc '' '--skip-freed --skip-links --all-memory' 590
+judge_heap 'one that nobody knows' "$work/side_by_side.so" '--other-heap --skip-ends --all-memory' 590
 verdict 'the log says so' '= leak_log allocator unknown' "$(grep '^= leak_log allocator' heap.log)"
 for name in jemalloc tcmalloc_minimal mimalloc; do
     library=$(ls /usr/lib/*/lib$name.so.[0-9]* 2> /dev/null | head -n 1)
     [ "$library" ] || { leave_out "$name, which is not installed"; continue; }
     least=590
     [ $name != jemalloc ] || least=500      # it keeps the first block of each run of places by an address
-    judge_heap $name "$library" '--other-heap --skip-ends' $least
+    judge_heap $name "$library" '--other-heap --skip-ends --all-memory' $least
+    verdict "$name: that its records hide leaks is said" "$([ $name = jemalloc ] && echo 1 || echo 0)" "$(grep -c "^leak_log: lib$name.* keeps addresses of blocks" said)"
     verdict "$name: the log says so" 1 "$(grep -c "^= leak_log allocator lib$name" heap.log)"
 done
 rm -f heap.core heap.log

@@ -190,14 +190,14 @@ build plain.c && gcc -shared -fPIC "$kit/tests/module.c" -o libjemalloc.so.2
 start ./plain
 dump "$process" "$work/table"
 verdict 'a table' "leak_dump: the blocks of $work/table.log are by leak_trace's table
-leak_dump: now search: leak_find one --skip-freed --skip-links $work/table.core $work/table.log" "$(grep '^leak_dump' dump.said)"
+leak_dump: now search: leak_find one --skip-freed --skip-links --all-memory $work/table.core $work/table.log" "$(grep '^leak_dump' dump.said)"
 verdict 'sizes' "core $(stat -c %s table.core)" "$("$kit/leak_dump" --size "$process" | head -n 1)"
 verdict 'the table is not in the core, nor is the finder' yes "$(takes_no_more table.core "$process")"
 stop "$process"
 LD_PRELOAD=$work/libjemalloc.so.2 start ./plain
 dump "$process" "$work/other" 2> said
-verdict 'another allocator' "leak_dump: the process has libjemalloc.so.2 mapped: its heap is not glibc's
-leak_dump: now search: leak_find one --other-heap --skip-ends $work/other.core $work/other.log" "$(grep '^leak_dump' dump.said | tail -n 2)"
+verdict 'another allocator' "leak_dump: the blocks are of libjemalloc.so.2: its heap is not glibc's
+leak_dump: now search: leak_find one --other-heap --skip-ends --all-memory $work/other.core $work/other.log" "$(grep '^leak_dump' dump.said | tail -n 2)"
 stop "$process"
 if [ -x "$kit/leak_walk" ]; then
     (exec ./plain) & process=$!

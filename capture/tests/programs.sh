@@ -29,7 +29,7 @@ measure() {
     limited 120 "$kit/leak_dump" "$2" "$work/program" 2> said || { echo "$1: $(tail -n 1 said)"; return; }
     row="$1 | $(awk '$1 == "@" { n++ } END { print n + 0 }' program.log) | $(wc -l < "$lost")"
     heap=''
-    grep -q '^= leak_log allocator' program.log && heap=--other-heap
+    grep '^= leak_log allocator' program.log | grep -qv 'glibc$' && heap=--other-heap
     for options in '' --skip-freed --skip-links '--skip-freed --skip-links' '--skip-freed --skip-links --skip-slack' --skip-ends '--skip-freed --skip-ends'; do
         row="$row | $(named_by $heap $options)"
     done

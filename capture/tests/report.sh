@@ -90,10 +90,10 @@ if [ "$attaches" ]; then
     LEAK_FIND=$PWD/asked_finder reported kind $all $process
     verdict 'every option of a search is handed on' "0 one $all" "$status $(sed 2,3d asked | tr '\n' ' ')"
     LEAK_FIND=$PWD/asked_finder reported kind --skip-ends --displace=8,16 --skip-links $process
-    verdict 'those that fit come behind, once' 'one --skip-ends --displace 8,16 --skip-links --skip-freed' \
+    verdict 'those that fit come behind, once' 'one --skip-ends --displace 8,16 --skip-links --skip-freed --all-memory' \
         "$(sed '/dump/d' asked | paste -s -d ' ')"
     LEAK_FIND=$PWD/asked_finder reported kind --other-heap $process
-    verdict 'those of another heap' 'one --other-heap --skip-ends' "$(sed '/dump/d' asked | paste -s -d ' ')"
+    verdict 'those of another heap' 'one --other-heap --skip-ends --all-memory' "$(sed '/dump/d' asked | paste -s -d ' ')"
     reported kind --workers none $process
     verdict 'a wrong value is refused before the process is stopped' "2 1 0" \
         "$status $(grep -c "^leak_report: leak_find: error: invalid value 'none'" kind.said) $(grep -c 'stood still' kind.said)"

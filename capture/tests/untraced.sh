@@ -19,7 +19,7 @@ runs 'forks untraced' env LEAK_TRACE_FORK=0 "$kit/leak_trace" ./hello
 runs 'depth 99' "$kit/leak_trace" -d 99 ./hello
 gcc -static "$kit/tests/hello.c" -o hello_static 2> hello.cc && untraced 'a static program' "$kit/leak_trace" ./hello_static
 if [ "$(id -u)" = 0 ]; then
-    chmod 755 . && cp "$kit/leak_trace" "$kit/leak_trace.so" . && cp hello hello_setuid && chmod u+s hello_setuid
+    chmod 755 . && cp -r "$kit/leak_trace" "$kit/leak_trace.so" "$kit/scripts" . && cp hello hello_setuid && chmod u+s hello_setuid
     untraced 'a setuid program' setpriv --reuid=65534 --regid=65534 --clear-groups ./leak_trace ./hello_setuid
 else
     leave_out 'a setuid program of another user: only root may run one'

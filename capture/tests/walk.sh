@@ -230,7 +230,9 @@ if [ "$dumps" ]; then
     unprepared ./walk_none
     core_of $process none
     stop $process
-    refused 'a program that never calls malloc' 'malloc was never called; start the program by leak_trace, if it is not static' none.core
+    limited 60 "$walk" none.core > none.log 2> none.said
+    verdict 'malloc was never called: a log without a block' '0 leak_walk: malloc was never called: there is no block 0' \
+        "$? $(tail -n 1 none.said) $(grep -c '^@' none.log)"
     head -c $(($(stat -c %s leaks.core) / 2)) leaks.core > cut.core
     refused 'a core that is cut off' 'the core is cut off' cut.core
     refused 'no log of leak_walk' 'not a log of leak_walk' --after "$kit/README.md" leaks.core

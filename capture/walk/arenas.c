@@ -184,7 +184,9 @@ void find_arenas(struct heap *heap)
     uint64_t layout;
 
     find_all_bins(heap);
-    if (!heap->arena_count)
+    if (!heap->arena_count && is_malloc_unused(heap))
+        return;
+    if (!heap->arena_count || heap->core->own_malloc)
         refuse_heap(heap->core, "arena of glibc's malloc");
     layout = find_layout(heap);
     heap->has_fast_bins = layout != layouts[LAYOUTS - 1];

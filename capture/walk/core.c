@@ -14,10 +14,12 @@ static void read_notes(struct core *core, const uint8_t *at, const uint8_t *end)
     while (next_note(&at, end, &note)) {
         if (is_note(&note, NT_FILE, "CORE"))
             add_parts(&core->parts, &note);
+        if (is_note(&note, NT_AUXV, "CORE"))
+            read_start(&core->start, &note);
         if (is_note(&note, NT_PRSTATUS, "CORE"))
             read_registers(core, &note);
         if (is_note(&note, NOTE_MEMORY, "LEAK_CORE"))
-            read_ranges(core, &note);
+            core->is_by_leak_core = 1, read_ranges(core, &note);
         read_signal_stacks(&core->stacks, &note);
     }
 }

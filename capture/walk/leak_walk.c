@@ -42,6 +42,9 @@ void refuse_heap(const struct core *core, const char *wanting)
 
     if (part)
         fail("%s: the allocator is %s, and only glibc's heap can be read: start the program by leak_trace", core->path, name_of(part));
+    if (core->own_malloc)
+        fail("%s: glibc's malloc was never called, and %s has or may have one of its own, which can't be read: build the program without it, "
+             "or if that is a library, start the program by leak_trace", core->path, core->own_malloc->path);
     fail("%s: no %s: another allocator (jemalloc, tcmalloc, musl's), or malloc was never called; start the program by leak_trace, if "
          "it is not static", core->path, wanting);
 }
@@ -71,6 +74,8 @@ static void walk(struct heap *heap)
 {
     set_steps(heap);
     find_arenas(heap);
+    if (heap->is_unused)
+        return;
     for (size_t i = 0; i < heap->arena_count; i++)
         if (!heap->arenas[i].first_heap)
             find_main_heap(heap, heap->arenas + i);
@@ -83,17 +88,24 @@ static void walk(struct heap *heap)
         refuse_heap(heap->core, "chunk in glibc's heap");
 }
 
-/* Names another allocator, of which the log has nothing. */
-static void tell_others(const struct core *core)
+/* Says by remarks of the log that its blocks are of glibc's heap, and names another allocator, of which it has nothing. */
+static void put_allocators(const struct core *core)
 {
     const struct part *part = other_allocator(&core->parts);
 
-    if (part)
-        warn("%s: its blocks are not in the log", part->path);
+    put_allocator("glibc", &core->start, &core->parts);
+    if (!part)
+        return;
+    put_text("= leak_log lacks ");
+    put_text(name_of(part));
+    put_text("\n");
+    warn("%s: its blocks are not in the log", part->path);
 }
 
 static void tell(const struct heap *heap)
 {
+    if (heap->is_unused)
+        warn("malloc was never called: there is no block");
     if (heap->odd_chunks.count)
         warn("%llu free chunks have no size behind them, the first at 0x%llx: stopped inside malloc, or damaged",
              (unsigned long long)heap->odd_chunks.count, (unsigned long long)heap->odd_chunks.first);
@@ -153,13 +165,14 @@ int main(int count, char **words)
     } else {
         put_text("= Start\n");
     }
+    put_allocators(&core);
     struct totals totals = write_log(&heap, &old);
     put_end();
     if (!is_quiet)
         warn("%llu blocks of %llu bytes in use; %zu arenas; %llu free chunks of %llu bytes", (unsigned long long)totals.blocks,
              (unsigned long long)totals.bytes, heap.arena_count, (unsigned long long)totals.free_count,
              (unsigned long long)totals.free_bytes);
-    tell_others(&core);
+    tell_undumped_files(core.file, &core.parts, core.is_by_leak_core, NULL);
     tell(&heap);
     return is_partial ? PARTIAL : COMPLETE;
 }

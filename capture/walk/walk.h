@@ -48,6 +48,9 @@ struct core {
     size_t segment_count;
     const struct segment *near; /* the one that was asked for last, or NULL */
     struct parts parts;
+    struct start start;
+    int is_by_leak_core;
+    const struct part *own_malloc;  /* of a file that has, or may have, a malloc in the place of glibc's */
     struct range *ranges;       /* whole mappings of memory without a file, by leak_core's note */
     size_t range_count;
     struct signal_stacks stacks;
@@ -102,6 +105,7 @@ struct heap {
     struct core *core;
     struct arena *arenas;       /* by ascending start */
     size_t arena_count;
+    int is_unused;              /* malloc was never called: the one arena has nothing */
     int has_fast_bins;
     struct region *regions;     /* by ascending start, once found */
     size_t region_count;
@@ -183,6 +187,9 @@ void find_arenas(struct heap *heap);
 const struct arena *arena_at(const struct heap *heap, uint64_t start);
 const struct arena *main_arena(const struct heap *heap);
 uint64_t end_of(const struct arena *arena);
+
+/* unused.c */
+int is_malloc_unused(struct heap *heap);
 
 /* chain.c */
 int next_chunk(struct core *core, struct chain *chain, struct chunk *chunk);
