@@ -6,6 +6,7 @@
 #include <stdarg.h>
 #include <stddef.h>
 #include <stdint.h>
+#include <stdio.h>
 #include <string.h>
 
 enum { PAGE = 4096, REFUSED = 2 };
@@ -64,6 +65,7 @@ struct start {
 /* say.c; each program defines its name and its help */
 extern const char program[], usage[], help[];
 void say(const char *form, va_list values);
+void print_escaped(FILE *to, const char *text);
 __attribute__((format(printf, 1, 2))) void warn(const char *form, ...);
 __attribute__((noreturn, format(printf, 1, 2))) void fail(const char *form, ...);
 __attribute__((noreturn)) void refuse_words(int count, char **words);

@@ -8,6 +8,14 @@
 
 enum { MOST_TEXT = 8192 };
 
+void print_escaped(FILE *to, const char *text)
+{
+    char line[LONGEST_ESCAPE * MOST_TEXT];
+
+    escape_text(line, sizeof line, text);
+    fputs(line, to);
+}
+
 /* One line, whatever the names in it are: a core says which files a process had. */
 void say(const char *form, va_list values)
 {

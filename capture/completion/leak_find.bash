@@ -11,7 +11,7 @@ _leak_options() {
     holders) echo "$search --in --of --block --since -h --help" ;;
     why) echo "$skips --other-heap --strict -h --help" ;;
     grow) echo '--strict -h --help' ;;
-    leak_trace) echo '-o -d -m -w -k -e --list --remove' ;;
+    leak_trace) echo '-o -d -m -w -k -e --list --all --remove' ;;
     leak_dump) echo '--after --core --size --whole-stack --no-calls --pipes' ;;
     leak_log) echo '--after' ;;
     leak_walk) echo '--partial --quiet --after --arenas' ;;

@@ -82,6 +82,7 @@ static inline void shut(int file)
 }
 
 int open_table(size_t depth);
+uint64_t own_namespace(void);
 void close_table(struct table *old);
 void remove_table(void);
 int64_t take_entry(void);

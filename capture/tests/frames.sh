@@ -1,7 +1,7 @@
 # The callers that library/frames.c finds, against those of libgcc's unwinder, which the same library built
 # with no_rules.c takes for each block: of real programs, run twice.
 section "deep callers against libgcc's unwinder"
-mkdir -p ours them && cp "$kit/leak_trace" ours && cp "$kit/leak_trace" them && cp "$kit/leak_trace.so" ours
+mkdir -p ours them && cp -r "$kit/leak_trace" "$kit/scripts" ours && cp -r "$kit/leak_trace" "$kit/scripts" them && cp "$kit/leak_trace.so" ours
 (cd "$kit" && gcc -std=gnu11 -O2 -fPIC -fvisibility=hidden -ftls-model=initial-exec -shared -static-libgcc \
     -Wl,-z,initfirst -o "$work/them/leak_trace.so" $(ls library/*.c | grep -v -e frames -e rows) tests/no_rules.c -lgcc_eh)
 

@@ -24,7 +24,7 @@ rm -f full.core full2.core
 
 # With few first cells in its directories the library soon needs the further ones, which otherwise are for heaps above 2 GiB.
 section a heap of many regions
-mkdir -p few && cp "$kit/leak_trace" few
+mkdir -p few && cp -r "$kit/leak_trace" "$kit/scripts" few
 gcc -std=gnu11 -O2 -g -DFEW_CELLS -fPIC -fvisibility=hidden -ftls-model=initial-exec -shared -static-libgcc -Wl,-z,initfirst \
     -o few/leak_trace.so "$kit"/library/*.c -lgcc_eh
 build exchange.c

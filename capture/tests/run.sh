@@ -45,6 +45,7 @@ part moments "$attaches"
 part untraced
 part report "$dumps"
 part remains "$attaches"
+part lists
 part answers
 if [ ! "$quick" ]; then
     part mtrace "$attaches"

@@ -1,0 +1,40 @@
+/* The head of a table. Its folder is anybody's: a name there may be a FIFO, a device or a link. */
+#define _GNU_SOURCE
+#include <fcntl.h>
+#include <stdlib.h>
+#include <string.h>
+#include <unistd.h>
+
+#include "tables.h"
+
+/* Opens the file only once it is known to be a regular one; no link is followed. -1 if it isn't. */
+int open_regular(const char *path, struct stat *about)
+{
+    char by_descriptor[64];
+    int place = open(path, O_PATH | O_NOFOLLOW | O_CLOEXEC), file = -1;
+
+    if (place < 0)
+        return -1;
+    snprintf(by_descriptor, sizeof by_descriptor, "/proc/self/fd/%d", place);
+    if (!fstat(place, about) && S_ISREG(about->st_mode))
+        file = open(by_descriptor, O_RDONLY | O_NONBLOCK | O_CLOEXEC);
+    close(place);
+    return file;
+}
+
+/* The head, whose texts end, or NULL if the file is no table. */
+struct table_head *read_head(int file)
+{
+    struct table_head *head = malloc(sizeof *head);
+
+    if (!head)
+        fail("out of memory");
+    if (pread(file, head, sizeof *head, 0) != sizeof *head || memcmp(head->magic, TABLE_MAGIC, sizeof head->magic)) {
+        free(head);
+        return NULL;
+    }
+    head->program[PROGRAM_BYTES - 1] = head->next_program[PROGRAM_BYTES - 1] = 0;
+    for (size_t i = 0; i < MOST_UNTRACED; i++)
+        head->untraced[i].program[sizeof head->untraced[i].program - 1] = 0;
+    return head;
+}
