@@ -147,6 +147,14 @@ if [ "$dumps" ]; then
     "$kit/leak_lines" types.report > types.lines
     verdict 'their classes' 'shapes::many<long> shapes::square' "$(classes types.lines)"
 
+    build walk_guarded.c
+    unprepared ./walk_guarded guarded
+    core_of $process guarded
+    stop $process
+    "$walk" --quiet guarded.core > guarded.log
+    verdict 'blocks of which a page has other rights' "$(sort guarded)" "$(sed -n 's/^@ .* + \(0x[0-9a-f]* 0x10[0-9a-f]*\)$/\1/p' guarded.log | sort)"
+    rm -f guarded.core
+
     gcc -O1 -g -pthread -static "$kit/tests/walk_leaks.c" -o static_leaks 2> static.cc && unprepared ./static_leaks && core_of $process static
     stop $process
     "$walk" --quiet static.core > static.log

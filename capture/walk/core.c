@@ -4,8 +4,8 @@
 
 #include "walk.h"
 
-/* The note that leak_core adds (dump/status.c). */
-enum { NOTE_MEMORY = 0x4d454d };
+/* The notes that leak_core adds (dump/status.c). */
+enum { NOTE_MEMORY = 0x4d454d, NOTE_SEALED = 0x4d454e };
 
 static void read_notes(struct core *core, const uint8_t *at, const uint8_t *end)
 {
@@ -19,7 +19,9 @@ static void read_notes(struct core *core, const uint8_t *at, const uint8_t *end)
         if (is_note(&note, NT_PRSTATUS, "CORE"))
             read_registers(core, &note);
         if (is_note(&note, NOTE_MEMORY, "LEAK_CORE"))
-            core->is_by_leak_core = 1, read_ranges(core, &note);
+            core->is_by_leak_core = 1, read_ranges(core, &note, 1);
+        if (is_note(&note, NOTE_SEALED, "LEAK_CORE"))
+            read_ranges(core, &note, 0);
         read_signal_stacks(&core->stacks, &note);
     }
 }
@@ -61,6 +63,15 @@ static void find_run_ends(struct core *core)
     }
 }
 
+/* Sets of each segment where memory without a gap ends, that can be written or not, but is no file's. */
+static void find_reaches(struct core *core)
+{
+    for (size_t i = core->segment_count; i--;) {
+        struct segment *s = core->segments + i, *after = i + 1 < core->segment_count ? s + 1 : NULL;
+        s->reach_end = after && after->start == s->end && !part_at(&core->parts, after->start) ? after->reach_end : s->end;
+    }
+}
+
 struct core read_core(const char *path)
 {
     struct core core = { .path = path, .file = map_file(path) };
@@ -84,6 +95,7 @@ struct core read_core(const char *path)
     find_run_ends(&core);
     if (core.parts.count)
         qsort(core.parts.list, core.parts.count, sizeof *core.parts.list, by_start);
+    find_reaches(&core);
     return core;
 }
 

@@ -7,11 +7,11 @@
 
 enum { WORD = 8 };
 
-/* The note: start and end of each writable mapping of private memory without a file. */
-void read_ranges(struct core *core, const struct note *note)
+/* A note: start and end of each mapping of private memory without a file that can be written, or that can't. */
+void read_ranges(struct core *core, const struct note *note, int is_writable)
 {
     for (uint64_t at = 0; note->size - at >= 2 * WORD; at += 2 * WORD) {
-        struct range range;
+        struct range range = { .is_writable = is_writable };
         memcpy(&range.start, note->bytes + at, WORD);
         memcpy(&range.end, note->bytes + at + WORD, WORD);
         core->ranges = grown(core->ranges, core->range_count, sizeof *core->ranges);
@@ -19,10 +19,10 @@ void read_ranges(struct core *core, const struct note *note)
     }
 }
 
-static void add_gap(struct core *core, uint64_t start, uint64_t end)
+static void add_gap(struct core *core, uint64_t start, uint64_t end, int is_writable)
 {
     core->segments = grown(core->segments, core->segment_count, sizeof *core->segments);
-    core->segments[core->segment_count++] = (struct segment){ .start = start, .end = end, .is_writable = 1 };
+    core->segments[core->segment_count++] = (struct segment){ .start = start, .end = end, .is_writable = is_writable };
 }
 
 /* Adds a segment without bytes for each gap of the range between the first `count` segments, from `next` on; gives the first
@@ -33,14 +33,14 @@ static size_t fill_range(struct core *core, struct range range, size_t count, si
 
     for (; next < count && core->segments[next].start < range.end; next++) {
         if (at < core->segments[next].start)
-            add_gap(core, at, core->segments[next].start);
+            add_gap(core, at, core->segments[next].start, range.is_writable);
         if (at < core->segments[next].end)
             at = core->segments[next].end;
         if (at >= range.end)
             return next;
     }
     if (at < range.end)
-        add_gap(core, at, range.end);
+        add_gap(core, at, range.end, range.is_writable);
     return next;
 }
 

@@ -1,5 +1,6 @@
 /* Blocks with a mapping of their own (glibc, malloc/malloc.c, sysmalloc_mmap): a chunk at a page's start whose size word says so,
- * up to the end of a page. The chunk of an aligned block is further on, and its first word says how far. */
+ * up to the end of a page. The chunk of an aligned block is further on, and its first word says how far. The program may have made some of
+ * its pages read-only, or a guard. */
 #include "walk.h"
 
 enum { IS_MMAPPED = 2, FLAGS = 7, CHUNK_HEAD = 8, TO_BLOCK = 16, LEAST_ALIGNMENT = 64 };
@@ -85,8 +86,8 @@ static void find_in(struct heap *heap, const struct segment *s, size_t *region)
         const struct region *r = heap->region_count ? heap->regions + *region : NULL;
         if (*region < heap->region_count && r->limit <= at) {
             ++*region;
-        } else if (*region == heap->region_count || r->start >= s->run_end) {
-            at = find_between(heap, at, s->start + s->size, s->run_end);
+        } else if (*region == heap->region_count || r->start >= s->reach_end) {
+            at = find_between(heap, at, s->start + s->size, s->reach_end);
         } else if (r->start > at) {
             uint64_t to = r->start < s->start + s->size ? r->start : s->start + s->size;
             at = find_between(heap, at, to, r->start);

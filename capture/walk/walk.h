@@ -11,6 +11,7 @@
 /* A segment of the core (gABI, Program Header, PT_LOAD): the bytes from start on are dumped, the rest up to the end is not. */
 struct segment {
     uint64_t start, size, end;
+    uint64_t reach_end;         /* of the memory without a gap that it is a part of, whether that can be written or not */
     uint64_t run_start, run_end; /* of the writable memory without a gap that it is a part of; equal if it isn't writable */
     const uint8_t *bytes;
     int is_writable, is_code;
@@ -18,6 +19,7 @@ struct segment {
 
 struct range {
     uint64_t start, end;
+    int is_writable;
 };
 
 /* The registers of a stopped thread that may hold what it is about to write (Linux, struct user_regs_struct). */
@@ -51,7 +53,7 @@ struct core {
     struct start start;
     int is_by_leak_core;
     const struct part *own_malloc;  /* of a file that has, or may have, a malloc in the place of glibc's */
-    struct range *ranges;       /* whole mappings of memory without a file, by leak_core's note */
+    struct range *ranges;       /* whole mappings of memory without a file, by leak_core's notes */
     size_t range_count;
     struct signal_stacks stacks;
     struct thread *threads;
@@ -179,7 +181,7 @@ int is_word(struct core *core, uint64_t address, uint64_t wanted);
 uint64_t after_hole(struct core *core, uint64_t address);
 
 /* gaps.c */
-void read_ranges(struct core *core, const struct note *note);
+void read_ranges(struct core *core, const struct note *note, int is_writable);
 void fill_gaps(struct core *core);
 
 /* arenas.c */
