@@ -1,0 +1,1 @@
+#include "../base/test.h"
