@@ -15,15 +15,16 @@ _leak_options() {
     leak_dump) echo '--after --core --size --whole-stack --no-calls --pipes' ;;
     leak_log) echo '--after' ;;
     leak_walk) echo '--partial --quiet --after --arenas' ;;
-    leak_report) echo "--keep --after --list --whole-stack --no-calls --pipes -n --structures $skips --other-heap --check --strict --workers --piece --stack" ;;
-    leak_lines) echo '-n --suppress --exit-code --folded --json --html --since --no-lines --what --structures --core' ;;
+    leak_what) echo '--place' ;;
+    leak_report) echo "--keep --after --list --whole-stack --no-calls --pipes -n --structures --why $skips --other-heap --check --strict --workers --piece --stack" ;;
+    leak_lines) echo '-n --suppress --exit-code --folded --json --html --since --no-lines --what --structures --why --core' ;;
     esac
 }
 
 # What the value of an option is, or nothing where it has none.
 _leak_value() {
     case "$1 $2" in
-    *' --workers' | *' --piece' | *' --stack' | *' --displace' | leak_*' -n' | 'leak_trace -d' | 'leak_trace -m') echo number ;;
+    *' --workers' | *' --piece' | *' --stack' | *' --displace' | leak_*' -n' | leak_*' --why' | 'leak_trace -d' | 'leak_trace -m') echo number ;;
     *' --in' | *' --of') echo address ;;
     'leak_report --keep' | 'leak_report --after') echo folder ;;
     'leak_dump --size') echo process ;;

@@ -2,8 +2,8 @@
 import signal
 import sys
 
-from lines import callers, document, folded, html, judging, kernel_words, options, progress, report, since, structures, suppressions
-from lines import tables, what
+from lines import callers, chains, document, folded, html, judging, kernel_words, options, progress, report, since, structures
+from lines import suppressions, tables, what
 from lines.options import Refused
 
 
@@ -92,7 +92,9 @@ def lines_in(asked, read, found):
         return document.lines_of(read, found)
     if asked.form == "html":
         return html.lines_of(read, found)
-    return tables.lines_of(read, found, asked.most) + ([tables.suppressed_line(found)] if asked.suppress else [])
+    rows = [caller.row for caller in found.shown.get(kind, [])[:asked.most]]
+    lines = tables.lines_of(read, found, asked.most) + ([tables.suppressed_line(found)] if asked.suppress else [])
+    return lines + chains.below_tables(asked, rows, found.what)
 
 
 def run(asked):

@@ -2,8 +2,8 @@
 import re
 from typing import NamedTuple
 
-USAGE = """usage: leak_lines [-n N] [--suppress FILE].. [--exit-code] [--folded | --json | --html FILE] [--what FILE [--structures]]
-                  [--core CORE] [REPORT]
+USAGE = """usage: leak_lines [-n N] [--suppress FILE].. [--exit-code] [--folded | --json | --html FILE] [--what FILE]
+                  [--structures] [--why N] [--core CORE] [REPORT]
        leak_lines --since OLD [--no-lines] [-n N] [--suppress FILE].. [--exit-code] [NEW]"""
 HELP = USAGE + """
 Copies a report of leak_find, with its rows as a table by function, file and line.
@@ -19,11 +19,12 @@ Copies a report of leak_find, with its rows as a table by function, file and lin
   --html FILE      writes a page
   --what FILE      says what the lost blocks are, as leak_what wrote it
   --structures     with it: a row for each kind of structure that was lost, in place of callers
+  --why N          shows what holds the blocks that those of the first N rows look like, or the first N holders
   --core CORE      the core that leak_find why was asked about: says what a word is that only the kernel holds
 
 status: 0, or 1 as above; 2 if there is no answer, with a line on standard error"""
 HELP_WORDS = ("-h", "--help")
-VALUED = ("--suppress", "--since", "--html", "--what", "--core")
+VALUED = ("--suppress", "--since", "--html", "--what", "--why", "--core")
 FORMS = {"--folded": "folded", "--json": "json"}
 FLAGS = {"--exit-code": {"is_judged": True}, "--no-lines": {"has_lines": False}, "--structures": {"by_structures": True}}
 NUMBER = re.compile("[1-9][0-9]{0,17}")
@@ -46,6 +47,7 @@ class Options(NamedTuple):
     what: str = None  # the file with what lost blocks are
     by_structures: bool = False  # whether rows are of structures
     core: str = None  # which says what words are that only the kernel holds
+    why: int = 0  # for how many rows a chain is shown
 
 
 def valued(word, words):
@@ -68,6 +70,8 @@ def with_option(options, name, value):
         return options._replace(suppress=options.suppress + (value,), is_judged=True)
     if name in ("--since", "--what", "--core"):
         return options._replace(**{name[2:]: value})
+    if name == "--why" and NUMBER.fullmatch(value):
+        return options._replace(why=int(value))
     if name == "--html" and options.form in ("table", "html"):
         return options._replace(form="html", page=value)
     if name in FORMS and options.form in ("table", FORMS[name]):

@@ -1,4 +1,4 @@
-"""Lost blocks by structures: a block that no other lost block leads to, with those that only it leads to. A lost list is one row."""
+"""Lost blocks by structures: a block that no other lost block leads to, with those that only it leads to."""
 from collections import Counter
 from typing import NamedTuple
 
@@ -14,11 +14,12 @@ class Structure(NamedTuple):
 
 
 def structures_of(blocks, facts):
-    """The structures of these blocks, by the address of their first ones. One whose first block is not there begins with its own first."""
+    """The structures of these blocks. One whose first block is not among them begins with the first that is."""
     members = {}
     for block in blocks:
         members.setdefault(facts.top.get(block.address, block.address), []).append(block)
-    return [Structure(next((it for it in group if it.address == address), group[0]), group) for address, group in members.items()]
+    return [Structure(next((it for it in group if it.address == address), group[0]), group)
+            for address, group in members.items()]
 
 
 def by_kind(structures, facts):
@@ -59,8 +60,8 @@ def without_held(facts):
 
 
 def grouped(read, facts):
-    """The report with rows for structures in place of its callers, the most bytes first; and by a row's text and address what is
-    shown below it and the facts."""
+    """The report with rows for structures in place of its callers, the most bytes first; and by a row's text and
+    address what is shown below it and the facts."""
     facts = without_held(facts)
     groups = [(row_of(group), group) for group in by_kind(structures_of(what.blocks_of(read), facts), facts)]
     groups.sort(key=lambda it: (-it[0].numbers[1], it[0].text, it[0].address))

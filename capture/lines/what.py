@@ -1,6 +1,7 @@
 """What lost blocks are, as leak_what tells it: a line for each fact. docs/FORMAT.md defines the lines."""
 import re
 import subprocess
+import tempfile
 from collections import Counter
 from typing import NamedTuple
 
@@ -22,6 +23,7 @@ LEAK = re.compile(f"leak {ADDRESS} ([0-9]+) [0-9]+ (.*)", re.DOTALL)
 KIND = re.compile("(head|held) ")
 WIDEST = 60
 MANGLED = re.compile(r"\b_Z\w+")
+LONGEST_NAME, MOST_PRINTED = 400, 1 << 24
 
 
 class Fact(NamedTuple):
@@ -31,18 +33,20 @@ class Fact(NamedTuple):
 
     @property
     def same(self):
-        """What is equal of blocks of one kind. All texts are one kind; what leads to a held block says which kind that is."""
+        """What is equal of blocks of one kind. All texts are one kind; of likenesses the way to the held block counts."""
         return (self.kind,) + {"like": self.words[2:], "word": self.words, "literal": self.words}.get(self.kind, ())
 
     @property
     def text(self):
         """The fact in words."""
         if self.kind == "like":
-            return f"looks like {self.words[0]} ({self.words[1]} held{', by ' + self.words[2] if self.words[2] else ''})"
+            way = f", by {self.words[2]}" if self.words[2] else ""
+            return f"looks like {self.words[0]} ({self.words[1]} held{way})"
         if self.kind == "text":
             return f"begins {self.words[1]}"
         if self.kind == "holds":
-            return f"holds {self.words[0]} lost block{'' if self.words[0] == '1' else 's'} of {size(int(self.words[1]))}"
+            blocks = "block" if self.words[0] == "1" else "blocks"
+            return f"holds {self.words[0]} lost {blocks} of {size(int(self.words[1]))}"
         return {"stdio": "FILE of stdio"}.get(self.kind) or " ".join(self.words)
 
 
@@ -77,22 +81,33 @@ def shortened(text):
     return text if len(text) <= WIDEST else text[:WIDEST - 2] + ".."
 
 
-def demangled(lines):
-    """The lines with the names of C++ as its sources have them, if c++filt is there."""
-    if not any(MANGLED.search(line) for line in lines):
+def demangled(names):
+    """By name, those of C++ as its sources have them, if c++filt is there. Names are the process's own and may be meant to
+    take long, so time, memory and output have limits."""
+    with tempfile.TemporaryFile() as file:
+        file.write("\n".join(names).encode("utf-8", "surrogateescape"))
+        file.seek(0)
+        run = subprocess.Popen(["sh", "-c", "ulimit -v 262144 -t 5; exec c++filt"], stdin=file, stdout=subprocess.PIPE,
+                               stderr=subprocess.DEVNULL)
+    with run:
+        lines = run.stdout.read(MOST_PRINTED).decode("utf-8", "surrogateescape").split("\n")
+        run.kill()
+    return dict(zip(names, lines)) if len(lines) >= len(names) else {}
+
+
+def with_names(lines):
+    """The lines with the names of C++ demangled."""
+    names = list(dict.fromkeys(name for line in lines for name in MANGLED.findall(line) if len(name) <= LONGEST_NAME))
+    known = demangled(names) if names else {}
+    if not known:
         return lines
-    try:
-        run = subprocess.run(["c++filt"], input="\n".join(lines), capture_output=True, text=True, errors="surrogateescape", check=False)
-    except FileNotFoundError:
-        return lines
-    found = run.stdout.split("\n")
-    return found if len(found) == len(lines) else lines
+    return [MANGLED.sub(lambda match: shortened(known.get(match[0], match[0])), line) for line in lines]
 
 
 def read(lines, place):
     """The facts of these lines."""
     facts = Facts({}, {})
-    for line in demangled(lines):
+    for line in with_names(lines):
         shape = SHAPES.get(line.split(" ", 1)[0])
         match = shape and shape.fullmatch(line)
         if not match:
@@ -139,13 +154,15 @@ def told_of(addresses, facts):
     """What a table shows of the blocks with these addresses, in a list of a line or none; and all their facts."""
     known = [(address, facts.of_block[address]) for address in addresses if address in facts.of_block]
     telling = shared((address, most_telling(found)) for address, found in known)
-    return line_of(telling, len(addresses)) if telling else [], shared((address, it) for address, found in known for it in found)
+    every = shared((address, it) for address, found in known for it in found)
+    return line_of(telling, len(addresses)) if telling else [], every
 
 
 def line_of(found, blocks):
     """What a table shows of the facts of so many blocks, of which each has one here at most."""
     first = found[0]
-    text = shortened(first.fact.text) + (f" and {first.others} other text{'s' if first.others > 1 else ''}" if first.others else "")
+    others = f" and {first.others} other text{'s' if first.others > 1 else ''}" if first.others else ""
+    text = shortened(first.fact.text) + others
     kinds = f", {len(found)} kinds" if len(found) > 1 else ""
     return [text if blocks == 1 else f"{text}: {first.count} of {blocks}{kinds}"]
 

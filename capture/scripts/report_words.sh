@@ -12,6 +12,7 @@ dump    --no-calls       makes no system call in the process's threads, and so d
 dump    --pipes          counts words that wait in pipes as held
 lines   -n N             shows the first N rows of the table
 lines   --structures     shows a row for each kind of lost structure
+lines   --why N          shows what holds the blocks that those of the first N rows look like
 find    --skip-freed     leaves out pointers in freed memory [taken if the heap is glibc's]
 find    --skip-links     leaves out the links of glibc's malloc to free memory [taken if the heap is glibc's]
 find    --skip-slack     leaves out pointers in what malloc gave a block past its size
@@ -59,7 +60,7 @@ take() {
 # Is the value what the option takes? What leak_find takes it says itself.
 check_value() {
     case $1 in
-    -n) case $2 in '' | 0* | *[!0-9]* | ???????????????????*) usage ;; esac ;;
+    -n | --why) case $2 in '' | 0* | *[!0-9]* | ???????????????????*) usage ;; esac ;;
     *) [ "$2" ] || usage ;;
     esac
 }

@@ -24,8 +24,8 @@ refused() {
     "$kit/leak_lines" "$@" > refused.out 2> refused.said
     echo "$? $(wc -c < refused.out) $(cat refused.said)"
 }
-usage='usage: leak_lines [-n N] [--suppress FILE].. [--exit-code] [--folded | --json | --html FILE] [--what FILE [--structures]]
-                  [--core CORE] [REPORT]
+usage='usage: leak_lines [-n N] [--suppress FILE].. [--exit-code] [--folded | --json | --html FILE] [--what FILE]
+                  [--structures] [--why N] [--core CORE] [REPORT]
        leak_lines --since OLD [--no-lines] [-n N] [--suppress FILE].. [--exit-code] [NEW]'
 for words in '-n' '-n 0' '-n x' '-n -1' '-x' 'one two'; do
     verdict "refused: $words" "2 0 $usage" "$(refused $words)"

@@ -1,5 +1,5 @@
-/* Loses blocks, each of a size of its own, whose content says what they are, or doesn't. What leak_what must say of each size, without
- * addresses, is in the lines that begin `what`; of a size without a line nothing.
+/* Loses blocks, each of a size of its own, whose content says what they are, or doesn't. What leak_what must say of each
+ * size, without addresses, is in the lines that begin `what`; of a size without a line nothing.
  *
  * what 24 word +0x8 on_read
  * what 40 word +0x8 on_read
@@ -25,6 +25,7 @@
  * what 536 word +0x8 on_read
  * what 552 stdio
  * what 552 word +0xd8 _IO_file_jumps
+ * what 568 word +0x8 table
  */
 #include <stdio.h>
 #include "lose.h"
@@ -38,14 +39,18 @@ struct node {
 };
 enum { BUFFER = 600 };
 static long table[8];
-static struct node *conns, *texts, *numbers, *thin, *small, *smaller, *others, *volatile named[2];
+static struct node *conns, *texts, *numbers, *thin, *small, *smaller, *others, *volatile named[2], *volatile typed[2];
+static void *volatile arrays[2];
 static void *buffer;
 __attribute__((noinline)) static void on_done(void) { table[0]++; }
 __attribute__((noinline)) static void on_read(void) { table[1]++; }
 
 static void *cleared(size_t size) { return calloc(1, size); }
 static void *with_bytes(size_t size, const char *bytes, size_t count) { return memcpy(cleared(size), bytes, count); }
-static void *with_word(size_t size, size_t at, const void *word) { return memcpy((char *)cleared(size) + at, &word, sizeof word) - at; }
+static void *with_word(size_t size, size_t at, const void *word)
+{
+    return memcpy((char *)cleared(size) + at, &word, sizeof word) - at;
+}
 
 /* A block as a server's program has many: a link, a function, a number and a buffer. */
 static struct node *node(size_t size, struct node *next, long number)
@@ -76,6 +81,13 @@ static struct node *with_name(size_t size)
     memcpy(made, "letters", 7);
     return made;
 }
+/* Its second word is the address of a variable, as that of a type in objects of many kinds. */
+static struct node *with_type(size_t size)
+{
+    struct node *made = node(size, NULL, 3);
+    made->call = (handler *)table;
+    return made;
+}
 static struct node *text_for_link(size_t size)
 {
     struct node *made = node(size, NULL, 3);
@@ -97,6 +109,14 @@ static void *number_like_text(size_t size)
     made[0] = (void *)0x31323334, made[1] = buffer;
     return made;
 }
+/* All of its words that are not null are addresses of blocks. */
+static void *pointers(size_t size)
+{
+    void **made = cleared(size);
+    for (int i = 0; i < 4; i++)
+        made[i] = buffer;
+    return made;
+}
 static void *chain(size_t first, size_t second)
 {
     void *third = cleared(second), *middle = with_word(second, 0, third);
@@ -116,9 +136,12 @@ static void nothing(int status, void *block) { (void)status, (void)block; }
 __attribute__((noinline)) static void hold_all(void)
 {
     buffer = cleared(BUFFER);
-    hold(&conns, 392), hold(&texts, 408), hold(&numbers, 424), hold(&thin, 488), hold(&small, 24), hold(&smaller, 40), hold(&others, 520);
+    hold(&conns, 392), hold(&texts, 408), hold(&numbers, 424), hold(&thin, 488), hold(&small, 24), hold(&smaller, 40);
+    hold(&others, 520);
     thin->call = thin->next->call = NULL;
     named[0] = with_name(536), named[1] = with_name(536);
+    arrays[0] = pointers(584), arrays[1] = pointers(584);
+    typed[0] = with_type(568), typed[1] = with_type(568);
     on_exit(nothing, node(456, NULL, 1));
 }
 __attribute__((noinline)) static void lose_all(void)
@@ -138,6 +161,8 @@ __attribute__((noinline)) static void lose_all(void)
     LOSE(node(392, NULL, 7));
     LOSE(text_for_link(408));
     LOSE(with_name(536));
+    LOSE(with_type(568));
+    LOSE(pointers(584));
     LOSE(number_for_pointer(424));
     LOSE(node(440, NULL, 7));
     LOSE(node(456, NULL, 7));

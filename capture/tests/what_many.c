@@ -1,5 +1,5 @@
-/* Many blocks of which each twentieth is lost: what_many COUNT. With `odd` as second word no two are alike, and all are of one size: what
- * takes longest to compare. */
+/* Many blocks of which each twentieth is lost: what_many COUNT. With `odd` as second word no two are alike, and all are
+ * of one size: what takes longest to compare. */
 #include <stdint.h>
 #include <stdio.h>
 #include "lose.h"

@@ -23,7 +23,8 @@ static const char *last_word(const char *at, const char *stop)
     return space ? space + 1 : at;
 }
 
-/* Reads the end of a line: + ADDRESS SIZE, > ADDRESS SIZE, - ADDRESS or < ADDRESS. A text before it may have any words. */
+/* Reads the end of a line: + ADDRESS SIZE, > ADDRESS SIZE, - ADDRESS or < ADDRESS. A text before it may have any words.
+ * */
 static int read_event(const char *at, const char *stop, struct event *event)
 {
     const char *last = last_word(at, stop), *middle = last > at ? last_word(at, last - 1) : at;
@@ -49,7 +50,8 @@ static void add_event(struct blocks *blocks, struct events *events, const struct
 {
     const struct event *before = events->count ? events->list + events->count - 1 : NULL;
 
-    if (before && !event->is_live && before->is_live && before->start == event->start && before->line + 1 == event->line) {
+    if (before && !event->is_live && before->is_live && before->start == event->start
+        && before->line + 1 == event->line) {
         add_freed(blocks, before);
         events->count--;
         return;
@@ -67,7 +69,8 @@ static int by_start_and_line(const void *a, const void *b)
     return x->start != y->start ? (x->start < y->start ? -1 : 1) : (x->line > y->line) - (x->line < y->line);
 }
 
-/* Keeps of each start the last event, if it is an allocation; one that goes over into another's memory ended it, or was ended. */
+/* Keeps of each start the last event, if it is an allocation; one that goes over into another's memory ended it, or was
+ * ended. */
 static void keep_live(struct blocks *blocks, struct events *events)
 {
     uint64_t line = 0;
@@ -173,7 +176,8 @@ static void mark_lost(struct blocks *blocks, const char *line, const char *path)
     long block = block_of(blocks, start);
 
     if (block == NONE || blocks->list[block].start != start || blocks->list[block].size != size)
-        fail("%s: the block at 0x%llx is not in %s: report and log don't belong together", path, (unsigned long long)start, blocks->path);
+        fail("%s: the block at 0x%llx is not in %s: report and log don't belong together", path,
+             (unsigned long long)start, blocks->path);
     blocks->lost_count += blocks->state[block] != LOST;
     blocks->state[block] = LOST;
 }

@@ -143,8 +143,8 @@ static void make_room(struct what *what, struct classes *c, const struct roles *
         c->root[i] = roles->list[i].parent == NONE ? (int32_t)i : c->root[roles->list[i].parent];
 }
 
-/* Classifies the blocks that a variable of the program's own files leads to, and none that a stack leads to: those were mostly lost
- * too. */
+/* Classifies the blocks that a variable of the program's own files leads to, and none that a stack leads to: those were
+ * mostly lost too. */
 struct classes *find_classes(struct what *what, const struct roles *roles)
 {
     struct classes *c = room_for(1, sizeof *c);

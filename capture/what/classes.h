@@ -1,5 +1,5 @@
-/* Held blocks by classes: by size, by the kinds of their words and by how they are reached, since most of a program's blocks are of a
- * few kinds. */
+/* Held blocks by classes: by size, by the kinds of their words and by how they are reached, since most of a program's
+ * blocks are of a few kinds. */
 #ifndef LEAK_WHAT_CLASSES_H
 #define LEAK_WHAT_CLASSES_H
 

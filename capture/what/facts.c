@@ -3,7 +3,8 @@
 
 enum { MOST_TEXT = 60, MOST_NAMED = 4, MOST_LOOKED_AT = 4096, LEAST_LITERAL = 4, LOW = 32 };
 
-/* Where glibc keeps the table of functions of a FILE (libio/libioP.h, struct _IO_FILE_plus), and how large one is at least. */
+/* Where glibc keeps the table of functions of a FILE (libio/libioP.h, struct _IO_FILE_plus), and how large one is at
+ * least. */
 enum { JUMPS_AT = 0xd8, LEAST_FILE = JUMPS_AT + WORD };
 
 static void begin_fact(const char *word, const struct block *block)
@@ -30,7 +31,8 @@ static int is_stdio(struct what *what, const struct block *block)
     if (block->size < LEAST_FILE || !word_at(&what->core, block->start + JUMPS_AT, &word))
         return 0;
     module = module_of(&what->modules, word);
-    return module != NONE && what->modules.list[module].is_libc && is_exactly(&what->modules, module, word, "_IO_file_jumps");
+    return module != NONE && what->modules.list[module].is_libc
+        && is_exactly(&what->modules, module, word, "_IO_file_jumps");
 }
 
 /* The length of the text of a string literal that begins at the address, or 0. */
@@ -46,8 +48,8 @@ static uint64_t literal_at(struct what *what, long module, uint64_t address, con
     return length >= LEAST_LITERAL && !(*bytes)[length] ? length : 0;
 }
 
-/* Whether a word into a file tells something: it has a symbol or a text there. Of an address that may as well be a small number,
- * since the program isn't position independent, a symbol must begin there. */
+/* Whether a word into a file tells something: it has a symbol or a text there. Of an address that may as well be a
+ * small number, since the program isn't position independent, a symbol must begin there. */
 static int tells(struct what *what, uint64_t word, long module)
 {
     const struct symbol *symbol = symbol_at(&what->modules, module, word);
@@ -141,7 +143,8 @@ static void put_structure(struct what *what, const struct structures *s, long pl
     put_text("\n");
 }
 
-/* Writes what is known of the block with this number; a lost one has a place among those that are lost, a held one has none. */
+/* Writes what is known of the block with this number; a lost one has a place among those that are lost, a held one has
+ * none. */
 void put_facts(struct what *what, struct sources *sources, long number, long place)
 {
     const struct block *block = what->blocks.list + number;

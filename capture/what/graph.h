@@ -11,8 +11,8 @@ struct graph {
     uint32_t *to;               /* by edge */
 };
 
-/* Sets of each number the last one that every way from 0 passes (its immediate dominator), and the order in which a search from 0
- * meets them: those that dominate come before. */
+/* Sets of each number the last one that every way from 0 passes (its immediate dominator), and the order in which a
+ * search from 0 meets them: those that dominate come before. */
 void find_dominators(const struct graph *graph, uint32_t *dominator, uint32_t *order);
 
 #endif

@@ -1,7 +1,7 @@
 /* Which held block a lost one looks like. */
 #include "classes.h"
 
-enum { LEAST_STRONG = 3, CONTRADICTION = -150, LAST_WEIGHT = 30, WHOLE_WEIGHT = 100 };
+enum { LEAST_STRONG = 3, OF_FUNCTION = 3, CONTRADICTION = -150, LAST_WEIGHT = 30, WHOLE_WEIGHT = 100 };
 static const uint64_t most_compared = (uint64_t)1 << 27; /* so that the time is bounded */
 
 struct fit {
@@ -25,16 +25,17 @@ static int of_one_kind(enum kind kind, uint32_t a, uint32_t b, struct fit *fit)
         return plain[kind];
     if (!is_same)
         return is_named || is_other_named ? CONTRADICTION : 0;
-    fit->strong += is_named ? 3 : 0;
+    fit->strong += a & OF_CODE ? OF_FUNCTION : 0; /* a variable may be the type of any object of a kind */
     return is_named ? 800 : 200;
 }
 
-/* What two words of different kinds say, in hundredths: a pointer may be null, and what was freed may have been a block; but a
- * number is no pointer. From CONTRADICTION on down the blocks are not alike. */
+/* What two words of different kinds say, in hundredths: a pointer may be null, and what was freed may have been a
+ * block; but a number is no pointer. From CONTRADICTION on down the blocks are not alike. */
 static int of_two_kinds(enum kind a, enum kind b)
 {
     static const int table[OTHER + 1][OTHER + 1] = {
-        [NULL_WORD] = { [SMALL] = -20, [BLOCK] = -30, [FREED] = -30, [IN_FILE] = -70, [STACK] = -30, [TEXT] = -80, [OTHER] = -30 },
+        [NULL_WORD] = { [SMALL] = -20, [BLOCK] = -30, [FREED] = -30, [IN_FILE] = -70, [STACK] = -30, [TEXT] = -80,
+                        [OTHER] = -30 },
         [SMALL] = { [BLOCK] = -300, [FREED] = -200, [IN_FILE] = -300, [STACK] = -40, [TEXT] = -70, [OTHER] = -40 },
         [BLOCK] = { [FREED] = 70, [IN_FILE] = -150, [STACK] = -100, [TEXT] = -300, [OTHER] = -250 },
         [FREED] = { [IN_FILE] = -150, [STACK] = -150, [TEXT] = -200, [OTHER] = -150 },
@@ -98,7 +99,21 @@ static struct likeness best_of(struct classes *c, const struct size *size, const
     return (struct likeness){ found->first, found->role, held_like(c, size, found->role) };
 }
 
-/* The held block that a lost one is like. Equal lost blocks get the same answer: numbers in them don't count for that. */
+/* Whether all words that are not null are addresses of blocks. Arrays of pointers look alike, whatever they are of. */
+static int is_array(const uint32_t *codes, size_t count)
+{
+    enum { LEAST = 3 };
+    size_t pointers = 0, some = 0;
+
+    for (size_t i = 0; i < count; i++) {
+        some += codes[i] >> KIND_AT != NULL_WORD;
+        pointers += codes[i] >> KIND_AT == BLOCK;
+    }
+    return pointers >= LEAST && pointers == some;
+}
+
+/* The held block that a lost one is like. Equal lost blocks get the same answer: numbers in them don't count for that.
+ * */
 struct likeness like_of(struct what *what, struct classes *c, long block)
 {
     const struct size *size = is_candidate(what, block) ? size_of(c, what->blocks.list[block].size) : NULL;
@@ -109,6 +124,8 @@ struct likeness like_of(struct what *what, struct classes *c, long block)
     if (!size)
         return (struct likeness){ NONE, NONE, 0 };
     count = read_codes(what, what->blocks.list + block, codes);
+    if (is_array(codes, count))
+        return (struct likeness){ NONE, NONE, 0 };
     for (size_t i = 0; i < count; i++)
         hash = mixed(hash, codes[i] >> KIND_AT == SMALL ? (uint32_t)SMALL << KIND_AT : codes[i]);
     hash |= 1;
@@ -123,5 +140,6 @@ struct likeness like_of(struct what *what, struct classes *c, long block)
 void tell_left_out(const struct classes *c)
 {
     if (c->left_out)
-        warn("too many kinds of blocks: %llu kinds of lost ones were not compared with held ones", (unsigned long long)c->left_out);
+        warn("too many kinds of blocks: %llu kinds of lost ones were not compared with held ones",
+             (unsigned long long)c->left_out);
 }

@@ -10,7 +10,8 @@ static int is_libc(const char *name)
 {
     const char *end = name + strlen(name);
 
-    return begins(name, end, "libc.so") || begins(name, end, "libc-") || begins(name, end, "libc.musl") || begins(name, end, "ld-");
+    return begins(name, end, "libc.so") || begins(name, end, "libc-") || begins(name, end, "libc.musl")
+        || begins(name, end, "ld-");
 }
 
 /* The build-id in these notes (binutils, ld --build-id; elf(5), Notes). */
@@ -35,8 +36,9 @@ static int header_in_memory(struct core *core, const struct module *module, uint
     if (!bytes || head_size < sizeof header)
         return 0;
     memcpy(&header, bytes, sizeof header);
-    if (memcmp(header.e_ident, ELFMAG, SELFMAG) || header.e_ident[EI_CLASS] != ELFCLASS64 || header.e_phentsize != sizeof *p
-        || number >= header.e_phnum || number >= MOST_LOADS || header.e_phoff > MOST_MODULE)
+    if (memcmp(header.e_ident, ELFMAG, SELFMAG) || header.e_ident[EI_CLASS] != ELFCLASS64
+        || header.e_phentsize != sizeof *p || number >= header.e_phnum || number >= MOST_LOADS
+        || header.e_phoff > MOST_MODULE)
         return 0;
     bytes = run_at(core, module->start + header.e_phoff + number * sizeof *p, &size);
     if (!bytes || size < sizeof *p)
@@ -78,7 +80,8 @@ static void find_id(struct core *core, struct module *module)
 /* Adds the file that begins with this part, up to the part where another begins. Gives how many parts it has. */
 static size_t add_module(struct core *core, struct modules *modules, const struct part *part, size_t left)
 {
-    struct module module = { .path = part->path, .name = name_of(part), .start = part->start, .bias = part->start, .end = part->end };
+    struct module module = { .path = part->path, .name = name_of(part), .start = part->start, .bias = part->start,
+                             .end = part->end };
     uint64_t offset = part->offset;
     size_t count = 1;
 

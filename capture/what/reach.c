@@ -1,5 +1,5 @@
-/* How held blocks are reached: from variables of files first, then from other memory, stacks and registers. Blocks that are
- * reached in the same way have one role: in a list, all but the first. */
+/* How held blocks are reached: from variables of files first, then from other memory, stacks and registers. Blocks that
+ * are reached in the same way have one role: in a list, all but the first. */
 #include <stdlib.h>
 
 #include "what.h"
@@ -36,7 +36,8 @@ static uint32_t hash_of(const struct role *role)
 
 static int is_same(const struct role *a, const struct role *b)
 {
-    return a->parent == b->parent && a->offset == b->offset && a->size == b->size && a->place == b->place && a->origin == b->origin;
+    return a->parent == b->parent && a->offset == b->offset && a->size == b->size && a->place == b->place
+        && a->origin == b->origin;
 }
 
 /* The number of the role, which is added if it is new; when there are too many, one that all others share by origin. */
@@ -54,7 +55,8 @@ static int32_t number_of(struct roles *roles, struct role role)
     return (roles->table[at] = roles->count) - 1;
 }
 
-/* The role of a block that a block with this role leads to. If an earlier one was left by the same place, it is a list. */
+/* The role of a block that a block with this role leads to. If an earlier one was left by the same place, it is a list.
+ * */
 static int32_t role_through(struct roles *roles, int32_t parent, int32_t offset, uint64_t size)
 {
     struct role role = { parent, offset, size, 0, 0, roles->list[parent].depth + 1, roles->list[parent].origin };
@@ -106,10 +108,10 @@ static void follow(struct reach *reach, uint32_t number)
 
     while (next_word(&reader, &place, &word)) {
         long to = block_of(blocks, word);
-        uint64_t offset = place - block->start;
+        uint64_t from = place - block->start;
+        int32_t offset = of_array || from > INT32_MAX ? ELEMENT : (int32_t)from;
         if (is_wanted(reach, to))
-            take(reach, to, role_through(&reach->roles, reach->roles.of_block[number],
-                                         of_array || offset > INT32_MAX ? ELEMENT : (int32_t)offset, blocks->list[to].size));
+            take(reach, to, role_through(&reach->roles, reach->roles.of_block[number], offset, blocks->list[to].size));
     }
 }
 
@@ -141,7 +143,9 @@ static void take_root(struct reach *reach, uint64_t place, uint64_t word, enum o
     long to = block_of(blocks, word);
     struct role role = { .parent = NONE, .offset = 0, .origin = origin };
 
-    if (!is_wanted(reach, to) || (origin != BY_REGISTER && (block_of(blocks, place) != NONE || is_freed(blocks, place))))
+    if (!is_wanted(reach, to))
+        return;
+    if (origin != BY_REGISTER && (block_of(blocks, place) != NONE || is_freed(blocks, place)))
         return;
     role.size = blocks->list[to].size;
     role.place = origin == BY_VARIABLE || origin == BY_LIBC ? variable_of(reach, place) : 0;

@@ -1,5 +1,5 @@
-/* Structures of lost blocks: those that only one of them leads to were lost with it. A block that no other leads to begins one, and
- * so does one block of a ring that none outside of it leads to. */
+/* Structures of lost blocks: those that only one of them leads to were lost with it. A block that no other leads to
+ * begins one, and so does one block of a ring that none outside of it leads to. */
 #include <stdlib.h>
 
 #include "graph.h"
@@ -91,11 +91,12 @@ static void mark_from(const struct builder *b, uint32_t start, uint8_t *is_met, 
     }
 }
 
-/* Where structures begin: the number that a search ends with last leads to those before it or to none, so no number that is left
- * leads to it without being led to by it (Kosaraju's order). */
+/* Where structures begin: the number that a search ends with last leads to those before it or to none, so no number
+ * that is left leads to it without being led to by it (Kosaraju's order). */
 static void add_beginnings(struct builder *b)
 {
-    uint32_t *ended = room_for(b->s->count, sizeof *ended), *stack = room_for(b->s->count, sizeof *stack), *begin = NULL;
+    uint32_t *ended = room_for(b->s->count, sizeof *ended), *stack = room_for(b->s->count, sizeof *stack);
+    uint32_t *begin = NULL;
     uint8_t *is_met = room_for(b->s->count, 1);
     size_t count = 0, all = b->edges;
 

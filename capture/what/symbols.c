@@ -1,5 +1,6 @@
-/* Symbols, sections and constants of a mapped file, if the file that is there now has the build-id that the process has in memory (gABI,
- * Section Header, Symbol Table). The file may be anything by now: each number in it is doubted, and what is wrong tells nothing. */
+/* Symbols, sections and constants of a mapped file, if the file that is there now has the build-id that the process has
+ * in memory (gABI, Section Header, Symbol Table). The file may be anything by now: each number in it is doubted, and
+ * what is wrong tells nothing. */
 #define _GNU_SOURCE
 #include <fcntl.h>
 #include <stdio.h>
@@ -9,7 +10,8 @@
 
 #include "what.h"
 
-enum { MOST_SECTIONS = 1 << 16, MOST_NOTE = 1 << 16, MOST_TABLE = 64 << 20, MOST_CONSTANTS = 8 << 20, MOST_KEPT = 256, GNU_BUILD_ID = 3 };
+enum { MOST_SECTIONS = 1 << 16, MOST_NOTE = 1 << 16, MOST_TABLE = 64 << 20, MOST_CONSTANTS = 8 << 20, MOST_KEPT = 256,
+       GNU_BUILD_ID = 3 };
 
 struct elf {
     int file;
@@ -76,7 +78,8 @@ static int has_id(const struct elf *elf, const struct module *module)
         const uint8_t *at = (const uint8_t *)bytes;
         struct note note;
         while (bytes && !found && next_note(&at, (const uint8_t *)bytes + s->sh_size, &note))
-            found = is_note(&note, GNU_BUILD_ID, "GNU") && note.size == module->id_size && !memcmp(note.bytes, module->id, note.size);
+            found = is_note(&note, GNU_BUILD_ID, "GNU") && note.size == module->id_size
+                && !memcmp(note.bytes, module->id, note.size);
         free(bytes);
     }
     return found;
@@ -107,8 +110,9 @@ static void close_elf(struct elf *elf)
 /* The bytes of a section of constants, which a core need not have. */
 static char *constants_of(struct modules *modules, const struct elf *elf, const Elf64_Shdr *s, const char *name)
 {
-    char *bytes = strncmp(name, ".rodata", strlen(".rodata")) || s->sh_type != SHT_PROGBITS || s->sh_size > modules->room
-        ? NULL : part_of_file(elf->file, s->sh_offset, s->sh_size, MOST_CONSTANTS);
+    int is_wanted = !strncmp(name, ".rodata", strlen(".rodata")) && s->sh_type == SHT_PROGBITS
+        && s->sh_size <= modules->room;
+    char *bytes = is_wanted ? part_of_file(elf->file, s->sh_offset, s->sh_size, MOST_CONSTANTS) : NULL;
 
     modules->room -= bytes ? s->sh_size : 0;
     return bytes;
@@ -136,7 +140,9 @@ static int by_address(const void *a, const void *b)
 {
     const struct symbol *x = a, *y = b;
 
-    return x->at != y->at ? (x->at < y->at ? -1 : 1) : x->size != y->size ? (x->size < y->size ? -1 : 1) : (x->name > y->name) - (x->name < y->name);
+    if (x->at != y->at)
+        return x->at < y->at ? -1 : 1;
+    return x->size != y->size ? (x->size < y->size ? -1 : 1) : (x->name > y->name) - (x->name < y->name);
 }
 
 static void add_symbol(struct module *module, const char *bytes, uint64_t names_size)
@@ -146,7 +152,9 @@ static void add_symbol(struct module *module, const char *bytes, uint64_t names_
 
     memcpy(&s, bytes, sizeof s);
     type = ELF64_ST_TYPE(s.st_info);
-    if (!s.st_shndx || !s.st_value || s.st_name >= names_size || (type != STT_FUNC && type != STT_OBJECT && type != STT_GNU_IFUNC))
+    if (type != STT_FUNC && type != STT_OBJECT && type != STT_GNU_IFUNC)
+        return;
+    if (!s.st_shndx || !s.st_value || s.st_name >= names_size)
         return;
     module->symbols = grown(module->symbols, module->symbol_count, sizeof *module->symbols);
     module->symbols[module->symbol_count++] =
@@ -158,8 +166,10 @@ static void take_symbols(struct modules *modules, struct module *module, const s
 {
     const Elf64_Shdr *table = s->sh_link < elf->count ? elf->sections + s->sh_link : NULL;
     uint64_t room = modules->room < MOST_TABLE ? modules->room : MOST_TABLE;
-    char *symbols = table && table->sh_size < room ? part_of_file(elf->file, s->sh_offset, s->sh_size, room - table->sh_size) : NULL;
+    char *symbols = NULL;
 
+    if (table && table->sh_size < room)
+        symbols = part_of_file(elf->file, s->sh_offset, s->sh_size, room - table->sh_size);
     module->names = symbols ? part_of_file(elf->file, table->sh_offset, table->sh_size, room) : NULL;
     if (module->names)
         modules->room -= table->sh_size + s->sh_size;

@@ -3,8 +3,8 @@
 
 enum { LEAST_TEXT = 4 };
 
-/* How many bytes the letter has that begins there, or 0 if none does: a letter of ASCII, a tab, an end of a line, or a letter of
- * UTF-8 (RFC 3629) that is no control character. */
+/* How many bytes the letter has that begins there, or 0 if none does: a letter of ASCII, a tab, an end of a line, or a
+ * letter of UTF-8 (RFC 3629) that is no control character. */
 static unsigned letter_length(const uint8_t *at, uint64_t left)
 {
     static const uint32_t least[] = { 0, 0, 0xa0, 0x800, 0x10000 };
@@ -43,7 +43,8 @@ static int begins_with_address(struct what *what, const uint8_t *bytes)
     return segment_at(&what->core, word) || module_of(&what->modules, word) != NONE || is_freed(&what->blocks, word);
 }
 
-/* The length of the text that the block begins with, or 0: at least four bytes up to a 0, or to the end of the block. */
+/* The length of the text that the block begins with, or 0: at least four bytes up to a 0, or to the end of the block.
+ * */
 uint64_t text_of(struct what *what, const struct block *block, const uint8_t **bytes)
 {
     uint64_t size = block->size, length;

@@ -126,7 +126,7 @@ int is_exactly(struct modules *modules, long module, uint64_t address, const cha
 
 /* words.c: the kinds of words, as far as they tell blocks apart */
 enum kind { NULL_WORD, SMALL, BLOCK, FREED, IN_FILE, STACK, TEXT, OTHER };
-enum { KIND_AT = 28, DETAIL = 0xfffffff, NAMED = 0x8000000 };
+enum { KIND_AT = 28, DETAIL = 0xfffffff, NAMED = 0x8000000, OF_CODE = 0x4000000 };
 enum kind kind_of(struct what *what, uint64_t word, long *to);
 uint32_t code_of(struct what *what, uint64_t word);
 
@@ -184,6 +184,9 @@ struct structures {
 };
 
 struct structures find_structures(struct what *what);
+
+/* places.c */
+void put_where(struct what *what, uint64_t address);
 
 /* facts.c */
 struct sources {

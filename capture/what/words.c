@@ -3,12 +3,17 @@
 
 enum { LEAST_ADDRESS = 4096, LEAST_TEXT = 4, ADDRESS_BITS = 47 };
 
+static int is_letter(uint8_t byte)
+{
+    return (byte >= ' ' && byte < 127) || byte == '\t' || byte == '\n' || byte == '\r';
+}
+
 /* A word that begins with letters, at least four, and has zeros after them. */
 static int is_text(uint64_t word)
 {
     int count = 0;
 
-    for (; count < WORD && ((word & 255) >= ' ' ? (word & 255) < 127 : (word & 255) == '\t' || (word & 255) == '\n' || (word & 255) == '\r'); count++)
+    for (; count < WORD && is_letter(word & 255); count++)
         word >>= 8;
     return count >= LEAST_TEXT && !word;
 }
@@ -27,7 +32,9 @@ static enum kind kind_of_address(struct what *what, uint64_t word, long *to)
     s = segment_at(&what->core, word);
     if (s && s->is_stack)
         return STACK;
-    return word >> 32 && word >= what->blocks.low && word < what->blocks.high && is_freed(&what->blocks, word) ? FREED : OTHER;
+    if (word >> 32 && word >= what->blocks.low && word < what->blocks.high && is_freed(&what->blocks, word))
+        return FREED;
+    return OTHER;
 }
 
 enum kind kind_of(struct what *what, uint64_t word, long *to)
@@ -46,17 +53,19 @@ enum kind kind_of(struct what *what, uint64_t word, long *to)
     return word >> 32 == 0 || word > ~(uint64_t)0xffff ? SMALL : OTHER;
 }
 
-/* What of an address in a file tells blocks apart: its symbol, or if it has none its section; of code the address itself. */
+/* What of an address in a file tells blocks apart: its symbol, or if it has none its section; of code the address
+ * itself. */
 static uint32_t code_of_place(struct what *what, uint64_t word, long module)
 {
     const struct symbol *symbol = symbol_at(&what->modules, module, word);
-    const struct section *section;
+    const struct section *section = section_at(&what->modules, module, word);
+    uint32_t flags = NAMED | (section && section->is_code ? OF_CODE : 0);
+    uint32_t number = symbol ? symbol - what->modules.list[module].symbols : 0;
 
     if (symbol)
-        return ((module * 1000003u + (uint32_t)(symbol - what->modules.list[module].symbols) * 31u) & (NAMED - 1)) | NAMED;
-    section = section_at(&what->modules, module, word);
+        return ((number * 31 + (uint32_t)module * 1000003) & (OF_CODE - 1)) | flags;
     if (section && section->is_code)
-        return ((uint32_t)(word * 2654435761u) & (NAMED - 1)) | NAMED;
+        return ((uint32_t)(word * 2654435761u) & (OF_CODE - 1)) | flags;
     return section ? (uint32_t)(section - what->modules.list[module].sections + module * 64) & (NAMED - 1) : 1;
 }
 

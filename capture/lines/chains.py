@@ -1,0 +1,116 @@
+"""From a row to the variable: what holds the block that its blocks look like, by leak_find why; leak_what names the root."""
+import os
+import re
+import shutil
+import subprocess
+from typing import NamedTuple
+
+from lines import kernel_words
+from lines.what import visible
+
+HERE = os.path.join(os.path.dirname(os.path.abspath(__file__)), "..")
+OF_HOLDER = 5  # numbers of a row of holders
+OTHER_HEAP = ("--other-heap", "--skip-ends", "--all-memory")  # the options that fit a log, as scripts/common.sh has them
+GLIBC_HEAP = ("--skip-freed", "--skip-links", "--all-memory")
+ALLOCATOR = re.compile(b"= [a-z_]+ allocator (?!glibc)")
+ROOT = re.compile("root (.*) holds (0x[0-9a-f]+)")
+LINK = re.compile("word (0x[0-9a-f]+) holds (0x[0-9a-f]+)")
+BLOCK = re.compile("block (0x[0-9a-f]+) [0-9]+ [0-9]+ (.*)", re.DOTALL)
+
+
+class Dump(NamedTuple):
+    """The core and the log beside a file of the same name."""
+    core: str
+    log: str
+
+
+def dump_beside(path):
+    """The core and the log of the dump that the file belongs to, or None."""
+    found = path and Dump(*(os.path.splitext(path)[0] + end for end in (".core", ".log")))
+    return found if found and os.path.exists(found.core) and os.path.exists(found.log) else None
+
+
+def program(name):
+    """The path of a program: as LEAK_FIND says, beside leak_lines, or in PATH; or None."""
+    given = os.environ.get("LEAK_FIND") if name == "leak_find" else None
+    beside = os.path.join(HERE, name)
+    return given or (beside if os.access(beside, os.X_OK) else shutil.which(name))
+
+
+def output_of(command):
+    """The lines that the command prints, or none where it can't be run."""
+    try:
+        run = subprocess.run(command, capture_output=True, check=False)
+    except OSError:
+        return []
+    return run.stdout.decode("utf-8", "surrogateescape").split("\n")[:-1]
+
+
+def options_for(log):
+    """The options of a search that fit the log."""
+    with open(log, "rb") as file:
+        return OTHER_HEAP if any(ALLOCATOR.match(line) for line in file) else GLIBC_HEAP
+
+
+def why_of(dump, address):
+    """The lines of leak_find's answer."""
+    finder = program("leak_find")
+    return output_of([finder, "why", *options_for(dump.log), dump.core, dump.log, address]) if finder else []
+
+
+def named_root(dump, line, root):
+    """The root's place in words: a word that only the kernel holds, an address as leak_what names it, or a register."""
+    told = kernel_words.told(line, *kernel_words.read(dump.core))
+    if told != line:
+        return told.removeprefix(line + ": ")
+    teller = program("leak_what") if root.startswith("0x") else None
+    lines = output_of([teller, "--place", dump.core, root]) if teller else []
+    return lines[0].split(" ", 2)[2] if len(lines) == 1 and lines[0].startswith(f"place {root} ") else root
+
+
+def chain_of(dump, lines):
+    """The chain in words, a line for each block on the way."""
+    shown, last = [], ""
+    for line in lines:
+        root, link, block = ROOT.fullmatch(line), LINK.fullmatch(line), BLOCK.fullmatch(line)
+        if root:
+            shown.append(f"  {visible(named_root(dump, line, root[1]))}")
+        elif link:
+            shown[-1] += f", +{int(link[1], 16) - int(last, 16):#x}"
+        elif block:
+            last = block[1]
+            shown.append(f"  {block[1]} {visible(block[2])}")
+    return shown
+
+
+def likeness_of(row, said):
+    """The held block that most blocks of the row look like, and how many do; or None."""
+    return next(((it.fact.words[0], it.count) for it in said.facts(row) if it.fact.kind == "like"), None)
+
+
+def lines_of(dump, addresses):
+    """The chains to these held blocks."""
+    out = []
+    for address in addresses:
+        found = chain_of(dump, why_of(dump, address))
+        out += [f"chain to {address}:", *(found or ["  leak_find why has no answer"])]
+    return out
+
+
+def hint(dump, address):
+    """The command that shows the chain."""
+    options = " ".join(options_for(dump.log))
+    return f"chain to {address}: leak_find why {options} {visible(dump.core)} {visible(dump.log)} {address}"
+
+
+def below_tables(asked, rows, said):
+    """What follows the tables: chains if they are asked for, else the command that shows the first one."""
+    dump = dump_beside(asked.what or asked.path) if asked.what or asked.why else None
+    if dump is None:
+        return []
+    likely = [likeness_of(row, said) for row in rows]
+    found = [it[0] if it else row.address for it, row in zip(likely, rows) if it or len(row.numbers) == OF_HOLDER]
+    addresses = list(dict.fromkeys(found))
+    if asked.why:
+        return lines_of(dump, addresses[:asked.why])
+    return [hint(dump, addresses[0])] if addresses else []
