@@ -17,7 +17,7 @@ done
 make -C strict -nB CPPFLAGS=-DWANTED=1 LDFLAGS=-Wl,--wanted > strict.said
 verdict 'CPPFLAGS in each compilation' 'all of many' \
     "$(awk '/ -c / { count++; without += !/-DWANTED=1 / } END { print (without ? without " without" : "all"), "of", (count > 40 ? "many" : count) }' strict.said)"
-verdict 'LDFLAGS in each link' 'leak_core leak_log leak_trace.so leak_walk leak_what' "$(sed -n 's/.*-Wl,--wanted .*-o \([a-z_.]*\) .*/\1/p' strict.said | sort | xargs)"
+verdict 'LDFLAGS in each link' 'leak_core leak_log leak_tables leak_trace.so leak_walk leak_what' "$(sed -n 's/.*-Wl,--wanted .*-o \([a-z_.]*\) .*/\1/p' strict.said | sort | xargs)"
 touch strict/dump/dump.h
 verdict 'a header that changed' 'stale current' \
     "$(make -C strict -q leak_core > strict.said 2>&1 && printf current || printf stale) $(make -C strict -q leak_log > strict.said 2>&1 && echo current || echo stale)"
