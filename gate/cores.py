@@ -98,6 +98,26 @@ def rbx(value):
     return at(348, little(value))
 
 
+def registers(at=NOTES, **values):
+    """Registers of the thread whose entry of notes is at the file offset: rsp, fs_base, orig_rax."""
+    places = {"orig_rax": 15, "rsp": 19, "fs_base": 21}
+    def change(image):
+        for name, value in values.items():
+            begin = at + 20 + 112 + 8 * places[name]
+            image[begin:begin + 8] = little(value)
+    return change
+
+
+def auxiliary(*pairs, cut=0):
+    """An entry of notes with the auxiliary vector (type 6) at 532: pairs of a type and a value, without the last bytes."""
+    def change(image):
+        content = b"".join(little(number) for pair in pairs for number in pair)
+        content = content[:len(content) - cut]
+        notes(376 + len(content))(image)
+        image[532:552 + len(content)] = fields(b"CORE", len(content), 6) + content
+    return change
+
+
 def read_only():
     """The segment is not writable: its p_flags are 4."""
     return field(124, 4, 4)

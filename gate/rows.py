@@ -15,6 +15,7 @@ import rows_places
 import rows_questions
 import rows_refused
 import rows_slack
+import rows_stack
 import rows_two
 import rows_why
 import rows_words
@@ -22,7 +23,7 @@ import rows_words
 
 def all_cases():
     """The cases of each file of rows."""
-    tables = (rows_one, rows_two, rows_freed, rows_links, rows_slack, rows_memory, rows_ends, rows_options, rows_fit, rows_refused,
-              rows_pairs, rows_why, rows_words, rows_places, rows_callers, rows_holders, rows_questions,
-              rows_grow)
+    tables = (rows_one, rows_two, rows_freed, rows_links, rows_slack, rows_stack, rows_memory, rows_ends, rows_options,
+              rows_fit, rows_refused, rows_pairs, rows_why, rows_words, rows_places, rows_callers, rows_holders,
+              rows_questions, rows_grow)
     return [case for table in tables for case in table.cases()]

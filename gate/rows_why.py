@@ -175,7 +175,7 @@ def of_words():
     """Addresses that are none are refused before a file is opened: there is none here."""
     rows = ["10100", "0x", "0X10100", "0x00000000000010100", "0xg", "0x+1", "x", "-- -0x1", "0x10100."]
     found = [refused(f"why: address {word}", "0x and 1 to 16 hexadecimal digits", LINE + word, {},
-                     "bad address") for word in rows]
+                     "ADDRESS: not 0x and 1 to 16 hexadecimal digits") for word in rows]
     listed = refused("why: a list before an address", "the list is refused first", LINE + "x --displace x", {},
                      "--displace: item 0 is not a number")
     return [*found, listed]

@@ -16,7 +16,7 @@ PROGRAM = "leak_find <COMMAND>"
 USAGE = {"one": "<CORE> <LOG>", "two": "<CORE1> <LOG1> <CORE2> <LOG2>", "why": "<CORE> <LOG> <ADDRESS>",
          "holders": "<CORE> <LOG>", "grow": "<LOG1> <LOG2>"}
 ONE = "one core.k trace.log "
-READING = ("--skip-ends", "--all-memory", "--skip-freed", "--skip-links", "--skip-slack")  # the flags that `why` has too
+READING = ("--skip-ends", "--all-memory", "--skip-freed", "--skip-links", "--skip-slack", "--skip-dead-stack")  # the flags that `why` has too
 
 
 def clap(error, usage="", tip=""):

@@ -1,13 +1,15 @@
 """The texts that the program prints: reports by the grammar of docs/FORMAT.md, warnings, and refusals."""
 
 
-def report(blocks, marked, leaked, heads, *lines, undumped=0, signs=(0, 0, 0), freed=None, new=None,
-           reread=None, misfits=None):
+def report(blocks, marked, leaked, heads, *lines, undumped=0, signs=(0, 0, 0), freed=None, dead=None,
+           new=None, reread=None, misfits=None):
     """A report. Pairs are blocks and bytes; `signs` are unknown, displaced and torn; `lines` come at the end."""
     text = ["blocks {} bytes {}".format(*blocks), f"undumped {undumped}"]
     text.append("unknown {} displaced {} torn {}".format(*signs))
     if freed is not None:
         text.append(f"freed {freed}")
+    if dead is not None:
+        text.append(f"dead {dead}")
     if new is not None:
         text += ["new {} bytes {}".format(*new), f"reread {reread}"]
     text += ["marked {} bytes {}".format(*marked), "leaked {} bytes {}".format(*leaked), f"heads {heads}"]

@@ -2,7 +2,7 @@
 
 # The options of a command, or of a subcommand of leak_find.
 _leak_options() {
-    local skips='--skip-freed --skip-links --skip-slack --skip-ends --all-memory --displace'
+    local skips='--skip-freed --skip-links --skip-slack --skip-dead-stack --skip-ends --all-memory --displace'
     local search="$skips --other-heap --strict --workers --piece --stack"
     case $1 in
     leak_find) echo '-h --help -V --version' ;;

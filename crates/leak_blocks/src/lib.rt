@@ -28,4 +28,4 @@ pub use laws::{
 };
 pub use live::Live;
 pub use replaying::{Replayed, replay, replay_bytes, replay_with_spans};
-pub use small::{SmallSpans, Span, small_spans};
+pub use small::{SmallSpans, Span, joined, small_spans};

@@ -150,7 +150,7 @@ fn merged(alloc: Global, spans: &[Span]) -> Result<Vec<Span>, AllocError>
 }
 
 /// The addresses of the spans as ranges that are apart.
-fn joined(alloc: Global, spans: Vec<Span>) -> Result<SmallSpans, AllocError>
+pub fn joined(alloc: Global, spans: Vec<Span>) -> Result<SmallSpans, AllocError>
     requires { AreSpans spans.items }
     ensures { IfOk result (λ ranges. CoverSame ranges spans.items) }
 {

@@ -4,7 +4,7 @@ use Rattle.std.specs.List.{AllByRecursion}
 use Rattle.leak_blocks.specs.declared.block.Block.{Block}
 use Rattle.leak_report.specs.declared.head.Head.{Head}
 use Rattle.leak_report.specs.Totals.{marked_in, leaked_in}
-use Rattle.leak_report.specs.Lines.{newline, hexadecimal, blocks_line, undumped_line, log_line, freed_lines}
+use Rattle.leak_report.specs.Lines.{newline, hexadecimal, blocks_line, undumped_line, log_line, freed_lines, dead_lines}
 use Rattle.leak_texts.specs.Numbered.{text_with}
 use Rattle.leak_holders.specs.declared.holder.Holder.{Holder}
 
@@ -33,7 +33,7 @@ new_lines (Some counted) blocks = blocks_line (codes "new") (marked_in counted b
 -- the lines before those of the holders
 abbrev pub sums_of : Head → List Block → Option (List Bool) → List Bool → List ℕ
 sums_of head blocks news set =
-    blocks_line (codes "blocks") blocks ++ undumped_line head ++ log_line head ++ freed_lines head.freed ++ new_lines news blocks
+    blocks_line (codes "blocks") blocks ++ undumped_line head ++ log_line head ++ freed_lines head.freed ++ dead_lines head.dead ++ new_lines news blocks
     ++ blocks_line (codes "marked") (marked_in set blocks) ++ blocks_line (codes "leaked") (leaked_in set blocks)
 
 -- the report of the live blocks and the marked set, with the numbers of the head, the new blocks and the rows of holders

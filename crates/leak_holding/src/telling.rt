@@ -1,12 +1,12 @@
 //! The report, told.
 ghost use Rattle.std.specs.Prelude.{◌≡◌, ◌++◌, ◌-◌, ◌≤◌, length, flat_map, option_map, codes, string_bytes, IfOk, IfSome, OnOk};
-ghost use Rattle.leak_report.specs.Lines.{sizes_line, undumped_line, log_line, freed_lines};
+ghost use Rattle.leak_report.specs.Lines.{sizes_line, undumped_line, log_line, freed_lines, dead_lines};
 ghost use Rattle.leak_texts.specs.Numbered.{bytes_each};
 ghost use Rattle.leak_holding.specs.Text.{AreRowsOf, holder_front, holder_line, holders_text, line_of, new_lines};
 
 use leak_blocks::{Block, Live};
 use leak_holders::{Facts, Holder};
-use leak_report::{Head, marked_sizes, push_freed, push_head, push_line, push_sizes};
+use leak_report::{Head, marked_sizes, push_dead, push_freed, push_head, push_line, push_sizes};
 use std::alloc::{AllocError, Global};
 
 /// Makes the report: its lines, each with its line feed.
@@ -52,7 +52,7 @@ fn sums(
     ensures { IfOk result (λ out. string_bytes out ≡
         sizes_line (codes "blocks") (length live.now.blocks) bytes
         ++ undumped_line head.now ++ log_line head.now ++ freed_lines head.now.freed
-        ++ new_lines (option_map (λ s. s.now) new.entry) live.now.blocks
+        ++ dead_lines head.now.dead ++ new_lines (option_map (λ s. s.now) new.entry) live.now.blocks
         ++ sizes_line (codes "marked") marked marked_bytes
         ++ sizes_line (codes "leaked") (length live.now.blocks - marked) (bytes - marked_bytes)) }
 {
@@ -61,6 +61,7 @@ fn sums(
     push_sizes(&mut out, "blocks", blocks, bytes)?;
     push_head(&mut out, head)?;
     push_freed(&mut out, head.freed)?;
+    push_dead(&mut out, head.dead)?;
     push_new(&mut out, live, new)?;
     push_sizes(&mut out, "marked", marked, marked_bytes)?;
     push_sizes(&mut out, "leaked", blocks - marked, bytes - marked_bytes)?;

@@ -15,6 +15,7 @@ use Rattle.leak_roots.specs.Places.{Places}
 use Rattle.leak_roots.specs.Roots.{AreRootsOf}
 use Rattle.leak_roots.specs.Skipped.{spans_of}
 use Rattle.leak_input.specs.Slack.{slack_in}
+use Rattle.leak_input.specs.Dead.{dead_in}
 use Rattle.leak_report.specs.Totals.{HaveCallersIn, leaked_in}
 use Rattle.leak_report.proofs.Callers.{have_callers}
 use Rattle.leak_input.specs.declared.inputs.Input.{Input}
@@ -39,10 +40,10 @@ abbrev pub as_input : (core log : List ℕ) (lines : List Line) (input : Input) 
 as_input core log lines input read = record { log = log; read = subst (λ (file : List ℕ). IsReadOf file log lines input) (sym read.image) read }
 
 -- the places found are those of the input's root words
-pub roots_found : (lines : List Line) (input : Input) (found places : Places) → AreRootsOf input.skip.unwritable input.image input.live.blocks (spans_of input.skip lines) (slack_in input.skip input.image input.live.blocks) found
+pub roots_found : (lines : List Line) (input : Input) (found places : Places) → AreRootsOf input.skip.unwritable input.image input.live.blocks (spans_of input.skip lines) (slack_in input.skip input.image input.live.blocks) (dead_in input.skip input.image) found
     → places ≡ record found { skips_links = input.skip.links } → AreRootsFor lines input places
 roots_found lines input found places roots is = subst (λ (p : Places). AreRootsFor lines input p) (sym is) (record {
-  roots = record { registers = roots.registers; memory = roots.memory; ranges = roots.ranges; freed = roots.freed };
+  roots = record { registers = roots.registers; memory = roots.memory; ranges = roots.ranges; freed = roots.freed; dead = roots.dead };
   links = refl;
 })
 

@@ -20,6 +20,7 @@ use Rattle.leak_roots.specs.Roots.{AreRootsOf}
 use Rattle.leak_roots.specs.declared.skip.Skip.{Skip}
 use Rattle.leak_roots.specs.Skipped.{spans_of}
 use Rattle.leak_input.specs.Slack.{slack_in}
+use Rattle.leak_input.specs.Dead.{dead_in}
 use Rattle.leak_pool.specs.declared.error.PoolError.{PoolError}
 use Rattle.leak_pool.specs.declared.error.PoolError.TheVariants.{TooMany as TooManyForPool, NoMemory as NoMemoryForPool}
 use Rattle.leak_input.specs.declared.inputs.Input.{Input}
@@ -85,7 +86,7 @@ pub record IsInput (lines : List Line) (input : Input) : Type 0 where
 
 -- these are the places of the input's root words, without what its search leaves out
 pub record AreRootsFor (lines : List Line) (input : Input) (places : Places) : Type 0 where
-  pub roots : AreRootsOf input.skip.unwritable input.image input.live.blocks (spans_of input.skip lines) (slack_in input.skip input.image input.live.blocks) places
+  pub roots : AreRootsOf input.skip.unwritable input.image input.live.blocks (spans_of input.skip lines) (slack_in input.skip input.image input.live.blocks) (dead_in input.skip input.image) places
   pub links : places.skips_links ≡ input.skip.links
 
 -- more blocks than there are numbers for them

@@ -1,5 +1,6 @@
 -- The definitions of this crate, by subject.
 pub mod Slack
+pub mod Dead
 pub mod Inputs
 pub mod Report
 pub mod Signs

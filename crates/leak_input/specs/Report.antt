@@ -18,6 +18,7 @@ head_with input places two = record {
   displaced = input.live.displaced;
   torn = input.torn;
   freed = if input.skip.freed then Some places.freed else None;
+  dead = if input.skip.dead then Some places.dead else None;
   two = two;
 }
 

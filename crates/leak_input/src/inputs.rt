@@ -8,6 +8,7 @@ ghost use Rattle.leak_pool.specs.Room.{room_of};
 ghost use Rattle.leak_roots.specs.Roots.{AreRootsOf};
 ghost use Rattle.leak_input.specs.Inputs.{AreRootsFor, IsInput, IsInputFault, IsRead, IsReadLog};
 ghost use Rattle.leak_input.specs.Slack.{slack_in};
+ghost use Rattle.leak_input.specs.Dead.{dead_in};
 
 use crate::error::{FindError, at_core, at_log, at_notes};
 use leak_blocks::{Live, Replayed, SmallSpans, replay_bytes, replay_with_spans};
@@ -17,6 +18,7 @@ use leak_mtrace::LogError;
 use leak_notes::Threads;
 use leak_pool::EdgeRoom;
 use leak_roots::{Roots, Skip};
+use leak_stacks::dead_spans;
 use std::alloc::{AllocError, Global};
 
 /// A core and its log, read: nothing is marked yet. Of the log's lines only the live blocks are kept.
@@ -94,15 +96,29 @@ pub fn read_input<'a>(
 /// The root words of an input without those in slack, if its search leaves these out.
 fn without_slack(alloc: Global, input: &Input, roots: Roots) -> Result<Roots, AllocError>
     ensures { (spans : List Span) → let input = input.now in let skip = input.skip in
-        AreRootsOf skip.unwritable input.image input.live.blocks spans [] roots
+        AreRootsOf skip.unwritable input.image input.live.blocks spans [] [] roots
         → IfOk result (AreRootsOf skip.unwritable input.image input.live.blocks spans
-        (slack_in skip input.image input.live.blocks)) }
+        (slack_in skip input.image input.live.blocks) []) }
 {
     if !input.skip.slack {
         return Ok(roots);
     }
     let slack = slack_spans(alloc, &input.image, &input.live)?;
     roots.skip_slack(alloc, slack.ranges())
+}
+
+/// The root words of an input without those in dead stack, if its search leaves these out.
+fn without_dead(alloc: Global, input: &Input, roots: Roots) -> Result<Roots, AllocError>
+    ensures { (spans slack : List Span) → let input = input.now in let skip = input.skip in
+        AreRootsOf skip.unwritable input.image input.live.blocks spans slack [] roots
+        → IfOk result (AreRootsOf skip.unwritable input.image input.live.blocks spans slack
+        (dead_in skip input.image)) }
+{
+    if !input.skip.dead {
+        return Ok(roots);
+    }
+    let dead = dead_spans(alloc, &input.image)?;
+    roots.skip_dead(alloc, dead.ranges())
 }
 
 /// The root words of an input, without what its search leaves out.
@@ -118,6 +134,7 @@ pub fn find_roots(alloc: Global, input: &Input) -> Result<Roots, AllocError>
         &input.small,
         input.skip.unwritable,
     )?;
-    let kept = without_slack(alloc, input, roots)?;
+    let roots = without_slack(alloc, input, roots)?;
+    let kept = without_dead(alloc, input, roots)?;
     Ok(kept.skip_links(input.skip.links))
 }

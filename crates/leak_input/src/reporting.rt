@@ -38,6 +38,11 @@ pub fn head_of(input: &Input, roots: &Roots, two: Option<Two>) -> Head
         } else {
             None
         },
+        dead: if input.skip.dead {
+            Some(roots.dead())
+        } else {
+            None
+        },
         two,
     }
 }

@@ -23,7 +23,7 @@ impl Rules {
     pub fn usual() -> Rules
         ensures reading { distances_of result.reading ≡ record { listed = None; skips_ends = false } }
         ensures skip { result.skip
-            ≡ record { freed = false; slack = false; links = false; unwritable = true } }
+            ≡ record { freed = false; slack = false; dead = false; links = false; unwritable = true } }
         ensures heap { result.other_heap ≡ false }
     {
         Rules {

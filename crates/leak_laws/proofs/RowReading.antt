@@ -4,7 +4,7 @@ use Rattle.std.specs.Prelude.{codes, decimal, IfSome}
 use Rattle.std.specs.Char.{digit_value}
 use Rattle.std.specs.List.{AllByRecursion}
 use Rattle.std.proofs.lemmas.List.{append_cancel_left}
-use Rattle.leak_report.specs.Lines.{freed_lines}
+use Rattle.leak_report.specs.Lines.{dead_lines, freed_lines}
 use Rattle.leak_laws.specs.Told.{Sum, sum_line}
 use Rattle.leak_laws.specs.Readable.{IsNumber, IsSumRead}
 use Rattle.leak_laws.proofs.Splits.{AreSame, split_number}
@@ -101,3 +101,15 @@ freed_read None None r s p q left right e = record { part = refl; rest = e }
 freed_read None (Some n) r s p q left right e = absurd (left _ e)
 freed_read (Some m) None r s p q left right e = absurd (right _ (sym e))
 freed_read (Some m) (Some n) r s p q left right e = let one = number_read (codes "freed ") m n r s p q e in record { part = ap (λ (k : ℕ). Some k) one.part; rest = one.rest }
+
+-- the number of words of dead stack, if it is told
+pub dead_read : (x y : Option ℕ) (r s : List ℕ) → IfSome x IsNumber → IfSome y IsNumber → NotFirst 100 r → NotFirst 100 s → dead_lines x ++ r ≡ dead_lines y ++ s → AreSame x y r s
+dead_read None None r s p q left right e = record { part = refl; rest = e }
+dead_read None (Some n) r s p q left right e = absurd (left _ e)
+dead_read (Some m) None r s p q left right e = absurd (right _ (sym e))
+dead_read (Some m) (Some n) r s p q left right e = let one = number_read (codes "dead ") m n r s p q e in record { part = ap (λ (k : ℕ). Some k) one.part; rest = one.rest }
+
+-- the line of dead stack does not begin as that of freed words
+pub dead_first : (x : Option ℕ) (r : List ℕ) → NotFirst 102 r → NotFirst 102 (dead_lines x ++ r)
+dead_first None r other rest e = other rest e
+dead_first (Some n) r other rest e = let k : 100 ≡ 102 = ap (λ (u : List ℕ). get_or u 0 0) e in omega (arith, k)

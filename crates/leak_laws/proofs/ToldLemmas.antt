@@ -3,10 +3,10 @@ use Rattle.std.proofs.Common.{◌≡◌, ℕ, List, [], ◌∷◌, ◌++◌, fla
 use Rattle.std.specs.Prelude.{codes, decimal, IfSome}
 use Rattle.leak_report.specs.declared.head.Head.{Head}
 use Rattle.leak_report.specs.declared.head.Two.{Two}
-use Rattle.leak_report.specs.Lines.{freed_lines, heads_line, log_line, two_lines, undumped_line}
+use Rattle.leak_report.specs.Lines.{dead_lines, freed_lines, heads_line, log_line, two_lines, undumped_line}
 use Rattle.leak_laws.specs.Told.{Sum, Told, ToldCaller, ToldLeak, ToldMisfit, caller_text, leak_text, misfit_text, number_lines, sum_line, told_text}
 use Rattle.leak_laws.specs.Readable.{AreTwoRead, IsNumber, IsRead}
-use Rattle.leak_laws.proofs.RowReading.{NotFirst, counts_read, freed_read, number_read, others_first, rows_read, sum_read}
+use Rattle.leak_laws.proofs.RowReading.{NotFirst, counts_read, dead_first, dead_read, freed_read, number_read, others_first, rows_read, sum_read}
 use Rattle.leak_laws.proofs.ReportRows.{caller_rows, leak_rows, misfit_rows}
 use Rattle.leak_laws.proofs.Splits.{AreSame}
 
@@ -48,19 +48,20 @@ no_number [] [] [] rest e = let n : 0 ≡ 109 = ap (λ (t : List ℕ). get_or t 
 
 -- ---- the first lines
 
-same_head : (x y : Head) → x.undumped ≡ y.undumped → x.unknown ≡ y.unknown → x.displaced ≡ y.displaced → x.torn ≡ y.torn → x.freed ≡ y.freed → x.two ≡ y.two → x ≡ y
-same_head x y a b c d e f =
-    ap (λ (n : ℕ). record { undumped = n; unknown = x.unknown; displaced = x.displaced; torn = x.torn; freed = x.freed; two = x.two }) a
-    ∙ ap (λ (n : ℕ). record { undumped = y.undumped; unknown = n; displaced = x.displaced; torn = x.torn; freed = x.freed; two = x.two }) b
-    ∙ ap (λ (n : ℕ). record { undumped = y.undumped; unknown = y.unknown; displaced = n; torn = x.torn; freed = x.freed; two = x.two }) c
-    ∙ ap (λ (n : ℕ). record { undumped = y.undumped; unknown = y.unknown; displaced = y.displaced; torn = n; freed = x.freed; two = x.two }) d
-    ∙ ap (λ (o : Option ℕ). record { undumped = y.undumped; unknown = y.unknown; displaced = y.displaced; torn = y.torn; freed = o; two = x.two }) e
-    ∙ ap (λ (o : Option Two). record { undumped = y.undumped; unknown = y.unknown; displaced = y.displaced; torn = y.torn; freed = y.freed; two = o }) f
+same_head : (x y : Head) → x.undumped ≡ y.undumped → x.unknown ≡ y.unknown → x.displaced ≡ y.displaced → x.torn ≡ y.torn → x.freed ≡ y.freed → x.dead ≡ y.dead → x.two ≡ y.two → x ≡ y
+same_head x y a b c d e g f =
+    ap (λ (n : ℕ). record { undumped = n; unknown = x.unknown; displaced = x.displaced; torn = x.torn; freed = x.freed; dead = x.dead; two = x.two }) a
+    ∙ ap (λ (n : ℕ). record { undumped = y.undumped; unknown = n; displaced = x.displaced; torn = x.torn; freed = x.freed; dead = x.dead; two = x.two }) b
+    ∙ ap (λ (n : ℕ). record { undumped = y.undumped; unknown = y.unknown; displaced = n; torn = x.torn; freed = x.freed; dead = x.dead; two = x.two }) c
+    ∙ ap (λ (n : ℕ). record { undumped = y.undumped; unknown = y.unknown; displaced = y.displaced; torn = n; freed = x.freed; dead = x.dead; two = x.two }) d
+    ∙ ap (λ (o : Option ℕ). record { undumped = y.undumped; unknown = y.unknown; displaced = y.displaced; torn = y.torn; freed = o; dead = x.dead; two = x.two }) e
+    ∙ ap (λ (o : Option ℕ). record { undumped = y.undumped; unknown = y.unknown; displaced = y.displaced; torn = y.torn; freed = y.freed; dead = o; two = x.two }) g
+    ∙ ap (λ (o : Option Two). record { undumped = y.undumped; unknown = y.unknown; displaced = y.displaced; torn = y.torn; freed = y.freed; dead = y.dead; two = o }) f
 
 -- ---- all
 
-regroup : (a b c d e f g h i j k l : List ℕ) → a ++ b ++ c ++ d ++ e ++ f ++ g ++ h ++ i ++ j ++ k ++ l ≡ a ++ (b ++ (c ++ (d ++ (e ++ (f ++ (g ++ (h ++ (i ++ (j ++ (k ++ l))))))))))
-regroup a b c d e f g h i j k l = simp append_assoc
+regroup : (a b c d e f g h i j k l m : List ℕ) → a ++ b ++ c ++ d ++ e ++ f ++ g ++ h ++ i ++ j ++ k ++ l ++ m ≡ a ++ (b ++ (c ++ (d ++ (e ++ (f ++ (g ++ (h ++ (i ++ (j ++ (k ++ (l ++ m)))))))))))
+regroup a b c d e f g h i j k l m = simp append_assoc
 
 abbrev rows_part : Told → List ℕ
 rows_part t = flat_map caller_text t.callers ++ (flat_map leak_text t.leaks ++ flat_map misfit_text t.misfit_rows)
@@ -68,9 +69,9 @@ rows_part t = flat_map caller_text t.callers ++ (flat_map leak_text t.leaks ++ f
 abbrev end_part : Told → List ℕ
 end_part t = sum_line (codes "marked") t.marked ++ (sum_line (codes "leaked") t.leaked ++ (heads_line t.heads ++ (number_lines t.misfits ++ rows_part t)))
 
-grouped : (t : Told) → told_text t ≡ sum_line (codes "blocks") t.all ++ (undumped_line t.head ++ (log_line t.head ++ (freed_lines t.head.freed ++ (two_lines t.head.two ++ end_part t))))
+grouped : (t : Told) → told_text t ≡ sum_line (codes "blocks") t.all ++ (undumped_line t.head ++ (log_line t.head ++ (freed_lines t.head.freed ++ (dead_lines t.head.dead ++ (two_lines t.head.two ++ end_part t)))))
 grouped t =
-    regroup (sum_line (codes "blocks") t.all) (undumped_line t.head) (log_line t.head) (freed_lines t.head.freed) (two_lines t.head.two) (sum_line (codes "marked") t.marked) (sum_line (codes "leaked") t.leaked) (heads_line t.heads)
+    regroup (sum_line (codes "blocks") t.all) (undumped_line t.head) (log_line t.head) (freed_lines t.head.freed) (dead_lines t.head.dead) (two_lines t.head.two) (sum_line (codes "marked") t.marked) (sum_line (codes "leaked") t.leaked) (heads_line t.heads)
     (number_lines t.misfits) (flat_map caller_text t.callers) (flat_map leak_text t.leaks) (flat_map misfit_text t.misfit_rows)
 
 -- what follows lines that may be missing
@@ -80,6 +81,10 @@ end_first t rest e = let n : 109 ≡ 110 = ap (λ (u : List ℕ). get_or u 0 0) 
 two_first : (two : Option Two) (t : Told) → NotFirst 102 (two_lines two ++ end_part t)
 two_first None t rest e = let n : 109 ≡ 102 = ap (λ (u : List ℕ). get_or u 0 0) e in omega (arith, n)
 two_first (Some two) t rest e = let n : 110 ≡ 102 = ap (λ (u : List ℕ). get_or u 0 0) e in omega (arith, n)
+
+two_after_dead : (two : Option Two) (t : Told) → NotFirst 100 (two_lines two ++ end_part t)
+two_after_dead None t rest e = let n : 109 ≡ 100 = ap (λ (u : List ℕ). get_or u 0 0) e in omega (arith, n)
+two_after_dead (Some two) t rest e = let n : 110 ≡ 100 = ap (λ (u : List ℕ). get_or u 0 0) e in omega (arith, n)
 
 misfits_first : (c : ℕ) → (109 ≡ c → ⊥) → (ms : List ToldMisfit) → NotFirst c (flat_map misfit_text ms)
 misfits_first c differ [] rest e = let n : 0 ≡ c = ap (λ (u : List ℕ). get_or u 0 0) e in cc
@@ -106,8 +111,9 @@ read_back a b p q e =
     let undumped = number_read (codes "undumped ") a.head.undumped b.head.undumped _ _ p.head.undumped q.head.undumped all.rest in
     let counts =
     counts_read a.head.unknown b.head.unknown a.head.displaced b.head.displaced a.head.torn b.head.torn _ _ p.head.unknown q.head.unknown p.head.displaced q.head.displaced p.head.torn q.head.torn undumped.rest in
-    let freed = freed_read a.head.freed b.head.freed _ _ p.head.freed q.head.freed (two_first a.head.two a) (two_first b.head.two b) counts.rest in
-    let two = two_read a.head.two b.head.two _ _ p.head.two q.head.two (end_first a) (end_first b) freed.rest in
+    let freed = freed_read a.head.freed b.head.freed _ _ p.head.freed q.head.freed (dead_first a.head.dead _ (two_first a.head.two a)) (dead_first b.head.dead _ (two_first b.head.two b)) counts.rest in
+    let dead = dead_read a.head.dead b.head.dead _ _ p.head.dead q.head.dead (two_after_dead a.head.two a) (two_after_dead b.head.two b) freed.rest in
+    let two = two_read a.head.two b.head.two _ _ p.head.two q.head.two (end_first a) (end_first b) dead.rest in
     let marked = sum_read (codes "marked") a.marked b.marked _ _ p.marked q.marked two.rest in
     let leaked = sum_read (codes "leaked") a.leaked b.leaked _ _ p.leaked q.leaked marked.rest in
     let heads = number_read (codes "heads ") a.heads b.heads _ _ p.heads q.heads leaked.rest in
@@ -116,5 +122,5 @@ read_back a b p q e =
     let leaks = rows_read leak_text 108 _ leak_rows a.leaks b.leaks _ _ p.leaks q.leaks (misfits_first 108 (λ e. omega (arith, e)) a.misfit_rows) (misfits_first 108 (λ e. omega (arith, e)) b.misfit_rows) callers.rest in
     let last : flat_map misfit_text a.misfit_rows ++ [] ≡ flat_map misfit_text b.misfit_rows ++ [] = append-nil (flat_map misfit_text a.misfit_rows) ∙ leaks.rest ∙ sym (append-nil (flat_map misfit_text b.misfit_rows)) in
     let rows = rows_read misfit_text 109 _ misfit_rows a.misfit_rows b.misfit_rows [] [] p.misfit_rows q.misfit_rows (λ r f. let n : 0 ≡ 109 = ap (λ (u : List ℕ). get_or u 0 0) f in omega (arith, n)) (λ r f. let n : 0 ≡ 109 = ap (λ (u : List ℕ). get_or u 0 0) f in omega (arith, n)) last in
-    let head : a.head ≡ b.head = same_head a.head b.head undumped.part counts.unknown counts.displaced counts.torn freed.part two.part in
+    let head : a.head ≡ b.head = same_head a.head b.head undumped.part counts.unknown counts.displaced counts.torn freed.part dead.part two.part in
     same_told a b all.part head marked.part leaked.part heads.part misfits.part callers.part leaks.part rows.part

@@ -45,6 +45,7 @@ pub record IsHeadRead (h : Head) : Type 0 where
   pub displaced : IsNumber h.displaced
   pub torn : IsNumber h.torn
   pub freed : IfSome h.freed IsNumber
+  pub dead : IfSome h.dead IsNumber
   pub two : IfSome h.two AreTwoRead
 
 pub record IsRead (t : Told) : Type 0 where

@@ -1,7 +1,7 @@
 -- What a report tells, as its lines say it: a reader of the bytes alone finds this, and nothing else.
 use Rattle.std.specs.Prelude.{ℕ, Bool, List, [], ◌++◌, flat_map, codes, Option, None, Some}
 use Rattle.leak_report.specs.declared.head.Head.{Head}
-use Rattle.leak_report.specs.Lines.{caller_front, freed_lines, heads_line, kind_of, leak_front, log_line, newline, sizes_line, two_lines, undumped_line}
+use Rattle.leak_report.specs.Lines.{caller_front, dead_lines, freed_lines, heads_line, kind_of, leak_front, log_line, newline, sizes_line, two_lines, undumped_line}
 use Rattle.leak_report.specs.Misfits.{misfit_front, number_line}
 
 -- a number of blocks, and the sum of their sizes
@@ -63,6 +63,7 @@ number_lines (Some n) = number_line n
 
 abbrev pub told_text : Told → List ℕ
 told_text t =
-    sum_line (codes "blocks") t.all ++ undumped_line t.head ++ log_line t.head ++ freed_lines t.head.freed ++ two_lines t.head.two
+    sum_line (codes "blocks") t.all ++ undumped_line t.head ++ log_line t.head ++ freed_lines t.head.freed ++ dead_lines t.head.dead
+    ++ two_lines t.head.two
     ++ sum_line (codes "marked") t.marked ++ sum_line (codes "leaked") t.leaked ++ heads_line t.heads ++ number_lines t.misfits
     ++ flat_map caller_text t.callers ++ flat_map leak_text t.leaks ++ flat_map misfit_text t.misfit_rows

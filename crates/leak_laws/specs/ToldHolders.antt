@@ -3,7 +3,7 @@ use Rattle.std.specs.Prelude.{◌≡◌, ℕ, Bool, List, [], ◌++◌, map, fla
 use Rattle.std.specs.List.{AllByRecursion}
 use Rattle.leak_blocks.specs.declared.block.Block.{Block}
 use Rattle.leak_report.specs.declared.head.Head.{Head}
-use Rattle.leak_report.specs.Lines.{freed_lines, log_line, undumped_line}
+use Rattle.leak_report.specs.Lines.{dead_lines, freed_lines, log_line, undumped_line}
 use Rattle.leak_report.specs.Totals.{leaked_in, marked_in}
 use Rattle.leak_texts.specs.Numbered.{text_with}
 use Rattle.leak_holders.specs.declared.holder.Holder.{Holder}
@@ -28,6 +28,7 @@ pub record ToldHolders : Type 0 where
   pub displaced : ℕ
   pub torn : ℕ
   pub freed : Option ℕ
+  pub dead : Option ℕ
   pub fresh : Option Sum
   pub marked : Sum
   pub leaked : Sum
@@ -38,7 +39,7 @@ holder_text h = holder_line (record { text = 0; blocks = h.blocks; bytes = h.byt
 
 -- the lines of the first numbers
 abbrev pub head_told : ToldHolders → Head
-head_told t = record { undumped = t.undumped; unknown = t.unknown; displaced = t.displaced; torn = t.torn; freed = t.freed; two = None }
+head_told t = record { undumped = t.undumped; unknown = t.unknown; displaced = t.displaced; torn = t.torn; freed = t.freed; dead = t.dead; two = None }
 
 abbrev pub fresh_lines : Option Sum → List ℕ
 fresh_lines None = []
@@ -46,7 +47,8 @@ fresh_lines (Some s) = sum_line (codes "new") s
 
 abbrev pub holders_told : ToldHolders → List ℕ
 holders_told t =
-    sum_line (codes "blocks") t.all ++ undumped_line (head_told t) ++ log_line (head_told t) ++ freed_lines t.freed ++ fresh_lines t.fresh
+    sum_line (codes "blocks") t.all ++ undumped_line (head_told t) ++ log_line (head_told t) ++ freed_lines t.freed ++ dead_lines t.dead
+    ++ fresh_lines t.fresh
     ++ sum_line (codes "marked") t.marked ++ sum_line (codes "leaked") t.leaked ++ flat_map holder_text t.rows
 
 abbrev pub told_holder : List Block → List (List ℕ) → Holder → ToldHolder
@@ -68,6 +70,7 @@ holders_tell head blocks news set texts rows = record {
   displaced = head.displaced;
   torn = head.torn;
   freed = head.freed;
+  dead = head.dead;
   fresh = option_map (λ counted. sum_of (marked_in counted blocks)) news;
   marked = sum_of (marked_in set blocks);
   leaked = sum_of (leaked_in set blocks);
@@ -90,6 +93,7 @@ pub record AreHoldersRead (t : ToldHolders) : Type 0 where
   pub displaced : IsNumber t.displaced
   pub torn : IsNumber t.torn
   pub freed : IfSome t.freed IsNumber
+  pub dead : IfSome t.dead IsNumber
   pub fresh : IfSome t.fresh IsSumRead
   pub marked : IsSumRead t.marked
   pub leaked : IsSumRead t.leaked

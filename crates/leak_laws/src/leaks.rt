@@ -2,8 +2,8 @@
 
 ghost use Rattle.leak_laws.specs.Leaks.{LeakedInOneStay, LeakedInTwoStay, LeakedOfTwoAreOfOne};
 
-/// A report names each leaked block that the report of the same bytes names if less is left out (freed memory, links, slack, memory that
-/// can't be written), ends count, or the list of displacements has more in it, or is none: in one core, and in two.
+/// A report names each leaked block that the report of the same bytes names if less is left out (freed memory, links, slack, dead stack, memory
+/// that can't be written), ends count, or the list of displacements has more in it, or is none: in one core, and in two.
 pub fn reported_stay_reported()
     ensures one { LeakedInOneStay }
     ensures two { LeakedInTwoStay }

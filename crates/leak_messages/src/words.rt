@@ -1,10 +1,10 @@
 //! The texts of what refuses a command line.
 
 ghost use Rattle.std.specs.Prelude.{◌≡◌, ◌++◌, OnOk, string_bytes};
-ghost use Rattle.leak_messages.specs.Words.{displace_text, reading_text, usage_text};
+ghost use Rattle.leak_messages.specs.Words.{address_text, displace_text, reading_text, usage_text};
 
 use leak_index::ReadingError;
-use leak_request::{DisplaceFault, UsageFault};
+use leak_request::{AddressArgument, DisplaceFault, UsageFault};
 use std::alloc::AllocError;
 
 /// Appends the text of what refuses the words. Clap's is its own.
@@ -17,7 +17,7 @@ pub fn push_usage(out: &mut String, fault: &UsageFault) -> Result<(), AllocError
         UsageFault::Check => out.push_str("--check: not with --other-heap"),
         UsageFault::Sides => out.push_str("--in: not with --of"),
         UsageFault::Block => out.push_str("--block: only with --in or --of"),
-        UsageFault::Address => out.push_str("bad address"),
+        UsageFault::Address(argument) => push_address(out, *argument),
         UsageFault::NoMemory => out.push_str("out of memory"),
     }
 }
@@ -33,6 +33,18 @@ pub fn push_displace(out: &mut String, fault: DisplaceFault) -> Result<(), Alloc
             push_reading(out, error)
         }
     }
+}
+
+/// Appends the text of an address that is none.
+fn push_address(out: &mut String, argument: AddressArgument) -> Result<(), AllocError>
+    ensures { OnOk result (string_bytes out.new ≡ string_bytes out.old ++ address_text argument) }
+{
+    match argument {
+        AddressArgument::Operand => out.push_str("ADDRESS")?,
+        AddressArgument::In => out.push_str("--in")?,
+        AddressArgument::Of => out.push_str("--of")?,
+    }
+    out.push_str(": not 0x and 1 to 16 hexadecimal digits")
 }
 
 /// Appends the text of why displacements are no reading.

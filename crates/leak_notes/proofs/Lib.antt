@@ -1,4 +1,5 @@
 -- The lemmas of this crate, by subject.
 pub mod Gathering
 pub mod Parts
-pub mod SetLemmas
+pub mod PickLemmas
+pub mod FirstLemmas

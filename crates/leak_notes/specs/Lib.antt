@@ -3,3 +3,4 @@ pub mod Entry
 pub mod Threads
 pub mod Rows
 pub mod Sets
+pub mod Stacks

@@ -4,6 +4,7 @@ use Rattle.std.specs.Int.{w32, w64, to_le_bytes}
 use Rattle.leak_elf.specs.Sample.{sample, patched}
 use Rattle.leak_notes.specs.declared.error.NoteError.TheVariants.{Cut, StatusSize, VectorSize, NoThread}
 use Rattle.leak_notes.specs.Threads.{note_fault_of, registers_of, threads_of}
+use Rattle.leak_notes.specs.Stacks.{threads_in, random_of}
 
 -- the sample with a vector entry after its thread status: the descriptor of 512 zero bytes begins at 552
 abbrev pub with_vectors : List ℕ
@@ -20,6 +21,22 @@ with_state size =
 -- the same with the address of a block at the place in the descriptor
 abbrev pub with_state_word : ℕ → ℕ → List ℕ
 with_state_word size at = patched (with_state size) (552 + at) (to_le_bytes w64 0x10100)
+
+-- an auxiliary vector's entry without its descriptor, which has that size
+abbrev pub auxiliary_entry : ℕ → List ℕ
+auxiliary_entry size = to_le_bytes w32 5 ++ to_le_bytes w32 size ++ (6 ∷ 0 ∷ 0 ∷ 0 ∷ 0x43 ∷ 0x4f ∷ 0x52 ∷ 0x45 ∷ 0 ∷ 0 ∷ 0 ∷ 0 ∷ [])
+
+-- the sample with an auxiliary vector of that size after its thread status: its descriptor begins at 552
+abbrev pub with_auxiliary : ℕ → List ℕ
+with_auxiliary size = patched (patched sample 96 (to_le_bytes w64 (376 + size))) 532 (auxiliary_entry size)
+
+-- a core with a pair of that type and value at the offset
+abbrev pub with_pair : List ℕ → ℕ → ℕ → ℕ → List ℕ
+with_pair core at kind value = patched core at (to_le_bytes w64 kind ++ to_le_bytes w64 value)
+
+-- the sample with two auxiliary vectors: the first is one pair of zeros, and AT_RANDOM is in the second
+abbrev pub with_two_vectors : List ℕ
+with_two_vectors = with_pair (patched (patched (with_auxiliary 16) 96 (to_le_bytes w64 428)) 568 (auxiliary_entry 16)) 588 25 0x10ff0
 
 pub record AreAnswers : Type 0 where
   pub accepted : note_fault_of sample ≡ None
@@ -53,3 +70,12 @@ pub record AreAnswers : Type 0 where
   pub state_partial : registers_of (with_state_word 590 582) ≡ replicate 27 0 ++ (0x0100000000000000 ∷ [])
   pub state_of_another_name :
       registers_of (patched (patched (with_state_word 590 576) 532 (5 ∷ [])) 544 (0x43 ∷ 0x4f ∷ 0x52 ∷ 0x45 ∷ 0 ∷ 0 ∷ [])) ≡ replicate 27 0
+  pub stacks :
+      threads_in (patched (patched (patched sample 428 (to_le_bytes w64 7)) 460 (to_le_bytes w64 0x10800)) 476 (to_le_bytes w64 0x10f00))
+      ≡ record { sp = 0x10800; fs_base = 0x10f00; call = 7 } ∷ []
+  pub random : random_of (with_pair (with_auxiliary 32) 568 25 0x10ff0) ≡ Some 0x10ff0
+  pub first_random : random_of (with_pair (with_pair (with_auxiliary 32) 552 25 0x10ff8) 568 25 0x10ff0) ≡ Some 0x10ff8
+  pub random_of_another_type : random_of (with_pair (with_auxiliary 32) 568 26 0x10ff0) ≡ None
+  pub short_pair : random_of (with_pair (with_auxiliary 24) 568 25 0x10ff0) ≡ None
+  pub no_vector : random_of sample ≡ None
+  pub second_vector : random_of with_two_vectors ≡ None

@@ -4,6 +4,7 @@ ghost use Rattle.std.specs.Prelude.{◌≡◌, ◌+◌, ◌<◌, ◌≤◌, ◌^
 ghost use Rattle.std.specs.Int.{w32};
 ghost use Rattle.leak_elf.specs.Fields.{number_at};
 ghost use Rattle.leak_notes.specs.Entry.{name_size, desc_size, kind, padded, name, desc_at, desc, entry_size, following, is_cut, is_core, is_linux, is_status, is_vector, is_state};
+ghost use Rattle.leak_notes.specs.Stacks.{is_auxiliary};
 
 use byteorder::{ByteOrder, LittleEndian};
 use std::marker::Model;
@@ -23,10 +24,13 @@ const NT_PRSTATUS: u32 = 1;
 /// The type of a vector entry.
 const NT_FPREGSET: u32 = 2;
 
+/// The type of an auxiliary vector.
+const NT_AUXV: u32 = 6;
+
 /// The type of a state entry.
 const NT_X86_XSTATE: u32 = 0x202;
 
-/// The name of a thread status and of a vector entry.
+/// The name of a thread status, of a vector entry and of an auxiliary vector.
 const CORE: &[u8] = b"CORE\0";
 
 /// The name of a state entry.
@@ -162,6 +166,14 @@ impl<'a> Entry<'a> {
         ensures { result ≡ is_vector self.now }
     {
         self.kind() == NT_FPREGSET && self.is_core()
+    }
+
+    /// Whether it is an auxiliary vector.
+    pub(crate) fn is_auxiliary(&self) -> bool
+        requires { IsFalse (is_cut self.now) }
+        ensures { result ≡ is_auxiliary self.now }
+    {
+        self.kind() == NT_AUXV && self.is_core()
     }
 
     /// Whether it is a state entry.

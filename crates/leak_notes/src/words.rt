@@ -10,7 +10,7 @@ use std::alloc::AllocError;
 
 /// The number of 64 bits at the place in the bytes.
 #[tactic(auto, unfolding(leak_elf::specs::Fields::number_at))]
-fn u64_at(bytes: &[u8], at: usize) -> u64
+pub(crate) fn u64_at(bytes: &[u8], at: usize) -> u64
     requires { at + 8 ≤ length bytes.now }
     ensures { result ≡ number_at w64 bytes.now at }
 {

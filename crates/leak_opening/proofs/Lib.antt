@@ -1,2 +1,2 @@
 -- The lemmas of this crate, by subject.
-mod OpeningLemmas
+pub mod OpeningLemmas

@@ -1,7 +1,7 @@
 -- One more path is opened.
-use Rattle.std.proofs.Common.{◌≡◌, ℕ, List, [], ◌∷◌, ◌++◌, Result, Ok, Err, refl}
+use Rattle.std.proofs.Common.{◌≡◌, ℕ, List, [], ◌∷◌, ◌++◌, Result, Ok, Err, inl, refl}
 use Rattle.std.specs.declared.io.Error.{Error}
-use Rattle.leak_opening.specs.Opening.{AreOpened, Opens}
+use Rattle.leak_opening.specs.Opening.{AreOpened, IsCutShort, Opens}
 
 pub opened_more : {O F : Type 0} (opens : Opens O F) (paths : List (List ℕ)) (path : List ℕ) (first : O) (files : List F) (file : F) (before last : O)
     → AreOpened opens paths first files before → opens before path (Ok file) last → AreOpened opens (paths ++ path ∷ []) first (files ++ file ∷ []) last
@@ -19,3 +19,13 @@ opened_both opens [] more first (f ∷ files) others before last so next = absur
 opened_both opens (p ∷ paths) more first [] others before last so next = absurd so
 opened_both opens (p ∷ paths) more first (f ∷ files) others before last so next =
     (so.0, so.1, opened_both opens paths more so.0 files others before last so.2 next)
+
+-- no path is opened yet
+pub none_opened : {O F : Type 0} (opens : Opens O F) (paths : List (List ℕ)) (first : O) → IsCutShort opens paths first first
+none_opened opens paths first = inl (record { earlier = []; later = paths; split = refl; files = []; opened = refl })
+
+-- the paths of a first part are opened
+pub part_opened : {O F : Type 0} (opens : Opens O F) (paths earlier later : List (List ℕ)) (first : O) (files : List F) (last : O)
+    → paths ≡ earlier ++ later → AreOpened opens earlier first files last → IsCutShort opens paths first last
+part_opened opens paths earlier later first files last split opened =
+    inl (record { earlier = earlier; later = later; split = split; files = files; opened = opened })

@@ -1,5 +1,5 @@
 -- How paths are opened: each once, in order, up to the first that is refused. Own rule.
-use Rattle.std.specs.Prelude.{◌≡◌, ℕ, List, [], ◌∷◌, ◌++◌, Result, Ok, Err, string_bytes}
+use Rattle.std.specs.Prelude.{◌≡◌, ◌⊎◌, ℕ, List, [], ◌∷◌, ◌++◌, Result, Ok, Err, string_bytes}
 use Rattle.std.specs.IoError.{error_kind}
 use Rattle.std.specs.declared.io.Error.{Error}
 use Rattle.leak_opening.specs.declared.fault.OpenFault.{OpenFault}
@@ -31,7 +31,20 @@ pub record IsRefusedAt {O F : Type 0} (opens : Opens O F) (paths : List (List �
   pub refused : opens before path (Err error) last
   pub reason_is : reason ≡ reason_of (error_kind error)
 
+-- the paths of a first part were opened, each once and in order, and these are their files
+pub record IsOpenedInPart {O F : Type 0} (opens : Opens O F) (paths : List (List ℕ)) (first last : O) : Type 0 where
+  pub earlier : List (List ℕ)
+  pub later : List (List ℕ)
+  pub split : paths ≡ earlier ++ later
+  pub files : List F
+  pub opened : AreOpened opens earlier first files last
+
+-- what was opened before an allocation failed: a first part of the paths, or all up to one that was refused
+abbrev pub IsCutShort : {O F : Type 0} → Opens O F → List (List ℕ) → O → O → Type 0
+IsCutShort opens paths first last =
+    IsOpenedInPart opens paths first last ⊎ ((path : List ℕ) × (reason : Reason) × IsRefusedAt opens paths first last path reason)
+
 -- why some paths are not opened: the first that is refused, or an allocation failed
 abbrev pub IsOpenFault : {O F : Type 0} → Opens O F → List (List ℕ) → O → O → OpenFault → Type 0
 IsOpenFault opens paths first last (Refused path reason) = IsRefusedAt opens paths first last (string_bytes path) reason
-IsOpenFault opens paths first last NoMemory = Unit {0}
+IsOpenFault opens paths first last NoMemory = IsCutShort opens paths first last

@@ -9,6 +9,7 @@ use Rattle.leak_messages.specs.Inputs.{read_text, reason_text}
 use Rattle.leak_messages.specs.Words.{usage_text}
 use Rattle.leak_messages.proofs.TextLemmas.{displace_shown, find_shown, numbered, read_shown, reason_shown, write_shown}
 use Rattle.leak_streams.specs.declared.fault.ReadFault.{ReadFault}
+use Rattle.leak_request.specs.declared.fault.AddressArgument.TheVariants as argument
 use Rattle.leak_request.specs.declared.fault.UsageFault.{UsageFault}
 use Rattle.leak_request.specs.declared.fault.UsageFault.TheVariants as usage
 use Rattle.leak_program.specs.declared.failure.Failure.{Failure}
@@ -37,7 +38,9 @@ usage_line (usage.Displace f) own = line (usage_text (usage.Displace f)) (displa
 usage_line usage.Check own = line (usage_text usage.Check) refl
 usage_line usage.Sides own = line (usage_text usage.Sides) refl
 usage_line usage.Block own = line (usage_text usage.Block) refl
-usage_line usage.Address own = line (usage_text usage.Address) refl
+usage_line (usage.Address argument.Operand) own = line (usage_text (usage.Address argument.Operand)) refl
+usage_line (usage.Address argument.In) own = line (usage_text (usage.Address argument.In)) refl
+usage_line (usage.Address argument.Of) own = line (usage_text (usage.Address argument.Of)) refl
 usage_line usage.NoMemory own = line (usage_text usage.NoMemory) refl
 
 pub lines : (failure : Failure) → (IsOfClap failure → ⊥) → IsOneLine (message_of failure)

@@ -3,7 +3,9 @@ use Rattle.std.proofs.Common.{◌≡◌, List, [], Option, None, Some, ℕ, Stri
 use Rattle.leak_find.specs.declared.fault.RunFault.{RunFault}
 use Rattle.leak_find.specs.declared.fault.RunFault.TheVariants as run
 use Rattle.leak_find.specs.Streams.{Sink, Source}
+use Rattle.std.proofs.lemmas.List.{append-nil}
 use Rattle.leak_opening.specs.Opening.{IsOpenFault, Opens}
+use Rattle.leak_opening.proofs.OpeningLemmas.{part_opened}
 use Rattle.leak_opening.specs.declared.fault.OpenFault.{OpenFault}
 use Rattle.leak_opening.specs.declared.fault.OpenFault.TheVariants as opening
 use Rattle.leak_streams.specs.declared.fault.ReadFault.{ReadFault}
@@ -26,7 +28,7 @@ refused_by opens source sink words r first last held holds (Usage fault) asked f
 refused_by opens source sink words r first last held holds (Open path reason) asked fails = record { request = r; asked = asked; fails = fails }
 refused_by opens source sink words r first last held holds (Read n path f) asked fails = record { request = r; asked = asked; fails = fails }
 refused_by opens source sink words r first last held holds (Run fault) asked fails = record { request = r; asked = asked; fails = fails }
-refused_by opens source sink words r first last held holds NoMemory asked fails = fails
+refused_by opens source sink words r first last held holds NoMemory asked fails = record { request = r; asked = asked; fails = fails }
 
 -- a text that was not written completely
 cut : {O F W : Type 0} (opens : Opens O F) (source : Source F) (sink : Sink W) (words : List (List ℕ)) (text : String Global) (first : O)
@@ -58,7 +60,7 @@ module _ {O F W : Type 0} (opens : Opens O F) (paths : List (List ℕ)) (first l
       → IsRefusalOf opens paths first last held holds fails failure
   unopened (opening.Refused path reason) failure told same refused =
       subst (IsRefusalOf opens paths first last held holds fails) (sym told) (same, refused)
-  unopened opening.NoMemory failure told same refused = subst (IsRefusalOf opens paths first last held holds fails) (sym told) same
+  unopened opening.NoMemory failure told same refused = subst (IsRefusalOf opens paths first last held holds fails) (sym told) (same, refused)
 
   kept : (fault : RunFault) → IsOfReader fault → OfOpened opens paths first last (fails fault)
       → ((n : ℕ) (f : ReadFault) (files : List F) → fails (run.Read n f) files → holds ≡ held) → holds ≡ held
@@ -77,4 +79,5 @@ module _ {O F W : Type 0} (opens : Opens O F) (paths : List (List ℕ)) (first l
   told fault (Read n path f) named of keeps = (subst (λ e. OfOpened opens paths first last (fails e)) named.0 of, named.1)
   told fault (Run g) named of keeps =
       (subst (λ e. OfOpened opens paths first last (fails e)) (sym named.0) of, subst (LacksPath paths) (sym named.0) named.1)
-  told fault NoMemory named of keeps = kept fault named of keeps
+  told fault NoMemory named of keeps =
+      (kept fault named of keeps, part_opened opens paths paths [] first of.files last (sym (append-nil paths)) of.opened)

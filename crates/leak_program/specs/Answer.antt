@@ -87,4 +87,5 @@ IsFailureOf opens source sink words first last held holds (Read n path f) =
     FailsRequest opens source sink words first last held holds (Read n path f)
 IsFailureOf opens source sink words first last held holds (Run fault) =
     FailsRequest opens source sink words first last held holds (Run fault)
-IsFailureOf opens source sink words first last held holds NoMemory = holds ≡ held
+IsFailureOf opens source sink words first last held holds NoMemory =
+    FailsRequest opens source sink words first last held holds NoMemory

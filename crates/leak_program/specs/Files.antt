@@ -11,7 +11,7 @@ use Rattle.leak_find.specs.Holders.{IsHoldersRunFault, RunsHolders}
 use Rattle.leak_find.specs.Run.{IsRunFault, Runs}
 use Rattle.leak_find.specs.Streams.{Sink, Source}
 use Rattle.leak_find.specs.Why.{IsWhyRunFault, RunsWhy}
-use Rattle.leak_opening.specs.Opening.{AreOpened, IsRefusedAt, Opens}
+use Rattle.leak_opening.specs.Opening.{AreOpened, IsCutShort, IsRefusedAt, Opens}
 use Rattle.leak_program.specs.Failures.{LacksPath, path_at}
 use Rattle.leak_program.specs.declared.failure.Failure.{Failure}
 use Rattle.leak_program.specs.declared.failure.Failure.TheVariants.{Word, Usage, Open, Read, Run, NoMemory}
@@ -71,7 +71,8 @@ abbrev pub paths_of_held : HoldersRequest → List (List ℕ)
 paths_of_held r = map string_bytes r.paths.items ++ if_any (option_map string_bytes r.since)
 
 -- Why files give no answer: one of them is refused, the first, and no call is made of the writer; or they are opened, and their run has
--- no status, as is said. A reader that was not read to its end is told with the path of its file.
+-- no status, as is said. A reader that was not read to its end is told with the path of its file. If memory is refused, no path was opened
+-- twice, and none out of order.
 abbrev pub IsRefusalOf : {O F W : Type 0} → Opens O F → List (List ℕ) → O → O → W → W → (RunFault → List F → Type 0) → Failure → Type 0
 IsRefusalOf opens paths first last held holds fails Word = ⊥
 IsRefusalOf opens paths first last held holds fails (Usage fault) = ⊥
@@ -80,4 +81,4 @@ IsRefusalOf opens paths first last held holds fails (Open path reason) =
 IsRefusalOf opens paths first last held holds fails (Read n path f) =
     OfOpened opens paths first last (fails (run.Read n f)) × (path_at paths n ≡ Some (string_bytes path))
 IsRefusalOf opens paths first last held holds fails (Run fault) = OfOpened opens paths first last (fails fault) × LacksPath paths fault
-IsRefusalOf opens paths first last held holds fails NoMemory = holds ≡ held
+IsRefusalOf opens paths first last held holds fails NoMemory = (holds ≡ held) × IsCutShort opens paths first last

@@ -49,7 +49,7 @@ usage_message (usage.Displace f) = line_of (usage_text (usage.Displace f))
 usage_message usage.Check = line_of (usage_text usage.Check)
 usage_message usage.Sides = line_of (usage_text usage.Sides)
 usage_message usage.Block = line_of (usage_text usage.Block)
-usage_message usage.Address = line_of (usage_text usage.Address)
+usage_message (usage.Address a) = line_of (usage_text (usage.Address a))
 usage_message usage.NoMemory = line_of (usage_text usage.NoMemory)
 
 abbrev pub message_of : Failure → List ℕ
@@ -67,7 +67,7 @@ IsClapText (usage.Displace f) = ⊥
 IsClapText usage.Check = ⊥
 IsClapText usage.Sides = ⊥
 IsClapText usage.Block = ⊥
-IsClapText usage.Address = ⊥
+IsClapText (usage.Address a) = ⊥
 IsClapText usage.NoMemory = ⊥
 
 abbrev pub IsOfClap : Failure → Type 0

@@ -1,6 +1,8 @@
 -- What the program does from its start to its exit status: it answers its words, and says why if there is no answer.
 use Rattle.std.specs.Prelude.{◌≡◌, ◌⊎◌, ◌<◌, ◌≤◌, ℕ, List, Result, Ok, Err, length}
 use Rattle.leak_find.specs.Streams.{IsTried, Sink, Source}
+use Rattle.std.specs.declared.io.ErrorKind.{ErrorKind}
+use Rattle.std.specs.declared.io.ErrorKind.TheVariants as kind
 use Rattle.leak_opening.specs.Opening.{Opens}
 use Rattle.leak_program.specs.Answer.{Answers, IsFailureOf}
 use Rattle.leak_program.specs.Messages.{message_of}
@@ -28,10 +30,11 @@ IsSaid warner (Err failure) heard hears = IsTold warner failure heard hears
 abbrev pub IsAnswer : {O F W V : Type 0} → Opens O F → Source F → Sink W → Sink V → List (List ℕ) → O → O → W → W → V → V
     → Result ℕ Failure → Type 0
 IsAnswer opens source sink warner words first last held holds heard hears (Ok status) =
-    (length words < 2 → SearchesSample sink warner held holds heard hears status)
+    (length words < 2 → (last ≡ first) × SearchesSample sink warner held holds heard hears status)
     × (2 ≤ length words → Answers opens source sink warner words first last held holds heard hears status)
 IsAnswer opens source sink warner words first last held holds heard hears (Err failure) =
-    (hears ≡ heard) × (2 ≤ length words → IsFailureOf opens source sink words first last held holds failure)
+    (hears ≡ heard) × (length words < 2 → last ≡ first)
+    × (2 ≤ length words → IsFailureOf opens source sink words first last held holds failure)
 
 -- the words were answered, and what is to be said of it was said
 pub record IsAnswered {O F W V : Type 0} (opens : Opens O F) (source : Source F) (sink : Sink W) (warner : Sink V)
@@ -50,6 +53,11 @@ IsUnread (Usage fault) = ⊥
 IsUnread (Open path reason) = ⊥
 IsUnread (Read n path f) = ⊥
 IsUnread (Run fault) = ⊥
+
+-- the reason that the kind of the error tells: only want of memory is told as such
+abbrev pub unread_as : ErrorKind → Failure
+unread_as kind.OutOfMemory = NoMemory
+unread_as _ = Word
 
 -- the program's words can't be had, nothing but that is said, and no call is made of the writer
 pub record IsUnstarted {W V : Type 0} (warner : Sink V) (held holds : W) (heard hears : V) (status : ℕ) : Type 0 where

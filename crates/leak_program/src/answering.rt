@@ -41,6 +41,7 @@ pub fn answer<
     ensures sample { length words.now < 2
         → IfOk result (SearchesSample (by_writes W.calls) (by_writes V.calls)
         writer.old writer.new warner.old warner.new) }
+    ensures no_file { length words.now < 2 → opener.new ≡ opener.old }
     ensures ok { 2 ≤ length words.now → IfOk result
         (Answers O.opens (by_reads O.File.calls) (by_writes W.calls) (by_writes V.calls) (map string_bytes words.now)
         opener.old opener.new writer.old writer.new warner.old warner.new) }

@@ -1,9 +1,10 @@
 //! The start of the program, and its exit status.
 
 ghost use Rattle.std.specs.Prelude.{◌≡◌, IfErr, map, string_bytes};
+ghost use Rattle.std.specs.IoError.{error_kind};
 ghost use Rattle.std.specs.Process.{exit_status};
 ghost use Rattle.leak_find.specs.Streams.{IsTried, by_reads, by_writes};
-ghost use Rattle.leak_program.specs.Start.{HasStarted, IsAnswered, IsTold, IsUnread};
+ghost use Rattle.leak_program.specs.Start.{HasStarted, IsAnswered, IsTold, IsUnread, unread_as};
 
 use crate::answering::answer;
 use crate::failure::Failure;
@@ -77,12 +78,12 @@ fn words_of<R: Env + AllocGlobal>(rt: &R) -> Result<Vec<String>, Failure>
 
 /// Why the words of the command line can't be had.
 fn unread(error: &io::Error) -> Failure
-    ensures { IsUnread result }
+    ensures reason { result ≡ unread_as (error_kind error.now) }
+    ensures either { IsUnread result }
 {
-    if error.kind() == io::ErrorKind::OutOfMemory {
-        Failure::NoMemory
-    } else {
-        Failure::Word
+    match error.kind() {
+        io::ErrorKind::OutOfMemory => Failure::NoMemory,
+        _ => Failure::Word,
     }
 }
 

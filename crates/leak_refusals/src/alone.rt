@@ -1,7 +1,7 @@
 //! The search of one core on the caller's thread.
 
 use crate::answer::Answer;
-use crate::samples::{ONE_BLOCK, core_of, vector_core};
+use crate::samples::{ONE_BLOCK, core_of, stack_core, vector_core};
 use crate::whole::answer_of;
 use leak_find::{Rules, Skip, find_alone};
 use std::alloc::Global;
@@ -174,4 +174,34 @@ pub(crate) fn unslacked(alloc: Global) -> Option<Answer> {
         false,
     );
     Some(answer_of(found, UNSLACKED))
+}
+
+/// The report of a block to which only a word in dead stack leads.
+const UNDEAD: &str = "blocks 1 bytes 32\n\
+                      undumped 0\n\
+                      unknown 0 displaced 0 torn 0\n\
+                      dead 252\n\
+                      marked 0 bytes 0\n\
+                      leaked 1 bytes 32\n\
+                      heads 1\n\
+                      caller 1 32 1 ./a.out:[0x401136]\n\
+                      leak 0x10100 32 1 head ./a.out:[0x401136]\n";
+
+/// `find_alone` without dead stack, of a block to which only a word there leads.
+pub(crate) fn undead(alloc: Global) -> Option<Answer> {
+    let core = stack_core(alloc)?;
+    let found = find_alone(
+        alloc,
+        core.as_slice(),
+        ONE_BLOCK.as_bytes(),
+        Rules {
+            skip: Skip {
+                dead: true,
+                ..Skip::usual()
+            },
+            ..Rules::usual()
+        },
+        false,
+    );
+    Some(answer_of(found, UNDEAD))
 }

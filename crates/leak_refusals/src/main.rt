@@ -25,7 +25,7 @@ use std::rt::Env;
 use std::thread::Threads;
 
 /// The calls, by name.
-static CALLS: [&str; 53] = [
+static CALLS: [&str; 56] = [
     "core_k",
     "Image::read",
     "Threads::read",
@@ -39,6 +39,8 @@ static CALLS: [&str; 53] = [
     "Roots::find",
     "Roots::find_unfreed",
     "Roots::skip_slack",
+    "dead_spans",
+    "Roots::skip_dead",
     "cut",
     "pieces",
     "Claims::new",
@@ -61,6 +63,7 @@ static CALLS: [&str; 53] = [
     "find_alone_checked",
     "find_alone_unlinked",
     "find_alone_unslacked",
+    "find_alone_undead",
     "find_one",
     "find_two",
     "find_why",
@@ -137,6 +140,8 @@ fn answer_of<R: AllocGlobal + Threads + Sync>(rt: &R, name: &str) -> Option<Answ
         "Roots::find" => searching::roots(alloc),
         "Roots::find_unfreed" => searching::unfreed_roots(alloc),
         "Roots::skip_slack" => searching::unslacked_roots(alloc),
+        "dead_spans" => searching::dead_stack(alloc),
+        "Roots::skip_dead" => searching::undead_roots(alloc),
         "cut" => searching::cut(alloc),
         "pieces" => searching::pieces(alloc),
         "Claims::new" => marking::claims(alloc),
@@ -159,6 +164,7 @@ fn answer_of<R: AllocGlobal + Threads + Sync>(rt: &R, name: &str) -> Option<Answ
         "find_alone_checked" => alone::checked(alloc),
         "find_alone_unlinked" => alone::unlinked(alloc),
         "find_alone_unslacked" => alone::unslacked(alloc),
+        "find_alone_undead" => alone::undead(alloc),
         "find_one" => whole::by_workers(rt),
         "find_two" => whole::two_cores(rt),
         "find_why" => whole::held_by(alloc),

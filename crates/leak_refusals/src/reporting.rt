@@ -67,6 +67,7 @@ pub(crate) fn report(alloc: Global) -> Option<Answer> {
         displaced: 0,
         torn: 0,
         freed: None,
+        dead: None,
         two: None,
     };
     match text(

@@ -55,6 +55,23 @@ pub(crate) fn vector_core(alloc: Global) -> Option<Vec<u8>> {
     Some(core)
 }
 
+/// The sample core with a word that leads to the one block, in a stack below rsp: the stack of a thread is the segment, by its
+/// record, and by AT_RANDOM in an auxiliary vector after its status.
+pub(crate) fn stack_core(alloc: Global) -> Option<Vec<u8>> {
+    let words = [(0x10008, 0x10100), (0x10f10, 0x10000), (0x10f18, 0x1000)];
+    let mut core = core_of(alloc, &words)?;
+    set(&mut core, 96, &392u64.to_le_bytes());
+    set(&mut core, 460, &0x10800u64.to_le_bytes());
+    set(&mut core, 476, &0x10f00u64.to_le_bytes());
+    set(
+        &mut core,
+        532,
+        b"\x05\0\0\0\x10\0\0\0\x06\0\0\0CORE\0\0\0\0\x19\0\0\0\0\0\0\0",
+    );
+    set(&mut core, 560, &0x10ff0u64.to_le_bytes());
+    Some(core)
+}
+
 /// The live blocks of the log.
 pub(crate) fn live_of(alloc: Global, log: &str) -> Option<Live> {
     let log = Log::read(alloc, log.as_bytes()).ok()?;

@@ -1,13 +1,14 @@
 //! The calls that make a search's lookup and roots.
 
 use crate::answer::Answer;
-use crate::samples::{core_of, live_of};
+use crate::samples::{ONE_BLOCK, core_of, live_of, stack_core};
 use leak_blocks::{SmallSpans, Span, replay, small_spans};
 use leak_elf::Image;
 use leak_index::{Hits, Lookup, Paged, Reading};
 use leak_mtrace::Log;
 use leak_notes::Threads;
 use leak_roots::{CutError, Piece, Roots};
+use leak_stacks::dead_spans;
 use std::alloc::Global;
 
 /// `Paged::new` over four blocks that touch.
@@ -72,6 +73,40 @@ pub(crate) fn unslacked_roots(alloc: Global) -> Option<Answer> {
     match roots.skip_slack(alloc, slack.as_slice()) {
         Ok(roots) => Some(Answer::of(
             roots.memory() == [(0x10000u64, 0x10100u64), (0x10118, 0x11000)].as_slice(),
+        )),
+        Err(_) => Some(Answer::Wanting),
+    }
+}
+
+/// `dead_spans` of the sample core with a stack.
+pub(crate) fn dead_stack(alloc: Global) -> Option<Answer> {
+    let core = stack_core(alloc)?;
+    let image = Image::read(alloc, core.as_slice()).ok()?;
+    let dead = [Span {
+        first: 0x10000,
+        last: 0x107ff,
+    }];
+    match dead_spans(alloc, &image) {
+        Ok(spans) => Some(Answer::of(spans.ranges() == dead.as_slice())),
+        Err(_) => Some(Answer::Wanting),
+    }
+}
+
+/// `Roots::skip_dead` of that core with a block.
+pub(crate) fn undead_roots(alloc: Global) -> Option<Answer> {
+    let core = stack_core(alloc)?;
+    let image = Image::read(alloc, core.as_slice()).ok()?;
+    let threads = Threads::read(alloc, &image).ok()?;
+    let live = live_of(alloc, ONE_BLOCK)?;
+    let small = SmallSpans::none(alloc);
+    let roots = Roots::find(alloc, &image, &threads, &live, &small, true).ok()?;
+    let dead = [Span {
+        first: 0x10000,
+        last: 0x107ff,
+    }];
+    match roots.skip_dead(alloc, dead.as_slice()) {
+        Ok(roots) => Some(Answer::of(
+            roots.dead() == 252 && roots.memory() == [(0x10800u64, 0x11000u64)].as_slice(),
         )),
         Err(_) => Some(Answer::Wanting),
     }

@@ -32,6 +32,11 @@ abbrev pub freed_lines : Option ℕ → List ℕ
 freed_lines None = []
 freed_lines (Some freed) = codes "freed " ++ (decimal freed ++ newline)
 
+-- only if dead stack is left out
+abbrev pub dead_lines : Option ℕ → List ℕ
+dead_lines None = []
+dead_lines (Some dead) = codes "dead " ++ (decimal dead ++ newline)
+
 abbrev pub reread_line : Two → List ℕ
 reread_line two = codes "reread " ++ (decimal two.reread ++ newline)
 

@@ -13,6 +13,8 @@ pub struct Head {
     pub torn: u64,
     /// How many words of freed memory are left out of the root words, if such words are left out.
     pub freed: Option<u64>,
+    /// How many words of dead stack are left out of the root words, if such words are left out.
+    pub dead: Option<u64>,
     /// What two cores add. The other numbers are then of the second core and its log.
     pub two: Option<Two>,
 }

@@ -22,7 +22,7 @@ mod warning;
 
 pub use head::{Head, Two};
 pub use laws::{live_have_callers, rows_are_sums, worked_reports, worked_warnings};
-pub use lines::{caller_text, push_freed, push_head, push_line, push_sizes};
+pub use lines::{caller_text, push_dead, push_freed, push_head, push_line, push_sizes};
 pub use report::text;
 pub use signs::Signs;
 pub use totals::{CallerRow, Totals, marked_sizes};

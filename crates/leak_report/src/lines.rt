@@ -1,7 +1,7 @@
 //! The lines of the report.
 ghost use Rattle.std.specs.Prelude.{◌≡◌, ◌++◌, OnOk, codes, string_bytes};
 ghost use Rattle.leak_report.specs.Totals.{IsIn, text_at};
-ghost use Rattle.leak_report.specs.Lines.{newline, sizes_line, undumped_line, log_line, freed_lines, reread_line, two_lines, heads_line, kind_of, caller_front, leak_front, caller_line, leak_line};
+ghost use Rattle.leak_report.specs.Lines.{newline, sizes_line, undumped_line, log_line, freed_lines, dead_lines, reread_line, two_lines, heads_line, kind_of, caller_front, leak_front, caller_line, leak_line};
 ghost use Rattle.leak_report.specs.Misfits.{number_line, misfit_line};
 
 use crate::head::{Head, Two};
@@ -51,6 +51,16 @@ pub fn push_freed(out: &mut String, freed: Option<u64>) -> Result<(), AllocError
 {
     match freed {
         Some(freed) => writeln!(out, "freed {freed}"),
+        None => Ok(()),
+    }
+}
+
+/// Appends the line of the words of dead stack, if they are left out.
+pub fn push_dead(out: &mut String, dead: Option<u64>) -> Result<(), AllocError>
+    ensures { OnOk result (string_bytes out.new ≡ string_bytes out.old ++ dead_lines dead) }
+{
+    match dead {
+        Some(dead) => writeln!(out, "dead {dead}"),
         None => Ok(()),
     }
 }

@@ -2,12 +2,12 @@
 ghost use Rattle.std.specs.Prelude.{◌≡◌, ◌++◌, ◌-◌, ◌≤◌, length, flat_map, codes, string_bytes, IfOk, IfSome, OnOk, option_copied};
 ghost use Rattle.std.specs.List.{AllByRecursion};
 ghost use Rattle.leak_report.specs.Totals.{bytes_of, leaks_in, IsIn, HaveCallersIn};
-ghost use Rattle.leak_report.specs.Lines.{sizes_line, undumped_line, log_line, freed_lines, two_lines, heads_line, caller_line, leak_line};
+ghost use Rattle.leak_report.specs.Lines.{sizes_line, undumped_line, log_line, freed_lines, dead_lines, two_lines, heads_line, caller_line, leak_line};
 ghost use Rattle.leak_report.specs.Report.{text_of};
 
 use crate::head::Head;
 use crate::lines::{
-    push_caller, push_freed, push_head, push_heads, push_leak, push_sizes, push_two,
+    push_caller, push_dead, push_freed, push_head, push_heads, push_leak, push_sizes, push_two,
 };
 use crate::misfits::{push_misfits, push_number};
 use crate::totals::{CallerRow, Totals};
@@ -53,7 +53,7 @@ fn sums(alloc: Global, head: &Head, live: &Live, totals: &Totals) -> Result<Stri
     ensures { IfOk result (λ out. string_bytes out ≡
         sizes_line (codes "blocks") (length live.now.blocks) (bytes_of live.now.blocks)
         ++ undumped_line head.now ++ log_line head.now ++ freed_lines head.now.freed
-        ++ two_lines head.now.two
+        ++ dead_lines head.now.dead ++ two_lines head.now.two
         ++ sizes_line (codes "marked") (length live.now.blocks - totals.now.blocks)
         (bytes_of live.now.blocks - totals.now.bytes)
         ++ sizes_line (codes "leaked") totals.now.blocks totals.now.bytes
@@ -64,6 +64,7 @@ fn sums(alloc: Global, head: &Head, live: &Live, totals: &Totals) -> Result<Stri
     push_sizes(&mut out, "blocks", blocks, bytes)?;
     push_head(&mut out, head)?;
     push_freed(&mut out, head.freed)?;
+    push_dead(&mut out, head.dead)?;
     push_two(&mut out, head.two)?;
     push_sizes(
         &mut out,

@@ -60,5 +60,5 @@ question_refused rows (fault.Displace f) whole taken refused = absurd refused
 question_refused rows fault.Check whole taken refused = (whole, taken, refused)
 question_refused rows fault.Sides whole taken refused = (whole, taken, refused)
 question_refused rows fault.Block whole taken refused = (whole, taken, refused)
-question_refused rows fault.Address whole taken refused = (whole, taken, refused)
+question_refused rows (fault.Address a) whole taken refused = (whole, taken, refused)
 question_refused rows fault.NoMemory whole taken refused = absurd refused

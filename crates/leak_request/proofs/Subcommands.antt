@@ -96,7 +96,7 @@ mistake_told line words e (fault.Displace f) same kinds is = absurd is
 mistake_told line words e fault.Check same kinds is = absurd is
 mistake_told line words e fault.Sides same kinds is = absurd is
 mistake_told line words e fault.Block same kinds is = absurd is
-mistake_told line words e fault.Address same kinds is = absurd is
+mistake_told line words e (fault.Address a) same kinds is = absurd is
 mistake_told line words e fault.NoMemory same kinds is = tt
 
 -- a text is of no file
@@ -115,7 +115,7 @@ refused_after words name rows (fault.Displace f) taken met refused = (taken, rw 
 refused_after words name rows fault.Check taken met refused = (taken, rw met refused)
 refused_after words name rows fault.Sides taken met refused = (taken, rw met refused)
 refused_after words name rows fault.Block taken met refused = (taken, rw met refused)
-refused_after words name rows fault.Address taken met refused = (taken, rw met refused)
+refused_after words name rows (fault.Address a) taken met refused = (taken, rw met refused)
 refused_after words name rows fault.NoMemory taken met refused = tt
 
 none_shown : (text : String Global) (met : Option (Text × List Row)) → IsSomeAnd met (λ m. IsRequest m.0 m.1 (Shown text)) → ⊥

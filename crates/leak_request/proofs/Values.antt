@@ -52,7 +52,7 @@ bad_by (fault.Displace f) reason bad = bad
 bad_by fault.Check reason bad = bad
 bad_by fault.Sides reason bad = bad
 bad_by fault.Block reason bad = bad
-bad_by fault.Address reason bad = bad
+bad_by (fault.Address a) reason bad = bad
 bad_by fault.NoMemory reason bad = tt
 
 -- there are as many paths as a search reads files

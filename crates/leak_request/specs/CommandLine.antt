@@ -38,7 +38,7 @@ plan_rules = number_rule (codes "workers") (codes "4") 1 64
 abbrev pub reading_rules : List Rule
 reading_rules = text_rule (codes "displace") ∷ flag_rule (codes "skip-ends") ∷ flag_rule (codes "all-memory")
     ∷ flag_rule (codes "skip-freed") ∷ flag_rule (codes "skip-links")
-    ∷ flag_rule (codes "skip-slack") ∷ []
+    ∷ flag_rule (codes "skip-slack") ∷ flag_rule (codes "skip-dead-stack") ∷ []
 
 -- the options about warnings
 abbrev pub warning_rules : List Rule

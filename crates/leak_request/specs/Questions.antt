@@ -6,6 +6,8 @@ use Rattle.leak_holders.specs.declared.question.Side.{Side}
 use Rattle.leak_holders.specs.declared.question.Side.TheVariants as side
 use Rattle.leak_request.specs.Address.{IsAddress, IsBadAddress}
 use Rattle.leak_request.specs.FoundRows.{IsGiven}
+use Rattle.leak_request.specs.declared.fault.AddressArgument.{AddressArgument}
+use Rattle.leak_request.specs.declared.fault.AddressArgument.TheVariants as argument
 use Rattle.leak_request.specs.declared.fault.UsageFault.{UsageFault}
 use Rattle.leak_request.specs.declared.fault.UsageFault.TheVariants as fault
 
@@ -51,15 +53,20 @@ pub record IsAskedBy (text : Text) (s : Side) (one : Bool) (q : Question) : Type
   pub side : q.side ≡ s
   pub alone : q.alone ≡ one
 
--- the text is no address, and that is the refusal
-abbrev pub IsBadFor : Text → UsageFault → Type 0
-IsBadFor text f = (f ≡ fault.Address) × IsBadAddress text
+-- where the address of the side stands
+abbrev pub argument_of : Side → AddressArgument
+argument_of side.In = argument.In
+argument_of side.Of = argument.Of
+
+-- the text is no address, and that is the refusal, with the side's option
+abbrev pub IsBadFor : Text → Side → UsageFault → Type 0
+IsBadFor text s f = (f ≡ fault.Address (argument_of s)) × IsBadAddress text
 
 -- Why there is neither a question nor none. No two of these hold of the same rows.
 abbrev pub IsQuestionFault : List Row → UsageFault → Type 0
 IsQuestionFault rows fault.Sides = AsksBothSides rows
 IsQuestionFault rows fault.Block = AsksNoSide rows × IsGiven rows (codes "block")
-IsQuestionFault rows fault.Address = (s : Side) × AsksBadAddress rows s
+IsQuestionFault rows (fault.Address a) = (s : Side) × (a ≡ argument_of s) × AsksBadAddress rows s
 IsQuestionFault rows (fault.Words text) = ⊥
 IsQuestionFault rows (fault.Displace f) = ⊥
 IsQuestionFault rows fault.Check = ⊥

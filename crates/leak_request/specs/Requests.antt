@@ -15,6 +15,7 @@ use Rattle.leak_request.specs.Displacements.{IsListed, displace_fault_of}
 use Rattle.leak_request.specs.FoundRows.{IsGiven}
 use Rattle.leak_request.specs.Questions.{IsQuestionAt, IsQuestionFault}
 use Rattle.leak_request.specs.declared.fault.DisplaceFault.{DisplaceFault}
+use Rattle.leak_request.specs.declared.fault.AddressArgument.TheVariants.{Operand}
 use Rattle.leak_request.specs.declared.fault.UsageFault.{UsageFault}
 use Rattle.leak_request.specs.declared.fault.UsageFault.TheVariants as fault
 use Rattle.leak_request.specs.declared.options.GrowRequest.{GrowRequest}
@@ -69,6 +70,7 @@ pub record IsSearchRequest (name : Text) (rows : List Row) (r : SearchRequest) :
   pub freed : IsTrue r.options.skip.freed ↔ IsGiven rows (codes "skip-freed")
   pub links : IsTrue r.options.skip.links ↔ IsGiven rows (codes "skip-links")
   pub slack : IsTrue r.options.skip.slack ↔ IsGiven rows (codes "skip-slack")
+  pub dead : IsTrue r.options.skip.dead ↔ IsGiven rows (codes "skip-dead-stack")
   pub unwritable : IsFalse r.options.skip.unwritable ↔ IsGiven rows (codes "all-memory")
   pub check : IsTrue r.options.check ↔ IsGiven rows (codes "check")
   pub checked : IsTrue r.options.check → IsFalse r.options.other_heap
@@ -87,6 +89,7 @@ pub record IsWhyRequest (rows : List Row) (r : WhyRequest) : Type 0 where
   pub freed : IsTrue r.options.skip.freed ↔ IsGiven rows (codes "skip-freed")
   pub links : IsTrue r.options.skip.links ↔ IsGiven rows (codes "skip-links")
   pub slack : IsTrue r.options.skip.slack ↔ IsGiven rows (codes "skip-slack")
+  pub dead : IsTrue r.options.skip.dead ↔ IsGiven rows (codes "skip-dead-stack")
   pub unwritable : IsFalse r.options.skip.unwritable ↔ IsGiven rows (codes "all-memory")
   pub check : r.options.check ≡ false
   pub other_heap : IsTrue r.options.other_heap ↔ IsGiven rows (codes "other-heap")
@@ -106,6 +109,7 @@ pub record IsHoldersRequest (rows : List Row) (r : HoldersRequest) : Type 0 wher
   pub freed : IsTrue r.options.skip.freed ↔ IsGiven rows (codes "skip-freed")
   pub links : IsTrue r.options.skip.links ↔ IsGiven rows (codes "skip-links")
   pub slack : IsTrue r.options.skip.slack ↔ IsGiven rows (codes "skip-slack")
+  pub dead : IsTrue r.options.skip.dead ↔ IsGiven rows (codes "skip-dead-stack")
   pub unwritable : IsFalse r.options.skip.unwritable ↔ IsGiven rows (codes "all-memory")
   pub check : r.options.check ≡ false
   pub other_heap : IsTrue r.options.other_heap ↔ IsGiven rows (codes "other-heap")
@@ -160,7 +164,7 @@ IsBadBy reason (fault.Displace f) = ⊥
 IsBadBy reason fault.Check = ⊥
 IsBadBy reason fault.Sides = ⊥
 IsBadBy reason fault.Block = ⊥
-IsBadBy reason fault.Address = ⊥
+IsBadBy reason (fault.Address a) = ⊥
 IsBadBy reason fault.NoMemory = Unit {0}
 
 -- the list of displacements is refused for this
@@ -181,7 +185,7 @@ pub record ChecksOtherHeap (rows : List Row) : Type 0 where
 abbrev pub IsSearchRefusal : Text → List Row → UsageFault → Type 0
 IsSearchRefusal name rows (fault.Displace f) = (Lacks name rows → ⊥) × IsListFaultAt rows f
 IsSearchRefusal name rows fault.Check = (Lacks name rows → ⊥) × IsListTaken rows × ChecksOtherHeap rows
-IsSearchRefusal name rows fault.Address = ⊥
+IsSearchRefusal name rows (fault.Address a) = ⊥
 IsSearchRefusal name rows f = IsBadBy (Lacks name rows) f
 
 -- a path or the address isn't there
@@ -193,7 +197,8 @@ WhyLacks rows = LacksPath rows false ⊎ (first_of address_id rows ≡ None)
 abbrev pub IsWhyRefusal : List Row → UsageFault → Type 0
 IsWhyRefusal rows (fault.Displace f) = (WhyLacks rows → ⊥) × IsListFaultAt rows f
 IsWhyRefusal rows fault.Check = ⊥
-IsWhyRefusal rows fault.Address = (WhyLacks rows → ⊥) × IsListTaken rows × IsSomeAnd (first_of address_id rows) IsBadAddress
+IsWhyRefusal rows (fault.Address a) =
+    (a ≡ Operand) × (WhyLacks rows → ⊥) × IsListTaken rows × IsSomeAnd (first_of address_id rows) IsBadAddress
 IsWhyRefusal rows f = IsBadBy (WhyLacks rows) f
 
 -- a path or a number that the question who holds the memory takes isn't there
@@ -266,6 +271,6 @@ IsUsageFaultOf words fault.Sides = (fault_of command_line words ≡ [])
     × IsSomeAnd (subcommand_of command_line words) (λ met. IsRefusedAt met.0 met.1 fault.Sides)
 IsUsageFaultOf words fault.Block = (fault_of command_line words ≡ [])
     × IsSomeAnd (subcommand_of command_line words) (λ met. IsRefusedAt met.0 met.1 fault.Block)
-IsUsageFaultOf words fault.Address = (fault_of command_line words ≡ [])
-    × IsSomeAnd (subcommand_of command_line words) (λ met. IsRefusedAt met.0 met.1 fault.Address)
+IsUsageFaultOf words (fault.Address a) = (fault_of command_line words ≡ [])
+    × IsSomeAnd (subcommand_of command_line words) (λ met. IsRefusedAt met.0 met.1 (fault.Address a))
 IsUsageFaultOf words fault.NoMemory = Unit {0}

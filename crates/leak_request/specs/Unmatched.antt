@@ -23,5 +23,5 @@ IsMistake (fault.Displace f) k = ⊥
 IsMistake fault.Check k = ⊥
 IsMistake fault.Sides k = ⊥
 IsMistake fault.Block k = ⊥
-IsMistake fault.Address k = ⊥
+IsMistake (fault.Address a) k = ⊥
 IsMistake fault.NoMemory k = Unit {0}

@@ -11,7 +11,7 @@ ghost use Rattle.leak_request.specs.Requests.{IsUsageFaultOf, IsWhyRequest};
 use crate::address::address;
 use crate::asking::question;
 use crate::command_line::command;
-use crate::fault::UsageFault;
+use crate::fault::{AddressArgument, UsageFault};
 use crate::found_values::{bad_arguments, is_given, optional, paths, plan, reading, skip, value};
 use crate::options::{
     CORE_LIMIT, GrowOptions, GrowRequest, HoldersRequest, LOG_LIMIT, Options, Request,
@@ -119,7 +119,7 @@ fn why_request(alloc: Global, found: &ArgMatches) -> Result<WhyRequest, UsageFau
         Err(fault) => return Err(UsageFault::Displace(fault)),
     };
     let Some(address) = address(word.as_bytes()) else {
-        return Err(UsageFault::Address);
+        return Err(UsageFault::Address(AddressArgument::Operand));
     };
     let strict = is_given(found, "strict");
     Ok(WhyRequest {

@@ -1,11 +1,11 @@
 //! What is asked about some blocks.
 
-ghost use Rattle.std.specs.Prelude.{IfErr, IfOk};
+ghost use Rattle.std.specs.Prelude.{◌≡◌, IfErr, IfOk};
 ghost use Rattle.leak_request.specs.FoundRows.{found_rows};
-ghost use Rattle.leak_request.specs.Questions.{IsAskedBy, IsBadFor, IsQuestionAt, IsQuestionFault};
+ghost use Rattle.leak_request.specs.Questions.{IsAskedBy, IsBadFor, IsQuestionAt, IsQuestionFault, argument_of};
 
 use crate::address::address;
-use crate::fault::UsageFault;
+use crate::fault::{AddressArgument, UsageFault};
 use crate::found_values::{is_given, value};
 use clap::ArgMatches;
 use leak_holders::{Question, Side};
@@ -28,7 +28,7 @@ pub(crate) fn question(found: &ArgMatches) -> Result<Option<Question>, UsageFaul
 /// The question by the text of its address.
 fn asked(text: &str, side: Side, alone: bool) -> Result<Question, UsageFault>
     ensures ok { IfOk result (IsAskedBy text.now side alone) }
-    ensures refused { IfErr result (IsBadFor text.now) }
+    ensures refused { IfErr result (IsBadFor text.now side) }
 {
     match address(text.as_bytes()) {
         Some(address) => Ok(Question {
@@ -36,6 +36,16 @@ fn asked(text: &str, side: Side, alone: bool) -> Result<Question, UsageFault>
             side,
             alone,
         }),
-        None => Err(UsageFault::Address),
+        None => Err(UsageFault::Address(argument_of(side))),
+    }
+}
+
+/// The option that asks for the side.
+fn argument_of(side: Side) -> AddressArgument
+    ensures { result ≡ argument_of side }
+{
+    match side {
+        Side::In => AddressArgument::In,
+        Side::Of => AddressArgument::Of,
     }
 }

@@ -71,6 +71,10 @@ const SKIP_LINKS: &str = "Leave out the links of glibc's malloc to free chunks o
 const SKIP_SLACK: &str =
     "Leave out pointers in what glibc's malloc gave a block past its size; assumes that the program doesn't use it";
 
+/// What help says of `--skip-dead-stack`.
+const SKIP_DEAD_STACK: &str =
+    "Leave out pointers below the stack pointer of each thread, on its own stack";
+
 /// What help says of `--check`.
 const CHECK: &str = "List the live blocks that have no chunk of their size in use in glibc's heap";
 
@@ -204,7 +208,8 @@ fn with_reading<'a>(alloc: Global, command: Command<'a>) -> Result<Command<'a>, 
         .arg(flag(alloc, "all-memory", ALL_MEMORY))?
         .arg(flag(alloc, "skip-freed", SKIP_FREED))?
         .arg(flag(alloc, "skip-links", SKIP_LINKS))?
-        .arg(flag(alloc, "skip-slack", SKIP_SLACK))
+        .arg(flag(alloc, "skip-slack", SKIP_SLACK))?
+        .arg(flag(alloc, "skip-dead-stack", SKIP_DEAD_STACK))
 }
 
 /// The command with the options about the signs that a core and its log do not belong together.

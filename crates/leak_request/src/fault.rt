@@ -18,6 +18,20 @@ pub enum DisplaceFault {
     Reading(ReadingError),
 }
 
+/// Where the address of a block stands in a command line.
+#[derive(Clone, Copy, Debug, PartialEq, Eq, Error)]
+pub enum AddressArgument {
+    /// After the core and the log.
+    #[error("ADDRESS")]
+    Operand,
+    /// The value of `--in`.
+    #[error("--in")]
+    In,
+    /// The value of `--of`.
+    #[error("--of")]
+    Of,
+}
+
 /// Why the words of a command line are no request, in the order in which the reasons are tried.
 #[derive(Debug, Drop, Error)]
 pub enum UsageFault {
@@ -37,8 +51,8 @@ pub enum UsageFault {
     #[error("--block: only with --in or --of")]
     Block,
     /// The address of a block is not `0x` and 1 to 16 hexadecimal digits, and nothing else is missing.
-    #[error("bad address")]
-    Address,
+    #[error("{0}: not 0x and 1 to 16 hexadecimal digits")]
+    Address(AddressArgument),
     /// An allocation failed.
     #[error("out of memory")]
     NoMemory,

@@ -69,6 +69,7 @@ pub(crate) fn skip(found: &ArgMatches) -> Skip
     ensures freed { IsTrue result.freed ↔ IsGiven (found_rows found.now) (codes "skip-freed") }
     ensures links { IsTrue result.links ↔ IsGiven (found_rows found.now) (codes "skip-links") }
     ensures slack { IsTrue result.slack ↔ IsGiven (found_rows found.now) (codes "skip-slack") }
+    ensures dead { IsTrue result.dead ↔ IsGiven (found_rows found.now) (codes "skip-dead-stack") }
     ensures unwritable { IsFalse result.unwritable
         ↔ IsGiven (found_rows found.now) (codes "all-memory") }
 {
@@ -76,6 +77,7 @@ pub(crate) fn skip(found: &ArgMatches) -> Skip
         freed: is_given(found, "skip-freed"),
         links: is_given(found, "skip-links"),
         slack: is_given(found, "skip-slack"),
+        dead: is_given(found, "skip-dead-stack"),
         unwritable: !is_given(found, "all-memory"),
     }
 }

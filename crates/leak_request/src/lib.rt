@@ -23,7 +23,7 @@ mod unmatched;
 
 pub use arguments::request;
 pub use displacements::read_displace;
-pub use fault::{DisplaceFault, UsageFault};
+pub use fault::{AddressArgument, DisplaceFault, UsageFault};
 pub use options::{
     CORE_LIMIT, GrowOptions, GrowRequest, HoldersRequest, LOG_LIMIT, Options, Request,
     SearchRequest, WhyRequest,

@@ -58,5 +58,5 @@ sees_grow words paths strict numbers taken q = record {
     fault_is fault.Check x = absurd x
     fault_is fault.Sides x = absurd x
     fault_is fault.Block x = absurd x
-    fault_is fault.Address x = absurd x
+    fault_is (fault.Address a) x = absurd x
     fault_is fault.NoMemory x = refl

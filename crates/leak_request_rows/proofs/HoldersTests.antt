@@ -56,7 +56,7 @@ no_question rows held holding flag = record { is = is; no_fault = no_fault }
     no_fault : (f : UsageFault) → IsQuestionFault rows f → ⊥
     no_fault fault.Sides x = some_none (first_of (codes "in") rows) held x.held
     no_fault fault.Block x = not_given x.1
-    no_fault fault.Address x = bad x.0 x.1
+    no_fault (fault.Address a) x = bad x.0 x.2
       where
         bad : (s : Side) → AsksBadAddress rows s → ⊥
         bad side.In y = subst (λ (o : Option Text). IsSomeAnd o IsBadAddress) held y.address
@@ -109,9 +109,9 @@ asks_question rows s digits address alone at none good value flag = record { is 
     no_fault : (f : UsageFault) → IsQuestionFault rows f → ⊥
     no_fault fault.Sides x = not_both rows s none x
     no_fault fault.Block x = absurd (let e : Some (codes "0x" ++ digits) ≡ None = sym at ∙ no_side rows s x.0 in cc)
-    no_fault fault.Address x =
+    no_fault (fault.Address a) x =
         good_address (first_of (side_id s) rows) digits address at good value
-        (subst (λ (t : Side). IsSomeAnd (first_of (side_id t) rows) IsBadAddress) (same_side rows s x.0 IsBadAddress none x.1.address) x.1.address)
+        (subst (λ (t : Side). IsSomeAnd (first_of (side_id t) rows) IsBadAddress) (same_side rows s x.0 IsBadAddress none x.2.address) x.2.address)
     no_fault (fault.Words text) x = x
     no_fault (fault.Displace d) x = x
     no_fault fault.Check x = x
@@ -141,7 +141,7 @@ holders_is name rows paths since question n w s (Holders r) h = (
     since_is = q.1.since ∙ h.since_is;
     question_is = (h.asks.is r.question).0 q.1.question;
     plan = plan_from rows n r.options h.plan q.1.numbers;
-    reading = reads_from rows w r.options h.reads q.1.reading q.1.ends q.1.freed q.1.links q.1.slack q.1.unwritable q.1.core_limit q.1.log_limit;
+    reading = reads_from rows w r.options h.reads q.1.reading q.1.ends q.1.freed q.1.links q.1.slack q.1.dead q.1.unwritable q.1.core_limit q.1.log_limit;
     signs = record { check = q.1.check ∙ sym h.check; other_heap = flag_from rows (codes "other-heap") r.options.other_heap s.other_heap h.other_heap q.1.other_heap; strict = flag_from rows (codes "strict") r.options.strict s.strict h.strict q.1.strict };
   }),
   (λ q. (
@@ -157,6 +157,7 @@ holders_is name rows paths since question n w s (Holders r) h = (
       freed = flag_to rows (codes "skip-freed") r.options.skip.freed w.freed h.reads.freed q.reading.freed;
       links = flag_to rows (codes "skip-links") r.options.skip.links w.links h.reads.links q.reading.links;
       slack = flag_to rows (codes "skip-slack") r.options.skip.slack w.slack h.reads.slack q.reading.slack;
+      dead = flag_to rows (codes "skip-dead-stack") r.options.skip.dead w.dead h.reads.dead q.reading.dead;
       unwritable = not_to rows (codes "all-memory") r.options.skip.unwritable w.all_memory h.reads.all_memory q.reading.unwritable;
       check = q.signs.check ∙ h.check;
       other_heap = flag_to rows (codes "other-heap") r.options.other_heap s.other_heap h.other_heap q.signs.other_heap;
@@ -186,11 +187,11 @@ holders_taken rows paths question n w (fault.Displace d) there plan reads asks q
 holders_taken rows paths question n w fault.Check there plan reads asks q = absurd (asks.no_fault fault.Check q.2)
 holders_taken rows paths question n w fault.Sides there plan reads asks q = absurd (asks.no_fault fault.Sides q.2)
 holders_taken rows paths question n w fault.Block there plan reads asks q = absurd (asks.no_fault fault.Block q.2)
-holders_taken rows paths question n w fault.Address there plan reads asks q = absurd (asks.no_fault fault.Address q.2)
+holders_taken rows paths question n w (fault.Address a) there plan reads asks q = absurd (asks.no_fault (fault.Address a) q.2)
 holders_taken rows paths question n w fault.NoMemory there plan reads asks q = refl
 
 abbrev pub holders_ids : List Text
-holders_ids = codes "displace" ∷ codes "skip-ends" ∷ codes "skip-freed" ∷ codes "skip-links" ∷ codes "skip-slack" ∷ codes "all-memory"
+holders_ids = codes "displace" ∷ codes "skip-ends" ∷ codes "skip-freed" ∷ codes "skip-links" ∷ codes "skip-slack" ∷ codes "skip-dead-stack" ∷ codes "all-memory"
     ∷ codes "other-heap" ∷ codes "strict" ∷ codes "since" ∷ codes "in" ∷ codes "of" ∷ codes "block" ∷ []
 
 abbrev pub more_ids : List Text
@@ -211,13 +212,13 @@ sees_holders words paths since question n w s list held holding alone a b c take
     let h : HasHolders (name_in all) (rows_in all) paths since question n w s = record {
       named = x.named;
       there = x.there_is;
-      since_is = value_at 8 _ _ x.values_are;
-      asks = asks (rows_in all) (value_at 9 _ _ x.values_are) (value_at 10 _ _ x.values_are) (value_at 11 _ _ x.values_are);
+      since_is = value_at 9 _ _ x.values_are;
+      asks = asks (rows_in all) (value_at 10 _ _ x.values_are) (value_at 11 _ _ x.values_are) (value_at 12 _ _ x.values_are);
       plan = plan_seen (rows_in all) n a b c x.numbers_are numbers;
       reads = reads_seen (rows_in all) more_ids list w _ x.values_are lists;
       check = check;
-      other_heap = value_at 6 _ _ x.values_are;
-      strict = value_at 7 _ _ x.values_are;
+      other_heap = value_at 7 _ _ x.values_are;
+      strict = value_at 8 _ _ x.values_are;
     } in
     record {
       request = λ r. let y = request_at all r x.taken in let z = holders_is (name_in all) (rows_in all) paths since question n w s r h in ((λ k. z.0 (y.0 k)), (λ k. y.1 (z.1 k)));

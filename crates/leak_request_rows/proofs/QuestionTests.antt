@@ -12,6 +12,7 @@ use Rattle.leak_request.specs.Displacements.{displace_fault_of}
 use Rattle.leak_request.specs.FoundRows.{IsGiven}
 use Rattle.leak_request.specs.Requests.{IsListedBy, IsRefusedAt, IsRequest, IsWhyRefusal, WhyLacks, list_in}
 use Rattle.leak_request.specs.declared.fault.DisplaceFault.{DisplaceFault}
+use Rattle.leak_request.specs.declared.fault.AddressArgument.TheVariants as argument
 use Rattle.leak_request.specs.declared.fault.UsageFault.{UsageFault}
 use Rattle.leak_request.specs.declared.fault.UsageFault.TheVariants as fault
 use Rattle.leak_request.specs.declared.options.Options.{Options}
@@ -85,13 +86,15 @@ holders_grow e = letters holders_name grow_name 104 103 e refl refl (λ x. omega
 
 pub reads_from : (rows : List Row) (w : Reads) (o : Options) → HasReads rows w → IsListedBy (list_in rows) (listed_by o.reading) → ((distances_of o.reading).skips_ends ≡ true) ↔ IsGiven rows (codes "skip-ends")
     → (o.skip.freed ≡ true) ↔ IsGiven rows (codes "skip-freed") → (o.skip.links ≡ true) ↔ IsGiven rows (codes "skip-links") → (o.skip.slack ≡ true) ↔ IsGiven rows (codes "skip-slack")
+    → (o.skip.dead ≡ true) ↔ IsGiven rows (codes "skip-dead-stack")
     → (o.skip.unwritable ≡ false) ↔ IsGiven rows (codes "all-memory") → o.core_limit ≡ 68719476736 → o.log_limit ≡ 4294967296 → AreReadAs w o
-reads_from rows w o h listed ends freed links slack memory core log = record {
+reads_from rows w o h listed ends freed links slack dead memory core log = record {
   listed = (list_is rows w.listed (listed_by o.reading) h.list).0 listed;
   ends = flag_from rows (codes "skip-ends") (distances_of o.reading).skips_ends w.ends h.ends ends;
   freed = flag_from rows (codes "skip-freed") o.skip.freed w.freed h.freed freed;
   links = flag_from rows (codes "skip-links") o.skip.links w.links h.links links;
   slack = flag_from rows (codes "skip-slack") o.skip.slack w.slack h.slack slack;
+  dead = flag_from rows (codes "skip-dead-stack") o.skip.dead w.dead h.dead dead;
   unwritable = not_from rows (codes "all-memory") o.skip.unwritable w.all_memory h.all_memory memory;
   core_limit = core;
   log_limit = log;
@@ -118,7 +121,7 @@ why_is name rows paths address w s (Why r) h = (
     two_is = q.1.two;
     paths_are = paths_from rows (path_ids false) paths r.paths.items h.there q.1.paths;
     address_is = (address_at (first_of address_id rows) h.digits address r.address h.text h.good h.value).0 q.1.address;
-    reading = reads_from rows w r.options h.reads q.1.reading q.1.ends q.1.freed q.1.links q.1.slack q.1.unwritable q.1.core_limit q.1.log_limit;
+    reading = reads_from rows w r.options h.reads q.1.reading q.1.ends q.1.freed q.1.links q.1.slack q.1.dead q.1.unwritable q.1.core_limit q.1.log_limit;
     signs = record {
       check = q.1.check ∙ sym h.check;
       other_heap = flag_from rows (codes "other-heap") r.options.other_heap s.other_heap h.other_heap q.1.other_heap;
@@ -136,6 +139,7 @@ why_is name rows paths address w s (Why r) h = (
       freed = flag_to rows (codes "skip-freed") r.options.skip.freed w.freed h.reads.freed q.reading.freed;
       links = flag_to rows (codes "skip-links") r.options.skip.links w.links h.reads.links q.reading.links;
       slack = flag_to rows (codes "skip-slack") r.options.skip.slack w.slack h.reads.slack q.reading.slack;
+      dead = flag_to rows (codes "skip-dead-stack") r.options.skip.dead w.dead h.reads.dead q.reading.dead;
       unwritable = not_to rows (codes "all-memory") r.options.skip.unwritable w.all_memory h.reads.all_memory q.reading.unwritable;
       check = q.signs.check ∙ h.check;
       other_heap = flag_to rows (codes "other-heap") r.options.other_heap s.other_heap h.other_heap q.signs.other_heap;
@@ -165,14 +169,14 @@ why_taken name rows paths address w s (fault.Displace f) h q = absurd (no_list_f
 why_taken name rows paths address w s fault.Check h q = absurd q
 why_taken name rows paths address w s fault.Sides h q = absurd q
 why_taken name rows paths address w s fault.Block h q = absurd q
-why_taken name rows paths address w s fault.Address h q = absurd (good_address (first_of address_id rows) h.digits address h.text h.good h.value q.2)
+why_taken name rows paths address w s (fault.Address a) h q = absurd (good_address (first_of address_id rows) h.digits address h.text h.good h.value q.3)
 why_taken name rows paths address w s fault.NoMemory h q = refl
 
 abbrev pub address_ids : List Text
-address_ids = codes "displace" ∷ codes "skip-ends" ∷ codes "skip-freed" ∷ codes "skip-links" ∷ codes "skip-slack" ∷ codes "all-memory" ∷ codes "address" ∷ []
+address_ids = codes "displace" ∷ codes "skip-ends" ∷ codes "skip-freed" ∷ codes "skip-links" ∷ codes "skip-slack" ∷ codes "skip-dead-stack" ∷ codes "all-memory" ∷ codes "address" ∷ []
 
 abbrev pub why_ids : List Text
-why_ids = codes "displace" ∷ codes "skip-ends" ∷ codes "skip-freed" ∷ codes "skip-links" ∷ codes "skip-slack" ∷ codes "all-memory" ∷ codes "address"
+why_ids = codes "displace" ∷ codes "skip-ends" ∷ codes "skip-freed" ∷ codes "skip-links" ∷ codes "skip-slack" ∷ codes "skip-dead-stack" ∷ codes "all-memory" ∷ codes "address"
     ∷ codes "other-heap" ∷ codes "strict" ∷ []
 
 abbrev pub why_values : Option Text → Reads → List ℕ → Signed → Values
@@ -188,13 +192,13 @@ sees_why words paths address w s list digits numbers taken q lists good value ch
       named = x.named;
       there = x.there_is;
       digits = digits;
-      text = value_at 6 _ _ x.values_are;
+      text = value_at 7 _ _ x.values_are;
       good = good;
       value = value;
       reads = reads_seen (rows_in all) (codes "address" ∷ codes "other-heap" ∷ codes "strict" ∷ []) list w _ x.values_are lists;
       check = check;
-      other_heap = value_at 7 _ _ x.values_are;
-      strict = value_at 8 _ _ x.values_are;
+      other_heap = value_at 8 _ _ x.values_are;
+      strict = value_at 9 _ _ x.values_are;
     } in
     record {
       request = λ r. let a = request_at all r x.taken in let b = why_is (name_in all) (rows_in all) paths address w s r h in ((λ k. b.0 (a.0 k)), (λ k. a.1 (b.1 k)));
@@ -203,11 +207,11 @@ sees_why words paths address w s list digits numbers taken q lists good value ch
 
 -- an address that is none
 why_address : (name : Text) (rows : List Row) (paths : List Text) (text : Text) → name ≡ why_name → map (λ id. first_of id rows) (path_ids false) ≡ map Some paths → first_of address_id rows ≡ Some text
-    → is_address text ≡ false → list_in rows ≡ None → IsRefusedFor name rows fault.Address
+    → is_address text ≡ false → list_in rows ≡ None → IsRefusedFor name rows (fault.Address argument.Operand)
 why_address name rows paths text named there is bad list = record {
   request = no_request;
   some = λ e. cc;
-  is = inl (named, (lacks, (None, subst (λ (o : Option Text). IsListedBy o None) (sym list) refl), subst (λ (o : Option Text). IsSomeAnd o IsBadAddress) (sym is) (bad_address text bad)));
+  is = inl (named, (refl, lacks, (None, subst (λ (o : Option Text). IsListedBy o None) (sym list) refl), subst (λ (o : Option Text). IsSomeAnd o IsBadAddress) (sym is) (bad_address text bad)));
   only = λ f q. only f (why_refusal name rows f named q);
 }
   where
@@ -221,21 +225,21 @@ why_address name rows paths text named there is bad list = record {
     no_request (Grow r) q = why_grow (sym named ∙ q.0)
     no_request (Shown t) q = q
 
-    only : (f : UsageFault) → IsWhyRefusal rows f → (f ≡ fault.Address) ⊎ (f ≡ fault.NoMemory)
+    only : (f : UsageFault) → IsWhyRefusal rows f → (f ≡ fault.Address argument.Operand) ⊎ (f ≡ fault.NoMemory)
     only (fault.Words t) q = absurd (lacks q.1)
     only (fault.Displace e) q = absurd (subst (λ (o : Option Text). IsSomeAnd o (λ t. displace_fault_of t ≡ Some e)) list q.1)
     only fault.Check q = absurd q
     only fault.Sides q = absurd q
     only fault.Block q = absurd q
-    only fault.Address q = inl refl
+    only (fault.Address a) q = inl (ap fault.Address q.0)
     only fault.NoMemory q = inr refl
 
-pub refuses_address : (words : List Text) (paths : List Text) (text : Text) (v1 v2 v3 v4 v5 : Option Text) (numbers : Values) → fault_of command_line (codes "leak_find" ∷ words) ≡ []
-    → seen (path_ids false) address_ids (codes "leak_find" ∷ words) ≡ Some (why_name, (map Some paths, (None ∷ v1 ∷ v2 ∷ v3 ∷ v4 ∷ v5 ∷ Some text ∷ [], numbers))) → is_address text ≡ false → AreRefused words fault.Address
-refuses_address words paths text v1 v2 v3 v4 v5 numbers taken q bad =
+pub refuses_address : (words : List Text) (paths : List Text) (text : Text) (v1 v2 v3 v4 v5 v6 : Option Text) (numbers : Values) → fault_of command_line (codes "leak_find" ∷ words) ≡ []
+    → seen (path_ids false) address_ids (codes "leak_find" ∷ words) ≡ Some (why_name, (map Some paths, (None ∷ v1 ∷ v2 ∷ v3 ∷ v4 ∷ v5 ∷ v6 ∷ Some text ∷ [], numbers))) → is_address text ≡ false → AreRefused words (fault.Address argument.Operand)
+refuses_address words paths text v1 v2 v3 v4 v5 v6 numbers taken q bad =
     let all : List Text = codes "leak_find" ∷ words in
-    let s : IsSeen (path_ids false) address_ids all why_name (map Some paths) (None ∷ v1 ∷ v2 ∷ v3 ∷ v4 ∷ v5 ∷ Some text ∷ []) numbers = sees (path_ids false) address_ids all _ _ _ _ taken q in
-    refused words fault.Address s.taken (why_address (name_in all) (rows_in all) paths text s.named s.there_is (value_at 6 _ _ s.values_are) bad (value_at 0 _ _ s.values_are))
+    let s : IsSeen (path_ids false) address_ids all why_name (map Some paths) (None ∷ v1 ∷ v2 ∷ v3 ∷ v4 ∷ v5 ∷ v6 ∷ Some text ∷ []) numbers = sees (path_ids false) address_ids all _ _ _ _ taken q in
+    refused words (fault.Address argument.Operand) s.taken (why_address (name_in all) (rows_in all) paths text s.named s.there_is (value_at 7 _ _ s.values_are) bad (value_at 0 _ _ s.values_are))
 
 -- a list that is refused, whatever the address is
 why_list : (name : Text) (rows : List Row) (paths : List Text) (text address : Text) (d : DisplaceFault) → name ≡ why_name → map (λ id. first_of id rows) (path_ids false) ≡ map Some paths → first_of address_id rows ≡ Some address
@@ -258,12 +262,12 @@ why_list name rows paths text address d named there at list is = record { reques
     only fault.Check q = absurd q
     only fault.Sides q = absurd q
     only fault.Block q = absurd q
-    only fault.Address q = absurd (not_taken rows text d list is q.1.0 q.1.1)
+    only (fault.Address a) q = absurd (not_taken rows text d list is q.2.0 q.2.1)
     only fault.NoMemory q = inr refl
 
-pub refuses_why_list : (words : List Text) (paths : List Text) (text address : Text) (d : DisplaceFault) (v1 v2 v3 v4 v5 : Option Text) (numbers : Values) → fault_of command_line (codes "leak_find" ∷ words) ≡ []
-    → seen (path_ids false) address_ids (codes "leak_find" ∷ words) ≡ Some (why_name, (map Some paths, (Some text ∷ v1 ∷ v2 ∷ v3 ∷ v4 ∷ v5 ∷ Some address ∷ [], numbers))) → displace_fault_of text ≡ Some d → AreRefused words (fault.Displace d)
-refuses_why_list words paths text address d v1 v2 v3 v4 v5 numbers taken q is =
+pub refuses_why_list : (words : List Text) (paths : List Text) (text address : Text) (d : DisplaceFault) (v1 v2 v3 v4 v5 v6 : Option Text) (numbers : Values) → fault_of command_line (codes "leak_find" ∷ words) ≡ []
+    → seen (path_ids false) address_ids (codes "leak_find" ∷ words) ≡ Some (why_name, (map Some paths, (Some text ∷ v1 ∷ v2 ∷ v3 ∷ v4 ∷ v5 ∷ v6 ∷ Some address ∷ [], numbers))) → displace_fault_of text ≡ Some d → AreRefused words (fault.Displace d)
+refuses_why_list words paths text address d v1 v2 v3 v4 v5 v6 numbers taken q is =
     let all : List Text = codes "leak_find" ∷ words in
-    let s : IsSeen (path_ids false) address_ids all why_name (map Some paths) (Some text ∷ v1 ∷ v2 ∷ v3 ∷ v4 ∷ v5 ∷ Some address ∷ []) numbers = sees (path_ids false) address_ids all _ _ _ _ taken q in
-    refused words (fault.Displace d) s.taken (why_list (name_in all) (rows_in all) paths text address d s.named s.there_is (value_at 6 _ _ s.values_are) (value_at 0 _ _ s.values_are) is)
+    let s : IsSeen (path_ids false) address_ids all why_name (map Some paths) (Some text ∷ v1 ∷ v2 ∷ v3 ∷ v4 ∷ v5 ∷ v6 ∷ Some address ∷ []) numbers = sees (path_ids false) address_ids all _ _ _ _ taken q in
+    refused words (fault.Displace d) s.taken (why_list (name_in all) (rows_in all) paths text address d s.named s.there_is (value_at 7 _ _ s.values_are) (value_at 0 _ _ s.values_are) is)

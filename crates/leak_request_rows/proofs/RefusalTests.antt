@@ -64,7 +64,7 @@ clap_refuses words never plain = record { request = λ r q. request r q; only = 
     go fault.Check q = absurd (never q.0)
     go fault.Sides q = absurd (never q.0)
     go fault.Block q = absurd (never q.0)
-    go fault.Address q = absurd (never q.0)
+    go (fault.Address a) q = absurd (never q.0)
     go fault.NoMemory q = inr refl
 
 -- there is a kind of refusal
@@ -99,7 +99,7 @@ shows words k text is = record { request = λ r. go r; taken = λ f q. fault_is 
     fault_is fault.Check q = absurd (never q.0)
     fault_is fault.Sides q = absurd (never q.0)
     fault_is fault.Block q = absurd (never q.0)
-    fault_is fault.Address q = absurd (never q.0)
+    fault_is (fault.Address a) q = absurd (never q.0)
     fault_is fault.NoMemory q = refl
 
 -- ---- words that clap takes, and that are refused by what it found
@@ -111,7 +111,7 @@ refusal_at words (fault.Displace f) t some q = (t.taken, subst (λ (o : Option (
 refusal_at words fault.Check t some q = (t.taken, subst (λ (o : Option (Text × List Row)). IsSomeAnd o (λ met. IsRefusedAt met.0 met.1 fault.Check)) (sym t.met) q)
 refusal_at words fault.Sides t some q = (t.taken, subst (λ (o : Option (Text × List Row)). IsSomeAnd o (λ met. IsRefusedAt met.0 met.1 fault.Sides)) (sym t.met) q)
 refusal_at words fault.Block t some q = (t.taken, subst (λ (o : Option (Text × List Row)). IsSomeAnd o (λ met. IsRefusedAt met.0 met.1 fault.Block)) (sym t.met) q)
-refusal_at words fault.Address t some q = (t.taken, subst (λ (o : Option (Text × List Row)). IsSomeAnd o (λ met. IsRefusedAt met.0 met.1 fault.Address)) (sym t.met) q)
+refusal_at words (fault.Address a) t some q = (t.taken, subst (λ (o : Option (Text × List Row)). IsSomeAnd o (λ met. IsRefusedAt met.0 met.1 (fault.Address a))) (sym t.met) q)
 refusal_at words fault.NoMemory t some q = absurd (some refl)
 
 -- what was found makes no request, and is refused for this alone
@@ -168,7 +168,7 @@ search_list name rows two paths n text d named there plan list is = record { req
     only fault.Check q = absurd (not_taken rows text d list is q.1.0 q.1.1)
     only fault.Sides q = absurd q
     only fault.Block q = absurd q
-    only fault.Address q = absurd q
+    only (fault.Address a) q = absurd q
     only fault.NoMemory q = inr refl
 
 pub refuses_list : (words : List Text) (two : Bool) (paths : List Text) (n : Planned) (text : Text) (d : DisplaceFault) (a b c : Text) (more : List (Option Text)) → fault_of command_line (codes "leak_find" ∷ words) ≡ []
@@ -205,14 +205,14 @@ search_check name rows two paths n named there plan list checks = record {
     only fault.Check q = inl refl
     only fault.Sides q = absurd q
     only fault.Block q = absurd q
-    only fault.Address q = absurd q
+    only (fault.Address a) q = absurd q
     only fault.NoMemory q = inr refl
 
-pub refuses_check : (words : List Text) (two : Bool) (paths : List Text) (n : Planned) (v1 v2 v3 v4 v5 v8 : Option Text) (a b c : Text) → fault_of command_line (codes "leak_find" ∷ words) ≡ []
-    → seen (path_ids two) search_ids (codes "leak_find" ∷ words) ≡ Some (name_of two, (map Some paths, (None ∷ v1 ∷ v2 ∷ v3 ∷ v4 ∷ v5 ∷ flag_value true ∷ flag_value true ∷ v8 ∷ [], Some a ∷ Some b ∷ Some c ∷ []))) → AreNumbers n a b c
+pub refuses_check : (words : List Text) (two : Bool) (paths : List Text) (n : Planned) (v1 v2 v3 v4 v5 v6 v8 : Option Text) (a b c : Text) → fault_of command_line (codes "leak_find" ∷ words) ≡ []
+    → seen (path_ids two) search_ids (codes "leak_find" ∷ words) ≡ Some (name_of two, (map Some paths, (None ∷ v1 ∷ v2 ∷ v3 ∷ v4 ∷ v5 ∷ v6 ∷ flag_value true ∷ flag_value true ∷ v8 ∷ [], Some a ∷ Some b ∷ Some c ∷ []))) → AreNumbers n a b c
     → AreRefused words fault.Check
-refuses_check words two paths n v1 v2 v3 v4 v5 v8 a b c taken q numbers =
+refuses_check words two paths n v1 v2 v3 v4 v5 v6 v8 a b c taken q numbers =
     let all : List Text = codes "leak_find" ∷ words in
-    let s : IsSeen (path_ids two) search_ids all (name_of two) (map Some paths) (None ∷ v1 ∷ v2 ∷ v3 ∷ v4 ∷ v5 ∷ flag_value true ∷ flag_value true ∷ v8 ∷ []) (Some a ∷ Some b ∷ Some c ∷ []) = sees (path_ids two) search_ids all _ _ _ _ taken q in
+    let s : IsSeen (path_ids two) search_ids all (name_of two) (map Some paths) (None ∷ v1 ∷ v2 ∷ v3 ∷ v4 ∷ v5 ∷ v6 ∷ flag_value true ∷ flag_value true ∷ v8 ∷ []) (Some a ∷ Some b ∷ Some c ∷ []) = sees (path_ids two) search_ids all _ _ _ _ taken q in
     refused words fault.Check s.taken (search_check (name_in all) (rows_in all) two paths n s.named s.there_is (plan_seen (rows_in all) n a b c s.numbers_are numbers) (value_at 0 _ _ s.values_are)
-    (record { check = value_at 6 _ _ s.values_are; other_heap = value_at 7 _ _ s.values_are }))
+    (record { check = value_at 7 _ _ s.values_are; other_heap = value_at 8 _ _ s.values_are }))

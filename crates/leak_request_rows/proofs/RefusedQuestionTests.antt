@@ -1,5 +1,5 @@
 -- Questions of who holds the memory that are refused, by the values that clap found.
-use Rattle.std.proofs.Common.{◌≡◌, ◌⊎◌, ℕ, inl, inr, Bool, true, false, List, [], ◌∷◌, codes, map, Option, Some, None, refl, sym, subst, ◌∙◌}
+use Rattle.std.proofs.Common.{ap, ◌≡◌, ◌⊎◌, ℕ, inl, inr, Bool, true, false, List, [], ◌∷◌, codes, map, Option, Some, None, refl, sym, subst, ◌∙◌}
 use Rattle.std.specs.Prelude.{IsSome, IsSomeAnd}
 use Rattle.clap.specs.Words.{Row, Text, first_of}
 use Rattle.clap.specs.Faults.{fault_of}
@@ -9,9 +9,11 @@ use Rattle.leak_holders.specs.declared.question.Side.TheVariants as side
 use Rattle.leak_request.specs.Address.{IsAddress, IsBadAddress}
 use Rattle.leak_request.specs.CommandLine.{command_line, holders_name, path_ids}
 use Rattle.leak_request.specs.Displacements.{displace_fault_of}
-use Rattle.leak_request.specs.Questions.{IsQuestionAt, IsQuestionFault, other_id, side_id}
+use Rattle.leak_request.specs.Questions.{AsksBadAddress, IsQuestionAt, IsQuestionFault, other_id, side_id, argument_of}
 use Rattle.leak_request.specs.Requests.{HoldersLacks, IsHoldersRefusal, IsListTaken, IsListedBy, IsRequest, list_in}
 use Rattle.leak_request.specs.declared.fault.DisplaceFault.{DisplaceFault}
+use Rattle.leak_request.specs.declared.fault.AddressArgument.{AddressArgument}
+use Rattle.leak_request.specs.declared.fault.AddressArgument.TheVariants as argument
 use Rattle.leak_request.specs.declared.fault.UsageFault.{UsageFault}
 use Rattle.leak_request.specs.declared.fault.UsageFault.TheVariants as fault
 use Rattle.leak_request.specs.declared.options.Request.{Request}
@@ -38,7 +40,7 @@ IsOfQuestion (fault.Displace d) = ⊥
 IsOfQuestion fault.Check = ⊥
 IsOfQuestion fault.Sides = Unit {0}
 IsOfQuestion fault.Block = Unit {0}
-IsOfQuestion fault.Address = Unit {0}
+IsOfQuestion (fault.Address a) = Unit {0}
 IsOfQuestion fault.NoMemory = ⊥
 
 of_question : (rows : List Row) (f : UsageFault) → IsOfQuestion f → (HoldersLacks rows → ⊥) → IsListTaken rows → IsQuestionFault rows f → IsHoldersRefusal rows f
@@ -47,7 +49,7 @@ of_question rows (fault.Displace d) of lacks list q = absurd of
 of_question rows fault.Check of lacks list q = absurd of
 of_question rows fault.Sides of lacks list q = (lacks, list, q)
 of_question rows fault.Block of lacks list q = (lacks, list, q)
-of_question rows fault.Address of lacks list q = (lacks, list, q)
+of_question rows (fault.Address a) of lacks list q = (lacks, list, q)
 of_question rows fault.NoMemory of lacks list q = absurd of
 
 holders_question : (name : Text) (rows : List Row) (paths : List Text) (n : Planned) (reason : UsageFault) → name ≡ holders_name → map (λ id. first_of id rows) (path_ids false) ≡ map Some paths → HasPlan rows n → list_in rows ≡ None
@@ -75,19 +77,19 @@ holders_question name rows paths n reason named there plan list of h = record {
     only fault.Check q = inl (h.only fault.Check q.2)
     only fault.Sides q = inl (h.only fault.Sides q.2)
     only fault.Block q = inl (h.only fault.Block q.2)
-    only fault.Address q = inl (h.only fault.Address q.2)
+    only (fault.Address a) q = inl (h.only (fault.Address a) q.2)
     only fault.NoMemory q = inr refl
 
-pub refuses_question : (words : List Text) (paths : List Text) (n : Planned) (reason : UsageFault) (held holding : Option Text) (alone : Bool) (v1 v2 v3 v4 v5 v6 v7 v8 : Option Text) (a b c : Text) → fault_of command_line (codes "leak_find" ∷ words) ≡ []
-    → seen (path_ids false) holders_ids (codes "leak_find" ∷ words) ≡ Some (holders_name, (map Some paths, (None ∷ v1 ∷ v2 ∷ v3 ∷ v4 ∷ v5 ∷ v6 ∷ v7 ∷ v8 ∷ held ∷ holding ∷ flag_value alone ∷ [], Some a ∷ Some b ∷ Some c ∷ [])))
+pub refuses_question : (words : List Text) (paths : List Text) (n : Planned) (reason : UsageFault) (held holding : Option Text) (alone : Bool) (v1 v2 v3 v4 v5 v6 v7 v8 v9 : Option Text) (a b c : Text) → fault_of command_line (codes "leak_find" ∷ words) ≡ []
+    → seen (path_ids false) holders_ids (codes "leak_find" ∷ words) ≡ Some (holders_name, (map Some paths, (None ∷ v1 ∷ v2 ∷ v3 ∷ v4 ∷ v5 ∷ v6 ∷ v7 ∷ v8 ∷ v9 ∷ held ∷ holding ∷ flag_value alone ∷ [], Some a ∷ Some b ∷ Some c ∷ [])))
     → AreNumbers n a b c → IsOfQuestion reason
     → ((rows : List Row) → first_of (codes "in") rows ≡ held → first_of (codes "of") rows ≡ holding → HasFlag rows (codes "block") alone → IsRefusedQuestion rows reason) → AreRefused words reason
-refuses_question words paths n reason held holding alone v1 v2 v3 v4 v5 v6 v7 v8 a b c taken q numbers of h =
+refuses_question words paths n reason held holding alone v1 v2 v3 v4 v5 v6 v7 v8 v9 a b c taken q numbers of h =
     let all : List Text = codes "leak_find" ∷ words in
-    let x : IsSeen (path_ids false) holders_ids all holders_name (map Some paths) (None ∷ v1 ∷ v2 ∷ v3 ∷ v4 ∷ v5 ∷ v6 ∷ v7 ∷ v8 ∷ held ∷ holding ∷ flag_value alone ∷ []) (Some a ∷ Some b ∷ Some c ∷ []) =
+    let x : IsSeen (path_ids false) holders_ids all holders_name (map Some paths) (None ∷ v1 ∷ v2 ∷ v3 ∷ v4 ∷ v5 ∷ v6 ∷ v7 ∷ v8 ∷ v9 ∷ held ∷ holding ∷ flag_value alone ∷ []) (Some a ∷ Some b ∷ Some c ∷ []) =
     sees (path_ids false) holders_ids all _ _ _ _ taken q in
     refused words reason x.taken (holders_question (name_in all) (rows_in all) paths n reason x.named x.there_is (plan_seen (rows_in all) n a b c x.numbers_are numbers) (value_at 0 _ _ x.values_are) of
-    (h (rows_in all) (value_at 9 _ _ x.values_are) (value_at 10 _ _ x.values_are) (value_at 11 _ _ x.values_are)))
+    (h (rows_in all) (value_at 10 _ _ x.values_are) (value_at 11 _ _ x.values_are) (value_at 12 _ _ x.values_are)))
 
 -- both sides are asked for
 pub refuses_sides : (rows : List Row) (one other : Text) (alone : Bool) → first_of (codes "in") rows ≡ Some one → first_of (codes "of") rows ≡ Some other → HasFlag rows (codes "block") alone → IsRefusedQuestion rows fault.Sides
@@ -104,7 +106,7 @@ refuses_sides rows one other alone held holding flag = record { none = none; is 
     only : (f : UsageFault) → IsQuestionFault rows f → f ≡ fault.Sides
     only fault.Sides q = refl
     only fault.Block q = absurd (let x : Some one ≡ None = sym held ∙ q.0.held in cc)
-    only fault.Address q = absurd (not_other q.0 q.1.other)
+    only (fault.Address a) q = absurd (not_other q.0 q.2.other)
     only (fault.Words t) q = absurd q
     only (fault.Displace d) q = absurd q
     only fault.Check q = absurd q
@@ -125,15 +127,15 @@ refuses_block rows held holding flag = record { none = none; is = (record { held
     only : (f : UsageFault) → IsQuestionFault rows f → f ≡ fault.Block
     only fault.Sides q = absurd (some_none (first_of (codes "in") rows) held q.held)
     only fault.Block q = refl
-    only fault.Address q = absurd (no_text q.0 IsBadAddress q.1.address)
+    only (fault.Address a) q = absurd (no_text q.0 IsBadAddress q.2.address)
     only (fault.Words t) q = absurd q
     only (fault.Displace d) q = absurd q
     only fault.Check q = absurd q
     only fault.NoMemory q = absurd q
 
 -- what is held is asked for by a text that is no address
-pub refuses_held : (rows : List Row) (text : Text) (alone : Bool) → is_address text ≡ false → first_of (codes "in") rows ≡ Some text → first_of (codes "of") rows ≡ None → HasFlag rows (codes "block") alone → IsRefusedQuestion rows fault.Address
-refuses_held rows text alone bad held holding flag = record { none = none; is = (side.In, record { address = subst (λ (o : Option Text). IsSomeAnd o IsBadAddress) (sym held) (bad_address text bad); other = holding }); only = only }
+pub refuses_held : (rows : List Row) (text : Text) (alone : Bool) → is_address text ≡ false → first_of (codes "in") rows ≡ Some text → first_of (codes "of") rows ≡ None → HasFlag rows (codes "block") alone → IsRefusedQuestion rows (fault.Address argument.In)
+refuses_held rows text alone bad held holding flag = record { none = none; is = (side.In, refl, record { address = subst (λ (o : Option Text). IsSomeAnd o IsBadAddress) (sym held) (bad_address text bad); other = holding }); only = only }
   where
     no_address : (s : Side) (n : ℕ) → IsSomeAnd (first_of (side_id s) rows) (λ t. IsAddress t n) → ⊥
     no_address side.In n q = bad_address text bad n (subst (λ (o : Option Text). IsSomeAnd o (λ t. IsAddress t n)) held q)
@@ -143,10 +145,14 @@ refuses_held rows text alone bad held holding flag = record { none = none; is = 
     none None q = let x : Some text ≡ None = sym held ∙ q.0.held in cc
     none (Some question) q = no_address question.side question.address q.address
 
-    only : (f : UsageFault) → IsQuestionFault rows f → f ≡ fault.Address
+    held_only : (a : AddressArgument) (s : Side) → a ≡ argument_of s → AsksBadAddress rows s → fault.Address a ≡ fault.Address argument.In
+    held_only a side.In e q = ap fault.Address e
+    held_only a side.Of e q = absurd (subst (λ (o : Option Text). IsSomeAnd o IsBadAddress) holding q.address)
+
+    only : (f : UsageFault) → IsQuestionFault rows f → f ≡ fault.Address argument.In
     only fault.Sides q = absurd (some_none (first_of (codes "of") rows) holding q.holding)
     only fault.Block q = absurd (let x : Some text ≡ None = sym held ∙ q.0.held in cc)
-    only fault.Address q = refl
+    only (fault.Address a) q = held_only a q.0 q.1 q.2
     only (fault.Words t) q = absurd q
     only (fault.Displace d) q = absurd q
     only fault.Check q = absurd q
@@ -173,7 +179,7 @@ holders_list name rows paths n text d named there plan list is = record { reques
     only fault.Check q = absurd (not_taken rows text d list is q.1.0 q.1.1)
     only fault.Sides q = absurd (not_taken rows text d list is q.1.0 q.1.1)
     only fault.Block q = absurd (not_taken rows text d list is q.1.0 q.1.1)
-    only fault.Address q = absurd (not_taken rows text d list is q.1.0 q.1.1)
+    only (fault.Address a) q = absurd (not_taken rows text d list is q.1.0 q.1.1)
     only fault.NoMemory q = inr refl
 
 pub refuses_holders_list : (words : List Text) (paths : List Text) (n : Planned) (text : Text) (d : DisplaceFault) (a b c : Text) (more : Values) → fault_of command_line (codes "leak_find" ∷ words) ≡ []

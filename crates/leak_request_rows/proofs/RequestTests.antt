@@ -100,7 +100,7 @@ refused_at words (fault.Displace f) t q = inl (subst (λ (o : Option (Text × Li
 refused_at words fault.Check t q = inl (subst (λ (o : Option (Text × List Row)). IsSomeAnd o (λ met. IsRefusedAt met.0 met.1 fault.Check)) t.met q.1)
 refused_at words fault.Sides t q = inl (subst (λ (o : Option (Text × List Row)). IsSomeAnd o (λ met. IsRefusedAt met.0 met.1 fault.Sides)) t.met q.1)
 refused_at words fault.Block t q = inl (subst (λ (o : Option (Text × List Row)). IsSomeAnd o (λ met. IsRefusedAt met.0 met.1 fault.Block)) t.met q.1)
-refused_at words fault.Address t q = inl (subst (λ (o : Option (Text × List Row)). IsSomeAnd o (λ met. IsRefusedAt met.0 met.1 fault.Address)) t.met q.1)
+refused_at words (fault.Address a) t q = inl (subst (λ (o : Option (Text × List Row)). IsSomeAnd o (λ met. IsRefusedAt met.0 met.1 (fault.Address a))) t.met q.1)
 refused_at words fault.NoMemory t q = inr refl
 
 -- ---- numbers, lists and flags

@@ -97,6 +97,7 @@ pub record HasReads (rows : List Row) (w : Reads) : Type 0 where
   pub freed : HasFlag rows (codes "skip-freed") w.freed
   pub links : HasFlag rows (codes "skip-links") w.links
   pub slack : HasFlag rows (codes "skip-slack") w.slack
+  pub dead : HasFlag rows (codes "skip-dead-stack") w.dead
   pub all_memory : HasFlag rows (codes "all-memory") w.all_memory
 
 -- the values that clap found for a search
@@ -124,6 +125,7 @@ search_from name rows two paths n w s r h q =
         freed = flag_from rows (codes "skip-freed") r.options.skip.freed w.freed h.reads.freed q.freed;
         links = flag_from rows (codes "skip-links") r.options.skip.links w.links h.reads.links q.links;
         slack = flag_from rows (codes "skip-slack") r.options.skip.slack w.slack h.reads.slack q.slack;
+        dead = flag_from rows (codes "skip-dead-stack") r.options.skip.dead w.dead h.reads.dead q.dead;
         unwritable = not_from rows (codes "all-memory") r.options.skip.unwritable w.all_memory h.reads.all_memory q.unwritable;
         core_limit = q.core_limit;
         log_limit = q.log_limit;
@@ -150,6 +152,7 @@ search_to name rows two paths n w s r h q = record {
   freed = flag_to rows (codes "skip-freed") r.options.skip.freed w.freed h.reads.freed q.reading.freed;
   links = flag_to rows (codes "skip-links") r.options.skip.links w.links h.reads.links q.reading.links;
   slack = flag_to rows (codes "skip-slack") r.options.skip.slack w.slack h.reads.slack q.reading.slack;
+  dead = flag_to rows (codes "skip-dead-stack") r.options.skip.dead w.dead h.reads.dead q.reading.dead;
   unwritable = not_to rows (codes "all-memory") r.options.skip.unwritable w.all_memory h.reads.all_memory q.reading.unwritable;
   check = flag_to rows (codes "check") r.options.check s.check h.check q.signs.check;
   checked = λ c. q.signs.other_heap ∙ apart_is s.check s.other_heap h.apart (sym q.signs.check ∙ c);
@@ -192,7 +195,7 @@ search_taken name rows two paths n w s fault.Check h q =
     absurd (let x : true ≡ false = sym b ∙ apart_is s.check s.other_heap h.apart a in cc)
 search_taken name rows two paths n w s fault.Sides h q = absurd q
 search_taken name rows two paths n w s fault.Block h q = absurd q
-search_taken name rows two paths n w s fault.Address h q = absurd q
+search_taken name rows two paths n w s (fault.Address a) h q = absurd q
 search_taken name rows two paths n w s fault.NoMemory h q = refl
 
 pub asks_search : (words : List Text) (two : Bool) (paths : List Text) (n : Planned) (w : Reads) (s : Signed) → AreTaken (codes "leak_find" ∷ words)
@@ -210,16 +213,16 @@ asks_search words two paths n w s t h =
 -- ---- the values of each row, seen at once
 
 abbrev pub reading_ids : List Text
-reading_ids = codes "displace" ∷ codes "skip-ends" ∷ codes "skip-freed" ∷ codes "skip-links" ∷ codes "skip-slack" ∷ codes "all-memory" ∷ []
+reading_ids = codes "displace" ∷ codes "skip-ends" ∷ codes "skip-freed" ∷ codes "skip-links" ∷ codes "skip-slack" ∷ codes "skip-dead-stack" ∷ codes "all-memory" ∷ []
 
 abbrev pub flag_value : Bool → Option Text
 flag_value b = Some (flag_text b)
 
 abbrev pub reading_values : Option Text → Reads → Values → Values
-reading_values list w more = list ∷ flag_value w.ends ∷ flag_value w.freed ∷ flag_value w.links ∷ flag_value w.slack ∷ flag_value w.all_memory ∷ more
+reading_values list w more = list ∷ flag_value w.ends ∷ flag_value w.freed ∷ flag_value w.links ∷ flag_value w.slack ∷ flag_value w.dead ∷ flag_value w.all_memory ∷ more
 
 abbrev pub search_ids : List Text
-search_ids = codes "displace" ∷ codes "skip-ends" ∷ codes "skip-freed" ∷ codes "skip-links" ∷ codes "skip-slack" ∷ codes "all-memory"
+search_ids = codes "displace" ∷ codes "skip-ends" ∷ codes "skip-freed" ∷ codes "skip-links" ∷ codes "skip-slack" ∷ codes "skip-dead-stack" ∷ codes "all-memory"
     ∷ codes "check" ∷ codes "other-heap" ∷ codes "strict" ∷ []
 
 abbrev pub search_values : Option Text → Reads → Signed → Values
@@ -254,7 +257,7 @@ plan_seen rows n a b c e h = record {
 }
 
 pub reads_seen : (rows : List Row) (ids : List Text) (list : Option Text) (w : Reads) (more : Values)
-    → map (λ id. first_of id rows) (codes "displace" ∷ codes "skip-ends" ∷ codes "skip-freed" ∷ codes "skip-links" ∷ codes "skip-slack" ∷ codes "all-memory" ∷ ids) ≡ reading_values list w more
+    → map (λ id. first_of id rows) (codes "displace" ∷ codes "skip-ends" ∷ codes "skip-freed" ∷ codes "skip-links" ∷ codes "skip-slack" ∷ codes "skip-dead-stack" ∷ codes "all-memory" ∷ ids) ≡ reading_values list w more
     → IsListOf list w.listed → HasReads rows w
 reads_seen rows ids list w more e h = record {
   list = list_from rows list w.listed (value_at 0 _ _ e) h;
@@ -262,7 +265,8 @@ reads_seen rows ids list w more e h = record {
   freed = value_at 2 _ _ e;
   links = value_at 3 _ _ e;
   slack = value_at 4 _ _ e;
-  all_memory = value_at 5 _ _ e;
+  dead = value_at 5 _ _ e;
+  all_memory = value_at 6 _ _ e;
 }
 
 -- a search by its values
@@ -277,8 +281,8 @@ sees_search words two paths n w s list a b c taken q lists numbers apart =
       there = is.there_is;
       plan = plan_seen (rows_in all) n a b c is.numbers_are numbers;
       reads = reads_seen (rows_in all) (codes "check" ∷ codes "other-heap" ∷ codes "strict" ∷ []) list w _ is.values_are lists;
-      check = value_at 6 _ _ is.values_are;
-      other_heap = value_at 7 _ _ is.values_are;
-      strict = value_at 8 _ _ is.values_are;
+      check = value_at 7 _ _ is.values_are;
+      other_heap = value_at 8 _ _ is.values_are;
+      strict = value_at 9 _ _ is.values_are;
       apart = apart;
     })

@@ -6,6 +6,7 @@ use Rattle.leak_holders.specs.declared.question.Side.{Side}
 use Rattle.leak_holders.specs.declared.question.Side.TheVariants.{In, Of}
 use Rattle.leak_index.specs.declared.error.ReadingError.TheVariants.{TooLarge, TooMany}
 use Rattle.leak_request.specs.declared.fault.DisplaceFault.TheVariants.{Number, Reading}
+use Rattle.leak_request.specs.declared.fault.AddressArgument.TheVariants as argument
 use Rattle.leak_request.specs.declared.fault.UsageFault.TheVariants.{Address, Block, Check, Displace, Sides}
 use Rattle.leak_request_rows.specs.Requests.{AskFor, AreRefused, AreRefusedByClap, by_default, one_input, plainly, unsigned, with_all}
 use Rattle.leak_request_rows.specs.Questions.{IsGrowAsked, IsHoldersAsked, IsWhyAsked}
@@ -21,13 +22,13 @@ pub record AreWorkedWhyLines : Type 0 where
   pub address : AskFor (why (codes "0x10100" ∷ [])) (IsWhyAsked one_input 0x10100 plainly unsigned)
   pub both_cases : AskFor (why (codes "0xaBcDeF0123456789" ∷ [])) (IsWhyAsked one_input 0xabcdef0123456789 plainly unsigned)
   pub one_digit : AskFor (why (codes "0x0" ∷ [])) (IsWhyAsked one_input 0 plainly unsigned)
-  pub all : AskFor (why (codes "0x10100" ∷ codes "--skip-ends" ∷ codes "--skip-freed" ∷ codes "--skip-links" ∷ codes "--skip-slack" ∷ codes "--all-memory" ∷ codes "--displace=8,16" ∷ []))
+  pub all : AskFor (why (codes "0x10100" ∷ codes "--skip-ends" ∷ codes "--skip-freed" ∷ codes "--skip-links" ∷ codes "--skip-slack" ∷ codes "--skip-dead-stack" ∷ codes "--all-memory" ∷ codes "--displace=8,16" ∷ []))
       (IsWhyAsked one_input 0x10100 (with_all (8 ∷ 16 ∷ [])) unsigned)
-  pub decimal_address : AreRefused (why (codes "10100" ∷ [])) Address
-  pub no_digit : AreRefused (why (codes "0x" ∷ [])) Address
-  pub seventeen_digits : AreRefused (why (codes "0x00000000000010100" ∷ [])) Address
-  pub another_letter : AreRefused (why (codes "0x1g" ∷ [])) Address
-  pub upper_prefix : AreRefused (why (codes "0X10100" ∷ [])) Address
+  pub decimal_address : AreRefused (why (codes "10100" ∷ [])) (Address argument.Operand)
+  pub no_digit : AreRefused (why (codes "0x" ∷ [])) (Address argument.Operand)
+  pub seventeen_digits : AreRefused (why (codes "0x00000000000010100" ∷ [])) (Address argument.Operand)
+  pub another_letter : AreRefused (why (codes "0x1g" ∷ [])) (Address argument.Operand)
+  pub upper_prefix : AreRefused (why (codes "0X10100" ∷ [])) (Address argument.Operand)
   pub list_first : AreRefused (why (codes "10100" ∷ codes "--displace" ∷ codes "8,,16" ∷ [])) (Displace (Number 1))
   pub no_address : AreRefusedByClap (why [])
   pub no_workers : AreRefusedByClap (why (codes "0x10100" ∷ codes "--workers" ∷ codes "2" ∷ []))
@@ -75,11 +76,11 @@ pub record AreWorkedHoldersLines : Type 0 where
   pub held_by_one : AskFor (holders (codes "--in" ∷ codes "0x10200" ∷ codes "--block" ∷ [])) (IsHoldersAsked one_input None (question In 0x10200 true) by_default plainly unsigned)
   pub holding : AskFor (holders (codes "--of" ∷ codes "0x10510" ∷ [])) (IsHoldersAsked one_input None (question Of 0x10510 false) by_default plainly unsigned)
   pub all : AskFor (holders (codes "--of=0x10510" ∷ codes "--block" ∷ codes "--since=old.log" ∷ codes "--workers=8" ∷ codes "--piece=2" ∷ codes "--stack=3" ∷ codes "--skip-ends" ∷ codes "--skip-freed" ∷ codes "--skip-links" ∷ codes "--skip-slack"
-      ∷ codes "--all-memory" ∷ codes "--displace=8" ∷ codes "--other-heap" ∷ codes "--strict" ∷ []))
+      ∷ codes "--skip-dead-stack" ∷ codes "--all-memory" ∷ codes "--displace=8" ∷ codes "--other-heap" ∷ codes "--strict" ∷ []))
       (IsHoldersAsked one_input (Some (codes "old.log")) (question Of 0x10510 true) (record { workers = 8; piece = 2; stack = 3 }) (with_all (8 ∷ [])) (record { check = false; other_heap = true; strict = true }))
   pub both_sides : AreRefused (holders (codes "--in" ∷ codes "0x10200" ∷ codes "--of" ∷ codes "0x10510" ∷ [])) Sides
   pub block_alone : AreRefused (holders (codes "--block" ∷ [])) Block
-  pub bad_address : AreRefused (holders (codes "--in" ∷ codes "10200" ∷ [])) Address
+  pub bad_address : AreRefused (holders (codes "--in" ∷ codes "10200" ∷ [])) (Address argument.In)
   pub list_first : AreRefused (holders (codes "--block" ∷ codes "--displace" ∷ codes "x" ∷ [])) (Displace (Number 0))
   pub no_check : AreRefusedByClap (holders (codes "--check" ∷ []))
 

@@ -17,14 +17,15 @@ pub record Reads : Type 0 where
   pub freed : Bool
   pub links : Bool
   pub slack : Bool
+  pub dead : Bool
   pub all_memory : Bool
 
 -- without such options, and with all of them
 abbrev pub plainly : Reads
-plainly = record { listed = None; ends = false; freed = false; links = false; slack = false; all_memory = false }
+plainly = record { listed = None; ends = false; freed = false; links = false; slack = false; dead = false; all_memory = false }
 
 abbrev pub with_all : List ℕ → Reads
-with_all listed = record { listed = Some listed; ends = true; freed = true; links = true; slack = true; all_memory = true }
+with_all listed = record { listed = Some listed; ends = true; freed = true; links = true; slack = true; dead = true; all_memory = true }
 
 -- the options are read so
 pub record AreReadAs (w : Reads) (o : Options) : Type 0 where
@@ -33,6 +34,7 @@ pub record AreReadAs (w : Reads) (o : Options) : Type 0 where
   pub freed : o.skip.freed ≡ w.freed
   pub links : o.skip.links ≡ w.links
   pub slack : o.skip.slack ≡ w.slack
+  pub dead : o.skip.dead ≡ w.dead
   pub unwritable : o.skip.unwritable ≡ not w.all_memory
   pub core_limit : o.core_limit ≡ 68719476736
   pub log_limit : o.log_limit ≡ 4294967296
@@ -106,7 +108,7 @@ IsText (Displace f) = ⊥
 IsText Check = ⊥
 IsText Sides = ⊥
 IsText Block = ⊥
-IsText Address = ⊥
+IsText (Address a) = ⊥
 IsText NoMemory = ⊥
 
 -- the words are refused by clap, whose text is told

@@ -17,11 +17,12 @@ pub record AreWorkedSearchLines : Type 0 where
   pub freed : AskFor (codes "one" ∷ codes "core.1" ∷ codes "trace.log" ∷ codes "--skip-freed" ∷ []) (IsSearch false one_input by_default (record plainly { freed = true }) unsigned)
   pub links : AskFor (codes "one" ∷ codes "core.1" ∷ codes "trace.log" ∷ codes "--skip-links" ∷ []) (IsSearch false one_input by_default (record plainly { links = true }) unsigned)
   pub slack : AskFor (codes "one" ∷ codes "core.1" ∷ codes "trace.log" ∷ codes "--skip-slack" ∷ []) (IsSearch false one_input by_default (record plainly { slack = true }) unsigned)
+  pub dead : AskFor (codes "one" ∷ codes "core.1" ∷ codes "trace.log" ∷ codes "--skip-dead-stack" ∷ []) (IsSearch false one_input by_default (record plainly { dead = true }) unsigned)
   pub all_memory : AskFor (codes "one" ∷ codes "core.1" ∷ codes "trace.log" ∷ codes "--all-memory" ∷ []) (IsSearch false one_input by_default (record plainly { all_memory = true }) unsigned)
   pub check : AskFor (codes "one" ∷ codes "core.1" ∷ codes "trace.log" ∷ codes "--check" ∷ []) (IsSearch false one_input by_default plainly (record unsigned { check = true }))
   pub other_heap : AskFor (codes "one" ∷ codes "core.1" ∷ codes "trace.log" ∷ codes "--other-heap" ∷ []) (IsSearch false one_input by_default plainly (record unsigned { other_heap = true }))
   pub strict : AskFor (codes "one" ∷ codes "core.1" ∷ codes "trace.log" ∷ codes "--strict" ∷ []) (IsSearch false one_input by_default plainly (record unsigned { strict = true }))
-  pub all : AskFor (codes "two" ∷ codes "a" ∷ codes "b" ∷ codes "c" ∷ codes "d" ∷ codes "--skip-ends" ∷ codes "--skip-freed" ∷ codes "--skip-links" ∷ codes "--skip-slack" ∷ codes "--all-memory" ∷ codes "--check" ∷ codes "--strict" ∷ codes "--displace=24" ∷ [])
+  pub all : AskFor (codes "two" ∷ codes "a" ∷ codes "b" ∷ codes "c" ∷ codes "d" ∷ codes "--skip-ends" ∷ codes "--skip-freed" ∷ codes "--skip-links" ∷ codes "--skip-slack" ∷ codes "--skip-dead-stack" ∷ codes "--all-memory" ∷ codes "--check" ∷ codes "--strict" ∷ codes "--displace=24" ∷ [])
       (IsSearch true two_inputs by_default (with_all (24 ∷ [])) (record { check = true; other_heap = false; strict = true }))
 
 -- lines that ask for a text

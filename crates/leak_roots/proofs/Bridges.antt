@@ -66,6 +66,6 @@ made_of_pieces f g (x ∷ xs) = ap (λ (ys : List ℕ). flat_map f (g x) ++ ys) 
 pub pieces_made : (f : ℕ → List ℕ) (word_at : ℕ → Option ℕ) (p : Places) (words : ℕ) (pieces : List Piece) → AreCut p words pieces → flat_map (λ piece. flat_map f (words_of word_at p piece)) pieces ≡ flat_map f (words_at word_at p)
 pieces_made f word_at p words pieces cut = made_of_pieces f (words_of word_at p) pieces ∙ ap (flat_map f) (pieces_words word_at p words pieces cut)
 
-pub places_words : (unwritable : Bool) (file : List ℕ) (blocks : List Block) (spans slack : List Span) (p : Places) → AreRootsOf unwritable file blocks spans slack p → words_at (word_of file) p ≡ root_words unwritable file blocks spans slack
+pub places_words : (unwritable : Bool) (file : List ℕ) (blocks : List Block) (spans slack dead : List Span) (p : Places) → AreRootsOf unwritable file blocks spans slack dead p → words_at (word_of file) p ≡ root_words unwritable file blocks spans slack dead
 unfolding words_at root_words
-places_words unwritable file blocks spans slack p roots = rw (roots.registers, roots.memory) refl
+places_words unwritable file blocks spans slack dead p roots = rw (roots.registers, roots.memory) refl

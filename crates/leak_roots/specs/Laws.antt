@@ -24,5 +24,6 @@ PiecesGiveAll =
 -- the words at the places of a core's root words are its root words
 abbrev pub PlacesHoldRootWords : Type 0
 PlacesHoldRootWords =
-    (unwritable : Bool) (file : List ℕ) (blocks : List Block) (spans slack : List Span) (p : Places)
-    → AreRootsOf unwritable file blocks spans slack p → words_at (word_of file) p ≡ root_words unwritable file blocks spans slack
+    (unwritable : Bool) (file : List ℕ) (blocks : List Block) (spans slack dead : List Span) (p : Places)
+    → AreRootsOf unwritable file blocks spans slack dead p
+    → words_at (word_of file) p ≡ root_words unwritable file blocks spans slack dead

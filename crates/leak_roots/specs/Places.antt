@@ -3,12 +3,13 @@ use Rattle.std.specs.Prelude.{◌≡◌, ℕ, ◌<◌, ◌≤◌, ◌%◌, ◌+�
 use Rattle.std.specs.List.{range_with_len, AllByRecursion}
 use Rattle.leak_elf.specs.Words.{places}
 
--- the register words, ranges of addresses, each with its end excluded, how many freed places are not among them, and
--- whether malloc's links to free chunks are left out of what the words in memory lead to
+-- the register words, ranges of addresses, each with its end excluded, how many freed places and how many dead places are
+-- not among them, and whether malloc's links to free chunks are left out of what the words in memory lead to
 pub record Places : Type 0 where
   pub registers : List ℕ
   pub memory : List (ℕ × ℕ)
   pub freed : ℕ
+  pub dead : ℕ
   pub skips_links : Bool
 
 -- each eighth address of a range

@@ -1,7 +1,7 @@
 -- Root words: the registers, and the readable words of writable segments that share no byte with a live block
 -- (after bdwgc's roots). Own rule: freed memory and dead stack are roots, since what points from there is not known. If
 -- the spans of small allocations are given, the words of freed memory are left out. If the slack of live blocks is given,
--- which is in no block, its words are left out too. Memory that can't be written, as after mprotect(2), may hold what was
+-- which is in no block, its words are left out too, and then those of dead stack, if that is given. Memory that can't be written, as after mprotect(2), may hold what was
 -- written before: unless it is left out, its words are root words too
 -- (after LeakSanitizer, which reads all readable memory of data).
 use Rattle.std.specs.Prelude.{◌≡◌, ℕ, ◌+◌, ◌<◌, ◌≤◌, ◌^◌, length, slice_index_or, min, max, Bool, not, ◌&&◌, ◌||◌, ◌%◌, ◌==◌, List, ◌++◌, nat_lt, filter, flat_map, filter_map, is_some}
@@ -54,20 +54,30 @@ is_inside spans a = list_all (is_covered spans) (range_with_len a 8)
 unfoldable pub freed_places : Bool → List ℕ → List Block → List Span → List ℕ
 freed_places unwritable file blocks spans = filter (is_inside spans) (outside_places unwritable file blocks)
 
--- the addresses that hold a root word, in ascending order: those that are neither freed nor in the slack
-unfoldable pub root_places : Bool → List ℕ → List Block → List Span → List Span → List ℕ
-root_places unwritable file blocks spans slack =
+-- those that are neither freed nor in the slack
+unfoldable pub kept_places : Bool → List ℕ → List Block → List Span → List Span → List ℕ
+kept_places unwritable file blocks spans slack =
     filter (λ a. not (is_inside slack a)) (filter (λ a. not (is_inside spans a)) (outside_places unwritable file blocks))
 
--- the root words of a core: registers first, then memory by address
-unfoldable pub root_words : Bool → List ℕ → List Block → List Span → List Span → List ℕ
-root_words unwritable file blocks spans slack =
-    registers_of file ++ filter_map (word_of file) (root_places unwritable file blocks spans slack)
+-- those of them in dead stack
+unfoldable pub dead_places : Bool → List ℕ → List Block → List Span → List Span → List Span → List ℕ
+dead_places unwritable file blocks spans slack dead = filter (is_inside dead) (kept_places unwritable file blocks spans slack)
 
--- these are the places of the core's root words, each once, and the number of freed places
-pub record AreRootsOf (unwritable : Bool) (file : List ℕ) (blocks : List Block) (spans slack : List Span) (p : Places)
+-- the addresses that hold a root word, in ascending order: those that are neither freed nor in the slack nor in dead stack
+unfoldable pub root_places : Bool → List ℕ → List Block → List Span → List Span → List Span → List ℕ
+root_places unwritable file blocks spans slack dead =
+    filter (λ a. not (is_inside dead a)) (kept_places unwritable file blocks spans slack)
+
+-- the root words of a core: registers first, then memory by address
+unfoldable pub root_words : Bool → List ℕ → List Block → List Span → List Span → List Span → List ℕ
+root_words unwritable file blocks spans slack dead =
+    registers_of file ++ filter_map (word_of file) (root_places unwritable file blocks spans slack dead)
+
+-- these are the places of the core's root words, each once, and the numbers of freed and of dead places
+pub record AreRootsOf (unwritable : Bool) (file : List ℕ) (blocks : List Block) (spans slack below : List Span) (p : Places)
     : Type 0 where
   pub registers : p.registers ≡ registers_of file
-  pub memory : memory_places p.memory ≡ root_places unwritable file blocks spans slack
+  pub memory : memory_places p.memory ≡ root_places unwritable file blocks spans slack below
   pub ranges : AreRanges p.memory
   pub freed : p.freed ≡ length (freed_places unwritable file blocks spans)
+  pub dead : p.dead ≡ length (dead_places unwritable file blocks spans slack below)

@@ -1,12 +1,12 @@
 -- Worked answers: how many root words the sample core has, with no block, with one of 32 bytes, with a vector entry, and
--- with a segment that can't be written, and which places are freed.
+-- with a segment that can't be written, and which places are freed or dead.
 use Rattle.std.specs.Prelude.{◌≡◌, ◌==◌, ℕ, Bool, true, false, List, [], ◌∷◌, ◌++◌, length, filter}
 use Rattle.std.specs.Int.{w64, to_le_bytes}
 use Rattle.leak_elf.specs.Sample.{sample, file_header, program_header, note_entry}
 use Rattle.leak_notes.specs.Rows.{with_vectors}
 use Rattle.leak_blocks.specs.declared.block.Block.{Block}
 use Rattle.leak_blocks.specs.declared.small.Span.{Span}
-use Rattle.leak_roots.specs.Roots.{root_words, is_inside}
+use Rattle.leak_roots.specs.Roots.{root_words, dead_places, is_inside}
 
 abbrev pub block : ℕ → ℕ → Block
 block start size = record { start = start; size = size; line = 1; caller = (0, 0) }
@@ -24,16 +24,20 @@ with_flags flags =
 -- how many root words it has, and how many of them are the address of the block
 unfoldable pub counts : Bool → ℕ → ℕ × ℕ
 counts unwritable flags =
-    let words = root_words unwritable (with_flags flags) (block 0x10100 0x20 ∷ []) [] [] in
+    let words = root_words unwritable (with_flags flags) (block 0x10100 0x20 ∷ []) [] [] [] in
     (length words, length (filter (λ w. w == 0x10100) words))
 
 pub record AreAnswers : Type 0 where
-  pub without_blocks : length (root_words true sample [] [] []) ≡ 539
-  pub with_a_block : length (root_words true sample (block 0x10100 0x20 ∷ []) [] []) ≡ 535
-  pub with_a_block_and_slack : length (root_words true sample (block 0x10100 0x20 ∷ []) [] (span 0x10120 0x1012f ∷ [])) ≡ 533
+  pub without_blocks : length (root_words true sample [] [] [] []) ≡ 539
+  pub with_a_block : length (root_words true sample (block 0x10100 0x20 ∷ []) [] [] []) ≡ 535
+  pub with_a_block_and_slack : length (root_words true sample (block 0x10100 0x20 ∷ []) [] (span 0x10120 0x1012f ∷ []) []) ≡ 533
   pub freed_and_in_slack :
-      length (root_words true sample (block 0x10100 0x20 ∷ []) (span 0x10120 0x10127 ∷ []) (span 0x10120 0x1012f ∷ [])) ≡ 533
-  pub with_vector_registers : length (root_words true with_vectors [] [] []) ≡ 587
+      length (root_words true sample (block 0x10100 0x20 ∷ []) (span 0x10120 0x10127 ∷ []) (span 0x10120 0x1012f ∷ []) []) ≡ 533
+  pub with_dead_stack :
+      length (root_words true sample (block 0x10100 0x20 ∷ []) [] (span 0x10120 0x1012f ∷ []) (span 0x10000 0x107ff ∷ [])) ≡ 283
+  pub dead_outside_blocks_and_slack :
+      length (dead_places true sample (block 0x10100 0x20 ∷ []) [] (span 0x10120 0x1012f ∷ []) (span 0x10000 0x107ff ∷ [])) ≡ 250
+  pub with_vector_registers : length (root_words true with_vectors [] [] [] []) ≡ 587
   pub writable : counts true 6 ≡ (29, 1)
   pub writable_with_all : counts false 6 ≡ (29, 1)
   pub read_only : counts true 4 ≡ (27, 0)

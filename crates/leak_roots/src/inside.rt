@@ -1,4 +1,4 @@
-//! Leaving out the places inside spans: freed memory, and slack.
+//! Leaving out the places inside spans: freed memory, slack and dead stack.
 
 ghost use Rattle.std.specs.Prelude.{◌≡◌, ◌+◌, ◌++◌, ◌<◌, ◌≤◌, ◌*◌, ◌^◌, ◌%◌, ℕ, length, slice_index_or, filter, not, OnOk, IfOk, IsTrue, IsFalse};
 ghost use Rattle.leak_blocks.specs.declared.small.Span.{Span};

@@ -9,7 +9,7 @@
 //! Registers and writable memory are roots after bdwgc, all readable memory after LeakSanitizer. Own rule: freed memory and
 //! dead stack are roots too, so that no stack limit is read from a register. If the spans of small allocations are given, the
 //! words of freed memory are left out: those whose 8 bytes each lie in such a span. [`Roots::skip_slack`] leaves out those
-//! within slack, what malloc gave live blocks beyond what was asked for. What the contracts don't say is whether a root word
+//! within slack, what malloc gave live blocks beyond what was asked for, and [`Roots::skip_dead`] those within dead stack. What the contracts don't say is whether a root word
 //! is a pointer.
 #![tactic(auto)]
 

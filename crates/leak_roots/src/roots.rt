@@ -28,6 +28,7 @@ pub struct Roots {
     registers: Vec<u64>,
     memory: Vec<(u64, u64)>,
     freed: u64,
+    dead: u64,
     skips_links: bool,
 }
 
@@ -38,6 +39,7 @@ impl Model for Roots {
       registers = roots.registers.items;
       memory = roots.memory.items;
       freed = roots.freed;
+      dead = roots.dead;
       skips_links = roots.skips_links;
     } };
 
@@ -51,8 +53,8 @@ impl Roots {
     ///
     /// They are the register words of the threads, as they are given, and the words of 8 bytes at the multiples of 8 in
     /// segments that share no byte with a live block and whose bytes the core holds: registers, stacks and static data,
-    /// as Boehm's collector takes them. These are the core's root words only if the threads are the core's. No slack and
-    /// no link to a free chunk is left out. It fails only if memory is refused.
+    /// as Boehm's collector takes them. These are the core's root words only if the threads are the core's. No slack, no
+    /// dead stack and no link to a free chunk is left out. It fails only if memory is refused.
     pub fn find(
         alloc: Global,
         image: &Image,
@@ -63,13 +65,14 @@ impl Roots {
     ) -> Result<Roots, AllocError>
         ensures registers { IfOk result (λ roots. roots.registers ≡ threads.now.registers) }
         ensures memory { IfOk result (λ roots. memory_places roots.memory
-            ≡ root_places unwritable image.now live.now.blocks small.now []) }
+            ≡ root_places unwritable image.now live.now.blocks small.now [] []) }
         ensures freed { IfOk result (λ roots.
             roots.freed ≡ length (freed_places unwritable image.now live.now.blocks small.now)) }
+        ensures dead { IfOk result (λ roots. roots.dead ≡ 0) }
         ensures links { IfOk result (λ roots. roots.skips_links ≡ false) }
         ensures of_core { (spans : List Span) → CoverSame small.now spans
             → threads.now ≡ threads_of image.now
-            → IfOk result (AreRootsOf unwritable image.now live.now.blocks spans []) }
+            → IfOk result (AreRootsOf unwritable image.now live.now.blocks spans [] []) }
         // each block, and each span, cuts at most one range in two
         ensures few { let segments = filter (has_roots unwritable) (segments_of image.now) in
             IfOk result (λ roots. length roots.memory
@@ -82,6 +85,7 @@ impl Roots {
             registers,
             memory,
             freed,
+            dead: 0,
             skips_links: false,
         })
     }
@@ -109,19 +113,27 @@ impl Roots {
         self.freed
     }
 
+    /// How many places in memory hold no root word because they are in dead stack.
+    pub fn dead(&self) -> u64
+        ensures { result ≡ self.now.dead }
+    {
+        self.dead
+    }
+
     /// The same root words without those in memory whose 8 bytes each lie in a span of the slack of live blocks. The
-    /// number of freed places stays the same. It fails only if memory is refused.
+    /// numbers of freed and of dead places stay the same. It fails only if memory is refused.
     pub fn skip_slack(self, alloc: Global, slack: &[Span]) -> Result<Roots, AllocError>
         requires { AreApart slack.now }
         ensures registers { IfOk result (λ roots. roots.registers ≡ self.registers) }
         ensures memory { IfOk result (λ roots. memory_places roots.memory
             ≡ filter (λ a. not (is_inside slack.now a)) (memory_places self.memory)) }
         ensures freed { IfOk result (λ roots. roots.freed ≡ self.freed) }
+        ensures dead { IfOk result (λ roots. roots.dead ≡ self.dead) }
         ensures links { IfOk result (λ roots. roots.skips_links ≡ self.skips_links) }
         ensures of_core { (unwritable : Bool) (file : List ℕ) (blocks : List Block)
             (spans others : List Span) → CoverSame slack.now others
-            → AreRootsOf unwritable file blocks spans [] self
-            → IfOk result (AreRootsOf unwritable file blocks spans others) }
+            → AreRootsOf unwritable file blocks spans [] [] self
+            → IfOk result (AreRootsOf unwritable file blocks spans others []) }
         ensures few { IfOk result (λ roots.
             length roots.memory ≤ length self.memory + length slack.now) }
     {
@@ -129,6 +141,7 @@ impl Roots {
             registers,
             memory,
             freed,
+            dead,
             skips_links,
         } = self;
         let (memory, _) = leave_out(alloc, memory, slack)?;
@@ -136,6 +149,42 @@ impl Roots {
             registers,
             memory,
             freed,
+            dead,
+            skips_links,
+        })
+    }
+
+    /// The same root words without those in memory whose 8 bytes each lie in a span of dead stack, which are counted. The
+    /// number of freed places stays the same. It fails only if memory is refused.
+    pub fn skip_dead(self, alloc: Global, dead: &[Span]) -> Result<Roots, AllocError>
+        requires { AreApart dead.now }
+        ensures registers { IfOk result (λ roots. roots.registers ≡ self.registers) }
+        ensures memory { IfOk result (λ roots. memory_places roots.memory
+            ≡ filter (λ a. not (is_inside dead.now a)) (memory_places self.memory)) }
+        ensures freed { IfOk result (λ roots. roots.freed ≡ self.freed) }
+        ensures dead { IfOk result (λ roots.
+            roots.dead ≡ length (filter (is_inside dead.now) (memory_places self.memory))) }
+        ensures links { IfOk result (λ roots. roots.skips_links ≡ self.skips_links) }
+        ensures of_core { (unwritable : Bool) (file : List ℕ) (blocks : List Block)
+            (spans slack others : List Span) → CoverSame dead.now others
+            → AreRootsOf unwritable file blocks spans slack [] self
+            → IfOk result (AreRootsOf unwritable file blocks spans slack others) }
+        ensures few { IfOk result (λ roots.
+            length roots.memory ≤ length self.memory + length dead.now) }
+    {
+        let Roots {
+            registers,
+            memory,
+            freed,
+            skips_links,
+            ..
+        } = self;
+        let (memory, count) = leave_out(alloc, memory, dead)?;
+        Ok(Roots {
+            registers,
+            memory,
+            freed,
+            dead: count,
             skips_links,
         })
     }

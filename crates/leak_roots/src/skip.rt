@@ -16,6 +16,8 @@ pub struct Skip {
     pub freed: bool,
     /// The words of slack: those whose 8 bytes each lie beyond what was asked for, in what malloc gave a live block.
     pub slack: bool,
+    /// The words of dead stack: those whose 8 bytes each lie in a thread's stack below the words that its functions use.
+    pub dead: bool,
     /// The links that malloc keeps to free chunks, and its pointers to the top of a heap.
     pub links: bool,
     /// The words of memory that can't be written.
@@ -25,11 +27,12 @@ pub struct Skip {
 impl Skip {
     /// What a search leaves out unless it is asked to leave out more: the words of memory that can't be written.
     pub fn usual() -> Skip
-        ensures { result ≡ record { freed = false; slack = false; links = false; unwritable = true } }
+        ensures { result ≡ record { freed = false; slack = false; dead = false; links = false; unwritable = true } }
     {
         Skip {
             freed: false,
             slack: false,
+            dead: false,
             links: false,
             unwritable: true,
         }

@@ -93,7 +93,7 @@ none_is None h = refl
 none_is (Some chain) h = absurd (h refl)
 
 pub tells_held : (core log : List ℕ) (address : ℕ) (lines : List Line) (b c : Block) (block : ℕ) (marked : List ℕ) (places : Places) (root : RootWord) (links : List Link) (text : List ℕ) → IsQuestion core log address lines b c block marked
-    → has marked block ≡ true → AreRootsOf true core (live_of lines) [] [] places → places.skips_links ≡ false
+    → has marked block ≡ true → AreRootsOf true core (live_of lines) [] [] [] places → places.skips_links ≡ false
     → ((chain : Chain) → chain.root ≡ root → chain.links.items ≡ links → IsWhy (word_of core) (index_of interior lines) places block (Some chain))
     → ((chain : Chain) → chain.root ≡ root → chain.links.items ≡ links → text_of log (live_of lines) (sets_of (entries core)) block (Some chain) ≡ text)
     → TellsHeld core log address root links text
@@ -117,7 +117,7 @@ tells_held core log address lines b c block marked places root links text q h ro
 }
 
 pub tells_lost : (core log : List ℕ) (address : ℕ) (lines : List Line) (b c : Block) (block : ℕ) (marked : List ℕ) (places : Places) (text : List ℕ) → IsQuestion core log address lines b c block marked
-    → has marked block ≡ false → AreRootsOf true core (live_of lines) [] [] places → places.skips_links ≡ false
+    → has marked block ≡ false → AreRootsOf true core (live_of lines) [] [] [] places → places.skips_links ≡ false
     → IsWhy (word_of core) (index_of interior lines) places block None
     → text_of log (live_of lines) (sets_of (entries core)) block None ≡ text → TellsLost core log address text
 tells_lost core log address lines b c block marked places text q h roots no_links why told = record {

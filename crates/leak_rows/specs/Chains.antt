@@ -17,11 +17,11 @@ block start size line = record { start = start; size = size; line = line; caller
 
 -- root words in these ranges, and in registers of which the one with the number has the word
 abbrev pub places : List (ℕ × ℕ) → List ℕ → Places
-places memory registers = record { registers = registers; memory = memory; freed = 0; skips_links = false }
+places memory registers = record { registers = registers; memory = memory; freed = 0; dead = 0; skips_links = false }
 
 -- the same without links to free chunks
 abbrev pub without_links : List (ℕ × ℕ) → List ℕ → Places
-without_links memory registers = record { registers = registers; memory = memory; freed = 0; skips_links = true }
+without_links memory registers = record { registers = registers; memory = memory; freed = 0; dead = 0; skips_links = true }
 
 -- the registers of a thread, all zero
 abbrev pub zero_registers : List ℕ

@@ -11,3 +11,4 @@ pub mod Reasons
 pub mod Holding
 pub mod Growth
 pub mod Statuses
+pub mod Stacks

@@ -20,11 +20,11 @@ interior = record { listed = None; skips_ends = false }
 
 -- nothing is left out of the root words except memory that can't be written
 abbrev pub usual : Skip
-usual = record { freed = false; links = false; slack = false; unwritable = true }
+usual = record { freed = false; links = false; slack = false; dead = false; unwritable = true }
 
 -- freed memory is left out too
 abbrev pub without_freed : Skip
-without_freed = record { freed = true; links = false; slack = false; unwritable = true }
+without_freed = record { freed = true; links = false; slack = false; dead = false; unwritable = true }
 
 -- what is searched, and how
 pub record Search : Type 0 where

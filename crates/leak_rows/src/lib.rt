@@ -11,6 +11,7 @@
 //!   hold and who holds them, why a block is held, and what grew (`worked_searches`, `worked_pairs`, `worked_holders`, `worked_reasons`,
 //!   `worked_growths`). For searches, growths and lost blocks the definition allows that report and no other;
 //! - which freed memory is left out on both sides of the bound of small allocations, 131,072 bytes (`worked_bounds`);
+//! - which words of threads' stacks are dead (`worked_stacks`);
 //! - exit statuses (`worked_statuses`).
 //!
 //! [`blocks_fit_if_in_use`] is about every heap that a list of chunks lays out as bytes: a block fits it exactly if its chunk is in
@@ -25,6 +26,7 @@ mod heap;
 mod holding;
 mod reasons;
 mod searches;
+mod stacks;
 mod statuses;
 mod why;
 
@@ -33,6 +35,7 @@ pub use heap::{blocks_fit_if_in_use, live_heaps_fit, worked_heap};
 pub use holding::worked_holders;
 pub use reasons::worked_reasons;
 pub use searches::{worked_bounds, worked_pairs, worked_searches};
+pub use stacks::worked_stacks;
 pub use statuses::worked_statuses;
 pub use why::{
     asked_blocks, register_names, worked_answers, worked_chains, worked_distances, worked_row,

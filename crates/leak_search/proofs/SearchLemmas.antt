@@ -16,9 +16,11 @@ use Rattle.leak_index.specs.Hits.{Index}
 use Rattle.leak_scan.specs.Heads.{heads_of}
 use Rattle.leak_notes.specs.Threads.{registers_of}
 use Rattle.leak_roots.specs.Places.{Places}
-use Rattle.leak_roots.specs.Roots.{AreRootsOf, freed_places, root_places}
+use Rattle.leak_roots.specs.Roots.{AreRootsOf, dead_places, freed_places, root_places}
 use Rattle.leak_roots.specs.Skipped.{spans_of, freed_of}
+use Rattle.leak_stacks.specs.Dead.{dead_spans_of}
 use Rattle.leak_input.specs.Slack.{slack_in}
+use Rattle.leak_input.specs.Dead.{dead_in, dead_told}
 use Rattle.leak_roots.specs.declared.skip.Skip.{Skip}
 use Rattle.leak_marks.specs.Reach.{Graph, Reach}
 use Rattle.leak_marks.specs.Partition.{Partitions}
@@ -46,16 +48,16 @@ too_many core log input read many =
     inr (refl, read.1.accepted, (read.0, read.1.is_log, subst (λ (bs : List Block). 2 ^ 32 ≤ length bs) e (omega (arith, many))))
 
 -- what the words at the places found lead to is what the root words lead to
-pub found_first : (core : List ℕ) (index : Index) (blocks : List Block) (spans slack : List Span) (links unwritable : Bool) (places : Places) → AreRootsOf unwritable core blocks spans slack places → places.skips_links ≡ links
-    → led_by_roots (word_of core) index places ≡ led_from links (word_of core) index (registers_of core) (root_places unwritable core blocks spans slack)
-found_first core index blocks spans slack links unwritable places roots same = rw (roots.registers, roots.memory, same) refl
+pub found_first : (core : List ℕ) (index : Index) (blocks : List Block) (spans slack dead : List Span) (links unwritable : Bool) (places : Places) → AreRootsOf unwritable core blocks spans slack dead places → places.skips_links ≡ links
+    → led_by_roots (word_of core) index places ≡ led_from links (word_of core) index (registers_of core) (root_places unwritable core blocks spans slack dead)
+found_first core index blocks spans slack dead links unwritable places roots same = rw (roots.registers, roots.memory, same) refl
 
 -- the graph that was marked is that of the core and the lines
 pub marked_graph : (core : List ℕ) (reading : Distances) (skip : Skip) (lines : List Line) (blocks : List Block) (index : Index) (places : Places)
-    → blocks ≡ live_of lines → index ≡ record { blocks = blocks; reading = reading } → AreRootsOf skip.unwritable core blocks (spans_of skip lines) (slack_in skip core blocks) places → places.skips_links ≡ skip.links
+    → blocks ≡ live_of lines → index ≡ record { blocks = blocks; reading = reading } → AreRootsOf skip.unwritable core blocks (spans_of skip lines) (slack_in skip core blocks) (dead_in skip core) places → places.skips_links ≡ skip.links
     → graph_of (word_of core) index (led_by_roots (word_of core) index places) [] ≡ graph_of_one core reading skip lines
 marked_graph core reading skip lines blocks index places are is roots links =
-    rw (found_first core index blocks (spans_of skip lines) (slack_in skip core blocks) skip.links skip.unwritable places roots links, is, are) refl
+    rw (found_first core index blocks (spans_of skip lines) (slack_in skip core blocks) (dead_in skip core) skip.links skip.unwritable places roots links, is, are) refl
 
 counted : (asked unwritable : Bool) (core : List ℕ) (blocks : List Block) (small : List Span) (places : Places) → places.freed ≡ length (freed_places unwritable core blocks (if asked then small else []))
     → (if asked then Some places.freed else None) ≡ (if asked then Some (length (freed_places unwritable core blocks small)) else None)
@@ -63,16 +65,27 @@ counted true unwritable core blocks small places is = ap (λ (n : ℕ). Some n) 
 counted false unwritable core blocks small places is = refl
 
 -- the number of freed places is told if they are left out
-pub freed_is : (skip : Skip) (core : List ℕ) (blocks : List Block) (lines : List Line) (places : Places) → AreRootsOf skip.unwritable core blocks (spans_of skip lines) (slack_in skip core blocks) places
+pub freed_is : (skip : Skip) (core : List ℕ) (blocks : List Block) (lines : List Line) (places : Places) → AreRootsOf skip.unwritable core blocks (spans_of skip lines) (slack_in skip core blocks) (dead_in skip core) places
     → (if skip.freed then Some places.freed else None) ≡ freed_of skip core blocks lines
 freed_is skip core blocks lines places roots = counted skip.freed skip.unwritable core blocks (small_spans_of lines) places roots.freed
 
+dead_counted : (asked unwritable : Bool) (core : List ℕ) (blocks : List Block) (spans slack dead : List Span) (places : Places) → places.dead ≡ length (dead_places unwritable core blocks spans slack (if asked then dead else []))
+    → (if asked then Some places.dead else None) ≡ (if asked then Some (length (dead_places unwritable core blocks spans slack dead)) else None)
+dead_counted true unwritable core blocks spans slack dead places is = ap (λ (n : ℕ). Some n) is
+dead_counted false unwritable core blocks spans slack dead places is = refl
+
+-- the number of dead places is told if they are left out
+pub dead_is : (skip : Skip) (core : List ℕ) (blocks : List Block) (lines : List Line) (places : Places) → AreRootsOf skip.unwritable core blocks (spans_of skip lines) (slack_in skip core blocks) (dead_in skip core) places
+    → (if skip.dead then Some places.dead else None) ≡ dead_told skip core blocks lines
+dead_is skip core blocks lines places roots = dead_counted skip.dead skip.unwritable core blocks (spans_of skip lines) (slack_in skip core blocks) (dead_spans_of core) places roots.dead
+
 -- the numbers of the first lines
-pub head_is : (core log : List ℕ) (lines : List Line) (input : Input) (places : Places) (two : Option Two) → IsReadOf core log lines input → AreRootsOf input.skip.unwritable core input.live.blocks (spans_of input.skip lines) (slack_in input.skip core input.live.blocks) places
-    → head_with input places two ≡ record { undumped = undumped_of core; unknown = (replay_of lines).unknown; displaced = (replay_of lines).displaced; torn = torn_of log; freed = freed_of input.skip core (live_of lines) lines; two = two }
+pub head_is : (core log : List ℕ) (lines : List Line) (input : Input) (places : Places) (two : Option Two) → IsReadOf core log lines input → AreRootsOf input.skip.unwritable core input.live.blocks (spans_of input.skip lines) (slack_in input.skip core input.live.blocks) (dead_in input.skip core) places
+    → head_with input places two ≡ record { undumped = undumped_of core; unknown = (replay_of lines).unknown; displaced = (replay_of lines).displaced; torn = torn_of log; freed = freed_of input.skip core (live_of lines) lines; dead = dead_told input.skip core (live_of lines) lines; two = two }
 head_is core log lines input places two read roots =
     let f = subst (λ (bs : List Block). (if input.skip.freed then Some places.freed else None) ≡ freed_of input.skip core bs lines) (input_blocks core log lines input read) (freed_is input.skip core input.live.blocks lines places roots) in
-    rw (f, read.image, read.live, read.torn) refl
+    let d = subst (λ (bs : List Block). (if input.skip.dead then Some places.dead else None) ≡ dead_told input.skip core bs lines) (input_blocks core log lines input read) (dead_is input.skip core input.live.blocks lines places roots) in
+    rw (f, d, read.image, read.live, read.torn) refl
 
 pub index_is : (reading : Distances) (lines : List Line) (blocks : List Block) (index : Index) → blocks ≡ live_of lines → index ≡ record { blocks = blocks; reading = reading } → index ≡ index_of reading lines
 index_is reading lines blocks index are is = rw (is, are) refl
@@ -80,7 +93,7 @@ index_is reading lines blocks index are is = rw (is, are) refl
 -- a search that read, found roots and marked
 pub finds_one : (core log : List ℕ) (reading : Distances) (check : Bool) (workers : ℕ) (input : Input) (index : Index) (places : Places) (head : Head) (fits : Option (List Bool)) (marked : Marked) (found : Found)
     → (read : IsRead core log input) → length input.live.blocks < 2 ^ 32 → index ≡ record { blocks = input.live.blocks; reading = reading }
-    → AreRootsOf input.skip.unwritable core input.live.blocks (spans_of input.skip read.0) (slack_in input.skip core input.live.blocks) places → places.skips_links ≡ input.skip.links → MarksFromRoots (word_of core) index places workers marked → head ≡ head_with input places None
+    → AreRootsOf input.skip.unwritable core input.live.blocks (spans_of input.skip read.0) (slack_in input.skip core input.live.blocks) (dead_in input.skip core) places → places.skips_links ≡ input.skip.links → MarksFromRoots (word_of core) index places workers marked → head ≡ head_with input places None
     → fits ≡ fits_with check input
     → found.report.items ≡ text_of head input.live.blocks marked.set.items (heads_of (word_of core) index marked.set.items) fits log
     → found.leaked ≡ length (leaked_in marked.set.items input.live.blocks) → found.claims ≡ marked.claims
@@ -141,7 +154,7 @@ pub finds_read : (core log : List ℕ) (reading : Distances) (skip : Skip) (chec
 finds_read core log reading skip check workers input index places head fits marked found read skips many is roots marks head_at fits_is report leaked claims =
     subst (λ (s : Skip). FindsOne core log reading s check workers found) skips
     (finds_one core log reading check workers input index places head fits marked found read (few_blocks (length input.live.blocks) (λ h. no_error marked (many h))) is
-    (subst (λ (file : List ℕ). AreRootsOf input.skip.unwritable file input.live.blocks (spans_of input.skip read.0) (slack_in input.skip file input.live.blocks) places) read.1.image roots.roots)
+    (subst (λ (file : List ℕ). AreRootsOf input.skip.unwritable file input.live.blocks (spans_of input.skip read.0) (slack_in input.skip file input.live.blocks) (dead_in input.skip file) places) read.1.image roots.roots)
     roots.links
     (subst (λ (file : List ℕ). MarksFromRoots (word_of file) index places workers marked) read.1.image marks)
     head_at fits_is

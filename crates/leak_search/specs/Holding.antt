@@ -11,6 +11,7 @@ use Rattle.leak_roots.specs.Places.{Places}
 use Rattle.leak_roots.specs.Roots.{AreRootsOf}
 use Rattle.leak_roots.specs.Skipped.{spans_of}
 use Rattle.leak_input.specs.Slack.{slack_in}
+use Rattle.leak_input.specs.Dead.{dead_in}
 use Rattle.leak_roots.specs.declared.skip.Skip.{Skip}
 use Rattle.leak_marks.specs.Reach.{Reach}
 use Rattle.leak_why.specs.declared.chain.Chain.{Chain}
@@ -32,7 +33,7 @@ pub record TellsWhy (core log : List ℕ) (reading : Distances) (skip : Skip) (a
   pub block : ℕ
   pub asked : IsAsked (live_of lines) address block
   pub places : Places
-  pub are_places : AreRootsOf skip.unwritable core (live_of lines) (spans_of skip lines) (slack_in skip core (live_of lines)) places
+  pub are_places : AreRootsOf skip.unwritable core (live_of lines) (spans_of skip lines) (slack_in skip core (live_of lines)) (dead_in skip core) places
   pub links : places.skips_links ≡ skip.links
   pub chain : Option Chain
   pub why : IsWhy (word_of core) (index_of reading lines) places block chain

@@ -11,6 +11,7 @@ use Rattle.leak_search.specs.SearchTwo.{IsMarkedEarlier, graph_of_later, kept_bl
 pub record LeavesOutNoMore (less more : Skip) : Type 0 where
   pub freed : IsTrue less.freed → IsTrue more.freed
   pub slack : IsTrue less.slack → IsTrue more.slack
+  pub dead : IsTrue less.dead → IsTrue more.dead
   pub links : IsTrue less.links → IsTrue more.links
   pub unwritable : IsTrue less.unwritable → IsTrue more.unwritable
 

@@ -12,6 +12,7 @@ use Rattle.leak_blocks.specs.Live.{live_of, replay_of}
 use Rattle.leak_index.specs.Leads.{Distances}
 use Rattle.leak_roots.specs.declared.skip.Skip.{Skip}
 use Rattle.leak_roots.specs.Skipped.{freed_of}
+use Rattle.leak_input.specs.Dead.{dead_told}
 use Rattle.leak_scan.specs.Heads.{heads_of}
 use Rattle.leak_marks.specs.Lists.{Has}
 use Rattle.leak_marks.specs.Reach.{Graph, Reach}
@@ -68,6 +69,7 @@ head_of_two core log skip lines two = record {
   displaced = (replay_of lines).displaced;
   torn = torn_of log;
   freed = freed_of skip core (live_of lines) lines;
+  dead = dead_told skip core (live_of lines) lines;
   two = Some two;
 }
 

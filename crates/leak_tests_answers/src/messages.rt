@@ -6,6 +6,7 @@ use leak_find::{DisplaceFault, FindError, ReadFault, ReadingError, UsageFault, W
 use leak_messages::{push_displace, push_find, push_read, push_usage, push_write};
 use leak_mtrace::LogError;
 use leak_notes::NoteError;
+use leak_request::AddressArgument;
 use std::test::*;
 
 /// Each reason to refuse a core, with numbers that are short and long.
@@ -120,7 +121,9 @@ fn texts_of_words_are_those_of_display(rt: HostRuntime) -> Result<(), Fail> {
         UsageFault::Check,
         UsageFault::Sides,
         UsageFault::Block,
-        UsageFault::Address,
+        UsageFault::Address(AddressArgument::Operand),
+        UsageFault::Address(AddressArgument::In),
+        UsageFault::Address(AddressArgument::Of),
         UsageFault::NoMemory,
     ];
     for fault in &faults {

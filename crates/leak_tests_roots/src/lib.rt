@@ -47,6 +47,10 @@ mod roots_freed;
 #[cfg(test)]
 mod slack;
 
+// Dead stack, and root words without it.
+#[cfg(test)]
+mod stacks;
+
 // Blocks that the words of a range lead to.
 #[cfg(test)]
 mod scan;

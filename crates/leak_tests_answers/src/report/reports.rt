@@ -13,6 +13,7 @@ fn first_lines_of_two_cores(rt: HostRuntime) -> Result<(), Fail> {
         displaced: 1,
         torn: 1,
         freed: Some(7),
+        dead: Some(252),
         two: Some(Two {
             fresh: 1,
             fresh_bytes: 32,
@@ -25,6 +26,7 @@ fn first_lines_of_two_cores(rt: HostRuntime) -> Result<(), Fail> {
         undumped 4096\n\
         unknown 2 displaced 1 torn 1\n\
         freed 7\n\
+        dead 252\n\
         new 1 bytes 32\n\
         reread 18446744073709551615\n\
         marked 2 bytes 48\n\

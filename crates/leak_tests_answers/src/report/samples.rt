@@ -23,6 +23,7 @@ pub(crate) const NOTHING_ODD: Head = Head {
     displaced: 0,
     torn: 0,
     freed: None,
+    dead: None,
     two: None,
 };
 

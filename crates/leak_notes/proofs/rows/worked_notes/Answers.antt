@@ -6,10 +6,11 @@ use Rattle.leak_elf.specs.Sample.{sample, front, file_header, zeros, program_hea
 use Rattle.leak_elf.specs.Segments.{note_parts_of}
 use Rattle.leak_notes.specs.Entry.{entries_from}
 use Rattle.leak_notes.specs.Threads.{note_fault_of, registers_of, threads_of}
+use Rattle.leak_notes.specs.Stacks.{threads_in, random_in, random_of}
 use Rattle.leak_notes.proofs.rows.worked_notes.Goals as goal
 
 pub returns : goal.returns
-unfolding sample front file_header zeros program_header note_entry number_at header_at headers note_parts_of entries_from note_fault_of registers_of threads_of
+unfolding sample front file_header zeros program_header note_entry number_at header_at headers note_parts_of entries_from note_fault_of registers_of threads_of threads_in random_in random_of
 returns c = record {
   accepted = refl;
   cut = refl;
@@ -41,4 +42,11 @@ returns c = record {
   state_last_of_many = refl;
   state_partial = refl;
   state_of_another_name = refl;
+  stacks = refl;
+  random = refl;
+  first_random = refl;
+  random_of_another_type = refl;
+  short_pair = refl;
+  no_vector = refl;
+  second_vector = refl;
 }

@@ -1,7 +1,8 @@
 -- From the lemmas of Refusals.
-use Rattle.std.proofs.Common.{◌≡◌, ap, map, string_bytes, subst, sym}
+use Rattle.std.proofs.Common.{◌≡◌, ap, map, string_bytes, subst, sym, refl}
 use Rattle.leak_find.specs.Streams.{by_reads, by_writes}
-use Rattle.leak_opening.specs.Opening.{AreOpened}
+use Rattle.std.proofs.lemmas.Result.{err_from_is_err_and}
+use Rattle.leak_opening.specs.Opening.{AreOpened, IsOpenFault}
 use Rattle.leak_program.specs.Files.{FailsFiles, IsRefusalOf}
 use Rattle.leak_program.proofs.Refusals.{told, unopened}
 use Rattle.leak_program.proofs.files.search_files.Goals as goal
@@ -31,3 +32,13 @@ returns-clause-refused g c =
       holds = (_, c.in-Err.ensures.refused);
     })
     (λ n f files failed. failed.1.0))
+
+pub returns-in_err-files-clause-refused : goal.returns-in_err-files-clause-refused
+returns-in_err-files-clause-refused g c =
+    let given = map string_bytes c.as_slice-paths.result.now in
+    let same : given ≡ map string_bytes c.args.request.now.paths.items = ap (map string_bytes) c.as_slice-paths.ensures.value in
+    let fault = c.in_err-files.field-0.0 in
+    let p = err_from_is_err_and c.from_residual.result c.from_residual.ensures.1 in
+    rw (p.1) (unopened g.O.Opener.opens (map string_bytes c.args.request.now.paths.items) c.args.opener.now c.open_all.new.opener c.args.writer.now c.args.writer.now
+    (FailsFiles (by_reads g.O.File.ReadCalls.calls) (by_writes g.W.WriteCalls.calls) c.args.request.now.options c.args.writer.now c.args.writer.now) fault p.0 p.2 refl
+    (subst (λ paths. IsOpenFault g.O.Opener.opens paths c.args.opener.now c.open_all.new.opener fault) same c.in_err-files.ensures.refused))

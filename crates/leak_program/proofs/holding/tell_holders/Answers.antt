@@ -1,8 +1,10 @@
 -- From the lemmas of Refusals.
-use Rattle.std.proofs.Common.{◌≡◌, ◌∙◌, ap, map, string_bytes, subst, sym}
+use Rattle.std.proofs.Common.{◌≡◌, ◌∙◌, ap, map, string_bytes, subst, sym, refl}
 use Rattle.leak_find.specs.Streams.{by_reads, by_writes}
-use Rattle.leak_opening.specs.Opening.{AreOpened}
+use Rattle.std.proofs.lemmas.Result.{err_from_is_err_and}
+use Rattle.leak_opening.specs.Opening.{AreOpened, IsOpenFault}
 use Rattle.leak_program.specs.Files.{FailsHeld, IsRefusalOf, paths_of_held}
+use Rattle.leak_opening.proofs.OpeningLemmas.{none_opened}
 use Rattle.leak_program.proofs.Refusals.{told, unopened}
 use Rattle.leak_program.proofs.holding.tell_holders.Goals as goal
 
@@ -31,3 +33,18 @@ returns-clause-refused g c =
       holds = (_, c.in-Err.ensures.refused);
     })
     (λ n f files failed. failed.1.0))
+
+pub returns-in_err-files-clause-refused : goal.returns-in_err-files-clause-refused
+returns-in_err-files-clause-refused g c =
+    let given = map string_bytes c.as_slice-paths.result.now in
+    let same : given ≡ paths_of_held c.args.request.now = ap (map string_bytes) c.as_slice-paths.ensures.value ∙ c.in_ok-all.ensures in
+    let fault = c.in_err-files.field-0.0 in
+    let p = err_from_is_err_and c.from_residual-in_err-files.result c.from_residual-in_err-files.ensures.1 in
+    rw (p.1) (unopened g.O.Opener.opens (paths_of_held c.args.request.now) c.args.opener.now c.open_all.new.opener c.args.writer.now c.args.writer.now
+    (FailsHeld (by_reads g.O.File.ReadCalls.calls) (by_writes g.W.WriteCalls.calls) c.args.request.now c.args.writer.now c.args.writer.now) fault p.0 p.2 refl
+    (subst (λ paths. IsOpenFault g.O.Opener.opens paths c.args.opener.now c.open_all.new.opener fault) same c.in_err-files.ensures.refused))
+
+pub returns-in_err-all-clause-refused : goal.returns-in_err-all-clause-refused
+returns-in_err-all-clause-refused g c =
+    let p = err_from_is_err_and c.from_residual.result c.from_residual.ensures.1 in
+    rw (p.1, p.2) (refl, none_opened g.O.Opener.opens (paths_of_held c.args.request.now) c.args.opener.now)

@@ -7,12 +7,7 @@ use Rattle.leak_program.proofs.sample.search_sample.Goals as goal
 pub returns-in-Ok-clause-ok : goal.returns-in-Ok-clause-ok
 returns-in-Ok-clause-ok g c = record {
   options = record { two = false; reading = c.interior.result; skip = c.usual.result; plan = c.unwrap.result; other_heap = true; check = false; strict = false; core_limit = 68719476736; log_limit = 4294967296 };
-  one = refl;
-  interior = c.interior.ensures;
-  usual = c.usual.ensures;
-  no_heap = refl;
-  unchecked = refl;
-  lenient = refl;
+  of_sample = record { one = refl; interior = c.interior.ensures; usual = c.usual.ensures; no_heap = refl; unchecked = refl; lenient = refl };
   after = _;
   runs = over_inputs (λ (reader : Bor (List ℕ)). Some reader.now) c.in-Ok.ensures.ok (search rules);
 }

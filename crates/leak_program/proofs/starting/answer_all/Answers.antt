@@ -9,7 +9,7 @@ returns-in-Ok g c =
     record {
       result = Ok c.in-Ok.status;
       hearing = c.answer.new.warner;
-      answer = (λ few. c.in-Ok.ensures.sample (subst (λ n. n < 2) count few), λ many. c.in-Ok.ensures.ok (subst (λ n. 2 ≤ n) count many));
+      answer = (λ few. (c.answer.ensures.no_file (subst (λ n. n < 2) count few), c.in-Ok.ensures.sample (subst (λ n. n < 2) count few)), λ many. c.in-Ok.ensures.ok (subst (λ n. 2 ≤ n) count many));
       said = refl;
       status_is = refl;
     }
@@ -20,7 +20,7 @@ returns-in-Err g c =
     record {
       result = Err c.in-Err.failure;
       hearing = c.answer.new.warner;
-      answer = (c.in-Err.ensures.silent, λ many. c.in-Err.ensures.refused (subst (λ n. 2 ≤ n) count many));
+      answer = (c.in-Err.ensures.silent, λ few. c.answer.ensures.no_file (subst (λ n. n < 2) count few), λ many. c.in-Err.ensures.refused (subst (λ n. 2 ≤ n) count many));
       said = c.refuse.ensures.told;
       status_is = c.refuse.ensures.status;
     }

@@ -12,7 +12,8 @@ returns-clause-local c =
     let third = globals_more c.in_ok-arg-3.ensures c.flag-2.ensures.local second in
     let fourth = globals_more c.in_ok-arg-4.ensures c.flag-3.ensures.local third in
     let fifth = globals_more c.in_ok-arg-5.ensures c.flag-4.ensures.local fourth in
-    IfOk-weaker c.arg-6.result _ _ (λ r added. globals_more added c.flag-5.ensures.local fifth) c.arg-6.ensures
+    let sixth = globals_more c.in_ok-arg-6.ensures c.flag-5.ensures.local fifth in
+    IfOk-weaker c.arg-7.result _ _ (λ r added. globals_more added c.flag-6.ensures.local sixth) c.arg-7.ensures
 
 pub returns-clause-line : goal.returns-clause-line
 returns-clause-line c =
@@ -21,4 +22,5 @@ returns-clause-line c =
     let third = line_more c.in_ok-arg-3.ensures c.flag-2.ensures.local c.flag-2.ensures.rule second in
     let fourth = line_more c.in_ok-arg-4.ensures c.flag-3.ensures.local c.flag-3.ensures.rule third in
     let fifth = line_more c.in_ok-arg-5.ensures c.flag-4.ensures.local c.flag-4.ensures.rule fourth in
-    IfOk-weaker c.arg-6.result _ _ (λ r added. line_more added c.flag-5.ensures.local c.flag-5.ensures.rule fifth) c.arg-6.ensures
+    let sixth = line_more c.in_ok-arg-6.ensures c.flag-5.ensures.local c.flag-5.ensures.rule fifth in
+    IfOk-weaker c.arg-7.result _ _ (λ r added. line_more added c.flag-6.ensures.local c.flag-6.ensures.rule sixth) c.arg-7.ensures

@@ -19,6 +19,7 @@ returns c = record {
   freed = sees_search _ _ _ _ _ _ None (codes "4") (codes "512") (codes "1024") refl refl refl (record { workers_text = refl; piece_text = refl; stack_text = refl; workers_between = record { from = omega arith; to = omega arith }; piece_between = record { from = omega arith; to = omega arith }; stack_small = omega arith }) refl;
   links = sees_search _ _ _ _ _ _ None (codes "4") (codes "512") (codes "1024") refl refl refl (record { workers_text = refl; piece_text = refl; stack_text = refl; workers_between = record { from = omega arith; to = omega arith }; piece_between = record { from = omega arith; to = omega arith }; stack_small = omega arith }) refl;
   slack = sees_search _ _ _ _ _ _ None (codes "4") (codes "512") (codes "1024") refl refl refl (record { workers_text = refl; piece_text = refl; stack_text = refl; workers_between = record { from = omega arith; to = omega arith }; piece_between = record { from = omega arith; to = omega arith }; stack_small = omega arith }) refl;
+  dead = sees_search _ _ _ _ _ _ None (codes "4") (codes "512") (codes "1024") refl refl refl (record { workers_text = refl; piece_text = refl; stack_text = refl; workers_between = record { from = omega arith; to = omega arith }; piece_between = record { from = omega arith; to = omega arith }; stack_small = omega arith }) refl;
   all_memory = sees_search _ _ _ _ _ _ None (codes "4") (codes "512") (codes "1024") refl refl refl (record { workers_text = refl; piece_text = refl; stack_text = refl; workers_between = record { from = omega arith; to = omega arith }; piece_between = record { from = omega arith; to = omega arith }; stack_small = omega arith }) refl;
   check = sees_search _ _ _ _ _ _ None (codes "4") (codes "512") (codes "1024") refl refl refl (record { workers_text = refl; piece_text = refl; stack_text = refl; workers_between = record { from = omega arith; to = omega arith }; piece_between = record { from = omega arith; to = omega arith }; stack_small = omega arith }) refl;
   other_heap = sees_search _ _ _ _ _ _ None (codes "4") (codes "512") (codes "1024") refl refl refl (record { workers_text = refl; piece_text = refl; stack_text = refl; workers_between = record { from = omega arith; to = omega arith }; piece_between = record { from = omega arith; to = omega arith }; stack_small = omega arith }) refl;

@@ -15,7 +15,7 @@ use Rattle.leak_notes.specs.Threads.{note_fault_of, registers_of, threads_of}
 use Rattle.leak_blocks.specs.Live.{live_of, replay_of}
 use Rattle.leak_blocks.specs.Small.{is_covered, small_spans_of}
 use Rattle.leak_index.specs.Hits.{hits_of}
-use Rattle.leak_roots.specs.Roots.{freed_places, has_roots, outside_places, root_places}
+use Rattle.leak_roots.specs.Roots.{dead_places, freed_places, has_roots, kept_places, outside_places, root_places}
 use Rattle.leak_scan.specs.Heads.{heads_of}
 use Rattle.leak_scan.specs.Targets.{block_targets, targets_of}
 use Rattle.leak_pool.specs.Marking.{graph_of}
@@ -53,7 +53,7 @@ unfolding live_of
 asked_second = record { inside = omega arith; is = λ d. inr refl }
 
 pub returns : goal.returns
-unfolding digits number_at headers header_at extent_fault file_fault header_fault fault_of segments_of note_parts_of undumped_of word_in word_of words_between zeros file_header program_header note_entry entries_from note_fault_of registers_of threads_of live_of replay_of is_covered small_spans_of hits_of freed_places has_roots outside_places root_places heads_of block_targets targets_of graph_of core_of holders_text held_text
+unfolding digits number_at headers header_at extent_fault file_fault header_fault fault_of segments_of note_parts_of undumped_of word_in word_of words_between zeros file_header program_header note_entry entries_from note_fault_of registers_of threads_of live_of replay_of is_covered small_spans_of hits_of dead_places freed_places has_roots kept_places outside_places root_places heads_of block_targets targets_of graph_of core_of holders_text held_text
 returns c = record {
   chain = finds_holders _ _ _ caller_lines (0 ∷ 1 ∷ []) texts numbers ([] ∷ (0 ∷ []) ∷ []) _ (record { accepted = record { headers = refl; notes = refl }; is_log = caller_is; continued = refl; few = refl; reached = refl; numbered = numbered; each = refl; many = refl }) refl;
   held_twice = finds_holders _ _ _ caller_lines (0 ∷ 1 ∷ []) texts numbers ((1 ∷ []) ∷ (0 ∷ []) ∷ []) _ (record { accepted = record { headers = refl; notes = refl }; is_log = caller_is; continued = refl; few = refl; reached = refl; numbered = numbered; each = refl; many = refl }) refl;

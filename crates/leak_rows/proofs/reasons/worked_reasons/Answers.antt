@@ -13,7 +13,7 @@ use Rattle.leak_notes.specs.Threads.{entries, note_fault_of, registers_of, threa
 use Rattle.leak_blocks.specs.Live.{live_of, replay_of}
 use Rattle.leak_blocks.specs.Small.{is_covered, small_spans_of}
 use Rattle.leak_index.specs.Hits.{hits_of}
-use Rattle.leak_roots.specs.Roots.{freed_places, has_roots, outside_places, root_places}
+use Rattle.leak_roots.specs.Roots.{dead_places, freed_places, has_roots, kept_places, outside_places, root_places}
 use Rattle.leak_scan.specs.Heads.{heads_of}
 use Rattle.leak_scan.specs.Targets.{block_targets, targets_of}
 use Rattle.leak_pool.specs.Marking.{graph_of}
@@ -54,30 +54,30 @@ asked_second : IsAsked (first_block ∷ second_block ∷ []) 0x10020 1
 asked_second = record { inside = omega arith; is = λ d. inr refl }
 
 leaked_first : answer_of two_log (live_of two_lines) (sets_of (entries (two_core 0 0x10020))) 0 None ≡ codes "asked 0x10010 8 1 a:[0x1]\nleaked\n"
-unfolding digits number_at headers header_at extent_fault file_fault header_fault fault_of segments_of note_parts_of undumped_of word_in word_of words_between zeros file_header program_header note_entry entries_from note_fault_of registers_of threads_of live_of replay_of is_covered small_spans_of hits_of freed_places has_roots outside_places root_places heads_of block_targets targets_of graph_of core_of answer_of
+unfolding digits number_at headers header_at extent_fault file_fault header_fault fault_of segments_of note_parts_of undumped_of word_in word_of words_between zeros file_header program_header note_entry entries_from note_fault_of registers_of threads_of live_of replay_of is_covered small_spans_of hits_of dead_places freed_places has_roots kept_places outside_places root_places heads_of block_targets targets_of graph_of core_of answer_of
 leaked_first = refl
 
 leaked_second : answer_of two_log (live_of two_lines) (sets_of (entries (two_core 0 0x10020))) 1 None ≡ codes "asked 0x10020 8 2 ?\nleaked\n"
-unfolding digits number_at headers header_at extent_fault file_fault header_fault fault_of segments_of note_parts_of undumped_of word_in word_of words_between zeros file_header program_header note_entry entries_from note_fault_of registers_of threads_of live_of replay_of is_covered small_spans_of hits_of freed_places has_roots outside_places root_places heads_of block_targets targets_of graph_of core_of answer_of
+unfolding digits number_at headers header_at extent_fault file_fault header_fault fault_of segments_of note_parts_of undumped_of word_in word_of words_between zeros file_header program_header note_entry entries_from note_fault_of registers_of threads_of live_of replay_of is_covered small_spans_of hits_of dead_places freed_places has_roots kept_places outside_places root_places heads_of block_targets targets_of graph_of core_of answer_of
 leaked_second = refl
 
 pub returns : goal.returns
-unfolding digits number_at headers header_at extent_fault file_fault header_fault fault_of segments_of note_parts_of undumped_of word_in word_of words_between zeros file_header program_header note_entry entries_from note_fault_of registers_of threads_of live_of replay_of is_covered small_spans_of hits_of freed_places has_roots outside_places root_places heads_of block_targets targets_of graph_of core_of
+unfolding digits number_at headers header_at extent_fault file_fault header_fault fault_of segments_of note_parts_of undumped_of word_in word_of words_between zeros file_header program_header note_entry entries_from note_fault_of registers_of threads_of live_of replay_of is_covered small_spans_of hits_of dead_places freed_places has_roots kept_places outside_places root_places heads_of block_targets targets_of graph_of core_of
 returns c = record {
   by_memory = tells_held _ _ _ two_lines first_block second_block 0 (0 ∷ 1 ∷ []) (places around zero_registers) _ _ _
       (record { accepted = record { headers = refl; notes = refl }; is_log = two_is; blocks = refl; one = first_asked first_block second_block 0x10010 refl; asked = asked_first; reached = refl })
-      refl (record { registers = refl; memory = refl; ranges = ranges; freed = refl }) refl (answers _ _ _ _ _ _ (0 ∷ 1 ∷ []) refl) (told _ _ _ _ _ _ _ refl);
+      refl (record { registers = refl; memory = refl; ranges = ranges; freed = refl; dead = refl }) refl (answers _ _ _ _ _ _ (0 ∷ 1 ∷ []) refl) (told _ _ _ _ _ _ _ refl);
   by_a_block = tells_held _ _ _ two_lines first_block second_block 1 (0 ∷ 1 ∷ []) (places around zero_registers) _ _ _
       (record { accepted = record { headers = refl; notes = refl }; is_log = two_is; blocks = refl; one = second_asked first_block second_block 0x10027 refl; asked = asked_last; reached = refl })
-      refl (record { registers = refl; memory = refl; ranges = ranges; freed = refl }) refl (answers _ _ _ _ _ _ (0 ∷ 1 ∷ []) refl) (told _ _ _ _ _ _ _ refl);
+      refl (record { registers = refl; memory = refl; ranges = ranges; freed = refl; dead = refl }) refl (answers _ _ _ _ _ _ (0 ∷ 1 ∷ []) refl) (told _ _ _ _ _ _ _ refl);
   by_a_register = tells_held _ _ _ two_lines first_block second_block 0 (0 ∷ []) (places around (in_rbx 0x10010)) _ _ _
       (record { accepted = record { headers = refl; notes = refl }; is_log = two_is; blocks = refl; one = first_asked first_block second_block 0x10011 refl; asked = asked_inside; reached = refl })
-      refl (record { registers = refl; memory = refl; ranges = ranges; freed = refl }) refl (answers _ _ _ _ _ _ (0 ∷ 0 ∷ []) refl) (told _ _ _ _ _ _ _ refl);
+      refl (record { registers = refl; memory = refl; ranges = ranges; freed = refl; dead = refl }) refl (answers _ _ _ _ _ _ (0 ∷ 0 ∷ []) refl) (told _ _ _ _ _ _ _ refl);
   lost = tells_lost _ _ _ two_lines first_block second_block 0 [] (places around zero_registers) _
       (record { accepted = record { headers = refl; notes = refl }; is_log = two_is; blocks = refl; one = first_asked first_block second_block 0x10010 refl; asked = asked_first; reached = refl })
-      refl (record { registers = refl; memory = refl; ranges = ranges; freed = refl }) refl (leaked _ _ _ _ [] refl refl) leaked_first;
+      refl (record { registers = refl; memory = refl; ranges = ranges; freed = refl; dead = refl }) refl (leaked _ _ _ _ [] refl refl) leaked_first;
   lost_held = tells_lost _ _ _ two_lines first_block second_block 1 [] (places around zero_registers) _
       (record { accepted = record { headers = refl; notes = refl }; is_log = two_is; blocks = refl; one = second_asked first_block second_block 0x10020 refl; asked = asked_second; reached = refl })
-      refl (record { registers = refl; memory = refl; ranges = ranges; freed = refl }) refl (leaked _ _ _ _ [] refl refl) leaked_second;
+      refl (record { registers = refl; memory = refl; ranges = ranges; freed = refl; dead = refl }) refl (leaked _ _ _ _ [] refl refl) leaked_second;
   no_block = (refl, record { headers = refl; notes = refl }, (two_lines, two_is, none_asked first_block second_block 0x10028 2 refl refl));
 }

@@ -12,7 +12,7 @@ use Rattle.leak_notes.specs.Threads.{note_fault_of, registers_of, threads_of}
 use Rattle.leak_blocks.specs.Live.{live_of, replay_of}
 use Rattle.leak_blocks.specs.Small.{is_covered, small_block_spans, small_spans_of}
 use Rattle.leak_index.specs.Hits.{hits_of}
-use Rattle.leak_roots.specs.Roots.{freed_places, has_roots, outside_places, root_places}
+use Rattle.leak_roots.specs.Roots.{dead_places, freed_places, has_roots, kept_places, outside_places, root_places}
 use Rattle.leak_scan.specs.Heads.{heads_of}
 use Rattle.leak_scan.specs.Targets.{block_targets, targets_of}
 use Rattle.leak_pool.specs.Marking.{graph_of}
@@ -24,7 +24,7 @@ use Rattle.leak_rows.proofs.SearchTests.{finds}
 use Rattle.leak_rows.proofs.searches.worked_bounds.Goals as goal
 
 pub returns : goal.returns
-unfolding digits number_at headers header_at extent_fault file_fault header_fault fault_of segments_of note_parts_of undumped_of word_in word_of words_between zeros file_header program_header note_entry entries_from note_fault_of registers_of threads_of live_of replay_of is_covered small_spans_of small_block_spans hits_of freed_places has_roots outside_places root_places heads_of block_targets targets_of graph_of text_of rows_of core_of
+unfolding digits number_at headers header_at extent_fault file_fault header_fault fault_of segments_of note_parts_of undumped_of word_in word_of words_between zeros file_header program_header note_entry entries_from note_fault_of registers_of threads_of live_of replay_of is_covered small_spans_of small_block_spans hits_of dead_places freed_places has_roots kept_places outside_places root_places heads_of block_targets targets_of graph_of text_of rows_of core_of
 returns c = record {
   first_address = refl;
   last_address = refl;

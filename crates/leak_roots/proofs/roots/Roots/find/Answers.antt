@@ -5,7 +5,7 @@ use Rattle.leak_blocks.specs.declared.small.Span.{Span}
 use Rattle.leak_roots.specs.Roots.{outside_places, root_places, freed_places}
 use Rattle.leak_roots.specs.Places.{memory_places}
 use Rattle.leak_roots.proofs.Gaps.{are_ordered}
-use Rattle.leak_roots.proofs.LeftOut.{root_places_some, freed_places_some, root_places_same, freed_places_same}
+use Rattle.leak_roots.proofs.LeftOut.{none_dead, root_places_some, freed_places_some, root_places_same, freed_places_same}
 use Rattle.leak_roots.proofs.roots.Roots.find.Goals as goal
 
 pub find_ranges-requires : goal.find_ranges-requires
@@ -19,7 +19,7 @@ returns-clause-memory c =
     let outside = c.in_ok-outside.ensures.places ∙ ap (outside_places c.args.unwritable c.args.image.now) c.blocks-2.ensures.value in
     c.in_ok-memory.ensures.places
     ∙ root_places_some c.args.unwritable c.args.image.now c.args.live.now.blocks c.ranges-2.result.now (memory_places c.in_ok-outside.outside.items) outside
-    ∙ ap (λ (spans : List Span). root_places c.args.unwritable c.args.image.now c.args.live.now.blocks spans []) c.ranges-2.ensures.value
+    ∙ ap (λ (spans : List Span). root_places c.args.unwritable c.args.image.now c.args.live.now.blocks spans [] []) c.ranges-2.ensures.value
 
 pub returns-clause-freed : goal.returns-clause-freed
 returns-clause-freed c =
@@ -36,11 +36,12 @@ returns-clause-of_core c = λ spans cover same.
       registers = c.in_ok-registers.ensures.items_if_clones_equal (λ x y e. e) ∙ c.registers.ensures ∙ ap (λ (t : Registers). t.registers) same;
       memory = c.in_ok-memory.ensures.places
           ∙ root_places_some c.args.unwritable c.args.image.now c.args.live.now.blocks c.ranges-2.result.now (memory_places c.in_ok-outside.outside.items) outside
-          ∙ ap (λ (spans : List Span). root_places c.args.unwritable c.args.image.now c.args.live.now.blocks spans []) c.ranges-2.ensures.value
-          ∙ root_places_same c.args.unwritable c.args.image.now c.args.live.now.blocks c.args.small.now spans [] cover;
+          ∙ ap (λ (spans : List Span). root_places c.args.unwritable c.args.image.now c.args.live.now.blocks spans [] []) c.ranges-2.ensures.value
+          ∙ root_places_same c.args.unwritable c.args.image.now c.args.live.now.blocks c.args.small.now spans [] [] cover;
       ranges = c.in_ok-memory.ensures.ranges;
       freed = c.in_ok-memory.ensures.inside
           ∙ ap length (freed_places_some c.args.unwritable c.args.image.now c.args.live.now.blocks c.ranges-2.result.now (memory_places c.in_ok-outside.outside.items) outside)
           ∙ ap (λ (spans : List Span). length (freed_places c.args.unwritable c.args.image.now c.args.live.now.blocks spans)) c.ranges-2.ensures.value
           ∙ ap length (freed_places_same c.args.unwritable c.args.image.now c.args.live.now.blocks c.args.small.now spans cover);
+      dead = none_dead c.args.unwritable c.args.image.now c.args.live.now.blocks spans [];
     }

@@ -12,3 +12,4 @@ returns-clause-of_core c = λ unwritable file blocks spans others same roots.
     (c.in_ok-memory.ensures.places ∙ ap (λ (p : Places). filter (λ a. not (is_inside c.args.slack.now a)) (memory_places p.memory)) c.self.view_is)
     c.in_ok-memory.ensures.ranges
     (ap (λ (p : Places). p.freed) c.self.view_is)
+    (ap (λ (p : Places). p.dead) c.self.view_is)

@@ -1,0 +1,29 @@
+-- From the lemmas of Parts and PickLemmas.
+use Rattle.std.proofs.Common.{◌<◌, ◌++◌, List, length, ap, ◌∙◌}
+use Rattle.leak_elf.specs.declared.segment.NotePart.{NotePart}
+use Rattle.leak_elf.specs.Segments.{note_parts_of}
+use Rattle.leak_notes.specs.Entry.{Entry}
+use Rattle.std.specs.Prelude.{filter_map}
+use Rattle.leak_notes.specs.Stacks.{stack_registers_of, threads_in}
+use Rattle.leak_notes.proofs.Parts.{part_read}
+use Rattle.leak_notes.proofs.PickLemmas.{picked_none, picked_more, picked_whole}
+use Rattle.leak_notes.proofs.stacks.stack_registers.Goals as goal
+
+no_part : NotePart
+no_part = record { offset = 0; filesz = 0 }
+
+pub loop-i-init : goal.loop-i-init
+loop-i-init c = picked_none stack_registers_of c.args.image.now c.new-threads.result.items c.new-threads.ensures.items
+
+pub loop-i-preserved : goal.loop-i-preserved
+unfolding no_part
+loop-i-preserved c =
+    let there : c.loop-i.i < length (note_parts_of c.args.image.now) = rw c.note_parts-part-items.ensures at c.loop-i-test.true in
+    picked_more stack_registers_of c.args.image.now c.loop-i.i no_part c.loop-i.threads.items c.push_threads.new.threads.items there
+    (c.in_ok-push_threads.ensures ∙ ap (λ (es : List Entry). c.loop-i.threads.items ++ filter_map stack_registers_of es)
+    (part_read c.args.image.now c.note_parts-part-items.result.now c.loop-i.i no_part c.note_bytes.result.now c.note_parts-part-items.ensures c.note_bytes.ensures.value))
+    c.loop-i.invariant
+
+pub returns : goal.returns
+unfolding threads_in
+returns c = picked_whole stack_registers_of c.args.image.now c.note_parts-part-items.result.now c.loop-i.i c.loop-i.threads.items c.note_parts-part-items.ensures c.loop-i-test.false c.loop-i.invariant

@@ -1,0 +1,3 @@
+-- The lemmas of this crate, by subject.
+pub mod MadeLemmas
+pub mod StackLemmas

@@ -1,0 +1,4 @@
+-- The definitions of this crate, by subject.
+pub mod Stacks
+pub mod Lows
+pub mod Dead
