@@ -33,11 +33,23 @@ struct note {
     uint64_t size;
 };
 
+/* What a core has of the process's memory from an address on, without a gap. `at` is NULL if it has nothing there. */
+struct memory {
+    const uint8_t *at;
+    uint64_t size;
+};
+
+typedef struct memory memory_at(void *core, uint64_t address);
+
+/* What is known of where a part lies in its file: nothing yet, its place, or that no header of the file leads there. */
+enum placing { NOT_YET, PLACED, NOWHERE };
+
 /* A part of a file that the process had mapped. An address in it is at `address + bias` in the ELF file. */
 struct part {
     uint64_t start, end, offset, bias;
     const char *path;
-    int is_known;
+    struct memory head;         /* of an ELF file: its first bytes as the process had them, with all program headers */
+    enum placing known;
 };
 
 struct parts {
@@ -88,9 +100,15 @@ int by_start(const void *a, const void *b);
 void add_parts(struct parts *parts, const struct note *note);
 struct part *part_at(const struct parts *parts, uint64_t address);
 const struct part *part_of(const struct parts *parts, uint64_t address);
+void sort_parts(struct parts *parts, memory_at *memory, void *core);
 const char *name_of(const struct part *part);
 const struct part *other_allocator(const struct parts *parts);
 int takes_path(struct parts *parts, const struct part *part, uint64_t size);
+
+/* heads.c */
+struct memory head_of_file(struct memory memory);
+int is_laid_out(const struct part *first, const struct part *part, uint64_t *bias);
+void put_files(const struct parts *parts);
 
 /* signal_stacks.c */
 void read_signal_stacks(struct signal_stacks *stacks, const struct note *note);

@@ -1,8 +1,7 @@
 /* Which parts of files the process had mapped (Linux, NT_FILE), and where an address is in such a file. */
-#include <fcntl.h>
 #include <limits.h>
+#include <stdlib.h>
 #include <string.h>
-#include <unistd.h>
 
 #include "common.h"
 
@@ -40,52 +39,42 @@ void add_parts(struct parts *parts, const struct note *note)
         size_t length = strlen(path);
         /* a line of the log can't have such a name, nor the system one that long */
         if (get(at) < get(at + 8) && length < PATH_MAX && !memchr(path, '\n', length))
-            parts->list[parts->count++] = (struct part){ get(at), get(at + 8), get(at + 16) * get(note->bytes + 8), 0, path, 0 };
+            parts->list[parts->count++] = (struct part){ .start = get(at), .end = get(at + 8),
+                                                         .offset = get(at + 16) * get(note->bytes + 8), .path = path };
         path += length + 1;
     }
 }
 
-/* The part before this one where the same file begins, or the part itself. */
-static const struct part *first_of(const struct parts *parts, const struct part *part)
+/* Sorts the parts, and finds the headers of the files in the memory of the process. What is in a file of that name by now says
+ * nothing of the one that was mapped. */
+void sort_parts(struct parts *parts, memory_at *memory, void *core)
 {
-    enum { MOST_PARTS = 64 };   /* an ELF file has a part for each of its few segments */
-
-    for (const struct part *p = part; p >= parts->list && part - p < MOST_PARTS; p--)
-        if (!p->offset && !strcmp(p->path, part->path))
-            return p;
-    return part;
+    if (parts->count)
+        qsort(parts->list, parts->count, sizeof *parts->list, by_start);
+    for (struct part *part = parts->list; part < parts->list + parts->count; part++)
+        if (!part->offset) {
+            struct memory first = memory(core, part->start);
+            if (first.size > part->end - part->start)
+                first.size = part->end - part->start;
+            part->head = head_of_file(first);
+        }
 }
 
-/* The first PT_LOAD header of an ELF file. Gives 0 if it has none. */
-static int first_load(int file, Elf64_Phdr *p)
-{
-    Elf64_Ehdr header;
-    int found = pread(file, &header, sizeof header, 0) == sizeof header && !memcmp(header.e_ident, ELFMAG, SELFMAG);
-
-    for (int i = 0; found && i < header.e_phnum; i++) {
-        if (pread(file, p, sizeof *p, header.e_phoff + i * sizeof *p) != sizeof *p)
-            return 0;
-        if (p->p_type == PT_LOAD)
-            return 1;
-    }
-    return 0;
-}
-
-/* Sets what must be added to an address of the part for the address in the ELF file, by the segment that the file begins
- * with; else for the offset in the file. */
+/* Sets what must be added to an address of the part for the address in the ELF file, by the program headers of the same file in
+ * a part before. A file that has none is no ELF file: then for the offset in it. */
 static void learn(const struct parts *parts, struct part *part)
 {
-    const struct part *first = first_of(parts, part);
-    int file = open(part->path, O_RDONLY | O_NONBLOCK);
-    Elf64_Phdr p;
+    enum { MOST_PARTS = 64 };   /* an ELF file has a part for each of its few segments */
+    const struct part *first = part - parts->list < MOST_PARTS ? parts->list : part - MOST_PARTS + 1;
 
-    part->is_known = 1;
+    part->known = PLACED;
     part->bias = part->offset - part->start;
-    if (file < 0)
-        return;
-    if (!first->offset && first_load(file, &p))
-        part->bias = (p.p_vaddr & -(uint64_t)PAGE) - (p.p_offset & -(uint64_t)PAGE) - first->start;
-    close(file);
+    for (; first <= part; first++)
+        if (first->head.at && !strcmp(first->path, part->path)) {
+            part->known = is_laid_out(first, part, &part->bias) ? PLACED : NOWHERE;
+            if (part->known == PLACED)
+                return;
+        }
 }
 
 /* The part that has the address, or NULL: its bias may not be known yet. */
@@ -105,13 +94,14 @@ struct part *part_at(const struct parts *parts, uint64_t address)
     return low == parts->count || parts->list[low].start > address ? NULL : parts->list + low;
 }
 
+/* The same once its bias is known. NULL too where it is not known which address of the file that is. */
 const struct part *part_of(const struct parts *parts, uint64_t address)
 {
     struct part *part = part_at(parts, address);
 
-    if (part && !part->is_known)
+    if (part && part->known == NOT_YET)
         learn(parts, part);
-    return part;
+    return part && part->known == PLACED ? part : NULL;
 }
 
 /* The file's name without its folders. */

@@ -28,10 +28,16 @@ class What(NamedTuple):
 
 
 class Callers(NamedTuple):
-    """By kind the callers that are shown, in the report's order, and those that are suppressed; and what is said of lost blocks."""
+    """By kind the callers that are shown, in the report's order, and those that are suppressed; what is said of lost blocks; and the
+    blocks and bytes of other callers that only suppressed blocks lead to."""
     shown: dict
     suppressed: dict
     what: What = What({}, {})
+    held: tuple = (0, 0)
+
+    def suppressed_sums(self):
+        """The blocks that are suppressed, and their bytes."""
+        return tuple(map(sum, zip(sums(self.suppressed), self.held)))
 
 
 def sums(callers_by_kind):
@@ -40,9 +46,9 @@ def sums(callers_by_kind):
     return sum(blocks for blocks, _ in pairs), sum(size for _, size in pairs)
 
 
-def name(rows_by_kind, suppressions):
-    """The callers of these rows."""
-    names = frames.Names(frames.frames_of_all(row.text for rows in rows_by_kind.values() for row in rows))
+def name(rows_by_kind, suppressions, sources=None):
+    """The callers of these rows, with names from the files that these sources have."""
+    names = frames.Names(frames.frames_of_all(row.text for rows in rows_by_kind.values() for row in rows), sources)
     progress.SHOWN.begin("names callers")
     shown, suppressed = {}, {}
     for kind, rows in rows_by_kind.items():

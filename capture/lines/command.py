@@ -1,9 +1,10 @@
 """The command: reads the report, asks for the names of the rows that are shown, and prints all."""
+import os
 import signal
 import sys
 
-from lines import callers, chains, document, folded, html, judging, kernel_words, options, progress, report, since, structures
-from lines import suppressions, tables, what
+from lines import builds, callers, chains, document, folded, held, html, judging, kernel_words, limited, options, processes
+from lines import progress, report, shown, since, sources, structures, suppressions, tables, what
 from lines.options import Refused
 
 
@@ -17,6 +18,40 @@ def read_lines(path):
     except OSError as error:
         raise Refused(f"leak_lines: {path or 'standard input'}: {error.strerror}") from error
     return text[:-1].split("\n") if text.endswith("\n") else text.split("\n") if text else []
+
+
+def log_beside(path):
+    """The log beside the report, by the names that leak_report --keep gives, or None."""
+    name = path and path.removesuffix(".report") + ".log"
+    return name if name and os.path.isfile(name) else None
+
+
+def kept_beside(log):
+    """The folder with the files that leak_report --files kept beside the log, in a list, which is empty where there is none."""
+    name = log.removesuffix(".log") + ".files" if log else ""
+    return [name] if os.path.isdir(name) else []
+
+
+def sources_of(path, log, asked):
+    """Where the files of the report at this path are looked for, by its log."""
+    log = log or log_beside(path)
+    try:
+        told = builds.read(log) if log is not None else builds.NONE
+    except OSError as error:
+        raise Refused(f"leak_lines: {log}: {error.strerror}") from error
+    process = processes.Process(asked.pid) if asked.pid else None
+    return sources.Sources(told, [*asked.roots, *kept_beside(log)], asked.is_lenient, process)
+
+
+def tell(files, is_table):
+    """The lines that come before a table, which say from which files nothing is named; before another form standard error has them."""
+    unchecked = sum(it.unchecked for it in files)
+    if unchecked:
+        limited.say(f"{unchecked} files may be of another build than those that ran: no log tells (--log LOG)")
+    lines = list(dict.fromkeys(line for it in files for line in it.notes()))
+    for line in lines if not is_table else ():
+        print(f"leak_lines: {line}", file=sys.stderr)
+    return lines if is_table else []
 
 
 def text_of_lines(lines):
@@ -54,33 +89,36 @@ def run_since(asked, rules):
     """The text of two reports compared, and the exit status."""
     if asked.path is None and asked.since == "-":
         raise Refused(options.USAGE)
-    reports = [read_report(None if path == "-" else path, asked) for path in (asked.since, asked.path)]
+    paths = [None if path == "-" else path for path in (asked.since, asked.path)]
+    reports = [read_report(path, asked) for path in paths]
     kind = since.kind_of(reports)
-    found = [callers.name(read.rows, rules) for read in reports]
-    lines = since.lines_of(found, kind, asked)
+    files = [sources_of(path, log, asked) for path, log in zip(paths, (None, asked.log))]
+    found = [callers.name(read.rows, rules, it) for read, it in zip(reports, files)]
+    lines = tell(files, True) + since.lines_of(found, kind, asked)
     lines += [tables.suppressed_line(found[1])] if asked.suppress else []
     return text_of_lines(lines), since.status_of(found, asked) if asked.is_judged else 0
 
 
 def with_facts(asked, read):
-    """The report with the rows that are asked for, and what its blocks are."""
+    """The report with the rows that are asked for, what is said below rows of structures, and what is known of its blocks."""
     if asked.what is None:
-        return read, callers.What({}, {})
+        return read, {}, what.Facts({}, {})
     facts = what.read(read_lines(asked.what), asked.what)
-    if asked.by_structures:
-        read, of_row = structures.grouped(read, facts)
-    else:
-        of_row = what.below_rows(read, facts)
-    return read, callers.What(of_row, facts.of_block)
+    return *(structures.grouped(read, facts) if asked.by_structures else (read, {})), facts
 
 
 def run_one(asked, rules):
     """The text of one report, and the exit status."""
-    read, said = with_facts(asked, read_report(asked.path, asked))
+    read, said, facts = with_facts(asked, read_report(asked.path, asked))
     read = with_words(read, asked.core) if asked.core is not None else read
+    files = sources_of(asked.path, asked.log, asked)
     most = asked.most if asked.form == "table" and not asked.is_judged else None
-    found = callers.name({kind: rows[:most] for kind, rows in read.rows.items()}, rules)._replace(what=said)
-    return text_of_lines(lines_in(asked, read, found)), judging.status_of(found) if asked.is_judged else 0
+    found = callers.name({kind: rows[:most] for kind, rows in read.rows.items()}, rules, files)
+    read, found = held.suppressed(read, found, facts.top)
+    said = what.below_rows(read, facts) if asked.what and not asked.by_structures else said
+    found = found._replace(what=callers.What(said, facts.of_block))
+    lines = tell([files], asked.form == "table") + lines_in(asked, read, found)
+    return text_of_lines(lines), judging.status_of(found) if asked.is_judged else 0
 
 
 def lines_in(asked, read, found):
@@ -97,8 +135,21 @@ def lines_in(asked, read, found):
     return lines + chains.below_tables(asked, rows, found.what)
 
 
+def copy_files(asked):
+    """Copies the files of the process; prints nothing."""
+    if asked.pid is None or asked.log is None:
+        raise Refused(options.USAGE)
+    try:
+        processes.copy_files(asked.pid, asked.log, asked.copies)
+    except OSError as error:
+        raise Refused(f"leak_lines: {error.filename or asked.copies}: {error.strerror}") from error
+    return "", 0
+
+
 def run(asked):
     """The text that is printed, and the exit status."""
+    if asked.copies is not None:
+        return copy_files(asked)
     rules = suppressions.read_files([(path, read_lines(path)) for path in asked.suppress])
     return run_one(asked, rules) if asked.since is None else run_since(asked, rules)
 
@@ -133,6 +184,6 @@ def main(words):
         else:
             write_page(asked.page, text)
     except Refused as refusal:
-        print(refusal, file=sys.stderr)
+        print("\n".join(map(shown.escaped, str(refusal).split("\n"))), file=sys.stderr)
         return 2
     return status

@@ -3,7 +3,7 @@ import json
 import re
 from functools import lru_cache
 
-from lines import callers, report
+from lines import report
 
 VERSION = 1
 NAMES = {
@@ -41,7 +41,7 @@ def frame_of(place):
     """The parts of a frame, as JSON. What is not known is null."""
     return json.dumps({"function": clean(place.function) or None, "file": clean(place.file) or None, "line": place.line or None,
             "module": clean(place.module) or None, "offset": place.address if place.module else None,
-            "inlined": place.is_inlined, "text": clean(place.text)})
+            "inlined": place.is_inlined, "text": clean(place.text), "unnamed": place.problem or None})
 
 
 def facts_of(caller, said):
@@ -60,7 +60,7 @@ def caller_of(kind, caller, said):
 
 def head_of(read, found, kind):
     """What the document has beside its callers."""
-    blocks, size = callers.sums(found.suppressed)
+    blocks, size = found.suppressed_sums()
     return {"version": VERSION, "report": REPORTS[kind], "counts": counts_of(read), "suppressed": {"blocks": blocks, "bytes": size}}
 
 

@@ -1,15 +1,17 @@
-"""Sections of an ELF file, and the three that tell where a stripped file's symbols are. What is damaged tells nothing.
+"""An ELF file's build-id, and sections that tell where a stripped file's symbols are. What is damaged tells nothing.
 
-Rules: gABI, Section Header; gdb, Separate Debug Files and MiniDebugInfo.
+Rules: gABI, Program Header, Section Header, Note Section; gdb, Separate Debug Files and MiniDebugInfo. What is read of a file has
+limits, since whoever made it may have made it to harm.
 """
 import os
 import struct
 from typing import NamedTuple
 
-HEADER, SECTION = struct.Struct("<16sHHIQQQIHHHHHH"), struct.Struct("<IIQQQQIIQQ")
+HEADER, SECTION, SEGMENT = struct.Struct("<16sHHIQQQIHHHHHH"), struct.Struct("<IIQQQQIIQQ"), struct.Struct("<IIQQQQQQ")
 CLASS_64_LITTLE = b"\x7fELF\x02\x01"
-NOBITS, BUILD_ID_NOTE = 8, 3
-LARGEST = 1 << 28  # bytes of one section that are read
+NOBITS, LOAD, NOTES, BUILD_ID_NOTE = 8, 1, 4, 3
+LARGEST = 1 << 26  # bytes of one section that are read
+MOST_SECTIONS, MOST_NAMES, LONGEST_NAME, MOST_HEADERS, MOST_NOTES = 1 << 16, 1 << 22, 64, 64, 1 << 16
 
 
 class Section(NamedTuple):
@@ -21,45 +23,64 @@ class Section(NamedTuple):
     link: int
 
 
-def section_at(file, place):
-    """The section whose header is at this place of the file."""
-    file.seek(place)
-    name, kind, _, _, offset, size, link, _, _, _ = SECTION.unpack(file.read(SECTION.size))
+def is_elf(file):
+    """Whether it begins as an ELF file of 64 bits does."""
+    try:
+        return file.read(0, len(CLASS_64_LITTLE)) == CLASS_64_LITTLE
+    except OSError:
+        return False
+
+
+def header_of(file):
+    """The fields of the file's header."""
+    header = HEADER.unpack(file.read(0, HEADER.size))
+    if not header[0].startswith(CLASS_64_LITTLE):
+        raise ValueError("not an ELF file")
+    return header
+
+
+def section_of(fields):
+    """The section with these fields."""
+    name, kind, _, _, offset, size, link, _, _, _ = fields
     return Section(name, kind, offset, size, link)
 
 
-def read_headers(file, end):
+def read_headers(file):
     """The sections, and the number of the one with their names. Where there are too many for the header, section 0 has both."""
-    header = HEADER.unpack(file.read(HEADER.size))
+    header = header_of(file)
     place, step, count, names = header[6], header[11], header[12], header[13]
-    if not header[0].startswith(CLASS_64_LITTLE) or place == 0 or step < SECTION.size:
+    if place == 0 or step != SECTION.size:
         return [], 0
-    first = section_at(file, place)
+    first = section_of(SECTION.unpack(file.read(place, SECTION.size)))
     count, names = count or first.size, first.link if names == 0xFFFF else names
-    if place + count * step > end:
+    if count > MOST_SECTIONS:
         return [], 0
-    return [section_at(file, place + number * step) for number in range(count)], names
+    return [section_of(fields) for fields in SECTION.iter_unpack(exactly(file, place, count * step))], names
 
 
-def contents(file, section):
+def exactly(file, place, count):
+    """So many bytes of the file, which must have them."""
+    read = file.read(place, count)
+    if len(read) != count:
+        raise ValueError("the file is cut off")
+    return read
+
+
+def contents(file, section, most=LARGEST):
     """The bytes of a section."""
-    if section.kind == NOBITS or section.size > LARGEST:
-        return b""
-    file.seek(section.offset)
-    return file.read(section.size)
+    return b"" if section.kind == NOBITS or section.size > most else file.read(section.offset, section.size)
 
 
-def read_sections(path, wanted):
+def read_sections(file, wanted):
     """By name, the bytes of those sections of the file that are wanted and there."""
     found = {}
     try:
-        with open(path, "rb") as file:
-            sections, names = read_headers(file, os.fstat(file.fileno()).st_size)
-            text = contents(file, sections[names]) if names < len(sections) else b""
-            for section in sections:
-                name = text[section.name:].split(b"\0", 1)[0].decode("utf-8", "replace")
-                if name in wanted:
-                    found.setdefault(name, contents(file, section))
+        sections, names = read_headers(file)
+        text = contents(file, sections[names], MOST_NAMES) if names < len(sections) else b""
+        for section in sections:
+            name = text[section.name:section.name + LONGEST_NAME].split(b"\0", 1)[0].decode("utf-8", "replace")
+            if name in wanted and name not in found:
+                found[name] = contents(file, section)
     except (OSError, ValueError, OverflowError, struct.error):
         return {}
     return found
@@ -75,6 +96,32 @@ def build_id(note):
             return note[start:start + size].hex()
         place = start + (size + 3 & ~3)
     return ""
+
+
+def program_headers(file):
+    """The type, the offset, the size and the address of each segment."""
+    try:
+        header = header_of(file)
+        place, step, count = header[5], header[9], header[10]
+        fields = SEGMENT.iter_unpack(exactly(file, place, count * step)) if step == SEGMENT.size else ()
+        return [(it[0], it[2], it[5], it[3]) for it in fields]
+    except (OSError, ValueError, OverflowError, struct.error):
+        return []
+
+
+def segments(file):
+    """Where the file's bytes are in memory: offset, size and address of each segment."""
+    return [it[1:] for it in program_headers(file) if it[0] == LOAD]
+
+
+def loaded_build_id(file):
+    """The build-id in the notes that a process has of the file, or "" where there is none."""
+    try:
+        notes = [file.read(offset, size) for kind, offset, size, _ in program_headers(file)[:MOST_HEADERS]
+                 if kind == NOTES and size <= MOST_NOTES]
+    except (OSError, OverflowError):
+        return ""
+    return next((identity for identity in map(build_id, notes) if identity), "")
 
 
 def debug_link(section):

@@ -1,11 +1,13 @@
 """Stacks for flame graphs, a line for each, as flamegraph.pl takes them: the outermost frame first, and the bytes."""
+from lines import shown
+
 # The number of a row that is told.
 BYTES = {"caller": 1, "holder": 1, "in": 1, "by": 1, "grew": 0, "structure": 1}
 
 
 def stack_of(places):
     """The places in one text. A ; in a name would part it."""
-    return ";".join(place.label.replace(";", ":") or "?" for place in reversed(places))
+    return ";".join(shown.escaped(place.label.replace(";", ":")) or "?" for place in reversed(places))
 
 
 def lines_of(callers, kind):

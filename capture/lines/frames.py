@@ -1,10 +1,9 @@
 """A caller's text in its frames, and their names: lines by debug information, or symbols that have the address."""
-import os
 import re
 from functools import lru_cache
 from typing import NamedTuple
 
-from lines import binutils, places, progress
+from lines import debug_files, demangle, elf, places, progress, sources, tools
 
 ADDRESS = re.compile("[0-9a-f]{1,16}]")
 
@@ -49,11 +48,6 @@ def is_in_file(frame):
     return frame.path != "" and not (frame.name and frame.call > 0xFFFFFFFF)
 
 
-def is_unknown(word):
-    """Whether addr2line says that it does not know, or names no file before the colon."""
-    return word.startswith("??") or word == ":?"
-
-
 def has_line(where):
     """Whether addr2line knows the line. Where it does not, the function may be the nearest symbol before."""
     return not where.startswith("??") and not where.endswith((":?", ":0"))
@@ -65,61 +59,69 @@ def is_of(symbol, function):
 
 
 class Names:
-    """What binutils know of frames. Each file is asked once for all its frames."""
+    """What the tools know of frames. Each file is asked once for all its frames."""
 
-    def __init__(self, frames):
-        """Asks for all these frames."""
+    def __init__(self, frames, files=None):
+        """Asks for all these frames the files that these sources have."""
+        self.lines, self.symbols, self.problems, self.segments, self.known = {}, {}, {}, {}, {}
+        self.files = files or sources.Sources()
         frames_by_path = {}
         for frame in filter(is_in_file, frames):
-            frames_by_path.setdefault(frame.path, {})[frame.address] = frame
-        self.lines, self.symbols, self.known = {}, {}, {}
-        for path, by_address in frames_by_path.items():
-            calls = sorted({frame.call for frame in by_address.values()})
-            progress.SHOWN.begin(f"asks for names of {path}", len(calls))
-            self.lines[path] = binutils.ask_lines(path, calls)
-            if not all(has_line(answers[-1][1]) for answers in self.lines[path].values()):
-                self.symbols[path] = binutils.ask_symbols(path, calls, sorted(by_address))
+            frames_by_path.setdefault(frame.path, []).append(frame)
+        for path, of_path in frames_by_path.items():
+            progress.SHOWN.begin(f"asks for names of {path}", len(of_path))
+            self.ask(path, of_path)
 
-    def checked(self, frame, function):
-        """The function that addr2line names where it knows no line, if a symbol of it has the address; else the symbol that has it, or "".
+    def ask(self, path, frames):
+        """Asks for the frames of a file."""
+        found = self.files.find(path)
+        if found.file is None:
+            self.problems[path] = found.problem
+            return
+        with found.file as file, debug_files.DebugFiles(file, self.files.roots) as further:
+            if self.files.has_offsets(path):
+                self.segments[path] = elf.segments(file)
+            frames = [self.placed(frame) for frame in frames]
+            calls = sorted({frame.call for frame in frames})
+            answers = self.lines[path] = tools.ask_lines(further.separate or file, calls)
+            if not all(call in answers and has_line(answers[call][-1][1]) for call in calls):
+                self.symbols[path] = tools.ask_symbols(file, further.all(), calls, sorted({frame.address for frame in frames}))
 
-        A name that is no symbol of the file is of debug information elsewhere, and stays."""
-        symbols = self.symbols[frame.path]
-        if binutils.plain(function) not in symbols.functions:
-            return function
-        around = symbols.around.get(frame.call, [])
-        if any(is_of(symbol, binutils.plain(function)) for symbol in around):
-            return function
-        return around[-1] if around else ""
+    def placed(self, frame):
+        """The frame with its address in the ELF file. Where the log knew no program headers it has the offset in the file."""
+        for offset, size, address in self.segments.get(frame.path, ()):
+            if offset <= frame.call < offset + size:
+                return frame._replace(address=frame.address - offset + address)
+        return frame
 
-    def unnamed(self, frame):
-        """The object that has this address, or its class; else the function of a debug file, or "". addr2line names none."""
+    def by_symbol(self, frame, function):
+        """The function that was told, if a symbol of it has the address; else the object that has it, or another function, or "".
+
+        Where no line is known the tools tell the nearest symbol before, of data too."""
         symbols = self.symbols.get(frame.path)
         if symbols is None:
             return ""
+        frame = self.placed(frame)
         around = symbols.around.get(frame.call, [""])
-        return symbols.objects.get(frame.address, "").removeprefix("vtable for ") or around[-1]
+        if any(is_of(symbol, tools.plain(function)) for symbol in around):
+            return function
+        return symbols.objects.get(frame.address) or around[-1]
 
-    def place(self, frame, function, where):
-        """The place of a pair of addr2line's."""
-        in_module = f"{os.path.basename(frame.path)}+{frame.address:#x}"
-        if is_unknown(function):
-            name, unknown = self.unnamed(frame), frame.name or "?"
-        elif has_line(where):
-            name, unknown = function, ""
-        else:
-            name, unknown = self.checked(frame, function), frame.name or in_module
-            where = where if name == function else "??"  # its file is that of the nearest symbol
-        shown = frame.text if is_unknown(where) else where
-        function, (file, line) = name or places.logged(frame.name), places.source(where)
-        label = function or (in_module if frame.path else frame.text)
-        return places.Place((name or unknown, shown), function, file, line, frame.path, frame.address, frame.text, label, False)
+    def place(self, frame, function, where, is_inlined):
+        """The place of a pair of addr2line's. What is inlined is known by debug information, whether its line is or not."""
+        name = function
+        if places.is_unknown(function) or not (is_inlined or has_line(where)):
+            name = self.by_symbol(frame, function)
+            where = where if has_line(where) or name == function else "??"  # its file is that of the nearest symbol
+        name = demangle.SHARED.of(name).removeprefix("vtable for ")
+        place = places.of(frame, name, where, self.problems.get(frame.path, ""))
+        return places.inlined(place) if is_inlined else place
 
     def named(self, frame):
         """The places of the frame: first what was inlined, last the function itself."""
-        answers = self.lines.get(frame.path, {}).get(frame.call, []) if is_in_file(frame) else []
-        found = [self.place(frame, *answer) for answer in answers or [("??", "??")]]
-        return [places.inlined(place) for place in found[:-1]] + found[-1:]
+        answers = self.lines.get(frame.path, {}).get(self.placed(frame).call, []) if is_in_file(frame) else []
+        answers = answers or [("??", "??")]
+        return [self.place(frame, *answer, number + 1 < len(answers)) for number, answer in enumerate(answers)]
 
     def places(self, frame):
         """Function and file:line of the frame, and before it those that were inlined there, with a ^."""

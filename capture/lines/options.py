@@ -2,15 +2,13 @@
 import re
 from typing import NamedTuple
 
-USAGE = """usage: leak_lines [-n N] [--suppress FILE].. [--exit-code] [--folded | --json | --html FILE] [--what FILE]
-                  [--structures] [--why N] [--core CORE] [REPORT]
-       leak_lines --since OLD [--no-lines] [-n N] [--suppress FILE].. [--exit-code] [NEW]"""
+USAGE = "usage: leak_lines [OPTION..] [REPORT] | leak_lines [OPTION..] --since OLD [NEW]"
 HELP = USAGE + """
 Copies a report of leak_find, with its rows as a table by function, file and line.
 
   REPORT           the report, or standard input
   -n N             shows the first N rows
-  --suppress FILE  leaves out the rows that a suppression in the file names
+  --suppress FILE  leaves out the rows that a suppression in the file names, and with --what the blocks that only they lead to
   --exit-code      status 1 if leaks are left, 2 if the report is not whole
   --since OLD      compares with an older report
   --no-lines       with it: a function is the same though its lines have moved
@@ -21,12 +19,19 @@ Copies a report of leak_find, with its rows as a table by function, file and lin
   --structures     with it: a row for each kind of structure that was lost, in place of callers
   --why N          shows what holds the blocks that those of the first N rows look like, or the first N holders
   --core CORE      the core that leak_find why was asked about: says what a word is that only the kernel holds
+  --log LOG        the log that was searched, which says of which build each file was; NAME.log beside a REPORT
+                   NAME.report is found without it
+  --root DIR       looks for files below DIR first, as a process with that root would
+  --pid PID        looks then at the files of the process, while it lives
+  --unchecked      names also from files whose build nobody can tell: those without a build-id
+  --copy-files DIR with --pid and --log: copies the files that the log names into the new folder DIR, and does nothing else
 
 status: 0, or 1 as above; 2 if there is no answer, with a line on standard error"""
 HELP_WORDS = ("-h", "--help")
-VALUED = ("--suppress", "--since", "--html", "--what", "--why", "--core")
+VALUED = ("--suppress", "--since", "--html", "--what", "--why", "--core", "--log", "--root", "--pid", "--copy-files")
 FORMS = {"--folded": "folded", "--json": "json"}
-FLAGS = {"--exit-code": {"is_judged": True}, "--no-lines": {"has_lines": False}, "--structures": {"by_structures": True}}
+FLAGS = {"--exit-code": {"is_judged": True}, "--no-lines": {"has_lines": False}, "--structures": {"by_structures": True},
+         "--unchecked": {"is_lenient": True}}
 NUMBER = re.compile("[1-9][0-9]{0,17}")
 
 
@@ -48,6 +53,11 @@ class Options(NamedTuple):
     by_structures: bool = False  # whether rows are of structures
     core: str = None  # which says what words are that only the kernel holds
     why: int = 0  # for how many rows a chain is shown
+    log: str = None  # that was searched
+    roots: tuple = ()  # folders that stand for the process's root
+    is_lenient: bool = False  # whether files count whose build nobody can tell
+    pid: str = None  # of the process, while it lives
+    copies: str = None  # the folder into which its files are copied, and nothing else is done
 
 
 def valued(word, words):
@@ -68,7 +78,13 @@ def with_option(options, name, value):
         return options._replace(most=int(value))
     if name == "--suppress":
         return options._replace(suppress=options.suppress + (value,), is_judged=True)
-    if name in ("--since", "--what", "--core"):
+    if name == "--root":
+        return options._replace(roots=options.roots + (value,))
+    if name == "--pid" and NUMBER.fullmatch(value):
+        return options._replace(pid=value)
+    if name == "--copy-files":
+        return options._replace(copies=value)
+    if name in ("--since", "--log", "--what", "--core"):
         return options._replace(**{name[2:]: value})
     if name == "--why" and NUMBER.fullmatch(value):
         return options._replace(why=int(value))

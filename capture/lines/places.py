@@ -1,6 +1,9 @@
 """Places of callers: what a table shows of a frame, and its parts for those who compare, group or search them."""
+import os
 import re
 from typing import NamedTuple
+
+from lines import shown
 
 OFFSET = re.compile(r"\+(0x)?[0-9a-f]+$")
 
@@ -16,6 +19,12 @@ class Place(NamedTuple):
     text: str  # of the frame, as the log has it
     label: str  # the function, or its stead: the module with the address there, or the text of the log
     is_inlined: bool
+    problem: str = ""  # why nothing was named from the module
+
+    @property
+    def shown(self):
+        """The cells as a terminal is shown them."""
+        return tuple(map(shown.escaped, self.cells))
 
 
 def inlined(place):
@@ -33,3 +42,17 @@ def source(where):
     """File and line of addr2line's words file:line, of which each may be unknown."""
     file, _, line = where.rpartition(":")
     return "" if file.startswith("??") else file, int(line) if line.isascii() and line.isdigit() else 0
+
+
+def is_unknown(word):
+    """Whether addr2line says that it does not know, or names no file before the colon."""
+    return word.startswith("??") or word == ":?"
+
+
+def of(frame, name, where, problem):
+    """The place of a frame: its function, or "", and addr2line's words file:line. Where nothing was named from the file it says why."""
+    in_module = f"{os.path.basename(frame.path)}+{frame.address:#x}" if frame.path else ""
+    function, (file, line) = name or logged(frame.name), source(where)
+    place = where if not is_unknown(where) else f"{frame.text} ({problem})" if problem else frame.text
+    return Place((name or frame.name or in_module or "?", place), function, file, line, frame.path, frame.address, frame.text,
+                 function or in_module or frame.text, False, problem)

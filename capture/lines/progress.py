@@ -2,6 +2,8 @@
 import sys
 import threading
 
+from lines import shown
+
 CLEAR = "\r\x1b[K"
 
 
@@ -20,7 +22,7 @@ class Progress:
 
     def text(self):
         """What is said."""
-        return f"leak_lines: {self.task}" + (f": {self.done} of {self.total}" if self.total else "")
+        return f"leak_lines: {shown.escaped(self.task)}" + (f": {self.done} of {self.total}" if self.total else "")
 
     def talk(self):
         """Says it again and again until the end, and clears the line then."""

@@ -96,7 +96,7 @@ def lines_of(found, kind, asked):
     lists = [it.shown.get(kind, []) for it in found]
     changes = compare(*lists, asked.has_lines)
     shown = [it for it in changes if it.state != "same"]
-    entries = [table.Entry(cells(it, kind), [place.cells for place in it.places]) for it in shown[:asked.most]]
+    entries = [table.Entry(cells(it, kind), [place.shown for place in it.places]) for it in shown[:asked.most]]
     lines = ["{} {} blocks {} bytes".format(word, *sums({kind: it})) for word, it in zip(("then", "now"), lists)]
     lines.append(f"callers: {count(changes)}")
     lines += table.lay_out(TITLES, entries, "  ", True) if entries else []

@@ -1,19 +1,19 @@
 """The report with its rows as tables: what is printed where no other form is asked for."""
 import re
 
-from lines import callers, report, table, views
+from lines import report, shown, table, views
 
 LEAK = re.compile("leak 0x[0-9a-f]{1,16} [0-9]+ [0-9]+ (.*)", re.DOTALL)
 BLOCK = re.compile("leak (0x[0-9a-f]{1,16}) ")
 KIND = re.compile("head |held ")
 
 
-def table_of(read, kind, shown, left_out, said):
+def table_of(read, kind, rows, left_out, said):
     """The lines of the table of a kind, with a last one of the rows that are left out. Callers' tables have a form of their own, which
     is older."""
     whole = report.whole(read, kind)
-    entries = [table.Entry(views.CELLS[kind](caller.row, whole), [place.cells for place in caller.places] + below(caller.row, said))
-               for caller in shown]
+    entries = [table.Entry(views.CELLS[kind](caller.row, whole), [place.shown for place in caller.places] + below(caller.row, said))
+               for caller in rows]
     is_caller = kind == "caller"
     lines = table.lay_out(views.TITLES[kind], entries, " " if is_caller else "  ", not is_caller)
     return lines + ([views.rest(kind, left_out)] if left_out else [])
@@ -27,7 +27,13 @@ def below(row, said):
 def lines_of_leak(line, said):
     """The line about a leaked block, and those with what it is."""
     match = BLOCK.match(line) if said.of_block else None
-    return [line] + ([f"what {match[1]} {fact.text}" for fact in said.of_block.get(match[1], [])] if match else [])
+    return [shown.escaped(line)] + ([f"what {match[1]} {fact.text}" for fact in said.of_block.get(match[1], [])] if match else [])
+
+
+def is_about(line, addresses):
+    """Whether the line is about a leaked block at one of these addresses."""
+    match = BLOCK.match(line)
+    return match is not None and match[1] in addresses
 
 
 def text_of_leak(line, has_heads):
@@ -52,5 +58,5 @@ def lines_of(read, found, most):
 
 def suppressed_line(found):
     """The last line, of what is suppressed."""
-    blocks, size = callers.sums(found.suppressed)
+    blocks, size = found.suppressed_sums()
     return f"suppressed {blocks} blocks {size} bytes"

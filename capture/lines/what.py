@@ -1,10 +1,9 @@
 """What lost blocks are, as leak_what tells it: a line for each fact. docs/FORMAT.md defines the lines."""
 import re
-import subprocess
-import tempfile
 from collections import Counter
 from typing import NamedTuple
 
+from lines import demangle
 from lines.options import Refused
 from lines.units import size
 
@@ -23,7 +22,6 @@ LEAK = re.compile(f"leak {ADDRESS} ([0-9]+) [0-9]+ (.*)", re.DOTALL)
 KIND = re.compile("(head|held) ")
 WIDEST = 60
 MANGLED = re.compile(r"\b_Z\w+")
-LONGEST_NAME, MOST_PRINTED = 400, 1 << 24
 
 
 class Fact(NamedTuple):
@@ -81,27 +79,9 @@ def shortened(text):
     return text if len(text) <= WIDEST else text[:WIDEST - 2] + ".."
 
 
-def demangled(names):
-    """By name, those of C++ as its sources have them, if c++filt is there. Names are the process's own and may be meant to
-    take long, so time, memory and output have limits."""
-    with tempfile.TemporaryFile() as file:
-        file.write("\n".join(names).encode("utf-8", "surrogateescape"))
-        file.seek(0)
-        run = subprocess.Popen(["sh", "-c", "ulimit -v 262144 -t 5; exec c++filt"], stdin=file, stdout=subprocess.PIPE,
-                               stderr=subprocess.DEVNULL)
-    with run:
-        lines = run.stdout.read(MOST_PRINTED).decode("utf-8", "surrogateescape").split("\n")
-        run.kill()
-    return dict(zip(names, lines)) if len(lines) >= len(names) else {}
-
-
 def with_names(lines):
-    """The lines with the names of C++ demangled."""
-    names = list(dict.fromkeys(name for line in lines for name in MANGLED.findall(line) if len(name) <= LONGEST_NAME))
-    known = demangled(names) if names else {}
-    if not known:
-        return lines
-    return [MANGLED.sub(lambda match: shortened(known.get(match[0], match[0])), line) for line in lines]
+    """The lines with the names of C++ as their sources have them."""
+    return [MANGLED.sub(lambda match: shortened(demangle.SHARED.of(match[0])), line) for line in lines]
 
 
 def read(lines, place):

@@ -38,9 +38,54 @@ static void read_notes(struct core *core, const uint8_t *at, const uint8_t *end)
     }
 }
 
+/* The segments with contents, by ascending start. */
+struct contents {
+    struct file file;
+    struct content {
+        uint64_t start, size, place;
+    } *list;
+    size_t count;
+};
+
+static struct contents contents_of(struct file file, struct headers headers)
+{
+    struct contents contents = { file, NULL, 0 };
+
+    for (uint64_t i = 0; i < headers.count; i++) {
+        Elf64_Phdr p = header_at(file, headers, i);
+        if (p.p_type != PT_LOAD || !p.p_filesz)
+            continue;
+        contents.list = grown(contents.list, contents.count, sizeof *contents.list);
+        contents.list[contents.count++] = (struct content){ p.p_vaddr, p.p_filesz, p.p_offset };
+    }
+    if (contents.count)
+        qsort(contents.list, contents.count, sizeof *contents.list, by_start);
+    return contents;
+}
+
+/* What the core has from the address on, by the last segment that begins there or before. */
+static struct memory dumped_at(void *core, uint64_t address)
+{
+    const struct contents *contents = core;
+    size_t low = 0, high = contents->count;
+
+    while (low < high) {
+        size_t middle = low + (high - low) / 2;
+        if (contents->list[middle].start <= address)
+            low = middle + 1;
+        else
+            high = middle;
+    }
+    const struct content *c = contents->list + low - 1;
+    if (!low || address - c->start >= c->size)
+        return (struct memory){ NULL, 0 };
+    return (struct memory){ contents->file.bytes + c->place + (address - c->start), c->size - (address - c->start) };
+}
+
 struct core read_core(const char *path)
 {
     struct core core = { .file = map_file(path) };
+    struct contents contents;
 
     core.headers = headers_of(core.file);
     for (uint64_t i = 0; i < core.headers.count; i++) {
@@ -50,7 +95,9 @@ struct core read_core(const char *path)
     }
     if (!core.parts.count)
         fail("%s: no list of mapped files (NT_FILE)", path);
-    qsort(core.parts.list, core.parts.count, sizeof *core.parts.list, by_start);
+    contents = contents_of(core.file, core.headers);
+    sort_parts(&core.parts, dumped_at, &contents);
+    free(contents.list);
     return core;
 }
 

@@ -120,6 +120,7 @@ int main(int count, char **words)
     put_text("\n");
     if (blocks.missed)
         put_remark("missed ", blocks.missed);
+    put_files(&core.parts);
     tell_kept_out(&blocks);
     tell_allocator(&core, &blocks);
     if (blocks.knows_freed)

@@ -5,6 +5,7 @@
 options() {
     cat << 'END'
 report  --keep DIR       keeps core, log and report in the folder
+report  --files          keeps the files that the process has mapped there too, so that names can be had later and elsewhere
 report  --after DIR      tells what was lost at both moments: now, and when DIR was kept
 report  --list           prints a line for each lost block too
 dump    --whole-stack    keeps what lies below the stack pointers, which hides leaks
@@ -13,6 +14,8 @@ dump    --pipes          counts words that wait in pipes as held
 lines   -n N             shows the first N rows of the table
 lines   --structures     shows a row for each kind of lost structure
 lines   --why N          shows what holds the blocks that those of the first N rows look like
+lines   --root DIR       looks for the files of the process below DIR first, as in a container's root
+lines   --unchecked      names also from files without a build-id, which nobody can tell from other builds
 find    --skip-freed     leaves out pointers in freed memory [taken if the heap is glibc's]
 find    --skip-links     leaves out the links of glibc's malloc to free memory [taken if the heap is glibc's]
 find    --skip-slack     leaves out pointers in what malloc gave a block past its size
@@ -53,6 +56,7 @@ take() {
     --keep) keep=$2 ;;
     --after) after=$2 ;;
     --list) list=1 ;;
+    --files) files=1 ;;
     *) eval "${taker}_words=\$${taker}_words\$(quoted \"\$@\")" ;;
     esac
 }
@@ -67,7 +71,7 @@ check_value() {
 
 # read_words WORD..: reads the options, and gives how many words they are.
 read_words() {
-    keep='' after='' list='' dump_words='' find_words='' lines_words='' read=0
+    keep='' after='' list='' files='' dump_words='' find_words='' lines_words='' read=0
     while [ $# -gt 0 ]; do
         case $1 in
         -h | --help) usage help ;;

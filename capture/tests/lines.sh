@@ -11,7 +11,7 @@ verdict "the parts: $(tail -n 3 lines_test.said | head -n 1)" 0 $status
 # first_rows FORM N: what the table of a report ends with.
 first_rows() { "$kit/leak_lines" -n "$2" "$kit/tests/lines.$1" | grep -A 9 '^ *[a-z].* function ' | grep -v '^leak '; }
 verdict 'the first row of callers' "$(printf '%s\n' 'bytes blocks heads  function  where' \
-    '   11      1     1  begin+1c  /no/such/program:(begin+1c)[0x1234]' 'and 1 more: 9 bytes, 1 blocks, 0 heads')" "$(first_rows heads 1)"
+    '   11      1     1  begin+1c  /no/such/program:(begin+1c)[0x1234] (file not found)' 'and 1 more: 9 bytes, 1 blocks, 0 heads')" "$(first_rows heads 1)"
 verdict 'the list of blocks stays whole' 2 "$("$kit/leak_lines" -n 1 "$kit/tests/lines.heads" | grep -c '^leak ')"
 verdict 'all callers' "$(cat "$kit/tests/lines.heads.wanted")" "$("$kit/leak_lines" -n 2 "$kit/tests/lines.heads")"
 verdict 'the first holder' 'and 2 more, none holds more than 1.15 kB: 208 B in 6 own blocks' "$(first_rows holders 1 | tail -n 1)"
@@ -24,9 +24,7 @@ refused() {
     "$kit/leak_lines" "$@" > refused.out 2> refused.said
     echo "$? $(wc -c < refused.out) $(cat refused.said)"
 }
-usage='usage: leak_lines [-n N] [--suppress FILE].. [--exit-code] [--folded | --json | --html FILE] [--what FILE]
-                  [--structures] [--why N] [--core CORE] [REPORT]
-       leak_lines --since OLD [--no-lines] [-n N] [--suppress FILE].. [--exit-code] [NEW]'
+usage='usage: leak_lines [OPTION..] [REPORT] | leak_lines [OPTION..] --since OLD [NEW]'
 for words in '-n' '-n 0' '-n x' '-n -1' '-x' 'one two'; do
     verdict "refused: $words" "2 0 $usage" "$(refused $words)"
 done
@@ -36,11 +34,11 @@ verdict 'no such report' '2 0 leak_lines: none.report: No such file or directory
 sh -c 'echo ran > hostile.ran' && rm hostile.ran
 printf '%s\n' 'marked 4 bytes 96' 'holder 1 40 1 40 0 0x10 $(echo ran > hostile.ran) "%s\n" '"'"';`x` \t:(f+1)[0x9]' \
     'holder 1 30 1 30 0 0x20 -o@hostile.ran:[0x1]' 'holder 1 20 1 20 0 0x30 @hostile.ran:[0x1]' 'holder 1 6 1 6 0 0x40 ' > hostile.report
-printf '%s\n' 'marked 4 bytes 96' 'held   share  blocks   own  within  address  function  where' \
-    '40 B  41.7 %       1  40 B       0     0x10  f+1       $(echo ran > hostile.ran) "%s\n" '"'"';`x` \t:(f+1)[0x9]' \
-    '30 B  31.3 %       1  30 B       0     0x20  ?         -o@hostile.ran:[0x1]' \
-    '20 B  20.8 %       1  20 B       0     0x30  ?         @hostile.ran:[0x1]' \
-    ' 6 B   6.3 %       1   6 B       0     0x40  ?         ' > hostile.wanted
+printf '%s\n' 'marked 4 bytes 96' 'held   share  blocks   own  within  address  function            where' \
+    '40 B  41.7 %       1  40 B       0     0x10  f+1                 $(echo ran > hostile.ran) "%s\\n" '"'"';`x` \\t:(f+1)[0x9] (file not found)' \
+    '30 B  31.3 %       1  30 B       0     0x20  -o@hostile.ran+0x1  -o@hostile.ran:[0x1] (file not found)' \
+    '20 B  20.8 %       1  20 B       0     0x30  @hostile.ran+0x1    @hostile.ran:[0x1] (file not found)' \
+    ' 6 B   6.3 %       1   6 B       0     0x40  ?                   ' > hostile.wanted
 verdict 'hostile names are only text' "$(cat hostile.wanted)" "$("$kit/leak_lines" hostile.report)"
 verdict 'nothing of them ran' no "$([ -e hostile.ran ] && echo yes || echo no)"
 

@@ -164,8 +164,9 @@ class Document(unittest.TestCase):
         first, second = read["callers"]
         self.assertEqual(first, {"blocks": 1, "bytes": 11, "heads": 1, "frames": [
             {"function": "begin", "file": None, "line": None, "module": "/x/app", "offset": 18, "inlined": False,
-             "text": "/x/app:(begin+1c)[0x12]"}]})
+             "text": "/x/app:(begin+1c)[0x12]", "unnamed": "file not found"}]})
         self.assertEqual([it["module"] for it in second["frames"]], ["/x/app", None])
+        self.assertEqual([it["unnamed"] for it in second["frames"]], ["file not found", None])
 
     def test_what_is_suppressed_is_counted(self):
         read = self.document(LEAKS, "begin")

@@ -59,4 +59,4 @@ verdict 'addr2line by itself names the function before' sized_function "$(addr2l
 printf 'caller 1 1 %s/gap.so:[0x%x]\n' "$work" $((start + 4)) "$work" $((start + 5)) "$work" $((start + 36)) | "$kit/leak_lines" > gap.lines
 verdict 'no name behind the end of a function, nor in one without a size' "sized_function $(printf 'gap.so+0x%x ' $((start + 5)) $((start + 36)))" \
     "$(names < gap.lines)"
-verdict 'nor a file' 2 "$(grep -c "$work/gap\.so:\[" gap.lines)"
+verdict 'nor a file' 2 "$(grep -c "gap\.so+0x.*$work/gap\.so:\[" gap.lines)"

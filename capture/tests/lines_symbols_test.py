@@ -8,7 +8,7 @@ import unittest
 import zlib
 
 sys.path.insert(0, os.path.join(os.path.dirname(os.path.abspath(__file__)), ".."))
-from lines import binutils, debug_files, elf, frames  # noqa: E402
+from lines import tools, debug_files, elf, frames, opened  # noqa: E402
 
 NOTE = struct.pack("<III", 4, 3, 3) + b"GNU\0" + b"\xab\xcd\xef\0"
 
@@ -27,7 +27,8 @@ class Elf(unittest.TestCase):
         with tempfile.NamedTemporaryFile() as file:
             file.write(content)
             file.flush()
-            return elf.read_sections(file.name, wanted)
+            with opened.open_here(file.name) as file:
+                return elf.read_sections(file, wanted)
 
     def test_a_section(self):
         self.assertEqual(self.sections(file_with(".x", b"four")), {".x": b"four"})
@@ -41,9 +42,6 @@ class Elf(unittest.TestCase):
                         whole[:62] + b"\x09\0" + whole[64:], whole[:40] + b"\xff" * 8 + whole[48:],
                         whole[:96] + b"\xff" * 96 + whole[192:]):
             self.assertEqual(self.sections(damaged), {})
-
-    def test_a_path_that_is_no_file(self):
-        self.assertEqual(elf.read_sections("/no/such/file", (".x",)), {})
 
     def test_build_ids(self):
         other = struct.pack("<III", 2, 4, 1) + b"X\0\0\0" + b"1234"
@@ -77,8 +75,8 @@ class DebugFiles(unittest.TestCase):
         return path
 
     def paths(self, path):
-        with debug_files.DebugFiles(path) as paths:
-            return list(paths)
+        with opened.open_here(path) as file, debug_files.DebugFiles(file) as further:
+            return [it.path for it in further.all()]
 
     def test_by_build_id(self):
         path, debug = self.write("app", file_with(".note.gnu.build-id", NOTE)), ".build-id/ab/cdef.debug"
@@ -99,19 +97,18 @@ class DebugFiles(unittest.TestCase):
 
     def test_packed(self):
         path = self.write("app", file_with(".gnu_debugdata", lzma.compress(b"plain")))
-        with debug_files.DebugFiles(path) as paths:
-            with open(paths[0], "rb") as file:
-                self.assertEqual(file.read(), b"plain")
-        self.assertFalse(os.path.exists(paths[0]))
+        with opened.open_here(path) as file, debug_files.DebugFiles(file) as further:
+            self.assertEqual(further.packed.read(0, 9), b"plain")
 
     def test_packed_data_that_is_damaged_or_too_large_is_not_taken(self):
         packed = lzma.compress(b"plain" * 100)
         for data in (b"text", packed[:-1], packed[:20], b""):
-            self.assertEqual(debug_files.unpacked(data), b"")
+            self.assertIsNone(debug_files.unpacked(data))
         most, debug_files.LARGEST = debug_files.LARGEST, 400
-        self.assertEqual(debug_files.unpacked(packed), b"")
+        self.assertIsNone(debug_files.unpacked(packed))
         debug_files.LARGEST = most
-        self.assertEqual(debug_files.unpacked(packed), b"plain" * 100)
+        with debug_files.unpacked(packed) as file:
+            self.assertEqual(file.read(0, 999), b"plain" * 100)
 
 
 class Functions(unittest.TestCase):
@@ -122,12 +119,12 @@ class Functions(unittest.TestCase):
     def place(self, address, function, where):
         frame, names = frames.frame_of(f"/lib/x.so:[{address:#x}]"), frames.Names(())
         names.lines["/lib/x.so"] = {frame.call: [(function, where)]}
-        names.symbols["/lib/x.so"] = binutils.read_symbols(self.symbols, [frame.call], [address])
+        names.symbols["/lib/x.so"] = tools.read_symbols(self.symbols, [frame.call], [address])
         return names.places(frame)[0]
 
     def test_a_function_of_a_debug_file(self):
         self.assertEqual(self.place(0x1008, "??", "??:0"), ("exact", "/lib/x.so:[0x1008]"))
-        self.assertEqual(self.place(0x1011, "??", "??:0"), ("?", "/lib/x.so:[0x1011]"))
+        self.assertEqual(self.place(0x1011, "??", "??:0"), ("x.so+0x1011", "/lib/x.so:[0x1011]"))
 
     def test_a_file_without_a_line_does_not_vouch_for_a_function(self):
         self.assertEqual(self.place(0x1008, "exact", "x.c:?"), ("exact", "x.c:?"))

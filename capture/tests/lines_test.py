@@ -4,7 +4,7 @@ import sys
 import unittest
 
 sys.path.insert(0, os.path.join(os.path.dirname(os.path.abspath(__file__)), ".."))
-from lines import binutils, command, frames, options, report, table, units, views  # noqa: E402
+from lines import command, frames, options, report, table, tools, units, views  # noqa: E402
 
 
 class Units(unittest.TestCase):
@@ -107,8 +107,8 @@ class Frames(unittest.TestCase):
 def names_of(lines, symbols, calls, addresses):
     """The names of the file `lib`, as if addr2line and nm had printed these lines."""
     names = frames.Names(())
-    names.lines["lib"] = binutils.read_answers(lines, calls)
-    names.symbols["lib"] = binutils.read_symbols(symbols, calls, addresses)
+    names.lines["lib"] = tools.read_answers(lines, calls)
+    names.symbols["lib"] = tools.read_symbols(symbols, calls, addresses)
     return names
 
 
@@ -137,33 +137,35 @@ class Names(unittest.TestCase):
         self.assertEqual(self.place(0x1088, "inner")[0][0], "inner")
         self.assertEqual(self.place(0x1088, "outer()")[0][0], "outer()")
 
-    def test_a_name_with_a_line_or_from_elsewhere_stays(self):
+    def test_a_name_with_a_line_stays_and_one_without_a_symbol_does_not(self):
         self.assertEqual(self.place(0x1011, "begin", "begin.c:7"), [("begin", "begin.c:7")])
-        self.assertEqual(self.place(0x1011, "of_debug_information")[0][0], "of_debug_information")
+        self.assertEqual(self.place(0x1011, "of_nothing")[0][0], "lib+0x1011")
+
+    def test_an_object_before_is_no_function(self):
+        self.assertEqual([self.place(it, "shapes::square")[0][0] for it in (0x3000, 0x3020, 0x3028)], ["shapes::square", "table", "lib+0x3028"])
 
     def test_objects_and_classes(self):
-        self.assertEqual([self.place(it, "??")[0][0] for it in (0x3010, 0x3020, 0x3027, 0x3028)], ["shapes::square", "table", "table", "?"])
+        self.assertEqual([self.place(it, "??")[0][0] for it in (0x3010, 0x3020, 0x3027, 0x3028)], ["shapes::square", "table", "table", "lib+0x3028"])
 
     def test_inlined_functions_come_first(self):
         names = names_of(["0x0000000000000fff", "in", "a.c:1 (discriminator 3)", "out", "a.c:9"], [], [0xfff], [0x1000])
         self.assertEqual(names.places(frames.frame_of("lib:[0x1000]")), [("^ in", "a.c:1"), ("out", "a.c:9")])
 
     def test_a_function_may_be_called_as_an_address(self):
-        answers = binutils.read_answers(["0x0000000000000001", "0x0000000000000002", "a:1", "0x0000000000000002", "f", "b:2"], [1, 2])
+        answers = tools.read_answers(["0x0000000000000001", "0x0000000000000002", "a:1", "0x0000000000000002", "f", "b:2"], [1, 2])
         self.assertEqual(answers, {1: [("0x0000000000000002", "a:1")], 2: [("f", "b:2")]})
 
     def test_answers_that_break_off(self):
-        self.assertEqual(binutils.read_answers(["0x0000000000000001", "f"], [1]), {})
-        self.assertEqual(binutils.read_answers([], [1]), {})
+        self.assertEqual(tools.read_answers(["0x0000000000000001", "f"], [1]), {})
+        self.assertEqual(tools.read_answers([], [1]), {})
 
 
-class Binutils(unittest.TestCase):
-    def test_what_is_no_file_is_not_asked(self):
-        self.assertEqual(binutils.ask_lines("/dev/zero", [1]), {})
-        self.assertEqual(binutils.ask_lines("/no/such/file", [1]), {})
-
-    def test_a_path_is_never_an_option(self):
-        self.assertEqual([binutils.argument(it) for it in ("-x", "@x", "a", "/b")], ["./-x", "./@x", "./a", "/b"])
+class Problems(unittest.TestCase):
+    def test_a_row_says_when_its_file_is_not_there_or_no_program(self):
+        for path, problem in (("/no/such/file", "file not found"), ("/dev/zero", "file not found"), (os.path.abspath(__file__), "no ELF file")):
+            text = f"{path}:[0x1]"
+            names = frames.Names([frames.frame_of(text)])
+            self.assertEqual(names.places(frames.frame_of(text)), [(f"{os.path.basename(path)}+0x1", f"{text} ({problem})")])
 
 
 class Command(unittest.TestCase):
@@ -181,7 +183,7 @@ class Command(unittest.TestCase):
 
     def test_nothing_is_lost_without_rows(self):
         lines = ["", "text with \udcff and \0", "caller x"]
-        self.assertEqual(command.text_of(lines, 1), "\ntext with \udcff and \0\ncaller x\n")
+        self.assertEqual(command.text_of(lines, 1), "\ntext with \\xff and \\x00\ncaller x\n")
 
 
 if __name__ == "__main__":

@@ -30,6 +30,9 @@ part pages
 part lines
 part lines_symbols
 part lines_options
+part lines_builds "$attaches"
+part lines_files "$attaches"
+part lines_safe
 part stops
 part freed "$dumps"
 part walk

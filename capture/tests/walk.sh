@@ -180,7 +180,9 @@ if [ "$dumps_core" ]; then
     find_leaks one --skip-freed --skip-links bare.core bare.log > bare.report 2>&1
     verdict 'objects that are lost' "$(expected "$kit/tests/walk_types.cc")" "$(named bare.report)"
     "$kit/leak_lines" bare.report > bare.lines
-    verdict 'their classes' 'shapes::many<long> shapes::square' "$(classes bare.lines)"
+    verdict 'no class, since the core has no build-id' 1 "$(grep -c '^build not known: 1 of 1 files ' bare.lines)"
+    "$kit/leak_lines" --unchecked bare.report > bare.lines
+    verdict 'their classes, if they are asked for' 'shapes::many<long> shapes::square' "$(classes bare.lines)"
     mv walk_types walk_types.away
     "$walk" --quiet bare.core > away.log
     find_leaks one --skip-freed --skip-links bare.core away.log > away.report 2>&1

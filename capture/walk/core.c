@@ -72,6 +72,16 @@ static void find_reaches(struct core *core)
     }
 }
 
+/* What is dumped from the address on, without a gap within the segment. */
+static struct memory dumped_at(void *core, uint64_t address)
+{
+    const struct segment *s = segment_at(core, address);
+
+    if (!s || address - s->start >= s->size)
+        return (struct memory){ NULL, 0 };
+    return (struct memory){ s->bytes + (address - s->start), s->size - (address - s->start) };
+}
+
 struct core read_core(const char *path)
 {
     struct core core = { .path = path, .file = map_file(path) };
@@ -93,8 +103,7 @@ struct core read_core(const char *path)
     fill_gaps(&core);
     find_run_starts(&core);
     find_run_ends(&core);
-    if (core.parts.count)
-        qsort(core.parts.list, core.parts.count, sizeof *core.parts.list, by_start);
+    sort_parts(&core.parts, dumped_at, &core);
     find_reaches(&core);
     return core;
 }

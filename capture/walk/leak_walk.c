@@ -165,6 +165,7 @@ int main(int count, char **words)
     } else {
         put_text("= Start\n");
     }
+    put_files(&core.parts);
     put_allocators(&core);
     struct totals totals = write_log(&heap, &old);
     put_end();
