@@ -45,14 +45,17 @@ remarks() { LC_ALL=C sed -n "s/^= leak_log $1 //p" "$2"; }
 # other_allocator LOG: the allocator that the log names, if it is not glibc's alone.
 other_allocator() { remarks allocator "$1" | grep -v '^glibc' | tail -n 1; }
 
-# fitting LOG [OTHER]: the options that fit the heap of a log, which is not glibc's if OTHER says so. glibc's own links and what was
+# The options that fit the heap of a log, which is not glibc's if OTHER says so. glibc's own links and what was
 # freed are known where no other allocator is named; others lay blocks side by side, so that the start of one is the end of another.
-# Memory that can't be written holds blocks too: a static program of glibc has pointers there.
+# Memory that can't be written holds blocks too: a static program of glibc has pointers there. leak_core leaves dead stack out of its cores;
+# of a core that is GIVEN the search leaves it out.
+#
+# fitting LOG [OTHER [GIVEN]]
 fitting() {
     if [ "${2-}" ] || [ "$(other_allocator "$1")" ]; then
-        echo '--other-heap --skip-ends --all-memory'
+        echo "--other-heap --skip-ends --all-memory${3:+ --skip-dead-stack}"
     else
-        echo '--skip-freed --skip-links --all-memory'
+        echo "--skip-freed --skip-links --all-memory${3:+ --skip-dead-stack}"
     fi
 }
 

@@ -19,6 +19,7 @@ lines   --unchecked      names also from files without a build-id, which nobody 
 find    --skip-freed     leaves out pointers in freed memory [taken if the heap is glibc's]
 find    --skip-links     leaves out the links of glibc's malloc to free memory [taken if the heap is glibc's]
 find    --skip-slack     leaves out pointers in what malloc gave a block past its size
+find    --skip-dead-stack  leaves out pointers below stack pointers [taken of a core that is given]
 find    --skip-ends      leaves out pointers one past the end of a block [taken if the heap is not glibc's]
 find    --displace LIST  byte offsets at which a pointer keeps a block, besides 0, as 8,16 [any]
 find    --all-memory     takes pointers in memory that can't be written too [always taken]

@@ -75,6 +75,21 @@ verdict '--size says the size' "$(stat -c %s part.core) $(stat -c %s whole.core)
     "$("$kit/leak_core" --size "$process") $("$kit/leak_core" --whole-stack --size "$process")"
 stop "$process"
 
+section dead stack in a core by the kernel
+if [ "$dumps_core" ]; then
+    hold_still first
+    rm -f core core.*
+    { kill -ABRT "$process" && wait "$process"; } 2> /dev/null
+    limited 60 "$kit/leak_report" "./$(kernel_core)" 2> said | awk '/^leaked/ { print $2 }' > given
+    verdict 'the search leaves it out' '5 1' "$(cat given) $(grep -c -e ' --skip-dead-stack' said)"
+    limited 60 "$kit/leak_dump" --core "./$(kernel_core)" given 2> said
+    verdict 'leak_dump tells the same' 1 "$(grep -c 'now search: leak_find one .* --skip-dead-stack ' said)"
+    verdict 'without it they are hidden' 'leaked 0 bytes 0' "$(find_leaks one --skip-freed --skip-links given.core given.log 2> said | grep '^leaked')"
+    rm -f core core.* given.*
+else
+    leave_out 'dead stack in a core by the kernel: it writes no core here'
+fi
+
 section threads that ended
 hold_still ended_lose
 found=$(judged ended_lose)
