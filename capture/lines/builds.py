@@ -6,7 +6,7 @@ the file has no build-id, and ? where the core lacks its notes.
 import re
 from typing import NamedTuple
 
-from lines import opened
+from lines import opened, signal_stacks
 
 TOLD = b"\n= leak_log files\n"
 FILE = re.compile(rb"\n= leak_log file (-|\?|[0-9a-f]{2,128}) ([^\n]{1,8192})(?=\n)")
@@ -14,9 +14,11 @@ PART, MOST_FILES = 1 << 20, 1 << 16  # bytes that are read at once; a process ma
 
 
 class Builds(NamedTuple):
-    """Whether the log tells builds, and by path the build-ids of the files there: "" of one without, "?" of one that is not known."""
+    """Whether the log tells builds, by path the build-ids of the files there ("" of one without, "?" of one that is not known), and which
+    signal stacks are not known."""
     is_told: bool
     ids: dict
+    stacks: signal_stacks.Unknown = signal_stacks.Unknown()
 
 
 NONE = Builds(False, {})
@@ -35,11 +37,12 @@ def parts_of(file):
 
 def read(path):
     """The builds that the log at this path tells."""
-    is_told, ids = False, {}
+    is_told, ids, stacks = False, {}, signal_stacks.Unknown()
     with opened.open_here(path) as file:
         for part in parts_of(file):
             is_told = is_told or TOLD in part
+            stacks = signal_stacks.last_in(part, stacks)
             for identity, name in FILE.findall(part):
                 if len(ids) < MOST_FILES:
                     ids.setdefault(name.decode("utf-8", "surrogateescape"), set()).add("" if identity == b"-" else identity.decode())
-    return Builds(is_told, ids)
+    return Builds(is_told, ids, stacks)

@@ -1,4 +1,5 @@
 """Rows of a report with the places of their callers, those that are suppressed apart."""
+from types import MappingProxyType
 from typing import NamedTuple
 
 from lines import frames, progress, report
@@ -28,12 +29,13 @@ class What(NamedTuple):
 
 
 class Callers(NamedTuple):
-    """By kind the callers that are shown, in the report's order, and those that are suppressed; what is said of lost blocks; and the
-    blocks and bytes of other callers that only suppressed blocks lead to."""
+    """By kind the callers that are shown, in the report's order, and those that are suppressed; what is said of lost blocks; the blocks
+    and bytes of other callers that only suppressed blocks lead to; and of callers of leaks by their texts what else is to be said."""
     shown: dict
     suppressed: dict
     what: What = What({}, {})
     held: tuple = (0, 0)
+    remarks: MappingProxyType = MappingProxyType({})
 
     def suppressed_sums(self):
         """The blocks that are suppressed, and their bytes."""

@@ -4,7 +4,7 @@ import signal
 import sys
 
 from lines import builds, callers, chains, document, folded, held, html, judging, kernel_words, limited, options, processes
-from lines import progress, report, shown, since, sources, structures, suppressions, tables, what
+from lines import progress, report, shown, signal_stacks, since, sources, structures, suppressions, tables, what
 from lines.options import Refused
 
 
@@ -117,6 +117,7 @@ def run_one(asked, rules):
     read, found = held.suppressed(read, found, facts.top)
     said = what.below_rows(read, facts) if asked.what and not asked.by_structures else said
     found = found._replace(what=callers.What(said, facts.of_block))
+    found = signal_stacks.with_marks(found, read, files.told.stacks)
     lines = tell([files], asked.form == "table") + lines_in(asked, read, found)
     return text_of_lines(lines), judging.status_of(found) if asked.is_judged else 0
 

@@ -51,10 +51,11 @@ def facts_of(caller, said):
     return {"what": found} if said.of_block else {}
 
 
-def caller_of(kind, caller, said):
+def caller_of(kind, caller, said, remark):
     """A row with its frames, as JSON. Frames are many, and mostly the same ones."""
-    address = {"address": caller.row.address} if caller.row.address else {}
-    numbers = json.dumps({**dict(zip(NAMES[kind], caller.row.numbers)), **address, **facts_of(caller, said)})
+    beside = {"address": caller.row.address} if caller.row.address else {}
+    beside.update({"remark": remark} if remark else {})
+    numbers = json.dumps({**dict(zip(NAMES[kind], caller.row.numbers)), **beside, **facts_of(caller, said)})
     return numbers.removesuffix("}") + ', "frames": [' + ", ".join(map(frame_of, caller.places)) + "]}"
 
 
@@ -67,6 +68,6 @@ def head_of(read, found, kind):
 def lines_of(read, found):
     """The document, with a line for each caller, so that line by line is a way to read it too."""
     kind = report.kind_of(read)
-    rows = [caller_of(kind, it, found.what) for it in found.shown.get(kind, [])]
+    rows = [caller_of(kind, it, found.what, found.remarks.get(it.row.text)) for it in found.shown.get(kind, [])]
     first = json.dumps(head_of(read, found, kind)).removesuffix("}") + ', "callers": ['
     return [first] + [row + "," for row in rows[:-1]] + rows[-1:] + ["]}"]

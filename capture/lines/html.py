@@ -1,6 +1,7 @@
 """A report as one page of HTML that needs no network: counts, a table and a flame graph. page.html has all but the data."""
 import json
 import os
+from collections import Counter
 
 from lines import document, folded, report
 
@@ -16,10 +17,11 @@ WARNINGS = {
 }
 
 
-def warnings_of(read):
+def warnings_of(read, remarks):
     """What the report, or leak_find beside it, says against itself."""
     counts = document.counts_of(read)
     counted = [f"{counts[name]} {text}" for name, text in WARNINGS.items() if counts.get(name)]
+    counted += [f"{count} callers: {remark}" for remark, count in Counter(remarks.values()).items()]
     return [document.clean(part.line) for part in read.parts if part.line.startswith(SAID)] + counted
 
 
@@ -42,7 +44,7 @@ def data_of(read, found):
     stacks = [[index.setdefault(place, len(index)) for place in row.places] for row in rows]
     columns = document.NAMES[kind][:len(rows[0].row.numbers) if rows else None]
     return {
-        **document.head_of(read, found, kind), "warnings": warnings_of(read), "columns": columns,
+        **document.head_of(read, found, kind), "warnings": warnings_of(read, found.remarks), "columns": columns,
         "weight": folded.BYTES[kind], "frames": [frame_of(place) for place in index],
         "callers": [{"numbers": row.row.numbers, "address": row.row.address, "frames": stack, "what": what_of(row, found.what)} for row, stack in zip(rows, stacks)],
     }

@@ -16,6 +16,9 @@ WORDS = {
 SUM = re.compile(f"(marked|new|held|then|now) {NUMBER} bytes {NUMBER}")
 HEADS = re.compile("heads [^ ]+|leak [^ ]+ [^ ]+ [^ ]+ (head|held)( .*)?", re.DOTALL)
 
+LEAK = re.compile("leak 0x[0-9a-f]{1,16} ([0-9]+) [0-9]+ (.*)", re.DOTALL)
+KIND = re.compile("head |held ")
+
 # The first words of lines that stand in reports of a kind alone, in this order: "leaked" stands in those of holders too.
 BESIDE = {"then ": "grew", "heads ": "caller", "held ": "in", "leaked ": "holder"}
 
@@ -75,6 +78,12 @@ def read(lines):
             report.parts.append(Part("", kind))
         report.rows[kind].append(row)
     return report
+
+
+def leak_of(line, has_heads):
+    """The size and the caller's text of a line about one leaked block, or (None, None)."""
+    match = LEAK.fullmatch(line)
+    return (match[1], KIND.sub("", match[2], count=1) if has_heads else match[2]) if match else (None, None)
 
 
 def whole(report, kind):

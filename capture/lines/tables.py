@@ -8,20 +8,21 @@ BLOCK = re.compile("leak (0x[0-9a-f]{1,16}) ")
 KIND = re.compile("head |held ")
 
 
-def table_of(read, kind, rows, left_out, said):
+def table_of(read, kind, rows, left_out, found):
     """The lines of the table of a kind, with a last one of the rows that are left out. Callers' tables have a form of their own, which
     is older."""
     whole = report.whole(read, kind)
-    entries = [table.Entry(views.CELLS[kind](caller.row, whole), [place.shown for place in caller.places] + below(caller.row, said))
+    entries = [table.Entry(views.CELLS[kind](caller.row, whole), [place.shown for place in caller.places] + below(kind, caller.row, found))
                for caller in rows]
     is_caller = kind == "caller"
     lines = table.lay_out(views.TITLES[kind], entries, " " if is_caller else "  ", not is_caller)
     return lines + ([views.rest(kind, left_out)] if left_out else [])
 
 
-def below(row, said):
+def below(kind, row, found):
     """What is said of the row's blocks, as further places."""
-    return [("", line) for line in said.below(row)]
+    remark = found.remarks.get(row.text) if kind == "caller" else None
+    return [("", line) for line in found.what.below(row)] + ([("", remark)] if remark else [])
 
 
 def lines_of_leak(line, said):
@@ -52,7 +53,7 @@ def lines_of(read, found, most):
             out += lines_of_leak(part.line, found.what) if not hidden or text_of_leak(part.line, read.has_heads) not in hidden else []
         elif part.kind in found.shown:
             left = [row for row in read.rows[part.kind] if row.text not in hidden]
-            out += table_of(read, part.kind, found.shown[part.kind][:most], left[most or len(left):], found.what)
+            out += table_of(read, part.kind, found.shown[part.kind][:most], left[most or len(left):], found)
     return out
 
 

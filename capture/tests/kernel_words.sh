@@ -62,10 +62,15 @@ for number in 1 300; do
     verdict "$number threads: each stack is told right" "$(awk 'NF == 3 { print 3, $1, $2, 8192 }' threads.out | sort)" \
         "$(words_of threads.core | sed 1d | sort)"
     verdict "$number threads: without calls each counts as lost" "$(yes 8200 | head -n $number | xargs) " "$(lost_by uncalled --no-calls)"
+    verdict "$number threads: and is marked" "$number marked" \
+        "$("$kit/leak_lines" uncalled.report | awk '/ size 8200$/ { blocks = $2 } /may be the alternate signal stack of a thread$/ { print blocks, "marked" }')"
     stop "$process"
 done
 ready ended ./kernel_threads ended 4
-verdict 'stacks of threads that ended are lost' '8200 8200 8200 8200 ' "$(lost_by ended)"
+verdict 'stacks of threads that ended are lost, and are not marked where all threads were asked' '8200 8200 8200 8200  0' \
+    "$(lost_by ended) $("$kit/leak_lines" ended.report | grep -c 'may be')"
+verdict 'nor where they are more than the threads' '8200 8200 8200 8200 8200  0' \
+    "$(lost_by uncalled --no-calls) $("$kit/leak_lines" uncalled.report | grep -c 'may be')"
 stop "$process"
 ready top ./kernel_threads top
 if grep -q refused top.out; then
@@ -81,6 +86,8 @@ else
     verdict 'a thread under seccomp is not called' '8200 ' "$(lost_by seccomp)"
     verdict 'the reason is said' 'leak_core: of 1 of 2 threads it is not known whether they have an alternate signal stack, which only the kernel knows: it is under seccomp' \
         "$(grep 'signal stack' seccomp.said)"
+    verdict 'its stack is marked' 1 "$("$kit/leak_lines" seccomp.report | grep -c 'may be the alternate signal stack of a thread$')"
+    verdict 'JSON has the mark' 1 "$("$kit/leak_lines" --json seccomp.report | grep -c '"remark": "may be the alternate signal stack of a thread"')"
     verdict 'the process lives' 2 "$(ls "/proc/$process/task" | wc -l)"
 fi
 stop "$process"
@@ -144,6 +151,7 @@ if [ "$dumps_core" ]; then
         "$(killed ended ./kernel_threads ended 400)"
     verdict 'those of 330 threads find no room in the table' "$(yes 8192 | head -n 10 | xargs) " "$(killed many ./kernel_threads 330)"
     verdict 'which is known' 10 "$(sed -n 's/^= leak_log signal stacks \([0-9]*\) .*/\1/p' many.log)"
+    verdict 'and they are marked' yes "$("$kit/leak_lines" many.report | grep -q 'may be the alternate signal stack of a thread$' && echo yes)"
 else
     leave_out 'signal stacks by the table: the kernel writes no core here'
 fi

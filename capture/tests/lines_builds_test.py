@@ -28,7 +28,7 @@ class Log(Folder):
 
     def test_build_ids_by_path(self):
         log = b"= leak_log files\n= leak_log file ab01 /a b\n= leak_log file - /c\n@ x + 0x10 0x8\n= leak_log file cd02 /a b\n"
-        self.assertEqual(self.read(log), (True, {"/a b": {"ab01", "cd02"}, "/c": {""}}))
+        self.assertEqual(self.read(log)[:2], (True, {"/a b": {"ab01", "cd02"}, "/c": {""}}))
         self.assertEqual(self.read(b"= leak_log file ? /a\n").ids, {"/a": {"?"}})
 
     def test_what_tells_no_build(self):
@@ -41,7 +41,7 @@ class Log(Folder):
         self.addCleanup(setattr, builds, "PART", most)
         for before in range(130):
             log = b"x" * before + b"\n= leak_log files\n= leak_log file ab01 /a\n" + b"y" * 200 + b"= leak_log file cd02 /b\n"
-            self.assertEqual(self.read(log), (True, {"/a": {"ab01"}}), before)
+            self.assertEqual(self.read(log)[:2], (True, {"/a": {"ab01"}}), before)
 
     def test_only_so_many_files(self):
         log = b"= leak_log files\n" + b"".join(b"= leak_log file ab %d\n" % it for it in range(builds.MOST_FILES + 9))
