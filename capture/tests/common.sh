@@ -103,12 +103,16 @@ settle() {
     echo "process $1 does not come to rest" >&2
 }
 
+# is_program PID: whether leak_trace has become the program, or is gone.
+is_program() { ! grep -qsxE 'leak_trace|bash' "/proc/$1/comm"; }
+
 # start PROGRAM ARGS..: runs it traced in the background, gives its id in `process`, and waits until it rests, or as many
 # seconds as `wait` says.
 start() {
     (cd "$work" && exec "$kit/leak_trace" $options "$@") &
     process=$!
     started[$process]=1
+    until_true 60 is_program $process # leak_trace rests too while it reads what the file says
     if [ "${wait-}" ]; then sleep "$wait"; else settle $process; fi
 }
 
