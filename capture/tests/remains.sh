@@ -3,11 +3,11 @@ section what is left behind
 [ -x plain ] || build plain.c
 [ -x faulty ] || gcc -std=gnu11 -O1 -g -pthread -DFAULT "$kit"/dump/*.c -o faulty
 export LEAK_FIND=$finder
-mkdir -p remains held
-for file in "$kit"/leak_* "$kit/scripts" "$kit/lines"; do ln -sf "$file" held/; done
-rm held/leak_dump held/leak_report held/leak_core
-cp "$kit/leak_dump" "$kit/leak_report" held
-ln -s ../faulty held/leak_core
+mkdir -p remains remains_tools
+for file in "$kit"/leak_* "$kit/scripts" "$kit/lines"; do ln -sf "$file" remains_tools/; done
+rm remains_tools/leak_dump remains_tools/leak_report remains_tools/leak_core
+cp "$kit/leak_dump" "$kit/leak_report" remains_tools
+ln -s ../faulty remains_tools/leak_core
 
 # below PID: the processes that it started, and those that these started.
 below() {
@@ -37,14 +37,14 @@ if [ "$attaches" ]; then
     made=1
     until LEAK_CORE_FAIL=$made limited 20 ./faulty $process none.core 2>&1 | grep -q 'a file is made' || [ $made = 50 ]; do made=$((made + 1)); done
     for signal in TERM INT HUP; do
-        ended_by $signal held/leak_dump $process remains/d1
+        ended_by $signal remains_tools/leak_dump $process remains/d1
         verdict "leak_dump and SIG$signal: the status, the processes, the files" '2 gone ' "$status $(gone) $(ls remains)"
     done
-    ended_by KILL held/leak_dump $process remains/d1
+    ended_by KILL remains_tools/leak_dump $process remains/d1
     verdict 'leak_dump and SIGKILL: leak_core ends too' 'gone ' "$(gone) $(ls remains)"
-    TMPDIR=$work/remains ended_by TERM held/leak_report $process
+    TMPDIR=$work/remains ended_by TERM remains_tools/leak_report $process
     verdict 'leak_report and SIGTERM while it dumps' '2 gone ' "$status $(gone) $(ls remains)"
-    ended_by TERM held/leak_report --keep remains/kept $process
+    ended_by TERM remains_tools/leak_report --keep remains/kept $process
     verdict 'with --keep' '2 gone ' "$status $(gone) $(ls remains)"
     verdict 'the process goes on' 'yes S' "$(kill -0 $process && echo yes) $(awk '$1 == "State:" { print $2 }' /proc/$process/status)"
 
@@ -93,5 +93,5 @@ if [ "$attaches" ]; then
         "$(said=$("$kit/leak_dump" --after remains/d1 $process remains/d1 2>&1); echo "$? $said") $([ -s remains/d1.log ] && echo yes)"
     stop $process
 fi
-rm -rf remains held
+rm -rf remains remains_tools
 unset LEAK_FIND
