@@ -18,18 +18,13 @@ def symbols(path):
     out = subprocess.run(["nm", "-D", "-S", "--defined-only", root + path], capture_output=True, text=True).stdout
     found = [re.fullmatch(r"([0-9a-f]+) ([0-9a-f]+) [TtWwi] ([^@]*)(@.*)?", line) for line in out.split("\n")]
     return [(int(it[1], 16), int(it[2], 16), it[3]) for it in found if it]
-known, right, wrong = {}, 0, 0
-for line in open(table, errors="replace"):
-    match = re.search(r"(\S+)  +(/\S+):\[0x([0-9a-f]+)\]$", line.rstrip("\n"))
-    if not match or "+0x" in match[1]:
-        continue
-    of, at = known.setdefault(match[2], symbols(match[2])), int(match[3], 16) - 1
-    if any(start <= at < start + size and name == match[1] for start, size, name in of):
-        right += 1
-    else:
-        wrong += 1
-        print(f"wrong: {line.strip()}", file=sys.stderr)
-print(f"{right} right {wrong} wrong")
+found = set(re.findall(r"(\S+)  +(/\S+):\[0x([0-9a-f]+)\]$", open(table, errors="replace").read(), re.MULTILINE))
+known = {path: symbols(path) for path in {it[1] for it in found}}
+wrong = [it for it in found if "+0x" not in it[0] and not any(
+    start < int(it[2], 16) <= start + size and name == it[0] for start, size, name in known[it[1]])]
+for it in wrong:
+    print("wrong:", *it, file=sys.stderr)
+print(f"{sum('+0x' not in it[0] for it in found) - len(wrong)} right {len(wrong)} wrong")
 END
 }
 
