@@ -1,7 +1,8 @@
 #!/bin/bash
 # Builds programs whose leaks are known, captures each, and compares leak_find's report with what was lost. Then
 # stops at each instruction, threads, two dumps, crashes, and what keeps a program from being traced. `run.sh --quick`
-# leaves out what takes long. LEAK_FIND names leak_find. The last line is `capture: N passed, M failed`.
+# leaves out what takes long, `run.sh PART..` runs these parts alone. LEAK_FIND names leak_find. The last line is
+# `capture: N passed, M failed`.
 #
 # Dumps are taken by leak_core, which must be allowed to stop a process of ours. If it is not (a container without
 # SYS_PTRACE, kernel.yama.ptrace_scope above 0), the tests kill each program and take the kernel's core, and leave out
@@ -9,11 +10,17 @@
 # needs a dump is left out.
 . "$(dirname "$0")/common.sh"
 quick=
-[ "${1-}" = --quick ] && quick=1
+[ "${1-}" = --quick ] && quick=1 && shift
+wanted=$*
+for name in $wanted; do
+    grep -q "^ *part $name\b" "$kit/tests/run.sh" || { echo "run.sh: no part $name" >&2; exit 2; }
+done
 
-# part NAME [DUMPS]: runs NAME.sh, if the dumps can be had that it needs.
+# part NAME [DUMPS]: runs NAME.sh, if it is wanted and the dumps can be had that it needs. All parts need what the first builds.
 part() {
-    if [ $# = 1 ] || [ "$2" ]; then
+    if [ "$wanted" ] && [[ " built $wanted " != *" $1 "* ]]; then
+        return
+    elif [ $# = 1 ] || [ "$2" ]; then
         . "$kit/tests/$1.sh"
     else
         leave_out "$1.sh, for want of dumps"
