@@ -11,6 +11,7 @@ report  --list           prints a line for each lost block too
 dump    --whole-stack    keeps what lies below the stack pointers, which hides leaks
 dump    --no-calls       makes no system call in the process's threads, and so does not know their alternate signal stacks
 dump    --pipes          counts words that wait in pipes as held
+dump    --hold SECONDS   how long the process may stand still, after which there is no report [20, and 1 for each 32 MiB]
 lines   -n N             shows the first N rows of the table
 lines   --structures     shows a row for each kind of lost structure
 lines   --why N          shows what holds the blocks that those of the first N rows look like
