@@ -38,22 +38,13 @@ static void read_notes(struct core *core, const uint8_t *at, const uint8_t *end)
     }
 }
 
-/* The segments with contents, by ascending start. */
-struct contents {
-    struct file file;
-    struct content {
-        uint64_t start, size, place;
-    } *list;
-    size_t count;
-};
-
 static struct contents contents_of(struct file file, struct headers headers)
 {
     struct contents contents = { file, NULL, 0 };
 
     for (uint64_t i = 0; i < headers.count; i++) {
         Elf64_Phdr p = header_at(file, headers, i);
-        if (p.p_type != PT_LOAD || !p.p_filesz)
+        if (p.p_type != PT_LOAD || !p.p_filesz || p.p_vaddr + p.p_filesz < p.p_vaddr)
             continue;
         contents.list = grown(contents.list, contents.count, sizeof *contents.list);
         contents.list[contents.count++] = (struct content){ p.p_vaddr, p.p_filesz, p.p_offset };
@@ -85,7 +76,6 @@ static struct memory dumped_at(void *core, uint64_t address)
 struct core read_core(const char *path)
 {
     struct core core = { .file = map_file(path) };
-    struct contents contents;
 
     core.headers = headers_of(core.file);
     for (uint64_t i = 0; i < core.headers.count; i++) {
@@ -95,9 +85,8 @@ struct core read_core(const char *path)
     }
     if (!core.parts.count)
         fail("%s: no list of mapped files (NT_FILE)", path);
-    contents = contents_of(core.file, core.headers);
-    sort_parts(&core.parts, dumped_at, &contents);
-    free(contents.list);
+    core.contents = contents_of(core.file, core.headers);
+    sort_parts(&core.parts, dumped_at, &core.contents);
     return core;
 }
 

@@ -7,20 +7,18 @@
 enum { MOST = SMALL_BELOW - 16 };
 
 struct walk {
+    const struct contents *there;
+    size_t content;             /* the first segment that ends after the free words before */
     const struct blocks *live;
     size_t next;                /* the first live block that lies after the words that were looked at */
     uint64_t covered;           /* the end of those before */
     uint64_t from, to;          /* free words in a row */
 };
 
-/* A single word is left out: it is mostly the size that glibc keeps between two blocks, and there is one after
- * every second block. */
-static void write_row(const struct walk *walk)
+static void write_between(uint64_t at, uint64_t end)
 {
-    uint64_t size;
-
-    for (uint64_t at = walk->from; walk->to - walk->from > 8 && at < walk->to; at += size) {
-        size = walk->to - at < MOST ? walk->to - at : MOST;
+    for (uint64_t size; at < end; at += size) {
+        size = end - at < MOST ? end - at : MOST;
         put_hex("+ 0x", at);
         put_hex(" 0x", size);
         put_hex("\n- 0x", at);
@@ -28,9 +26,27 @@ static void write_row(const struct walk *walk)
     }
 }
 
-/* A word that was in a block once: it is free if no block has a byte of it now. One of size 0 counts as one byte. */
+/* What the core has of the row: of other memory no word is read, and a small table may tell of any amount of it. A
+ * single word is left out: it is mostly the size that glibc keeps between two blocks, and there is one after every
+ * second block. */
+static void write_row(struct walk *walk)
+{
+    for (; walk->to - walk->from > 8 && walk->content < walk->there->count; walk->content++) {
+        const struct content *content = walk->there->list + walk->content;
+        uint64_t from = content->start, to = from + content->size;
+        if (from < walk->to)
+            write_between(from < walk->from ? walk->from : from, to < walk->to ? to : walk->to);
+        if (to >= walk->to)
+            return;
+    }
+}
+
+/* A word that was in a block once: it is free if no block has a byte of it now. One of size 0 counts as one byte. A
+ * table that was made by hand may tell of a word again. */
 static void look_at(struct walk *walk, uint64_t word)
 {
+    if (word < walk->to)
+        return;
     for (; walk->next < walk->live->count && walk->live->list[walk->next].start < word + 8; walk->next++) {
         const struct block *block = walk->live->list + walk->next;
         uint64_t end = block->start + (block->size ? block->size : 1);
@@ -93,10 +109,10 @@ static void look_at_leaf(struct walk *walk, const uint64_t *leaf)
 }
 
 /* Writes what is free, given all live blocks by ascending start. */
-void write_freed(struct file file, const struct blocks *live)
+void write_freed(struct file file, const struct core *core, const struct blocks *live)
 {
     const uint64_t **leaves = NULL;
-    struct walk walk = { .live = live };
+    struct walk walk = { .there = &core->contents, .live = live };
     size_t count = find_leaves(file, &leaves);
 
     for (size_t i = 0; i < count; i++)

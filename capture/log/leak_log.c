@@ -124,7 +124,7 @@ int main(int count, char **words)
     tell_kept_out(&blocks);
     tell_allocator(&core, &blocks);
     if (blocks.knows_freed)
-        write_freed(table, &blocks);
+        write_freed(table, &core, &blocks);
     put_stacks_remark(&core.stacks, leave_out_stacks(&fresh, &blocks, (const struct table_head *)table.bytes, &core));
     if (fresh.count)
         qsort(fresh.list, fresh.count, sizeof *fresh.list, by_stamp);

@@ -5,9 +5,19 @@
 #include "../common/common.h"
 #include "../table.h"
 
+/* The segments of a core that have contents, by ascending start. */
+struct contents {
+    struct file file;
+    struct content {
+        uint64_t start, size, place;
+    } *list;
+    size_t count;
+};
+
 struct core {
     struct file file;
     struct headers headers;
+    struct contents contents;
     struct parts parts;
     struct start start;
     int is_whole;               /* by leak_core, which has what the program keeps out of cores */
@@ -54,6 +64,6 @@ struct blocks read_table(struct file file, const struct core *core);
 struct blocks read_log(struct file file);
 
 /* freed.c */
-void write_freed(struct file file, const struct blocks *live);
+void write_freed(struct file file, const struct core *core, const struct blocks *live);
 
 #endif

@@ -174,6 +174,10 @@ python3 "$kit/tests/hostile_cores.py" table asking.table asking.core
 asks_much 'a table of 256 GiB, sparse' 0 20 64 1000 "$kit/leak_log" asking.core asking.table
 python3 "$kit/tests/hostile_cores.py" paths asking.table asking.core
 asks_much '3,000 blocks of 32 callers with a path of 4 KB' 0 20 64 24000000 "$kit/leak_log" asking.core asking.table
+python3 "$kit/tests/hostile_cores.py" leaves asking.table asking.core
+asks_much 'freed memory that the core lacks, or that is told again and again' \
+    0 20 64 200000 "$kit/leak_log" asking.core asking.table
+verdict 'what the core has of it is in the log' 2048 "$(grep -c '^+ 0x55555556.* 0x10$' asked.log)"
 verdict 'a FIFO is no core' 'leak_walk: fifo: no regular file' "$(timeout 10 "$walk" fifo 2>&1)"
 verdict 'nor a table' 'leak_log: fifo: no regular file' "$(timeout 10 "$kit/leak_log" asking.core fifo 2>&1)"
 gcc -O1 -shared -fPIC "$kit/tests/hostile_shrink.c" -o hostile_shrink.so

@@ -7,7 +7,9 @@ each of the mapped files begins with.
 small: nothing of that, for a fuzzer to begin with: blocks, a free chunk in a list, a block with a mapping of its own, two threads, a file.
 hostile_cores.py table TABLE CORE: a table of leak_trace of 256 GiB, sparse, and a core of its process.
 hostile_cores.py few TABLE CORE: a table of three blocks and a leaf, for a fuzzer too, and a core of its process.
-hostile_cores.py paths TABLE CORE: a table whose blocks each have 32 callers in a file with a long path."""
+hostile_cores.py paths TABLE CORE: a table whose blocks each have 32 callers in a file with a long path.
+hostile_cores.py leaves TABLE CORE: a table that tells of freed memory, of 65 MB that the core lacks, and 1,000 times of
+64 KiB that it has."""
 import struct
 import sys
 
@@ -143,6 +145,12 @@ def table(depth, used, entries, leaves=0):
     return bytes(head) + entries
 
 
+def leaves():
+    """Each second piece of a leaf was in a block. Each second leaf tells of the first memory of the heap."""
+    regions = [HEAP >> 16 if i % 2 else (FILE >> 16) + i for i in range(2000)]
+    return b''.join(struct.pack('<65Q', ~region % (1 << 64), *[0x5555555555555555] * 64) for region in regions)
+
+
 def main():
     kind, path = sys.argv[1:3]
     with open(path, 'wb') as file:
@@ -156,15 +164,17 @@ def main():
         elif kind == 'paths':
             entry = struct.pack('<35Q', *[~value % (1 << 64) for value in [0x1000, 16, 1] + [FILE + 64] * 32])
             file.write(table(32, 3000, b''.join(struct.pack('<Q', ~(0x1001 + 32 * i) % (1 << 64) | 1) + entry[8:] for i in range(3000))))
+        elif kind == 'leaves':
+            file.write(table(1, 0, leaves(), 2000))
         elif kind == 'sparse':
             file.write(core(heap_of(1000, 0), b'', hole=1 << 36))
             file.truncate(file.tell() + (1 << 36))
         else:
             file.write(made(kind))
-    if kind in ('table', 'few', 'paths'):
+    if kind in ('table', 'few', 'paths', 'leaves'):
         with open(sys.argv[3], 'wb') as file:
-            name = b'/' + b'x' * (1 if kind == 'few' else 4090)
-            file.write(core(heap_of(10, 0), files([(TABLE, TABLE + (1 << 38), b'/t'), (FILE, FILE + PAGE, name)])))
+            name = b'/' + b'x' * (4090 if kind == 'paths' else 1)
+            file.write(core(heap_of(3000, 0), files([(TABLE, TABLE + (1 << 38), b'/t'), (FILE, FILE + PAGE, name)])))
 
 
 main()

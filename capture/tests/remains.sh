@@ -57,13 +57,15 @@ if [ "$attaches" ]; then
     { wait $asked; status=$?; } 2> /dev/null
     verdict 'leak_report and SIGTERM while it searches' '2 gone searches' "$status $(gone) $(ls remains)"
     rm -f remains/searches
-    for command in "leak_dump --hold 1 $process remains/d1" "leak_report --hold 1 $process" "leak_report --hold=1 $process"; do
-        LEAK_CORE_HANG='the mappings are read' TMPDIR=$work/remains limited 60 remains_tools/$command > held.out 2> held.said
+    export LEAK_CORE_HANG='the mappings are read'
+    for command in "dump --hold 1 $process remains/d1" "report --hold 1 $process" "report --hold=1 $process"; do
+        TMPDIR=$work/remains limited 60 remains_tools/leak_$command > held.out 2> held.said
         status=$?
-        verdict "${command%% *} --hold: the status, what is said, the files" \
+        verdict "leak_${command%% *} --hold: the status, what is said, the files" \
             '2 leak_core: the process stood still for 1 s (--hold) and goes on ' \
             "$status $(grep '^leak_core' held.said | sed 's/ on: .*/ on/') $(ls remains)"
     done
+    unset LEAK_CORE_HANG
     for lines in 1 3; do
         TMPDIR=$work/remains limited 120 "$kit/leak_report" --list $process 2>&1 | head -n $lines > held.out
         verdict "leak_report into head -n $lines" "$lines " "$(wc -l < held.out) $(ls remains)"
