@@ -14,7 +14,7 @@ _leak_options() {
     leak_trace) echo '-o -d -m -w -k -e --list --all --remove' ;;
     leak_dump) echo '--after --core --size --whole-stack --no-calls --pipes --hold' ;;
     leak_log) echo '--after' ;;
-    leak_walk) echo '--partial --quiet --after --arenas' ;;
+    leak_walk) echo '--partial --quiet --names --after --arenas --unused' ;;
     leak_what) echo '--place' ;;
     leak_report) echo "--keep --files --after --root --unchecked --list --whole-stack --no-calls --pipes --hold -n --structures --why $skips --other-heap --check --strict --workers --piece --stack" ;;
     leak_lines) echo '-n --suppress --exit-code --folded --json --html --since --no-lines --what --structures --why --core --log --root --pid --unchecked --copy-files' ;;
@@ -28,7 +28,7 @@ _leak_value() {
     *' --in' | *' --of') echo address ;;
     'leak_report --keep' | 'leak_report --after' | 'leak_lines --root' | 'leak_report --root' | 'leak_lines --copy-files') echo folder ;;
     'leak_dump --size' | 'leak_lines --pid') echo process ;;
-    *' --after' | *' --core' | *' --suppress' | *' --since' | *' --html' | *' --what' | *' --log' | *' -o') echo file ;;
+    *' --names' | *' --unused' | *' --after' | *' --core' | *' --suppress' | *' --since' | *' --html' | *' --what' | *' --log' | *' -o') echo file ;;
     esac
 }
 

@@ -105,6 +105,16 @@ static struct blocks write_old_log(const char *path, const struct blocks *blocks
     return fresh;
 }
 
+/* One line, `@ CALLERS + 0xSTART 0xSIZE`. */
+static void print_block(struct core *core, const struct block *block, uint64_t depth)
+{
+    put_text("@ ");
+    put_callers(&core->parts, core->file.size, block, depth);
+    put_hex(" + 0x", block->start);
+    put_hex(" 0x", block->size);
+    put_text("\n");
+}
+
 int main(int count, char **words)
 {
     int is_later = count == 5 && !strcmp(words[3], "--after");

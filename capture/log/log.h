@@ -2,8 +2,7 @@
 #ifndef LEAK_LOG_H
 #define LEAK_LOG_H
 
-#include "../common/common.h"
-#include "../table.h"
+#include "../common/entries.h"
 
 /* The segments of a core that have contents, by ascending start. */
 struct contents {
@@ -29,12 +28,6 @@ struct core {
     } ids;
 };
 
-/* A block of the table, or of an earlier log: then the stamp counts the lines, and there are no callers. */
-struct block {
-    uint64_t start, size, stamp;
-    const uint64_t *callers;
-};
-
 struct blocks {
     struct block *list;
     size_t count;
@@ -54,9 +47,6 @@ uint64_t kept_out_bytes(const struct core *core, const struct table_head *head);
 
 /* stacks.c */
 uint64_t leave_out_stacks(struct blocks *fresh, const struct blocks *all, const struct table_head *head, const struct core *core);
-
-/* place.c */
-void print_block(struct core *core, const struct block *block, uint64_t depth);
 
 /* blocks.c */
 int by_stamp(const void *a, const void *b);

@@ -3,6 +3,7 @@
 #include <fcntl.h>
 #include <stdlib.h>
 #include <string.h>
+#include <time.h>
 #include <unistd.h>
 
 #include "tables.h"
@@ -37,4 +38,28 @@ struct table_head *read_head(int file)
     for (size_t i = 0; i < MOST_UNTRACED; i++)
         head->untraced[i].program[sizeof head->untraced[i].program - 1] = 0;
     return head;
+}
+
+/* Prints since when the table has blocks, if that is not the process's start, or else how many found no place. */
+int tell_lack(const char *path)
+{
+    struct stat about;
+    int file = open_regular(path, &about);
+    struct table_head *head = file < 0 ? NULL : read_head(file);
+    char when[64] = "";
+
+    if (!head)
+        fail("%s: not a table of leak_trace", path);
+    if (head->began) {
+        time_t began = head->began;
+        struct tm time;
+        if (localtime_r(&began, &time))
+            strftime(when, sizeof when, " at %Y-%m-%d %H:%M:%S", &time);
+        printf("began%s\n", when);
+    } else if (head->missed) {
+        printf("missed %llu blocks\n", (unsigned long long)head->missed);
+    }
+    close(file);
+    free(head);
+    return fflush(stdout) ? 2 : 0;
 }

@@ -1,4 +1,4 @@
-/* leak_tables --list [--all] NAME | --remove NAME | --of PID: the tables of leak_trace.so. leak_trace and leak_dump call it.
+/* leak_tables --list [--all] NAME | --remove NAME | --of PID | --lacks TABLE: the tables of leak_trace.so. leak_trace and leak_dump call it.
  *
  * NAME is the name of the tables, in which %p is the number of a process; without it a dot and the number follow. --of tells which
  * table a process writes, in four lines: `own`, or `other` for that of the process it was cloned from; the path; what to open; and the
@@ -8,13 +8,14 @@
 
 #include "tables.h"
 
-const char program[] = "leak_tables", usage[] = "usage: leak_tables --list [--all] NAME | --remove NAME | --of PID\n", help[] =
+const char program[] = "leak_tables", usage[] = "usage: leak_tables --list [--all] NAME | --remove NAME | --of PID | --lacks TABLE\n", help[] =
     "Shows the tables that leak_trace keeps, or removes those of dead processes. leak_trace and leak_dump call it.\n\n"
     "  NAME      the name of the tables, in which %p is a number\n"
     "  --list    shows those of one's own and of processes that live\n"
     "  --all     shows all\n"
     "  --remove  removes those whose processes are dead; what may live in another container stays\n"
-    "  --of      tells the table that a process writes\n\n"
+    "  --of      tells the table that a process writes\n"
+    "  --lacks   tells why a table has not all blocks\n\n"
     "status: 0; 1 if there is none, or one can't be removed; 2 with a line on standard error\n";
 
 int main(int count, char **words)
@@ -27,5 +28,7 @@ int main(int count, char **words)
         return remove_tables(words[2]);
     if (count == 3 && !strcmp(words[1], "--of") && atoi(words[2]) > 0)
         return tell_own(atoi(words[2]));
+    if (count == 3 && !strcmp(words[1], "--lacks"))
+        return tell_lack(words[2]);
     refuse_words(count, words);
 }

@@ -37,6 +37,7 @@ struct shared {
 /* head.c */
 int open_regular(const char *path, struct stat *about);
 struct table_head *read_head(int file);
+int tell_lack(const char *path);
 
 /* maps.c */
 FILE *open_maps(pid_t process);

@@ -1,4 +1,4 @@
-/* expect: 45 61 77 93 109 125 141 157 */
+/* expect: 45 61 77 93 109 125 141 157 189 */
 /* The only pointers to what is lost are left in freed memory, which leak_find --skip-freed leaves out. `freed child` does
  * it in a child of fork, which also frees what the parent allocated. */
 #include <malloc.h>
@@ -58,8 +58,8 @@ __attribute__((noinline)) static void last_word(void)
     p[2] = malloc(157);
     free((void *)p);
 }
-/* From 128 KiB on freed memory is left alone, even if it is not mapped by itself. It comes last, for memory that was
- * never in a small block. */
+/* From 128 KiB on a table tells no freed memory, but the heap does. It comes last, for memory that was never in a small
+ * block. */
 __attribute__((noinline)) static void large(void)
 {
     void *volatile *p = before_a_held_block(malloc(150000));

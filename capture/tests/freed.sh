@@ -62,13 +62,15 @@ for name in fast mapped; do
     stop $process
 done
 
-# If a block is just being moved, or one found no place in the table, no memory is said to be free.
+# If a block is just being moved, the table knows of no free memory, but the heap does.
 if [ "$attaches" ]; then
     build moving.c
     gcc -O1 -shared -fPIC "$kit/tests/stopped.c" -o stopped.so
     LD_PRELOAD=$work/stopped.so start ./moving
     limited 120 "$kit/leak_dump" $process "$work/moving" 2> said
-    verdict "while realloc moves a block: malloc's own words alone" '1 spans, 2200 bytes' "$(python3 "$kit/tests/spans.py" moving.log | sed 's/, over.*//')"
+    "$kit/leak_walk" --unused moving.table moving.core > moving.unused
+    verdict "while realloc moves a block: the heap's free memory alone" same "$(grep '^[-+] 0x' moving.log | cmp - moving.unused && echo same)"
     verdict 'it is said' 1 "$(grep -c 'just being moved by realloc' said)"
+    verdict 'what the block holds is not named' '' "$(find_leaks one --skip-freed --skip-links moving.core moving.log > moving.report; named moving.report)"
 fi
 rm -f ./*.core

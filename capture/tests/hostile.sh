@@ -172,6 +172,7 @@ python3 "$kit/tests/hostile_cores.py" names asking.core
 verdict 'a name with control characters' 'leak_walk: /x/libjemalloc\x1b[31m.so: its blocks are not in the log' "$("$walk" --quiet asking.core 2>&1 > asked.log)"
 python3 "$kit/tests/hostile_cores.py" table asking.table asking.core
 asks_much 'a table of 256 GiB, sparse' 0 20 64 1000 "$kit/leak_log" asking.core asking.table
+asks_much 'the same, for callers' 0 20 64 1000 "$walk" --names asking.table asking.core
 python3 "$kit/tests/hostile_cores.py" paths asking.table asking.core
 asks_much '3,000 blocks of 32 callers with a path of 4 KB' 0 20 64 24000000 "$kit/leak_log" asking.core asking.table
 python3 "$kit/tests/hostile_cores.py" leaves asking.table asking.core

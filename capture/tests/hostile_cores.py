@@ -141,7 +141,7 @@ def made(kind):
 def table(depth, used, entries, leaves=0):
     """A table: the head, the entries, and after them the leaves (table.h)."""
     head = bytearray(16384)
-    struct.pack_into('<8sQQQQQQQQQ', head, 0, b'leaktab6', 1, depth, TABLE, used, 0, 0, 0, 16384 + used * 8 * (3 + depth) if leaves else 16384, leaves)
+    struct.pack_into('<8sQQQQQQQQQ', head, 0, b'leaktab7', 1, depth, TABLE, used, 0, 0, 0, 16384 + used * 8 * (3 + depth) if leaves else 16384, leaves)
     return bytes(head) + entries
 
 

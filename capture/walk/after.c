@@ -12,10 +12,10 @@ static int by_start_and_line(const void *a, const void *b)
     return x->start != y->start ? (x->start < y->start ? -1 : 1) : (x->line > y->line) - (x->line < y->line);
 }
 
-static void add(struct old_log *log, uint64_t start, uint64_t size)
+static void add(struct old_log *log, uint64_t start, uint64_t size, int has_callers)
 {
     log->list = grown(log->list, log->count, sizeof *log->list);
-    log->list[log->count] = (struct old_block){ start, size, log->count, 0 };
+    log->list[log->count] = (struct old_block){ start, size, log->count, has_callers, 0 };
     log->count++;
 }
 
@@ -31,8 +31,21 @@ static int add_block(struct old_log *log, const char *at, const char *stop)
     start = strtoull(place + strlen("+ 0x"), &rest, 16);
     if (!begins(rest, stop, " 0x"))
         return 0;
-    add(log, start, strtoull(rest + strlen(" 0x"), NULL, 16));
+    add(log, start, strtoull(rest + strlen(" 0x"), NULL, 16), !begins(at, stop, "@ size "));
     return 1;
+}
+
+/* The last one counts: that of the newest moment. */
+static void read_names_remark(struct old_log *log, const char *at, const char *stop)
+{
+    static const char names[] = "= leak_log names since ", moment[] = " moment 0x";
+    char *rest;
+
+    if (!begins(at, stop, names))
+        return;
+    strtoull(at + strlen(names), &rest, 10);
+    log->has_names = begins(rest, stop, moment);
+    log->moment = log->has_names ? strtoull(rest + strlen(moment), NULL, 16) : 0;
 }
 
 /* Reads a line. Memory that was free then begins and ends at once, and is no block. */
@@ -43,13 +56,14 @@ static int read_line(struct old_log *log, const char *at, const char *stop, uint
 
     if (begins(at, stop, own))
         log->arena = strtoull(at + strlen(own), NULL, 16);
+    read_names_remark(log, at, stop);
     if (begins(at, stop, "= "))
         return 1;
     if (!begins(at, stop, "+ 0x") && !begins(at, stop, "- 0x"))
         return add_block(log, at, stop);
     start = strtoull(at + strlen("+ 0x"), NULL, 16);
     if (*at == '-' && start != *freed)
-        add(log, start, 0);
+        add(log, start, 0, 0);
     *freed = *at == '+' ? start : 0;
     return 1;
 }
@@ -87,18 +101,31 @@ struct old_log read_old_log(const char *path)
 struct matcher {
     struct visitor visitor;     /* comes first */
     struct old_log *old;
+    struct names *names;
+    struct core *core;
     size_t next;
 };
+
+/* Whether the callers that the earlier log tells, or that it tells none, may still be said of the block: the table has it from before that
+ * moment, or neither knows who asked for it. */
+static int has_same_callers(struct matcher *m, const struct old_block *old)
+{
+    const struct block *now = name_of_block(m->names, m->core, old->start, old->size);
+
+    return !m->old->has_names || (now ? now->stamp <= m->old->moment : !old->has_callers);
+}
 
 /* A block with the start and the size of an old one is that one. */
 static void match(struct visitor *visitor, uint64_t start, uint64_t size)
 {
     struct matcher *m = (struct matcher *)visitor;
+    struct old_block *old;
 
     while (m->next < m->old->count && m->old->list[m->next].start < start)
         m->next++;
-    if (m->next < m->old->count && m->old->list[m->next].start == start)
-        m->old->list[m->next].is_same = m->old->list[m->next].size == size;
+    old = m->old->list + m->next;
+    if (m->next < m->old->count && old->start == start)
+        old->is_same = old->size == size && has_same_callers(m, old);
 }
 
 static void pass(struct visitor *visitor, uint64_t from, uint64_t to)
@@ -107,9 +134,9 @@ static void pass(struct visitor *visitor, uint64_t from, uint64_t to)
 }
 
 /* Writes the earlier log, and ends each of its blocks that is no longer there. */
-void write_old_log(struct heap *heap, struct old_log *old)
+void write_old_log(struct heap *heap, struct old_log *old, struct names *names)
 {
-    struct matcher m = { .visitor = { match, pass }, .old = old };
+    struct matcher m = { .visitor = { match, pass }, .old = old, .names = names, .core = heap->core };
 
     visit(heap, &m.visitor);
     put_bytes(old->file.bytes, old->file.size);

@@ -1,8 +1,8 @@
-/* leak_walk [--partial] [--quiet] [--after LOG] CORE | --arenas CORE: walks the heap of glibc's malloc inside a core,
- * and writes a log in mtrace's format for leak_find: which blocks were in use, and which memory was free. It needs no
- * symbols and no version, and the process no preparation. With --after it writes LOG first, which it made of an earlier
- * core of the same process, and then what came and went since. With --arenas it writes malloc's own words alone, for
- * the log of a table. */
+/* leak_walk [--partial] [--quiet] [--names TABLE] [--after LOG] CORE | --arenas CORE | --unused TABLE CORE: walks the heap of
+ * glibc's malloc inside a core, and writes a log in mtrace's format for leak_find: which blocks were in use, and which memory
+ * was free. It needs no symbols and no version, and the process no preparation. With --names a table of leak_trace.so tells who
+ * asked for blocks. With --after it writes LOG first, which it made of an earlier core of the same process, and then what came
+ * and went since. With --arenas it writes malloc's own words alone, and with --unused what was free too, for the log of a table. */
 #include <stdio.h>
 #include <stdlib.h>
 
@@ -11,13 +11,16 @@
 enum { COMPLETE = 0, PARTIAL = 1 };
 
 const char program[] = "leak_walk",
-    usage[] = "usage: leak_walk [--partial] [--quiet] [--after LOG] CORE | leak_walk --arenas CORE\n", help[] =
+    usage[] = "usage: leak_walk [--partial] [--quiet] [--names TABLE] [--after LOG] CORE | leak_walk --arenas CORE | "
+              "leak_walk --unused TABLE CORE\n", help[] =
     "Writes to standard output a log of the blocks that were in use in the heap of glibc's malloc, for leak_find.\n\n"
-    "  CORE         a core of the process: by leak_core, gcore or the kernel\n"
-    "  --after LOG  writes LOG first, made of an earlier core of the same process, and then what came and went since\n"
-    "  --partial    goes on if the heap is damaged, and says what is left out\n"
-    "  --arenas     writes of the heap only where malloc's own lists begin, as freed memory\n"
-    "  --quiet      does not say how many blocks, arenas and free chunks there are\n\n"
+    "  CORE            a core of the process: by leak_core, gcore or the kernel\n"
+    "  --names TABLE   tells who asked for blocks, by a table of leak_trace of the same moment\n"
+    "  --after LOG     writes LOG first, made of an earlier core of the same process, and then what came and went since\n"
+    "  --partial       goes on if the heap is damaged, and says what is left out\n"
+    "  --arenas        writes of the heap only where malloc's own lists begin, as freed memory\n"
+    "  --unused TABLE  writes what was free too, if heap and table agree on the blocks\n"
+    "  --quiet         does not say how many blocks, arenas and free chunks there are\n\n"
     "status: 0; 1 if --partial left something out; 2 if there is no log, with a line on standard error\n";
 
 static int may_be_partial, is_partial;
@@ -116,63 +119,108 @@ static void tell(const struct heap *heap)
         warn("the log is not complete: %llu bytes of the heap are left out", (unsigned long long)heap->left_out);
 }
 
-static int is_of_arenas(int count, char **words)
+struct request {
+    const char *core, *earlier, *names;
+    int is_quiet, is_of_arenas, is_of_unused;
+};
+
+/* Reads an option and its value, and gives how many words they are, or 0. */
+static int read_option(int count, char **words, struct request *request)
 {
-    return count == 3 && !strcmp(words[1], "--arenas");
+    const char *value = count > 2 ? words[1] : NULL;
+
+    if (!strcmp(words[0], "--partial"))
+        return may_be_partial = 1;
+    if (!strcmp(words[0], "--quiet"))
+        return request->is_quiet = 1;
+    if (!strcmp(words[0], "--after") && value)
+        return request->earlier = value, 2;
+    if (!strcmp(words[0], "--names") && value)
+        return request->names = value, 2;
+    return 0;
 }
 
-/* Reads the options, and gives the core's path, or NULL. */
-static const char *read_arguments(int count, char **words, int *is_quiet, const char **earlier)
+/* Reads the words; without a core they are wrong. */
+static struct request read_request(int count, char **words)
 {
-    int i = 1;
+    struct request request = { 0 };
+    int at = 1, read;
 
-    if (is_of_arenas(count, words))
-        return words[2];
-    for (; i < count && words[i][0] == '-'; i++)
-        if (!strcmp(words[i], "--partial"))
-            may_be_partial = 1;
-        else if (!strcmp(words[i], "--quiet"))
-            *is_quiet = 1;
-        else if (!strcmp(words[i], "--after") && i + 1 < count)
-            *earlier = words[++i];
-        else
-            return NULL;
-    return i + 1 == count ? words[i] : NULL;
+    if (count == 3 && !strcmp(words[1], "--arenas"))
+        return (struct request){ .core = words[2], .is_of_arenas = 1 };
+    if (count == 4 && !strcmp(words[1], "--unused"))
+        return (struct request){ .core = words[3], .names = words[2], .is_of_unused = 1 };
+    for (; at < count && words[at][0] == '-'; at += read)
+        if (!(read = read_option(count - at, words + at, &request)))
+            return request;
+    if (at + 1 == count)
+        request.core = words[at];
+    return request;
+}
+
+static void write_old(struct heap *heap, const char *path, struct old_log *old, struct names *names)
+{
+    *old = read_old_log(path);
+    if (!arena_at(heap, old->arena) || arena_at(heap, old->arena)->first_heap)
+        fail("%s: the earlier log is of another process", path);
+    if (names->head && !old->has_names)
+        fail("%s: the earlier log is by the heap alone: make both of them with --names, or none", path);
+    write_old_log(heap, old, names);
+}
+
+static void tell_totals(const struct heap *heap, const struct totals *totals, const struct names *names)
+{
+    warn("%llu blocks of %llu bytes in use; %zu arenas; %llu free chunks of %llu bytes", (unsigned long long)totals->blocks,
+         (unsigned long long)totals->bytes, heap->arena_count, (unsigned long long)totals->free_count,
+         (unsigned long long)totals->free_bytes);
+    if (names->head)
+        warn("of %zu blocks of the table the heap has %zu: of these the callers are known", names->entries, names->fitting);
+}
+
+/* Writes malloc's own words, and with a table that agrees with the heap all that was free. */
+static void write_beside(struct heap *heap, const struct request *request)
+{
+    struct names names;
+
+    if (request->is_of_arenas) {
+        find_arenas(heap);
+        write_arenas(heap);
+    } else {
+        walk(heap);
+        names = read_names(request->names, heap->core);
+        match_names(heap, &names);
+        if (names.fitting != names.entries)
+            fail("%s: table and heap do not agree", names.path);
+        write_unused(heap);
+    }
+    put_end();
 }
 
 int main(int count, char **words)
 {
-    int is_quiet = 0;
-    const char *earlier = NULL, *path = read_arguments(count, words, &is_quiet, &earlier);
+    struct request request = read_request(count, words);
     struct old_log old = { 0 };
+    struct names names = { 0 };
 
-    if (!path)
+    if (!request.core)
         refuse_words(count, words);
-    struct core core = read_core(path);
+    struct core core = read_core(request.core);
     struct heap heap = { .core = &core };
-    if (is_of_arenas(count, words)) {
-        find_arenas(&heap);
-        write_arenas(&heap);
-        put_end();
-        return COMPLETE;
-    }
+    if (request.is_of_arenas || request.is_of_unused)
+        return write_beside(&heap, &request), COMPLETE;
     walk(&heap);
-    if (earlier) {
-        old = read_old_log(earlier);
-        if (!arena_at(&heap, old.arena) || arena_at(&heap, old.arena)->first_heap)
-            fail("%s: the earlier log is of another process", earlier);
-        write_old_log(&heap, &old);
-    } else {
+    if (request.names)
+        names = read_names(request.names, &core), match_names(&heap, &names);
+    if (request.earlier)
+        write_old(&heap, request.earlier, &old, &names);
+    else
         put_text("= Start\n");
-    }
     put_files(&core.parts);
     put_allocators(&core);
-    struct totals totals = write_log(&heap, &old);
+    struct totals totals = write_log(&heap, &old, &names);
     put_end();
-    if (!is_quiet)
-        warn("%llu blocks of %llu bytes in use; %zu arenas; %llu free chunks of %llu bytes", (unsigned long long)totals.blocks,
-             (unsigned long long)totals.bytes, heap.arena_count, (unsigned long long)totals.free_count,
-             (unsigned long long)totals.free_bytes);
+    if (!request.is_quiet)
+        tell_totals(&heap, &totals, &names);
     tell_undumped_files(core.file, &core.parts, core.is_by_leak_core, NULL);
     tell(&heap);
     return is_partial ? PARTIAL : COMPLETE;

@@ -9,9 +9,16 @@ struct writer {
     struct visitor visitor;     /* comes first */
     struct heap *heap;
     const struct old_log *old;
+    struct names *names;
     size_t next;                /* the first old block that is not below those that were visited */
     struct totals totals;
 };
+
+static void put_size(uint64_t size)
+{
+    put_text("size ");
+    put_number(size);
+}
 
 /* By its first word, if that is an address in a mapped file: of a C++ object its class's table, of others what tells
  * their kind. An address of code is written one further, as a caller's return address would be: so leak_lines tells the right
@@ -27,9 +34,19 @@ static void put_what(struct heap *heap, uint64_t start, uint64_t size)
         put_hex(":[0x", first + part->bias + (s && s->is_code));
         put_text("]");
     } else {
-        put_text("size ");
-        put_number(size);
+        put_size(size);
     }
+}
+
+/* Its callers, if a table has them. Then a place in a file is a caller's, and no block has another one. */
+static void put_name(struct writer *w, uint64_t start, uint64_t size)
+{
+    const struct block *found = name_of_block(w->names, w->heap->core, start, size);
+
+    if (found)
+        put_callers(&w->heap->core->parts, w->heap->core->file.size, found, w->names->head->depth);
+    else
+        put_size(size);
 }
 
 static void put_block(struct visitor *visitor, uint64_t start, uint64_t size)
@@ -43,7 +60,10 @@ static void put_block(struct visitor *visitor, uint64_t start, uint64_t size)
     if (w->next < w->old->count && w->old->list[w->next].start == start && w->old->list[w->next].is_same)
         return;
     put_text("@ ");
-    put_what(w->heap, start, size);
+    if (w->names->head)
+        put_name(w, start, size);
+    else
+        put_what(w->heap, start, size);
     put_hex(" + 0x", start);
     put_hex(" 0x", size);
     put_text("\n");
@@ -85,11 +105,26 @@ void write_arenas(struct heap *heap)
     visit_arenas(heap, &w.visitor);
 }
 
-/* Writes what is in use and what is free; of blocks that the old log has too, nothing. */
-struct totals write_log(struct heap *heap, const struct old_log *old)
+static void pass_block(struct visitor *visitor, uint64_t start, uint64_t size)
 {
-    struct writer w = { .visitor = { put_block, put_unused }, .heap = heap, .old = old };
+    (void)visitor, (void)start, (void)size;
+}
 
+/* Writes what is free, and malloc's own words. */
+void write_unused(struct heap *heap)
+{
+    struct writer w = { .visitor = { pass_block, put_unused }, .heap = heap };
+
+    visit(heap, &w.visitor);
+}
+
+/* Writes what is in use and what is free; of blocks that the old log has too, nothing. */
+struct totals write_log(struct heap *heap, const struct old_log *old, struct names *names)
+{
+    struct writer w = { .visitor = { put_block, put_unused }, .heap = heap, .old = old, .names = names };
+
+    if (names->head)
+        put_names_remark(names);
     put_hex("= leak_walk arena 0x", main_arena(heap)->start);
     put_text("\n");
     put_stacks_remark(&heap->core->stacks, unknown_stacks(&heap->core->stacks));

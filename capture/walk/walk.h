@@ -4,7 +4,7 @@
 
 #include <string.h>
 
-#include "../common/common.h"
+#include "../common/entries.h"
 
 #define HEAP_BYTES ((uint64_t)64 << 20) /* glibc, malloc/arena.c, HEAP_MAX_SIZE */
 
@@ -238,15 +238,32 @@ void find_mapped(struct heap *heap);
 void visit(struct heap *heap, struct visitor *visitor);
 void visit_arenas(const struct heap *heap, struct visitor *visitor);
 
+/* names.c */
+struct names {
+    const char *path;
+    const struct table_head *head;  /* NULL: there is no table */
+    struct block *list;         /* by ascending start; of each start one */
+    size_t count, entries;      /* of the list, and of the table */
+    size_t fitting;             /* of these the heap has the block */
+    uint64_t moment;            /* the newest stamp */
+};
+
+struct names read_names(const char *path, const struct core *core);
+const struct block *name_of_block(struct names *names, struct core *core, uint64_t start, uint64_t size);
+void match_names(struct heap *heap, struct names *names);
+void put_names_remark(const struct names *names);
+
 /* log.c, after.c */
 struct old_block {
     uint64_t start, size, line; /* size 0: it ends here */
-    int is_same;
+    int has_callers, is_same;
 };
 
 struct old_log {
     struct file file;
     uint64_t arena;             /* the main arena of its process */
+    int has_names;              /* are its texts callers, by a table? */
+    uint64_t moment;            /* then the newest stamp of that */
     struct old_block *list;     /* live blocks by ascending start */
     size_t count;
 };
@@ -256,8 +273,9 @@ struct totals {
 };
 
 struct old_log read_old_log(const char *path);
-void write_old_log(struct heap *heap, struct old_log *old);
-struct totals write_log(struct heap *heap, const struct old_log *old);
+void write_old_log(struct heap *heap, struct old_log *old, struct names *names);
+struct totals write_log(struct heap *heap, const struct old_log *old, struct names *names);
 void write_arenas(struct heap *heap);
+void write_unused(struct heap *heap);
 
 #endif
