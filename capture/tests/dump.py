@@ -2,7 +2,8 @@
 dump.py word CORE ADDRESS..: the words there, `absent` where no segment has them.
 dump.py vector CORE: the upper half of ymm8 of each thread where it is not 0, and how often the core has its bytes in all.
 dump.py notes CORE: the types of the notes, in order; `own` is that of leak_core's own.
-dump.py sizes CORE: segments, bytes of them, writable bytes that are listed without contents."""
+dump.py sizes CORE: segments, bytes of them, writable bytes that are listed without contents.
+dump.py order CORE: `first` if program headers and notes stand before all memory, and this by ascending address; else what does not."""
 import struct
 import sys
 
@@ -38,6 +39,18 @@ def word(core, address):
     return 'absent'
 
 
+def order(core):
+    """What keeps a reader that goes from the beginning to the end from knowing what comes."""
+    loads = [(offset, address, filed) for kind, _, offset, address, filed, _ in headers(core) if kind == PT_LOAD and filed]
+    begin = min(load[0] for load in loads)
+    if struct.unpack_from('<Q', core, 32)[0] >= begin:
+        return 'headers last'
+    if any(offset + filed > begin for kind, _, offset, _, filed, _ in headers(core) if kind == PT_NOTE):
+        return 'notes last'
+    ascend = all(a[0] + a[2] <= b[0] and a[1] + a[2] <= b[1] for a, b in zip(loads, loads[1:]))
+    return 'first' if ascend else 'memory is not in order'
+
+
 def main():
     with open(sys.argv[2], 'rb') as file:
         core = file.read()
@@ -46,6 +59,8 @@ def main():
     elif sys.argv[1] == 'vector':
         uppers = [content[YMM_UPPER + 8 * 16:][:8] for number, content in notes(core) if number == NT_X86_XSTATE]
         print(*[upper[::-1].hex() + ' ' + str(core.count(upper)) for upper in uppers if any(upper)])
+    elif sys.argv[1] == 'order':
+        print(order(core))
     elif sys.argv[1] == 'notes':
         print(*[hex(number) if number else 'own' for number, _ in notes(core)])
     elif sys.argv[1] == 'sizes':

@@ -38,6 +38,7 @@ verdict 'the same by page maps' "$(reads sizes kinds.core) $words" \
     "$(reads sizes old.core) $(reads word old.core $(awk 'NF == 2 { print $2 }' kinds.out))"
 verdict 'nothing is undumped' 0 "$(reads sizes kinds.core | cut -d ' ' -f 3)"
 verdict 'no more bytes than are there' yes "$(takes_no_more kinds.core "$kinds")"
+verdict 'the program headers come first, and memory by its address' first "$(reads order kinds.core)"
 verdict 'the order of the notes' '0x1 0x3 0x53494749 0x6 0x46494c45 own own 0x2 0x202 0x1 0x2 0x202' "$(reads notes kinds.core | cut -d ' ' -f 1-12)"
 if grep -qw avx2 /proc/cpuinfo; then
     verdict 'the upper half of ymm8, there alone' 'fedcba9876543210 1' "$(reads vector kinds.core)"
@@ -164,6 +165,7 @@ stop "$process"
 reads_many() {
     core_of "$process" many.core
     verdict "$1: segments" yes "$([ "$(reads sizes many.core | cut -d ' ' -f 1)" -ge 70000 ] && echo yes)"
+    verdict "$1: its program headers come first" first "$(reads order many.core)"
     verdict "$1: readelf finds as many" "$(reads sizes many.core | cut -d ' ' -f 1)" "$(readelf -lW many.core 2> said | grep -c '^  LOAD')"
     : > many.log
     find_leaks one many.core many.log > many.report 2>&1

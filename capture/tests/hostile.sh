@@ -23,6 +23,14 @@ if grep -qx ready pages.out; then
     verdict 'it is told' $(((15 + 15 + 13) * 4096)) "$(sed -n 's/^leak_core: \([0-9]*\) bytes are not there, and the program is to supply.*/\1/p' pages.said)"
     verdict 'what can not be read is told too' $((3 * 4096)) "$(sed -n 's/^leak_core: \([0-9]*\) bytes could not be read.*/\1/p' pages.said)"
     verdict 'the process goes on' yes "$(freed_within 5 "$process")"
+    verdict 'the program headers come first' first "$(reads order pages.core)"
+    stop "$process"
+    be_ready pages ./hostile_pages many
+    limited 20 "$kit/leak_core" "$process" pages.core 2> pages.said
+    verdict 'where pages make more of them than there is room for, last' "0 headers last" "$? $(reads order pages.core)"
+    verdict 'and each is there' $((512 * 4096)) "$(sed -n 's/^leak_core: \([0-9]*\) bytes could not be read.*/\1/p' pages.said)"
+    limited 20 gdb -batch -ex 'info registers rip' ./hostile_pages pages.core > pages.gdb 2>&1
+    verdict 'gdb reads it' 1 "$(grep -c '^rip ' pages.gdb)"
 else
     leave_out "pages under userfaultfd: $(cat pages.out)"
 fi
@@ -172,7 +180,7 @@ python3 "$kit/tests/hostile_cores.py" names asking.core
 verdict 'a name with control characters' 'leak_walk: /x/libjemalloc\x1b[31m.so: its blocks are not in the log' "$("$walk" --quiet asking.core 2>&1 > asked.log)"
 python3 "$kit/tests/hostile_cores.py" table asking.table asking.core
 asks_much 'a table of 256 GiB, sparse' 0 20 64 1000 "$kit/leak_log" asking.core asking.table
-asks_much 'the same, for callers' 0 20 64 1000 "$walk" --names asking.table asking.core
+asks_much 'the same, for callers' 0 20 64 200000 "$walk" --names asking.table asking.core
 python3 "$kit/tests/hostile_cores.py" paths asking.table asking.core
 asks_much '3,000 blocks of 32 callers with a path of 4 KB' 0 20 64 24000000 "$kit/leak_log" asking.core asking.table
 python3 "$kit/tests/hostile_cores.py" leaves asking.table asking.core
