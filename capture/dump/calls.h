@@ -24,6 +24,7 @@ static const uint64_t ANSWER = ~(uint64_t)0;
 struct code {
     uint64_t call;          /* syscall; ret */
     uint64_t handler_end;   /* mov $15, %rax; syscall (rt_sigreturn) */
+    bool is_late;           /* its disk did not answer in time */
 };
 
 struct call {

@@ -1,14 +1,22 @@
-/* The two short pieces of the C library's code that calls go by. They are looked for before the process is stopped. */
+/* The two short pieces of the C library's code that calls go by. They are looked for before the process is stopped, by a
+ * process beside this one: it alone waits if a file is of a disk that does not answer. */
 #define _GNU_SOURCE
+#include <errno.h>
+#include <fcntl.h>
 #include <inttypes.h>
+#include <poll.h>
+#include <signal.h>
 #include <stdio.h>
 #include <stdlib.h>
 #include <string.h>
+#include <sys/prctl.h>
 #include <sys/uio.h>
+#include <sys/wait.h>
+#include <unistd.h>
 
 #include "calls.h"
 
-enum { PIECE = 1 << 16, OVERLAP = 16, MOST_BYTES = 64 << 20 };
+enum { PIECE = 1 << 16, OVERLAP = 16, MOST_BYTES = 64 << 20, SEARCH_MS = 2000, LOOK_MS = 20 };
 
 static const char CALL[] = "\x0f\x05\xc3", HANDLER_END[] = "\x48\xc7\xc0\x0f\x00\x00\x00\x0f\x05";
 
@@ -40,7 +48,8 @@ static void find_in(pid_t process, uint64_t start, uint64_t end, struct code *co
 
     for (uint64_t at = start; at < end && !(code->call && code->handler_end); at += PIECE) {
         size_t size = end - at < sizeof bytes ? end - at : sizeof bytes;
-        ssize_t got = read_code(process, at, bytes, size);
+        struct iovec here = { bytes, size }, there = { (void *)at, size };
+        ssize_t got = process_vm_readv(process, &here, 1, &there, 1, 0);
         if (got <= 0)
             return;
         const uint8_t *call = memmem(bytes, got, CALL, sizeof CALL - 1);
@@ -75,15 +84,51 @@ static void find_in_files(pid_t process, struct text maps, bool is_library, stru
     }
 }
 
-struct code find_code(pid_t process)
+static struct code find_now(pid_t process)
 {
-    struct code code = { 0 };
     struct text maps = read_text("/proc/%d/maps", process);
+    struct code code = { 0 };
 
     find_in_files(process, maps, true, &code);
     if (!code.call || !code.handler_end)
         find_in_files(process, maps, false, &code);
-    free(maps.bytes);
+    return code;
+}
+
+/* Does the answer come in time? */
+static bool get_answer(int from, struct code *code)
+{
+    struct timespec since;
+
+    clock_gettime(CLOCK_MONOTONIC, &since);
+    while (milliseconds_since(since) < SEARCH_MS) {
+        end_if_asked();
+        if (poll(&(struct pollfd){ .fd = from, .events = POLLIN }, 1, LOOK_MS) > 0)
+            return read(from, code, sizeof *code) == sizeof *code;
+    }
+    fprintf(stderr, "leak_core: the code of the process could not be read in %d s: its disk does not answer\n", SEARCH_MS / 1000);
+    return false;
+}
+
+struct code find_code(pid_t process)
+{
+    struct code code = { 0 };
+    int ends[2];
+    pid_t searcher = pipe2(ends, O_CLOEXEC) ? -1 : fork();
+
+    if (searcher < 0)
+        fail("no process can be started: %s", strerror(errno));
+    if (!searcher) {
+        prctl(PR_SET_PDEATHSIG, SIGKILL);
+        code = find_now(process);
+        _exit(write(ends[1], &code, sizeof code) != sizeof code);
+    }
+    close(ends[1]);
+    if (!get_answer(ends[0], &code))
+        code = (struct code){ .is_late = true };
+    kill(searcher, SIGKILL);
+    waitpid(searcher, NULL, code.is_late ? WNOHANG : 0);
+    close(ends[0]);
     return code;
 }
 

@@ -126,7 +126,7 @@ static void add_stack(struct call *call, struct words *words)
 void ask_signal_stacks(struct process *process, const struct maps *maps, const struct code *found, struct words *words)
 {
     struct call *calls = calloc(process->count, sizeof *calls);
-    struct code code = has_code(process->witness, found) ? *found : find_code(process->witness);
+    struct code code = found->is_late || has_code(process->witness, found) ? *found : find_code(process->witness);
     bool is_there = code.call && code.handler_end;
 
     if (!calls)

@@ -111,6 +111,23 @@ verdict '12,000 files that look like tables: at most 10 s of standstill' yes "$(
 stop "$process"
 rm -rf tables x.core
 
+if be_ready disk ./hostile_disk hung 15 libc.so.6 && grep -qx ready disk.out; then
+    disk=$process
+    be_ready mapper python3 -c 'import mmap, os, signal, sys
+code = mmap.mmap(os.open(sys.argv[1], os.O_RDONLY), 4096, mmap.MAP_PRIVATE, mmap.PROT_READ | mmap.PROT_EXEC, offset=4096)
+print("ready", flush=True)
+signal.pause()' hung/libc.so.6
+    timeout -k 5 15 "$kit/leak_core" "$process" x.core 2> mapper.said
+    verdict 'mapped code of a disk that hangs: a core' 0 $?
+    verdict 'mapped code of a disk that hangs: what is said' \
+        "leak_core: the code of the process could not be read in 2 s: its disk does not answer" "$(grep 'in 2 s' mapper.said | uniq)"
+    stop "$process" "$disk"
+    umount -l hung
+else
+    leave_out 'mapped code of a disk that hangs: no file system can be mounted here'
+    stop "$process"
+fi
+
 if be_ready disk ./hostile_disk hung 17 'x (deleted)' && grep -qx ready disk.out; then
     disk=$process
     be_ready mapper python3 -c 'import mmap, os, signal, sys
