@@ -108,6 +108,7 @@ int takes_path(struct parts *parts, const struct part *part, uint64_t size);
 /* heads.c */
 struct memory head_of_file(struct memory memory);
 int is_laid_out(const struct part *first, const struct part *part, uint64_t *bias);
+int is_same_build(struct memory head, struct memory other);
 void put_files(const struct parts *parts);
 
 /* signal_stacks.c */
@@ -121,7 +122,7 @@ int is_static(const struct start *start, const struct parts *parts);
 void put_allocator(const char *name, const struct start *start, const struct parts *parts);
 
 /* exports.c */
-int may_export(const char *path, const char *name);
+int may_export(const struct part *part, const char *name);
 
 /* undumped.c */
 void tell_undumped_files(struct file core, const struct parts *parts, int is_by_leak_core, int (*is_own)(uint64_t address));

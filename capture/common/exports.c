@@ -1,6 +1,9 @@
-/* Whether a file exports a function (gABI, Symbol Table). The file is the process's own, and may be anything: it is read by pieces, and
- * as much as files of this kind have. */
+/* Whether a file exports a function (gABI, Symbol Table). The file is the process's own, and may be anything: it is opened
+ * as a place at first, so neither a FIFO nor a device is touched; and it is read by pieces, and as much as files of this
+ * kind have. */
+#define _GNU_SOURCE
 #include <fcntl.h>
+#include <stdio.h>
 #include <stdlib.h>
 #include <string.h>
 #include <sys/stat.h>
@@ -8,7 +11,7 @@
 
 #include "common.h"
 
-enum { MOST_SECTIONS = 4096, MOST_TABLE = 64 << 20 };
+enum { MOST_SECTIONS = 4096, MOST_TABLE = 64 << 20, FIRST_BYTES = 4 * PAGE };
 
 /* The section's bytes, with a 0 behind them, or NULL. */
 static char *section_bytes(int file, const Elf64_Shdr *section)
@@ -60,19 +63,42 @@ static int is_in_sections(int file, const Elf64_Ehdr *header, const char *name)
     return 0;
 }
 
-/* Does it export the function, or can't that be told? A file that is none of ELF does not. */
-int may_export(const char *path, const char *name)
+/* The file at this path, if it is a regular one and no link, or -1. */
+static int open_regular(const char *path)
 {
-    Elf64_Ehdr header;
+    char by_place[64];
     struct stat about;
-    int file = open(path, O_RDONLY | O_NONBLOCK | O_NOFOLLOW | O_CLOEXEC), found = 1;
+    int place = open(path, O_PATH | O_NOFOLLOW | O_CLOEXEC), file = -1;
 
-    if (file < 0)
-        return 1;
-    if (!fstat(file, &about) && S_ISREG(about.st_mode)) {
-        found = pread(file, &header, sizeof header, 0) == sizeof header && !memcmp(header.e_ident, ELFMAG, SELFMAG);
-        found = found && is_in_sections(file, &header, name);
+    if (place >= 0 && !fstat(place, &about) && S_ISREG(about.st_mode)) {
+        snprintf(by_place, sizeof by_place, "/proc/self/fd/%d", place);
+        file = open(by_place, O_RDONLY | O_NONBLOCK | O_CLOEXEC);
     }
-    close(file);
+    if (place >= 0)
+        close(place);
+    return file;
+}
+
+/* Whether the file is not the one that began so in the process's memory, or may be another one. */
+static int may_be_another(struct memory in_process, struct memory in_file)
+{
+    struct memory head = head_of_file(in_file);
+
+    return in_process.at && (!head.at || !is_same_build(in_process, head));
+}
+
+/* Does the file of this part export the function, or can't that be told? A file that is none of ELF does not. */
+int may_export(const struct part *part, const char *name)
+{
+    static uint8_t bytes[FIRST_BYTES] __attribute__((aligned(8)));
+    int file = open_regular(part->path), found = 1;
+    ssize_t size = file < 0 ? -1 : pread(file, bytes, sizeof bytes, 0);
+
+    if (size >= 0 && !may_be_another(part->head, (struct memory){ bytes, size })) {
+        found = (size_t)size >= sizeof(Elf64_Ehdr) && !memcmp(bytes, ELFMAG, SELFMAG);
+        found = found && is_in_sections(file, (const Elf64_Ehdr *)bytes, name);
+    }
+    if (file >= 0)
+        close(file);
     return found;
 }

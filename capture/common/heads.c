@@ -128,6 +128,15 @@ static int are_same(struct memory a, struct memory b)
     return a.size == b.size && (!a.size || !memcmp(a.at, b.at, a.size));
 }
 
+/* Whether the files that begin so have the same build-id. Of files without one that can't be told. */
+int is_same_build(struct memory head, struct memory other)
+{
+    int is_known;
+    struct memory id = build_id_of(head, &is_known);
+
+    return id.size && are_same(id, build_id_of(other, &is_known));
+}
+
 /* Writes remarks of the log: that files are told, and of each ELF file its build-id, or - if it has none, or
  * ? if the core lacks its notes, and its path. */
 void put_files(const struct parts *parts)

@@ -68,7 +68,25 @@ if [ "$attaches" ]; then
     verdict 'a malloc of a library' '2 1 ' "$status $(grep -c "never called, and $work/libown.so has or may have" own_library.said) $(cat own_library.out)"
     stop $process
 
-    echo 'int nothing;' > nothing.c && gcc -shared -fPIC nothing.c -o libjemalloc.so.2
+    # The files that it has mapped may be others by now: of another build, or what waits for a reader.
+    echo 'int nothing;' > nothing.c && gcc -shared -fPIC nothing.c -o libnothing.so
+    cp libnothing.so libmapped.so
+    unprepared env LD_PRELOAD="$work/libmapped.so" ./walk_none
+    "$kit/leak_core" $process mapped.core 2> mapped.said
+    verdict 'a library without a malloc' '0 1' "$("$kit/leak_walk" mapped.core 2> mapped.said > mapped.log; echo $?) $(grep -c 'never called: there is no block$' mapped.said)"
+    gcc -shared -fPIC -DANOTHER=1 -Wl,--build-id=0x1234 nothing.c -o libother.so && mv libother.so libmapped.so
+    verdict 'another build of it, of which nobody knows' "2 1" \
+        "$("$kit/leak_walk" mapped.core 2> mapped.said > mapped.log; echo $?) $(grep -c "$work/libmapped.so has or may have one of its own" mapped.said)"
+    rm libmapped.so && mkfifo libmapped.so
+    (echo waits > libmapped.so) & writer=$!
+    started[$writer]=1
+    sleep 0.2
+    verdict 'a FIFO in its place' "2 1 waits" \
+        "$("$kit/leak_walk" mapped.core 2> mapped.said > mapped.log; echo $?) $(grep -c "$work/libmapped.so has or may have one of its own" mapped.said) $(sleep 0.2; kill -0 $writer && echo waits)"
+    stop $process $writer
+    rm -f mapped.core libmapped.so
+
+    cp libnothing.so libjemalloc.so.2
     cat > holds.c << 'END'
 #include <stdlib.h>
 #include <unistd.h>

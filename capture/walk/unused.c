@@ -42,7 +42,7 @@ static const struct part *other_malloc(const struct core *core, const struct par
 
     for (const struct part *p = core->parts.list; p < core->parts.list + core->parts.count; p++)
         if (!p->offset && strcmp(p->path, libc->path) && strncmp(name_of(p), "ld-", 3)
-            && (++files > MOST_FILES || may_export(p->path, "malloc")))
+            && (++files > MOST_FILES || may_export(p, "malloc")))
             return p;
     return NULL;
 }
