@@ -7,6 +7,7 @@
 #include "trace.h"
 
 int forks_are_traced;
+struct table parents_table;
 static __thread uint64_t fork_stamp;    /* when this thread began to fork; 0: untraced */
 
 void before_fork(void)
@@ -39,22 +40,36 @@ static void copy_kept_out(const struct table_head *old)
     memcpy(table.head->kept_out, old->kept_out, sizeof old->kept_out);
 }
 
+/* Makes the child's table, of which its parent's must have been whole. */
+static int copy_table(void)
+{
+    if (!open_table(parents_table.words - ENTRY_CALLERS))
+        return 0;
+    copy_entries(&parents_table);
+    copy_kept_out(parents_table.head);
+    copy_signal_stack();
+    if (is_whole(&parents_table))
+        return 1;
+    unlink(table_path);
+    return 0;
+}
+
 /* In the child, whose heap is as it was at the fork and whose finder is zero. */
 void after_fork(void)
 {
-    static struct table old;
     int error = errno;
 
     if (!fork_stamp)
         return;
-    old = table;
-    if (forks_are_traced && open_table(old.words - ENTRY_CALLERS)) {
-        copy_entries(&old);
-        copy_kept_out(old.head);
-        copy_signal_stack();
+    guard_child();
+    parents_table = table;
+    if (forks_are_traced && copy_table())
         finder->on = 1;
-    } else if (forks_are_traced)
-        tell_untraced(old.head, getpid(), program_name);
-    close_table(&old);
+    else if (forks_are_traced)
+        tell_untraced(parents_table.head, getpid(), program_name);
+    close_table(&parents_table);
+    parents_table = (struct table){ 0 };
+    if (!tracing())
+        table = parents_table;
     errno = error;
 }

@@ -82,8 +82,10 @@ __attribute__((constructor)) static void start(int count, char **arguments, char
     callers = callers < 1 ? 1 : callers > MAX_DEPTH ? MAX_DEPTH : callers;
     if (!open_finder())
         complain("memory", NULL);
-    else if (!pthread_atfork(before_fork, NULL, after_fork))
-        finder->on = open_table(callers);
+    else if (!pthread_atfork(before_fork, NULL, after_fork) && open_table(callers)) {
+        guard_table();
+        finder->on = 1;
+    }
 }
 
 __attribute__((destructor)) static void end(void)

@@ -57,6 +57,9 @@ int reach(struct area *area, uint64_t number);
 int populate(void *from, uint64_t bytes);
 void unmap_extents(struct area *area);
 void empty_extents(struct area *area);
+int is_in_area(const struct area *area, uintptr_t address);
+int forget(void *start, uint64_t bytes);
+int forget_extents(const struct area *area);
 void tell_own(const void *start, uint64_t bytes);
 void tell_extents(struct area *area);
 
@@ -240,9 +243,16 @@ void complain(const char *what, const char *why);
 /* ---- fork.c ---- */
 
 extern int forks_are_traced;
+extern struct table parents_table;  /* in a child of fork, while it copies it */
 
 void before_fork(void);
 void after_fork(void);
+
+/* ---- cut.c: a table that somebody makes shorter ---- */
+
+void guard_table(void);
+void guard_child(void);
+int is_whole(const struct table *which);
 
 /* ---- stacks.c: alternate signal stacks ---- */
 

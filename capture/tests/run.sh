@@ -49,6 +49,7 @@ part frames "$dumps"
 part tables "$dumps"
 part limits "$attaches"
 part ends
+part cut
 part execs
 part kept_out "$dumps"
 part allocators "$attaches"
