@@ -2,10 +2,9 @@
 import os
 import re
 import shutil
-import subprocess
 from typing import NamedTuple
 
-from lines import kernel_words
+from lines import kernel_words, limited
 from lines.what import visible
 
 HERE = os.path.join(os.path.dirname(os.path.abspath(__file__)), "..")
@@ -34,16 +33,14 @@ def program(name):
     """The path of a program: as LEAK_FIND says, beside leak_lines, or in PATH; or None."""
     given = os.environ.get("LEAK_FIND") if name == "leak_find" else None
     beside = os.path.join(HERE, name)
-    return given or (beside if os.access(beside, os.X_OK) else shutil.which(name))
+    found = (shutil.which(given) or given) if given else (beside if os.access(beside, os.X_OK) else shutil.which(name))
+    return found and os.path.abspath(found)
 
 
-def output_of(command):
-    """The lines that the command prints, or none where it can't be run."""
-    try:
-        run = subprocess.run(command, capture_output=True, check=False)
-    except OSError:
-        return []
-    return run.stdout.decode("utf-8", "surrogateescape").split("\n")[:-1]
+def output_of(dump, name, *words):
+    """The lines that one of our programs prints of the dump, or none where it can't be had."""
+    path = program(name)
+    return limited.lines_of_dump([path, *words], *dump) if path else ()
 
 
 def options_for(log):
@@ -54,8 +51,7 @@ def options_for(log):
 
 def why_of(dump, address):
     """The lines of leak_find's answer."""
-    finder = program("leak_find")
-    return output_of([finder, "why", *options_for(dump.log), dump.core, dump.log, address]) if finder else []
+    return output_of(dump, "leak_find", "why", *options_for(dump.log), dump.core, dump.log, address)
 
 
 def named_root(dump, line, root):
@@ -63,13 +59,12 @@ def named_root(dump, line, root):
     told = kernel_words.told(line, *kernel_words.read(dump.core))
     if told != line:
         return told.removeprefix(line + ": ")
-    teller = program("leak_what") if root.startswith("0x") else None
-    lines = output_of([teller, "--place", dump.core, root]) if teller else []
+    lines = list(output_of(dump, "leak_what", "--place", dump.core, root)) if root.startswith("0x") else []
     return lines[0].split(" ", 2)[2] if len(lines) == 1 and lines[0].startswith(f"place {root} ") else root
 
 
 def chain_of(dump, lines):
-    """The chain in words, a line for each block on the way."""
+    """The chain in words, a line for each block on the way. NoAnswer, if the program that prints the lines fails."""
     shown, last = [], ""
     for line in lines:
         root, link, block = ROOT.fullmatch(line), LINK.fullmatch(line), BLOCK.fullmatch(line)
@@ -88,12 +83,19 @@ def likeness_of(row, said):
     return next(((it.fact.words[0], it.count) for it in said.facts(row) if it.fact.kind == "like"), None)
 
 
+def chain_to(dump, address):
+    """The chain in words, or none."""
+    try:
+        return chain_of(dump, why_of(dump, address))
+    except limited.NoAnswer:
+        return []
+
+
 def lines_of(dump, addresses):
     """The chains to these held blocks."""
-    out = []
+    out, dump = [], Dump(*map(os.path.abspath, dump))
     for address in addresses:
-        found = chain_of(dump, why_of(dump, address))
-        out += [f"chain to {address}:", *(found or ["  leak_find why has no answer"])]
+        out += [f"chain to {address}:", *(chain_to(dump, address) or ["  leak_find why has no answer"])]
     return out
 
 

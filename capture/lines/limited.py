@@ -42,6 +42,10 @@ def limits_for(size, questions):
     return Limits(min(256 * MIB + 16 * size, 8192 * MIB), seconds, 4 * seconds, 64 * MIB + 8 * size)
 
 
+class NoAnswer(Exception):
+    """A program that failed, which is said already."""
+
+
 def say(text):
     """Says it on standard error, once."""
     if text not in said:
@@ -68,12 +72,19 @@ def is_whole_system():
         return file.read().split() == ["0", "0", "4294967295"]
 
 
-def restrain(limits):
+def limits_for_dump(core, log):
+    """What leak_find or leak_what may take of a dump of these sizes: some times what they take of a core in which all is live."""
+    seconds = 60 + (core + log) // (8 * MIB)
+    return Limits(1024 * MIB + 2 * core + 16 * log, seconds, 4 * seconds, 4 * MIB)
+
+
+def restrain(limits, keeps_rights):
     """What the child does before the program begins in it."""
     resource.setrlimit(resource.RLIMIT_AS, (limits.memory, limits.memory))
     resource.setrlimit(resource.RLIMIT_CPU, (limits.seconds, limits.seconds + 1))
     resource.setrlimit(resource.RLIMIT_CORE, (0, 0))
-    drop_rights()
+    if not keeps_rights:
+        drop_rights()
     LIBC.prctl(PR_SET_PDEATHSIG, signal.SIGKILL, 0, 0, 0)  # after the change of the user, which resets it
     if LIBC.prctl(PR_SET_NO_NEW_PRIVS, 1, 0, 0, 0):
         raise OSError(ctypes.get_errno(), "no_new_privs")
@@ -109,11 +120,12 @@ def readable(file, stack):
 class Running:
     """A program that runs, for as long as the block of this `with` does, and why it failed, or None."""
 
-    def __init__(self, command, limits, files=(), variables=(), **streams):
+    def __init__(self, command, limits, files=(), variables=(), keeps_rights=False, **streams):
         """Begins to run it."""
         self.limits, self.why, self.end = limits, None, time.monotonic() + limits.clock
         self.run = subprocess.Popen(command, stdout=subprocess.PIPE, stderr=subprocess.DEVNULL, cwd="/", env=environment(dict(variables)),
-                                    pass_fds=[it.descriptor for it in files], preexec_fn=lambda: restrain(limits), **streams)
+                                    pass_fds=[it.descriptor for it in files], preexec_fn=lambda: restrain(limits, keeps_rights),
+                                    **streams)
 
     def parts(self):
         """What it prints, part by part."""
@@ -170,3 +182,18 @@ def lines_of(command, file, text, questions):
             why = f"can't be run: {error}"
         if why:
             say(f"{name} of {file.path} {why}: names are missing")
+
+
+def lines_of_dump(command, core, log):
+    """The lines that one of our own programs prints of a core and a log, which only their owner may read: it keeps the
+    rights for that. Where it fails that is said, and NoAnswer ends the lines."""
+    try:
+        limits = limits_for_dump(os.path.getsize(core), os.path.getsize(log))
+        with Running(command, limits, keeps_rights=True, stdin=subprocess.DEVNULL) as run:
+            yield from run.lines()
+        why = run.why
+    except (OSError, subprocess.SubprocessError) as error:
+        why = f"can't be run: {error}"
+    if why:
+        say(f"{os.path.basename(command[0])} of {core} {why}")
+        raise NoAnswer

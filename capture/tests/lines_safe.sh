@@ -5,10 +5,13 @@ chmod 755 "$work"
 # measured MOST_SECONDS WORD..: leak_lines, with its output in safe.out, what it says in safe.said, and the largest memory of a process
 # in MB in safe.mb.
 measured() {
-    timeout -k 5 "$1" python3 -B -c 'import resource, subprocess, sys
+    timeout -k 5 "$1" python3 -B -c 'import os, resource, subprocess, sys, time
+began = time.monotonic()
 status = subprocess.run(sys.argv[1:]).returncode
-print(resource.getrusage(resource.RUSAGE_CHILDREN).ru_maxrss // 1024, file=open("safe.mb", "w"))
-sys.exit(status)' "$kit/leak_lines" "${@:2}" > safe.out 2> safe.said
+most = resource.getrusage(resource.RUSAGE_CHILDREN).ru_maxrss // 1024
+print(most, file=open("safe.mb", "w"))
+os.write(3, f"     {time.monotonic() - began:.1f} s, {most} MB\n".encode())
+sys.exit(status)' "$kit/leak_lines" "${@:2}" 3>&1 > safe.out 2> safe.said
 }
 # asked NAME FILE ADDRESS: a report with a place in the file.
 asked() { printf 'heads 1\ncaller 1 9 1 %s:[0x%x]\n' "$work/$2" "$3" > "$1.report"; }
@@ -37,12 +40,19 @@ measured 120 packed.report
 verdict 'packed debug information: status, memory' '0 yes' "$? $(below 400 safe.mb)"
 verdict 'packed debug information: a name by the symbols, or none' 1 "$(awk '$3 == 1 { print $4 }' safe.out | grep -cE '^(f|packed\.so\+0x[0-9a-f]+)$')"
 
+# Names that are all in one text: 94 MB of them in a file of 253 KB.
+python3 -B "$kit/tests/lines_hostile.py" suffixes 10000 12000 suffixes.so || exit 1
+asked suffixes suffixes.so 32
+measured 120 suffixes.report
+verdict 'names that are ends of one text: status, memory, what is said' '0 yes 1' \
+    "$? $(below 400 safe.mb) $(grep -c '^leak_lines: nm of .* printed more than 65 MB' safe.said)"
+
 # More symbols with the address of each place than memory has room for, and a .gnu_debugdata that unpacks to 200 MB.
-python3 -B "$kit/tests/lines_hostile.py" around 20000 > around.s && gcc -nostdlib -shared around.s -o around.so || exit 1
-{ echo 'heads 1'; seq 1 2 20000 | awk -v at=$((0x$(nm around.so | awk '/ first$/ { print $1 }'))) -v file="$work/around.so" \
+python3 -B "$kit/tests/lines_hostile.py" around 3000 > around.s && gcc -nostdlib -shared around.s -o around.so || exit 1
+{ echo 'heads 1'; seq 1 2 2000 | awk -v at=$((0x$(nm around.so | awk '/ first$/ { print $1 }'))) -v file="$work/around.so" \
     '{ printf "caller 1 9 1 %s:[0x%x]\n", file, at + $1 }'; } > around.report
-measured 300 around.report
-verdict 'symbols around each place: status, memory' '0 yes' "$? $(below 1500 safe.mb)"
+measured 120 around.report
+verdict 'symbols around each place: status, memory' '0 yes' "$? $(below 250 safe.mb)"
 python3 -c 'import lzma, sys
 packer = lzma.LZMACompressor(preset=0)
 for _ in range(200): sys.stdout.buffer.write(packer.compress(bytes(1000000)))
@@ -68,7 +78,7 @@ for name in short secret; do
     verdict "$name.so: a tool's rights, limits and file" "user_$([ "$(id -u)" = 0 ] && echo 65534_groups_65534 || echo "$(id -u)_groups_$(id -G | tr ' ' ,)")_news_1_memory_$(((
         256 * 1048576 + 16 * $(stat -c %s $name.so)) / 1024))_file_ELF" "$(awk '/ user_/ { print $4 }' safe.out)"
 done
-printf '#!/bin/sh\nexec yes\n' > tools/eu-addr2line
+printf '#!/bin/sh\nexec yes %01000d\n' 0 > tools/eu-addr2line
 measured_tool() { PATH=$work/tools:$PATH measured 120 short.report; }
 measured_tool
 verdict 'a tool that prints without end is cut off, and that is said' '0 yes 1' "$? $(below 400 safe.mb) $(grep -c '^leak_lines: eu-addr2line of .* printed more than ' safe.said)"
@@ -76,6 +86,17 @@ printf '#!/bin/sh\nkill -SEGV $$\n' > tools/eu-addr2line
 measured_tool
 verdict 'a tool that dies: no name, and that is said' '0 1' "$? $(grep -c '^leak_lines: eu-addr2line of .* was ended by signal 11' safe.said)"
 rm tools/eu-addr2line
+
+# Chains are by leak_find, which reads a core that may be made to take long.
+printf 'marked 1 bytes 8\nholder 1 8 1 8 0 0x10 size 8\n' > chained.report
+touch chained.core chained.log
+chained() { printf '#!/bin/sh\n%s\n' "$1" > finder && chmod 755 finder && LEAK_FIND=$work/finder measured 120 --why 1 chained.report; }
+chained "$(printf 'exec yes %01000d' 0)"
+verdict 'a search without end is cut off, and that is said' '0 yes 1' \
+    "$? $(below 400 safe.mb) $(grep -c '^leak_lines: finder of .* printed more than ' safe.said)"
+chained 'id -u; kill -SEGV $$'
+verdict 'one that dies' '0 1 1' \
+    "$? $(grep -c '^leak_lines: finder of .* was ended by signal 11' safe.said) $(grep -c 'leak_find why has no answer' safe.out)"
 
 # Names of files that would move the cursor, begin a line, or are no text.
 printf 'leaked 1 bytes 9\nheads 1\ncaller 1 9 1 /a\033[2J\302\233b\rc\td\377e\\f\342\200\256g\303\251:[0x1]\nleak 0x10 9 1 head /a\033[2J\n' > names.report
