@@ -3,6 +3,7 @@
 #define _GNU_SOURCE
 #include <dlfcn.h>
 #include <errno.h>
+#include <fcntl.h>
 #include <spawn.h>
 #include <stdarg.h>
 #include <stdio.h>
@@ -100,6 +101,24 @@ static void add_variables(char *const *environment, char **list, char *preload)
         }
 }
 
+/* Writes the environment without our library into `list`. What else LD_PRELOAD has stays, in `preload`. */
+static void leave_library_out(char *const *environment, char **list, char *preload)
+{
+    const char *value = value_in(environment, "LD_PRELOAD=") + strlen("LD_PRELOAD="), *ours = strstr(value, "leak_trace.so");
+    const char *rest = ours + strlen("leak_trace.so");
+    size_t before = ours - value, count = 0;
+
+    while (before && value[before - 1] != ':' && value[before - 1] != ' ')
+        before--;
+    snprintf(preload, VARIABLE_BYTES, "LD_PRELOAD=%.*s%s", (int)before, value, rest + (*rest == ':' || *rest == ' '));
+    for (; *environment; environment++)
+        if (!is_preload(*environment))
+            list[count++] = *environment;
+    if (preload[strlen("LD_PRELOAD=")])
+        list[count++] = preload;
+    list[count] = NULL;
+}
+
 /* Says in the table of a parent that a child of it runs untraced. */
 void tell_untraced(struct table_head *head, uint64_t pid, const char *program)
 {
@@ -138,40 +157,45 @@ static int goes_on(int result)
     return result;
 }
 
-/* Does `CALL` with `environment`, which it may lengthen by our variables. */
-#define WITH_VARIABLES(environment, CALL)                                                               \
+/* Does `CALL` with `environment`, which it may lengthen by our variables. From that of a program that `refuses` the library it
+ * takes the library out. */
+#define WITH_VARIABLES(environment, refuses, CALL)                                                      \
     char preload[VARIABLE_BYTES] = "";                                                                  \
     size_t length = length_of(environment);                                                             \
-    int lengthens = tracing() && execs_are_traced && variables[0] && length < MOST_ENVIRONMENT          \
-        && !is_handed_on(environment);                                                                  \
-    char *list[lengthens ? length + MOST_VARIABLES + 2 : 1];                                            \
-    if (lengthens) {                                                                                    \
+    int has_library = is_handed_on(environment), may_change = length < MOST_ENVIRONMENT;                \
+    int leaves_out = has_library && may_change && (refuses);                                            \
+    int lengthens = !has_library && may_change && tracing() && execs_are_traced && variables[0] && !(refuses); \
+    char *list[lengthens || leaves_out ? length + MOST_VARIABLES + 2 : 1];                              \
+    if (lengthens)                                                                                      \
         add_variables(environment, list, preload);                                                      \
+    else if (leaves_out)                                                                                \
+        leave_library_out(environment, list, preload);                                                  \
+    if (lengthens || leaves_out)                                                                        \
         environment = list;                                                                             \
-    }                                                                                                   \
     CALL
 
-#define EXEC(program, environment, call)                                                                \
-    WITH_VARIABLES(environment, tell_exec(program, is_handed_on(environment)); return goes_on(call);)
+#define EXEC(program, environment, refuses, call)                                                       \
+    WITH_VARIABLES(environment, refuses, tell_exec(program, is_handed_on(environment)); return goes_on(call);)
 
 PUBLIC int execve(const char *path, char *const arguments[], char *const environment[])
 {
-    EXEC(path, environment, real_execve(path, arguments, environment))
+    EXEC(path, environment, refuses_library(AT_FDCWD, path), real_execve(path, arguments, environment))
 }
 
 PUBLIC int execvpe(const char *file, char *const arguments[], char *const environment[])
 {
-    EXEC(file, environment, real_execvpe(file, arguments, environment))
+    EXEC(file, environment, named_refuses_library(file), real_execvpe(file, arguments, environment))
 }
 
 PUBLIC int fexecve(int file, char *const arguments[], char *const environment[])
 {
-    EXEC(arguments[0], environment, real_fexecve(file, arguments, environment))
+    EXEC(arguments[0], environment, refuses_library(file, ""), real_fexecve(file, arguments, environment))
 }
 
 PUBLIC int execveat(int folder, const char *path, char *const arguments[], char *const environment[], int flags)
 {
-    EXEC(*path ? path : arguments[0], environment, real_execveat(folder, path, arguments, environment, flags))
+    EXEC(*path ? path : arguments[0], environment, refuses_library(folder, path),
+         real_execveat(folder, path, arguments, environment, flags))
 }
 
 PUBLIC int execv(const char *path, char *const arguments[])
@@ -227,12 +251,13 @@ PUBLIC int execle(const char *path, const char *first, ...)
     return execve(path, arguments, environment);
 }
 
-#define SPAWN(call)                                                                                     \
+#define SPAWN(call, refuses)                                                                            \
     PUBLIC int call(pid_t *child, const char *program, const posix_spawn_file_actions_t *actions,       \
                     const posix_spawnattr_t *attributes, char *const arguments[], char *const environment[])  \
     {                                                                                                   \
         pid_t pid = 0;                                                                                  \
-        WITH_VARIABLES(environment, int error = real_##call(&pid, program, actions, attributes, arguments, environment);) \
+        WITH_VARIABLES(environment, refuses,                                                            \
+                       int error = real_##call(&pid, program, actions, attributes, arguments, environment);) \
         if (!error && child)                                                                            \
             *child = pid;                                                                               \
         if (!error && tracing() && !is_handed_on(environment))                                          \
@@ -240,5 +265,5 @@ PUBLIC int execle(const char *path, const char *first, ...)
         return error;                                                                                   \
     }
 
-SPAWN(posix_spawn)
-SPAWN(posix_spawnp)
+SPAWN(posix_spawn, refuses_library(AT_FDCWD, program))
+SPAWN(posix_spawnp, named_refuses_library(program))

@@ -233,6 +233,11 @@ int advise(void *start, uint64_t bytes, int advice);
 void keep_variables(char **environment);
 void tell_untraced(struct table_head *head, uint64_t pid, const char *program);
 
+/* ---- programs.c: which programs can't have the library ---- */
+
+int refuses_library(int folder, const char *path);
+int named_refuses_library(const char *name);
+
 /* ---- start.c ---- */
 
 extern int frees_wipe, tables_stay, execs_are_traced;

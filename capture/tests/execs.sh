@@ -33,6 +33,36 @@ verdict 'one that has another name now' 'now renamed' "$("$kit/leak_trace" --lis
 [ ! "$attaches" ] || look lost.c "$child"
 stop "$process" "$child"
 
+section programs that can not have the library
+if command -v musl-gcc > /dev/null && musl-gcc "$kit/tests/hello.c" -o hello_musl 2> musl.cc; then
+    printf '#! %s/hello_musl -x\n' "$work" > by_musl && chmod +x by_musl
+    # ran COMMAND..: what a traced program prints that runs others, its status and what it says.
+    ran() {
+        PATH=$work:$PATH limited 60 "$kit/leak_trace" $options "$@" > ran.out 2> ran.said
+        echo "$(paste -s -d ' ' ran.out) $? $(cat ran.said)"
+    }
+    for options in '' -e; do
+        verdict "musl by a shell, and by a script, $options" 'hello hello hello 0 ' \
+            "$(ran bash -c './hello_musl; ./by_musl; exec ./hello_musl')"
+        verdict "musl by env, which looks in PATH, $options" 'hello 0 ' "$(ran env hello_musl)"
+        for call in 'os.execv("./hello_musl", ["x"])' 'os.execvp("hello_musl", ["x"])' \
+            'os.execve(os.open("hello_musl", 0), ["x"], os.environ)' \
+            'os.waitpid(os.posix_spawn("./hello_musl", ["x"], os.environ), 0)' \
+            'os.waitpid(os.posix_spawnp("hello_musl", ["x"], os.environ), 0)' \
+            'import subprocess; subprocess.run(["./hello_musl"])'; do
+            verdict "musl by $call $options" 'hello 0 ' "$(ran python3 -c "import os; $call")"
+        done
+    done
+    options=
+    printf '#include <stdio.h>\n#include <stdlib.h>\nint main(void) { return puts(getenv("LD_PRELOAD")) < 0; }\n' > shows.c
+    musl-gcc shows.c -o shows_musl
+    verdict 'other libraries stay' '/x/liba.so:/y/libb.so 0 ' "$(ran python3 -c 'import os
+os.environ["LD_PRELOAD"] = "/x/liba.so:" + os.environ["LD_PRELOAD"] + ":/y/libb.so"
+os.execv("./shows_musl", ["x"])')"
+else
+    leave_out "programs with musl's C library: no musl-gcc"
+fi
+
 section the tables that are there
 rm -f table.*
 lost execve
