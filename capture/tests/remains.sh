@@ -44,6 +44,10 @@ if [ "$attaches" ]; then
     verdict 'leak_dump and SIGKILL: leak_core ends too' 'gone ' "$(gone) $(ls remains)"
     TMPDIR=$work/remains ended_by TERM remains_tools/leak_report $process
     verdict 'leak_report and SIGTERM while it dumps' '2 gone ' "$status $(gone) $(ls remains)"
+    TMPDIR=$work/remains ended_by KILL remains_tools/leak_report $process
+    kill $children 2> /dev/null # leak_core waits half a minute for a signal
+    verdict 'leak_report and SIGKILL: the folder goes once all has ended' 'gone ' \
+        "$(until_true 60 eval '! ls remains | grep -q .'; until_true 20 eval '! kill -0 $children 2> /dev/null'; gone) $(ls remains)"
     ended_by TERM remains_tools/leak_report --keep remains/kept $process
     verdict 'with --keep' '2 gone ' "$status $(gone) $(ls remains)"
     verdict 'the process goes on' 'yes S' "$(kill -0 $process && echo yes) $(awk '$1 == "State:" { print $2 }' /proc/$process/status)"
