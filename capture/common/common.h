@@ -68,9 +68,9 @@ struct signal_stacks {
     int is_asked;               /* by leak_core */
 };
 
-/* Where the program's headers are in its memory, and where its interpreter is mapped: 0 if it has none. */
+/* Where the program's headers are in its memory, where its interpreter is mapped, and 16 random bytes: 0 if it has none. */
 struct start {
-    uint64_t headers, interpreter;
+    uint64_t headers, interpreter, random;
     int is_known;
 };
 
@@ -119,7 +119,8 @@ void put_stacks_remark(const struct signal_stacks *stacks, uint64_t unknown);
 /* start.c */
 void read_start(struct start *start, const struct note *note);
 int is_static(const struct start *start, const struct parts *parts);
-void put_allocator(const char *name, const struct start *start, const struct parts *parts);
+void put_allocator(const char *name);
+void put_program(const struct start *start, const struct parts *parts);
 
 /* exports.c */
 int may_export(const struct part *part, const char *name);

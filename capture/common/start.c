@@ -14,6 +14,8 @@ void read_start(struct start *start, const struct note *note)
             start->headers = each.a_un.a_val;
         if (each.a_type == AT_BASE)
             start->interpreter = each.a_un.a_val;
+        if (each.a_type == AT_RANDOM)
+            start->random = each.a_un.a_val;
     }
 }
 
@@ -35,12 +37,17 @@ int is_static(const struct start *start, const struct parts *parts)
     return 1;
 }
 
-/* Says by remarks of the log whose blocks it has, and if the program is static. */
-void put_allocator(const char *name, const struct start *start, const struct parts *parts)
+/* Says by a remark of the log whose blocks it has. */
+void put_allocator(const char *name)
 {
     put_text("= leak_log allocator ");
     put_text(name);
     put_text("\n");
+}
+
+/* Says by a remark of the log if the program is static. */
+void put_program(const struct start *start, const struct parts *parts)
+{
     if (is_static(start, parts))
         put_text("= leak_log program static\n");
 }

@@ -85,7 +85,8 @@ static void tell_allocator(const struct core *core, const struct blocks *blocks)
     const struct part *part = other_allocator(&core->parts);
     const char *name = part ? name_of(part) : stand_side_by_side(blocks) ? "unknown" : NULL;
 
-    put_allocator(name ? name : "glibc", &core->start, &core->parts);
+    put_allocator(name ? name : "glibc");
+    put_program(&core->start, &core->parts);
     if (name)
         warn("the allocator is %s: search with --other-heap --skip-ends", name), warn_of_records(name);
 }

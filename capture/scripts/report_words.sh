@@ -17,7 +17,7 @@ lines   --structures     shows a row for each kind of lost structure
 lines   --why N          shows what holds the blocks that those of the first N rows look like
 lines   --root DIR       looks for the files of the process below DIR first, as in a container's root
 lines   --unchecked      names also from files without a build-id, which nobody can tell from other builds
-find    --skip-freed     leaves out pointers in freed memory [taken if the heap is glibc's]
+find    --skip-freed     leaves out pointers in freed memory [taken if the heap says what was freed]
 find    --skip-links     leaves out the links of glibc's malloc to free memory [taken if the heap is glibc's]
 find    --skip-slack     leaves out pointers in what malloc gave a block past its size
 find    --skip-dead-stack  leaves out pointers below stack pointers [taken of a core that is given]

@@ -206,7 +206,7 @@ if [ -x "$kit/leak_walk" ]; then
     started[$process]=1
     settle $process
     "$kit/leak_dump" "$process" "$work/walked" 2> said
-    verdict 'no table' "leak_dump: there is no table by leak_trace: the blocks of $work/walked.log are by glibc's heap in the core" \
+    verdict 'no table' "leak_dump: there is no table by leak_trace: the blocks of $work/walked.log are by the heap in the core" \
         "$(grep '^leak_dump: there' said)"
     verdict 'a log without a table' yes "$([ -s walked.log ] && echo yes)"
     "$kit/leak_dump" --core walked.core again 2> said

@@ -23,7 +23,7 @@ if [ "$attaches" ]; then
     verdict 'named, by the list' "$(expected "$kit/tests/walk_leaks.c")" "$(named living.out | in_steps)"
     verdict 'named, by the table' "$(expected "$kit/tests/walk_leaks.c")" "$(listed living | tr ' ' '\n' | in_steps)"
     verdict 'what is kept' 'dump.core dump.log dump.report ' "$(cd first && ls dump.core dump.log dump.report | tr '\n' ' ')"
-    verdict 'the log is by the heap' 1 "$(grep -c 'by glibc.s heap in the core' living.said)"
+    verdict 'the log is by the heap' 1 "$(grep -c 'by the heap in the core' living.said)"
     verdict 'it goes on' yes "$(kill -0 $process && echo yes)"
     echo > in
     settle $process

@@ -43,6 +43,7 @@ part lines_safe
 part stops
 part freed "$dumps"
 part walk
+part heaps "$dumps"
 part union "$dumps"
 part what "$dumps"
 part frames "$dumps"

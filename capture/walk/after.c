@@ -3,7 +3,7 @@
 #include <stdlib.h>
 #include <string.h>
 
-#include "walk.h"
+#include "log.h"
 
 static int by_start_and_line(const void *a, const void *b)
 {
@@ -20,7 +20,7 @@ static void add(struct old_log *log, uint64_t start, uint64_t size, int has_call
 }
 
 /* `@ TEXT + 0xADDR 0xSIZE`: a text may have a plus sign, what follows it has none. */
-static int add_block(struct old_log *log, const char *at, const char *stop)
+static int add_old_block(struct old_log *log, const char *at, const char *stop)
 {
     const char *place = memrchr(at, '+', stop - at);
     char *rest;
@@ -51,16 +51,18 @@ static void read_names_remark(struct old_log *log, const char *at, const char *s
 /* Reads a line. Memory that was free then begins and ends at once, and is no block. */
 static int read_line(struct old_log *log, const char *at, const char *stop, uint64_t *freed)
 {
-    static const char own[] = "= leak_walk arena 0x";
+    static const char own[] = "= leak_walk arena 0x", other[] = "= leak_walk heap 0x";
     uint64_t start;
 
     if (begins(at, stop, own))
         log->arena = strtoull(at + strlen(own), NULL, 16);
+    if (begins(at, stop, other) && log->anchor_count < MOST_HEAPS)
+        log->anchors[log->anchor_count++] = strtoull(at + strlen(other), NULL, 16);
     read_names_remark(log, at, stop);
     if (begins(at, stop, "= "))
         return 1;
     if (!begins(at, stop, "+ 0x") && !begins(at, stop, "- 0x"))
-        return add_block(log, at, stop);
+        return add_old_block(log, at, stop);
     start = strtoull(at + strlen("+ 0x"), NULL, 16);
     if (*at == '-' && start != *freed)
         add(log, start, 0, 0);
@@ -92,10 +94,29 @@ struct old_log read_old_log(const char *path)
         if (!read_line(&log, at, stop, &freed))
             fail("%s: not a log of leak_walk", path);
     }
-    if (!log.arena)
+    if (!log.arena && !log.anchor_count)
         fail("%s: not a log of leak_walk", path);
     keep_live(&log);
     return log;
+}
+
+static int has_anchor(const struct others *others, uint64_t anchor)
+{
+    for (size_t i = 0; i < others->count; i++)
+        if (others->list[i].anchor == anchor)
+            return 1;
+    return 0;
+}
+
+/* Whether each heap of the earlier log is there, at the same place. */
+int is_same_process(const struct heap *heap, const struct old_log *old)
+{
+    const struct arena *arena = heap->wanting || !old->arena ? NULL : arena_at(heap, old->arena);
+    int is_same = !old->arena || (arena && !arena->first_heap);
+
+    for (size_t i = 0; i < old->anchor_count; i++)
+        is_same = is_same && has_anchor(&heap->others, old->anchors[i]);
+    return is_same;
 }
 
 struct matcher {
@@ -138,7 +159,7 @@ void write_old_log(struct heap *heap, struct old_log *old, struct names *names)
 {
     struct matcher m = { .visitor = { match, pass }, .old = old, .names = names, .core = heap->core };
 
-    visit(heap, &m.visitor);
+    visit_all(heap, &m.visitor);
     put_bytes(old->file.bytes, old->file.size);
     for (size_t i = 0; i < old->count; i++)
         if (!old->list[i].is_same) {

@@ -186,8 +186,10 @@ void find_arenas(struct heap *heap)
     find_all_bins(heap);
     if (!heap->arena_count && is_malloc_unused(heap))
         return;
-    if (!heap->arena_count || heap->core->own_malloc)
-        refuse_heap(heap->core, "arena of glibc's malloc");
+    if (!heap->arena_count || heap->core->own_malloc) {
+        heap->wanting = "arena of glibc's malloc";
+        return;
+    }
     layout = find_layout(heap);
     heap->has_fast_bins = layout != layouts[LAYOUTS - 1];
     for (size_t i = 0; i < heap->arena_count; i++)

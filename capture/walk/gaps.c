@@ -22,7 +22,7 @@ void read_ranges(struct core *core, const struct note *note, int is_writable)
 static void add_gap(struct core *core, uint64_t start, uint64_t end, int is_writable)
 {
     core->segments = grown(core->segments, core->segment_count, sizeof *core->segments);
-    core->segments[core->segment_count++] = (struct segment){ .start = start, .end = end, .is_writable = is_writable };
+    core->segments[core->segment_count++] = (struct segment){ .start = start, .end = end, .is_writable = is_writable, .is_untouched = 1 };
 }
 
 /* Adds a segment without bytes for each gap of the range between the first `count` segments, from `next` on; gives the first

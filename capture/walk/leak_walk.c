@@ -1,19 +1,20 @@
 /* leak_walk [--partial] [--quiet] [--names TABLE] [--after LOG] CORE | --arenas CORE | --unused TABLE CORE: walks the heap of
- * glibc's malloc inside a core, and writes a log in mtrace's format for leak_find: which blocks were in use, and which memory
+ * glibc's malloc inside a core, and those of other allocators, and writes a log in mtrace's format for leak_find: which blocks were in use, and which memory
  * was free. It needs no symbols and no version, and the process no preparation. With --names a table of leak_trace.so tells who
  * asked for blocks. With --after it writes LOG first, which it made of an earlier core of the same process, and then what came
  * and went since. With --arenas it writes malloc's own words alone, and with --unused what was free too, for the log of a table. */
 #include <stdio.h>
 #include <stdlib.h>
 
-#include "walk.h"
+#include "log.h"
 
 enum { COMPLETE = 0, PARTIAL = 1 };
 
 const char program[] = "leak_walk",
     usage[] = "usage: leak_walk [--partial] [--quiet] [--names TABLE] [--after LOG] CORE | leak_walk --arenas CORE | "
               "leak_walk --unused TABLE CORE\n", help[] =
-    "Writes to standard output a log of the blocks that were in use in the heap of glibc's malloc, for leak_find.\n\n"
+    "Writes to standard output a log of the blocks that were in use in the heap of glibc's malloc, or of another allocator that it\n"
+    "knows, for leak_find.\n\n"
     "  CORE            a core of the process: by leak_core, gcore or the kernel\n"
     "  --names TABLE   tells who asked for blocks, by a table of leak_trace of the same moment\n"
     "  --after LOG     writes LOG first, made of an earlier core of the same process, and then what came and went since\n"
@@ -21,7 +22,7 @@ const char program[] = "leak_walk",
     "  --arenas        writes of the heap only where malloc's own lists begin, as freed memory\n"
     "  --unused TABLE  writes what was free too, if heap and table agree on the blocks\n"
     "  --quiet         does not say how many blocks, arenas and free chunks there are\n\n"
-    "status: 0; 1 if --partial left something out; 2 if there is no log, with a line on standard error\n";
+    "status: 0; 1 if --partial left something out, or a thread was at work on something; 2 if there is no log, with a line on standard error\n";
 
 static int may_be_partial, is_partial;
 
@@ -36,20 +37,6 @@ void damaged(const char *form, ...)
     if (!may_be_partial)
         exit(REFUSED);
     is_partial = 1;
-}
-
-/* There is no heap of glibc's malloc, for want of this. */
-void refuse_heap(const struct core *core, const char *wanting)
-{
-    const struct part *part = other_allocator(&core->parts);
-
-    if (part)
-        fail("%s: the allocator is %s, and only glibc's heap can be read: start the program by leak_trace", core->path, name_of(part));
-    if (core->own_malloc)
-        fail("%s: glibc's malloc was never called, and %s has or may have one of its own, which can't be read: build the program without it, "
-             "or if that is a library, start the program by leak_trace", core->path, core->own_malloc->path);
-    fail("%s: no %s: another allocator (jemalloc, tcmalloc, musl's), or malloc was never called; start the program by leak_trace, if "
-         "it is not static", core->path, wanting);
 }
 
 /* Counts steps that a right heap needs few of. */
@@ -73,12 +60,8 @@ static void set_steps(struct heap *heap)
 }
 
 /* Finds all chunks, and which are in use. */
-static void walk(struct heap *heap)
+static void walk_chunks(struct heap *heap)
 {
-    set_steps(heap);
-    find_arenas(heap);
-    if (heap->is_unused)
-        return;
     for (size_t i = 0; i < heap->arena_count; i++)
         if (!heap->arenas[i].first_heap)
             find_main_heap(heap, heap->arenas + i);
@@ -88,35 +71,19 @@ static void walk(struct heap *heap)
     find_mapped(heap);
     take_caches(heap);
     if (!heap->region_count && !heap->mapping_count)
-        refuse_heap(heap->core, "chunk in glibc's heap");
+        heap->wanting = "chunk in glibc's heap";
 }
 
-/* Says by remarks of the log that its blocks are of glibc's heap, and names another allocator, of which it has nothing. */
-static void put_allocators(const struct core *core)
+/* Finds the heap of glibc's malloc, and those of others. */
+static void walk(struct heap *heap)
 {
-    const struct part *part = other_allocator(&core->parts);
-
-    put_allocator("glibc", &core->start, &core->parts);
-    if (!part)
-        return;
-    put_text("= leak_log lacks ");
-    put_text(name_of(part));
-    put_text("\n");
-    warn("%s: its blocks are not in the log", part->path);
-}
-
-static void tell(const struct heap *heap)
-{
-    if (heap->is_unused)
-        warn("malloc was never called: there is no block");
-    if (heap->odd_chunks.count)
-        warn("%llu free chunks have no size behind them, the first at 0x%llx: stopped inside malloc, or damaged",
-             (unsigned long long)heap->odd_chunks.count, (unsigned long long)heap->odd_chunks.first);
-    if (heap->odd_lists.count)
-        warn("%llu lists of free chunks lead nowhere, the first at 0x%llx: stopped inside malloc, or damaged",
-             (unsigned long long)heap->odd_lists.count, (unsigned long long)heap->odd_lists.first);
-    if (is_partial)
-        warn("the log is not complete: %llu bytes of the heap are left out", (unsigned long long)heap->left_out);
+    set_steps(heap);
+    find_arenas(heap);
+    if (!heap->is_unused && !heap->wanting)
+        walk_chunks(heap);
+    walk_others(heap);
+    if (heap->wanting && !heap->others.count)
+        refuse_heap(heap);
 }
 
 struct request {
@@ -161,20 +128,11 @@ static struct request read_request(int count, char **words)
 static void write_old(struct heap *heap, const char *path, struct old_log *old, struct names *names)
 {
     *old = read_old_log(path);
-    if (!arena_at(heap, old->arena) || arena_at(heap, old->arena)->first_heap)
+    if (!is_same_process(heap, old))
         fail("%s: the earlier log is of another process", path);
     if (names->head && !old->has_names)
         fail("%s: the earlier log is by the heap alone: make both of them with --names, or none", path);
     write_old_log(heap, old, names);
-}
-
-static void tell_totals(const struct heap *heap, const struct totals *totals, const struct names *names)
-{
-    warn("%llu blocks of %llu bytes in use; %zu arenas; %llu free chunks of %llu bytes", (unsigned long long)totals->blocks,
-         (unsigned long long)totals->bytes, heap->arena_count, (unsigned long long)totals->free_count,
-         (unsigned long long)totals->free_bytes);
-    if (names->head)
-        warn("of %zu blocks of the table the heap has %zu: of these the callers are known", names->entries, names->fitting);
 }
 
 /* Writes malloc's own words, and with a table that agrees with the heap all that was free. */
@@ -184,6 +142,8 @@ static void write_beside(struct heap *heap, const struct request *request)
 
     if (request->is_of_arenas) {
         find_arenas(heap);
+        if (heap->wanting)
+            refuse_heap(heap);
         write_arenas(heap);
     } else {
         walk(heap);
@@ -216,12 +176,14 @@ int main(int count, char **words)
     else
         put_text("= Start\n");
     put_files(&core.parts);
-    put_allocators(&core);
+    put_allocators(&heap);
     struct totals totals = write_log(&heap, &old, &names);
     put_end();
     if (!request.is_quiet)
         tell_totals(&heap, &totals, &names);
     tell_undumped_files(core.file, &core.parts, core.is_by_leak_core, NULL);
-    tell(&heap);
-    return is_partial ? PARTIAL : COMPLETE;
+    tell_doubts(&heap);
+    if (is_partial)
+        warn("the log is not complete: %llu bytes of the heap are left out", (unsigned long long)heap.left_out);
+    return is_partial || has_odd_ones(&heap) ? PARTIAL : COMPLETE;
 }

@@ -1,6 +1,6 @@
 /* The log, in mtrace's format (glibc, malloc/mtrace.c): blocks in use as `@ TEXT + 0xADDR 0xSIZE`, and what is free or malloc's
  * own as a block that comes and goes at once, which is how capture's logs say so. */
-#include "walk.h"
+#include "log.h"
 
 /* leak_find --skip-freed goes by allocations of less than 128 KiB. */
 enum { MOST_PIECE = (128 << 10) - 16 };
@@ -115,7 +115,30 @@ void write_unused(struct heap *heap)
 {
     struct writer w = { .visitor = { pass_block, put_unused }, .heap = heap };
 
-    visit(heap, &w.visitor);
+    visit_all(heap, &w.visitor);
+}
+
+/* How many things did not fit, which a thread at work may explain. */
+static void put_odd(const struct other_heap *heap)
+{
+    put_text("= leak_walk odd ");
+    put_number(heap->odd);
+    put_text("\n");
+}
+
+/* Where heaps are tells one process from another. */
+static void put_anchors(const struct heap *heap)
+{
+    if (!heap->wanting) {
+        put_hex("= leak_walk arena 0x", main_arena(heap)->start);
+        put_text("\n");
+    }
+    for (size_t i = 0; i < heap->others.count; i++) {
+        put_hex("= leak_walk heap 0x", heap->others.list[i].anchor);
+        put_text("\n");
+        if (heap->others.list[i].odd)
+            put_odd(heap->others.list + i);
+    }
 }
 
 /* Writes what is in use and what is free; of blocks that the old log has too, nothing. */
@@ -125,9 +148,8 @@ struct totals write_log(struct heap *heap, const struct old_log *old, struct nam
 
     if (names->head)
         put_names_remark(names);
-    put_hex("= leak_walk arena 0x", main_arena(heap)->start);
-    put_text("\n");
+    put_anchors(heap);
     put_stacks_remark(&heap->core->stacks, unknown_stacks(&heap->core->stacks));
-    visit(heap, &w.visitor);
+    visit_all(heap, &w.visitor);
     return w.totals;
 }

@@ -2,7 +2,7 @@
  * and what is free is the walk's alone. So an event that the table missed costs a block its callers, and nothing else. */
 #include <stdlib.h>
 
-#include "walk.h"
+#include "log.h"
 
 enum { LEAST_USABLE = 24, SIZE_WORD = 8, ALIGNMENT = 16, LEAST_CHUNK = 32, IS_MMAPPED = 2, MOST_STRANGE = 16 };
 
@@ -99,7 +99,7 @@ void match_names(struct heap *heap, struct names *names)
 {
     struct counter counter = { { count_block, pass_unused }, names, heap->core };
 
-    visit(heap, &counter.visitor);
+    visit_all(heap, &counter.visitor);
     if (names->entries - names->fitting > MOST_STRANGE + names->entries / 2)
         fail("%s: of %zu blocks of the table glibc's heap has %zu: they are another allocator's", names->path, names->entries,
              names->fitting);

@@ -15,6 +15,7 @@ struct segment {
     uint64_t run_start, run_end; /* of the writable memory without a gap that it is a part of; equal if it isn't writable */
     const uint8_t *bytes;
     int is_writable, is_code;
+    int is_untouched;           /* it has no bytes, and all of them are 0 */
 };
 
 struct range {
@@ -103,8 +104,29 @@ struct tally {
     uint64_t count, first;      /* how many, and where the first is */
 };
 
+/* What a block takes of memory, or what is not in use. */
+struct span {
+    uint64_t start;
+    uint64_t size;              /* 0: it may be a block that a thread has in hand, and is told as none */
+    uint64_t room;              /* up to where nothing else is */
+};
+
+struct spans {
+    struct span *list;
+    size_t count;
+};
+
+/* Heaps that are not glibc's, which are right, and which are not. */
+struct others {
+    struct other_heap *list, *refused;
+    size_t count, refused_count;
+    struct spans blocks, unused; /* of all that are right, by ascending start */
+};
+
 struct heap {
     struct core *core;
+    const char *wanting;        /* what there is not, so it is no heap of glibc's; or NULL */
+    struct others others;
     struct arena *arenas;       /* by ascending start */
     size_t arena_count;
     int is_unused;              /* malloc was never called: the one arena has nothing */
@@ -145,7 +167,6 @@ struct visitor {
 
 /* leak_walk.c */
 __attribute__((format(printf, 1, 2))) void damaged(const char *form, ...);
-__attribute__((noreturn)) void refuse_heap(const struct core *core, const char *wanting);
 void take_steps(struct heap *heap, uint64_t count, uint64_t near);
 
 /* core.c */
@@ -238,44 +259,8 @@ void find_mapped(struct heap *heap);
 void visit(struct heap *heap, struct visitor *visitor);
 void visit_arenas(const struct heap *heap, struct visitor *visitor);
 
-/* names.c */
-struct names {
-    const char *path;
-    const struct table_head *head;  /* NULL: there is no table */
-    struct block *list;         /* by ascending start; of each start one */
-    size_t count, entries;      /* of the list, and of the table */
-    size_t fitting;             /* of these the heap has the block */
-    uint64_t moment;            /* the newest stamp */
-};
-
-struct names read_names(const char *path, const struct core *core);
-const struct block *name_of_block(struct names *names, struct core *core, uint64_t start, uint64_t size);
-void match_names(struct heap *heap, struct names *names);
-void put_names_remark(const struct names *names);
-
-/* log.c, after.c */
-struct old_block {
-    uint64_t start, size, line; /* size 0: it ends here */
-    int has_callers, is_same;
-};
-
-struct old_log {
-    struct file file;
-    uint64_t arena;             /* the main arena of its process */
-    int has_names;              /* are its texts callers, by a table? */
-    uint64_t moment;            /* then the newest stamp of that */
-    struct old_block *list;     /* live blocks by ascending start */
-    size_t count;
-};
-
-struct totals {
-    uint64_t blocks, bytes, free_count, free_bytes;
-};
-
-struct old_log read_old_log(const char *path);
-void write_old_log(struct heap *heap, struct old_log *old, struct names *names);
-struct totals write_log(struct heap *heap, const struct old_log *old, struct names *names);
-void write_arenas(struct heap *heap);
-void write_unused(struct heap *heap);
+/* heaps/heaps.c */
+void walk_others(struct heap *heap);
+void visit_all(struct heap *heap, struct visitor *visitor);
 
 #endif

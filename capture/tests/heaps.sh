@@ -1,0 +1,92 @@
+# leak_walk of other heaps than glibc's: programs at rest and killed at any moment, whose memory says what is live; leaks that leak_report names without
+# an option; and words of the heap's records that are changed. STORMS and DAMAGES say how many (heaps_long.sh); an allocator that is not installed is left out.
+section other heaps
+walk=$kit/leak_walk
+build heaps_storm.c
+
+# core_now PID NAME: a core of the process, which is ended.
+core_now() {
+    rm -f core core.* "$2.core"
+    if [ "$attaches" ]; then
+        limited 60 "$kit/leak_core" "$1" "$2.core" > "$2.dumped" 2>&1
+        stop "$1"
+    else
+        { kill -ABRT "$1" && wait "$1"; } 2> /dev/null
+        unset "started[$1]"
+        mv "$(kernel_core)" "$2.core"
+    fi
+}
+
+# at_rest KIND NAME PROGRAM..: a storm at rest is walked, whole, as the heap of NAME and no other.
+at_rest() {
+    local kind=$1 name=$2
+    be_ready "$kind" "${@:3}" 3 1500 8000 1
+    core_now "$process" "$kind"
+    limited 60 "$walk" --quiet "$kind.core" > "$kind.log" 2> "$kind.said"
+    verdict "$kind: at rest: walked, and nothing is said" '0 0' "$? $(wc -c < "$kind.said")"
+    verdict "$kind: the log says whose heap it is" "= leak_log allocator $name" "$(grep '^= leak_log allocator' "$kind.log")"
+    python3 "$kit/tests/heaps_truth.py" "$kind.core" "$kind.log" > "$kind.truth"
+    verdict "$kind: at rest: its blocks" 'missing 0 smaller 0' "$(head -n 1 "$kind.truth")"
+    echo "     $(tail -n 1 "$kind.truth")"
+}
+
+# damages KIND: changed words refuse the core, or change nothing.
+damages() {
+    limited 900 python3 "$kit/tests/heaps_damage.py" "$walk" "$1" "$1.core" "${DAMAGES:-40}" "${SEED:-1}" > "$1.damaged"
+    verdict "$1: changed words: no log is wrong" '0 wrong 0' "$? $(sed -n 's/.*\(wrong [0-9]*\) of .*/\1/p' "$1.damaged")"
+    sed 's/^/     /' "$1.damaged"
+}
+
+# planted KIND LEAST PROGRAM..: leak_report names lost blocks, at least so many of 400, and nothing else.
+planted() {
+    local kind=$1 least=$2
+    be_ready "$kind" "${@:3}" 4 3000 12000 5 400
+    rm -rf "$kind.kept"
+    LEAK_FIND=$finder limited 120 "$kit/leak_report" --keep "$kind.kept" "$process" > "$kind.shown" 2> "$kind.said"
+    verdict "$kind: leak_report: something is lost" 1 $?
+    stop "$process"
+    verdict "$kind: its options" '--other-heap --skip-ends --skip-freed --all-memory' "$(sed -n 's/^leak_report: leak_find one //p' "$kind.said")"
+    python3 "$kit/tests/heaps_truth.py" "$kind.kept/dump.core" "$kind.kept/dump.log" "$kind.kept/dump.report" > "$kind.found"
+    verdict "$kind: named: $least of 400 at least, and no others" yes "$(awk -v least="$least" '$1 == "lost" { print ($2 == 400 && $4 >= least && $6 == 0 ? "yes" : $0) }' "$kind.found")"
+    echo "     $(tail -n 1 "$kind.found")"
+    rm -rf "$kind.kept"
+}
+
+# storms_of KIND PROGRAM..: killed at any moment: nothing is missing. What a thread has in hand may not fit: then it is said.
+storms_of() {
+    local kind=$1 bad=0 odd=0 refused=0 status
+    for i in $(seq "${STORMS:-3}"); do
+        "${@:2}" 6 2000 0 $((i + ${SEED:-1})) > "$kind.out" 2>&1 &
+        process=$!
+        started[$process]=1
+        sleep 0.$((RANDOM % 60 + 35))
+        rm -f core core.*
+        { kill -ABRT $process && wait $process; } 2> /dev/null
+        unset "started[$process]"
+        limited 60 "$walk" --quiet "$(kernel_core)" > busy.log 2> busy.said
+        status=$?
+        [ $status != 1 ] || odd=$((odd + 1))
+        [ $status != 2 ] || { refused=$((refused + 1)); cat busy.said; continue; }
+        python3 "$kit/tests/heaps_truth.py" "$(kernel_core)" busy.log > busy.truth
+        [ "$(head -n 1 busy.truth)" = 'missing 0 smaller 0' ] || { bad=$((bad + 1)); cat busy.truth; }
+    done
+    verdict "$kind: ${STORMS:-3} storms, killed at any moment: with a block missing" 0 $bad
+    echo "     something was in hand in $odd, refused $refused"
+    rm -f core core.*
+}
+
+# heap KIND NAME LEAST PROGRAM..
+heap() {
+    at_rest "$1" "$2" "${@:4}"
+    damages "$1"
+    [ ! "$attaches" ] || planted "$1" "$3" "${@:4}"
+    [ ! "$dumps_core" ] || storms_of "$1" "${@:4}"
+    rm -f "$1.core"
+}
+
+if command -v musl-gcc > /dev/null; then
+    musl-gcc -O1 -g -pthread "$kit/tests/heaps_storm.c" -o storm_musl && heap musl musl 396 ./storm_musl
+    musl-gcc -O1 -g -static -pthread "$kit/tests/heaps_storm.c" -o storm_static && at_rest musl_static musl ./storm_static
+else
+    leave_out "musl's heap: no musl-gcc"
+fi
