@@ -15,7 +15,7 @@ _leak_options() {
     leak_dump) echo '--after --core --size --whole-stack --no-calls --pipes --hold' ;;
     leak_log) echo '--after' ;;
     leak_walk) echo '--partial --quiet --names --after --arenas --unused' ;;
-    leak_what) echo '--place' ;;
+    leak_what) echo '--types --root --place' ;;
     leak_report) echo "--keep --files --after --root --unchecked --list --whole-stack --no-calls --pipes --hold -n --structures --why $skips --other-heap --check --strict --workers --piece --stack" ;;
     leak_lines) echo '-n --suppress --exit-code --folded --json --html --since --no-lines --what --structures --why --core --log --root --pid --unchecked --copy-files' ;;
     esac
@@ -26,7 +26,7 @@ _leak_value() {
     case "$1 $2" in
     *' --workers' | *' --piece' | *' --stack' | *' --displace' | leak_*' --hold' | leak_*' -n' | leak_*' --why' | 'leak_trace -d' | 'leak_trace -m') echo number ;;
     *' --in' | *' --of') echo address ;;
-    'leak_report --keep' | 'leak_report --after' | 'leak_lines --root' | 'leak_report --root' | 'leak_lines --copy-files') echo folder ;;
+    'leak_report --keep' | 'leak_report --after' | *' --root' | 'leak_lines --copy-files') echo folder ;;
     'leak_dump --size' | 'leak_lines --pid') echo process ;;
     *' --names' | *' --unused' | *' --after' | *' --core' | *' --suppress' | *' --since' | *' --html' | *' --what' | *' --log' | *' -o') echo file ;;
     esac

@@ -11,6 +11,7 @@ ADDRESS, QUOTED = "(0x[0-9a-f]{1,16})", '("(?:[^"\\\\]|\\\\.)*"(?:\\.\\.)?)'
 SHAPES = {
     "stdio": re.compile(f"stdio {ADDRESS}"),
     "like": re.compile(f"like {ADDRESS} {ADDRESS} ([0-9]+) (.*)"),
+    "type": re.compile(f"type {ADDRESS} (.+)"),
     "text": re.compile(f"text {ADDRESS} ([0-9]+) {QUOTED}"),
     "word": re.compile(f"word {ADDRESS} (\\+0x[0-9a-f]+) (.+)"),
     "literal": re.compile(f"literal {ADDRESS} (\\+0x[0-9a-f]+) {QUOTED}"),
@@ -25,9 +26,10 @@ MANGLED = re.compile(r"\b_Z\w+")
 
 
 class Fact(NamedTuple):
-    """A fact of a block: its kind, and the words after the block's address."""
+    """A fact of a block: its kind, the words after the block's address, and of a likeness the type of the held block, if it is known."""
     kind: str
     words: tuple
+    type: str = ""
 
     @property
     def same(self):
@@ -39,7 +41,7 @@ class Fact(NamedTuple):
         """The fact in words."""
         if self.kind == "like":
             way = f", by {self.words[2]}" if self.words[2] else ""
-            return f"looks like {self.words[0]} ({self.words[1]} held{way})"
+            return f"looks like {self.type or self.words[0]} ({self.words[1]} held{way})"
         if self.kind == "text":
             return f"begins {self.words[1]}"
         if self.kind == "holds":
@@ -95,6 +97,8 @@ def read(lines, place):
         kind, address, words = line.split(" ", 1)[0], match[1], tuple(visible(it) for it in match.groups()[1:])
         if kind == "part":
             facts.top[address] = words[0]
+        elif kind == "type":
+            facts.of_block[address] = [it._replace(type=words[0]) if it.kind == "like" else it for it in facts.of_block.get(address, [])]
         else:
             facts.of_block.setdefault(address, []).append(Fact(kind, words))
     return facts

@@ -59,6 +59,10 @@ take() {
     --after) after=$2 ;;
     --list) list=1 ;;
     --files) files=1 ;;
+    --root)
+        lines_words="$lines_words$(quoted "$@")"
+        what_words="$what_words$(quoted "$@")"
+        ;;
     *) eval "${taker}_words=\$${taker}_words\$(quoted \"\$@\")" ;;
     esac
 }
@@ -73,7 +77,7 @@ check_value() {
 
 # read_words WORD..: reads the options, and gives how many words they are.
 read_words() {
-    keep='' after='' list='' files='' dump_words='' find_words='' lines_words='' read=0
+    keep='' after='' list='' files='' dump_words='' find_words='' lines_words='' what_words='' read=0
     while [ $# -gt 0 ]; do
         case $1 in
         -h | --help) usage help ;;

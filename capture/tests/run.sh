@@ -46,6 +46,7 @@ part walk
 part heaps "$dumps"
 part union "$dumps"
 part what "$dumps"
+part types
 part frames "$dumps"
 part tables "$dumps"
 part limits "$attaches"

@@ -107,7 +107,7 @@ refused_what() {
     limited 60 "$tells" "$@" > refused.out 2> refused.said
     echo "$? $(wc -c < refused.out) $(head -n 1 refused.said)"
 }
-verdict 'no words' '2 0 usage: leak_what CORE LOG REPORT [ADDRESS..] | leak_what --place CORE ADDRESS..' "$(refused_what)"
+verdict 'no words' '2 0 usage: leak_what [--root DIR].. CORE LOG REPORT [ADDRESS..] |' "$(refused_what)"
 verdict 'no such core' '2 0 leak_what: absent.core: No such file or directory' "$(refused_what absent.core absent.log absent.report)"
 verdict 'no core' '2 0 leak_what: '"$kit"'/README.md: not a core file of x86-64' "$(refused_what "$kit/README.md" absent.log absent.report)"
 if [ "$dumps" ]; then
@@ -235,16 +235,16 @@ if [ "$attaches" ]; then
     unprepared ./what_blocks
     LEAK_FIND=$finder limited 120 "$kit/leak_report" --keep kept $process > report.out 2> report.said
     verdict 'the status' 1 $?
-    verdict 'a row says what its block is' 1 "$(grep -c '^ *looks like 0x[0-9a-f]* (2 held, by conns>+0x0)$' report.out)"
+    verdict 'a row says what its block is' 1 "$(grep -cE '^ *looks like (0x[0-9a-f]*|struct node or array) \(2 held, by conns>\+0x0\)$' report.out)"
     verdict 'all that leak_what tells is kept' "$(cut -d ' ' -f 1,3- facts.what | grep -v like | sed 's/0x[0-9a-f]*//g')" \
-        "$(cut -d ' ' -f 1,3- kept/dump.what | grep -v like | sed 's/0x[0-9a-f]*//g')"
+        "$(cut -d ' ' -f 1,3- kept/dump.what | grep -vE '^(like|type) ' | sed 's/0x[0-9a-f]*//g')"
     verdict 'the command that shows the chain' 1 "$(grep -c '^chain to 0x[0-9a-f]*: leak_find why --skip-freed --skip-links --all-memory kept/dump.core kept/dump.log 0x[0-9a-f]*$' report.out)"
     find_leaks why $(sed -n 's/^chain to .*: leak_find why //p' report.out) > chain.out
     verdict 'that command' "conns $(sed -n 's/^chain to \([^:]*\): .*/\1/p' report.out)" \
         "$("$tells" --place kept/dump.core "$(sed -n 's/^root \([^ ]*\) .*/\1/p' chain.out)" | cut -d ' ' -f 3) $(tail -n 1 chain.out | cut -d ' ' -f 2)"
     verdict 'no block is listed' 0 "$(grep -cE '^(leak|what) ' report.out)"
     LEAK_FIND=$finder limited 120 "$kit/leak_report" --why 1 $process > report.out 2> report.said
-    verdict 'a chain from the variable' 'conns 0x size' "$(sed -n '/^chain to /,$p' report.out | tail -n +2 | sed 's/0x[0-9a-f]*/0x/' | awk '{ print $1, $2 }' | paste -s -d ' ' | cut -d ' ' -f 1,3,4)"
+    verdict 'a chain from the variable' 'conns 0x size' "$(sed -n '/^chain to /,$p' report.out | tail -n +2 | sed 's/0x[0-9a-f]*/0x/; s/struct/size/' | awk '{ print $1, $2 }' | paste -s -d ' ' | cut -d ' ' -f 1,3,4)"
     verdict 'no chain without a row that has one' 0 "$(limited 60 "$kit/leak_lines" --why 1 --what shown.what shown.report | grep -c '^chain')"
     find_leaks holders kept/dump.core kept/dump.log > kept/dump.holders
     LEAK_FIND=$finder limited 60 "$kit/leak_lines" -n 2 --why 2 kept/dump.holders > chain.out
@@ -256,7 +256,7 @@ if [ "$attaches" ]; then
     mkdir no_what && cp -r "$kit"/leak_* "$kit/lines" "$kit/scripts" no_what && printf '#!/bin/sh\nexit 2\n' > no_what/leak_what
     unprepared ./what_blocks
     LEAK_FIND=$finder limited 120 no_what/leak_report $process > report.out 2> report.said
-    verdict 'leak_what fails: the report is as without it' '1 1 0' "$? $(grep -c 'leak_what failed' report.said) $(grep -c 'looks like' report.out)"
+    verdict 'leak_what fails: the report is as without it' '1 1 0' "$? $(grep -c 'leak_what failed: the report' report.said) $(grep -c 'looks like' report.out)"
     stop $process
     options=
     start ./what_blocks

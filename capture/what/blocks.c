@@ -7,6 +7,7 @@
 /* What happened last at an address. Size and state are of an allocation; else the block ended. */
 struct event {
     uint64_t start, size, line;
+    const char *at;             /* its line, of which a typed log tells the type */
     int is_live;
 };
 
@@ -87,6 +88,10 @@ static void keep_live(struct blocks *blocks, struct events *events)
                 continue;
             blocks->count--;
         }
+        if (blocks->is_typed) {
+            blocks->lines = grown(blocks->lines, blocks->count, sizeof *blocks->lines);
+            blocks->lines[blocks->count] = e->at;
+        }
         blocks->list = grown(blocks->list, blocks->count, sizeof *blocks->list);
         blocks->list[blocks->count++] = (struct block){ e->start, e->size };
         line = e->line;
@@ -110,10 +115,18 @@ static void join_freed(struct blocks *blocks)
     blocks->freed_count = left;
 }
 
+/* Whether leak_what wrote it, with types: its first line says so. */
+int is_typed(struct file log)
+{
+    const char *at = (const char *)log.bytes;
+
+    return begins(at, at + log.size, typed_remark);
+}
+
 static struct blocks read_log(const char *path)
 {
     struct file log = map_file(path);
-    struct blocks blocks = { .path = path };
+    struct blocks blocks = { .path = path, .is_typed = is_typed(log) };
     struct events events = { 0 };
     const char *at = (const char *)log.bytes, *stop, *end = at + log.size;
     struct event event = { 0 };
@@ -121,6 +134,7 @@ static struct blocks read_log(const char *path)
     for (; at < end; at = stop + 1) {
         stop = end_of_line(log, at);
         event.line++;
+        event.at = at;
         if (read_event(at, stop, &event))
             add_event(&blocks, &events, &event);
     }
@@ -168,6 +182,19 @@ int is_freed(const struct blocks *blocks, uint64_t address)
     return low && address < blocks->freed[low - 1].end;
 }
 
+/* The type of the block with this number in a typed log, or NULL: the text is a size, a place in a file, or a caller. */
+const char *type_of_block(const struct blocks *blocks, long number, uint64_t *length)
+{
+    const char *line = blocks->is_typed ? blocks->lines[number] : NULL, *text = line + strlen("@ "), *stop, *sign;
+
+    if (!line || *line != '@')
+        return NULL;
+    stop = rawmemchr(line, '\n');
+    sign = memmem(text, stop - text, " + 0x", 5);
+    *length = sign ? sign - text : 0;
+    return *length && *text != '?' && !memchr(text, '[', *length) && !begins(text, sign, "size ") ? text : NULL;
+}
+
 /* Marks the block of a line of the report: leak ADDRESS SIZE LINE KIND TEXT. */
 static void mark_lost(struct blocks *blocks, const char *line, const char *path)
 {
@@ -182,19 +209,27 @@ static void mark_lost(struct blocks *blocks, const char *line, const char *path)
     blocks->state[block] = LOST;
 }
 
+static void read_report(struct blocks *blocks, const char *report)
+{
+    struct file file = map_file(report);
+    const char *at = (const char *)file.bytes, *stop, *end = at + file.size;
+
+    for (; at < end; at = stop + 1) {
+        stop = end_of_line(file, at);
+        if (begins(at, stop, "leak 0x"))
+            mark_lost(blocks, at, report);
+    }
+}
+
+/* The live blocks of the log; without a report none is lost. */
 struct blocks read_blocks(const char *log, const char *report)
 {
     struct blocks blocks = read_log(log);
-    struct file file = map_file(report);
-    const char *at = (const char *)file.bytes, *stop, *end = at + file.size;
 
     blocks.state = calloc(blocks.count, 1);
     if (!blocks.state)
         fail("out of memory");
-    for (; at < end; at = stop + 1) {
-        stop = end_of_line(file, at);
-        if (begins(at, stop, "leak 0x"))
-            mark_lost(&blocks, at, report);
-    }
+    if (report)
+        read_report(&blocks, report);
     return blocks;
 }

@@ -112,6 +112,8 @@ static void put_likeness(struct what *what, struct sources *sources, long number
 {
     const struct block *block = what->blocks.list + number;
     struct likeness found = like_of(what, sources->classes, number);
+    const char *type;
+    uint64_t length;
 
     if (found.block == NONE)
         return;
@@ -121,6 +123,13 @@ static void put_likeness(struct what *what, struct sources *sources, long number
     put_number(found.count);
     put_text(" ");
     put_role(what, &sources->roles, found.role);
+    put_text("\n");
+    type = type_of_block(&what->blocks, found.block, &length);
+    if (!type)
+        return;
+    begin_fact("type", block);
+    put_text(" ");
+    put_bytes((const uint8_t *)type, length);
     put_text("\n");
 }
 

@@ -4,10 +4,11 @@
 #include <stdio.h>
 #include <stdlib.h>
 
-#include "what.h"
+#include "types.h"
 
 const char program[] = "leak_what",
-           usage[] = "usage: leak_what CORE LOG REPORT [ADDRESS..] | leak_what --place CORE ADDRESS..\n", help[] =
+           usage[] = "usage: leak_what [--root DIR].. CORE LOG REPORT [ADDRESS..] |\n"
+                     "       leak_what --types [--root DIR].. CORE LOG | leak_what --place CORE ADDRESS..\n", help[] =
     "Writes to standard output what the lost blocks of a report are, a line for each fact: the text that a block\n"
     "begins with, its pointers to functions and variables, the held block that it looks like, and what was\n"
     "lost with it.\n\n"
@@ -15,7 +16,9 @@ const char program[] = "leak_what",
     "  LOG      its live blocks: by leak_walk, or by leak_log\n"
     "  REPORT   what leak_find says of them\n"
     "  ADDRESS  tells of the blocks with these addresses alone, lost or held\n"
-    "  --place  tells which symbol, file or stack has each address\n\n"
+    "  --types  copies the log with the types of blocks in place of their sizes, by the debug information of files\n"
+    "  --place  tells which symbol, file or stack has each address\n"
+    "  --root   looks for the files that the process had mapped below DIR first, as a process with that root would\n\n"
     "status: 0; 2 if there is no answer, with a line on standard error\n";
 
 static long lost_place(const struct structures *s, long block)
@@ -55,33 +58,55 @@ static int tell_places(int count, char **words)
 {
     struct what what = { .core = read_core(words[2]) };
 
-    what.modules = find_modules(&what.core);
+    what.modules = find_modules(&what.core, NULL, 0);
     for (int i = 3; i < count; i++)
         put_where(&what, address_of(words[i]));
     put_end();
     return 0;
 }
 
-int main(int count, char **words)
+/* Takes the folders that follow --root to the front of the words, and gives how many there are. `*at` becomes the
+ * number of the first word that is no option. */
+static size_t take_roots(int count, char **words, int *at)
 {
-    struct what what = { 0 };
+    size_t found = 0;
+
+    for (; *at + 1 < count && !strcmp(words[*at], "--root"); *at += 2)
+        words[found++] = words[*at + 1];
+    return found;
+}
+
+/* Tells of the lost blocks, or of those that the words after CORE LOG REPORT name. */
+static int tell_blocks(char **words, int count, char **roots, size_t root_count)
+{
+    struct what what = { .core = read_core(words[0]) };
     struct sources sources;
 
-    if (count >= 4 && !strcmp(words[1], "--place"))
-        return tell_places(count, words);
-    if (count < 4 || words[1][0] == '-')
-        refuse_words(count, words);
-    what.core = read_core(words[1]);
-    what.blocks = read_blocks(words[2], words[3]);
-    what.modules = find_modules(&what.core);
+    what.blocks = read_blocks(words[1], words[2]);
+    what.modules = find_modules(&what.core, roots, root_count);
     sources.roles = find_roles(&what);
     sources.classes = find_classes(&what, &sources.roles);
     sources.structures = find_structures(&what);
-    for (int i = 4; i < count; i++)
+    for (int i = 3; i < count; i++)
         tell_one(&what, &sources, words[i]);
-    for (size_t i = 0; count == 4 && i < sources.structures.count; i++)
+    for (size_t i = 0; count == 3 && i < sources.structures.count; i++)
         put_facts(&what, &sources, sources.structures.lost[i], i);
     tell_left_out(sources.classes);
     put_end();
     return 0;
+}
+
+int main(int count, char **words)
+{
+    int types = count > 1 && !strcmp(words[1], "--types"), at = 1 + types;
+    size_t roots;
+
+    if (count >= 4 && !strcmp(words[1], "--place"))
+        return tell_places(count, words);
+    roots = take_roots(count, words, &at);
+    if (count - at < 2 || words[at][0] == '-' || (types ? count - at > 2 : count - at < 3))
+        refuse_words(count, words);
+    if (types)
+        return write_typed_log(words[at], words[at + 1], words, roots);
+    return tell_blocks(words + at, count - at, words, roots);
 }

@@ -100,9 +100,9 @@ static size_t add_module(struct core *core, struct modules *modules, const struc
 }
 
 /* The mapped ELF files. The memory of one ends where the next one begins. */
-struct modules find_modules(struct core *core)
+struct modules find_modules(struct core *core, char **roots, size_t root_count)
 {
-    struct modules modules = { .room = MOST_READ };
+    struct modules modules = { .room = MOST_READ, .roots = roots, .root_count = root_count };
 
     for (size_t i = 0; i < core->parts.count;)
         i += add_module(core, &modules, core->parts.list + i, core->parts.count - i);

@@ -1,111 +1,10 @@
-/* Symbols, sections and constants of a mapped file, if the file that is there now has the build-id that the process has
- * in memory (gABI, Section Header, Symbol Table). The file may be anything by now: each number in it is doubted, and
- * what is wrong tells nothing. */
-#define _GNU_SOURCE
-#include <fcntl.h>
-#include <stdio.h>
+/* Symbols, sections and constants of a mapped file (gABI, Section Header, Symbol Table). The file may be anything by
+ * now: each number in it is doubted, and what is wrong tells nothing. */
 #include <stdlib.h>
-#include <sys/stat.h>
-#include <unistd.h>
 
 #include "what.h"
 
-enum { MOST_SECTIONS = 1 << 16, MOST_NOTE = 1 << 16, MOST_TABLE = 64 << 20, MOST_CONSTANTS = 8 << 20, MOST_KEPT = 256,
-       GNU_BUILD_ID = 3 };
-
-struct elf {
-    int file;
-    Elf64_Shdr *sections;
-    uint64_t count, names;      /* the number of the section with their names */
-};
-
-/* Opens a regular file alone: the open of a device may do something, and that of a pipe may wait. */
-static int open_regular(const char *path)
-{
-    int place = open(path, O_PATH | O_CLOEXEC), file = -1;
-    char name[64];
-    struct stat about;
-
-    if (place < 0)
-        return -1;
-    snprintf(name, sizeof name, "/proc/self/fd/%d", place);
-    if (!fstat(place, &about) && S_ISREG(about.st_mode))
-        file = open(name, O_RDONLY | O_CLOEXEC);
-    close(place);
-    return file;
-}
-
-/* Bytes of the file and a 0 after them, or NULL. */
-static char *part_of_file(int file, uint64_t at, uint64_t size, uint64_t most)
-{
-    char *bytes = size && size <= most && at <= INT64_MAX - size ? malloc(size + 1) : NULL;
-
-    if (bytes && pread(file, bytes, size, at) != (ssize_t)size) {
-        free(bytes);
-        return NULL;
-    }
-    if (bytes)
-        bytes[size] = 0;
-    return bytes;
-}
-
-/* Reads the section headers. If there are too many for the file's header, the first one has both numbers. */
-static void read_sections(struct elf *elf)
-{
-    Elf64_Ehdr header;
-    Elf64_Shdr first;
-
-    if (pread(elf->file, &header, sizeof header, 0) != sizeof header || memcmp(header.e_ident, ELFMAG, SELFMAG)
-        || header.e_ident[EI_CLASS] != ELFCLASS64 || header.e_shentsize != sizeof first || !header.e_shoff
-        || header.e_shoff > INT64_MAX || pread(elf->file, &first, sizeof first, header.e_shoff) != sizeof first)
-        return;
-    elf->count = header.e_shnum ? header.e_shnum : first.sh_size;
-    elf->names = header.e_shstrndx == SHN_XINDEX ? first.sh_link : header.e_shstrndx;
-    if (elf->count <= MOST_SECTIONS)
-        elf->sections = (void *)part_of_file(elf->file, header.e_shoff, elf->count * sizeof first, MOST_TABLE);
-    if (!elf->sections)
-        elf->count = 0;
-}
-
-/* Whether a section of notes has the module's build-id. */
-static int has_id(const struct elf *elf, const struct module *module)
-{
-    int found = 0;
-
-    for (uint64_t i = 0; i < elf->count && !found; i++) {
-        const Elf64_Shdr *s = elf->sections + i;
-        char *bytes = s->sh_type == SHT_NOTE ? part_of_file(elf->file, s->sh_offset, s->sh_size, MOST_NOTE) : NULL;
-        const uint8_t *at = (const uint8_t *)bytes;
-        struct note note;
-        while (bytes && !found && next_note(&at, (const uint8_t *)bytes + s->sh_size, &note))
-            found = is_note(&note, GNU_BUILD_ID, "GNU") && note.size == module->id_size
-                && !memcmp(note.bytes, module->id, note.size);
-        free(bytes);
-    }
-    return found;
-}
-
-/* Opens the file, reads its sections, and closes it again if it is another build's. */
-static struct elf open_elf(const char *path, const struct module *module)
-{
-    struct elf elf = { .file = open_regular(path) };
-
-    if (elf.file >= 0)
-        read_sections(&elf);
-    if (has_id(&elf, module))
-        return elf;
-    free(elf.sections);
-    if (elf.file >= 0)
-        close(elf.file);
-    return (struct elf){ .file = -1 };
-}
-
-static void close_elf(struct elf *elf)
-{
-    free(elf->sections);
-    if (elf->file >= 0)
-        close(elf->file);
-}
+enum { MOST_CONSTANTS = 8 << 20, MOST_KEPT = 256 };
 
 /* The bytes of a section of constants, which a core need not have. */
 static char *constants_of(struct modules *modules, const struct elf *elf, const Elf64_Shdr *s, const char *name)
@@ -121,7 +20,7 @@ static char *constants_of(struct modules *modules, const struct elf *elf, const 
 static void take_sections(struct modules *modules, struct module *module, const struct elf *elf)
 {
     const Elf64_Shdr *table = elf->names < elf->count ? elf->sections + elf->names : NULL;
-    char *names = table ? part_of_file(elf->file, table->sh_offset, table->sh_size, MOST_NOTE) : NULL;
+    char *names = table ? part_of_file(elf->file, table->sh_offset, table->sh_size, MOST_NAMES) : NULL;
 
     for (uint64_t i = 0; i < elf->count && module->section_count < MOST_KEPT; i++) {
         const Elf64_Shdr *s = elf->sections + i;
@@ -188,17 +87,6 @@ static const Elf64_Shdr *section_of_type(const struct elf *elf, uint32_t type)
     return NULL;
 }
 
-/* The debug file of the build-id, where Debian's gdb and binutils look for it. */
-static struct elf debug_file(const struct module *module)
-{
-    char path[64 + 2 * MOST_ID] = "/usr/lib/debug/.build-id/", *end = path + strlen(path);
-
-    for (uint32_t i = 0; i < module->id_size; i++)
-        end += sprintf(end, i == 1 ? "/%02x" : "%02x", module->id[i]);
-    strcpy(end, ".debug");
-    return open_elf(path, module);
-}
-
 /* Reads what the file and its debug file have, once: all symbols, or of a stripped file those for the loader. */
 void read_symbols(struct modules *modules, struct module *module)
 {
@@ -208,11 +96,11 @@ void read_symbols(struct modules *modules, struct module *module)
     module->is_read = 1;
     if (!module->id_size)
         return;
-    elf = open_elf(module->path, module);
+    elf = open_elf(modules, module);
     take_sections(modules, module, &elf);
     own = section_of_type(&elf, SHT_SYMTAB);
     if (!own) {
-        debug = debug_file(module);
+        debug = open_debug_file(modules, module);
         further = section_of_type(&debug, SHT_SYMTAB);
     }
     if (!own && !further)

@@ -95,18 +95,45 @@ void put_quoted(const uint8_t *bytes, uint64_t size, uint64_t most)
     put_text(at < size ? "\".." : "\"");
 }
 
+/* Writes a letter of a name, and gives how many bytes it has. */
+static unsigned put_letter(const char *at, uint64_t left)
+{
+    unsigned letter = letter_length((const uint8_t *)at, left);
+
+    if (letter && (uint8_t)*at > ' ' && *at != '\\') {
+        put_bytes((const uint8_t *)at, letter);
+        return letter;
+    }
+    put_escaped(*at);
+    return 1;
+}
+
 /* Writes a name out of a file. */
 void put_name(const char *name)
 {
     enum { MOST_NAME = 4096 };
     uint64_t size = strnlen(name, MOST_NAME);
 
-    for (uint64_t at = 0, letter; at < size; at += letter) {
-        letter = letter_length((const uint8_t *)name + at, size - at);
-        if (!letter || (uint8_t)name[at] <= ' ' || name[at] == '\\')
-            put_escaped(name[at]), letter = 1;
-        else
-            put_bytes((const uint8_t *)name + at, letter);
+    for (uint64_t at = 0; at < size;)
+        at += put_letter(name + at, size - at);
+}
+
+static int is_of_word(char byte)
+{
+    return byte == '_' || byte == '*' || byte == '&'
+        || ((byte | 32) >= 'a' && (byte | 32) <= 'z');
+}
+
+/* Writes the name of a type: its spaces stay before words alone, so that it is no list of callers, nor a line's end. */
+void put_type_name(const char *name)
+{
+    uint64_t size = strlen(name);
+
+    for (uint64_t at = 0; at < size;) {
+        if (name[at] != ' ')
+            at += put_letter(name + at, size - at);
+        else if (is_of_word(name[++at]))
+            put_text(" ");
     }
 }
 

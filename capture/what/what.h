@@ -51,6 +51,8 @@ struct block {
 
 struct blocks {
     const char *path;           /* of the log */
+    int is_typed;               /* whether it tells types, and then the line of each block */
+    const char **lines;
     struct block *list;         /* live ones, by ascending start; none overlaps another */
     uint8_t *state;
     size_t count, lost_count;
@@ -91,6 +93,8 @@ struct module {
 struct modules {
     struct module *list;        /* by ascending start */
     size_t count;
+    char **roots;               /* folders below which files are looked for first */
+    size_t root_count;
     uint64_t room;              /* how many bytes of tables may still be read */
 };
 
@@ -108,13 +112,31 @@ int next_word(struct reader *reader, uint64_t *place, uint64_t *value);
 int word_at(struct core *core, uint64_t address, uint64_t *value);
 
 /* blocks.c */
+static const char typed_remark[] = "= leak_what types\n";
+int is_typed(struct file log);
+const char *type_of_block(const struct blocks *blocks, long block, uint64_t *length);
 struct blocks read_blocks(const char *log, const char *report);
 long block_of(const struct blocks *blocks, uint64_t address);
 int is_freed(const struct blocks *blocks, uint64_t address);
 
 /* modules.c */
-struct modules find_modules(struct core *core);
+struct modules find_modules(struct core *core, char **roots, size_t root_count);
 long module_of(const struct modules *modules, uint64_t address);
+
+/* files.c */
+enum { MOST_TABLE = 64 << 20, MOST_NAMES = 1 << 16 };
+
+struct elf {
+    int file;
+    Elf64_Shdr *sections;
+    uint64_t count, names;      /* the number of the section with their names */
+};
+
+struct elf open_elf(const struct modules *modules, const struct module *module);
+struct elf open_debug_file(const struct modules *modules, const struct module *module);
+void close_elf(struct elf *elf);
+char *part_of_file(int file, uint64_t at, uint64_t size, uint64_t most);
+int has_section(const struct elf *elf, const char *name);
 
 /* symbols.c */
 void read_symbols(struct modules *modules, struct module *module);
@@ -136,6 +158,7 @@ uint64_t text_of(struct what *what, const struct block *block, const uint8_t **b
 int may_be_number(struct what *what, const struct block *block, uint64_t length);
 void put_quoted(const uint8_t *bytes, uint64_t size, uint64_t most);
 void put_name(const char *name);
+void put_type_name(const char *name);
 void put_place(struct what *what, uint64_t address);
 
 /* reach.c: how held blocks are reached */

@@ -1,0 +1,165 @@
+/* The variables, structures and classes of a file, with the namespaces and classes that they are in. */
+#define _GNU_SOURCE
+#include <stdio.h>
+#include <stdlib.h>
+
+#include "types.h"
+
+static void read_children(struct debug *debug, Dwarf_Die *parent, const char *scope, int depth);
+
+void count_step(void)
+{
+    static uint64_t steps;
+
+    if (++steps > MOST_STEPS)
+        fail("standard input: too much debug information");
+}
+
+static const char *within(const char *scope, const char *name)
+{
+    char *text;
+
+    if (!*scope)
+        return name;
+    if (strlen(scope) + strlen(name) > MOST_NAME)
+        return NULL;
+    if (asprintf(&text, "%s::%s", scope, name) < 0)
+        fail("out of memory");
+    return text;
+}
+
+/* The scope of what is in there. An inline namespace is left out of names, as sources leave it out. */
+static const char *scope_of(Dwarf_Die *die, const char *scope)
+{
+    const char *name = dwarf_diename(die), *found;
+
+    if (dwarf_tag(die) == DW_TAG_namespace && dwarf_hasattr(die, DW_AT_export_symbols))
+        return scope;
+    found = within(scope, name ? name : "(anonymous)");
+    return found ? found : scope;
+}
+
+static void define(struct debug *debug, Dwarf_Die *die, const char *scope)
+{
+    struct definition found = { .die = *die };
+    const char *name = dwarf_diename(die);
+
+    if (dwarf_hasattr(die, DW_AT_declaration) || !number_of_attribute(die, DW_AT_byte_size, &found.size)
+        || debug->count >= MOST_LISTED)
+        return;
+    found.name = name ? within(scope, name) : NULL;
+    if (dwarf_decl_line(die, &found.line))
+        found.line = 0;
+    debug->list = grown(debug->list, debug->count, sizeof *debug->list);
+    debug->list[debug->count++] = found;
+}
+
+/* Takes a variable at a fixed address. One of a thread has an expression that is longer. */
+static void take_variable(struct debug *debug, Dwarf_Die *die)
+{
+    struct variable found;
+    Dwarf_Attribute location;
+    Dwarf_Op *operations;
+    size_t count;
+
+    if (!dwarf_attr(die, DW_AT_location, &location) || dwarf_getlocation(&location, &operations, &count) || count != 1
+        || operations[0].atom != DW_OP_addr || debug->variable_count >= MOST_LISTED || !type_of(die, &found.type))
+        return;
+    found.at = operations[0].number;
+    debug->variables = grown(debug->variables, debug->variable_count, sizeof *debug->variables);
+    debug->variables[debug->variable_count++] = found;
+}
+
+static void read_entry(struct debug *debug, Dwarf_Die *die, const char *scope, int depth)
+{
+    switch (dwarf_tag(die)) {
+    case DW_TAG_variable:
+        take_variable(debug, die);
+        break;
+    case DW_TAG_structure_type:
+    case DW_TAG_class_type:
+        define(debug, die, scope); /* fall through */
+    case DW_TAG_union_type:
+    case DW_TAG_namespace:
+        read_children(debug, die, scope_of(die, scope), depth);
+        break;
+    case DW_TAG_subprogram:
+    case DW_TAG_lexical_block:
+    case DW_TAG_inlined_subroutine:
+        read_children(debug, die, "", depth);
+        break;
+    }
+}
+
+static void read_children(struct debug *debug, Dwarf_Die *parent, const char *scope, int depth)
+{
+    Dwarf_Die child;
+
+    if (depth >= DEEPEST || dwarf_child(parent, &child))
+        return;
+    do {
+        count_step();
+        read_entry(debug, &child, scope, depth + 1);
+    } while (!dwarf_siblingof(&child, &child));
+}
+
+static void read_units(struct debug *debug, Dwarf *dwarf)
+{
+    Dwarf_Off at = 0, next;
+    size_t head;
+    Dwarf_Die unit;
+
+    for (; !dwarf_nextcu(dwarf, at, &next, &head, NULL, NULL, NULL) && next > at; at = next) {
+        count_step();
+        if (dwarf_offdie(dwarf, at + head, &unit))
+            read_children(debug, &unit, "", 0);
+    }
+}
+
+/* What of a structure is at its start: another structure, or the class that it inherits from. */
+static void find_beginning(struct debug *debug, struct definition *outer)
+{
+    const char *alias = NULL;
+    const struct definition *inner;
+    Dwarf_Die member, type;
+
+    if (!first_member(&outer->die, &member) || !type_of(&member, &type) || !peel(debug, &type, &alias))
+        return;
+    inner = definition_of(debug, &type);
+    if (!inner || (!inner->name && !alias))
+        return;
+    debug->beginnings = grown(debug->beginnings, debug->beginning_count, sizeof *debug->beginnings);
+    debug->beginnings[debug->beginning_count++] =
+        (struct beginning){ inner->name ? inner->name : alias, outer->name, outer->size };
+}
+
+static int by_place(const void *a, const void *b)
+{
+    const struct definition *x = a, *y = b;
+
+    return (x->die.addr > y->die.addr) - (x->die.addr < y->die.addr);
+}
+
+static int by_name(const void *a, const void *b)
+{
+    return strcmp(((const struct beginning *)a)->name, ((const struct beginning *)b)->name);
+}
+
+/* Reads the file and the one that it shares entries with (dwz). */
+struct debug read_debug(Dwarf *dwarf)
+{
+    struct debug debug = { 0 };
+    Dwarf *shared = dwarf_getalt(dwarf);
+
+    read_units(&debug, dwarf);
+    if (shared)
+        read_units(&debug, shared);
+    if (debug.count)
+        qsort(debug.list, debug.count, sizeof *debug.list, by_place);
+    sort_names(&debug);
+    for (size_t i = 0; i < debug.count; i++)
+        find_beginning(&debug, debug.list + i);
+    if (debug.beginning_count)
+        qsort(debug.beginnings, debug.beginning_count, sizeof *debug.beginnings, by_name);
+    return debug;
+}

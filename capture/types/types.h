@@ -1,0 +1,61 @@
+/* What the files of leak_types share. */
+#ifndef LEAK_TYPES_H
+#define LEAK_TYPES_H
+
+#include <dwarf.h>
+#include <elfutils/libdw.h>
+
+#include "../common/common.h"
+
+/* So that time and memory are bounded whatever the file says. */
+enum { MOST_STEPS = 1 << 27, MOST_LISTED = 1 << 20, DEEPEST = 32, MOST_PEELED = 32, MOST_NAME = 200 };
+
+/* A structure or class that the debug information defines. */
+struct definition {
+    Dwarf_Die die;
+    const char *name;           /* with its namespaces and classes, or NULL */
+    uint64_t size;
+    int line;
+};
+
+/* A variable of the whole program, or a static one. */
+struct variable {
+    uint64_t at;
+    Dwarf_Die type;
+};
+
+/* Something of this name is what another structure, of this size, begins with. */
+struct beginning {
+    const char *name, *of;
+    uint64_t size;
+};
+
+struct debug {
+    struct definition *list;    /* by the place of their entries */
+    size_t count;
+    struct definition **by_name;
+    size_t named;
+    struct variable *variables;
+    size_t variable_count;
+    struct beginning *beginnings; /* by name */
+    size_t beginning_count;
+};
+
+/* scopes.c */
+void count_step(void);
+struct debug read_debug(Dwarf *dwarf);
+
+/* names.c */
+int is_structure(int tag);
+int type_of(Dwarf_Die *die, Dwarf_Die *type);
+int number_of_attribute(Dwarf_Die *die, unsigned name, uint64_t *value);
+int peel(const struct debug *debug, Dwarf_Die *die, const char **alias);
+const struct definition *definition_of(const struct debug *debug, const Dwarf_Die *die);
+const struct beginning *first_beginning(const struct debug *debug, const char *name);
+void sort_names(struct debug *debug);
+int first_member(Dwarf_Die *structure, Dwarf_Die *member);
+
+/* written.c */
+void write_types(const struct debug *debug);
+
+#endif
