@@ -59,6 +59,15 @@ struct outer {
     struct behind *behind;
     char bytes[264];
 };
+struct unset { /* as by a macro, another one has the same members and one more */
+    long kind;
+    char data[354];
+};
+struct set {
+    long kind;
+    char data[354];
+    int value;
+};
 struct link {
     struct link *next, *before;
 };
@@ -81,6 +90,8 @@ struct misfit *misfit;
 struct one_of_two *one_of_two;
 struct other_of_two *other_of_two;
 struct start *start;
+struct unset *unset;
+struct set *set;
 struct link *linked;
 struct node *nodes;
 void *unknown, *buffer;
@@ -116,6 +127,7 @@ __attribute__((noinline)) static void hold_all(void)
     misfit = cleared(264);
     one_of_two = cleared(216), other_of_two = (void *)one_of_two;
     start = cleared(296);
+    unset = cleared(sizeof *set); /* 376 */
     linked = cleared(24);
     within = (void *)((char *)cleared(344) + 16);
     unknown = cleared(248 + 112);

@@ -40,7 +40,7 @@ int main(void)
     while (CASE == ENDLESS)
         puts("other something");
     if (CASE == ODD_NUMBERS)
-        puts("member 0 1\nbegins 4\nunknown\npointer 99999999999999999999\nstruct 18446744073709551615 a\n"
+        puts("member 0 1\nbegins 4\nflexible 3\npointer 99999999999999999999\nstruct 18446744073709551615 a\n"
              "member 18446744073709551608 1\narray 18446744073709551615 3\npointer\nstruct\narray\nmember 1\n"
              "variable 18446744073709551615 1\nvariable 0 7\nvariable 5\nvariable");
     if (CASE == ODD_NAMES)

@@ -26,22 +26,6 @@ int number_of_attribute(Dwarf_Die *die, unsigned name, uint64_t *value)
     return 1;
 }
 
-/* The member at offset 0, or the class that is inherited from there. */
-int first_member(Dwarf_Die *structure, Dwarf_Die *member)
-{
-    uint64_t offset;
-
-    if (dwarf_child(structure, member))
-        return 0;
-    do {
-        int tag = dwarf_tag(member);
-        count_step();
-        if ((tag == DW_TAG_member || tag == DW_TAG_inheritance) && !dwarf_hasattr(member, DW_AT_external))
-            return number_of_attribute(member, DW_AT_data_member_location, &offset) && !offset;
-    } while (!dwarf_siblingof(member, member));
-    return 0;
-}
-
 /* The definition whose entry this is, or NULL. */
 const struct definition *definition_of(const struct debug *debug, const Dwarf_Die *die)
 {
@@ -94,20 +78,6 @@ static const struct definition *named(const struct debug *debug, const char *nam
         if (debug->by_name[i]->size != first->size || debug->by_name[i]->line != first->line)
             return NULL;
     return first;
-}
-
-const struct beginning *first_beginning(const struct debug *debug, const char *name)
-{
-    size_t low = 0, high = debug->beginning_count;
-
-    while (low < high) {
-        size_t middle = low + (high - low) / 2;
-        if (strcmp(debug->beginnings[middle].name, name) < 0)
-            low = middle + 1;
-        else
-            high = middle;
-    }
-    return debug->beginnings + low;
 }
 
 /* Goes on to the type that is meant: past typedefs and qualifiers, and from a declaration to its definition. The last

@@ -116,33 +116,11 @@ static void read_units(struct debug *debug, Dwarf *dwarf)
     }
 }
 
-/* What of a structure is at its start: another structure, or the class that it inherits from. */
-static void find_beginning(struct debug *debug, struct definition *outer)
-{
-    const char *alias = NULL;
-    const struct definition *inner;
-    Dwarf_Die member, type;
-
-    if (!first_member(&outer->die, &member) || !type_of(&member, &type) || !peel(debug, &type, &alias))
-        return;
-    inner = definition_of(debug, &type);
-    if (!inner || (!inner->name && !alias))
-        return;
-    debug->beginnings = grown(debug->beginnings, debug->beginning_count, sizeof *debug->beginnings);
-    debug->beginnings[debug->beginning_count++] =
-        (struct beginning){ inner->name ? inner->name : alias, outer->name, outer->size };
-}
-
 static int by_place(const void *a, const void *b)
 {
     const struct definition *x = a, *y = b;
 
     return (x->die.addr > y->die.addr) - (x->die.addr < y->die.addr);
-}
-
-static int by_name(const void *a, const void *b)
-{
-    return strcmp(((const struct beginning *)a)->name, ((const struct beginning *)b)->name);
 }
 
 /* Reads the file and the one that it shares entries with (dwz). */
@@ -157,9 +135,6 @@ struct debug read_debug(Dwarf *dwarf)
     if (debug.count)
         qsort(debug.list, debug.count, sizeof *debug.list, by_place);
     sort_names(&debug);
-    for (size_t i = 0; i < debug.count; i++)
-        find_beginning(&debug, debug.list + i);
-    if (debug.beginning_count)
-        qsort(debug.beginnings, debug.beginning_count, sizeof *debug.beginnings, by_name);
+    find_beginnings(&debug);
     return debug;
 }

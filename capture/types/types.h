@@ -8,7 +8,8 @@
 #include "../common/common.h"
 
 /* So that time and memory are bounded whatever the file says. */
-enum { MOST_STEPS = 1 << 27, MOST_LISTED = 1 << 20, DEEPEST = 32, MOST_PEELED = 32, MOST_NAME = 200 };
+enum { MOST_STEPS = 1 << 27, MOST_LISTED = 1 << 20, MOST_BEGINNINGS = 1 << 24, DEEPEST = 32, MOST_WITHIN = 4,
+       MOST_PEELED = 32, MOST_NAME = 200 };
 
 /* A structure or class that the debug information defines. */
 struct definition {
@@ -24,10 +25,11 @@ struct variable {
     Dwarf_Die type;
 };
 
-/* Something of this name is what another structure, of this size, begins with. */
+/* A structure begins with members of this key. */
 struct beginning {
-    const char *name, *of;
-    uint64_t size;
+    uint64_t key;
+    const struct definition *of;
+    int is_whole;               /* it has no others */
 };
 
 struct debug {
@@ -37,7 +39,7 @@ struct debug {
     size_t named;
     struct variable *variables;
     size_t variable_count;
-    struct beginning *beginnings; /* by name */
+    struct beginning *beginnings; /* by key */
     size_t beginning_count;
 };
 
@@ -51,11 +53,13 @@ int type_of(Dwarf_Die *die, Dwarf_Die *type);
 int number_of_attribute(Dwarf_Die *die, unsigned name, uint64_t *value);
 int peel(const struct debug *debug, Dwarf_Die *die, const char **alias);
 const struct definition *definition_of(const struct debug *debug, const Dwarf_Die *die);
-const struct beginning *first_beginning(const struct debug *debug, const char *name);
 void sort_names(struct debug *debug);
-int first_member(Dwarf_Die *structure, Dwarf_Die *member);
+
+/* beginnings.c */
+void find_beginnings(struct debug *debug);
+void write_beginnings(struct debug *debug, const struct definition *structure);
 
 /* written.c */
-void write_types(const struct debug *debug);
+void write_types(struct debug *debug);
 
 #endif

@@ -5,7 +5,7 @@
 
 #include "types.h"
 
-enum { MOST_TYPES = 1 << 18, MOST_CONTAINERS = 64, MOST_OUTER = 4 };
+enum { MOST_TYPES = 1 << 18 };
 
 struct type {
     const void *place;          /* of its entry */
@@ -15,7 +15,7 @@ struct type {
 };
 
 struct types {
-    const struct debug *debug;
+    struct debug *debug;
     struct type **list;
     size_t count;
     void *by_place;             /* a tree */
@@ -81,70 +81,6 @@ static int may_lead(const struct debug *debug, Dwarf_Die type)
     return 0;
 }
 
-static void write_members(struct types *types, Dwarf_Die *structure)
-{
-    Dwarf_Die member, type;
-
-    if (dwarf_child(structure, &member))
-        return;
-    do {
-        int tag = dwarf_tag(&member);
-        uint64_t offset;
-        count_step();
-        if ((tag != DW_TAG_member && tag != DW_TAG_inheritance) || dwarf_hasattr(&member, DW_AT_bit_size)
-            || !number_of_attribute(&member, DW_AT_data_member_location, &offset) || !type_of(&member, &type)
-            || !may_lead(types->debug, type))
-            continue;
-        put_numbers("member ", offset, number_of(types, type));
-    } while (!dwarf_siblingof(&member, &member));
-}
-
-/* Writes how large the structures are that begin with one of this name. Of too many it gives 0. */
-static int write_outer(const struct debug *debug, const char *name, int depth, int *left)
-{
-    const struct beginning *end = debug->beginnings + debug->beginning_count;
-
-    for (const struct beginning *b = first_beginning(debug, name); b < end && !strcmp(b->name, name); b++) {
-        count_step();
-        if (!--*left || depth > MOST_OUTER || !b->of)
-            return 0;
-        put_text("begins ");
-        put_number(b->size);
-        put_text("\n");
-        if (!write_outer(debug, b->of, depth + 1, left))
-            return 0;
-    }
-    return 1;
-}
-
-/* A name in one line. One that is too long is none. */
-static void put_word(const char *name)
-{
-    size_t length = name ? strnlen(name, MOST_NAME + 1) : 0;
-
-    put_text(" ");
-    for (size_t i = 0; length <= MOST_NAME && i < length; i++)
-        put_bytes((const uint8_t *)(name[i] == '\n' ? "?" : name + i), 1);
-    put_text("\n");
-}
-
-static void write_structure(struct types *types, const struct type *type)
-{
-    const struct definition *known = definition_of(types->debug, &type->die);
-    Dwarf_Die die = type->die;
-    const char *name = known && known->name ? known->name : dwarf_diename(&die) ? NULL : type->alias;
-    int left = MOST_CONTAINERS, is_alias = !known || !known->name;
-    uint64_t size = 0;
-
-    number_of_attribute(&die, DW_AT_byte_size, &size);
-    put_text(is_alias ? "alias " : dwarf_tag(&die) == DW_TAG_class_type ? "class " : "struct ");
-    put_number(size);
-    put_word(name);
-    write_members(types, &die);
-    if (name && !write_outer(types->debug, name, 0, &left))
-        put_text("unknown\n");
-}
-
 /* Of several dimensions the product. */
 static uint64_t elements_of(Dwarf_Die *array)
 {
@@ -167,6 +103,71 @@ static uint64_t elements_of(Dwarf_Die *array)
     return dimensions ? product : 0;
 }
 
+/* Writes of the type of a structure's last member how large its elements are, if it is an array without a length: then the
+ * structure may be as long as it likes. */
+static void write_flexible(const struct debug *debug, Dwarf_Die type)
+{
+    const char *alias;
+    uint64_t size;
+
+    if (!peel(debug, &type, &alias) || dwarf_tag(&type) != DW_TAG_array_type || elements_of(&type)
+        || !type_of(&type, &type) || dwarf_aggregate_size(&type, &size) || !size)
+        return;
+    put_text("flexible ");
+    put_number(size);
+    put_text("\n");
+}
+
+static void write_members(struct types *types, Dwarf_Die *structure)
+{
+    Dwarf_Die member, type = { 0 };
+    int is_known = 0;
+
+    if (dwarf_child(structure, &member))
+        return;
+    do {
+        int tag = dwarf_tag(&member);
+        uint64_t offset;
+        count_step();
+        if (tag != DW_TAG_member && tag != DW_TAG_inheritance)
+            continue;
+        is_known = !dwarf_hasattr(&member, DW_AT_bit_size) && type_of(&member, &type)
+            && number_of_attribute(&member, DW_AT_data_member_location, &offset);
+        if (is_known && may_lead(types->debug, type))
+            put_numbers("member ", offset, number_of(types, type));
+    } while (!dwarf_siblingof(&member, &member));
+    if (is_known)
+        write_flexible(types->debug, type);
+}
+
+/* A name in one line. One that is too long is none. */
+static void put_word(const char *name)
+{
+    size_t length = name ? strnlen(name, MOST_NAME + 1) : 0;
+
+    put_text(" ");
+    for (size_t i = 0; length <= MOST_NAME && i < length; i++)
+        put_bytes((const uint8_t *)(name[i] == '\n' ? "?" : name + i), 1);
+    put_text("\n");
+}
+
+static void write_structure(struct types *types, const struct type *type)
+{
+    const struct definition *known = definition_of(types->debug, &type->die);
+    Dwarf_Die die = type->die;
+    const char *name = known && known->name ? known->name : dwarf_diename(&die) ? NULL : type->alias;
+    int is_alias = !known || !known->name;
+    uint64_t size = 0;
+
+    number_of_attribute(&die, DW_AT_byte_size, &size);
+    put_text(is_alias ? "alias " : dwarf_tag(&die) == DW_TAG_class_type ? "class " : "struct ");
+    put_number(size);
+    put_word(name);
+    write_members(types, &die);
+    if (known)
+        write_beginnings(types->debug, known);
+}
+
 static void write_type(struct types *types, const struct type *type)
 {
     Dwarf_Die die = type->die, to;
@@ -186,7 +187,7 @@ static void write_type(struct types *types, const struct type *type)
     }
 }
 
-void write_types(const struct debug *debug)
+void write_types(struct debug *debug)
 {
     struct types types = { .debug = debug };
     uint32_t *of_variable = calloc(debug->variable_count + 1, sizeof *of_variable);

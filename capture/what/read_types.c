@@ -87,8 +87,8 @@ static void read_line(struct reading *r, char *line)
         add_member(r, at);
     else if ((at = after(line, "begins")) && of_structure)
         add_outer(r, at);
-    else if ((at = after(line, "unknown")) && of_structure)
-        r->last->name = NULL;
+    else if ((at = after(line, "flexible")) && of_structure)
+        r->last->each = next_number(&at);
     else if ((at = after(line, "struct")))
         add_structure(r, "struct ", at);
     else if ((at = after(line, "class")))

@@ -19,6 +19,7 @@ struct type {
     const char *word, *name;    /* `struct `, `class ` or nothing; and NULL if it has no name that may be told */
     struct member *members;
     size_t member_count;
+    uint64_t each;              /* of a structure that ends with an array without a length, the bytes of an element */
     uint64_t *outer;            /* the sizes of structures that begin with this one */
     size_t outer_count;
 };

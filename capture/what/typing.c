@@ -5,7 +5,7 @@
 #include "types.h"
 
 enum { MOST_STEPS = 1 << 27, MOST_JOBS = 1 << 22, DEEPEST = 12 };
-enum { HEAP_SLACK = 32, LARGE = 128 << 10, MAPPED_SLACK = PAGE + 16 };
+enum { HEAP_SLACK = 16, LEAST_USABLE = 24, LARGE = 128 << 10, MAPPED_SLACK = PAGE + 16 };
 
 /* So many things of a type that stand in a row. */
 struct job {
@@ -55,11 +55,13 @@ static uint64_t size_of_type(const struct typing *t, uint32_t number)
     return 0;
 }
 
-/* Whether malloc gives a block of this size for so many bytes: it rounds up, and may leave 16 bytes at it; one with a
- * mapping of its own has whole pages. */
+/* Whether malloc gives a block of this size for so many bytes: it rounds up to 24, 40, 56, ..; one with a mapping of its
+ * own has whole pages. */
 static int fits(uint64_t size, uint64_t usable)
 {
-    return size && size <= usable && usable - size < (size >= LARGE ? MAPPED_SLACK : HEAP_SLACK);
+    uint64_t slack = size >= LARGE ? MAPPED_SLACK : usable == LEAST_USABLE ? LEAST_USABLE : HEAP_SLACK;
+
+    return size && size <= usable && usable - size < slack;
 }
 
 /* Where the job is in the table, or where it may be put. */
@@ -105,17 +107,29 @@ static void add_job(struct typing *t, struct job job)
     t->jobs[t->job_count++] = job;
 }
 
-/* A structure of nothing but pointers to its kind, as the links of a list: what is linked begins with one. */
-static int is_link(const struct typing *t, uint32_t number)
+/* How many pointers to this structure the other one is of, or 0 if it has something else. One that is of them alone is a
+ * link, as of a list: what is linked begins with it. */
+static size_t links_in(const struct typing *t, const struct type *s, uint32_t number, int depth)
 {
-    const struct type *s = type_at(t, number);
-    size_t count = 0;
+    size_t count = 0, all = 0;
 
-    for (size_t i = 0; i < s->member_count; i++) {
+    for (size_t i = 0; i < s->member_count && depth < DEEPEST; i++) {
         const struct type *member = type_at(t, s->members[i].type);
-        count += member->kind == POINTER_TYPE && member->to == number;
+        size_t inner = member->kind == STRUCT_TYPE ? links_in(t, member, number, depth + 1)
+                                                   : member->kind == POINTER_TYPE && member->to == number;
+        if (!inner)
+            return 0;
+        count += inner, all++;
     }
-    return count == s->member_count && count * WORD == s->size;
+    return all && count * WORD == s->size ? count : 0;
+}
+
+/* Whether the size is that of a structure which ends with an array without a length. */
+static int fits_flexible(const struct type *s, uint64_t usable)
+{
+    uint64_t more = usable > s->size ? usable - s->size : 0;
+
+    return s->each && (s->each < HEAP_SLACK || fits(s->size + more / s->each * s->each, usable));
 }
 
 /* Whether a structure that begins with this one may be it. */
@@ -144,7 +158,7 @@ static void vote(struct typing *t, long block, uint32_t number, int is_array)
     const struct type *type = type_at(t, number);
     struct label *label = t->labels + block;
 
-    if (type->kind == STRUCT_TYPE && is_link(t, number))
+    if (type->kind == STRUCT_TYPE && links_in(t, type, number, 0))
         return;
     if (label->type != UNKNOWN_TYPE && (label->is_array != is_array || !is_same_name(t, label->type, number)))
         label->is_doubtful = 1;
@@ -180,8 +194,9 @@ static void point(struct typing *t, uint64_t word, uint32_t number)
         return;
     if (word == b->start && type->kind == STRUCT_TYPE) {
         uint64_t elements = b->size / size;
-        if (fits(size, b->size) || fits(elements * size, b->size))
-            vote(t, block, number, !fits(size, b->size));
+        int is_one = fits(size, b->size) || fits_flexible(type, b->size);
+        if (is_one || (!type->each && fits(elements * size, b->size)))
+            vote(t, block, number, !is_one);
     } else if (word == b->start && type->kind == POINTER_TYPE) {
         if (!has_pointers_alone(t, b))
             return;

@@ -2,9 +2,13 @@
 # How often leak_what is right: runs programs of which each some-teenth free() is dropped, with the callers of their blocks by leak_trace,
 # searches each by its heap alone, and compares what leak_what says of the lost blocks with their callers (score.py). The table of
 # docs/LIMITS.md. Programs that are not installed are left out. measure.sh [NAME..] takes those of these names alone.
+#
+# BUILT=FOLDER measure.sh [NAME..]: with programs of that folder, which were built with debug information from sources below it, and
+# how often the types of held blocks are right too (score_types.py).
 here=$(dirname "$(readlink -f "$0")")
 kit=$here/../../capture
 finder=${LEAK_FIND:-leak_find}
+[ ! "${BUILT-}" ] || PATH=$BUILT:$PATH
 work=$(mktemp -d)
 trap 'rm -rf "$work"' EXIT
 cd "$work" || exit 1
@@ -28,6 +32,9 @@ run() {
         "$finder" one --skip-freed --skip-links run.core run.walk > run.report
     "$kit/leak_what" run.core run.walk run.report > run.what && python3 -B "$here/score.py" "$name" run.what run.report run.log
     { kill -9 "$process" && wait "$process"; } 2> /dev/null
+    if [ "${BUILT-}" ] && "$kit/leak_what" --types run.core run.walk > run.typed; then
+        python3 -B "$here/score_types.py" "$name" run.typed run.log "$BUILT" >> types.rows
+    fi
     rm -f run.* table.*
     exec 3>&-
 }
@@ -76,3 +83,8 @@ run gdb 60 2000 many.gdb 8 true gdb -nx -q ./server
 run tmux 12 500 /dev/null 2 "bash $here/load_tmux.bash" tmux -D -L measure -f /dev/null
 PYTHONMALLOC=malloc run python3 200 5000 /dev/null 12 true /usr/bin/python3 "$here/load_objects.py"
 run xmllint 25 500 many.xpath 5 true xmllint --shell many.xml
+if [ "${BUILT-}" ]; then # Debian's redis has jemalloc
+    run redis 60 2000 /dev/null 0 "bash $here/load_redis.bash" redis-server --port 21579 --save ''
+    printf '\n%s\n%s\n' '| Program | blocks | with a type | right | wrong | not judged | arrays right | wrong | not judged |' '|---|---|---|---|---|---|---|---|---|'
+    cat types.rows
+fi

@@ -99,4 +99,5 @@ def main(name, what, report, log):
           f"{share} | {counts['by size']} |")
 
 
-main(*sys.argv[1:])
+if __name__ == "__main__":
+    main(*sys.argv[1:])

@@ -1,0 +1,138 @@
+"""score_types.py NAME TYPED LOG FOLDER [SITES]: the types that `leak_what --types` gives blocks, against the source lines that asked for
+them. TYPED is its log, LOG leak_trace's of the same process, with callers; the program was built with debug information, in FOLDER.
+
+Prints a row: name, live blocks, those with a type, how many of them are right, wrong and unjudged, and of those told as `or array` right
+and wrong. The line tells the type by `sizeof (T)` or `sizeof *v`, or by the variable that it assigns to, as the function declares it; a
+copy of a text tells that it is none. SITES lists what is not right.
+"""
+import os
+import re
+import subprocess
+import sys
+from collections import Counter, defaultdict
+
+from score import sites_of, read_callers
+
+TYPED = re.compile(r"@ (.*) \+ 0x([0-9a-f]+) 0x[0-9a-f]+$")
+FRAME = re.compile(r"(.*):\[0x([0-9a-f]+)\]$")
+SIZEOF = re.compile(r"\bsizeof\s*\(?\s*(?:(?:const\s+)?(?:struct\s+)?(\w+)(\s*\*)?\s*\)|\*\s*\(?([\w>.-]+)\)?)")
+ASSIGNED = re.compile(r"(?:(\w+)\s*\*+\s*)?([\w>.-]+)\s*=[^=]")
+TEXT = re.compile(r"strn?dup|savestring|asprintf|sdsnew|sdscat|sdsdup")
+NONE = {"char", "int", "long", "void", "double", "unsigned", "size_t", "uint8_t", "u_char", "uint32_t"}
+BEFORE, AFTER = 120, 3
+
+
+def lines_of_frames(frames):
+    """By frame, the functions and source lines there, the innermost first."""
+    found, by_path = {}, defaultdict(list)
+    for frame in frames:
+        match = FRAME.match(frame)
+        if match:
+            by_path[match[1]].append((frame, int(match[2], 16) - 1))
+    for path, places in by_path.items():
+        run = subprocess.run(["addr2line", "-a", "-f", "-i", "-e", path], capture_output=True, text=True, check=False,
+                             input="\n".join(f"{at:#x}" for _, at in places))
+        lines, of_place = run.stdout.split("\n"), []
+        for number, line in enumerate(lines):
+            if line.startswith("0x"):
+                of_place.append([])
+            elif of_place and len(of_place[-1]) < 9 and number + 1 < len(lines) and re.search(r":[0-9?]+", lines[number + 1]):
+                of_place[-1].append((line, re.sub(r" \(disc.*", "", lines[number + 1])))
+        found.update((frame, of_it) for (frame, _), of_it in zip(places, of_place))
+    return found
+
+
+def read_typedefs(folder):
+    """By name of a typedef, the tag of its structure."""
+    found = {}
+    for at, _, names in os.walk(folder):
+        for name in names:
+            if name.endswith((".c", ".h")):
+                with open(os.path.join(at, name), encoding="utf-8", errors="replace") as file:
+                    text = file.read()
+                for tag, alias in re.findall(r"typedef\s+struct\s+(\w+)\s*\*?\s*(\w+)\s*;", text):
+                    found[alias] = tag
+                for tag, alias in re.findall(r"typedef\s+struct\s+(\w+)\s*\{[^}]*(?:\{[^}]*\}[^}]*)*\}\s*(\w+)\s*;", text):
+                    found[alias] = tag
+    return found
+
+
+def declared(variable, lines):
+    """The type that the lines declare the variable with, the last one."""
+    name = re.split(r"->|\.", variable)[-1]
+    for line in reversed(lines):
+        match = re.search(rf"\b(\w+)\s*\*+\s*(?:\w+\s*(?:=[^,;]*)?,\s*\*?\s*)*{re.escape(name)}\b", line)
+        if match and match[1] not in ("return", "sizeof"):
+            return match[1]
+    return None
+
+
+def type_at(where, kept):
+    """The type that the source line tells, "" of a text, and None if it tells none."""
+    path, _, number = where.rpartition(":")
+    if where in kept or not number.isdigit():
+        return kept.get(where)
+    try:
+        with open(path, encoding="utf-8", errors="replace") as file:
+            lines = file.read().split("\n")
+    except OSError:
+        return None
+    at = int(number) - 1
+    here, found = " ".join(lines[max(at - 1, 0):at + AFTER]), None
+    size, assigned = SIZEOF.search(lines[at]) or SIZEOF.search(here), ASSIGNED.search(lines[at])
+    if TEXT.search(lines[at]):
+        found = ""
+    elif size and not (size[1] in NONE and size[2]):
+        found = size[1] if size[1] else declared(size[3], lines[max(at - BEFORE, 0):at + 1])
+        found = "" if size[1] in NONE else found
+    elif assigned:
+        found = assigned[1] or declared(assigned[2], lines[max(at - BEFORE, 0):at + 1])
+        found = None if found in NONE else found
+    kept[where] = found
+    return found
+
+
+def judge(label, site, typedefs, kept):
+    """Whether the label is what the site's lines tell, or None."""
+    told = [type_at(where, kept) for _, where in site]
+    wanted = next((it for it in told if it is not None), None)
+    if wanted is None:
+        return None
+    name = re.sub(r"^(struct|class) | or array$| \*", "", label)
+    return name in (wanted, typedefs.get(wanted, wanted))
+
+
+def of_libc(path):
+    """The addresses of blocks that the C library asked for, for itself: no line of the program tells their type."""
+    found = set()
+    with open(path, encoding="utf-8", errors="replace") as file:
+        for line in file:
+            text, plus, rest = line.removeprefix("@ ").rpartition(" + 0x")
+            frames = [it for it in text.split(" < ") if "drop_free" not in it]
+            if line.startswith("@ ") and plus and frames and "libc.so" in frames[0]:
+                found.add(int(rest.split()[0], 16))
+    return found
+
+
+def main(name, typed, log, folder, listed=""):
+    """Prints the row."""
+    callers, kept, counts, told = read_callers(log), {}, Counter(), Counter()
+    sites, typedefs = sites_of(callers), read_typedefs(folder)
+    with open(typed, encoding="utf-8", errors="replace") as file:
+        blocks = {int(it[2], 16): it[1] for it in map(TYPED.match, file) if it and int(it[2], 16) in sites}
+    labels = {at: it for at, it in blocks.items() if not re.match(r"size \d+$|/|\?", it)}
+    own = of_libc(log)
+    lines = lines_of_frames({sites[it] for it in labels})
+    for address, label in labels.items():
+        right = None if address in own else judge(label, lines.get(sites[address], []), typedefs, kept)
+        counts[right, label.endswith(" or array")] += 1
+        if right is not True:
+            told[right, label, str(lines.get(sites[address], sites[address]))] += 1
+    print(f"| {name} | {len(blocks)} | {len(labels)} | {counts[True, False]} | {counts[False, False]} | {counts[None, False]} | "
+          f"{counts[True, True]} | {counts[False, True]} | {counts[None, True]} |")
+    for (right, label, where), count in told.most_common(40) if listed else ():
+        print(count, right, label, where[:300])
+
+
+if __name__ == "__main__":
+    main(*sys.argv[1:])
