@@ -45,9 +45,13 @@ void fail(const char *form, ...)
     exit(REFUSED);
 }
 
-/* The words ask for help, or are wrong. */
+/* The words ask for the version or for help, or are wrong. */
 void refuse_words(int count, char **words)
 {
+    if (count == 2 && !strcmp(words[1], "--version")) {
+        printf("%s %s\n", program, VERSION);
+        exit(0);
+    }
     fputs(usage, stderr);
     if (count == 2 && (!strcmp(words[1], "--help") || !strcmp(words[1], "-h")))
         fputs(help, stderr);

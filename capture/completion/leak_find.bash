@@ -11,13 +11,13 @@ _leak_options() {
     holders) echo "$search --in --of --block --since -h --help" ;;
     why) echo "$skips --other-heap --strict -h --help" ;;
     grow) echo '--strict -h --help' ;;
-    leak_trace) echo '-o -d -m -w -k -e --list --all --remove' ;;
-    leak_dump) echo '--after --core --size --whole-stack --no-calls --pipes --hold' ;;
-    leak_log) echo '--after' ;;
-    leak_walk) echo '--partial --quiet --names --after --arenas --unused' ;;
-    leak_what) echo '--types --root --place' ;;
-    leak_report) echo "--keep --files --after --root --unchecked --list --whole-stack --no-calls --pipes --hold -n --structures --why $skips --other-heap --check --strict --workers --piece --stack" ;;
-    leak_lines) echo '-n --suppress --exit-code --folded --json --html --since --no-lines --what --structures --why --core --log --root --pid --unchecked --copy-files' ;;
+    leak_trace) echo '-o -d -m -w -k -e --list --all --remove --version' ;;
+    leak_dump) echo '--after --core --size --whole-stack --no-calls --pipes --hold --version' ;;
+    leak_log) echo '--after --version' ;;
+    leak_walk) echo '--partial --quiet --names --after --arenas --unused --version' ;;
+    leak_what) echo '--types --root --place --version' ;;
+    leak_report) echo "--keep --files --after --root --unchecked --list --version --whole-stack --no-calls --pipes --hold -n --structures --why $skips --other-heap --check --strict --workers --piece --stack" ;;
+    leak_lines) echo '-n --suppress --exit-code --folded --json --html --since --no-lines --what --structures --why --core --log --root --pid --unchecked --copy-files --version' ;;
     esac
 }
 

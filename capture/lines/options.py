@@ -25,6 +25,7 @@ Copies a report of leak_find, with its rows as a table by function, file and lin
   --pid PID        looks then at the files of the process, while it lives
   --unchecked      names also from files whose build nobody can tell: those without a build-id
   --copy-files DIR with --pid and --log: copies the files that the log names into the new folder DIR, and does nothing else
+  --version        says which version this is
 
 status: 0, or 1 as above; 2 if there is no answer, with a line on standard error"""
 HELP_WORDS = ("-h", "--help")

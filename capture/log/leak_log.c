@@ -6,11 +6,12 @@
 
 #include "log.h"
 
-const char program[] = "leak_log", usage[] = "usage: leak_log CORE TABLE [--after LOG]\n", help[] =
+const char program[] = "leak_log", usage[] = "usage: leak_log CORE TABLE [--after LOG] | leak_log --version\n", help[] =
     "Writes to standard output a log of the blocks that a table of leak_trace has, for leak_find. leak_dump calls it.\n\n"
     "  CORE         a core of the process, of the moment of the table\n"
     "  TABLE        a copy of the table\n"
-    "  --after LOG  writes LOG first, made of an earlier table of the same process, and then what came and went since\n\n"
+    "  --after LOG  writes LOG first, made of an earlier table of the same process, and then what came and went since\n"
+    "  --version    says which version this is\n\n"
     "status: 0, or 2 if there is no log, with a line on standard error\n";
 
 /* Writes the ends of the old blocks that are gone, and gives the new ones. A block of the earlier log is still

@@ -23,6 +23,14 @@ fail() {
     exit 2
 }
 
+# tell_version: says which version this is, and ends. The file is where `make install` puts it, or at the top of the repository.
+tell_version() {
+    for file in "$scripts/../VERSION" "$scripts/../../VERSION"; do
+        [ ! -r "$file" ] || { echo "$program $(cat "$file")"; exit 0; }
+    done
+    fail "there is no file VERSION beside $scripts"
+}
+
 # tool NAME: the program beside this script, or the one in PATH.
 tool() {
     if [ -x "$here/$1" ]; then

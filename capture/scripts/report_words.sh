@@ -8,6 +8,7 @@ report  --keep DIR       keeps core, log and report in the folder
 report  --files          keeps the files that the process has mapped there too, so that names can be had later and elsewhere
 report  --after DIR      tells what was lost at both moments: now, and when DIR was kept
 report  --list           prints a line for each lost block too
+report  --version        says which version this is
 dump    --whole-stack    keeps what lies below the stack pointers, which hides leaks
 dump    --no-calls       makes no system call in the process's threads, and so does not know their alternate signal stacks
 dump    --pipes          counts words that wait in pipes as held
@@ -81,6 +82,7 @@ read_words() {
     while [ $# -gt 0 ]; do
         case $1 in
         -h | --help) usage help ;;
+        --version) tell_version ;;
         -*) ;;
         *) return ;;
         esac

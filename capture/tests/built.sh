@@ -1,6 +1,6 @@
 # How capture is built: without a warning, by each compiler that is here; hardened; by the flags that a distribution gives; and anew if a header changed.
 section how it is built
-mkdir strict && find "$kit" -mindepth 1 -maxdepth 1 ! -name tests ! -name objects -exec cp -r {} strict \;
+mkdir strict && find "$kit" -mindepth 1 -maxdepth 1 ! -name tests ! -name objects -exec cp -r {} strict \; && cp "$kit/../VERSION" .
 for compiler in gcc clang; do
     command -v $compiler > /dev/null || { leave_out "a build by $compiler"; continue; }
     make -C strict CC=$compiler CFLAGS='-O2 -g -Werror' clean all > strict.said 2>&1

@@ -29,6 +29,16 @@ class Pages(unittest.TestCase):
                     told = set(re.findall(r"^  (--?[a-z][a-z-]*)", found.stderr, re.MULTILINE))
                     self.assertEqual(told, options_of.of_usage(found.stderr))
 
+    def test_each_command_has_the_version_of_the_repository(self):
+        with open(os.path.join(options_of.KIT, "..", "VERSION"), encoding="utf-8") as file:
+            version = file.read()
+        for name in [*options_of.SOURCES, "leak_core", "leak_tables"]:
+            with self.subTest(name):
+                found = subprocess.run([os.path.join(options_of.KIT, name), "--version"], capture_output=True, text=True)
+                self.assertEqual((found.returncode, found.stdout, found.stderr), (0, f"{name} {version}", ""))
+        with open(os.path.join(options_of.KIT, "..", "crates/leak_request/src/command_line.rt"), encoding="utf-8") as file:
+            self.assertIn(f'const VERSION: &str = "{version.strip()}";', file.read())
+
     def test_the_page_of_leak_find_has_the_options_of_its_help(self):
         helps = [options_of.of_help(name)[0] for name in (*options_of.SUBCOMMANDS, "program")]
         self.assertEqual(options_of.of_page("leak_find"), set().union(*helps))

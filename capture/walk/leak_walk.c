@@ -12,7 +12,7 @@ enum { COMPLETE = 0, PARTIAL = 1 };
 
 const char program[] = "leak_walk",
     usage[] = "usage: leak_walk [--partial] [--quiet] [--names TABLE] [--after LOG] CORE | leak_walk --arenas CORE | "
-              "leak_walk --unused TABLE CORE\n", help[] =
+              "leak_walk --unused TABLE CORE | leak_walk --version\n", help[] =
     "Writes to standard output a log of the blocks that were in use in the heap of glibc's malloc, or of another allocator that it\n"
     "knows, for leak_find.\n\n"
     "  CORE            a core of the process: by leak_core, gcore or the kernel\n"

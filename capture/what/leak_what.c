@@ -8,7 +8,7 @@
 
 const char program[] = "leak_what",
            usage[] = "usage: leak_what [--root DIR].. CORE LOG REPORT [ADDRESS..] |\n"
-                     "       leak_what --types [--root DIR].. CORE LOG | leak_what --place CORE ADDRESS..\n", help[] =
+                     "       leak_what --types [--root DIR].. CORE LOG | leak_what --place CORE ADDRESS.. | leak_what --version\n", help[] =
     "Writes to standard output what the lost blocks of a report are, a line for each fact: the text that a block\n"
     "begins with, its pointers to functions and variables, the held block that it looks like, and what was\n"
     "lost with it.\n\n"
@@ -18,7 +18,8 @@ const char program[] = "leak_what",
     "  ADDRESS  tells of the blocks with these addresses alone, lost or held\n"
     "  --types  copies the log with the types of blocks in place of their sizes, by the debug information of files\n"
     "  --place  tells which symbol, file or stack has each address\n"
-    "  --root   looks for the files that the process had mapped below DIR first, as a process with that root would\n\n"
+    "  --root   looks for the files that the process had mapped below DIR first, as a process with that root would\n"
+    "  --version  says which version this is\n\n"
     "status: 0; 2 if there is no answer, with a line on standard error\n";
 
 static long lost_place(const struct structures *s, long block)
