@@ -82,7 +82,7 @@ void *record(void *block, size_t size, struct caller caller)
 
     if (UNLIKELY(caller_of_new.address)) {
         caller = caller_of_new;
-        caller_of_new.address = 0;
+        caller_of_new = (struct caller){ 0 };   /* its rbp may be a block's address, and hold it */
     }
     if (UNLIKELY(!tracing()) || !block)
         return block;

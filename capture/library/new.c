@@ -33,7 +33,7 @@ static void *next_operator(const char *symbol)
         if (!caller_of_new.address)                                                     \
             caller_of_new = CALLER();                                                   \
         void *block = real arguments;                                                   \
-        caller_of_new.address = 0;                                                      \
+        caller_of_new = (struct caller){ 0 };                                           \
         return block;                                                                   \
     }
 

@@ -1,13 +1,13 @@
 # Programs whose leaks are known: what each says that it loses must be named, and nothing else.
 section known leaks
-for source in plain.c storm.c early.c children.c exec.c cxx.cc dl.c signals.c stale.c; do
+for source in plain.c storm.c early.c children.c exec.c cxx.cc dl.c signals.c stale.c rbp.cc; do
     build $source
 done
 build module.c -shared -fPIC -o "$work/module.so"
 build module_cxx.cc -shared -fPIC -o "$work/module_cxx.so"
 build bump.c -shared -fPIC -o "$work/bump.so"
 for options in '' '-d 8' '-w -d 2'; do
-    for source in plain.c storm.c early.c children.c exec.c cxx.cc; do
+    for source in plain.c storm.c early.c children.c exec.c cxx.cc rbp.cc; do
         start ./${source%.*}
         look $source
     done
