@@ -1,11 +1,12 @@
 #!/usr/bin/python3
-"""suites.py [--optimize LEVEL] [--compiler CC] [--only TEXT] [--without WAY] [--jobs N] FOLDER: the tests of other leak
-finders.
+"""suites.py [--optimize LEVEL] [--compiler CC] [--only TEXT] [--without WAY] [--jobs N] [--reasons] FOLDER: the tests of
+other leak finders.
 
 FOLDER gets the sources of Debian's packages valgrind, llvm-toolchain-14, libgc and google-perftools by `apt-get source`,
 150 MB, and the programs. Each test of cases.txt is built with a stop in place of its own check (stop/). At the stop it is
 searched four ways: by leak_dump and leak_find, traced by leak_trace and not, by gcc's LeakSanitizer, and by valgrind. What
-they name is compared with what the authors expect. Prints a table of Markdown, and lines that count.
+they name is compared with what the authors expect. Prints a table of Markdown, and lines that count; with --reasons on
+standard error also why a lost block isn't named (reasons.py).
 
 Needs gcc, g++, valgrind, capture built, leak_find (LEAK_FIND or in PATH), and processes that may be traced."""
 import argparse
@@ -18,6 +19,9 @@ import subprocess
 import sys
 import threading
 import time
+
+sys.dont_write_bytecode = True
+import reasons  # noqa: E402
 
 HERE = os.path.dirname(os.path.realpath(__file__))
 CAPTURE = os.path.join(HERE, '..', '..', 'capture')
@@ -119,7 +123,11 @@ def words_and_environment(case):
     return [word for word in case.words if '=' not in word], environment
 
 
-def dump_and_search(program, case, is_traced):
+def sizes_that_fit(is_traced):
+    return (lambda asked, size: asked == size) if is_traced else usable
+
+
+def dump_and_search(program, case, is_traced, tells_reasons):
     """The sizes of the blocks that are named, or None if there is no report."""
     words, environment = words_and_environment(case)
     name = f'{program}.{case.number}'
@@ -138,13 +146,27 @@ def dump_and_search(program, case, is_traced):
         if not search:
             return None
         report = run(FINDER, 'one', *search[1].split(), name + '.core', name + '.log').stdout
-        return [int(line.split()[2]) for line in report.splitlines() if line.startswith('leak ')]
+        named = [line.split() for line in report.splitlines() if line.startswith('leak ')]
+        if tells_reasons:
+            tell_reasons(case, name, search[1].split(), named, is_traced)
+        return [int(size) for _, _, size, *_ in named]
     finally:
         os.killpg(process.pid, signal.SIGKILL)
         process.wait()
         for file in os.listdir(os.path.dirname(program)):
             if file.startswith(os.path.basename(name) + '.'):
                 os.remove(os.path.join(os.path.dirname(program), file))
+
+
+def tell_reasons(case, name, options, named, is_traced):
+    fits, missed = sizes_that_fit(is_traced), list(case.lost.elements())
+    for _, _, size, *_ in named:
+        found = next((asked for asked in missed if fits(asked, int(size))), None)
+        if found is not None:
+            missed.remove(found)
+    addresses = {int(address, 16) for _, address, *_ in named}
+    for reason in reasons.reasons((FINDER, CAPTURE), options, name, missed, addresses, fits):
+        print(f'{title(case)} {case.stop}, {WAYS[not is_traced]}: {reason}', file=sys.stderr)
 
 
 def wait_for(path, seconds):
@@ -217,9 +239,9 @@ def try_way(way, case, builder):
     program = builder.program(case, '')
     if way == 'valgrind':
         return judge_totals(case.lost, totals_by_valgrind(program, case))
-    named = dump_and_search(program, case, way == 'traced')
-    fits = (lambda asked, size: asked == size) if way == 'traced' else usable
-    return judge(case.lost, None if named is None else matched(case.lost, named, fits))
+    is_traced = way == 'traced'
+    named = dump_and_search(program, case, is_traced, builder.settings.reasons)
+    return judge(case.lost, None if named is None else matched(case.lost, named, sizes_that_fit(is_traced)))
 
 
 def title(case):
@@ -233,6 +255,7 @@ def main():
     words.add_argument('--only', default='', metavar='TEXT', help='tests whose line has the text')
     words.add_argument('--without', default=[], action='append', metavar='WAY', choices=WAYS, help='a way that is left out')
     words.add_argument('--jobs', default=1, type=int, metavar='N', help='how many tests run at a time [1]')
+    words.add_argument('--reasons', action='store_true', help="tells why lost blocks aren't named, on standard error")
     words.add_argument('folder')
     settings = words.parse_args()
     folder = os.path.realpath(settings.folder)
