@@ -61,6 +61,7 @@ part report "$dumps"
 part remains "$attaches"
 part lists
 part answers
+part install "$attaches"
 if [ ! "$quick" ]; then
     part mtrace "$attaches"
     part servers "$attaches"
