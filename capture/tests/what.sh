@@ -235,7 +235,7 @@ if [ "$attaches" ]; then
     unprepared ./what_blocks
     LEAK_FIND=$finder limited 120 "$kit/leak_report" --keep kept $process > report.out 2> report.said
     verdict 'the status' 1 $?
-    verdict 'a row says what its block is' 1 "$(grep -cE '^ *looks like (0x[0-9a-f]*|struct node or array) \(2 held, by conns>\+0x0\)$' report.out)"
+    verdict 'a row says what its block is' 1 "$(grep -cE '^ *looks like (0x[0-9a-f]*|struct node( or array)?) \(2 held, by conns>\+0x0\)$' report.out)"
     verdict 'all that leak_what tells is kept' "$(cut -d ' ' -f 1,3- facts.what | grep -v like | sed 's/0x[0-9a-f]*//g')" \
         "$(cut -d ' ' -f 1,3- kept/dump.what | grep -vE '^(like|type) ' | sed 's/0x[0-9a-f]*//g')"
     verdict 'the command that shows the chain' 1 "$(grep -c '^chain to 0x[0-9a-f]*: leak_find why --skip-freed --skip-links --all-memory kept/dump.core kept/dump.log 0x[0-9a-f]*$' report.out)"

@@ -21,7 +21,8 @@ const char program[] = "leak_walk",
     "  --partial       goes on if the heap is damaged, and says what is left out\n"
     "  --arenas        writes of the heap only where malloc's own lists begin, as freed memory\n"
     "  --unused TABLE  writes what was free too, if heap and table agree on the blocks\n"
-    "  --quiet         does not say how many blocks, arenas and free chunks there are\n\n"
+    "  --quiet         does not say how many blocks, arenas and free chunks there are\n"
+    "  --version       says which version this is\n\n"
     "status: 0; 1 if --partial left something out, or a thread was at work on something; 2 if there is no log, with a line on standard error\n";
 
 static int may_be_partial, is_partial;
