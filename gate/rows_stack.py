@@ -57,6 +57,7 @@ def left_out():
         ("below a signal's frame", frame(0x10008), 44),
         ("a frame with other flags", frame(0x10188, flags=3), 92),
         ("a frame that disarms its stack", frame(0x10008, flags=0x80000001), 44),
+        ("a frame with other bytes after its flags", frame(0x10008, flags=0xDEADBEEF00000001), 44),
     ]
 
 

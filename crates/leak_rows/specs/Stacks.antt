@@ -68,5 +68,6 @@ pub record AreWorkedStacks : Type 0 where
   pub no_room : dead_from (word_there telling) None 0x800 (calling 0x10800 0x10f00 ∷ calling 0x10900 0x10f00 ∷ []) ≡ span 0x10000 0x107ff ∷ []
   pub signal_frame : dead (telling ++ frame 1 0x10200) (calling 0x10300 0x10f00 ∷ []) ≡ span 0x10000 0x1017f ∷ []
   pub disarming_frame : dead (telling ++ frame 0x80000001 0x10200) (calling 0x10300 0x10f00 ∷ []) ≡ span 0x10000 0x1017f ∷ []
+  pub padded_flags : dead (telling ++ frame 0xdeadbeef00000001 0x10200) (calling 0x10300 0x10f00 ∷ []) ≡ span 0x10000 0x1017f ∷ []
   pub other_flags : dead (telling ++ frame 3 0x10200) (calling 0x10300 0x10f00 ∷ []) ≡ span 0x10000 0x102ff ∷ []
   pub frame_above_rsp : dead (telling ++ frame 1 0x10300) (calling 0x10300 0x10f00 ∷ []) ≡ span 0x10000 0x102ff ∷ []

@@ -1,6 +1,6 @@
 -- The lowest address of a stack that its functions use (System V ABI for x86-64, 3.2.2: what is below rsp is nobody's, but
 -- for the red zone of 128 bytes, which a function that calls no other may use).
-use Rattle.std.specs.Prelude.{ℕ, ◌+◌, ◌-◌, ◌^◌, min, Bool, ◌&&◌, ◌||◌, nat_lt, nat_le, List, [], ◌∷◌, if◌then◌else◌, Option, Some, None, option_and_then}
+use Rattle.std.specs.Prelude.{ℕ, ◌+◌, ◌-◌, ◌%◌, ◌^◌, min, Bool, ◌&&◌, ◌||◌, nat_lt, nat_le, List, [], ◌∷◌, if◌then◌else◌, Option, Some, None, option_and_then}
 use Rattle.leak_notes.specs.declared.stacks.StackRegisters.{StackRegisters}
 use Rattle.leak_stacks.specs.declared.stack.Stack.{Stack}
 use Rattle.leak_stacks.specs.Stacks.{made_from}
@@ -13,13 +13,18 @@ red_low t = if nat_lt t.call (2 ^ 63) then t.sp else t.sp - 128
 abbrev pub are_flags : ℕ → Bool
 are_flags f = nat_lt f 3 || (nat_le 0x80000000 f && nat_lt f 0x80000003)
 
+-- The flags in the word of a frame that begins with them. They are an int: the kernel doesn't write the 4 bytes of padding after
+-- it, where any value may stand.
+abbrev pub flags_in : ℕ → ℕ
+flags_in f = f % 2 ^ 32
+
 -- A frame that the kernel made for a signal handler on an alternate stack within this stack (Linux, struct ucontext): at the
 -- address p are the begin of the alternate stack, its flags and its size, and 144 bytes above p is rsp of where the handler
 -- came from, which lies in this stack and below its stack pointer.
 abbrev pub is_frame : Stack → ℕ → ℕ → ℕ → ℕ → ℕ → ℕ → Bool
 is_frame k sp p s f z old =
     nat_le s p && nat_lt p (s + z) && nat_le k.begin s && nat_le (s + z) (k.begin + k.size)
-    && are_flags f && nat_le k.begin old && nat_lt old sp
+    && are_flags (flags_in f) && nat_le k.begin old && nat_lt old sp
 
 -- what four words say of how low functions go
 abbrev pub frame_by : Stack → ℕ → ℕ → ℕ → ℕ → ℕ → ℕ → Option ℕ

@@ -3,7 +3,7 @@
 ghost use Rattle.std.specs.Prelude.{◌≡◌, ◌≤◌, ◌%◌, ◌+◌, ◌^◌};
 ghost use Rattle.leak_elf.specs.Words.{word_of};
 ghost use Rattle.leak_stacks.specs.Stacks.{Has};
-ghost use Rattle.leak_stacks.specs.Lows.{are_flags, frame_at, is_frame, low_of, lower, red_low};
+ghost use Rattle.leak_stacks.specs.Lows.{are_flags, flags_in, frame_at, is_frame, low_of, lower, red_low};
 
 use crate::stack::{Stack, next_below, word_above};
 use leak_elf::{Image, Words};
@@ -20,6 +20,9 @@ const AUTO_DISARM: u64 = 0x8000_0000;
 
 /// How far above the words of an alternate stack a signal frame has the rsp that it returns to (Linux, `struct ucontext`).
 const OLD_RSP_AT: u64 = 144;
+
+/// The flags of an alternate stack are an int: of their word the kernel writes only the bytes below this.
+const FLAGS_END: u64 = 1 << 32;
 
 /// An alternate signal stack, as a signal frame has it (Linux, `stack_t`), and the rsp that the frame returns to.
 #[derive(Clone, Copy)]
@@ -59,7 +62,7 @@ fn is_frame(stack: &Stack, sp: u64, place: u64, frame: &SignalFrame) -> bool
     if frame.size <= place - frame.begin || stack.size < into || stack.size - into < frame.size {
         return false;
     }
-    are_flags(frame.flags) && stack.begin <= frame.old && frame.old < sp
+    are_flags(frame.flags % FLAGS_END) && stack.begin <= frame.old && frame.old < sp
 }
 
 /// How low functions go by the signal frame at the place, if there is one.

@@ -29,6 +29,7 @@ returns c = record {
   no_room = refl;
   signal_frame = refl;
   disarming_frame = refl;
+  padded_flags = refl;
   other_flags = refl;
   frame_above_rsp = refl;
 }
