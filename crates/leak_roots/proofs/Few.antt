@@ -2,7 +2,7 @@
 use Rattle.std.proofs.Common.{◌≡◌, None, ℕ, zero, suc, ◌+◌, ◌<◌, ◌≤◌, Bool, true, false, cond, leb, List, [], ◌∷◌, length, get_or, take, filter, refl, sym, ap, subst, ⊎_elim, ◌∙◌, ◌-◌, max, min, arith}
 use Rattle.std.specs.List.{count_by}
 use Rattle.std.proofs.lemmas.Bool.{leb-true, le-leb, lt-leb, cases_lt}
-use Rattle.std.proofs.lemmas.List.{take_more, take_all, get_or_default, length-append}
+use Rattle.std.proofs.lemmas.List.{take_more, take_all, get_or_default, length-append, length-take}
 use Rattle.std.proofs.lemmas.List.Elements.{filter-append}
 use Rattle.std.proofs.lemmas.List.Sums.{sum_by-cons, count_by-le-length}
 use Rattle.leak_elf.specs.declared.segment.Segment.{Segment}
@@ -101,6 +101,11 @@ pub record AreAllFew (spans : List Span) (memory : List (ℕ × ℕ)) (i kept : 
 
 pub all_few_first : (spans : List Span) (memory : List (ℕ × ℕ)) → AreAllFew spans memory 0 0
 all_few_first spans memory = record { ahead = λ k d l m. omega arith; all = omega arith }
+
+-- of the first ranges all are kept as they are
+pub all_few_ahead : (spans : List Span) (memory : List (ℕ × ℕ)) (i : ℕ) → i ≤ length memory → AreAllFew spans memory i (length (take i memory))
+all_few_ahead spans memory i l =
+    let n = length-take i memory in record { ahead = λ k d m o. omega (arith, n); all = omega (arith, n) }
 
 pub all_few_more : (spans : List Span) (memory : List (ℕ × ℕ)) (i kept more : ℕ) (d : ℕ × ℕ) → AreRanges memory → i < length memory → AreAllFew spans memory i kept
     → more + spans_up_to spans (get_or memory i d).0 ≤ kept + spans_up_to spans (get_or memory i d).1 + 1 → AreAllFew spans memory (i + 1) more

@@ -1,16 +1,19 @@
 -- Places that are left out since they are inside spans.
-use Rattle.std.proofs.Common.{◌≡◌, ℕ, zero, suc, ◌+◌, ◌-◌, ◌*◌, ◌/◌, ◌%◌, ◌<◌, ◌≤◌, Bool, true, false, not, List, [], ◌∷◌, ◌++◌, length, get_or, take, map, filter, refl, sym, ap, subst, ◌∙◌, append-nil, append_assoc, arith}
+use Rattle.std.proofs.Common.{◌≡◌, ℕ, zero, suc, ◌+◌, ◌-◌, ◌*◌, ◌/◌, ◌%◌, ◌<◌, ◌≤◌, Bool, true, false, not, inl, inr, List, [], ◌∷◌, ◌++◌, length, get_or, take, map, filter, refl, sym, ap, subst, ◌∙◌, append-nil, append_assoc, arith}
 use Rattle.std.specs.List.{AllByRecursion, list_all, range_with_len}
+use Rattle.std.proofs.lemmas.Bool.{cases_lt}
 use Rattle.std.proofs.lemmas.List.{take_more, take_all, get_or_default, length-map, length-append}
 use Rattle.std.proofs.lemmas.List.Elements.{filter-append}
 use Rattle.std.proofs.lemmas.List.FromFn.{length-range_with_len}
 use Rattle.leak_blocks.specs.declared.block.Block.{Block}
 use Rattle.leak_blocks.specs.declared.small.Span.{Span}
-use Rattle.leak_blocks.specs.Small.{CoverSame, is_covered}
+use Rattle.leak_blocks.specs.Small.{AreApart, CoverSame, is_covered}
 use Rattle.leak_roots.specs.Places.{Places, IsRange, AreRanges, EndBy, addresses_in, memory_places}
 use Rattle.leak_roots.specs.Roots.{AreRootsOf, is_inside, outside_places, freed_places, kept_places, dead_places, root_places}
 use Rattle.leak_roots.proofs.Addresses.{addresses_in-split}
+use Rattle.leak_roots.proofs.Cutting.{range_is}
 use Rattle.leak_roots.proofs.Ranges.{end_later, ranges_push, places_push, all_push}
+use Rattle.leak_roots.proofs.Spans.{none_inside}
 
 -- ---- places that are all inside spans, or all outside
 
@@ -128,6 +131,14 @@ ranges_apart (r ∷ rs) j zero d h l m = absurd (omega arith)
 ranges_apart (r ∷ rs) zero (suc k) d h l m = ranges_behind r rs k d h.1 (omega arith)
 ranges_apart (r ∷ rs) (suc j) (suc k) d h l m = ranges_apart rs j k d h.2 (omega arith) (omega arith)
 
+-- the ends ascend
+pub ends_ascend : (rs : List (ℕ × ℕ)) (j k : ℕ) (d : ℕ × ℕ) (at : ℕ) → AreRanges rs → j ≤ k → k < length rs → (get_or rs k d).1 ≤ at → (get_or rs j d).1 ≤ at
+ends_ascend rs j k d at are l h e =
+    elim (cases_lt j k) [
+      | inl m ↦ let a = ranges_apart rs j k d are m h in let one = range_is rs k d are h in let s = one.some in omega arith
+      | inr m ↦ let q : j ≡ k = omega arith in rw q e
+    ]
+
 -- the places of the first ranges: those outside the spans were added, and the others counted
 pub record AreAllKept (spans : List Span) (memory : List (ℕ × ℕ)) (i : ℕ) (kept : List (ℕ × ℕ)) (inside : ℕ) : Type 0 where
   pub ranges : AreRanges kept
@@ -158,6 +169,33 @@ all_kept_more spans memory i kept more inside count d are h k places' ranges' en
       ∙ sym (length-append (filter (is_inside spans) (memory_places (take i memory))) (filter (is_inside spans) (addresses_in (get_or memory i d))))
       ∙ ap length (sym (filter_more (is_inside spans) memory i d h));
 }
+
+unfoldable pub no_span : Span
+no_span = record { first = 0; last = 0 }
+
+-- of the first ranges, which end before each span begins, all places are kept
+pub all_kept_ahead : (spans : List Span) (memory : List (ℕ × ℕ)) (i : ℕ) → AreRanges memory → AreApart spans → i ≤ length memory
+    → ((k j : ℕ) (r : ℕ × ℕ) (d : Span) → k < i → j < length spans → (get_or memory k r).1 ≤ (get_or spans j d).first)
+    → AreAllKept spans memory i (take i memory) 0
+all_kept_ahead spans memory zero are apart l ahead = all_kept_first spans memory
+all_kept_ahead spans memory (suc i) are apart l ahead =
+    let d : ℕ × ℕ = (0, 0) in
+    let r = get_or memory i d in
+    let before = all_kept_ahead spans memory i are apart (omega arith) (λ k j e s m n. ahead k j e s (omega arith) n) in
+    let one = range_is memory i d are (omega arith) in
+    let out : (a : ℕ) → r.0 ≤ a → a < r.1 → a % 8 ≡ 0 → is_inside spans a ≡ false = λ a m n o.
+    none_inside spans 0 no_span a apart (λ j p q. absurd (omega arith)) (λ j p q. let b = ahead i j d no_span (omega arith) q in omega arith) in
+    let more = take_more memory i d (omega arith) in
+    let end = before.ends i d (omega arith) (omega arith) in
+    let grown : AreAllKept spans memory (i + 1) (take i memory ++ r ∷ []) 0 =
+    all_kept_more spans memory i (take i memory) (take i memory ++ r ∷ []) 0 0 d are (omega arith) before
+    (places_push (take i memory) r ∙ ap (λ (xs : List ℕ). memory_places (take i memory) ++ xs) (sym (pass_all (λ a. not (is_inside spans a)) r.0 r.1 one.from_multiple (λ a m n o. rw (out a m n o) refl))))
+    (ranges_push (take i memory) r before.ranges end one)
+    (all_push (λ (s : ℕ × ℕ). s.1 ≤ r.1) (take i memory) r (end_later r.0 r.1 (take i memory) (let s = one.some in omega arith) end) (omega arith))
+    (sym (ap length (pass_none (is_inside spans) r.0 r.1 one.from_multiple out)))
+    (let s = one.some in omega arith) in
+    let next : i + 1 ≡ suc i = omega arith in
+    subst (λ (n : ℕ). AreAllKept spans memory n (take n memory) 0) next (subst (λ (rs : List (ℕ × ℕ)). AreAllKept spans memory (i + 1) rs 0) (sym more) grown)
 
 pub all_kept_all : (spans : List Span) (memory : List (ℕ × ℕ)) (i : ℕ) (kept : List (ℕ × ℕ)) (inside : ℕ) → length memory ≤ i → AreAllKept spans memory i kept inside → AreAllKept spans memory (length memory) kept inside
 all_kept_all spans memory i kept inside h k = record {
@@ -268,6 +306,3 @@ roots_without_dead unwritable file blocks spans slack dead others all kept same 
       dead = dead' ∙ ap (λ (xs : List ℕ). length (filter (is_inside dead) xs)) left
           ∙ ap length (filter_alike (is_inside dead) (is_inside others) places (λ a. inside_same dead others a same));
     }
-
-unfoldable pub no_span : Span
-no_span = record { first = 0; last = 0 }

@@ -133,7 +133,22 @@ fn push_kept(
     Ok(inside)
 }
 
-/// The places in the ranges that aren't inside, and how many are.
+/// How many of the ranges end before the first span begins. No place of theirs is inside.
+fn count_ahead(memory: &[(u64, u64)], spans: &[Span]) -> usize
+    requires ranges { AreRanges memory.now }
+    requires apart { AreApart spans.now }
+    ensures bound { result ≤ length memory.now }
+    ensures ahead { (k j : ℕ) (r : ℕ × ℕ) (d : Span) → k < result → j < length spans.now
+        → (slice_index_or memory.now k r).1 ≤ (slice_index_or spans.now j d).first }
+{
+    match spans.first() {
+        Some(span) => memory.partition_point(|range| range.1 <= span.first),
+        None => 0,
+    }
+}
+
+/// The places in the ranges that aren't inside, and how many are. The ranges ahead of all spans are copied at once, since there are
+/// as many as gaps between blocks.
 fn keep_others(
     alloc: Global,
     memory: &[(u64, u64)],
@@ -150,11 +165,12 @@ fn keep_others(
     ensures cuts { IfOk result (λ found.
         length found.0.items ≤ length memory.now + length spans.now) }
 {
-    let mut kept = Vec::new(alloc);
+    let ahead = count_ahead(memory, spans);
+    let mut kept = memory[..ahead].to_vec(alloc)?;
     let mut inside = 0;
     let mut passed = 0;
-    for range in memory {
-        inside += push_kept(&mut kept, *range, spans, &mut passed)?;
+    for k in ahead..memory.len() {
+        inside += push_kept(&mut kept, memory[k], spans, &mut passed)?;
     }
     Ok((kept, inside))
 }

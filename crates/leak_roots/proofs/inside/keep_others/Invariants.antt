@@ -4,8 +4,8 @@ use Rattle.leak_roots.proofs.LeftOut.{AreAllKept}
 use Rattle.leak_roots.proofs.Few.{AreAllFew}
 use Rattle.leak_roots.proofs.inside.keep_others.Given as goal
 
-abbrev pub invariant-loop-range : goal.invariant-loop-range
-invariant-loop-range l = record {
-  kept : AreAllKept l.spans l.memory l.range-index l.kept.items l.inside;
-  few : AreAllFew l.spans l.memory l.range-index (length l.kept.items);
+abbrev pub invariant-loop-k : goal.invariant-loop-k
+invariant-loop-k l = record {
+  kept : AreAllKept l.spans l.memory l.k l.kept.items l.inside;
+  few : AreAllFew l.spans l.memory l.k (length l.kept.items);
 }
