@@ -44,6 +44,8 @@ def of_folders():
                 unopened("core.k", "is a folder")),
         refused("a folder as the log", folder, "one core.k trace.log", {"core.k": BLOCK, "trace.log": None},
                 unopened("trace.log", "is a folder")),
+        refused("a folder with a file in it", folder, "one core.k trace.log", {"core.k": None, "core.k/file": BLOCK, "trace.log": ONE_BLOCK},
+                unopened("core.k", "is a folder")),
         refused("why: a folder as the log", folder, "why core.k trace.log 0x10100", {"core.k": BLOCK, "trace.log": None},
                 unopened("trace.log", "is a folder")),
         refused("a bad core and a folder", "all is opened before anything is read", "one core.k trace.log",

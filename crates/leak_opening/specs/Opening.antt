@@ -1,5 +1,5 @@
 -- How paths are opened: each once, in order, up to the first that is refused. Own rule.
-use Rattle.std.specs.Prelude.{◌≡◌, ◌⊎◌, ℕ, List, [], ◌∷◌, ◌++◌, Result, Ok, Err, string_bytes}
+use Rattle.std.specs.Prelude.{◌≡◌, ◌⊎◌, ℕ, List, [], ◌∷◌, ◌++◌, length, MatchOption, Some, slice_get, Result, Ok, Err, string_bytes}
 use Rattle.std.specs.IoError.{error_kind}
 use Rattle.std.specs.declared.io.Error.{Error}
 use Rattle.leak_opening.specs.declared.fault.OpenFault.{OpenFault}
@@ -48,3 +48,12 @@ IsCutShort opens paths first last =
 abbrev pub IsOpenFault : {O F : Type 0} → Opens O F → List (List ℕ) → O → O → OpenFault → Type 0
 IsOpenFault opens paths first last (Refused path reason) = IsRefusedAt opens paths first last (string_bytes path) reason
 IsOpenFault opens paths first last NoMemory = IsCutShort opens paths first last
+
+-- the size is one that the file with the number, from 0, is said to have, and 0 if there is none
+abbrev pub IsSizeAt : {F : Type 0} → (F → ℕ → Type 0) → List F → ℕ → ℕ → Type 0
+IsSizeAt tells files number size = MatchOption (slice_get files number) (size ≡ 0) (λ file. tells file size)
+
+-- such are the sizes of the first four, in order
+abbrev pub AreSizes : {F : Type 0} → (F → ℕ → Type 0) → List F → List ℕ → Type 0
+AreSizes tells files sizes =
+    (length sizes ≡ 4) × ((number size : ℕ) → slice_get sizes number ≡ Some size → IsSizeAt tells files number size)

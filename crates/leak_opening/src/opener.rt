@@ -18,18 +18,24 @@ pub trait Opener {
     /// What an opening does: the opener before it, the path, the answer, and the opener after it.
     ghost opens: { Self → List ℕ → Result Self.File Error → Self → Type 0 };
 
+    /// What size a file is said to have.
+    ghost tells_size: { Self.File → ℕ → Type 0 };
+
     /// Opens the file with the path, to read it. A folder is refused.
     fn open_file(&mut self, path: &str) -> io::Result<Self::File>
         ensures opening { opens self.old path.now result self.new };
 
     /// The size that the file is said to have, in bytes: 0 if that can't be told, as of a pipe.
-    fn size_of(file: &Self::File) -> u64;
+    fn size_of(file: &Self::File) -> u64
+        ensures size { tells_size file.now result };
 }
 
 impl<R: Files> Opener for R {
     type File = R::File;
 
     ghost opens = { λ _ _ _ _. ⊤ };
+
+    ghost tells_size = { λ _ _. ⊤ };
 
     fn open_file(&mut self, path: &str) -> io::Result<R::File> {
         let file = fs::open(self, path)?;

@@ -1,7 +1,7 @@
 //! The opening of some paths.
 
 ghost use Rattle.std.specs.Prelude.{◌≡◌, IfOk, IfErr, length, map, string_bytes};
-ghost use Rattle.leak_opening.specs.Opening.{AreOpened, IsOpenFault};
+ghost use Rattle.leak_opening.specs.Opening.{AreOpened, AreSizes, IsOpenFault, IsSizeAt};
 
 use crate::fault::{OpenFault, reason_of};
 use crate::opener::Opener;
@@ -30,11 +30,24 @@ pub fn open_all<O: Opener>(
     Ok(files)
 }
 
-/// The sizes that the first four files are said to have, in order. A request has no more.
-pub fn sizes_of<O: Opener>(files: &[O::File]) -> [u64; 4] {
-    let mut sizes = [0; 4];
-    for (size, file) in sizes.iter_mut().zip(files) {
-        *size = O::size_of(file);
+/// The size that the file with the number, from 0, is said to have, and 0 if there is none.
+fn size_at<O: Opener>(files: &[O::File], number: usize) -> u64
+    ensures { IsSizeAt O.tells_size files.now number result }
+{
+    match files.get(number) {
+        Some(file) => O::size_of(file),
+        None => 0,
     }
-    sizes
+}
+
+/// The sizes that the first four files are said to have, in order, and 0 for each that is missing. A request has no more.
+pub fn sizes_of<O: Opener>(files: &[O::File]) -> [u64; 4]
+    ensures { AreSizes O.tells_size files.now result }
+{
+    [
+        size_at::<O>(files, 0),
+        size_at::<O>(files, 1),
+        size_at::<O>(files, 2),
+        size_at::<O>(files, 3),
+    ]
 }

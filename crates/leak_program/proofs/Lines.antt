@@ -1,5 +1,5 @@
 -- Each message is one line, except clap's.
-use Rattle.std.proofs.Common.{◌≡◌, ℕ, List, [], ◌∷◌, ◌++◌, codes, decimal, false, refl, sym, append_assoc, string_bytes}
+use Rattle.std.proofs.Common.{ℕ, List, [], ◌∷◌, ◌++◌, codes, false, refl, sym, append_assoc, string_bytes}
 use Rattle.std.specs.Fmt.{digits}
 use Rattle.leak_escapes.specs.Escaped.{AreShown, escaped}
 use Rattle.leak_escapes.proofs.ShownLemmas.{both, escaped_shown, hexadecimal_shown}

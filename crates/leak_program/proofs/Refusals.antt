@@ -1,5 +1,5 @@
 -- From files that are not opened, and runs without a status, to words that get no answer.
-use Rattle.std.proofs.Common.{◌≡◌, List, [], Option, None, Some, ℕ, String, Global, refl, sym, subst, string_bytes}
+use Rattle.std.proofs.Common.{◌≡◌, List, [], ℕ, String, Global, refl, sym, subst, string_bytes}
 use Rattle.leak_find.specs.declared.fault.RunFault.{RunFault}
 use Rattle.leak_find.specs.declared.fault.RunFault.TheVariants as run
 use Rattle.leak_find.specs.Streams.{Sink, Source}

@@ -2,9 +2,10 @@
 use Rattle.std.proofs.Common.{◌≡◌, subst, List, map, Option, ℕ}
 use Rattle.leak_streams.proofs.Consumed.{tells}
 use Rattle.leak_request.specs.declared.options.Options.{Options}
-use Rattle.leak_find.specs.Run.{Runs}
+use Rattle.leak_find.specs.declared.fault.RunFault.{RunFault}
+use Rattle.leak_find.specs.Run.{IsRunFault, Runs}
 use Rattle.leak_find.specs.Streams.{Sink, by_bytes_left, by_reads}
-use Rattle.leak_find.proofs.RunViews.{runs}
+use Rattle.leak_find.proofs.RunViews.{refused, runs}
 use Rattle.leak_find.proofs.ViewLemmas.{Shows, sees_left}
 
 -- a sink, as it is
@@ -19,3 +20,11 @@ over_inputs left {sink} {warner} {o} {before} {after} {inputs} {held} {holds} {h
     subst (λ (b : List (Option (List ℕ))). Runs by_bytes_left sink warner o b (map left after) held holds heard hears status) same
     (runs left (by_reads (tells left)) by_bytes_left (sees_left left) (λ w. w) sink sink (shows_all sink) (λ v. v) warner warner (shows_all warner)
     o before after held holds heard hears status ran)
+
+pub fails_over_inputs : {R W : Type 0} (left : R → Option (List ℕ)) (sink : Sink W) (o : Options) (before after : List R)
+    (inputs : List (Option (List ℕ))) (held holds : W) (fault : RunFault)
+    → IsRunFault (by_reads (tells left)) sink o before after held holds fault → map left before ≡ inputs
+    → IsRunFault by_bytes_left sink o inputs (map left after) held holds fault
+fails_over_inputs left sink o before after inputs held holds fault failed same =
+    subst (λ (b : List (Option (List ℕ))). IsRunFault by_bytes_left sink o b (map left after) held holds fault) same
+    (refused left (by_reads (tells left)) by_bytes_left (sees_left left) (λ w. w) sink sink (shows_all sink) o before after held holds fault failed)

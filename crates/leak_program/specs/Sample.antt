@@ -3,8 +3,11 @@ use Rattle.std.specs.Prelude.{◌≡◌, ℕ, List, [], ◌∷◌, Option, None,
 use Rattle.leak_elf.specs.Sample.{sample_with}
 use Rattle.leak_index.specs.Readings.{distances_of}
 use Rattle.leak_request.specs.declared.options.Options.{Options}
-use Rattle.leak_find.specs.Run.{Runs}
+use Rattle.leak_find.specs.declared.fault.RunFault.{RunFault}
+use Rattle.leak_find.specs.Run.{IsRunFault, Runs}
 use Rattle.leak_find.specs.Streams.{Sink, by_bytes_left}
+use Rattle.leak_program.specs.declared.failure.Failure.{Failure}
+use Rattle.leak_program.specs.declared.failure.Failure.TheVariants.{Word, Usage, Open, Read, Run, NoMemory}
 
 -- the log of one allocation of 32 bytes
 abbrev pub sample_log : List ℕ
@@ -29,3 +32,19 @@ pub record SearchesSample {W V : Type 0} (sink : Sink W) (warner : Sink V) (held
   pub of_sample : AreOfSample options
   pub after : List (Option (List ℕ))
   pub runs : Runs by_bytes_left sink warner options sample_inputs after held holds heard hears status
+
+-- the search of the sample has no status for this reason
+pub record FailsSample {W : Type 0} (sink : Sink W) (held holds : W) (fault : RunFault) : Type 0 where
+  pub options : Options
+  pub of_sample : AreOfSample options
+  pub after : List (Option (List ℕ))
+  pub fails : IsRunFault by_bytes_left sink options sample_inputs after held holds fault
+
+-- why the sample has no report: its search has none, or no memory is left for its core, and no call is made of the writer
+abbrev pub IsSampleFailure : {W : Type 0} → Sink W → W → W → Failure → Type 0
+IsSampleFailure sink held holds Word = ⊥
+IsSampleFailure sink held holds (Usage fault) = ⊥
+IsSampleFailure sink held holds (Open path reason) = ⊥
+IsSampleFailure sink held holds (Read n path f) = ⊥
+IsSampleFailure sink held holds (Run fault) = FailsSample sink held holds fault
+IsSampleFailure sink held holds NoMemory = holds ≡ held

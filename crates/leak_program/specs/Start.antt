@@ -6,7 +6,7 @@ use Rattle.std.specs.declared.io.ErrorKind.TheVariants as kind
 use Rattle.leak_opening.specs.Opening.{Opens}
 use Rattle.leak_program.specs.Answer.{Answers, IsFailureOf}
 use Rattle.leak_program.specs.Messages.{message_of}
-use Rattle.leak_program.specs.Sample.{SearchesSample}
+use Rattle.leak_program.specs.Sample.{IsSampleFailure, SearchesSample}
 use Rattle.leak_program.specs.declared.failure.Failure.{Failure}
 use Rattle.leak_program.specs.declared.failure.Failure.TheVariants.{Word, Usage, Open, Read, Run, NoMemory}
 
@@ -33,7 +33,7 @@ IsAnswer opens source sink warner words first last held holds heard hears (Ok st
     (length words < 2 → (last ≡ first) × SearchesSample sink warner held holds heard hears status)
     × (2 ≤ length words → Answers opens source sink warner words first last held holds heard hears status)
 IsAnswer opens source sink warner words first last held holds heard hears (Err failure) =
-    (hears ≡ heard) × (length words < 2 → last ≡ first)
+    (hears ≡ heard) × (length words < 2 → (last ≡ first) × IsSampleFailure sink held holds failure)
     × (2 ≤ length words → IsFailureOf opens source sink words first last held holds failure)
 
 -- the words were answered, and what is to be said of it was said

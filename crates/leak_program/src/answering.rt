@@ -3,7 +3,7 @@
 ghost use Rattle.std.specs.Prelude.{◌≡◌, ◌<◌, ◌≤◌, IfOk, IfErr, length, map, string_bytes};
 ghost use Rattle.leak_find.specs.Streams.{by_reads, by_writes};
 ghost use Rattle.leak_program.specs.Answer.{Answers, IsFailureOf, IsNotShown};
-ghost use Rattle.leak_program.specs.Sample.{SearchesSample};
+ghost use Rattle.leak_program.specs.Sample.{IsSampleFailure, SearchesSample};
 
 use crate::asking::ask_files;
 use crate::failure::Failure;
@@ -41,6 +41,8 @@ pub fn answer<
     ensures sample { length words.now < 2
         → IfOk result (SearchesSample (by_writes W.calls) (by_writes V.calls)
         writer.old writer.new warner.old warner.new) }
+    ensures sample_refused { length words.now < 2
+        → IfErr result (IsSampleFailure (by_writes W.calls) writer.old writer.new) }
     ensures no_file { length words.now < 2 → opener.new ≡ opener.old }
     ensures ok { 2 ≤ length words.now → IfOk result
         (Answers O.opens (by_reads O.File.calls) (by_writes W.calls) (by_writes V.calls) (map string_bytes words.now)

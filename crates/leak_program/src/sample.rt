@@ -2,7 +2,7 @@
 
 ghost use Rattle.std.specs.Prelude.{◌≡◌, IfOk, IfErr};
 ghost use Rattle.leak_find.specs.Streams.{by_writes};
-ghost use Rattle.leak_program.specs.Sample.{SearchesSample};
+ghost use Rattle.leak_program.specs.Sample.{IsSampleFailure, SearchesSample};
 
 use crate::failure::Failure;
 use leak_elf::core_k;
@@ -20,6 +20,7 @@ pub fn search_sample<R: AllocGlobal + Threads + Sync, W: WriteCalls, V: WriteCal
 ) -> Result<u8, Failure>
     ensures ok { IfOk result (SearchesSample (by_writes W.calls) (by_writes V.calls)
         writer.old writer.new warner.old warner.new) }
+    ensures refused { IfErr result (IsSampleFailure (by_writes W.calls) writer.old writer.new) }
     ensures silent { IfErr result (λ _. warner.new ≡ warner.old) }
 {
     let alloc = rt.alloc();

@@ -1,9 +1,11 @@
 //! The start of the program, and its exit status.
 
-ghost use Rattle.std.specs.Prelude.{◌≡◌, IfErr, map, string_bytes};
+ghost use Rattle.std.specs.Prelude.{◌≡◌, IfErr, IfOk, MatchResult, map, string_bytes};
 ghost use Rattle.std.specs.IoError.{error_kind};
 ghost use Rattle.std.specs.Process.{exit_status};
+ghost use Rattle.std.specs.Vec.Iter.{into_iter_items};
 ghost use Rattle.leak_find.specs.Streams.{IsTried, by_reads, by_writes};
+ghost use Rattle.leak_program.specs.declared.failure.Failure.TheVariants.{NoMemory};
 ghost use Rattle.leak_program.specs.Start.{HasStarted, IsAnswered, IsTold, IsUnread, unread_as};
 
 use crate::answering::answer;
@@ -12,6 +14,7 @@ use crate::messages::message;
 use leak_find::{Progress, WriteCalls, write};
 use leak_opening::Opener;
 use std::alloc::Global;
+use std::env::Args;
 use std::process::ExitCode;
 use std::rt::Env;
 use std::thread::Threads;
@@ -36,7 +39,7 @@ pub fn start<
     ensures { HasStarted O.opens (by_reads O.File.calls) (by_writes W.calls) (by_writes V.calls) opener.old opener.new
         writer.old writer.new warner.old warner.new (exit_status result) }
 {
-    match words_of(rt) {
+    match words_of(rt.alloc(), env::args(rt)) {
         Ok(words) => ExitCode::from(answer_all(
             rt,
             opener,
@@ -66,12 +69,15 @@ pub fn answer_all<
     }
 }
 
-/// The words of the program's command line.
-fn words_of<R: Env + AllocGlobal>(rt: &R) -> Result<Vec<String>, Failure>
-    ensures { IfErr result IsUnread }
+/// The words of the program's command line: the arguments that were given, all of them in order.
+fn words_of(alloc: Global, given: io::Result<Args>) -> Result<Vec<String>, Failure>
+    ensures ok { IfOk result (λ words. MatchResult given (λ args. words.items ≡ into_iter_items args) (λ _. ⊥)) }
+    ensures refused { IfErr result (λ failure.
+        MatchResult given (λ _. failure ≡ NoMemory) (λ error. failure ≡ unread_as (error_kind error))) }
+    ensures either { IfErr result IsUnread }
 {
-    match env::args(rt) {
-        Ok(words) => Ok(words.collect(rt.alloc())?),
+    match given {
+        Ok(args) => Ok(args.collect(alloc)?),
         Err(error) => Err(unread(&error)),
     }
 }

@@ -3,7 +3,7 @@ use Rattle.std.proofs.Common.{◌≡◌, ap, map, string_bytes, subst, sym}
 use Rattle.leak_find.specs.Streams.{by_reads, by_writes}
 use Rattle.leak_opening.specs.Opening.{AreOpened}
 use Rattle.leak_program.specs.Files.{FailsGrown, IsRefusalOf}
-use Rattle.leak_program.proofs.Refusals.{told, unopened}
+use Rattle.leak_program.proofs.Refusals.{told}
 use Rattle.leak_program.proofs.growing.compare_logs.Goals as goal
 
 pub returns-in-Ok-clause-ok : goal.returns-in-Ok-clause-ok

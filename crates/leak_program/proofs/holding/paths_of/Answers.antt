@@ -1,5 +1,5 @@
 -- From lemmas of std.
-use Rattle.std.proofs.Common.{◌≡◌, ◌∙◌, ◌++◌, ◌∷◌, [], ap, sym, map, string_bytes, rules}
+use Rattle.std.proofs.Common.{rules}
 use Rattle.std.proofs.lemmas.List.{append-nil, map-append}
 use Rattle.leak_program.proofs.holding.paths_of.Goals as goal
 

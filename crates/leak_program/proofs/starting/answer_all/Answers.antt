@@ -1,5 +1,5 @@
 -- From lemmas of std.
-use Rattle.std.proofs.Common.{◌<◌, ◌≤◌, Ok, Err, length, map, string_bytes, refl, subst}
+use Rattle.std.proofs.Common.{◌<◌, ◌≤◌, Ok, Err, string_bytes, refl, subst}
 use Rattle.std.proofs.lemmas.List.{length-map}
 use Rattle.leak_program.proofs.starting.answer_all.Goals as goal
 
@@ -20,7 +20,7 @@ returns-in-Err g c =
     record {
       result = Err c.in-Err.failure;
       hearing = c.answer.new.warner;
-      answer = (c.in-Err.ensures.silent, λ few. c.answer.ensures.no_file (subst (λ n. n < 2) count few), λ many. c.in-Err.ensures.refused (subst (λ n. 2 ≤ n) count many));
+      answer = (c.in-Err.ensures.silent, λ few. (c.answer.ensures.no_file (subst (λ n. n < 2) count few), c.in-Err.ensures.sample_refused (subst (λ n. n < 2) count few)), λ many. c.in-Err.ensures.refused (subst (λ n. 2 ≤ n) count many));
       said = c.refuse.ensures.told;
       status_is = c.refuse.ensures.status;
     }

@@ -1,7 +1,6 @@
 -- From what the calls promise.
 use Rattle.std.proofs.Common.{◌≡◌, ◌∙◌, inl, inr, refl, rules, subst}
 use Rattle.leak_find.specs.Streams.{IsTried, by_writes}
-use Rattle.leak_program.specs.Messages.{message_of}
 use Rattle.leak_program.specs.declared.failure.Failure.TheVariants.{NoMemory}
 use Rattle.leak_program.proofs.starting.tell.Goals as goal
 
