@@ -26,6 +26,12 @@
  * what 552 stdio
  * what 552 word +0xd8 _IO_file_jumps
  * what 568 word +0x8 table
+ * what 616 word +0x8 on_read
+ * what 632 word +0x8 on_read
+ * what 632 word +0x20 on_read
+ * what 632 word +0x38 on_read
+ * what 632 word +0x50 on_read
+ * what 648 word +0x8 on_read
  */
 #include <stdio.h>
 #include "lose.h"
@@ -39,8 +45,9 @@ struct node {
 };
 enum { BUFFER = 600 };
 static long table[8];
-static struct node *conns, *texts, *numbers, *thin, *small, *smaller, *others, *volatile named[2], *volatile typed[2];
-static void *volatile arrays[2];
+static struct node *conns, *texts, *numbers, *thin, *small, *smaller, *others, *stale, *emptied;
+static struct node *volatile named[2], *volatile typed[2];
+static void *volatile arrays[2], *volatile structures[2];
 static void *buffer;
 __attribute__((noinline)) static void on_done(void) { table[0]++; }
 __attribute__((noinline)) static void on_read(void) { table[1]++; }
@@ -117,6 +124,28 @@ static void *pointers(size_t size)
         made[i] = buffer;
     return made;
 }
+/* The same three words again and again: an array of structures. */
+static void *structures_of(size_t size)
+{
+    void **made = cleared(size);
+    for (int i = 0; i + 3 <= 30; i += 3)
+        made[i] = (void *)1, made[i + 1] = (void *)on_read, made[i + 2] = buffer;
+    return made;
+}
+/* Its first word is neither a number nor an address: left over from an earlier use of the memory. */
+static struct node *with_stale_start(size_t size)
+{
+    struct node *made = node(size, NULL, 3);
+    made->next = (struct node *)0x7123456789abcdef;
+    return made;
+}
+/* Half of what held ones have is null here. */
+static struct node *half_empty(size_t size)
+{
+    struct node *made = node(size, NULL, 0);
+    made->buffer = NULL;
+    return made;
+}
 static void *chain(size_t first, size_t second)
 {
     void *third = cleared(second), *middle = with_word(second, 0, third);
@@ -137,10 +166,11 @@ __attribute__((noinline)) static void hold_all(void)
 {
     buffer = cleared(BUFFER);
     hold(&conns, 392), hold(&texts, 408), hold(&numbers, 424), hold(&thin, 488), hold(&small, 24), hold(&smaller, 40);
-    hold(&others, 520);
+    hold(&others, 520), hold(&stale, 616), hold(&emptied, 648);
     thin->call = thin->next->call = NULL;
     named[0] = with_name(536), named[1] = with_name(536);
     arrays[0] = pointers(584), arrays[1] = pointers(584);
+    structures[0] = structures_of(632), structures[1] = structures_of(632);
     typed[0] = with_type(568), typed[1] = with_type(568);
     on_exit(nothing, node(456, NULL, 1));
 }
@@ -163,6 +193,9 @@ __attribute__((noinline)) static void lose_all(void)
     LOSE(with_name(536));
     LOSE(with_type(568));
     LOSE(pointers(584));
+    LOSE(structures_of(632));
+    LOSE(with_stale_start(616));
+    LOSE(half_empty(648));
     LOSE(number_for_pointer(424));
     LOSE(node(440, NULL, 7));
     LOSE(node(456, NULL, 7));

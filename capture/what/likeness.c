@@ -2,11 +2,13 @@
 #include "classes.h"
 
 enum { LEAST_STRONG = 3, OF_FUNCTION = 3, CONTRADICTION = -150, LAST_WEIGHT = 30, WHOLE_WEIGHT = 100 };
+enum { MOST_DIFFERING = 2 };    /* one word in so many may be of another kind */
 static const uint64_t most_compared = (uint64_t)1 << 27; /* so that the time is bounded */
 
 struct fit {
     int64_t score;              /* in hundredths */
     int strong, against;
+    int some, differing;        /* words that are not null in both, and those of them that are of two kinds */
 };
 
 /* What two words of one kind say for likeness, in hundredths. */
@@ -56,6 +58,8 @@ static struct fit compare(const uint32_t *a, const uint32_t *b, size_t count)
         enum kind x = a[i] >> KIND_AT, y = b[i] >> KIND_AT;
         int points = x == y ? of_one_kind(x, a[i] & DETAIL, b[i] & DETAIL, &fit) : of_two_kinds(x, y);
         fit.against += x != y && points <= CONTRADICTION;
+        fit.some += x != NULL_WORD || y != NULL_WORD;
+        fit.differing += x != y;
         fit.score += points * (i + 1 == count ? LAST_WEIGHT : WHOLE_WEIGHT) / WHOLE_WEIGHT;
     }
     return fit;
@@ -79,9 +83,24 @@ static uint64_t held_like(const struct classes *c, const struct size *size, int3
     return count;
 }
 
-/* The class that fits best, if enough speaks for it and nothing against it. */
-static struct likeness best_of(struct classes *c, const struct size *size, const uint32_t *codes, size_t count)
+/* How many words are addresses of different places in a file that have no symbol: their codes may be equal. */
+static int other_places(struct what *what, long a, long b, const uint32_t *codes, size_t count)
 {
+    const struct block *list = what->blocks.list;
+    uint64_t x, y;
+    int found = 0;
+
+    for (size_t i = 0; i < count; i++)
+        found += codes[i] >> KIND_AT == IN_FILE && !(codes[i] & NAMED)
+            && word_at(&what->core, list[a].start + i * WORD, &x) && word_at(&what->core, list[b].start + i * WORD, &y)
+            && x != y && module_of(&what->modules, y) != NONE;
+    return found;
+}
+
+/* The class that fits best, if enough speaks for it and nothing against it. */
+static struct likeness best_of(struct what *what, struct classes *c, long block, const uint32_t *codes, size_t count)
+{
+    const struct size *size = size_of(c, what->blocks.list[block].size);
     enum { MOST_COUNTED = 10, FOR_EACH = 2 };
     struct fit best = { .score = INT64_MIN };
     const struct class *found = NULL;
@@ -96,7 +115,33 @@ static struct likeness best_of(struct classes *c, const struct size *size, const
     }
     if (!found || best.strong < LEAST_STRONG || best.against || c->compared >= most_compared)
         return (struct likeness){ NONE, NONE, 0 };
+    best.differing += other_places(what, block, found->first, codes, count);
+    if (best.differing * MOST_DIFFERING > best.some)
+        return (struct likeness){ NONE, NONE, 0 };
     return (struct likeness){ found->first, found->role, held_like(c, size, found->role) };
+}
+
+static int has_nothing(const uint32_t *codes, size_t count)
+{
+    for (size_t i = 0; i < count; i++)
+        if (codes[i] >> KIND_AT != NULL_WORD)
+            return 0;
+    return 1;
+}
+
+/* Whether the kinds of the words are the same again and again, three times at least: an array of structures. */
+static int is_periodic(const uint32_t *codes, size_t count)
+{
+    enum { LEAST = 2, TIMES = 3 };
+
+    for (size_t period = LEAST; period * TIMES <= count; period++) {
+        size_t at = period;
+        while (at < count && codes[at] >> KIND_AT == codes[at - period] >> KIND_AT)
+            at++;
+        if (at / period >= TIMES && (at == count || has_nothing(codes + at, count - at)))
+            return 1;
+    }
+    return 0;
 }
 
 /* Whether all words that are not null are addresses of blocks. Arrays of pointers look alike, whatever they are of. */
@@ -124,7 +169,7 @@ struct likeness like_of(struct what *what, struct classes *c, long block)
     if (!size)
         return (struct likeness){ NONE, NONE, 0 };
     count = read_codes(what, what->blocks.list + block, codes);
-    if (is_array(codes, count))
+    if (*codes >> KIND_AT == OTHER || is_array(codes, count) || is_periodic(codes, count))
         return (struct likeness){ NONE, NONE, 0 };
     for (size_t i = 0; i < count; i++)
         hash = mixed(hash, codes[i] >> KIND_AT == SMALL ? (uint32_t)SMALL << KIND_AT : codes[i]);
@@ -133,7 +178,7 @@ struct likeness like_of(struct what *what, struct classes *c, long block)
         if (c->known[at].hash == hash)
             return c->known[at].likeness;
     c->left_out += c->compared >= most_compared;
-    c->known[at] = (struct known){ hash, best_of(c, size, codes, count) };
+    c->known[at] = (struct known){ hash, best_of(what, c, block, codes, count) };
     return c->known[at].likeness;
 }
 
