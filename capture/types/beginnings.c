@@ -1,5 +1,5 @@
-/* Which structures begin with another one: a member or a base class at the start, or the same members in the same places.
- * A pointer to the shorter one may lead to either. */
+/* Which structures begin with another one: a member or a base class at the start, or the same members in the same
+ * places. A pointer to the shorter one may lead to either. */
 #include <stdlib.h>
 
 #include "types.h"
@@ -34,9 +34,10 @@ static const struct definition *structure_of(const struct debug *debug, Dwarf_Di
     return type_of(member, &type) && peel(debug, &type, &alias) ? definition_of(debug, &type) : NULL;
 }
 
-/* A key of all members, by their names and places; 0 if a place isn't known. With `outer` each number of first members is
- * kept as what that structure begins with, and so is what the first member begins with. */
-static uint64_t key_of_members(struct debug *debug, const struct definition *of, const struct definition *outer, int depth)
+/* A key of all members, by their names and places; 0 if a place isn't known. With `outer` each number of first members
+ * is kept as what that structure begins with, and so is what the first member begins with. */
+static uint64_t key_of_members(struct debug *debug, const struct definition *of, const struct definition *outer,
+                               int depth)
 {
     Dwarf_Die die = of->die, member;
     uint64_t key = 1, offset;

@@ -103,8 +103,8 @@ static uint64_t elements_of(Dwarf_Die *array)
     return dimensions ? product : 0;
 }
 
-/* Writes of the type of a structure's last member how large its elements are, if it is an array without a length: then the
- * structure may be as long as it likes. */
+/* Writes of the type of a structure's last member how large its elements are, if it is an array without a length: then
+ * the structure may be as long as it likes. */
 static void write_flexible(const struct debug *debug, Dwarf_Die type)
 {
     const char *alias;

@@ -182,7 +182,7 @@ int is_freed(const struct blocks *blocks, uint64_t address)
     return low && address < blocks->freed[low - 1].end;
 }
 
-/* The type of the block with this number in a typed log, or NULL: the text is a size, a place in a file, or a caller. */
+/* The type of the block with this number in a typed log, or NULL: the text is a size, a place or a caller. */
 const char *type_of_block(const struct blocks *blocks, long number, uint64_t *length)
 {
     const char *line = blocks->is_typed ? blocks->lines[number] : NULL, *text = line + strlen("@ "), *stop, *sign;

@@ -55,8 +55,8 @@ static uint64_t size_of_type(const struct typing *t, uint32_t number)
     return 0;
 }
 
-/* Whether malloc gives a block of this size for so many bytes: it rounds up to 24, 40, 56, ..; one with a mapping of its
- * own has whole pages. */
+/* Whether malloc gives a block of this size for so many bytes: it rounds up to 24, 40, 56, ..; one with a mapping of
+ * its own has whole pages. */
 static int fits(uint64_t size, uint64_t usable)
 {
     uint64_t slack = size >= LARGE ? MAPPED_SLACK : usable == LEAST_USABLE ? LEAST_USABLE : HEAP_SLACK;
@@ -107,7 +107,7 @@ static void add_job(struct typing *t, struct job job)
     t->jobs[t->job_count++] = job;
 }
 
-/* How many pointers to this structure the other one is of, or 0 if it has something else. One that is of them alone is a
+/* How many pointers to this structure the other one is of, or 0 if it has something else. One of nothing else is a
  * link, as of a list: what is linked begins with it. */
 static size_t links_in(const struct typing *t, const struct type *s, uint32_t number, int depth)
 {
