@@ -1,17 +1,20 @@
 #!/bin/sh
-# Installs what ./package makes in other releases of Debian, which have no kit: in chroots that debootstrap makes. There it
-# reports a program that leaks, unprepared and traced, by the package and by the archive, and removes the package again.
+# Installs what ./package makes in other releases of Debian, which have no kit: in chroots that debootstrap makes. There
+# it reports a program that leaks, unprepared and traced, by the package and by the archive, and removes the package.
 #
 #     gate/package.sh [--program FILE] FOLDER [RELEASE..]
 #
-# FOLDER keeps the chroots, some 400 MB each. By hand, as root: it needs the network, debootstrap, lintian, and minutes. The
-# releases are bookworm and trixie if none is named. The last line is `package: N passed, M failed`.
+# FOLDER keeps the chroots, some 400 MB each. By hand, as root: it needs the network, debootstrap, lintian, and minutes.
+# The releases are bookworm and trixie if none is named. The last line is `package: N passed, M failed`.
 set -u
 top=$(dirname "$(dirname "$(readlink -f "$0")")")
 [ "${1-}" != --program ] || { program=$(readlink -f -- "$2"); shift 2; }
 folder=$(readlink -f -- "${1:?usage: package.sh [--program FILE] FOLDER [RELEASE..]}")
 shift
-[ "$(id -u)" = 0 ] && command -v debootstrap lintian > /dev/null || { echo 'package.sh: needs root, debootstrap and lintian' >&2; exit 2; }
+[ "$(id -u)" = 0 ] && command -v debootstrap > /dev/null && command -v lintian > /dev/null || {
+    echo 'package.sh: needs root, debootstrap and lintian' >&2
+    exit 2
+}
 work=$(mktemp -d) root='' passed=0 failed=0
 trap 'umount "$root/proc" 2> /dev/null; rm -rf "$work"' EXIT
 trap 'exit 2' INT TERM HUP
@@ -31,8 +34,11 @@ inside() { chroot "$root" /usr/bin/env -i PATH=/usr/sbin:/usr/bin:/sbin:/bin tim
 
 # files: what is in the release, but for what dpkg notes about any package.
 files() {
-    (cd "$root" && find . -xdev \( -path ./proc -o -path ./tmp -o -path ./var/log -o -path ./var/lib/dpkg \) -prune -o -print
-    find var/lib/dpkg/info) | sort
+    (
+        cd "$root" || exit
+        find . -xdev \( -path ./proc -o -path ./tmp -o -path ./var/log -o -path ./var/lib/dpkg \) -prune -o -print
+        find var/lib/dpkg/info
+    ) | sort
 }
 
 # report COMMANDS [WORD..]: starts the example there by these words, and reports it by leak_report of this folder.
@@ -55,23 +61,35 @@ tried() {
 "$top/package" ${program:+--program "$program"} "$work" || exit 2
 verdict 'lintian has no error' '' "$(lintian "$work"/*.deb 2> /dev/null | grep '^E:')"
 gcc -g -O0 -w -o "$work/leaky" "$top/examples/leaky.c" || exit 2
-for release in ${@:-bookworm trixie}; do
-    root=$folder/$release
-    [ -e "$root/usr/bin/eu-addr2line" ] || debootstrap --variant=minbase --include=python3,binutils,elfutils "$release" "$root" > "$work/said" 2>&1 ||
-        { tail -n 3 "$work/said"; verdict "$release: debootstrap" 0 1; continue; }
-    echo "== $release, $(inside ldd --version | head -n 1)"
-    mount -t proc proc "$root/proc" || exit 2
+
+# make_root RELEASE: debootstrap's chroot, which is kept.
+make_root() {
+    root=$folder/$1
+    [ ! -e "$root/usr/bin/eu-addr2line" ] || return 0
+    debootstrap --variant=minbase --include=python3,binutils,elfutils "$1" "$root" > "$work/said" 2>&1 && return
+    tail -n 3 "$work/said"
+    return 1
+}
+
+# try_release RELEASE: in its chroot.
+try_release() {
+    echo "== $1, $(inside ldd --version | head -n 1)"
     cp "$work"/*.deb "$work"/*.tar.gz "$work/leaky" "$root/tmp"
     files > "$work/before"
     inside sh -c 'dpkg -i /tmp/*.deb' > "$work/said" 2>&1
-    verdict "$release: the package is installed" '0 ' "$? $(grep -i error "$work/said")"
-    tried "$release: the package" /usr/bin
+    verdict "$1: the package is installed" '0 ' "$? $(grep -i error "$work/said")"
+    tried "$1: the package" /usr/bin
     inside dpkg --purge leak-find > "$work/said" 2>&1
-    verdict "$release: the package is removed" 0 $?
-    verdict "$release: nothing stays" '' "$(files | diff "$work/before" - | head -n 3)"
+    verdict "$1: the package is removed" 0 $?
+    verdict "$1: nothing stays" '' "$(files | diff "$work/before" - | head -n 3)"
     inside sh -c 'cd /tmp && tar xzf *.tar.gz'
-    tried "$release: the archive" "/tmp/leak-find-$(cat "$top/VERSION")/bin"
+    tried "$1: the archive" "/tmp/leak-find-$(cat "$top/VERSION")/bin"
     find "$root/tmp" -mindepth 1 -delete
+}
+
+for release in ${@:-bookworm trixie}; do
+    make_root "$release" && mount -t proc proc "$root/proc" || { verdict "$release: a chroot" made none; continue; }
+    try_release "$release"
     umount "$root/proc"
 done
 echo "package: $passed passed, $failed failed"

@@ -40,7 +40,7 @@ quietly() {
     return 1
 }
 
-# built_tree FOLDER PROGRAM: puts into the folder what is installed below a prefix: this leak_find, and capture, which is built.
+# built_tree FOLDER PROGRAM: puts into the folder what is installed below a prefix: this leak_find, and capture.
 built_tree() {
     make -s -C capture install PREFIX="$1" && install "$2" "$1/bin/leak_find"
 }

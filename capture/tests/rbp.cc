@@ -1,5 +1,6 @@
 /* expect: 45 */
-/* Optimized code keeps any pointer in rbp. Here rbp holds the lost block while operator new is called, which is to keep nothing of it. */
+/* Optimized code keeps any pointer in rbp. Here it is the lost block while operator new is called, of which nothing may
+ * keep it. */
 #include "lose.h"
 extern "C" void *call_new(size_t size, void *rbp);
 asm("call_new:\n push %rbp\n mov %rsi, %rbp\n call _Znwm@PLT\n pop %rbp\n ret");
