@@ -2,10 +2,11 @@
 # Installs what ./package makes in other releases of Debian, which have no kit: in chroots that debootstrap makes. There
 # it reports a program that leaks, unprepared and traced, by the package and by the archive, and removes the package.
 #
-#     gate/package.sh [--program FILE] FOLDER [RELEASE..]
+#     gate/package.sh [--program FILE] FOLDER [RELEASE[=MIRROR]..]
 #
 # FOLDER keeps the chroots, some 400 MB each. By hand, as root: it needs the network, debootstrap, lintian, and minutes.
-# The releases are bookworm and trixie if none is named. The last line is `package: N passed, M failed`.
+# The releases are bookworm and trixie if none is named; one of Ubuntu is named with its
+# mirror. The last line is `package: N passed, M failed`.
 set -u
 top=$(dirname "$(dirname "$(readlink -f "$0")")")
 [ "${1-}" != --program ] || { program=$(readlink -f -- "$2"); shift 2; }
@@ -62,11 +63,12 @@ tried() {
 verdict 'lintian has no error' '' "$(lintian "$work"/*.deb 2> /dev/null | grep '^E:')"
 gcc -g -O0 -w -o "$work/leaky" "$top/examples/leaky.c" || exit 2
 
-# make_root RELEASE: debootstrap's chroot, which is kept.
+# make_root RELEASE [MIRROR]: debootstrap's chroot, which is kept.
 make_root() {
     root=$folder/$1
     [ ! -e "$root/usr/bin/eu-addr2line" ] || return 0
-    debootstrap --variant=minbase --include=python3,binutils,elfutils "$1" "$root" > "$work/said" 2>&1 && return
+    debootstrap --variant=minbase --include=python3,binutils,elfutils "$1" "$root" ${2:+"$2"} > "$work/said" 2>&1 &&
+        return
     tail -n 3 "$work/said"
     return 1
 }
@@ -87,10 +89,15 @@ try_release() {
     find "$root/tmp" -mindepth 1 -delete
 }
 
-for release in ${@:-bookworm trixie}; do
-    make_root "$release" && mount -t proc proc "$root/proc" || { verdict "$release: a chroot" made none; continue; }
-    try_release "$release"
-    umount "$root/proc"
+for each in ${*:-bookworm trixie}; do
+    release=${each%%=*}
+    mirror=${each#"$release"}
+    if make_root "$release" "${mirror#=}" && mount -t proc proc "$root/proc"; then
+        try_release "$release"
+        umount "$root/proc"
+    else
+        verdict "$release: a chroot" made none
+    fi
 done
 echo "package: $passed passed, $failed failed"
 [ $failed = 0 ]
