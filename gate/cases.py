@@ -44,10 +44,15 @@ def closings(case):
     return " ".join(CLOSED[stream] for stream, place in case.places.items() if place == "closed")
 
 
+def names_below(folder):
+    """The files and folders below a folder, as paths from there."""
+    return [os.path.relpath(os.path.join(at, name), folder) for at, folders, files in os.walk(folder) for name in folders + files]
+
+
 def changes(folder, files):
     """What a run has changed in its folder, as lines."""
     place = os.fsencode(folder)
-    wanted, got = sorted(os.fsencode(name) for name in files), sorted(os.listdir(place))
+    wanted, got = sorted(os.fsencode(name) for name in files), sorted(names_below(place))
     found = [f"  files: wanted {wanted}, got {got}"] if wanted != got else []
     for name, content in files.items():
         path = os.path.join(place, os.fsencode(name))
