@@ -71,6 +71,9 @@ named() {
     awk '$1 == "leak" { print $3 }' "$1" | sort -n | tr '\n' ' '
 }
 
+# build_faulty FILE: a leak_core with the faults that a test asks for.
+build_faulty() { gcc -std=gnu11 -O1 -g -pthread -DFAULT -DVERSION='"faulty"' "$kit"/dump/*.c -o "$1" || exit 1; }
+
 # build SOURCE [OPTION..]
 build() {
     local compiler=gcc

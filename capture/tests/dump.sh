@@ -1,7 +1,7 @@
 # leak_core and leak_dump: what a core has, that the process goes on as it was, and what is refused.
 section cores of hard processes
 build dump_kinds.c && build dump_many.c
-gcc -std=gnu11 -O1 -g -pthread -DFAULT "$kit"/dump/*.c -o faulty
+build_faulty faulty
 reads() { python3 "$kit/tests/dump.py" "$@"; }
 
 # states PID: how many threads are in which state, and who traces them.

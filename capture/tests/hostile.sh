@@ -2,7 +2,7 @@
 build hostile_pages.c
 build hostile_disk.c
 build hostile_tables.c
-[ -x faulty ] || gcc -std=gnu11 -O1 -g -pthread -DFAULT "$kit"/dump/*.c -o faulty
+[ -x faulty ] || build_faulty faulty
 reads() { python3 "$kit/tests/dump.py" "$@"; }
 
 # goes_on PID: whether no thread of it is stopped, or traced.

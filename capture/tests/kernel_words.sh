@@ -2,7 +2,7 @@
 section what the kernel holds
 build kernel_words.c
 build kernel_threads.c
-gcc -std=gnu11 -O1 -g -pthread -DFAULT "$kit"/dump/*.c -o faulty_calls
+build_faulty faulty_calls
 words_of() { python3 "$kit/tests/kernel_words.py" "$1"; }
 
 # ready NAME PROGRAM WORD..: runs it, its output in NAME.out, until it says that it is ready. Its id is in `process`.

@@ -1,7 +1,7 @@
 # What is left behind if a dump or a report is ended early: no file, and no process that goes on.
 section what is left behind
 [ -x plain ] || build plain.c
-[ -x faulty ] || gcc -std=gnu11 -O1 -g -pthread -DFAULT "$kit"/dump/*.c -o faulty
+[ -x faulty ] || build_faulty faulty
 export LEAK_FIND=$finder
 mkdir -p remains remains_tools
 for file in "$kit"/leak_* "$kit/scripts" "$kit/lines"; do ln -sf "$file" remains_tools/; done
