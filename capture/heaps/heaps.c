@@ -8,6 +8,8 @@ static const struct kind {
     enum finding (*walk)(struct other_heap *heap);
 } kinds[] = {
     { "musl", walk_musl },
+    { "jemalloc 5.3", walk_jemalloc },
+    { "mimalloc 2.0", walk_mimalloc },
 };
 
 enum { KINDS = sizeof kinds / sizeof *kinds };

@@ -14,6 +14,7 @@ struct other_heap {
     struct spans blocks;        /* with what is neither in use nor free */
     struct spans unused;        /* free memory, and the allocator's own */
     uint64_t inside;            /* threads that may be at work in it */
+    uint8_t *is_inside;         /* of each thread of the core */
     uint64_t odd;               /* what doesn't fit, as if a thread were at work on it */
     uint64_t steps_left, spans_left;
     char why[300];              /* what does not fit */
@@ -40,5 +41,7 @@ void count_inside(struct other_heap *heap, uint64_t address);
 
 /* the walks */
 enum finding walk_musl(struct other_heap *heap);
+enum finding walk_jemalloc(struct other_heap *heap);
+enum finding walk_mimalloc(struct other_heap *heap);
 
 #endif

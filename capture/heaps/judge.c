@@ -1,5 +1,7 @@
 /* Whether a heap is right. Nothing else can check a log of it, so whatever does not fit refuses it, where no thread is at work in the allocator;
  * where some are, a few for each. */
+#include <stdlib.h>
+
 #include "heaps.h"
 
 /* Linux, struct user_regs_struct, in words */
@@ -94,6 +96,12 @@ void count_inside(struct other_heap *heap, uint64_t address)
     const struct core *core = heap->core;
     const struct part *file = file_of(core, address);
 
-    for (size_t i = 0; i < core->thread_count; i++)
-        heap->inside += !is_elsewhere(core->threads + i) && (!file || runs_in(heap, core->threads + i, file));
+    heap->is_inside = calloc(core->thread_count + 1, 1);
+    if (!heap->is_inside)
+        fail("out of memory");
+    for (size_t i = 0; i < core->thread_count; i++) {
+        const struct thread *thread = core->threads + i;
+        heap->is_inside[i] = !is_elsewhere(thread) && (!file || runs_in(heap, thread, file));
+        heap->inside += heap->is_inside[i];
+    }
 }

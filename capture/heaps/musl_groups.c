@@ -73,6 +73,27 @@ static uint64_t block_of(struct musl *musl, const struct group *g, unsigned numb
     return 0;
 }
 
+/* Whether the byte is known, and 0. */
+static int is_zero(struct musl *musl, uint64_t at)
+{
+    uint64_t value;
+
+    return read_word(musl->heap, at & -(uint64_t)8, &value) && !(value >> 8 * (at % 8) & 255);
+}
+
+/* Whether a block ends as malloc left it (meta.h, get_nominal_size): so its group's pages are as many as it says. */
+static int has_its_end(struct musl *musl, uint64_t start, uint64_t end, unsigned number)
+{
+    enum { IN_BITS = 5 };
+    uint64_t spare = number >> 5, value;
+
+    if (spare >= IN_BITS) {
+        if (spare > IN_BITS || !read_word(musl->heap, end - 4, &value) || (spare = value & UINT32_MAX) < IN_BITS || !is_zero(musl, end - 5))
+            return 0;
+    }
+    return spare <= end - start && is_zero(musl, end - spare) && is_zero(musl, end);
+}
+
 static void add_nest(struct musl *musl, uint64_t start, uint64_t end, int is_group)
 {
     musl->nests = grown(musl->nests, musl->nest_count, sizeof *musl->nests);
@@ -86,6 +107,9 @@ static void take_slot(struct musl *musl, const struct group *g, unsigned number)
     struct head head;
     uint64_t start = block_of(musl, g, number, &head);
     int is_nest = start && head.number >> 5 == IS_NEST;
+
+    if (start && !is_nest && g->pages && !g->last && !is_free && !has_its_end(musl, start, end, head.number))
+        start = 0;
 
     if (is_free && start && !is_nest)
         tell_odd(musl->heap, "slot %u of the group at 0x%llx is free and says that it is in use", number, (unsigned long long)g->memory);

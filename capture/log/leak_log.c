@@ -74,14 +74,14 @@ static int stand_side_by_side(const struct blocks *blocks)
 static void warn_of_records(const char *name)
 {
     if (begins(name, name + strlen(name), "libjemalloc"))
-        warn("%s keeps addresses of blocks, so leaks may be hidden: in each thread up to 200 of the newest of each size (not if the program "
+        warn("%s keeps addresses of blocks, so leaks may be hidden where leak_walk can't read its heap: in each thread up to 200 of the newest of each size (not if the program "
              "starts with MALLOC_CONF=tcache:false), the first of each of its runs, as one in four of 1 KiB, and each of more than 14 KiB",
              name);
 }
 
 /* Says by a remark of the log whose the heap is, by the name of a library, or else by its blocks; and to the user, if it is not
- * glibc's. */
-static void tell_allocator(const struct core *core, const struct blocks *blocks)
+ * glibc's. Gives whether it is. */
+static int tell_allocator(const struct core *core, const struct blocks *blocks)
 {
     const struct part *part = other_allocator(&core->parts);
     const char *name = part ? name_of(part) : stand_side_by_side(blocks) ? "unknown" : NULL;
@@ -90,6 +90,7 @@ static void tell_allocator(const struct core *core, const struct blocks *blocks)
     put_program(&core->start, &core->parts);
     if (name)
         warn("the allocator is %s: search with --other-heap --skip-ends", name), warn_of_records(name);
+    return !name;
 }
 
 /* Writes the earlier log and the ends of its blocks, and gives the new blocks. */
@@ -119,7 +120,7 @@ static void print_block(struct core *core, const struct block *block, uint64_t d
 
 int main(int count, char **words)
 {
-    int is_later = count == 5 && !strcmp(words[3], "--after");
+    int is_later = count == 5 && !strcmp(words[3], "--after"), is_glibcs;
 
     if (count != 3 && !is_later)
         refuse_words(count, words);
@@ -134,8 +135,8 @@ int main(int count, char **words)
         put_remark("missed ", blocks.missed);
     put_files(&core.parts);
     tell_kept_out(&blocks);
-    tell_allocator(&core, &blocks);
-    if (blocks.knows_freed)
+    is_glibcs = tell_allocator(&core, &blocks);
+    if (blocks.knows_freed && is_glibcs) /* others may have given it to who passed the table by, as operator new of jemalloc */
         write_freed(table, &core, &blocks);
     put_stacks_remark(&core.stacks, leave_out_stacks(&fresh, &blocks, (const struct table_head *)table.bytes, &core));
     if (fresh.count)

@@ -55,14 +55,14 @@ other_allocator() { remarks allocator "$1" | grep -v '^glibc' | tail -n 1; }
 
 # The options that fit the heap of a log, which is not glibc's if OTHER says so. glibc's own links and what was
 # freed are known where no other allocator is named; others lay blocks side by side, so that the start of one is the end of another, and what
-# was freed is known where the log is by a walk of their heap.
+# was freed is known where their heap was walked.
 # Memory that can't be written holds blocks too: a static program of glibc has pointers there. leak_core leaves dead stack out of its cores;
 # of a core that is GIVEN the search leaves it out.
 #
 # fitting LOG [OTHER [GIVEN]]
 fitting() {
     if [ "${2-}" ] || [ "$(other_allocator "$1")" ]; then
-        freed=$(LC_ALL=C grep -aq '^= leak_walk heap ' "$1" && echo ' --skip-freed')
+        freed=$(LC_ALL=C grep -aqE '^= leak_walk (heap|unused) ' "$1" && echo ' --skip-freed')
         echo "--other-heap --skip-ends$freed --all-memory${3:+ --skip-dead-stack}"
     else
         echo "--skip-freed --skip-links --all-memory${3:+ --skip-dead-stack}"

@@ -27,9 +27,8 @@ verdict 'the log says so' '= leak_log allocator unknown' "$(grep '^= leak_log al
 for name in jemalloc tcmalloc_minimal mimalloc; do
     library=$(ls /usr/lib/*/lib$name.so.[0-9]* 2> /dev/null | head -n 1)
     [ "$library" ] || { leave_out "$name, which is not installed"; continue; }
-    least=590
-    [ $name != jemalloc ] || least=500      # it keeps the first block of each run of places by an address
-    judge_heap $name "$library" '--other-heap --skip-ends --all-memory' $least
+    [ $name = tcmalloc_minimal ] && freed='' || freed=' --skip-freed' # their heaps are walked beside
+    judge_heap $name "$library" "--other-heap --skip-ends$freed --all-memory" 590
     verdict "$name: that its records hide leaks is said" "$([ $name = jemalloc ] && echo 1 || echo 0)" "$(grep -c "^leak_log: lib$name.* keeps addresses of blocks" said)"
     verdict "$name: the log says so" 1 "$(grep -c "^= leak_log allocator lib$name" heap.log)"
 done

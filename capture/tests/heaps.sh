@@ -32,7 +32,7 @@ at_rest() {
 
 # damages KIND: changed words refuse the core, or change nothing.
 damages() {
-    limited 900 python3 "$kit/tests/heaps_damage.py" "$walk" "$1" "$1.core" "${DAMAGES:-40}" "${SEED:-1}" > "$1.damaged"
+    limited 900 python3 "$kit/tests/heaps_damage.py" "$walk" "$1" "$1.core" "${DAMAGES:-24}" "${SEED:-1}" > "$1.damaged"
     verdict "$1: changed words: no log is wrong" '0 wrong 0' "$? $(sed -n 's/.*\(wrong [0-9]*\) of .*/\1/p' "$1.damaged")"
     sed 's/^/     /' "$1.damaged"
 }
@@ -84,9 +84,19 @@ heap() {
     rm -f "$1.core"
 }
 
+# preloaded KIND NAME LEAST LIBRARY: a heap by a library of that name, if it is installed.
+preloaded() {
+    local library
+    library=$(ls /usr/lib/*/"$4" 2> /dev/null | head -n 1)
+    [ "$library" ] || { leave_out "$1's heap: no $4"; return; }
+    heap "$1" "$2" "$3" env LD_PRELOAD="$library" ./heaps_storm
+}
+
 if command -v musl-gcc > /dev/null; then
     musl-gcc -O1 -g -pthread "$kit/tests/heaps_storm.c" -o storm_musl && heap musl musl 396 ./storm_musl
     musl-gcc -O1 -g -static -pthread "$kit/tests/heaps_storm.c" -o storm_static && at_rest musl_static musl ./storm_static
 else
     leave_out "musl's heap: no musl-gcc"
 fi
+preloaded jemalloc 'jemalloc 5.3' 396 libjemalloc.so.2
+preloaded mimalloc 'mimalloc 2.0' 390 libmimalloc.so.2

@@ -30,13 +30,16 @@ def changed(value):
 
 core = Core(path)
 blocks, unused, anchor, _ = walked()
-records = RECORDS[kind](core, blocks, anchor)
+records = {name: [at for at in places if core.place(at) is not None] for name, places in RECORDS[kind](core, blocks, anchor).items()}
+records = {name: places for name, places in records.items() if places}
 told = {"refused": 0, "same": 0, "wrong": 0}
 for number in range(count):
     record = sorted(records)[number % len(records)]
     address = random.choice(records[record])
     value = core.word(address)
     new = changed(value)
+    while record == "maps" and bin(new).count("1") == bin(value).count("1"):
+        new = changed(value)    # nothing else has a map but how many are free
     core.put(address, new)
     found = walked()
     core.put(address, value)

@@ -22,4 +22,88 @@ def musl(core, blocks, anchor):
     return found
 
 
-RECORDS = {"musl": musl}
+def jemalloc(core, blocks, anchor):
+    """Heads of base blocks, the tree's root and leaves, edatas with their maps, and threads' caches: bins without the words that only the thread has,
+    and the junk at their stack's ends (jemalloc 5.3, include/jemalloc/internal/{base,rtree,edata,cache_bin}.h)."""
+    found = {"bases": [], "root": [], "leaves": [], "edatas": [], "maps": [], "bins": [], "junk": []}
+    bases = []
+    for start, size in core.writable():
+        for at in range(-(-start // HUGE) * HUGE, start + size - 64, HUGE):
+            length, following, _, address, left = core.words(at, 5)
+            if length and length % HUGE == 0 and following % HUGE == 0 and at < address <= at + length == address + left:
+                bases.append((at, at + length))
+                found["bases"] += [at, at + 8, at + 24, at + 32]
+    inside = lambda at: any(start <= at < end for start, end in bases)
+    found["root"] = [anchor + 8 * i for i in range(1 << 18) if core.word(anchor + 8 * i)]
+    edatas = set()
+    for root in found["root"]:
+        leaf = core.word(root)
+        for page in range(0, 1 << 21, 4096):
+            found["leaves"] += used(core, leaf + page, 512)
+    for leaf in found["leaves"]:
+        edata = core.word(leaf) & (1 << 48) - 128
+        if inside(edata):
+            edatas.add(edata)
+    for edata in edatas:
+        found["edatas"] += [edata, edata + 8, edata + 16]
+        if core.word(edata) >> 12 & 1 and core.word(edata) >> 20 & 255 < 36:
+            found["maps"] += used(core, edata + 64, 8)
+    for at, count in arrays(core):
+        found["bins"] += [at + 24 * i + 16 for i in range(count)]
+        stack = core.word(at) - ((core.word(at) - (core.word(at + 16) >> 16)) & 0xffff) - 8
+        found["junk"] += [stack] if core.word(stack) == 0x7a7a7a7a7a7a7a7a else []
+    return found
+
+
+HUGE = 2 << 20
+
+
+def bins_at(words):
+    """How many bins of a cache follow one another."""
+    count, end = 0, None
+    for i in range(0, len(words) - 2, 3):
+        full, empty = words[i + 2] >> 16 & 0xffff, words[i + 2] >> 32 & 0xffff
+        if not words[i] or words[i] % 8 or words[i + 2] >> 48 or (end is not None and full != end) or full == empty:
+            break
+        count, end = count + 1, empty
+    return count
+
+
+def arrays(core):
+    """Where the bins of each cache begin, and how many they are."""
+    for start, size in core.writable():
+        words, i = core.words(start, size // 8), 0
+        while i < len(words) - 2:
+            count = bins_at(words[i:i + 192]) if words[i] > 4096 and words[i + 2] > 65536 and not words[i + 2] >> 48 else 0
+            if count >= 36:
+                yield start + 8 * i, count
+            i += 3 * count if count >= 36 else 1
+
+
+def mimalloc(core, blocks, anchor):
+    """Heaps and their threads' data, segments, pages, the slices that lead back, and free blocks (mimalloc 2.0, include/mimalloc-types.h). But for lists
+    of blocks that other threads freed, of which nothing has the length."""
+    found = {"heaps": [], "segments": [], "pages": [], "slices": [], "lists": []}
+    heaps = {anchor}
+    for start, size in core.writable():
+        for segment in range(-(-start // SEGMENT) * SEGMENT, start + size - 512, SEGMENT):
+            if core.word(segment + 264) != 1 or core.word(segment + 232) != 1:
+                continue
+            found["segments"] += [segment + at for at in (208, 216, 224, 232, 240, 248, 256, 264)]
+            at, last = 1, core.word(segment + 248)
+            while at < last:
+                page = segment + 264 + 80 * at
+                count, used = core.word(page), core.word(page + 24) >> 32 > 1
+                found["slices"] += [page, min(page + 80 * (count - 1), segment + 264 + 80 * last)]
+                if used:
+                    found["pages"] += [page + word for word in (0, 8, 16, 24, 32, 48)]
+                    heaps.add(core.word(page + 48))
+                    found["lists"] += [block for block in (core.word(page + word) for word in (16, 32)) if block]
+                at += count
+    for heap in heaps - {0}:
+        found["heaps"] += [heap, core.word(heap) + 16, core.word(heap) + 896] + [heap + at for at in (1080, 1104, 2848, 2864, 3024)]
+    return found
+
+
+SEGMENT = 32 << 20
+RECORDS = {"musl": musl, "jemalloc": jemalloc, "mimalloc": mimalloc}

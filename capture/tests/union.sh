@@ -127,9 +127,8 @@ if [ "$attaches" ] && [ -e $jemalloc ]; then
     until_true 60 is_program $process
     settle $process
     limited 120 "$kit/leak_dump" $process "$work/other" 2> other.said
-    verdict 'the heap has not its blocks' 1 "$(grep -c "of [0-9]* blocks of the table glibc's heap has [0-9]*: they are another allocator's" other.said)"
-    verdict 'so the log is by the table' '1 0' "$(grep -c '^= leak_log moment' other.log) $(grep -c '^= leak_walk' other.log)"
-    verdict "with no free memory but malloc's own words" 1 "$(grep -c '^- ' other.log)"
+    verdict 'its heap has them' '= leak_walk heap' "$(grep -o '^= leak_walk heap' other.log)"
+    verdict 'and the table tells who asked' 1 "$(grep -c '^= leak_log names' other.log)"
     stop $process
     rm -f other.core
 else

@@ -125,7 +125,8 @@ if [ "$dumps" ]; then
         LD_PRELOAD=$jemalloc unprepared ./walk_leaks
         core_of $process jemalloc
         stop $process
-        refused jemalloc 'the allocator is libjemalloc.so.2, and only glibc' jemalloc.core
+        limited 60 "$walk" --quiet jemalloc.core > jemalloc.log
+        verdict 'jemalloc: walked' 0 $?
     else
         leave_out jemalloc
     fi
@@ -133,7 +134,8 @@ if [ "$dumps" ]; then
         unprepared redis-server --port 28185 --bind 127.0.0.1 --save '' --appendonly no
         core_of $process redis
         stop $process
-        refused redis 'the allocator is libjemalloc.so.2, and only glibc' redis.core
+        limited 60 "$walk" --quiet redis.core > redis.log
+        verdict 'redis: walked' 0 $?
     else
         leave_out redis
     fi
@@ -141,7 +143,8 @@ if [ "$dumps" ]; then
         musl-gcc -O1 -static "$kit/tests/walk_leaks.c" -o musl && unprepared ./musl
         core_of $process musl
         stop $process
-        refused musl 'another allocator (jemalloc, tcmalloc, musl' musl.core
+        limited 60 "$walk" --quiet musl.core > musl.log
+        verdict 'musl: walked' 0 $?
     else
         leave_out musl
     fi

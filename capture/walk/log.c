@@ -115,6 +115,10 @@ void write_unused(struct heap *heap)
 {
     struct writer w = { .visitor = { pass_block, put_unused }, .heap = heap };
 
+    for (size_t i = 0; i < heap->others.count; i++) {
+        put_hex("= leak_walk unused 0x", heap->others.list[i].anchor);
+        put_text("\n");
+    }
     visit_all(heap, &w.visitor);
 }
 

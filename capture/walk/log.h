@@ -8,6 +8,7 @@
 struct names {
     const char *path;
     const struct table_head *head;  /* NULL: there is no table */
+    const struct spans *others; /* blocks of other heaps than glibc's */
     struct block *list;         /* by ascending start; of each start one */
     size_t count, entries;      /* of the list, and of the table */
     size_t fitting;             /* of these the heap has the block */

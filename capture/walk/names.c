@@ -68,12 +68,25 @@ static int fits(struct core *core, const struct block *asked, uint64_t size)
     return size - (whole < LEAST_USABLE ? LEAST_USABLE : whole) <= LEAST_CHUNK;
 }
 
+/* Whether the block is of another heap than glibc's, whose sizes are less than twice those that were asked for. */
+static int is_of_others(const struct names *names, uint64_t start)
+{
+    return names->others && names->others->count && bsearch(&start, names->others->list, names->others->count, sizeof *names->others->list, by_start);
+}
+
+static int fits_other(const struct block *asked, uint64_t size)
+{
+    return asked->size <= size && size - asked->size <= size / 2 + ALIGNMENT;
+}
+
 /* The table's entry of a block of the heap, or NULL. */
 const struct block *name_of_block(struct names *names, struct core *core, uint64_t start, uint64_t size)
 {
     const struct block *found = names->head ? entry_at(names, start) : NULL;
 
-    return found && fits(core, found, size) ? found : NULL;
+    if (!found || !(is_of_others(names, start) ? fits_other(found, size) : fits(core, found, size)))
+        return NULL;
+    return found;
 }
 
 struct counter {
@@ -99,9 +112,10 @@ void match_names(struct heap *heap, struct names *names)
 {
     struct counter counter = { { count_block, pass_unused }, names, heap->core };
 
+    names->others = &heap->others.blocks;
     visit_all(heap, &counter.visitor);
     if (names->entries - names->fitting > MOST_STRANGE + names->entries / 2)
-        fail("%s: of %zu blocks of the table glibc's heap has %zu: they are another allocator's", names->path, names->entries,
+        fail("%s: of %zu blocks of the table the heap has %zu: they are another allocator's", names->path, names->entries,
              names->fitting);
 }
 

@@ -1,0 +1,180 @@
+/* The extents of jemalloc's tree (edata.h, emap.c). A word for the first page and the last one of each leads to its edata, and for a slab one for each
+ * page. Word and edata say the same. */
+#include <stdlib.h>
+
+#include "jemalloc.h"
+
+enum { ACTIVE = 0, LAST_AT_REST = 3, LEAF_SHIFT = 30 };
+
+/* The words of an edata: bits, address, size. */
+struct edata {
+    uint64_t at, bits, address, size, first, last;
+    unsigned class, state, free;
+    int is_slab;
+};
+
+static int read_edata(struct jemalloc *je, uint64_t word, struct edata *e)
+{
+    *e = (struct edata){ .at = (uint64_t)((int64_t)(word << 16) >> 16) & -(uint64_t)EDATA_BYTES };
+    if (!is_in_base(je, e->at, EDATA_BYTES) || !read_word(je->heap, e->at, &e->bits) || !read_word(je->heap, e->at + 8, &e->address)
+        || !read_word(je->heap, e->at + 16, &e->size))
+        return 0;
+    e->size &= -(uint64_t)PAGE;
+    e->first = e->address & -(uint64_t)PAGE;
+    e->last = e->first + e->size - PAGE;
+    e->state = e->bits >> 17 & 7;
+    e->class = e->bits >> 20 & 255;
+    e->is_slab = e->class != SIZE_CLASSES && (e->bits >> 12 & 1); /* of what is free by now, it is left as it was */
+    e->free = e->bits >> 28 & 1023;
+    return e->size && e->last >= e->first && !(e->bits >> 45) && e->class <= SIZE_CLASSES;
+}
+
+int leaf_word(struct jemalloc *je, uint64_t page, uint64_t *value)
+{
+    uint64_t leaf;
+
+    return !(page >> 48) && read_word(je->heap, je->root + 8 * (page >> LEAF_SHIFT), &leaf) && leaf
+        && read_word(je->heap, leaf + 8 * (page >> 12 & (LEAF_PAGES - 1)), value);
+}
+
+/* What jemalloc does only if it is told to. */
+static const char *unknown_kind(const struct edata *e)
+{
+    if (e->bits >> 14 & 1)
+        return "huge pages of its own (hpa)";
+    if (e->bits >> 16 & 1)
+        return "guarded extents";
+    return e->state == ACTIVE && !e->is_slab && e->class < BINS ? "a profile (prof)" : NULL;
+}
+
+/* Whether each page's word leads to the edata too: of a slab all, of others the last one. */
+static int has_pages(struct jemalloc *je, const struct edata *e)
+{
+    uint64_t value, page = e->is_slab ? e->first : e->last;
+
+    for (; page <= e->last; page += PAGE)
+        if (!leaf_word(je, page, &value) || ((uint64_t)((int64_t)(value << 16) >> 16) & -(uint64_t)EDATA_BYTES) != e->at
+            || (e->is_slab && ((value >> 48) != e->class || !(value & 1))))
+            return 0;
+    return 1;
+}
+
+static int can_be_slab(const struct jemalloc *je, const struct edata *e)
+{
+    return e->class < BINS && e->address == e->first && e->size % je->size_of[e->class] == 0 && e->size / je->size_of[e->class] <= MOST_REGIONS;
+}
+
+/* A block that isn't small has a page more, in which it begins at a random place, or none (cache_oblivious). */
+static int can_be_large(const struct jemalloc *je, const struct edata *e)
+{
+    uint64_t behind = e->address - e->first;
+
+    return e->class >= BINS && e->class < SIZE_CLASSES
+        && (e->size == je->size_of[e->class] + PAGE || (e->size == je->size_of[e->class] && !behind)) && behind % 64 == 0;
+}
+
+/* The map of free regions must have as many bits as the edata says. */
+static void add_slab(struct jemalloc *je, const struct edata *e)
+{
+    struct slab s = { .start = e->first, .end = e->first + e->size, .edata = e->at, .class = e->class };
+    uint64_t regions = e->size / je->size_of[e->class], count = 0, beyond = 0;
+
+    for (size_t i = 0; i < MAP_WORDS; i++) {
+        if (!read_word(je->heap, e->at + 64 + 8 * i, s.free + i))
+            tell_odd(je->heap, "the edata at 0x%llx is cut off", (unsigned long long)e->at);
+        for (uint64_t k = 64 * i; k < 64 * i + 64; k++)
+            count += k < regions && has_bit(s.free, k), beyond += 64 * i < regions && k >= regions && has_bit(s.free, k);
+    }
+    if (count != e->free || beyond)
+        tell_odd(je->heap, "the slab at 0x%llx has %llu free regions, and says %u", (unsigned long long)e->first, (unsigned long long)(count + beyond), e->free);
+    je->slabs = grown(je->slabs, je->slab_count, sizeof *je->slabs);
+    je->slabs[je->slab_count++] = s;
+}
+
+static void add_large(struct jemalloc *je, const struct edata *e)
+{
+    je->larges = grown(je->larges, je->large_count, sizeof *je->larges);
+    je->larges[je->large_count++] = (struct large){ e->address, e->first, e->first + e->size, e->class, IN_USE };
+}
+
+/* An extent, by the word of its first page. One that is not in use is nobody's. */
+static int take_extent(struct jemalloc *je, const struct edata *e, uint64_t word)
+{
+    int is_as_word = word >> 48 == e->class && (int)(word & 1) == e->is_slab;
+
+    if (!has_pages(je, e))
+        return 0;
+    if (e->state != ACTIVE) {
+        if (e->state > LAST_AT_REST || e->class != SIZE_CLASSES || e->is_slab || e->address != e->first)
+            return 0;
+        add_unused(je->heap, e->first, e->first + e->size);
+    } else if (e->is_slab && is_as_word && can_be_slab(je, e))
+        add_slab(je, e);
+    else if (!e->is_slab && is_as_word && can_be_large(je, e))
+        add_large(je, e);
+    else
+        return 0;
+    return 1;
+}
+
+/* A page's word. */
+static void take_page(struct jemalloc *je, uint64_t page, uint64_t word)
+{
+    static const uint64_t cleared = (uint64_t)SIZE_CLASSES << 48;
+    struct edata e;
+    uint64_t other;
+    int fits;
+
+    if (word == cleared)
+        return;
+    fits = read_edata(je, word, &e);
+    if (fits && unknown_kind(&e))
+        je->refused = unknown_kind(&e);
+    fits = fits && page >= e.first && page <= e.last && e.state == (word >> 2 & 7) && (e.is_slab || page == e.first || page == e.last);
+    if (fits && page == e.first)
+        fits = take_extent(je, &e, word);
+    else if (fits)
+        fits = leaf_word(je, e.first, &other) && (((other ^ word) & (((uint64_t)1 << 48) - EDATA_BYTES)) == 0);
+    if (!fits)
+        tell_odd(je->heap, "the edata at 0x%llx does not fit the page at 0x%llx, whose word is 0x%llx", (unsigned long long)e.at,
+                 (unsigned long long)page, (unsigned long long)word);
+}
+
+static void take_leaf(struct jemalloc *je, uint64_t leaf, uint64_t key)
+{
+    uint64_t at = leaf, value;
+
+    for (; next_word(je->heap, &at, leaf + LEAF_BYTES, &value); at += 8)
+        take_page(je, key << LEAF_SHIFT | (at - leaf) / 8 << 12, value);
+}
+
+/* An edata of a slab that is in use must be in the tree: one that is not says so no more. */
+static void look_for_slabs(struct jemalloc *je, const struct range *base)
+{
+    struct edata e;
+    uint64_t at = base->start, value;
+
+    for (; next_word(je->heap, &at, base->end, &value); at += 8) {
+        if (at % EDATA_BYTES || !(value >> 12 & 1) || value >> 45 || !read_edata(je, at & (((uint64_t)1 << 48) - 1), &e) || e.state != ACTIVE
+            || !e.is_slab || !can_be_slab(je, &e) || !segment_at(je->heap->core, e.first))
+            continue;
+        const struct slab *s = slab_at(je, e.first);
+        if (!s || s->edata != at)
+            tell_odd(je->heap, "the slab at 0x%llx is not in the tree", (unsigned long long)e.first);
+    }
+}
+
+/* Takes all extents of the tree. */
+void take_extents(struct jemalloc *je)
+{
+    uint64_t at = je->root, leaf;
+
+    for (; next_word(je->heap, &at, je->root + LEAF_BYTES, &leaf); at += 8)
+        take_leaf(je, leaf, (at - je->root) / 8);
+    if (je->slab_count)
+        qsort(je->slabs, je->slab_count, sizeof *je->slabs, by_start);
+    if (je->large_count)
+        qsort(je->larges, je->large_count, sizeof *je->larges, by_start);
+    for (size_t i = 0; i < je->base_count; i++)
+        look_for_slabs(je, je->bases + i);
+}
