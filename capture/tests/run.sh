@@ -11,14 +11,14 @@
 . "$(dirname "$0")/common.sh"
 quick=
 [ "${1-}" = --quick ] && quick=1 && shift
-wanted=$*
-for name in $wanted; do
+readonly chosen_parts=$*
+for name in $chosen_parts; do
     grep -q "^ *part $name\b" "$kit/tests/run.sh" || { echo "run.sh: no part $name" >&2; exit 2; }
 done
 
 # part NAME [DUMPS]: runs NAME.sh, if it is wanted and the dumps can be had that it needs. All parts need what the first builds.
 part() {
-    if [ "$wanted" ] && [[ " built $wanted " != *" $1 "* ]]; then
+    if [ "$chosen_parts" ] && [[ " built $chosen_parts " != *" $1 "* ]]; then
         return
     elif [ $# = 1 ] || [ "$2" ]; then
         . "$kit/tests/$1.sh"
