@@ -44,17 +44,24 @@ typedef struct memory memory_at(void *core, uint64_t address);
 /* What is known of where a part lies in its file: nothing yet, its place, or that no header of the file leads there. */
 enum placing { NOT_YET, PLACED, NOWHERE };
 
+/* The size of a file, and when it was changed last: 0 seconds if that is not known. */
+struct written {
+    uint64_t size, seconds, nanoseconds;
+};
+
 /* A part of a file that the process had mapped. An address in it is at `address + bias` in the ELF file. */
 struct part {
     uint64_t start, end, offset, bias;
     const char *path;
     struct memory head;         /* of an ELF file: its first bytes as the process had them, with all program headers */
     enum placing known;
+    struct written written;     /* of a part with the file's begin */
 };
 
 struct parts {
     struct part *list;          /* by ascending start, once sorted */
     size_t count;
+    struct memory written;      /* a note of leak_core, or none */
     uint64_t path_bytes;        /* of paths that are in the log */
     int is_full;                /* has the log no room for more? */
 };
@@ -85,6 +92,8 @@ void *grown(void *list, size_t count, size_t each);
 
 /* file.c */
 struct file map_file(const char *path);
+int reopen_regular(int place);
+int open_regular(const char *path);
 uint64_t next_data(struct file *file, uint64_t at);
 int begins(const char *at, const char *stop, const char *with);
 const char *end_of_line(struct file log, const char *at);
@@ -110,6 +119,11 @@ struct memory head_of_file(struct memory memory);
 int is_laid_out(const struct part *first, const struct part *part, uint64_t *bias);
 int is_same_build(struct memory head, struct memory other);
 void put_files(const struct parts *parts);
+
+/* written.c */
+void read_written(struct parts *parts, const struct note *note);
+void place_written(struct parts *parts);
+void put_written(const struct part *part);
 
 /* signal_stacks.c */
 void read_signal_stacks(struct signal_stacks *stacks, const struct note *note);

@@ -3,10 +3,8 @@
  * kind have. */
 #define _GNU_SOURCE
 #include <fcntl.h>
-#include <stdio.h>
 #include <stdlib.h>
 #include <string.h>
-#include <sys/stat.h>
 #include <unistd.h>
 
 #include "common.h"
@@ -61,22 +59,6 @@ static int is_in_sections(int file, const Elf64_Ehdr *header, const char *name)
         if (sections[i].sh_type == SHT_DYNSYM)
             return sections[i].sh_link >= header->e_shnum || has_symbol(file, sections + i, sections + sections[i].sh_link, name);
     return 0;
-}
-
-/* The file at this path, if it is a regular one and no link, or -1. */
-static int open_regular(const char *path)
-{
-    char by_place[64];
-    struct stat about;
-    int place = open(path, O_PATH | O_NOFOLLOW | O_CLOEXEC), file = -1;
-
-    if (place >= 0 && !fstat(place, &about) && S_ISREG(about.st_mode)) {
-        snprintf(by_place, sizeof by_place, "/proc/self/fd/%d", place);
-        file = open(by_place, O_RDONLY | O_NONBLOCK | O_CLOEXEC);
-    }
-    if (place >= 0)
-        close(place);
-    return file;
 }
 
 /* Whether the file is not the one that began so in the process's memory, or may be another one. */

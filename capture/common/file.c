@@ -19,6 +19,29 @@ static void refuse_fault(int signal)
     _exit(REFUSED);
 }
 
+/* The file at a place (O_PATH), which is closed, if it is a regular one, or -1. Nothing else is opened: to open a FIFO or a device
+ * may do something, or wait. */
+int reopen_regular(int place)
+{
+    char path[64];
+    struct stat about;
+    int file = -1;
+
+    if (place < 0)
+        return -1;
+    snprintf(path, sizeof path, "/proc/self/fd/%d", place);
+    if (!fstat(place, &about) && S_ISREG(about.st_mode))
+        file = open(path, O_RDONLY | O_NONBLOCK | O_CLOEXEC);
+    close(place);
+    return file;
+}
+
+/* The regular file at this path, or -1. No link is followed. */
+int open_regular(const char *path)
+{
+    return reopen_regular(open(path, O_PATH | O_NOFOLLOW | O_CLOEXEC));
+}
+
 /* A FIFO or a device is no file to be mapped, and is not waited for. */
 struct file map_file(const char *path)
 {

@@ -138,7 +138,7 @@ int is_same_build(struct memory head, struct memory other)
 }
 
 /* Writes remarks of the log: that files are told, and of each ELF file its build-id, or - if it has none, or
- * ? if the core lacks its notes, and its path. */
+ * ? if the core lacks its notes, and its path. Of one that has none also its size and its time. */
 void put_files(const struct parts *parts)
 {
     const char *path = NULL;
@@ -155,6 +155,8 @@ void put_files(const struct parts *parts)
         put_text(" ");
         put_text(part->path);
         put_text("\n");
+        if (!id.at && is_known && part->written.seconds)
+            put_written(part);
         path = part->path, before = id;
     }
 }

@@ -51,6 +51,7 @@ void sort_parts(struct parts *parts, memory_at *memory, void *core)
 {
     if (parts->count)
         qsort(parts->list, parts->count, sizeof *parts->list, by_start);
+    place_written(parts);
     for (struct part *part = parts->list; part < parts->list + parts->count; part++)
         if (!part->offset) {
             struct memory first = memory(core, part->start);

@@ -23,6 +23,12 @@ class Opened:
         """Its bytes."""
         return os.fstat(self.descriptor).st_size
 
+    @property
+    def written(self):
+        """Its bytes, and seconds and nanoseconds of its time of change."""
+        about = os.fstat(self.descriptor)
+        return (about.st_size, *divmod(about.st_mtime_ns, 10 ** 9))
+
     def read(self, place, count):
         """So many bytes from this place on, or fewer at the end."""
         return os.pread(self.descriptor, count, place)

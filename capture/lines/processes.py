@@ -72,7 +72,10 @@ def copy_file(file, folder):
     try:
         flags = os.O_WRONLY | os.O_CREAT | os.O_EXCL | os.O_NOFOLLOW | os.O_CLOEXEC
         with open(os.open(name, flags, 0o644, dir_fd=at), "wb") as writer:
-            return write_copy(file, writer)
+            size = write_copy(file, writer)
+            writer.flush()
+            os.utime(writer.fileno(), ns=(file.written[1] * 10 ** 9 + file.written[2],) * 2)
+            return size
     finally:
         os.close(at)
 

@@ -64,6 +64,9 @@ class Sources:
         wanted, own = self.told.ids.get(path), elf.loaded_build_id(file)
         if wanted and "?" not in wanted and wanted != {own}:
             return OTHER
+        written = self.told.written.get(path)
+        if wanted == {""} and not own and written:  # of two builds that had this path nobody knows which one it is
+            return "" if written == {file.written} else OTHER
         return "" if own and wanted == {own} or self.is_lenient else UNKNOWN
 
     def find(self, path):

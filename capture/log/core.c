@@ -34,6 +34,7 @@ static void read_notes(struct core *core, const uint8_t *at, const uint8_t *end)
             read_start(&core->start, &note);
         core->is_whole |= is_note(&note, MEMORY_NOTE, "LEAK_CORE");
         read_signal_stacks(&core->stacks, &note);
+        read_written(&core->parts, &note);
         read_ids(&core->ids, &note);
     }
 }

@@ -8,18 +8,15 @@
 
 #include "tables.h"
 
-/* Opens the file only once it is known to be a regular one; no link is followed. -1 if it isn't. */
-int open_regular(const char *path, struct stat *about)
+/* Opens the file if it is a regular one; no link is followed. -1 if it isn't. */
+int open_table(const char *path, struct stat *about)
 {
-    char by_descriptor[64];
-    int place = open(path, O_PATH | O_NOFOLLOW | O_CLOEXEC), file = -1;
+    int file = open_regular(path);
 
-    if (place < 0)
+    if (file >= 0 && fstat(file, about)) {
+        close(file);
         return -1;
-    snprintf(by_descriptor, sizeof by_descriptor, "/proc/self/fd/%d", place);
-    if (!fstat(place, about) && S_ISREG(about->st_mode))
-        file = open(by_descriptor, O_RDONLY | O_NONBLOCK | O_CLOEXEC);
-    close(place);
+    }
     return file;
 }
 
@@ -44,7 +41,7 @@ struct table_head *read_head(int file)
 int tell_lack(const char *path)
 {
     struct stat about;
-    int file = open_regular(path, &about);
+    int file = open_table(path, &about);
     struct table_head *head = file < 0 ? NULL : read_head(file);
     char when[64] = "";
 

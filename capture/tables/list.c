@@ -38,7 +38,7 @@ static char *pattern_of(const char *name)
 static void add_table(struct tables *tables, const char *path)
 {
     struct table table = { 0 };
-    int file = open_regular(path, &table.about);
+    int file = open_table(path, &table.about);
 
     if (file < 0)
         return;

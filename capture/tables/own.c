@@ -10,7 +10,7 @@
 /* Does the path, from the root of the process or from ours, lead to the file of the mapping? */
 static int leads_to(const char *path, const struct shared *shared, struct stat *about)
 {
-    int file = open_regular(path, about);
+    int file = open_table(path, about);
 
     if (file >= 0)
         close(file);

@@ -35,7 +35,7 @@ struct shared {
 };
 
 /* head.c */
-int open_regular(const char *path, struct stat *about);
+int open_table(const char *path, struct stat *about);
 struct table_head *read_head(int file);
 int tell_lack(const char *path);
 

@@ -65,11 +65,24 @@ installs newer && lines gone
 verdict 'deleted, and another one there' '' "$(names_in gone.lines)"
 stop $process
 
-# Without a build-id nothing tells two builds apart.
+# Without a build-id size and time of change tell two builds apart, or nothing does.
 build_of older -Wl,--build-id=none && installs older
 unprepared ./app/builds
 limited 60 "$kit/leak_core" $process unknown.core 2> /dev/null && "$kit/leak_walk" --quiet unknown.core > unknown.log && walked_search unknown
+mkdir known && "$kit/leak_lines" --copy-files known/kept --pid $process --log unknown.log
 stop $process
+verdict 'no build-id: size and time of change' "$(stat -c '%s %Y' app/libbuilds.so) $work/app/libbuilds.so" \
+    "$(awk '/^= leak_log written .*\/libbuilds.so$/ { print $4, $5, $7 }' unknown.log)"
+lines unknown
+verdict 'no build-id, but the same size and time: a name' 'older_library_table ' "$(names_in unknown.lines)"
+touch app/libbuilds.so
+for word in '' --unchecked; do
+    lines unknown $word
+    verdict "no build-id, and another time: no name, $word" '1 ' "$(grep -c '^another build: 1 of ' unknown.lines) $(names_in unknown.lines)"
+done
+lines unknown --root known/kept
+verdict 'no build-id: a copy that was kept is the same' 'older_library_table ' "$(names_in unknown.lines)"
+sed -i '/^= leak_log written /d' unknown.log # as of a core by the kernel
 lines unknown
 verdict 'no build-id: no name' "1 0" "$(grep -c '^build not known: 1 of .* --unchecked: ' unknown.lines) $(names_in unknown.lines | wc -w)"
 lines unknown --unchecked

@@ -23,6 +23,7 @@ static void read_notes(struct core *core, const uint8_t *at, const uint8_t *end)
         if (is_note(&note, NOTE_SEALED, "LEAK_CORE"))
             read_ranges(core, &note, 0);
         read_signal_stacks(&core->stacks, &note);
+        read_written(&core->parts, &note);
     }
 }
 

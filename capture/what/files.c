@@ -3,9 +3,7 @@
 #define _GNU_SOURCE
 #include <fcntl.h>
 #include <linux/openat2.h>
-#include <stdio.h>
 #include <stdlib.h>
-#include <sys/stat.h>
 #include <sys/syscall.h>
 #include <unistd.h>
 
@@ -29,22 +27,6 @@ static int open_place(const char *root, const char *path)
     place = syscall(SYS_openat2, folder, path, &how, sizeof how);
     close(folder);
     return place;
-}
-
-/* Opens a regular file alone: the open of a device may do something, and that of a pipe may wait. */
-static int open_regular(const char *root, const char *path)
-{
-    int place = open_place(root, path), file = -1;
-    char name[64];
-    struct stat about;
-
-    if (place < 0)
-        return -1;
-    snprintf(name, sizeof name, "/proc/self/fd/%d", place);
-    if (!fstat(place, &about) && S_ISREG(about.st_mode))
-        file = open(name, O_RDONLY | O_CLOEXEC);
-    close(place);
-    return file;
 }
 
 /* Bytes of the file and a 0 after them, or NULL. */
@@ -108,7 +90,7 @@ void close_elf(struct elf *elf)
 /* Opens the file, reads its sections, and closes it again if it is another build's. */
 static struct elf open_build(const char *root, const char *path, const struct module *module)
 {
-    struct elf elf = { .file = open_regular(root, path) };
+    struct elf elf = { .file = reopen_regular(open_place(root, path)) };
 
     if (elf.file >= 0)
         read_sections(&elf);
