@@ -40,6 +40,12 @@ verdict 'below the limit' '' "$(limited 60 "$kit/leak_trace" -m 100 ./hello 2>&1
 limited 60 "$kit/leak_trace" -m 1 ./hello > hello.out 2> said
 verdict 'at the limit: the program runs, and it is said' 'hello 1' "$(cat hello.out) $(grep -c 'all tables together are at their limit .*; not traced' said)"
 verdict 'no table is made' 1 "$(left)"
+if [ "$(id -u)" = 0 ]; then
+    chown 65534 table.*
+    verdict "another user's tables do not count" '' "$(limited 60 "$kit/leak_trace" -m 1 ./ends exit 2>&1)"
+    chown 0 table.*
+    verdict 'one of its own does' 1 "$(limited 60 "$kit/leak_trace" -m 1 ./ends exit 2>&1 | grep -c 'at their limit')"
+fi
 "$kit/leak_trace" --remove > /dev/null
 options='-m 1'
 start ./ends rests 1 2> said
