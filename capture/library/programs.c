@@ -22,7 +22,7 @@ static int open_program(int folder, const char *path)
 
     if (fstatat(folder, path, &about, *path ? 0 : AT_EMPTY_PATH) || !S_ISREG(about.st_mode))
         return -1;
-    return *path ? openat(folder, path, O_RDONLY | O_NONBLOCK | O_CLOEXEC) : dup(folder);
+    return *path ? openat(folder, path, O_RDONLY | O_NONBLOCK | O_CLOEXEC) : fcntl(folder, F_DUPFD_CLOEXEC, 0);
 }
 
 /* Is the loader that the file names musl's? */

@@ -113,8 +113,9 @@ rm -rf tables x.core
 
 if be_ready disk ./hostile_disk hung 15 libc.so.6 && grep -qx ready disk.out; then
     disk=$process
+    # (so large that it lies below the C library, and is looked into first)
     be_ready mapper python3 -c 'import mmap, os, signal, sys
-code = mmap.mmap(os.open(sys.argv[1], os.O_RDONLY), 4096, mmap.MAP_PRIVATE, mmap.PROT_READ | mmap.PROT_EXEC, offset=4096)
+code = mmap.mmap(os.open(sys.argv[1], os.O_RDONLY), 32 << 20, mmap.MAP_PRIVATE, mmap.PROT_READ | mmap.PROT_EXEC, offset=4096)
 print("ready", flush=True)
 signal.pause()' hung/libc.so.6
     timeout -k 5 15 "$kit/leak_core" "$process" x.core 2> mapper.said

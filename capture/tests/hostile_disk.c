@@ -1,5 +1,5 @@
 /* A file system of one folder (Linux, fs/fuse; linux/fuse.h) that takes all requests but one kind, which it reads and never answers: so who made
- * it waits in the kernel, also after SIGKILL. hostile_disk FOLDER OPCODE [FILE]: with FILE it has such a file of two pages. Says what is removed. */
+ * it waits in the kernel, also after SIGKILL. hostile_disk FOLDER OPCODE [FILE]: with FILE it has such a file of 64 MiB. Says what is removed. */
 #include <errno.h>
 #include <fcntl.h>
 #include <linux/fuse.h>
@@ -11,7 +11,7 @@
 #include <sys/uio.h>
 #include <unistd.h>
 
-enum { PAGE = 4096, ROOM = 1 << 20, FILE_NODE = 2 };
+enum { PAGE = 4096, ROOM = 1 << 20, FILE_NODE = 2, FILE_BYTES = 64 << 20 };
 
 static int device;
 static unsigned hangs_at;
@@ -30,7 +30,7 @@ static void answer(const struct fuse_in_header *in, int error, const void *body,
 static struct fuse_attr about(uint64_t node)
 {
     return (struct fuse_attr){ .ino = node, .mode = node == FUSE_ROOT_ID ? S_IFDIR | 0755 : S_IFREG | 0644, .nlink = 1,
-                               .size = node == FUSE_ROOT_ID ? 0 : 2 * PAGE, .blksize = PAGE };
+                               .size = node == FUSE_ROOT_ID ? 0 : FILE_BYTES, .blksize = PAGE };
 }
 
 static void answer_entry(const struct fuse_in_header *in, size_t more)
