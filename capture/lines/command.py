@@ -102,7 +102,7 @@ def run_since(asked, rules):
 def with_facts(asked, read):
     """The report with the rows that are asked for, what is said below rows of structures, and what is known of its blocks."""
     if asked.what is None:
-        return read, {}, what.Facts({}, {})
+        return read, {}, what.Facts({}, {}, {})
     facts = what.read(read_lines(asked.what), asked.what)
     return *(structures.grouped(read, facts) if asked.by_structures else (read, {})), facts
 
@@ -114,7 +114,7 @@ def run_one(asked, rules):
     files = sources_of(asked.path, asked.log, asked)
     most = asked.most if asked.form == "table" and not asked.is_judged else None
     found = callers.name({kind: rows[:most] for kind, rows in read.rows.items()}, rules, files)
-    read, found = held.suppressed(read, found, facts.top)
+    read, found = held.suppressed(read, found, facts)
     said = what.below_rows(read, facts) if asked.what and not asked.by_structures else said
     found = found._replace(what=callers.What(said, facts.of_block))
     found = signal_stacks.with_marks(found, read, files.told.stacks)

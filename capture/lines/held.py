@@ -1,16 +1,33 @@
 """Leaked blocks that only suppressed ones lead to: they are suppressed too, as LeakSanitizer does (docs, Suppressions).
 
 A report does not say which leaked block leads to which. leak_what does: of each block whether one other leaked block, the first one
-of a structure, is in each chain of leaked blocks to it. Of what more than one suppressed block leads to it says nothing.
+of a structure, is in each chain of leaked blocks to it; and of the first one of a structure which others lead to it.
 """
 from lines import tables, what
 
 
-def held_by(read, hidden, top):
-    """The blocks whose structure begins with a block of a hidden text, and that have another text."""
+def reached(tops, hidden, led):
+    """The first blocks of structures to which a chain leads that begins with none of these hidden ones, nor passes one."""
+    leads = {}
+    for address, others in led.items():
+        for other in others:
+            leads.setdefault(other, []).append(address)
+    found = {it for it in tops if it not in led and it not in hidden}
+    waiting = list(found)
+    while waiting:
+        further = {it for it in leads.get(waiting.pop(), ()) if it not in found and it not in hidden}
+        found |= further
+        waiting += further
+    return found
+
+
+def held_by(read, hidden, facts):
+    """The blocks of another text to which only blocks of a hidden text lead that begin structures."""
     blocks = what.blocks_of(read)
-    texts = {block.address: block.text for block in blocks}
-    return [it for it in blocks if it.text not in hidden and texts.get(top.get(it.address)) in hidden]
+    top = {it.address: facts.top.get(it.address, it.address) for it in blocks}
+    of_hidden = {it.address for it in blocks if it.text in hidden}
+    others = reached(set(top.values()), of_hidden, facts.led)
+    return [it for it in blocks if it.text not in hidden and top[it.address] not in others]
 
 
 def without(caller, gone):
@@ -20,10 +37,10 @@ def without(caller, gone):
     return caller._replace(row=caller.row._replace(numbers=left)) if left[0] > 0 else None
 
 
-def suppressed(read, found, top):
+def suppressed(read, found, facts):
     """The report and its callers without what only suppressed blocks lead to."""
     hidden = {caller.row.text for caller in found.suppressed.get("caller", ())}
-    gone = held_by(read, hidden, top) if top and hidden else []
+    gone = held_by(read, hidden, facts) if hidden and (facts.top or facts.led) else []
     if not gone:
         return read, found
     of_text = {}

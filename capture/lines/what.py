@@ -17,6 +17,7 @@ SHAPES = {
     "literal": re.compile(f"literal {ADDRESS} (\\+0x[0-9a-f]+) {QUOTED}"),
     "holds": re.compile(f"holds {ADDRESS} ([0-9]+) bytes ([0-9]+)"),
     "part": re.compile(f"part {ADDRESS} {ADDRESS}"),
+    "led": re.compile(f"led {ADDRESS} {ADDRESS}"),
 }
 TELLING = ("stdio", "like", "text", "word", "literal", "holds")  # the most telling first
 LEAK = re.compile(f"leak {ADDRESS} ([0-9]+) [0-9]+ (.*)", re.DOTALL)
@@ -66,9 +67,11 @@ class Shared(NamedTuple):
 
 
 class Facts(NamedTuple):
-    """By address, the facts of a block, and the first block of the structure that it is part of."""
+    """By address, the facts of a block, and the first block of the structure that it is part of; of the first block of a structure
+    those of the structures that lead to it."""
     of_block: dict
     top: dict
+    led: dict
 
 
 def visible(text):
@@ -88,7 +91,7 @@ def with_names(lines):
 
 def read(lines, place):
     """The facts of these lines."""
-    facts = Facts({}, {})
+    facts = Facts({}, {}, {})
     for line in with_names(lines):
         shape = SHAPES.get(line.split(" ", 1)[0])
         match = shape and shape.fullmatch(line)
@@ -99,6 +102,8 @@ def read(lines, place):
             facts.top[address] = words[0]
         elif kind == "type":
             facts.of_block[address] = [it._replace(type=words[0]) if it.kind == "like" else it for it in facts.of_block.get(address, [])]
+        elif kind == "led":
+            facts.led.setdefault(address, []).append(words[0])
         else:
             facts.of_block.setdefault(address, []).append(Fact(kind, words))
     return facts

@@ -122,6 +122,53 @@ if [ "$dumps" ]; then
     verdict 'damaged cores, logs and reports: each has an answer or is refused' 'status 0 or 2' "$(tail -n 1 damage.said)"
 fi
 
+section what several lost blocks lead to
+cat > shared_blocks.c << 'END'
+#include "lose.h"
+/* Two lost blocks of 200 and 300 bytes lead to one of 400, and that to one of 500; one of 600 leads to the latter too. */
+int main(void)
+{
+    void **last = calloc(1, 500), **shared = calloc(1, 400), **first = calloc(1, 200), **second = calloc(1, 300), **other = calloc(1, 600);
+    shared[3] = other[4] = last, first[5] = second[6] = shared;
+    last = shared = first = second = other = NULL;
+    LOSE(malloc(61));
+    rest();
+}
+END
+if [ "$dumps" ]; then
+    gcc -O0 -g -I "$kit/tests" shared_blocks.c -o shared_blocks && unprepared_dump shared ./shared_blocks
+    stop $process
+    "$tells" shared.core shared.log shared.report > shared.what
+    verdict 'which lead to which' '400 by 200, 400 by 300, 500 by 400, 500 by 600' "$(awk '
+        FILENAME == "shared.report" { if ($1 == "leak") size[$2] = int($3 / 100) * 100; next }
+        $1 == "led" { print size[$2] " by " size[$3] }' shared.report shared.what | sort | paste -s -d , | sed 's/,/, /g')"
+fi
+cat > several.report << 'END'
+leaked 6 bytes 210
+heads 3
+caller 1 10 1 /x:(first+1)[0x1]
+caller 1 20 1 /x:(second+1)[0x2]
+caller 1 30 1 /x:(other+1)[0x3]
+caller 2 90 0 /x:(shared+1)[0x4]
+caller 1 60 0 /x:(last+1)[0x5]
+leak 0x1000 10 1 head /x:(first+1)[0x1]
+leak 0x2000 20 2 head /x:(second+1)[0x2]
+leak 0x3000 30 3 head /x:(other+1)[0x3]
+leak 0x4000 40 4 held /x:(shared+1)[0x4]
+leak 0x4100 50 5 held /x:(shared+1)[0x4]
+leak 0x5000 60 6 held /x:(last+1)[0x5]
+END
+printf '%s\n' 'led 0x4000 0x1000' 'led 0x4000 0x2000' 'part 0x4100 0x4000' 'led 0x5000 0x4000' 'led 0x5000 0x3000' > several.what
+# left PATTERN..: the blocks that are left where these are suppressed.
+left() {
+    printf 'leak:%s\n' "$@" > left.supp
+    "$kit/leak_lines" --suppress left.supp --what several.what several.report | awk '$1 == "leak" { print $2 }' | paste -s -d ' '
+}
+verdict 'what only suppressed ones lead to is suppressed' '0x3000 0x5000' "$(left first second)"
+verdict 'of two one is suppressed: what the other leads to stays' '0x2000 0x3000 0x4000 0x4100 0x5000' "$(left first)"
+verdict 'all heads are suppressed' '' "$(left first second other)"
+verdict 'one on the way is suppressed: what another leads to stays' '0x1000 0x2000 0x3000 0x5000' "$(left shared)"
+
 section time and memory
 # Many lost blocks of few kinds, and lost blocks of many kinds, each compared with held ones of many kinds. The limits are far above what
 # it takes.

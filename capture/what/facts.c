@@ -133,6 +133,21 @@ static void put_likeness(struct what *what, struct sources *sources, long number
     put_text("\n");
 }
 
+/* The first of those that lead to a place, or to one after it. */
+static size_t first_leading(const struct structures *s, long place)
+{
+    size_t low = 0, high = s->leading_count;
+
+    while (low < high) {
+        size_t middle = low + (high - low) / 2;
+        if (s->leading[middle].to < place)
+            low = middle + 1;
+        else
+            high = middle;
+    }
+    return low;
+}
+
 static void put_structure(struct what *what, const struct structures *s, long place)
 {
     const struct block *block = what->blocks.list + s->lost[place];
@@ -145,11 +160,16 @@ static void put_structure(struct what *what, const struct structures *s, long pl
         put_number(s->held_bytes[place]);
         put_text("\n");
     }
-    if (s->top[place] == place)
-        return;
-    begin_fact("part", block);
-    put_hex(" 0x", what->blocks.list[s->lost[s->top[place]]].start);
-    put_text("\n");
+    if (s->top[place] != place) {
+        begin_fact("part", block);
+        put_hex(" 0x", what->blocks.list[s->lost[s->top[place]]].start);
+        put_text("\n");
+    }
+    for (size_t i = first_leading(s, place); i < s->leading_count && s->leading[i].to == place; i++) {
+        begin_fact("led", block);
+        put_hex(" 0x", what->blocks.list[s->lost[s->leading[i].from]].start);
+        put_text("\n");
+    }
 }
 
 /* Writes what is known of the block with this number; a lost one has a place among those that are lost, a held one has

@@ -5,7 +5,7 @@
 #include "graph.h"
 #include "what.h"
 
-enum { MOST_EDGES = 16 << 20 };
+enum { MOST_EDGES = 16 << 20, MOST_LEADING = 4 << 20 };
 
 struct builder {
     struct what *what;
@@ -134,6 +134,46 @@ static void sum_up(struct builder *b, const uint32_t *dominator, const uint32_t 
     }
 }
 
+static int by_both(const void *a, const void *b)
+{
+    const struct leading *x = a, *y = b;
+
+    return x->to != y->to ? (x->to > y->to ? 1 : -1) : (x->from > y->from) - (x->from < y->from);
+}
+
+/* Adds the structures to which the number leads, but its own. */
+static void add_leading(struct builder *b, uint32_t number)
+{
+    struct structures *s = b->s;
+    uint32_t from = s->top[number - 1];
+
+    for (uint32_t i = b->graph.first[number]; i < b->graph.first[number + 1] && s->leading_count < MOST_LEADING; i++) {
+        uint32_t to = b->graph.to[i] - 1;   /* it is the first of its structure, or all that leads to it is of the same one */
+        if ((uint32_t)s->top[to] == from)
+            continue;
+        s->leading = grown(s->leading, s->leading_count, sizeof *s->leading);
+        s->leading[s->leading_count++] = (struct leading){ to, from };
+    }
+}
+
+/* Which structures lead to which. If some can't be told none is: who reads it must not take a part for all. */
+static void find_leading(struct builder *b)
+{
+    struct structures *s = b->s;
+    size_t left = 0;
+
+    for (uint32_t i = 1; i <= s->count; i++)
+        add_leading(b, i);
+    if (b->edges == MOST_EDGES || s->leading_count == MOST_LEADING)
+        s->leading_count = 0;
+    if (s->leading_count)
+        qsort(s->leading, s->leading_count, sizeof *s->leading, by_both);
+    for (size_t i = 0; i < s->leading_count; i++)
+        if (!left || by_both(s->leading + left - 1, s->leading + i))
+            s->leading[left++] = s->leading[i];
+    s->leading_count = left;
+}
+
 struct structures find_structures(struct what *what)
 {
     struct structures s = { 0 };
@@ -154,6 +194,7 @@ struct structures find_structures(struct what *what)
     add_beginnings(&b);
     find_dominators(&b.graph, dominator, order);
     sum_up(&b, dominator, order);
+    find_leading(&b);
     free(dominator), free(order), free(b.place), free(b.graph.first), free(b.graph.to);
     return s;
 }

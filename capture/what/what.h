@@ -204,6 +204,10 @@ struct structures {
     int32_t *top;               /* of each the first block of its structure, by its place in `lost` */
     uint32_t *held;             /* how many lost blocks only it leads to */
     uint64_t *held_bytes;
+    struct leading {            /* which structures lead to which, by the first blocks of both */
+        uint32_t to, from;
+    } *leading;                 /* ascending, each once */
+    size_t leading_count;
 };
 
 struct structures find_structures(struct what *what);
