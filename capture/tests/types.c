@@ -94,6 +94,11 @@ struct unset *unset;
 struct set *set;
 struct link *linked;
 struct node *nodes;
+struct stale {
+    struct plain *member;
+    char bytes[432];
+};
+struct stale *stale;
 void *unknown, *buffer;
 volatile int used;
 size_t size_of_elsewhere(void), size_of_twice(void);
@@ -129,6 +134,8 @@ __attribute__((noinline)) static void hold_all(void)
     start = cleared(296);
     unset = cleared(sizeof *set); /* 376 */
     linked = cleared(24);
+    stale = cleared(sizeof *stale); /* 440, and it is a text by now */
+    strcpy((char *)stale, "a text that begins so");
     within = (void *)((char *)cleared(344) + 16);
     unknown = cleared(248 + 112);
     buffer = cleared(600);

@@ -22,6 +22,7 @@ struct typing {
     struct job *seen;           /* a table by hash; a place of 0 is free */
     size_t seen_count, seen_size;
     uint64_t steps;
+    int is_refuted;             /* whether what is read as a pointer is no address */
 };
 
 static void *room_for(size_t count, size_t each)
@@ -206,6 +207,12 @@ static void point(struct typing *t, uint64_t word, uint32_t number)
     add_job(t, (struct job){ word, count, number });
 }
 
+/* Whether the word may be a pointer to a type: null, a small number that stands for something, or an address. */
+static int may_be_pointer(struct typing *t, uint64_t word)
+{
+    return word + PAGE < 2 * PAGE || segment_at(&t->what->core, word) || part_of(&t->what->core.parts, word);
+}
+
 /* Reads what is there as a thing of this type. */
 static void read_thing(struct typing *t, uint64_t at, uint32_t number, int depth)
 {
@@ -214,8 +221,10 @@ static void read_thing(struct typing *t, uint64_t at, uint32_t number, int depth
 
     if (++t->steps >= MOST_STEPS || depth > DEEPEST)
         return;
-    if (type->kind == POINTER_TYPE && word_at(&t->what->core, at, &word) && word)
+    if (type->kind == POINTER_TYPE && type->to != UNKNOWN_TYPE && word_at(&t->what->core, at, &word) && word) {
+        t->is_refuted |= !may_be_pointer(t, word);
         point(t, word, type->to);
+    }
     for (size_t i = 0; type->kind == STRUCT_TYPE && i < type->member_count; i++)
         if (type->members[i].offset < type->size)
             read_thing(t, at + type->members[i].offset, type->members[i].type, depth + 1);
@@ -223,13 +232,19 @@ static void read_thing(struct typing *t, uint64_t at, uint32_t number, int depth
         read_thing(t, at + i * size, type->to, depth + 1);
 }
 
+/* Reads what pointers led to. A block has no type if what should be pointers there are none: the pointer to it was left
+ * over from an earlier use, or it isn't filled yet. */
 static void do_jobs(struct typing *t)
 {
     while (t->job_count && t->steps < MOST_STEPS) {
         struct job job = t->jobs[--t->job_count];
+        long block = block_of(&t->what->blocks, job.at);
         uint64_t size = size_of_type(t, job.type);
+        t->is_refuted = 0;
         for (uint64_t i = 0; i < job.count && t->steps < MOST_STEPS; i++)
             read_thing(t, job.at + i * size, job.type, 0);
+        if (t->is_refuted && t->labels[block].type == job.type)
+            t->labels[block].is_doubtful = 1;
     }
 }
 

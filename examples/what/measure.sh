@@ -33,7 +33,9 @@ run() {
     "$kit/leak_what" run.core run.walk run.report > run.what && python3 -B "$here/score.py" "$name" run.what run.report run.log
     { kill -9 "$process" && wait "$process"; } 2> /dev/null
     if [ "${BUILT-}" ] && "$kit/leak_what" --types run.core run.walk > run.typed; then
-        python3 -B "$here/score_types.py" "$name" run.typed run.log "$BUILT" >> types.rows
+        "$finder" one --skip-freed --skip-links run.core run.typed > run.report
+        "$kit/leak_what" run.core run.typed run.report > run.what
+        python3 -B "$here/score_types.py" "$name" run.typed run.log run.what "$BUILT" >> types.rows
     fi
     rm -f run.* table.*
     exec 3>&-
@@ -85,6 +87,7 @@ PYTHONMALLOC=malloc run python3 200 5000 /dev/null 12 true /usr/bin/python3 "$he
 run xmllint 25 500 many.xpath 5 true xmllint --shell many.xml
 if [ "${BUILT-}" ]; then # Debian's redis has jemalloc
     run redis 60 2000 /dev/null 0 "bash $here/load_redis.bash" redis-server --port 21579 --save ''
-    printf '\n%s\n%s\n' '| Program | blocks | with a type | right | wrong | not judged | arrays right | wrong | not judged |' '|---|---|---|---|---|---|---|---|---|'
+    printf '\n%s\n%s\n' '| Program | blocks | with a type | right | wrong | not judged | arrays right | wrong | not judged | lost right | wrong | not judged |' \
+        '|---|---|---|---|---|---|---|---|---|---|---|---|'
     cat types.rows
 fi

@@ -1,8 +1,9 @@
-"""score_types.py NAME TYPED LOG FOLDER [SITES]: the types that `leak_what --types` gives blocks, against the source lines that asked for
-them. TYPED is its log, LOG leak_trace's of the same process, with callers; the program was built with debug information, in FOLDER.
+"""score_types.py NAME TYPED LOG WHAT FOLDER [SITES]: the types that `leak_what --types` gives blocks, against the source lines that asked
+for them. TYPED is its log, LOG leak_trace's of the same process, with callers, and WHAT what leak_what says of the blocks that are lost
+by TYPED; the program was built with debug information, in FOLDER.
 
-Prints a row: name, live blocks, those with a type, how many of them are right, wrong and unjudged, and of those told as `or array` right
-and wrong. The line tells the type by `sizeof (T)` or `sizeof *v`, or by the variable that it assigns to, as the function declares it; a
+Prints a row: name, live blocks, those with a type, how many of them are right, wrong and unjudged; the same of those told as `or array`;
+and of lost blocks that look like one of a type. The line tells the type by `sizeof (T)` or `sizeof *v`, or by the variable that it assigns to, as the function declares it; a
 copy of a text tells that it is none. SITES lists what is not right.
 """
 import os
@@ -114,22 +115,39 @@ def of_libc(path):
     return found
 
 
-def main(name, typed, log, folder, listed=""):
+def read_lost(path):
+    """By address, the type of the block that a lost one looks like."""
+    with open(path, encoding="utf-8", errors="replace") as file:
+        words = [line.rstrip("\n").split(" ", 2) for line in file if line.startswith("type ")]
+    return {int(it[1], 16): it[2] for it in words}
+
+
+def after_wrappers(frames, site):
+    """The place that asked for a block, and its caller: if the first line tells no type, the place is a wrapper still."""
+    at = frames.index(site) if site in frames else 0
+    return frames[at:at + 2]
+
+
+def main(name, typed, log, what, folder, listed=""):
     """Prints the row."""
     callers, kept, counts, told = read_callers(log), {}, Counter(), Counter()
     sites, typedefs = sites_of(callers), read_typedefs(folder)
     with open(typed, encoding="utf-8", errors="replace") as file:
         blocks = {int(it[2], 16): it[1] for it in map(TYPED.match, file) if it and int(it[2], 16) in sites}
     labels = {at: it for at, it in blocks.items() if not re.match(r"size \d+$|/|\?", it)}
+    lost = {at: it for at, it in read_lost(what).items() if at in sites and at not in labels}
     own = of_libc(log)
-    lines = lines_of_frames({sites[it] for it in labels})
-    for address, label in labels.items():
-        right = None if address in own else judge(label, lines.get(sites[address], []), typedefs, kept)
-        counts[right, label.endswith(" or array")] += 1
+    places = {it: after_wrappers(callers[it][1], sites[it]) for it in (*labels, *lost)}
+    lines = lines_of_frames({it for frames in places.values() for it in frames})
+    for address, label in (*labels.items(), *lost.items()):
+        where = [it for frame in places[address] for it in lines.get(frame, [])]
+        right = None if address in own else judge(label, where, typedefs, kept)
+        counts[right, "lost" if address in lost else label.endswith(" or array")] += 1
         if right is not True:
-            told[right, label, str(lines.get(sites[address], sites[address]))] += 1
+            told[right, label, str(where)] += 1
     print(f"| {name} | {len(blocks)} | {len(labels)} | {counts[True, False]} | {counts[False, False]} | {counts[None, False]} | "
-          f"{counts[True, True]} | {counts[False, True]} | {counts[None, True]} |")
+          f"{counts[True, True]} | {counts[False, True]} | {counts[None, True]} | "
+          f"{counts[True, 'lost']} | {counts[False, 'lost']} | {counts[None, 'lost']} |")
     for (right, label, where), count in told.most_common(40) if listed else ():
         print(count, right, label, where[:300])
 
