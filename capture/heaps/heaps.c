@@ -10,6 +10,7 @@ static const struct kind {
     { "musl", walk_musl },
     { "jemalloc 5.3", walk_jemalloc },
     { "mimalloc 2.0", walk_mimalloc },
+    { "tcmalloc 2.10", walk_tcmalloc },
 };
 
 enum { KINDS = sizeof kinds / sizeof *kinds };

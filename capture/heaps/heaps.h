@@ -43,5 +43,6 @@ void count_inside(struct other_heap *heap, uint64_t address);
 enum finding walk_musl(struct other_heap *heap);
 enum finding walk_jemalloc(struct other_heap *heap);
 enum finding walk_mimalloc(struct other_heap *heap);
+enum finding walk_tcmalloc(struct other_heap *heap);
 
 #endif

@@ -27,8 +27,7 @@ verdict 'the log says so' '= leak_log allocator unknown' "$(grep '^= leak_log al
 for name in jemalloc tcmalloc_minimal mimalloc; do
     library=$(ls /usr/lib/*/lib$name.so.[0-9]* 2> /dev/null | head -n 1)
     [ "$library" ] || { leave_out "$name, which is not installed"; continue; }
-    [ $name = tcmalloc_minimal ] && freed='' || freed=' --skip-freed' # their heaps are walked beside
-    judge_heap $name "$library" "--other-heap --skip-ends$freed --all-memory" 590
+    judge_heap $name "$library" '--other-heap --skip-ends --skip-freed --all-memory' 590 # their heaps are walked beside
     verdict "$name: that its records hide leaks is said" "$([ $name = jemalloc ] && echo 1 || echo 0)" "$(grep -c "^leak_log: lib$name.* keeps addresses of blocks" said)"
     verdict "$name: the log says so" 1 "$(grep -c "^= leak_log allocator lib$name" heap.log)"
 done

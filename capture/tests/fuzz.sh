@@ -8,7 +8,7 @@ export ASAN_OPTIONS=abort_on_error=1:symbolize=0:detect_leaks=0 UBSAN_OPTIONS=ha
 EACH=${EACH:-60} KEEP=${KEEP:-$work/kept}
 
 section fuzzing
-cp -r "$kit/Makefile" "$kit"/*.h "$kit/common" "$kit/log" "$kit/walk" "$kit/dump" "$kit/library" .
+cp -r "$kit/Makefile" "$kit"/*.h "$kit/common" "$kit/log" "$kit/walk" "$kit/heaps" "$kit/dump" "$kit/library" .
 make VERSION="$kit/../VERSION" CC=afl-clang-fast HARDENING= LDFLAGS= CFLAGS='-O1 -g -fno-sanitize-recover=undefined' leak_walk leak_log > built 2>&1 || { cat built; exit 1; }
 mkdir -p cores tables logs "$KEEP"
 python3 "$kit/tests/hostile_cores.py" small cores/small

@@ -106,4 +106,35 @@ def mimalloc(core, blocks, anchor):
 
 
 SEGMENT = 32 << 20
-RECORDS = {"musl": musl, "jemalloc": jemalloc, "mimalloc": mimalloc}
+
+
+def tcmalloc(core, blocks, anchor):
+    """The map of pages, spans, central lists and their chains, threads' caches and the first objects of lists (gperftools 2.10,
+    src/{span,central_freelist,thread_cache}.h)."""
+    found = {"root": used(core, anchor, 1 << 17), "leaves": [], "spans": [], "central": [], "caches": [], "lists": []}
+    spans = set()
+    for root in found["root"]:
+        for page in range(0, 8 << 18, 4096):
+            found["leaves"] += used(core, core.word(root) + page, 512)
+    # words that are left over lead to what is no span, or not theirs
+    page_of = lambda leaf: next((root - anchor) // 8 << 18 | (leaf - core.word(root)) // 8 for root in found["root"] if 0 <= leaf - core.word(root) < 8 << 18)
+    found["leaves"] = [leaf for leaf in found["leaves"] if core.word(core.word(leaf)) == page_of(leaf)]
+    for leaf in found["leaves"]:
+        spans.add(core.word(leaf))
+    for span in spans:
+        found["spans"] += [span, span + 8, span + 40]
+        found["spans"] += [span + 32] if core.word(span + 32) and core.word(span + 40) >> 16 & 255 else []
+    for start, size in core.writable():
+        words = core.words(start, size // 8)
+        for i, value in enumerate(words):
+            if value == 1 and i + 152 * 20 < len(words) and all(words[i + 152 * k] == k + 1 for k in range(20)):
+                for at in range(start + 8 * i - 8, start + 8 * i - 8 + 1216 * 80, 1216):
+                    found["central"] += [at + 8, at + 112, at + 120, at + 1152] + used(core, at + 128, 2 * (core.word(at + 1152) & 255))
+            if value == 8 and i + 4 < len(words) and words[i + 4] == 16 and all(words[i + 4 * k] > 16 for k in range(2, 20)):
+                for at in range(start + 8 * i - 24, start + 8 * i - 24 + 32 * 80, 32):
+                    found["caches"] += [at + word for word in (0, 8, 24) if core.word(at + word)]
+                    found["lists"] += [core.word(at)] if core.word(at) else []
+    return found
+
+
+RECORDS = {"musl": musl, "jemalloc": jemalloc, "mimalloc": mimalloc, "tcmalloc": tcmalloc}
