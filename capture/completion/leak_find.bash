@@ -11,7 +11,7 @@ _leak_options() {
     holders) echo "$search --in --of --block --since -h --help" ;;
     why) echo "$skips --other-heap --strict -h --help" ;;
     grow) echo '--strict -h --help' ;;
-    leak_trace) echo '-o -d -m -w -k -e --list --all --remove --version' ;;
+    leak_trace) echo '-o -d -m -w -k -e --attach --detach --list --all --remove --version' ;;
     leak_dump) echo '--after --core --size --whole-stack --no-calls --pipes --hold --version' ;;
     leak_log) echo '--after --version' ;;
     leak_walk) echo '--partial --quiet --names --after --arenas --unused --version' ;;
@@ -27,7 +27,7 @@ _leak_value() {
     *' --workers' | *' --piece' | *' --stack' | *' --displace' | leak_*' --hold' | leak_*' -n' | leak_*' --why' | 'leak_trace -d' | 'leak_trace -m') echo number ;;
     *' --in' | *' --of') echo address ;;
     'leak_report --keep' | 'leak_report --after' | *' --root' | 'leak_lines --copy-files') echo folder ;;
-    'leak_dump --size' | 'leak_lines --pid') echo process ;;
+    'leak_dump --size' | 'leak_lines --pid' | 'leak_trace --attach' | 'leak_trace --detach') echo process ;;
     *' --names' | *' --unused' | *' --after' | *' --core' | *' --suppress' | *' --since' | *' --html' | *' --what' | *' --log' | *' -o') echo file ;;
     esac
 }

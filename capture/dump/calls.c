@@ -168,3 +168,24 @@ void make_calls(struct call *calls, size_t count, const struct code *code, const
     for (size_t i = 0; i < count; i++)
         end_call(calls + i, code);
 }
+
+/* The thread that is called on its own stack, or NULL. The first one is the most usual. */
+struct call *find_owner(struct call *calls, size_t count, const struct maps *maps)
+{
+    for (struct call *c = calls; c < calls + count; c++)
+        if (!c->refusal && stands_on_own_stack(c, maps)) {
+            c->top = c->registers.rsp - RED_ZONE;
+            c->is_stack = true;
+            return c;
+        }
+    return NULL;
+}
+
+/* Makes another call in the owner, and gives its result, or -1. */
+int64_t call_owner(const struct call *owner, const struct code *code, struct request_of_call request)
+{
+    struct call call = *owner;
+
+    make_calls(&call, 1, code, &request);
+    return call.refusal ? -1 : call.result;
+}

@@ -63,5 +63,7 @@ void take_frame_away(struct call *call);
 
 /* calls.c */
 void make_calls(struct call *calls, size_t count, const struct code *code, const struct request_of_call *request);
+struct call *find_owner(struct call *calls, size_t count, const struct maps *maps);
+int64_t call_owner(const struct call *owner, const struct code *code, struct request_of_call request);
 
 #endif

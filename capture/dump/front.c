@@ -63,8 +63,8 @@ static bool is_overdue(double more_ms)
 void end_if_overdue(void)
 {
     if (is_overdue(0))
-        fail("the process stood still for %g s (--hold) and goes on: the disk or its own memory did not answer; no core is written",
-             shared->seconds);
+        fail("the process stood still for %g s (--hold) and goes on: the disk or its own memory did not answer; %s",
+             shared->seconds, what_is_not);
 }
 
 /* Says that a fault is told now. Gives whether it was not told before. */
@@ -136,10 +136,10 @@ static void kill_child(pid_t child, int asked)
     if (!tells_first())
         return;
     if (asked)
-        dprintf(STDERR_FILENO, "leak_core: ended by signal %d: no core is written\n", asked);
+        dprintf(STDERR_FILENO, "%s: ended by signal %d: %s\n", tracer_name, asked, what_is_not);
     else
-        dprintf(STDERR_FILENO, "leak_core: the process stood still for %g s (--hold) and goes on: no core is written\n",
-                (double)shared->seconds);
+        dprintf(STDERR_FILENO, "%s: the process stood still for %g s (--hold) and goes on: %s\n", tracer_name,
+                (double)shared->seconds, what_is_not);
 }
 
 /* Waits for the child, and gives its status: that of waitpid, or that of a refusal if it had to be killed. */
@@ -173,7 +173,7 @@ static void stay_in_front(pid_t child, const sigset_t *awaited)
     if (status)
         remove_files();
     if (WIFSIGNALED(status) && tells_first())
-        dprintf(STDERR_FILENO, "leak_core: ended by signal %d: no core is written\n", WTERMSIG(status));
+        dprintf(STDERR_FILENO, "%s: ended by signal %d: %s\n", tracer_name, WTERMSIG(status), what_is_not);
     exit(WIFEXITED(status) ? WEXITSTATUS(status) : REFUSED);
 }
 

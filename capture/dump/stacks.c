@@ -17,27 +17,6 @@ enum { MOST_AT_ONCE = 256, LARGEST_ERROR = -4095 };
 
 static const struct request_of_call ASK = { SYS_sigaltstack, { 0, ANSWER } };
 
-/* The thread that is called on its own stack, or NULL. The first one is the most usual. */
-static struct call *find_owner(struct call *calls, size_t count, const struct maps *maps)
-{
-    for (struct call *c = calls; c < calls + count; c++)
-        if (!c->refusal && stands_on_own_stack(c, maps)) {
-            c->top = c->registers.rsp - RED_ZONE;
-            c->is_stack = true;
-            return c;
-        }
-    return NULL;
-}
-
-/* Makes another call in the owner, and gives its result, or -1. */
-static int64_t call_owner(const struct call *owner, const struct code *code, struct request_of_call request)
-{
-    struct call call = *owner;
-
-    make_calls(&call, 1, code, &request);
-    return call.refusal ? -1 : call.result;
-}
-
 /* Sets each call's place in the memory, and makes the calls: of those from the first on for which there is room. Gives the first
  * that was not tried. */
 static size_t call_some(struct call **list, size_t count, uint64_t memory, const struct code *code)

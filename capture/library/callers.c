@@ -4,6 +4,7 @@
 #include <string.h>
 #include <unwind.h>
 
+#include "../attach/island.h"
 #include "trace.h"
 
 __thread struct caller caller_of_new;
@@ -99,14 +100,26 @@ void *record(void *block, size_t size, struct caller caller)
     return block;
 }
 
+static int (*real_dlclose)(void *handle);
+
 /* A library that is unloaded takes its unwind tables along. */
 PUBLIC int dlclose(void *handle)
 {
-    static int (*real)(void *);
-
-    if (!real)
-        real = (int (*)(void *))dlsym(RTLD_NEXT, "dlclose");
-    int error = real(handle);
+    if (!real_dlclose)
+        real_dlclose = (int (*)(void *))dlsym(RTLD_NEXT, "dlclose");
+    int error = real_dlclose(handle);
+    ENTER();
     forget_rules();
+    LEAVE();
     return error;
 }
+
+#ifdef ATTACHED
+__thread int inside;
+
+void take_dlclose(struct island *island)
+{
+    real_dlclose = (int (*)(void *))island->was[FUNCTION_dlclose];
+    island->hooks[FUNCTION_dlclose] = (uintptr_t)dlclose;
+}
+#endif

@@ -9,6 +9,7 @@
 #include <stdlib.h>
 #include <string.h>
 
+#include "../attach/island.h"
 #include "trace.h"
 
 #define CALLS(DO) DO(calloc) DO(realloc) DO(free) DO(memalign) DO(aligned_alloc) DO(posix_memalign) \
@@ -36,7 +37,13 @@ static int resolve(void)
 #define ALLOCATES(call, parameters, arguments, size)                                    \
     PUBLIC void *call parameters                                                        \
     {                                                                                   \
-        return READY() ? record(real_##call arguments, size, CALLER()) : NULL;          \
+        if (!READY())                                                                   \
+            return NULL;                                                                \
+        void *block = real_##call arguments;                                            \
+        ENTER();                                                                        \
+        record(block, size, CALLER());                                                  \
+        LEAVE();                                                                        \
+        return block;                                                                   \
     }
 
 ALLOCATES(malloc, (size_t size), (size), size)
@@ -50,8 +57,10 @@ PUBLIC int posix_memalign(void **block, size_t alignment, size_t size)
 {
     int error = READY() ? real_posix_memalign(block, alignment, size) : ENOMEM;
 
+    ENTER();
     if (!error)
         record(*block, size, CALLER());
+    LEAVE();
     return error;
 }
 
@@ -68,10 +77,12 @@ PUBLIC void free(void *block)
 {
     if (!READY())
         return;
+    ENTER();
     if (UNLIKELY(frees_wipe))
         take_out_and_wipe(block);
     else
         take_out((uintptr_t)block, NULL);
+    LEAVE();
     real_free(block);
 }
 
@@ -82,6 +93,7 @@ static void *resize(void *block, size_t size, struct caller caller)
 
     if (!READY())
         return NULL;
+    ENTER();
     int64_t was = set_aside((uintptr_t)block, copy);
     void *moved = real_realloc(block, size);
     if (!moved && size && was >= 0)
@@ -89,6 +101,7 @@ static void *resize(void *block, size_t size, struct caller caller)
                table.words - ENTRY_CALLERS);
     record(moved, size, caller);
     let_go(was);
+    LEAVE();
     return moved;
 }
 
@@ -122,3 +135,13 @@ PUBLIC void free_aligned_sized(void *block, size_t alignment, size_t size)
     (void)alignment, (void)size;
     free(block);
 }
+
+#ifdef ATTACHED
+/* Takes the places where the real calls are, and gives those of this library. */
+void take_calls(struct island *island)
+{
+#define TAKE(call) real_##call = (__typeof__(call) *)island->was[FUNCTION_##call], \
+    island->hooks[FUNCTION_##call] = (uintptr_t)call;
+    CALLS(TAKE)
+}
+#endif

@@ -119,16 +119,6 @@ static void leave_library_out(char *const *environment, char **list, char *prelo
     list[count] = NULL;
 }
 
-/* Says in the table of a parent that a child of it runs untraced. */
-void tell_untraced(struct table_head *head, uint64_t pid, const char *program)
-{
-    uint64_t place = atomic_fetch_add((_Atomic uint64_t *)&head->untraced_count, 1);
-    struct untraced *child = &head->untraced[place % MOST_UNTRACED];
-
-    snprintf(child->program, sizeof child->program, "%s", program);
-    child->pid = pid;
-}
-
 /* Says that this process goes on as another program. If that one is traced it removes this table. A child of vfork has
  * none. */
 static void tell_exec(const char *program, int is_traced)

@@ -1,6 +1,7 @@
 /* A child of fork gets a table of its own, with the blocks that were live when it was forked. */
 #define _GNU_SOURCE
 #include <errno.h>
+#include <stdio.h>
 #include <string.h>
 #include <sys/mman.h>
 
@@ -8,11 +9,30 @@
 
 int forks_are_traced;
 struct table parents_table;
+_Atomic uint32_t *forking;
 static __thread uint64_t fork_stamp;    /* when this thread began to fork; 0: untraced */
 
 void before_fork(void)
 {
+    if (forking)
+        atomic_fetch_add(forking, 1);
     fork_stamp = tracing() ? __builtin_ia32_rdtsc() : 0;
+}
+
+void after_fork_in_parent(void)
+{
+    if (forking)
+        atomic_fetch_sub(forking, 1);
+}
+
+/* Says in the table of a parent that a child of it runs untraced. */
+void tell_untraced(struct table_head *head, uint64_t pid, const char *program)
+{
+    uint64_t place = atomic_fetch_add((_Atomic uint64_t *)&head->untraced_count, 1);
+    struct untraced *child = &head->untraced[place % MOST_UNTRACED];
+
+    snprintf(child->program, sizeof child->program, "%s", program);
+    child->pid = pid;
 }
 
 /* Copies the parent's entries from before the fork. The parent may go on meanwhile: an entry that it takes
@@ -59,6 +79,8 @@ void after_fork(void)
 {
     int error = errno;
 
+    if (forking)
+        atomic_store(forking, 0);
     if (!fork_stamp)
         return;
     guard_child();

@@ -14,7 +14,24 @@
 #include "../table.h"
 
 #define UNLIKELY(x) __builtin_expect(!!(x), 0)
+
+/* leak_trace.so is preloaded, and its calls stand in the place of the program's. What leak_attach loads into a process that runs already (ATTACHED)
+ * has the same calls, to which that one's own are made to jump. */
+#ifdef ATTACHED
+#define PUBLIC __attribute__((visibility("hidden")))
+#else
 #define PUBLIC __attribute__((visibility("default")))
+#endif
+
+/* How deep the thread is in the library: leak_attach takes the table away once each thread is out of it. A preloaded library stays. */
+#ifdef ATTACHED
+extern __thread int inside;
+#define ENTER() (inside++, atomic_signal_fence(memory_order_seq_cst))
+#define LEAVE() (atomic_signal_fence(memory_order_seq_cst), inside--)
+#else
+#define ENTER() ((void)0)
+#define LEAVE() ((void)0)
+#endif
 
 /* The code that called an entry point: where it goes on, and its rbp and rsp when the call returns. */
 struct caller {
@@ -231,7 +248,6 @@ int advise(void *start, uint64_t bytes, int advice);
 /* ---- exec.c: programs that this one runs ---- */
 
 void keep_variables(char **environment);
-void tell_untraced(struct table_head *head, uint64_t pid, const char *program);
 
 /* ---- programs.c: which programs can't have the library ---- */
 
@@ -249,9 +265,12 @@ void complain(const char *what, const char *why);
 
 extern int forks_are_traced;
 extern struct table parents_table;  /* in a child of fork, while it copies it */
+extern _Atomic uint32_t *forking;   /* counts threads that are in fork, if it is not null */
 
 void before_fork(void);
 void after_fork(void);
+void after_fork_in_parent(void);
+void tell_untraced(struct table_head *head, uint64_t pid, const char *program);
 
 /* ---- cut.c: a table that somebody makes shorter ---- */
 
@@ -262,5 +281,12 @@ int is_whole(const struct table *which);
 /* ---- stacks.c: alternate signal stacks ---- */
 
 void copy_signal_stack(void);
+
+/* ---- ../attach/begin.c: of a library that is attached ---- */
+
+struct island;
+
+void take_calls(struct island *island);
+void take_dlclose(struct island *island);
 
 #endif

@@ -7,7 +7,7 @@ for compiler in gcc clang; do
     verdict "$compiler has no warning" 0 $?
     grep -E '(warning|error): ' strict.said
 done
-hardened='leak_core leak_log leak_walk leak_what leak_trace.so'
+hardened='leak_core leak_log leak_walk leak_what leak_attach leak_trace.so'
 [ ! -x "$kit/leak_types" ] || hardened="$hardened leak_types"
 for name in $hardened; do
     verdict "$name: position independent, its tables read-only, all bound at the start, no code on the stack" 'DYN NOW RELRO RW' \
@@ -19,7 +19,7 @@ done
 make -C strict -nB WITH_DW=leak_types CPPFLAGS=-DWANTED=1 LDFLAGS=-Wl,--wanted > strict.said
 verdict 'CPPFLAGS in each compilation' 'all of many' \
     "$(awk '/ -c / { count++; without += !/-DWANTED=1 / } END { print (without ? without " without" : "all"), "of", (count > 40 ? "many" : count) }' strict.said)"
-verdict 'LDFLAGS in each link' 'leak_core leak_log leak_tables leak_trace.so leak_types leak_walk leak_what' "$(sed -n 's/.*-Wl,--wanted .*-o \([a-z_.]*\) .*/\1/p' strict.said | sort | xargs)"
+verdict 'LDFLAGS in each link' 'leak_attach leak_attach.so leak_core leak_log leak_tables leak_trace.so leak_types leak_walk leak_what' "$(sed -n 's/.*-Wl,--wanted .*-o \([a-z_.]*\) .*/\1/p' strict.said | sort | xargs)"
 touch strict/dump/dump.h
 verdict 'a header that changed' 'stale current' \
     "$(make -C strict -q leak_core > strict.said 2>&1 && printf current || printf stale) $(make -C strict -q leak_log > strict.said 2>&1 && echo current || echo stale)"

@@ -45,6 +45,7 @@ part freed "$dumps"
 part walk
 part heaps "$dumps"
 part union "$dumps"
+part attach "$attaches"
 part what "$dumps"
 part types
 part frames "$dumps"

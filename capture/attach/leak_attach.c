@@ -1,0 +1,136 @@
+/* leak_attach [-d DEPTH] PID: from now on keeps the callers of each block that a running process allocates, as leak_trace does from
+ * a program's start on. leak_attach --detach PID: ends that. leak_trace calls it.
+ *
+ * 1. All threads are stopped. One of them is made to map memory, the island.
+ * 2. The first bytes of malloc and its kin become a jump to the island, from where all goes on as before, or by a gate.
+ * 3. The threads go on. The first that calls malloc from the program's own code loads the library there, and that turns the jumps.
+ *
+ * No breakpoint is set, and nothing needs this program any more once the threads go on. */
+#define _GNU_SOURCE
+#include <signal.h>
+#include <stdarg.h>
+#include <stdio.h>
+#include <stdlib.h>
+#include <string.h>
+#include <sys/prctl.h>
+#include <unistd.h>
+
+#include "../common/escape.h"
+#include "../table.h"
+#include "attach.h"
+
+enum { MOST_TEXT = 2048, USUAL_DEPTH = 8 };
+
+static const double USUAL_SECONDS = 10;
+
+const char tracer_name[] = "leak_attach", what_is_not[] = "the process may be attached already: leak_trace --detach ends that";
+
+static const char USAGE[] = "usage: leak_attach [-d DEPTH] PID | leak_attach --detach PID\n", HELP[] =
+    "Keeps the callers of each block that a running process allocates from now on. leak_trace calls it.\n\n"
+    "  PID       the process: one of yours, or as root any; it stands still for a moment\n"
+    "  -d DEPTH  how many callers a block has, 1 to 32 [8]\n"
+    "  --detach  ends that, and gives the process its own code back\n\n"
+    "status: 0, or 2 with a line on standard error and an unchanged process\n";
+
+static struct target target;
+static volatile sig_atomic_t asked_to_end;
+
+/* Gives the functions their bytes back, if some of them jump while nothing is armed. */
+static void undo(void)
+{
+    static bool is_undoing;
+
+    if (!is_undoing)
+        is_undoing = true, set_jumps(&target, false);
+}
+
+void fail(const char *format, ...)
+{
+    static _Thread_local char text[MOST_TEXT], line[LONGEST_ESCAPE * MOST_TEXT];
+    va_list values;
+
+    va_start(values, format);
+    vsnprintf(text, sizeof text, format, values);
+    va_end(values);
+    leave_to_tracer(text);
+    if (target.jumps && target.process.count)
+        undo();
+    let_go(&target.process);
+    if (target.is_new)
+        give_island_back(&target);
+    escape_text(line, sizeof line, text);
+    if (tells_first())
+        dprintf(STDERR_FILENO, "leak_attach: %s\n", line);
+    _exit(REFUSED);
+}
+
+void end_if_asked(void)
+{
+    if (asked_to_end)
+        fail("ended by signal %d", (int)asked_to_end);
+    end_if_overdue();
+}
+
+void *grown(void *list, size_t count, size_t each)
+{
+    if (count & (count - 1))
+        return list;
+    list = realloc(list, (count ? 2 * count : 1) * each);
+    if (!list)
+        fail("no memory for a list");
+    return list;
+}
+
+static void ask_to_end(int signal)
+{
+    asked_to_end = signal;
+}
+
+static sigset_t set_signals(void)
+{
+    static const int ends[] = { SIGINT, SIGTERM, SIGHUP, SIGQUIT };
+    struct sigaction ask = { .sa_handler = ask_to_end };
+    sigset_t set;
+
+    sigemptyset(&set);
+    for (size_t i = 0; i < sizeof ends / sizeof *ends; i++) {
+        sigaction(ends[i], &ask, NULL);
+        sigaddset(&set, ends[i]);
+    }
+    signal(SIGPIPE, SIG_IGN);
+    prctl(PR_SET_PDEATHSIG, SIGTERM);
+    return set;
+}
+
+static long number_of(const char *word, long most)
+{
+    char *rest;
+    long number = strtol(word, &rest, 10);
+
+    if (number <= 0 || number > most || *rest)
+        fail("'%s' is no number from 1 to %ld", word, most);
+    return number;
+}
+
+int main(int count, char **words)
+{
+    const char *name = getenv("LEAK_TRACE"), *forks = getenv("LEAK_TRACE_FORK");
+    struct settings settings = { .depth = USUAL_DEPTH, .table_name = name && *name == '/' ? name : "/dev/shm/leak_trace.%p",
+                                 .are_forks_traced = forks && !strcmp(forks, "1"), .seconds = USUAL_SECONDS };
+    bool ends = count == 3 && !strcmp(words[1], "--detach");
+
+    if (!ends && count == 4 && !strcmp(words[1], "-d"))
+        settings.depth = number_of(words[2], MAX_DEPTH);
+    else if (!ends && (count != 2 || words[1][0] == '-')) {
+        bool is_help = count == 2 && (!strcmp(words[1], "--help") || !strcmp(words[1], "-h"));
+        fprintf(stderr, "%s%s", USAGE, is_help ? HELP : "");
+        return REFUSED;
+    }
+    if (strlen(settings.table_name) >= TABLE_NAME_BYTES)
+        fail("the name of the table is too long");
+    target.process.id = number_of(words[count - 1], 1 << 22);
+    sigset_t set = set_signals();
+    leave_front(0, &set);
+    open_apart();
+    return ends ? detach(&target) : attach(&target, &settings);
+}
