@@ -16,7 +16,7 @@ _leak_options() {
     leak_log) echo '--after --version' ;;
     leak_walk) echo '--partial --quiet --names --after --arenas --unused --version' ;;
     leak_what) echo '--types --root --place --version' ;;
-    leak_report) echo "--keep --files --after --root --unchecked --list --version --whole-stack --no-calls --pipes --hold -n --structures --why $skips --other-heap --check --strict --workers --piece --stack" ;;
+    leak_report) echo "--attach --for --keep --files --after --root --unchecked --list --version --whole-stack --no-calls --pipes --hold -n --structures --why $skips --other-heap --check --strict --workers --piece --stack" ;;
     leak_lines) echo '-n --suppress --exit-code --folded --json --html --since --no-lines --what --structures --why --core --log --root --pid --unchecked --copy-files --version' ;;
     esac
 }
@@ -24,7 +24,7 @@ _leak_options() {
 # What the value of an option is, or nothing where it has none.
 _leak_value() {
     case "$1 $2" in
-    *' --workers' | *' --piece' | *' --stack' | *' --displace' | leak_*' --hold' | leak_*' -n' | leak_*' --why' | 'leak_trace -d' | 'leak_trace -m') echo number ;;
+    *' --workers' | *' --piece' | *' --stack' | *' --displace' | leak_*' --hold' | leak_*' -n' | leak_*' --why' | 'leak_trace -d' | 'leak_trace -m' | 'leak_report --for') echo number ;;
     *' --in' | *' --of') echo address ;;
     'leak_report --keep' | 'leak_report --after' | *' --root' | 'leak_lines --copy-files') echo folder ;;
     'leak_dump --size' | 'leak_lines --pid' | 'leak_trace --attach' | 'leak_trace --detach') echo process ;;

@@ -7,6 +7,8 @@ options() {
 report  --keep DIR       keeps core, log and report in the folder
 report  --files          keeps the files that the process has mapped there too, so that names can be had later and elsewhere
 report  --after DIR      tells what was lost at both moments: now, and when DIR was kept
+report  --attach         attaches the process, waits, and tells who asked for what it lost since
+report  --for TIME       how long that waits, as 90s, 10m or 2h [10m]
 report  --list           prints a line for each lost block too
 report  --version        says which version this is
 dump    --whole-stack    keeps what lies below the stack pointers, which hides leaks
@@ -64,6 +66,8 @@ take() {
         lines_words="$lines_words$(quoted "$@")"
         what_words="$what_words$(quoted "$@")"
         ;;
+    --attach) attaches=1 ;;
+    --for) seconds=$(seconds_of "$2") ;;
     *) eval "${taker}_words=\$${taker}_words\$(quoted \"\$@\")" ;;
     esac
 }
@@ -72,13 +76,19 @@ take() {
 check_value() {
     case $1 in
     -n | --why) case $2 in '' | 0* | *[!0-9]* | ???????????????????*) usage ;; esac ;;
+    --for) [ "$(seconds_of "$2")" -gt 0 ] 2> /dev/null || usage ;;
     *) [ "$2" ] || usage ;;
     esac
 }
 
+# seconds_of TIME: 90s, 10m or 2h in seconds, and nothing of what is no time.
+seconds_of() {
+    printf '%s\n' "$1" | awk '/^[1-9][0-9]?[0-9]?[0-9]?[0-9]?[0-9]?[smh]?$/ { print $0 * (/h$/ ? 3600 : /m$/ ? 60 : 1) }'
+}
+
 # read_words WORD..: reads the options, and gives how many words they are.
 read_words() {
-    keep='' after='' list='' files='' dump_words='' find_words='' lines_words='' what_words='' read=0
+    keep='' after='' list='' files='' attaches='' seconds=600 dump_words='' find_words='' lines_words='' what_words='' read=0
     while [ $# -gt 0 ]; do
         case $1 in
         -h | --help) usage help ;;

@@ -2,6 +2,7 @@
 section leak_report
 [ -x walk_leaks ] || build walk_leaks.c
 [ -x plain ] || build plain.c
+gcc -shared -fPIC -O1 -g -o lost_on.so "$kit/tests/leaker.c" -pthread
 export LEAK_FIND=$finder
 
 # reported NAME WORD..: what leak_report prints goes to NAME.out, what it says to NAME.said, its status to `status`.
@@ -34,6 +35,27 @@ if [ "$attaches" ]; then
     verdict 'a folder with a dump' '2 leak_report: first has a dump already' "$status $(cat again.said)"
     reported later --after none $process
     verdict 'no earlier dump' "2 leak_report: none has no dump: make it by leak_report --keep none" "$status $(cat later.said)"
+    stop $process
+
+    LD_PRELOAD=$work/lost_on.so unprepared ./plain
+    reported attached --attach --for 3s --list $process
+    verdict 'attached: what is lost since has callers' '1 yes' "$status $(awk '/ lose_on .*leaker\.c:/ { if ($2 > 5) print "yes" }' attached.out)"
+    verdict 'attached: and what was lost before has none' yes "$(awk '$5 == "size" && $6 == 56 && $2 >= 50 { print "yes" }' attached.out)"
+    verdict 'attached: it is not traced any more' "leak_attach: process $process is not attached" "$("$kit/leak_trace" --detach $process 2>&1)"
+    verdict 'attached: no file is left behind' ' ' "$(ls "$work/temporary") $(ls "$work"/table.$process 2> /dev/null)"
+    (exec "$kit/leak_report" --attach --for 10m $process > ended.out 2> ended.said) &
+    reporter=$!
+    started[$reporter]=1
+    until_true 60 test -e "$work/table.$process"
+    kill -INT $reporter
+    wait $reporter
+    verdict 'attached: SIGINT ends the tracing' '2 not attached' "$? $("$kit/leak_trace" --detach $process 2>&1 | grep -o 'not attached')"
+    unset "started[$reporter]"
+    verdict 'it goes on after that' yes "$(kill -0 $process && echo yes)"
+    reported wrong --attach --for soon $process
+    verdict 'attached: for no time' '2 1' "$status $(grep -c '^usage: leak_report' wrong.said)"
+    reported wrong --attach --after first $process
+    verdict 'attached: and after a dump' '2 leak_report: --attach makes both dumps itself: without --after' "$status $(cat wrong.said)"
     stop $process
 
     start ./plain

@@ -31,7 +31,7 @@ static int add_old_block(struct old_log *log, const char *at, const char *stop)
     start = strtoull(place + strlen("+ 0x"), &rest, 16);
     if (!begins(rest, stop, " 0x"))
         return 0;
-    add(log, start, strtoull(rest + strlen(" 0x"), NULL, 16), !begins(at, stop, "@ size "));
+    add(log, start, strtoull(rest + strlen(" 0x"), NULL, 16), memmem(at, place - at, "[0x", 3) != NULL);
     return 1;
 }
 
