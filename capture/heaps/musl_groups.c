@@ -108,7 +108,8 @@ static void take_slot(struct musl *musl, const struct group *g, unsigned number)
     uint64_t start = block_of(musl, g, number, &head);
     int is_nest = start && head.number >> 5 == IS_NEST;
 
-    if (start && !is_nest && g->pages && !g->last && !is_free && !has_its_end(musl, start, end, head.number))
+    /* of one slot, by itself or given by libc's own data, no other slot confirms the size */
+    if (start && !is_nest && !g->last && (g->pages || !g->can_go) && !is_free && !has_its_end(musl, start, end, head.number))
         start = 0;
 
     if (is_free && start && !is_nest)
