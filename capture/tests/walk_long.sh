@@ -161,7 +161,8 @@ killed() {
 }
 
 section 1,000 mutations under sanitizers
-if [ "$dumps_core" ] && gcc -O1 -g -std=gnu11 -fsanitize=address,undefined -fno-sanitize-recover=undefined "$kit"/walk/*.c "$kit"/common/*.c -o sanitized 2> sanitized.said; then
+if [ "$dumps_core" ] && gcc -O1 -g -std=gnu11 -fsanitize=address,undefined -fno-sanitize-recover=undefined \
+    -DVERSION='""' "$kit"/walk/*.c "$kit"/heaps/*.c "$kit"/common/*.c -o sanitized 2> sanitized.said; then
     killed leaks ./walk_leaks
     killed types ./walk_types
     killed perl perl -e 'my %h; $h{$_} = "x" x $_ for 1 .. 999; <STDIN>'
