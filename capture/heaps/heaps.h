@@ -23,6 +23,7 @@ struct other_heap {
 /* memory.c */
 int read_word(struct other_heap *heap, uint64_t address, uint64_t *value);
 int next_word(struct other_heap *heap, uint64_t *at, uint64_t to, uint64_t *value);
+uint64_t next_multiple(struct other_heap *heap, uint64_t at, uint64_t unit);
 const struct segment *next_writable(struct other_heap *heap, size_t *next);
 void take_of(struct other_heap *heap, uint64_t steps);
 

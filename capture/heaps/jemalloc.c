@@ -53,7 +53,8 @@ static void find_bases(struct jemalloc *je)
     uint64_t size;
 
     while ((s = next_writable(je->heap, &next)))
-        for (uint64_t at = (s->start + HUGE - 1) & -(uint64_t)HUGE; at >= s->start && at - s->start < s->size && je->heap->steps_left; at += HUGE)
+        for (uint64_t at = (s->start + HUGE - 1) & -(uint64_t)HUGE; at >= s->start && at - s->start < s->size && je->heap->steps_left;
+             at = next_multiple(je->heap, at, HUGE))
             if (is_base(je, at, &size)) {
                 je->bases = grown(je->bases, je->base_count, sizeof *je->bases);
                 je->bases[je->base_count++] = (struct range){ .start = at, .end = at + size };

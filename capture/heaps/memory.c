@@ -59,6 +59,14 @@ int next_word(struct other_heap *heap, uint64_t *at, uint64_t to, uint64_t *valu
     return 0;
 }
 
+/* The next multiple of a power of two after one, but for those in the same hole of the core's file, where all words are 0. */
+uint64_t next_multiple(struct other_heap *heap, uint64_t at, uint64_t unit)
+{
+    uint64_t end = after_hole(heap->core, at);
+
+    return end > at + unit ? (end + unit - 1) & -unit : at + unit;
+}
+
 /* The next segment that can be written and has bytes, from number `next` on, or NULL. */
 const struct segment *next_writable(struct other_heap *heap, size_t *next)
 {

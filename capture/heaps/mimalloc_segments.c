@@ -60,7 +60,8 @@ int find_segments(struct mimalloc *mi)
     int are_right = 1;
 
     while ((s = next_writable(mi->heap, &next)))
-        for (uint64_t at = (s->start + SEGMENT - 1) & -(uint64_t)SEGMENT; at >= s->start && at - s->start < s->size; at += SEGMENT) {
+        for (uint64_t at = (s->start + SEGMENT - 1) & -(uint64_t)SEGMENT; at >= s->start && at - s->start < s->size;
+             at = next_multiple(mi->heap, at, SEGMENT)) {
             take_of(mi->heap, mi->heap_count);
             are_right &= look_at(mi, at);
         }
