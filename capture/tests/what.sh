@@ -290,6 +290,9 @@ if [ "$attaches" ]; then
     verdict 'that command' "conns $(sed -n 's/^chain to \([^:]*\): .*/\1/p' report.out)" \
         "$("$tells" --place kept/dump.core "$(sed -n 's/^root \([^ ]*\) .*/\1/p' chain.out)" | cut -d ' ' -f 3) $(tail -n 1 chain.out | cut -d ' ' -f 2)"
     verdict 'no block is listed' 0 "$(grep -cE '^(leak|what) ' report.out)"
+    LEAK_FIND=$finder limited 120 "$kit/leak_report" $process > gone.out 2> report.said
+    verdict 'without a dump that is kept no command that needs it' '1 0' \
+        "$(grep -c '^chain to 0x[0-9a-f]*: --why 1 ' gone.out) $(grep -c 'leak_find why -' gone.out)"
     LEAK_FIND=$finder limited 120 "$kit/leak_report" --why 1 $process > report.out 2> report.said
     verdict 'a chain from the variable' 'conns 0x size' "$(sed -n '/^chain to /,$p' report.out | tail -n +2 | sed 's/0x[0-9a-f]*/0x/; s/struct/size/' | awk '{ print $1, $2 }' | paste -s -d ' ' | cut -d ' ' -f 1,3,4)"
     verdict 'no chain without a row that has one' 0 "$(limited 60 "$kit/leak_lines" --why 1 --what shown.what shown.report | grep -c '^chain')"
