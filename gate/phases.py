@@ -40,7 +40,7 @@ class Phase(NamedTuple):
 
 PHASES = (
     Phase("proofs", 110, (), (Step("rt ci", ""),)),
-    Phase("wrong", 150, ("crates/*/out/rlib",), (
+    Phase("wrong", 90, ("crates/*/out/rlib",), (
         Step("python3 gate/wrong_bodies_test.py"),
         Step(f"python3 gate/wrong_bodies.py{RECORDED}", "wrong bodies: "))),
     Phase("cases", 5, (f"{OUT}/leak_cli", f"{OUT}/leak_cli.by-rattle"), (

@@ -37,7 +37,7 @@ verdict 'it is said' "leak_trace: $process: $work/table.$process: somebody made 
 verdict 'the table is gone' '' "$(ls table.* 2> /dev/null)"
 if [ "$attaches" ]; then
     limited 120 "$kit/leak_dump" "$process" cut 2> said
-    verdict 'its blocks are by the heap then' 1 "$(grep -c "the blocks of cut.log are by glibc's heap" said)"
+    verdict 'its blocks are by the heap then' 1 "$(grep -c "the blocks of cut.log are by the heap" said)"
 fi
 stop "$process"
 alive=0

@@ -11,7 +11,7 @@ options=
 start ./limited full > limited.out
 verdict 'where the table cannot grow it runs on' 'status 0' "$(cat limited.out)"
 limited 120 "$kit/leak_dump" $process "$work/full" 2> said
-verdict 'it is said' 1 "$(grep -c "by glibc's heap in the core, and their callers by leak_trace's table, which missed [1-9][0-9]* blocks" said)"
+verdict 'it is said' 1 "$(grep -c "by the heap in the core, and their callers by leak_trace's table, which missed [1-9][0-9]* blocks" said)"
 "$kit/leak_log" full.core full.table 2>&1 > full.alone | grep -q 'blocks found no place in the table (Cannot allocate memory)'
 verdict 'leak_log says why' 0 $?
 search full

@@ -31,7 +31,7 @@ traced_union() {
 # A table that has no room for all blocks.
 traced_union LEAK_TRACE_BLOCKS=1
 limited 120 "$kit/leak_dump" $process "$work/union" 2> union.said
-verdict 'a log by both' 1 "$(grep -c "by glibc's heap in the core, and their callers by leak_trace's table, which missed [0-9]* blocks" union.said)"
+verdict 'a log by both' 1 "$(grep -c "by the heap in the core, and their callers by leak_trace's table, which missed [0-9]* blocks" union.said)"
 verdict 'it says so' 1 "$(grep -cE '^= leak_log names since 0 moment 0x[0-9a-f]+$' union.log)"
 "$kit/leak_walk" --quiet union.core > union.walk
 verdict "the blocks are the heap's" "$(blocks union.walk | md5sum)" "$(blocks union.log | md5sum)"
@@ -93,7 +93,7 @@ verdict 'it says when' 'began at 2009-02-13 23:31:30' "$(TZ=UTC "$kit/leak_table
 "$kit/leak_log" whole.core late.table > late.log 2> late.said
 verdict 'leak_log refuses it' '2 leak_log: late.table: the table began when the process was running: it lacks the blocks from before, which leak_walk --names has' "$? $(cat late.said)"
 limited 120 "$kit/leak_dump" --core whole.core late.table late 2> late.said
-verdict 'leak_dump takes both' '0 1' "$? $(grep -c "by glibc's heap in the core, and their callers by leak_trace's table, which began at " late.said)"
+verdict 'leak_dump takes both' '0 1' "$? $(grep -c "by the heap in the core, and their callers by leak_trace's table, which began at " late.said)"
 verdict 'the log has the moment' 1 "$(grep -cE '^= leak_log names since 1234567890 moment 0x[0-9a-f]+$' late.log)"
 verdict 'its callers' 0 "$(differ late.log whole.log)"
 limited 120 "$kit/leak_report" whole.core late.table > late.out 2> late.said
