@@ -102,7 +102,7 @@ verdict 'no leak_find' '2 leak_report: LEAK_FIND is /nonexistent, which is no pr
 printf '#!/bin/sh\nexit 137\n' > ends && chmod +x ends
 cat > asked_finder << 'END'
 #!/bin/sh
-[ "$2" = /dev/null ] || printf '%s\n' "$@" > asked
+[ "$1" = --version ] || [ "$2" = /dev/null ] || printf '%s\n' "$@" > asked
 echo 'leaked 0 bytes 0'
 END
 chmod +x asked_finder
