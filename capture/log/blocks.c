@@ -60,7 +60,7 @@ struct blocks read_table(struct file file, const struct core *core)
 struct blocks read_log(struct file file)
 {
     static const char head[] = "= leak_log moment 0x", base[] = " table 0x", came[] = "] + 0x", went[] = "- 0x", freed[] = "+ 0x",
-                      remark[] = "= leak_log ";
+                      remark[] = "= leak_log ", heap[] = "= leak_walk unused 0x";
     const char *at = (const char *)file.bytes, *end = at + file.size, *stop;
     struct blocks blocks = { 0 };
     int is_ours = 0;
@@ -68,7 +68,7 @@ struct blocks read_log(struct file file)
     for (; at < end; at = stop + 1) {
         stop = end_of_line(file, at);
         const char *where = memrchr(at, ']', stop - at), *start = where ? where + strlen(came) : at + strlen(went);
-        if (begins(at, stop, remark) && !begins(at, stop, head))
+        if ((begins(at, stop, remark) && !begins(at, stop, head)) || begins(at, stop, heap))
             continue;
         if (begins(at, stop, head)) {
             char *rest;

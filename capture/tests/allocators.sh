@@ -15,6 +15,9 @@ found() {
 judge_heap() {
     LD_PRELOAD=$2 start ./allocators "$work/lost"
     limited 120 "$kit/leak_dump" $process "$work/heap" 2> said
+    limited 120 "$kit/leak_dump" --after "$work/heap" $process "$work/later" 2> later.said
+    verdict "$1: a later dump goes on from the log" 0 $?
+    rm -f later.core
     stop $process
     verdict "$1: the options that are told" "one $3" "$(sed -n 's/.*now search: leak_find \(.*\) [^ ]*core [^ ]*log$/\1/p' said)"
     echo "     planted, found, others: $(wc -l < lost) $(found --other-heap); with $3: $(found $3)"
