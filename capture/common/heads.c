@@ -146,6 +146,8 @@ void put_files(const struct parts *parts)
     int is_known = 1;
 
     put_text("= leak_log files\n");
+    if (!parts->count)
+        return;
     for (const struct part *part = parts->list; part < parts->list + parts->count; part++) {
         struct memory id = part->head.at ? build_id_of(part->head, &is_known) : before;
         if (!part->head.at || (path && !strcmp(path, part->path) && are_same(id, before)))

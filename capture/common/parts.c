@@ -49,8 +49,9 @@ void add_parts(struct parts *parts, const struct note *note)
  * nothing of the one that was mapped. */
 void sort_parts(struct parts *parts, memory_at *memory, void *core)
 {
-    if (parts->count)
-        qsort(parts->list, parts->count, sizeof *parts->list, by_start);
+    if (!parts->count)
+        return;
+    qsort(parts->list, parts->count, sizeof *parts->list, by_start);
     place_written(parts);
     for (struct part *part = parts->list; part < parts->list + parts->count; part++)
         if (!part->offset) {
