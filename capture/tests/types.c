@@ -12,6 +12,7 @@
  * type 168 struct many * or array
  * type 184 char * or array
  * type 200 struct behind
+ * type 280 struct twice
  * type 312 struct outer
  * type 392 struct node
  */
@@ -33,8 +34,10 @@ STRUCT(by_void, 248);
 typedef struct {
     char bytes[104];
 } named_alone;
+struct nowhere;   /* not defined, but in main() one of its name */
 struct elsewhere; /* defined in types_more.c */
 struct twice;     /* defined there, and otherwise in main() */
+struct either_one; /* defined there, and otherwise in types_other.c */
 struct deep {
     struct of_member *member;
     struct in_array *list[4];
@@ -83,6 +86,8 @@ struct deep *deep;
 named_alone *alone;
 struct elsewhere *elsewhere;
 struct twice *twice;
+struct nowhere *nowhere;
+struct either_one *either_one;
 struct many *many, **pointers, *within;
 char **texts;
 struct outer *outer;
@@ -101,7 +106,7 @@ struct stale {
 struct stale *stale;
 void *unknown, *buffer;
 volatile int used;
-size_t size_of_elsewhere(void), size_of_twice(void);
+size_t size_of_elsewhere(void), size_of_twice(void), size_of_either_one(void);
 
 static void *cleared(size_t size) { return calloc(1, size); }
 __attribute__((noinline)) static void on_read(void) { used++; }
@@ -124,6 +129,8 @@ __attribute__((noinline)) static void hold_all(void)
     elsewhere = cleared(size_of_elsewhere());
     twice = cleared(size_of_twice());
     local = cleared(sizeof *local);
+    nowhere = cleared(424);
+    either_one = cleared(size_of_either_one());
     many = cleared(3 * sizeof *many);
     pointers = cleared(168), pointers[1] = many, pointers[20] = many;
     texts = cleared(184);
@@ -149,11 +156,15 @@ int main(void)
     struct twice {
         char bytes[328];
     } on_stack;
+    struct nowhere {
+        char bytes[424];
+    } on_stack_too;
 
     memset(&on_stack, 0, sizeof on_stack);
+    memset(&on_stack_too, 0, sizeof on_stack_too);
     hold_all();
     lose_all();
     rest();
-    return on_stack.bytes[used & 1];
+    return on_stack.bytes[used & 1] + on_stack_too.bytes[used & 1];
 }
 struct larger larger;

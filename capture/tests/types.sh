@@ -2,7 +2,8 @@
 # of another build or damaged; with limits and without rights; and what others show of it.
 section types of blocks by debug information
 tells=$kit/leak_what
-gcc -O1 -g "$kit/tests/types.c" "$kit/tests/types_more.c" -o types_known || exit 1
+known=("$kit/tests/types.c" "$kit/tests/types_more.c" "$kit/tests/types_other.c")
+gcc -O1 -g "${known[@]}" -o types_known || exit 1
 build types_cxx.cc
 
 # heap_dump NAME PROGRAM: runs it untraced, dumps it and makes a log of its heap.
@@ -19,7 +20,7 @@ heap_dump() {
     limited 60 "$kit/leak_walk" --quiet "$1.core" > "$1.log"
 }
 # types NAME WORD..: the log with types, in NAME.typed, and what is said in NAME.said.
-types() { limited 200 "$tells" --types "${@:2}" "$1.core" "$1.log" > "$1.typed" 2> "$1.said"; }
+types() { limited 200 "$tells" --types "${@:2}" "$1.core" "$1.log" > "$1.typed" 2> "$1.said" 9< "$kit/tests/types.sh"; }
 # typed NAME: of each type that NAME.typed tells the size of its blocks.
 typed() {
     sed -n 's/^@ \(.*\) + 0x[0-9a-f]* \(0x[0-9a-f]*\)$/\2 \1/p' "$1.typed" | grep -vE '^0x[0-9a-f]* (size [0-9]+$|/)' |
@@ -48,6 +49,14 @@ elif [ "$dumps" ]; then
     verdict 'an object with a table keeps its class by that' 1 \
         "$(grep -c "^@ $work/types_cxx:\[0x[0-9a-f]*\] + 0x[0-9a-f]* 0x68\$" cxx.typed)"
 
+    # array_of LANGUAGE: what is said of an array of three by a source in that language (DWARF, DW_LANG).
+    array_of() {
+        echo 'char *list[3];' | gcc -O1 -g -dA -S -x c - -o language.s
+        sed -E -i "s/(\\.byte\t)0x[0-9a-f]+(\t# DW_AT_language)/\\1$1\\2/" language.s
+        gcc -shared language.s -o language.so && timeout 60 "$kit/leak_types" < language.so | head -n 1
+    }
+    verdict 'an array begins with element 0, in Fortran with 1' 'array 3 2, array 2 2' "$(array_of 0xc), $(array_of 0x8)"
+
     section what is shown of types
     find_leaks one --skip-freed --skip-links known.core known.typed > known.report
     "$tells" known.core known.typed known.report > known.what
@@ -66,7 +75,7 @@ elif [ "$dumps" ]; then
 
     section files elsewhere, and of another build
     mkdir -p "root$work" "root/usr/lib/debug/.build-id" empty && cp types_known "root$work" && cp types_known types_kept
-    gcc -O1 -g -DOTHER "$kit/tests/types.c" "$kit/tests/types_more.c" -Wl,--build-id=0x1234 -o types_known
+    gcc -O1 -g -DOTHER "${known[@]}" -Wl,--build-id=0x1234 -o types_known
     types known
     verdict 'a file of another build' '0 0' "$? $(typed known | wc -l)"
     types known --root empty --root root
@@ -79,6 +88,17 @@ elif [ "$dumps" ]; then
     mkdir "$debug" && objcopy --only-keep-debug types_kept "$debug/${id:2}.debug"
     types known --root root
     verdict 'a debug file below a root' "$(wanted_types types.c)" "$(typed known)"
+    rm "$debug/${id:2}.debug" && objcopy --only-keep-debug types_kept named.debug
+    objcopy --strip-all --add-gnu-debuglink=named.debug types_kept types_named && rm "root$work/types_known"
+    for folder in "$work" "$work/.debug" "/usr/lib/debug$work"; do
+        mkdir -p "root$folder" && cp types_named "root$work/types_known" && mv named.debug "root$folder"
+        types known --root root
+        verdict "a debug file that the file names, in ${folder/$work/ITS_FOLDER}" "$(wanted_types types.c)" "$(typed known)"
+        mv "root$folder/named.debug" .
+    done
+    rm named.debug && gcc -O1 -g -DOTHER "${known[@]}" -Wl,--build-id=0x1234 -o "root$work/named.debug"
+    types known --root root
+    verdict 'one of another build is none' 0 "$(typed known | wc -l)"
     rm -r "root/usr/lib/debug" && mkfifo "root$work/pipe" && ln -sf pipe "root$work/types_known"
     types known --root root
     verdict 'a pipe is not waited for' '0 0' "$? $(typed known | wc -l)"
@@ -92,17 +112,18 @@ elif [ "$dumps" ]; then
     types known
     verdict 'without leak_types' '2 1 0' \
         "$? $(grep -c '^leak_what: there is no leak_types beside it' known.said) $(wc -c < known.typed)"
-    # made CASE: what comes of it if leak_types says that.
+    # made CASE [NAME]: what comes of it if leak_types says that of types_NAME.
     made() {
-        local at=$(nm types_kept | awk '$3 == "plain" { print $1 }')
+        local name=${2-known} start=$SECONDS
+        local at=$(nm "types_$name" | awk '$3 == "plain" { print $1 }')
         gcc -O1 -DCASE=$1 -DAT=0x$at "$kit/tests/types_fake.c" -o fake/leak_types || exit 1
-        (ulimit -v 1000000; TIMEFORMAT=%U; time types known) 2> known.took
-        echo "$? $(texts_alone known) $(awk '{ print $1 < 60 ? "soon" : $0 }' known.took | tail -n 1)"
+        (ulimit -v 1000000; types "$name")
+        echo "$? $(texts_alone "$name") $([ $((SECONDS - start)) -lt 60 ] && echo soon || echo $((SECONDS - start)))"
     }
     verdict 'leak_types runs' '0 yes soon' "$(made RIGHTS)"
     wanted=user_$(id -u)_groups_$(id -G | wc -w)
     [ "$(id -u)" != 0 ] || wanted=user_65534_groups_0
-    verdict 'without rights and with limits' "40 struct ${wanted}_news_1_memory_1_seconds_30_file_ELF" "$(typed known)"
+    verdict 'without rights and with limits' "40 struct ${wanted}_news_1_memory_1_seconds_30_file_ELF_open_0" "$(typed known)"
     while read -r case count why; do
         verdict "$why" "0 yes soon $count" "$(made $case) $(typed known | wc -l)"
     done << 'END'
@@ -111,8 +132,23 @@ LONG_ARRAYS 0 arrays of many arrays of many
 ENDLESS 0 an output without an end
 ODD_NUMBERS 0 numbers that fit nothing
 FAILS 0 a reader that fails
+MANY_LINKS 0 links of links of links
+MANY_BEGINNINGS 1 a structure with which a million others begin
 END
     verdict 'an odd name' '0 yes soon' "$(made ODD_NAMES)"
     verdict 'an odd name is no list of callers and does not speak to a terminal' \
         '40 struct a< b+0x100x20\x1b[1m\x5c‮c' "$(typed known)"
+
+    section many files
+    for i in {1..12}; do
+        echo "int of_library_$i;" | gcc -g -shared -fPIC -Wl,--build-id -x c - -o "libtypes_$i.so" || exit 1
+    done
+    gcc -O1 -g "${known[@]}" -Wl,--no-as-needed,-rpath,"$work" libtypes_*.so -o types_many || exit 1
+    heap_dump many types_many
+    verdict 'all together say no more than one may' '0 yes soon 40 struct a' "$(made MUCH many) $(typed many)"
+    gcc -std=gnu11 -O1 -DALL_SECONDS=4 -DVERSION='"brief"' "$kit"/what/*.c "$kit"/common/*.c -o "$tells" || exit 1
+    start=$SECONDS
+    verdict 'all together take no more time than is allowed' '0 yes soon' "$(made SLOW many)"
+    verdict 'of which two take half each' yes "$([ $((SECONDS - start)) -lt 15 ] && echo yes || echo $((SECONDS - start)))"
+    verdict 'a reader that said all and goes on' '0 yes soon 0' "$(made LINGERS) $(typed known | wc -l)"
 fi

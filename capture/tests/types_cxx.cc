@@ -4,6 +4,8 @@
  * type 56 class shop::Basket::Item
  * type 72 struct shop::Pair<int, char> or array
  * type 88 struct shop::Pair<int, char> * or array
+ * type 120 class shop::Window::Pane
+ * type 136 class shop::Window::Pane::Glass
  */
 #include <stdlib.h>
 #include <unistd.h>
@@ -33,15 +35,37 @@ public:
 };
 class Round : public Shape {
 };
+class Window {
+public:
+    class Pane; /* is defined out of the class */
+    Pane *pane = nullptr;
+};
+class Window::Pane {
+public:
+    class Glass {
+    public:
+        char bytes[136] = {};
+    };
+    Glass *glass = new Glass;
+    char bytes[112] = {};
+};
+class Hidden; /* is defined nowhere, but two others have its name without its namespace */
 }
 static Basket *basket = new Basket;
 static Shape *shape = new Round; /* its table says the class */
 static std::vector<Pair<int, char> *> *pointers = new std::vector<Pair<int, char> *>(11);
 static std::vector<Pair<int, char>> *empty = new std::vector<Pair<int, char>>[5];
+static Window window = {new Window::Pane};
+static Hidden *hidden = static_cast<Hidden *>(operator new(152));
 }
+class Hidden {
+    char bytes[152];
+};
+static Hidden *none;
 
 int main()
 {
     char byte;
-    return read(0, &byte, 1) + !shop::basket + !shop::shape + !shop::pointers + !shop::empty;
+    return read(0, &byte, 1) + !shop::basket + !shop::shape + !shop::pointers + !shop::empty + !shop::window.pane
+        + !shop::hidden + !!none;
 }

@@ -1,4 +1,5 @@
 /* Stands for leak_types, with what a file could make it say: the kind is CASE, AT the address of a variable there. */
+#include <fcntl.h>
 #include <stdio.h>
 #include <stdlib.h>
 #include <string.h>
@@ -7,7 +8,18 @@
 #include <unistd.h>
 #include <grp.h>
 
-enum { RIGHTS, WITHIN_ITSELF, LONG_ARRAYS, ENDLESS, ODD_NUMBERS, ODD_NAMES, FAILS };
+enum { RIGHTS, WITHIN_ITSELF, LONG_ARRAYS, ENDLESS, ODD_NUMBERS, ODD_NAMES, FAILS, MANY_LINKS,
+       MANY_BEGINNINGS, MUCH, SLOW, LINGERS };
+
+/* How many descriptors it has beside the three that it is given. */
+static int count_open(void)
+{
+    int count = 0;
+
+    for (int i = STDERR_FILENO + 1; i < 1000; i++)
+        count += fcntl(i, F_GETFD) >= 0;
+    return count;
+}
 
 static void tell_rights(void)
 {
@@ -20,13 +32,23 @@ static void tell_rights(void)
         exit(1);
     printf("pointer 2\nstruct 40 user_%d_groups_%d_news_%d_", (int)getuid(), getgroups(0, NULL),
            prctl(PR_GET_NO_NEW_PRIVS, 0, 0, 0, 0));
-    printf("memory_%d_seconds_%d_file_%.3s\n", (int)(memory.rlim_cur >> 28), (int)seconds.rlim_cur, magic + 1);
+    printf("memory_%d_seconds_%d_file_%.3s_open_%d\n", (int)(memory.rlim_cur >> 28), (int)seconds.rlim_cur, magic + 1,
+           count_open());
 }
 
 static void many(int count, const char *line)
 {
     for (int i = 0; i < count; i++)
         puts(line);
+}
+
+/* A structure of a thousand structures, which are of many others that are of pointers to the first alone. */
+static void tell_links(void)
+{
+    puts("pointer 2\nstruct 40 a"), many(1000, "member 0 3");
+    puts("struct 800000000 b"), many(100, "member 0 4");
+    puts("struct 8000000 c"), many(1000, "member 0 5");
+    puts("struct 8000 d"), many(1000, "member 0 1");
 }
 
 int main(void)
@@ -45,6 +67,17 @@ int main(void)
              "variable 18446744073709551615 1\nvariable 0 7\nvariable 5\nvariable");
     if (CASE == ODD_NAMES)
         puts("pointer 2\nstruct 40 a < b + 0x10 0x20\033[1m\\ \342\200\256c");
-    printf("variable %lu 1\nend\n", (unsigned long)AT);
+    if (CASE == MANY_LINKS)
+        tell_links();
+    if (CASE == MANY_BEGINNINGS)
+        puts("pointer 2\nstruct 40 a"), many(1000000, "begins 1"), puts("struct 8 b"), many(500000, "member 0 1");
+    if (CASE == MUCH)
+        puts("pointer 2\nstruct 40 a"), many(9 << 20, "member 0 1");
+    if (CASE == SLOW)
+        sleep(3);
+    printf("variable %lu %d\nend\n", (unsigned long)AT, CASE == MANY_BEGINNINGS ? 3 : 1);
+    fflush(stdout);
+    if (CASE == LINGERS)
+        close(STDOUT_FILENO), pause();
     return CASE == FAILS;
 }

@@ -41,6 +41,21 @@ const struct definition *definition_of(const struct debug *debug, const Dwarf_Di
     return low < debug->count && debug->list[low].die.addr == die->addr ? debug->list + low : NULL;
 }
 
+/* The full name that is declared there, or NULL. Those from the first one on are looked through. */
+const char *name_of_declaration(const struct debug *debug, const Dwarf_Die *die, size_t first)
+{
+    size_t low = first, high = debug->declared;
+
+    while (low < high) {
+        size_t middle = low + (high - low) / 2;
+        if (debug->declarations[middle].place < die->addr)
+            low = middle + 1;
+        else
+            high = middle;
+    }
+    return low < debug->declared && debug->declarations[low].place == die->addr ? debug->declarations[low].name : NULL;
+}
+
 static int by_name(const void *a, const void *b)
 {
     return strcmp((*(struct definition *const *)a)->name, (*(struct definition *const *)b)->name);
@@ -52,7 +67,7 @@ void sort_names(struct debug *debug)
     if (!debug->by_name)
         fail("out of memory");
     for (size_t i = 0; i < debug->count; i++)
-        if (debug->list[i].name)
+        if (debug->list[i].name && !debug->list[i].is_local)
             debug->by_name[debug->named++] = debug->list + i;
     if (debug->named)
         qsort(debug->by_name, debug->named, sizeof *debug->by_name, by_name);
@@ -88,7 +103,7 @@ int peel(const struct debug *debug, Dwarf_Die *die, const char **alias)
         int tag = dwarf_tag(die);
         count_step();
         if (is_structure(tag) && dwarf_hasattr(die, DW_AT_declaration)) {
-            const char *name = dwarf_diename(die);
+            const char *name = name_of_declaration(debug, die, 0);
             const struct definition *found = name ? named(debug, name) : NULL;
             if (found)
                 *die = found->die;

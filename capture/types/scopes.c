@@ -15,12 +15,13 @@ void count_step(void)
         fail("standard input: too much debug information");
 }
 
+/* The name with its scope, or NULL: it is too long, or the scope isn't known. */
 static const char *within(const char *scope, const char *name)
 {
     char *text;
 
-    if (!*scope)
-        return name;
+    if (!scope || !*scope)
+        return scope ? name : NULL;
     if (strlen(scope) + strlen(name) > MOST_NAME)
         return NULL;
     if (asprintf(&text, "%s::%s", scope, name) < 0)
@@ -28,26 +29,51 @@ static const char *within(const char *scope, const char *name)
     return text;
 }
 
-/* The scope of what is in there. An inline namespace is left out of names, as sources leave it out. */
-static const char *scope_of(Dwarf_Die *die, const char *scope)
+/* The name of the entry, or of the earlier one that declares it elsewhere; NULL if it has none. */
+static const char *full_name(const struct debug *debug, Dwarf_Die *die, const char *scope)
 {
-    const char *name = dwarf_diename(die), *found;
+    const char *name = dwarf_diename(die);
+    Dwarf_Attribute attribute;
+    Dwarf_Die declared;
 
+    if (dwarf_attr(die, DW_AT_specification, &attribute))
+        return dwarf_formref_die(&attribute, &declared)
+            ? name_of_declaration(debug, &declared, debug->of_others) : NULL;
+    return name ? within(scope, name) : NULL;
+}
+
+/* The scope of what is in there, or NULL. An inline namespace is left out of names, as sources leave it out. */
+static const char *scope_of(const struct debug *debug, Dwarf_Die *die, const char *scope)
+{
     if (dwarf_tag(die) == DW_TAG_namespace && dwarf_hasattr(die, DW_AT_export_symbols))
         return scope;
-    found = within(scope, name ? name : "(anonymous)");
-    return found ? found : scope;
+    return dwarf_diename(die) ? full_name(debug, die, scope) : within(scope, "(anonymous)");
+}
+
+/* A declaration in a function stands for nothing elsewhere. */
+static void declare(struct debug *debug, Dwarf_Die *die, const char *scope)
+{
+    const char *name = debug->functions ? NULL : full_name(debug, die, scope);
+
+    if (debug->declared >= MOST_LISTED)
+        fail("standard input: too many declarations");
+    debug->declarations = grown(debug->declarations, debug->declared, sizeof *debug->declarations);
+    debug->declarations[debug->declared++] = (struct declaration){ die->addr, name };
 }
 
 static void define(struct debug *debug, Dwarf_Die *die, const char *scope)
 {
-    struct definition found = { .die = *die };
-    const char *name = dwarf_diename(die);
+    struct definition found = { .die = *die, .is_local = debug->functions > 0 };
 
-    if (dwarf_hasattr(die, DW_AT_declaration) || !number_of_attribute(die, DW_AT_byte_size, &found.size)
-        || debug->count >= MOST_LISTED)
+    if (dwarf_hasattr(die, DW_AT_declaration)) {
+        declare(debug, die, scope);
         return;
-    found.name = name ? within(scope, name) : NULL;
+    }
+    if (!number_of_attribute(die, DW_AT_byte_size, &found.size))
+        return;
+    if (debug->count >= MOST_LISTED) /* without one of two of a name the other one would stand for both */
+        fail("standard input: too many structures");
+    found.name = full_name(debug, die, scope);
     if (dwarf_decl_line(die, &found.line))
         found.line = 0;
     debug->list = grown(debug->list, debug->count, sizeof *debug->list);
@@ -63,8 +89,10 @@ static void take_variable(struct debug *debug, Dwarf_Die *die)
     size_t count;
 
     if (!dwarf_attr(die, DW_AT_location, &location) || dwarf_getlocation(&location, &operations, &count) || count != 1
-        || operations[0].atom != DW_OP_addr || debug->variable_count >= MOST_LISTED || !type_of(die, &found.type))
+        || operations[0].atom != DW_OP_addr || !type_of(die, &found.type))
         return;
+    if (debug->variable_count >= MOST_LISTED)
+        fail("standard input: too many variables");
     found.at = operations[0].number;
     debug->variables = grown(debug->variables, debug->variable_count, sizeof *debug->variables);
     debug->variables[debug->variable_count++] = found;
@@ -81,12 +109,14 @@ static void read_entry(struct debug *debug, Dwarf_Die *die, const char *scope, i
         define(debug, die, scope); /* fall through */
     case DW_TAG_union_type:
     case DW_TAG_namespace:
-        read_children(debug, die, scope_of(die, scope), depth);
+        read_children(debug, die, scope_of(debug, die, scope), depth);
         break;
     case DW_TAG_subprogram:
     case DW_TAG_lexical_block:
     case DW_TAG_inlined_subroutine:
+        debug->functions++;
         read_children(debug, die, "", depth);
+        debug->functions--;
         break;
     }
 }
@@ -123,6 +153,13 @@ static int by_place(const void *a, const void *b)
     return (x->die.addr > y->die.addr) - (x->die.addr < y->die.addr);
 }
 
+static int by_place_of_declaration(const void *a, const void *b)
+{
+    const struct declaration *x = a, *y = b;
+
+    return (x->place > y->place) - (x->place < y->place);
+}
+
 /* Reads the file and the one that it shares entries with (dwz). */
 struct debug read_debug(Dwarf *dwarf)
 {
@@ -130,8 +167,11 @@ struct debug read_debug(Dwarf *dwarf)
     Dwarf *shared = dwarf_getalt(dwarf);
 
     read_units(&debug, dwarf);
+    debug.of_others = debug.declared;
     if (shared)
         read_units(&debug, shared);
+    if (debug.declared)
+        qsort(debug.declarations, debug.declared, sizeof *debug.declarations, by_place_of_declaration);
     if (debug.count)
         qsort(debug.list, debug.count, sizeof *debug.list, by_place);
     sort_names(&debug);

@@ -8,7 +8,7 @@
 #include "../common/common.h"
 
 /* So that time and memory are bounded whatever the file says. */
-enum { MOST_STEPS = 1 << 27, MOST_LISTED = 1 << 20, MOST_BEGINNINGS = 1 << 24, DEEPEST = 32, MOST_WITHIN = 4,
+enum { MOST_STEPS = 1 << 27, MOST_LISTED = 1 << 22, MOST_BEGINNINGS = 1 << 24, DEEPEST = 32, MOST_WITHIN = 4,
        MOST_PEELED = 32, MOST_NAME = 200 };
 
 /* A structure or class that the debug information defines. */
@@ -17,6 +17,13 @@ struct definition {
     const char *name;           /* with its namespaces and classes, or NULL */
     uint64_t size;
     int line;
+    int is_local;               /* it is in a function, so no declaration elsewhere stands for it */
+};
+
+/* A structure or class that is declared here, and may be defined elsewhere. */
+struct declaration {
+    const void *place;          /* of its entry */
+    const char *name;           /* with its namespaces and classes, or NULL */
 };
 
 /* A variable of the whole program, or a static one. */
@@ -37,6 +44,9 @@ struct debug {
     size_t count;
     struct definition **by_name;
     size_t named;
+    struct declaration *declarations; /* by place */
+    size_t declared, of_others; /* how many there are, and how many of them are of files that were read before */
+    int functions;              /* that are around what is being read */
     struct variable *variables;
     size_t variable_count;
     struct beginning *beginnings; /* by key */
@@ -53,6 +63,7 @@ int type_of(Dwarf_Die *die, Dwarf_Die *type);
 int number_of_attribute(Dwarf_Die *die, unsigned name, uint64_t *value);
 int peel(const struct debug *debug, Dwarf_Die *die, const char **alias);
 const struct definition *definition_of(const struct debug *debug, const Dwarf_Die *die);
+const char *name_of_declaration(const struct debug *debug, const Dwarf_Die *die, size_t first);
 void sort_names(struct debug *debug);
 
 /* beginnings.c */

@@ -81,23 +81,38 @@ static int may_lead(const struct debug *debug, Dwarf_Die type)
     return 0;
 }
 
-/* Of several dimensions the product. */
+/* How many elements a dimension has. In some languages the first one is number 1. */
+static uint64_t elements_in(Dwarf_Die *dimension)
+{
+    uint64_t count, first = 0, last;
+    Dwarf_Sword usual;
+    Dwarf_Die unit;
+
+    if (number_of_attribute(dimension, DW_AT_count, &count))
+        return count;
+    if (!number_of_attribute(dimension, DW_AT_upper_bound, &last))
+        return 0;
+    if (!number_of_attribute(dimension, DW_AT_lower_bound, &first) && dwarf_diecu(dimension, &unit, NULL, NULL)
+        && !dwarf_default_lower_bound(dwarf_srclang(&unit), &usual))
+        first = usual;
+    return last + 1 > first ? last + 1 - first : 0;
+}
+
+/* Of several dimensions the product; of elements that don't stand side by side 0. */
 static uint64_t elements_of(Dwarf_Die *array)
 {
-    uint64_t product = 1, count, last;
+    uint64_t product = 1;
     int dimensions = 0;
     Dwarf_Die child;
 
-    if (dwarf_child(array, &child))
+    if (dwarf_hasattr(array, DW_AT_byte_stride) || dwarf_hasattr(array, DW_AT_bit_stride) || dwarf_child(array, &child))
         return 0;
     do {
         count_step();
         if (dwarf_tag(&child) != DW_TAG_subrange_type)
             continue;
         dimensions++;
-        if (!number_of_attribute(&child, DW_AT_count, &count))
-            count = number_of_attribute(&child, DW_AT_upper_bound, &last) ? last + 1 : 0;
-        if (__builtin_mul_overflow(product, count, &product))
+        if (__builtin_mul_overflow(product, elements_in(&child), &product))
             return 0;
     } while (!dwarf_siblingof(&child, &child));
     return dimensions ? product : 0;

@@ -124,27 +124,64 @@ struct elf open_elf(const struct modules *modules, const struct module *module)
     return elf;
 }
 
-/* The debug file of the build-id, where Debian's gdb and binutils look for it. */
+/* The section of this name that the file itself has, or NULL. */
+static const Elf64_Shdr *section_named(const struct elf *elf, const char *wanted)
+{
+    const Elf64_Shdr *table = elf->names < elf->count ? elf->sections + elf->names : NULL, *found = NULL;
+    char *names = table ? part_of_file(elf->file, table->sh_offset, table->sh_size, MOST_NAMES) : NULL;
+
+    for (const Elf64_Shdr *s = elf->sections; names && !found && s < elf->sections + elf->count; s++)
+        if (s->sh_type != SHT_NOBITS && s->sh_name < table->sh_size && !strcmp(names + s->sh_name, wanted))
+            found = s;
+    free(names);
+    return found;
+}
+
+int has_section(const struct elf *elf, const char *wanted)
+{
+    return section_named(elf, wanted) != NULL;
+}
+
+/* The debug file that the file names (.gnu_debuglink), in the folders in which gdb looks for it. It counts by its
+ * build-id, as all files do. */
+static struct elf open_linked(const struct modules *modules, const struct module *module, const char *name)
+{
+    static const char *const places[] = { "%.*s/%s", "%.*s/.debug/%s", "/usr/lib/debug%.*s/%s" };
+    const char *slash = strrchr(module->path, '/');
+    struct elf found = { .file = -1 };
+    char path[2 * PAGE];
+
+    for (size_t i = 0; i < sizeof places / sizeof *places && found.file < 0; i++) {
+        int folder = slash ? slash - module->path : 0;
+        int length = snprintf(path, sizeof path, places[i], folder, module->path, name);
+        if (length < (int)sizeof path)
+            found = open_any(modules, path, module);
+    }
+    return found;
+}
+
+static struct elf open_named(const struct modules *modules, const struct module *module)
+{
+    struct elf elf = open_elf(modules, module), found = { .file = -1 };
+    const Elf64_Shdr *s = section_named(&elf, ".gnu_debuglink");
+    char *name = s ? part_of_file(elf.file, s->sh_offset, s->sh_size, PAGE) : NULL;
+
+    if (name && *name && !strchr(name, '/'))
+        found = open_linked(modules, module, name);
+    free(name);
+    close_elf(&elf);
+    return found;
+}
+
+/* The debug file of the build-id, where Debian's gdb and binutils look for it, or the one that the file names. */
 struct elf open_debug_file(const struct modules *modules, const struct module *module)
 {
     char path[64 + 2 * MOST_ID] = "/usr/lib/debug/.build-id/", *end = path + strlen(path);
+    struct elf found;
 
     for (uint32_t i = 0; i < module->id_size; i++)
         end += sprintf(end, i == 1 ? "/%02x" : "%02x", module->id[i]);
     strcpy(end, ".debug");
-    return open_any(modules, path, module);
-}
-
-/* Whether the file itself has a section of this name. */
-int has_section(const struct elf *elf, const char *wanted)
-{
-    const Elf64_Shdr *table = elf->names < elf->count ? elf->sections + elf->names : NULL;
-    char *names = table ? part_of_file(elf->file, table->sh_offset, table->sh_size, MOST_NAMES) : NULL;
-    int found = 0;
-
-    for (uint64_t i = 0; names && i < elf->count && !found; i++)
-        found = elf->sections[i].sh_type != SHT_NOBITS && elf->sections[i].sh_name < table->sh_size
-            && !strcmp(names + elf->sections[i].sh_name, wanted);
-    free(names);
-    return found;
+    found = open_any(modules, path, module);
+    return found.file < 0 ? open_named(modules, module) : found;
 }

@@ -4,6 +4,7 @@
 #include <errno.h>
 #include <fcntl.h>
 #include <grp.h>
+#include <limits.h>
 #include <poll.h>
 #include <signal.h>
 #include <stdlib.h>
@@ -16,18 +17,40 @@
 
 #include "types.h"
 
+#ifndef ALL_SECONDS
+#define ALL_SECONDS 600
+#endif
+
 enum { NOBODY = 65534, MIB = 1 << 20, MOST_OUTPUT = 128 * MIB, PART = 1 << 16 }; /* Linux, overflowuid: owns nothing */
 
 struct limits {
-    uint64_t memory, seconds, clock;
+    uint64_t memory, seconds;
+    int64_t end;                /* by the clock, in milliseconds */
+    uint64_t output;
 };
 
-/* What may be taken for a file of this size: as for the programs that leak_lines runs. */
-static struct limits limits_for(uint64_t size)
+static int64_t now(void)
+{
+    struct timespec time;
+
+    clock_gettime(CLOCK_MONOTONIC, &time);
+    return time.tv_sec * 1000 + time.tv_nsec / 1000000;
+}
+
+/* What all files together may take: a process may have mapped any number of them. */
+struct allowance allowance_of_all(void)
+{
+    return (struct allowance){ ALL_SECONDS * 1000, MOST_OUTPUT };
+}
+
+/* What may be taken for a file of this size: as for the programs that leak_lines runs, and no more than is left. */
+static struct limits limits_for(uint64_t size, const struct allowance *left)
 {
     uint64_t memory = 256 * (uint64_t)MIB + 16 * size, seconds = 30 + size / (16 * MIB), most = (uint64_t)8192 * MIB;
+    int64_t clock = 4 * 1000 * (int64_t)seconds;
 
-    return (struct limits){ memory < most ? memory : most, seconds, 4 * seconds };
+    return (struct limits){ memory < most ? memory : most, seconds,
+                            now() + (clock < left->milliseconds ? clock : left->milliseconds), left->bytes };
 }
 
 /* The program beside this one, or -1. */
@@ -50,21 +73,35 @@ static int is_limited(int resource, uint64_t soft, uint64_t hard)
     return !setrlimit(resource, &limit);
 }
 
+/* Whether all users of the system are there, or only some, as in a user namespace. */
+static int is_whole_system(void)
+{
+    unsigned long first = 0, outside = 0, count = UINT_MAX;
+    FILE *map = fopen("/proc/self/uid_map", "re");
+    int found = map && fscanf(map, "%lu %lu %lu", &first, &outside, &count) == 3;
+
+    if (map)
+        fclose(map);
+    return !found || (!first && !outside && count == UINT_MAX);
+}
+
 /* In a user namespace that has no nobody, root has no more rights than who made it. */
 static int has_no_rights(void)
 {
     if (geteuid())
         return 1;
     return (!setgroups(0, NULL) && !setresgid(NOBODY, NOBODY, NOBODY) && !setresuid(NOBODY, NOBODY, NOBODY))
-        || errno == EINVAL || errno == EPERM;
+        || !is_whole_system();
 }
 
-/* What the child becomes. The death signal comes after the change of the user, which resets it. */
+/* What the child becomes. The death signal comes after the change of the user, which resets it. What else the caller
+ * had open is none of its business. */
 static void become_reader(int reader, int file, int output, struct limits limits)
 {
     char *words[] = { "leak_types", NULL }, *environment[] = { "LC_ALL=C", NULL };
     int nothing = open("/dev/null", O_WRONLY);
 
+    close_range(STDERR_FILENO + 1, UINT_MAX, CLOSE_RANGE_CLOEXEC); /* from Linux 5.11 on */
     if (dup2(file, STDIN_FILENO) >= 0 && dup2(output, STDOUT_FILENO) >= 0 && dup2(nothing, STDERR_FILENO) >= 0
         && !chdir("/") && is_limited(RLIMIT_AS, limits.memory, limits.memory)
         && is_limited(RLIMIT_CPU, limits.seconds, limits.seconds + 1) && is_limited(RLIMIT_CORE, 0, 0)
@@ -73,26 +110,18 @@ static void become_reader(int reader, int file, int output, struct limits limits
     _exit(REFUSED);
 }
 
-static int64_t now(void)
-{
-    struct timespec time;
-
-    clock_gettime(CLOCK_MONOTONIC, &time);
-    return time.tv_sec * 1000 + time.tv_nsec / 1000000;
-}
-
 /* What comes through the pipe, or NULL if it is too much or takes too long. */
-static char *read_all(int input, uint64_t seconds, size_t *size)
+static char *read_all(int input, const struct limits *limits, size_t *size)
 {
-    int64_t end = now() + seconds * 1000, left;
+    int64_t left;
     struct pollfd asked = { input, POLLIN, 0 };
     char *text = NULL;
     ssize_t got = 1;
 
-    for (*size = 0; got && *size < MOST_OUTPUT; *size += got) {
+    for (*size = 0; got && *size < limits->output; *size += got) {
         if (!(*size % PART) || !text)
             text = realloc(text, *size + 2 * PART);
-        left = end - now();
+        left = limits->end - now();
         if (!text || left <= 0 || poll(&asked, 1, left) <= 0)
             break;
         got = read(input, text + *size, PART - *size % PART);
@@ -105,20 +134,26 @@ static char *read_all(int input, uint64_t seconds, size_t *size)
     return NULL;
 }
 
-static int is_well_ended(pid_t child)
+/* Whether it ends by itself with status 0. One that has said all and goes on is ended when the time is over. */
+static int is_well_ended(pid_t child, int64_t end)
 {
-    int status;
+    int status = 0;
+    pid_t ended;
 
-    while (waitpid(child, &status, 0) < 0)
-        if (errno != EINTR)
-            return 0;
-    return WIFEXITED(status) && !WEXITSTATUS(status);
+    while (!(ended = waitpid(child, &status, WNOHANG)) && now() < end)
+        usleep(1000);
+    if (!ended)
+        kill(child, SIGKILL), waitpid(child, &status, 0);
+    return ended == child && WIFEXITED(status) && !WEXITSTATUS(status);
 }
 
-/* The output of leak_types for the open file, or NULL: it said too much, took too long, or ended otherwise. */
-char *types_of_file(int file, size_t *size)
+/* The output of leak_types for the open file, or NULL: it said too much, took too long, or ended otherwise. What it
+ * took is taken off what is left. */
+char *types_of_file(int file, struct allowance *left, size_t *size)
 {
     int reader = open_reader(), ends[2];
+    int64_t start = now();
+    int is_right;
     struct limits limits;
     struct stat about;
     char *text;
@@ -128,7 +163,7 @@ char *types_of_file(int file, size_t *size)
         fail("there is no leak_types beside it: it was built without libdw, of elfutils");
     if (fstat(file, &about) || pipe2(ends, O_CLOEXEC))
         fail("can't run leak_types: %s", strerror(errno));
-    limits = limits_for(about.st_size);
+    limits = limits_for(about.st_size, left);
     child = fork();
     if (child < 0)
         fail("can't run leak_types: %s", strerror(errno));
@@ -136,12 +171,16 @@ char *types_of_file(int file, size_t *size)
         become_reader(reader, file, ends[1], limits);
     close(ends[1]);
     close(reader);
-    text = read_all(ends[0], limits.clock, size);
+    text = read_all(ends[0], &limits, size);
     close(ends[0]);
     if (!text)
         kill(child, SIGKILL);
-    if (is_well_ended(child) && text)
+    is_right = is_well_ended(child, limits.end) && text;
+    left->milliseconds -= now() - start;
+    if (is_right) {
+        left->bytes -= *size;
         return text;
+    }
     free(text);
     return NULL;
 }

@@ -106,6 +106,13 @@ static void read_line(struct reading *r, char *line)
         add_variable(r, at);
 }
 
+static int by_size(const void *a, const void *b)
+{
+    const uint64_t *x = a, *y = b;
+
+    return (*x > *y) - (*x < *y);
+}
+
 /* Numbers of types that aren't there become unknown. */
 static void check_numbers(struct types *types, size_t first, size_t first_variable)
 {
@@ -113,6 +120,8 @@ static void check_numbers(struct types *types, size_t first, size_t first_variab
         struct type *t = types->list + i;
         if (t->to >= types->count)
             t->to = UNKNOWN_TYPE;
+        if (t->outer_count)
+            qsort(t->outer, t->outer_count, sizeof *t->outer, by_size);
         for (size_t k = 0; k < t->member_count; k++)
             if (t->members[k].type >= types->count)
                 t->members[k].type = UNKNOWN_TYPE;

@@ -9,6 +9,7 @@ struct typed {
     struct types types;
     struct label *labels;
     size_t files;               /* that have debug information */
+    struct allowance left;
 };
 
 /* The file's debug information: its own, or that of its debug file. */
@@ -35,7 +36,7 @@ static void read_module(struct typed *typed, const struct module *module)
         elf = with_types(&typed->what.modules, module);
     if (elf.file < 0)
         return;
-    text = types_of_file(elf.file, &size);
+    text = types_of_file(elf.file, &typed->left, &size);
     close_elf(&elf);
     if (!text) {
         warn("%s: its debug information can't be read", module->path);
@@ -160,7 +161,7 @@ static void write_log(struct typed *typed, const char *path)
 /* leak_what --types [--root DIR].. CORE LOG */
 int write_typed_log(const char *core, const char *log, char **roots, size_t root_count)
 {
-    struct typed typed = { .what.core = read_core(core) };
+    struct typed typed = { .what.core = read_core(core), .left = allowance_of_all() };
 
     typed.what.blocks = read_blocks(log, NULL);
     typed.what.modules = find_modules(&typed.what.core, roots, root_count);

@@ -20,7 +20,7 @@ struct type {
     struct member *members;
     size_t member_count;
     uint64_t each;              /* of a structure that ends with an array without a length, the bytes of an element */
-    uint64_t *outer;            /* the sizes of structures that begin with this one */
+    uint64_t *outer;            /* the sizes of structures that begin with this one, ascending */
     size_t outer_count;
 };
 
@@ -37,7 +37,13 @@ struct types {
 };
 
 /* limited.c */
-char *types_of_file(int file, size_t *size);
+struct allowance {
+    int64_t milliseconds;       /* by the clock, that the files may still take together */
+    uint64_t bytes;             /* that may still be said of them */
+};
+
+struct allowance allowance_of_all(void);
+char *types_of_file(int file, struct allowance *left, size_t *size);
 
 /* read_types.c */
 void add_types(struct types *types, char *text, size_t size, uint64_t bias);

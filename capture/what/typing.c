@@ -66,13 +66,13 @@ static int fits(uint64_t size, uint64_t usable)
 }
 
 /* Where the job is in the table, or where it may be put. */
-static struct job *place_of(const struct typing *t, const struct job *job)
+static struct job *place_of(struct typing *t, const struct job *job)
 {
     size_t place = (job->at * 0x9e3779b97f4a7c15u ^ job->type * 0xff51afd7ed558ccdu) >> 20;
     struct job *found;
 
     while ((found = t->seen + (place & (t->seen_size - 1)))->at && (found->at != job->at || found->type != job->type))
-        place++;
+        place++, t->steps++;
     return found;
 }
 
@@ -110,11 +110,11 @@ static void add_job(struct typing *t, struct job job)
 
 /* How many pointers to this structure the other one is of, or 0 if it has something else. One of nothing else is a
  * link, as of a list: what is linked begins with it. */
-static size_t links_in(const struct typing *t, const struct type *s, uint32_t number, int depth)
+static size_t links_in(struct typing *t, const struct type *s, uint32_t number, int depth)
 {
     size_t count = 0, all = 0;
 
-    for (size_t i = 0; i < s->member_count && depth < DEEPEST; i++) {
+    for (size_t i = 0; i < s->member_count && depth < DEEPEST && t->steps < MOST_STEPS; i++, t->steps++) {
         const struct type *member = type_at(t, s->members[i].type);
         size_t inner = member->kind == STRUCT_TYPE ? links_in(t, member, number, depth + 1)
                                                    : member->kind == POINTER_TYPE && member->to == number;
@@ -133,13 +133,19 @@ static int fits_flexible(const struct type *s, uint64_t usable)
     return s->each && (s->each < HEAP_SLACK || fits(s->size + more / s->each * s->each, usable));
 }
 
-/* Whether a structure that begins with this one may be it. */
+/* Whether a structure that begins with this one may be it: then the largest for which there is room. */
 static int may_be_outer(const struct type *s, uint64_t usable)
 {
-    for (size_t i = 0; i < s->outer_count; i++)
-        if (fits(s->outer[i], usable))
-            return 1;
-    return 0;
+    size_t low = 0, high = s->outer_count;
+
+    while (low < high) {
+        size_t middle = low + (high - low) / 2;
+        if (s->outer[middle] <= usable)
+            low = middle + 1;
+        else
+            high = middle;
+    }
+    return low && fits(s->outer[low - 1], usable);
 }
 
 static int is_same_name(const struct typing *t, uint32_t a, uint32_t b)
