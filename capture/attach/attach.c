@@ -11,7 +11,7 @@
 
 #include "attach.h"
 
-enum { MOST_TRIES = 50, WAIT_NS = 2000000, LOOK_NS = 1000000, MOST_STACK = 256 << 10 };
+enum { MOST_TRIES = 50, WAIT_NS = 2000000, LOOK_NS = 1000000, PIECE = 256 << 10, MOST_FOREIGN = 256 << 10 };
 
 static void nap(long nanoseconds)
 {
@@ -27,25 +27,47 @@ static bool leads_into_taken(const struct island *island, uint64_t word)
     return false;
 }
 
-/* Whether the thread stands there, or would come back there from a signal's handler. */
+/* How far a thread's stack is searched: its own to the end, and of another, as of a coroutine, what is in use most
+ * probably. */
+static uint64_t end_of_stack(const struct mapping *in, const struct user_regs_struct *r)
+{
+    if (!strcmp(in->path, "[stack]"))
+        return in->end;
+    if (r->fs_base > r->rsp && r->fs_base < in->end)
+        return r->fs_base;
+    return in->end - r->rsp < MOST_FOREIGN ? in->end : r->rsp + MOST_FOREIGN;
+}
+
+static bool stack_leads_there(const struct target *target, const struct mapping *in, const struct user_regs_struct *r)
+{
+    static uint64_t words[PIECE / 8];
+    uint64_t at = r->rsp & ~7ull, end = end_of_stack(in, r) & ~7ull;
+
+    for (size_t size; at < end; at += size) {
+        size = end - at < PIECE ? end - at : PIECE;
+        bool is_memory = in->kind == ANONYMOUS && !in->is_served;
+        if (!(is_memory ? read_bytes(target->process.witness, at, words, size) : try_get(target, at, words, size)))
+            return true;
+        for (size_t i = 0; i < size / 8; i++)
+            if (leads_into_taken(&target->island, words[i]))
+                return true;
+        end_if_asked();
+    }
+    return false;
+}
+
+/* Whether the thread stands there, or would come back there from a signal's handler, or nobody knows. */
 static bool is_at_entry(const struct target *target, pid_t thread)
 {
-    static uint64_t words[MOST_STACK / 8];
+    const struct mapping *in = target->maps.list, *last = in + target->maps.count;
     struct user_regs_struct r;
-    size_t size = sizeof words;
 
     if (ptrace(PTRACE_GETREGS, thread, 0, &r))
         fail("thread %d was killed meanwhile", thread);
-    for (const struct mapping *m = target->maps.list; m < target->maps.list + target->maps.count; m++)
-        if (r.rsp >= m->start && r.rsp < m->end && m->end - r.rsp < size)
-            size = m->end - r.rsp;
-    size &= ~(size_t)7;
-    if (!read_bytes(thread, r.rsp & ~7ull, words, size))
-        return true;
-    for (size_t i = 0; i < size / 8; i++)
-        if (leads_into_taken(&target->island, words[i]))
-            return true;
-    return leads_into_taken(&target->island, r.rip);
+    while (in < last && in->end <= r.rsp)
+        in++;
+    return in == last || in->start > r.rsp || leads_into_taken(&target->island, r.rip)
+        || stack_leads_there(target, in, &r);
 }
 
 static int64_t call_or_fail(struct target *target, struct request_of_call request)
@@ -105,7 +127,7 @@ static void check_functions(const struct target *target)
 {
     struct island there;
 
-    if (!read_bytes(target->process.witness, target->base, &there, sizeof there) || there.magic != ISLAND_MAGIC)
+    if (!try_get(target, target->base, &there, sizeof there) || there.magic != ISLAND_MAGIC)
         fail("process %d runs another program: try again", target->process.id);
     for (int k = 0; k < FUNCTIONS; k++)
         if (target->island.saved_bytes[k] && !is_as_known(target, k))
@@ -164,6 +186,7 @@ static bool try_arm(struct target *target, const struct settings *settings)
 {
     look(target);
     refuse_threads(target->process.id);
+    refuse_sharers(target->process.id);
     check_functions(target);
     for (size_t i = 0; i < target->process.count; i++)
         if (is_at_entry(target, target->process.threads[i].id)) {
@@ -182,7 +205,7 @@ static uint32_t wait_for_start(struct target *target, double seconds)
 
     clock_gettime(CLOCK_MONOTONIC, &since);
     for (;;) {
-        if (!read_bytes(target->process.witness, target->base, &target->island, sizeof target->island)
+        if (!try_get(target, target->base, &target->island, sizeof target->island)
             || target->island.magic != ISLAND_MAGIC)
             fail("process %d has ended, or runs another program", target->process.id);
         uint32_t state = target->island.state;
@@ -200,7 +223,10 @@ int attach(struct target *target, const struct settings *settings)
     refuse_untraceable(target->process.id);
     target->code = find_code(target->process.id);
     target->refuses_others = true;
-    if (survey(target))
+    limit_search(true);
+    bool is_wanted = survey(target);
+    limit_search(false);
+    if (is_wanted)
         make_island(target);
     for (int tries = 0; !try_arm(target, settings); tries++) {
         if (tries == MOST_TRIES)

@@ -27,6 +27,7 @@ struct target {
     struct code code;           /* by which its threads can be called */
     struct module libc, loader;
     uint64_t files;             /* a sum of the mapped files: as long as it is the same, so are these */
+    uint64_t symbol_bytes;      /* of these that were read */
     bool refuses_others;        /* of a process with another malloc */
     struct entry {              /* of a function that is to jump, or 0 */
         uint64_t at, size;
@@ -50,11 +51,13 @@ struct moved {
 void find_modules(struct target *target);
 void read_files(struct target *target);
 uint64_t find_symbol(const struct module *module, const char *name, uint64_t *size);
+bool try_get(const struct target *target, uint64_t address, void *to, size_t size);
 void get(const struct target *target, uint64_t address, void *to, size_t size);
 
 /* refuse.c */
 void refuse_untraceable(pid_t process);
 void refuse_threads(pid_t process);
+void refuse_sharers(pid_t process);
 void refuse_branches(const struct target *target);
 
 /* decode.c */
@@ -63,6 +66,7 @@ struct instruction {
     int relative;               /* where its address relative to rip is, or 0 */
     int branch;                 /* bytes of the distance that it jumps, or 0 */
     bool is_conditional;
+    bool is_fixed;              /* it may not be moved: what it leaves tells where it stands, or nothing follows it */
 };
 struct instruction decode(const uint8_t *code);
 
@@ -97,6 +101,9 @@ extern const uint8_t attached_library[], attached_library_end[];
 /* gate.c */
 extern const uint8_t __start_gate[], __stop_gate[];
 extern const uint8_t gate_malloc[], gate_free[], gate_calloc[], gate_realloc[];
+
+/* leak_attach.c */
+void limit_search(bool is_on);
 
 /* attach.c, detach.c */
 struct settings {

@@ -12,6 +12,13 @@
 
 enum { MOST_TRIES = 100, SHORTEST_NS = 300000, MOST_SHIFT = 6, LEFT_STACK = 64 << 10 };
 
+static const char NO_THREAD[] = "; no thread could be called, so the table's file stays, and leak_trace --remove removes it";
+
+static void pause_before(int tries)
+{
+    nanosleep(&(struct timespec){ .tv_nsec = SHORTEST_NS << (tries < MOST_SHIFT ? tries : MOST_SHIFT) }, NULL);
+}
+
 /* Whether no thread is in the library, or in fork, whose child looks for the table. */
 static bool is_quiet(const struct target *target)
 {
@@ -23,8 +30,8 @@ static bool is_quiet(const struct target *target)
         struct user_regs_struct r;
         int32_t depth = 0;
         pid_t thread = target->process.threads[i].id;
-        if (ptrace(PTRACE_GETREGS, thread, 0, &r) || !read_bytes(thread, r.fs_base + island->inside_at, &depth, sizeof depth)
-            || depth)
+        if (ptrace(PTRACE_GETREGS, thread, 0, &r)
+            || !try_get(target, r.fs_base + island->inside_at, &depth, sizeof depth) || depth)
             return false;
     }
     return true;
@@ -38,21 +45,26 @@ static uint64_t own_head(const struct target *target, struct table_head *head)
     *head = (struct table_head){ 0 };
     if (target->island.head_at)
         get(target, target->island.head_at, &at, sizeof at);
-    if (!at || !read_bytes(target->process.witness, at, head, sizeof *head) || (int)head->pid != inner_number(target->process.id)) {
+    if (!at || !try_get(target, at, head, sizeof *head) || (int)head->pid != inner_number(target->process.id)) {
         *head = (struct table_head){ 0 };
         return 0;
     }
     return at;
 }
 
-/* From here on nothing takes the table for one: it misses what happens. */
-static void end_table(const struct target *target)
+/* From here on nothing takes the table for one: it misses what happens. If the file stays it is empty, and says that it may
+ * be removed. */
+static void end_table(const struct target *target, bool is_removed)
 {
     struct table_head head;
-    uint64_t at = own_head(target, &head), finder = 0, none = 0;
+    uint64_t at = own_head(target, &head), finder = 0, none = 0, ended = TABLE_ENDED;
 
-    if (at)
+    if (at && !is_removed) {
+        put(target, at + offsetof(struct table_head, state), &ended, sizeof ended);
+        put(target, at + offsetof(struct table_head, used), &none, sizeof none);
+    } else if (at) {
         put(target, at, &none, sizeof none);
+    }
     call_step();
     if (target->island.finder_at)
         get(target, target->island.finder_at, &finder, sizeof finder);
@@ -86,29 +98,40 @@ static bool unmap_table(struct target *target, const struct table_head *head)
     return true;
 }
 
-/* The process removes the file itself, as it made it. This comes first: whoever is killed after that leaves no file that nobody knows. */
-static void remove_file(struct target *target)
+/* The process removes the file itself, as it made it. This comes first: whoever is killed after that leaves no file that
+ * nobody knows. Gives false if no thread can be called for as long as that is tried. */
+static bool remove_file(struct target *target)
 {
+    struct request_of_call unlinks = { SYS_unlink, { 0 } };
     struct table_head head;
     int64_t result;
 
     target->process.witness = target->process.id;
+    limit_search(true);
     read_target(target);
     find_island(target);
-    if (target->base && target->island.state == ISLAND_ON && is_traced(target) && own_head(target, &head))
-        call_process(target, (struct request_of_call){ SYS_unlink, { target->island.table_path } }, &result);
+    limit_search(false);
+    if (!target->base || target->island.state != ISLAND_ON || !is_traced(target) || !own_head(target, &head))
+        return true;
+    unlinks.arguments[0] = target->island.table_path;
+    for (int tries = 0; !call_process(target, unlinks, &result); tries++) {
+        if (tries == MOST_TRIES)
+            return false;
+        pause_before(tries);
+    }
     call_step();
+    return true;
 }
 
 /* Makes all as it was but the table's memory, in one stop. */
-static void let_by(struct target *target)
+static void let_by(struct target *target, bool is_removed)
 {
     struct island *island = &target->island;
 
     set_state(target, ISLAND_LEAVING);
     put(target, target->base + offsetof(struct island, target), island->was, sizeof island->was);
     call_step();
-    end_table(target);
+    end_table(target, is_removed);
     set_jumps(target, false);
 }
 
@@ -125,11 +148,17 @@ static void forget_table(struct target *target, struct table_head *head)
     clear_stack(target);
 }
 
+/* What detaching has come to. */
+struct leaving {
+    bool is_removed, is_by;     /* the table's file; the jumps */
+    struct table_head head;
+};
+
 /* Whether the jumps are undone, and no thread is in the library. A process that is just loading it is waited for. */
-static bool try_detach(struct target *target, bool *is_by, struct table_head *head)
+static bool try_detach(struct target *target, struct leaving *leaving)
 {
     look(target);
-    if (!*is_by && !find_by_jumps(target)) {
+    if (!leaving->is_by && !find_by_jumps(target)) {
         find_island(target);
         if (!target->base || target->island.state == ISLAND_OFF)
             fail("process %d is not attached", target->process.id);
@@ -137,39 +166,35 @@ static bool try_detach(struct target *target, bool *is_by, struct table_head *he
     get(target, target->base, &target->island, sizeof target->island);
     if (target->island.state == ISLAND_LOADING && inner_number(target->process.id) == target->island.process)
         return false;
-    let_by(target);
-    *is_by = true;
+    let_by(target, leaving->is_removed);
+    leaving->is_by = true;
     if (!is_quiet(target))
         return false;
-    forget_table(target, head);
+    forget_table(target, &leaving->head);
     return true;
-}
-
-static void pause_before(int tries)
-{
-    nanosleep(&(struct timespec){ .tv_nsec = SHORTEST_NS << (tries < MOST_SHIFT ? tries : MOST_SHIFT) }, NULL);
 }
 
 int detach(struct target *target)
 {
-    struct table_head head = { 0 };
-    bool is_by = false, is_done;
+    struct leaving leaving = { 0 };
+    bool is_done;
     int tries = 0;
 
     target->code = find_code(target->process.id);
-    remove_file(target);
-    while (!(is_done = try_detach(target, &is_by, &head)) && ++tries < MOST_TRIES) {
+    leaving.is_removed = remove_file(target);
+    while (!(is_done = try_detach(target, &leaving)) && ++tries < MOST_TRIES) {
         let_go(&target->process);
         pause_before(tries);
     }
     double stood = milliseconds_since(target->process.since);
     let_go(&target->process);
-    if (!is_by)
+    if (!leaving.is_by)
         fail("process %d has been loading the library for too long: try again", target->process.id);
-    for (tries = 0; is_done && !unmap_table(target, &head) && tries < MOST_SHIFT; tries++)
+    for (tries = 0; is_done && !unmap_table(target, &leaving.head) && tries < MOST_SHIFT; tries++)
         pause_before(tries);
     write_bytes(target->process.id, target->base + offsetof(struct island, state), &(uint32_t){ ISLAND_OFF }, sizeof(uint32_t));
-    fprintf(stderr, "leak_attach: process %d stood still for %.0f ms%s, and its blocks get no more callers\n", target->process.id, stood,
-            is_done ? "" : "; a thread stayed in the library, so its table stays in memory");
+    fprintf(stderr, "leak_attach: process %d stood still for %.0f ms%s%s, and its blocks get no more callers\n",
+            target->process.id, stood, is_done ? "" : "; a thread stayed in the library, so its table stays in memory",
+            leaving.is_removed ? "" : NO_THREAD);
     return 0;
 }

@@ -51,7 +51,7 @@ static bool read_island(struct target *target, uint64_t base)
 {
     struct island island;
 
-    if (!read_bytes(target->process.witness, base, &island, sizeof island) || island.magic != ISLAND_MAGIC)
+    if (!try_get(target, base, &island, sizeof island) || island.magic != ISLAND_MAGIC)
         return false;
     target->base = base;
     target->island = island;
@@ -119,7 +119,7 @@ bool is_traced(const struct target *target)
 
     if (target->island.finder_at)
         get(target, target->island.finder_at, &finder, sizeof finder);
-    return finder && read_bytes(target->process.witness, finder, &is_on, sizeof is_on) && is_on;
+    return finder && try_get(target, finder, &is_on, sizeof is_on) && is_on;
 }
 
 /* The process's number as it sees itself. */

@@ -19,7 +19,7 @@
 #include "../table.h"
 #include "attach.h"
 
-enum { MOST_TEXT = 2048, USUAL_DEPTH = 8 };
+enum { MOST_TEXT = 2048, USUAL_DEPTH = 8, SEARCH_MS = 10000 };
 
 static const double USUAL_SECONDS = 10;
 
@@ -34,6 +34,8 @@ static const char USAGE[] = "usage: leak_attach [-d DEPTH] PID | leak_attach --d
 
 static struct target target;
 static volatile sig_atomic_t asked_to_end;
+static bool is_searching;
+static struct timespec searching_since;
 
 /* Gives the functions their bytes back, if some of them jump while nothing is armed. */
 static void undo(void)
@@ -64,10 +66,20 @@ void fail(const char *format, ...)
     _exit(REFUSED);
 }
 
+/* What is looked for while the process goes on has a limit too: its memory may wait for a disk, or for itself. */
+void limit_search(bool is_on)
+{
+    is_searching = is_on;
+    clock_gettime(CLOCK_MONOTONIC, &searching_since);
+}
+
 void end_if_asked(void)
 {
     if (asked_to_end)
         fail("ended by signal %d", (int)asked_to_end);
+    if (is_searching && milliseconds_since(searching_since) > SEARCH_MS)
+        fail("process %d could not be looked at in %d s: its disk or its own memory does not answer, or it has too much",
+             target.process.id, SEARCH_MS / 1000);
     end_if_overdue();
 }
 

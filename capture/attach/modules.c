@@ -6,11 +6,39 @@
 
 #include "attach.h"
 
-enum { MOST_HEADERS = 64, MOST_DYNAMIC = 1024, MOST_SYMBOLS = 1 << 17, MOST_STRINGS = 8 << 20, MOST_BUCKETS = 1 << 16 };
+enum { MOST_HEADERS = 65536 / sizeof(Elf64_Phdr) /* as of Linux */, MOST_DYNAMIC = 1024, MOST_SYMBOLS = 1 << 20,
+       MOST_STRINGS = 64 << 20, MOST_BUCKETS = 1 << 20 };
+
+/* Bytes of symbols and strings in all files: a process may map any number of files. */
+static const uint64_t MOST_BYTES = 512 << 20;
+
+struct reading {
+    const struct target *target;
+    uint64_t address;
+    void *to;
+    size_t size;
+    bool is_read;
+};
+
+static void read_now(void *argument)
+{
+    struct reading *reading = argument;
+
+    reading->is_read = read_bytes(reading->target->process.witness, reading->address, reading->to, reading->size);
+}
+
+/* A page may be of a disk that does not answer, or the process's own to supply. */
+bool try_get(const struct target *target, uint64_t address, void *to, size_t size)
+{
+    struct reading reading = { target, address, to, size, false };
+
+    apart(read_now, &reading);
+    return reading.is_read;
+}
 
 void get(const struct target *target, uint64_t address, void *to, size_t size)
 {
-    if (!read_bytes(target->process.witness, address, to, size))
+    if (!try_get(target, address, to, size))
         fail("process %d: %zu bytes at 0x%llx can't be read", target->process.id, size, (unsigned long long)address);
 }
 
@@ -39,11 +67,27 @@ static struct dynamic read_dynamic(const struct target *target, const struct mod
     return found;
 }
 
-/* How many symbols there are, by the table that finds them: DT_GNU_HASH has chains, of which the last entry is odd. */
+/* Where a chain of DT_GNU_HASH ends: its last entry is odd. Gives the number behind it, or more than there may be. */
+static size_t end_of_chain(const struct target *target, uint64_t at, size_t number)
+{
+    uint32_t piece[PAGE / sizeof(uint32_t)];
+
+    while (number <= MOST_SYMBOLS && !(at % sizeof *piece)) {
+        size_t count = (PAGE - at % PAGE) / sizeof *piece;
+        get(target, at, piece, count * sizeof *piece);
+        for (size_t i = 0; i < count; i++, number++)
+            if (piece[i] & 1)
+                return number + 1;
+        at += count * sizeof *piece;
+    }
+    return MOST_SYMBOLS + 1;
+}
+
+/* How many symbols there are, by the table that finds them. */
 static size_t count_symbols(const struct target *target, const struct dynamic *dynamic)
 {
     static uint32_t buckets[MOST_BUCKETS];
-    uint32_t head[4], most = 0, entry = 0;
+    uint32_t head[4], most = 0;
 
     if (dynamic->hash) {
         get(target, dynamic->hash, head, 2 * sizeof *head);
@@ -52,58 +96,84 @@ static size_t count_symbols(const struct target *target, const struct dynamic *d
     if (!dynamic->gnu_hash)
         return 0;
     get(target, dynamic->gnu_hash, head, sizeof head);
-    if (head[0] > MOST_BUCKETS || head[2] > MOST_BUCKETS)
-        return 0;
+    if (head[0] > MOST_BUCKETS)
+        return MOST_SYMBOLS + 1;
     uint64_t at = dynamic->gnu_hash + sizeof head + 8ull * head[2];
     get(target, at, buckets, head[0] * sizeof *buckets);
     for (uint32_t i = 0; i < head[0]; i++)
         most = buckets[i] > most ? buckets[i] : most;
-    for (; most >= head[1] && most < MOST_SYMBOLS && !(entry & 1); most++)
-        get(target, at + 4ull * head[0] + 4ull * (most - head[1]), &entry, sizeof entry);
-    return most;
+    return most < head[1] || !most ? most : end_of_chain(target, at + 4ull * head[0] + 4ull * (most - head[1]), most);
 }
 
-static bool read_symbols(const struct target *target, struct module *module, const struct dynamic *dynamic)
+/* Gives false if there are more than can be read. */
+static bool read_symbols(struct target *target, struct module *module, const struct dynamic *dynamic)
 {
     module->count = count_symbols(target, dynamic);
     module->string_bytes = dynamic->string_bytes;
-    if (!dynamic->symbols || !dynamic->strings || module->count > MOST_SYMBOLS || module->string_bytes > MOST_STRINGS)
+    if (module->count > MOST_SYMBOLS || module->string_bytes > MOST_STRINGS)
         return false;
-    module->symbols = malloc((module->count + 1) * sizeof *module->symbols);
+    uint64_t bytes = module->count * sizeof *module->symbols;
+    target->symbol_bytes += bytes + module->string_bytes;
+    if (!dynamic->symbols || !dynamic->strings || target->symbol_bytes > MOST_BYTES)
+        return !module->count;
+    module->symbols = malloc(bytes + 1);
     module->strings = malloc(module->string_bytes + 1);
     if (!module->symbols || !module->strings)
         fail("no memory for symbols");
-    get(target, dynamic->symbols, module->symbols, module->count * sizeof *module->symbols);
+    get(target, dynamic->symbols, module->symbols, bytes);
     get(target, dynamic->strings, module->strings, module->string_bytes);
     module->strings[module->string_bytes] = 0;
     return true;
 }
 
-/* Reads the program headers. A file whose first page is no ELF header has none. */
-static bool read_module(const struct target *target, const struct mapping *mapping, struct module *module)
+/* Whether something of it may be run: else the file is mapped as data. */
+static bool is_code(const struct target *target, const struct span *code)
 {
+    for (const struct mapping *m = target->maps.list; m < target->maps.list + target->maps.count; m++)
+        if (m->flags & PF_X && m->start < code->end && m->end > code->start)
+            return true;
+    return false;
+}
+
+/* Reads the program headers. Gives false if it is no ELF file, or mapped as data. */
+static bool read_headers(const struct target *target, const struct mapping *mapping, struct module *module,
+                         Elf64_Phdr *dynamic)
+{
+    static Elf64_Phdr list[MOST_HEADERS];
     Elf64_Ehdr head;
-    Elf64_Phdr list[MOST_HEADERS], *dynamic = NULL;
 
     *module = (struct module){ .path = mapping->path, .base = mapping->start, .bias = mapping->start };
-    if (!read_bytes(target->process.witness, mapping->start, &head, sizeof head) || memcmp(head.e_ident, ELFMAG, SELFMAG)
+    if (!try_get(target, mapping->start, &head, sizeof head) || memcmp(head.e_ident, ELFMAG, SELFMAG)
         || head.e_ident[EI_CLASS] != ELFCLASS64 || head.e_machine != EM_X86_64 || head.e_phnum > MOST_HEADERS
-        || head.e_phoff > mapping->end - mapping->start)
+        || head.e_phoff > mapping->end - mapping->start
+        || !try_get(target, mapping->start + head.e_phoff, list, head.e_phnum * sizeof *list))
         return false;
-    get(target, mapping->start + head.e_phoff, list, head.e_phnum * sizeof *list);
     for (Elf64_Phdr *p = list; p < list + head.e_phnum; p++)
         if (p->p_type == PT_LOAD && !p->p_offset)
             module->bias = mapping->start - (p->p_vaddr & -(uint64_t)PAGE);
     for (Elf64_Phdr *p = list; p < list + head.e_phnum; p++) {
         if (p->p_type == PT_DYNAMIC)
-            dynamic = p;
+            *dynamic = *p;
         if (p->p_type == PT_LOAD && p->p_flags & PF_X)
             module->code = (struct span){ module->bias + p->p_vaddr, module->bias + p->p_vaddr + p->p_memsz };
     }
-    if (!dynamic)
+    return is_code(target, &module->code);
+}
+
+/* Reads the symbols of a file that has code, or gives false. */
+static bool read_module(struct target *target, const struct mapping *mapping, struct module *module)
+{
+    Elf64_Phdr dynamic = { 0 };
+
+    if (!read_headers(target, mapping, module, &dynamic))
         return false;
-    struct dynamic tables = read_dynamic(target, module, module->bias + dynamic->p_vaddr, dynamic->p_memsz);
-    return read_symbols(target, module, &tables);
+    if (!dynamic.p_type)
+        return true;
+    struct dynamic tables = read_dynamic(target, module, module->bias + dynamic.p_vaddr, dynamic.p_memsz);
+    if (!read_symbols(target, module, &tables))
+        fail("process %d: %s has more symbols than are looked at, so it may have a malloc", target->process.id,
+             mapping->path);
+    return true;
 }
 
 static void drop(struct module *module)
@@ -142,22 +212,35 @@ static void refuse_allocator(const struct target *target, const char *path)
          target->process.id, path);
 }
 
+/* Two C libraries, each with a malloc (dlmopen): the one that jumps to an island is the one that was attached. */
+static bool replaces(struct target *target)
+{
+    if (!target->libc.base)
+        return true;
+    if (target->refuses_others)
+        fail("process %d has two C libraries: nobody knows which of them allocates", target->process.id);
+    return !find_by_jumps(target);
+}
+
 /* Takes the file for what it is: libc, ld.so, or one that may not have a malloc. If it has one its path is put into `other`. */
 static void take_module(struct target *target, const struct mapping *mapping, const char **other)
 {
-    struct module module;
+    struct module module = { 0 };
     uint64_t size;
+    bool is_libc = is_named(mapping->path, "libc.so.6", "libc-2.");
+    bool is_loader = is_named(mapping->path, "ld-linux-x86-64.so", "ld-2.");
 
-    if (!read_module(target, mapping, &module)) {
-        drop(&module);
-    } else if (is_named(mapping->path, "libc.so.6", "libc-2.")) {
-        if (target->libc.base)
-            fail("process %d has two C libraries: nobody knows which of them allocates", target->process.id);
+    if (!is_libc && !is_loader && !target->refuses_others)
+        return;
+    if (!read_module(target, mapping, &module))
+        return;
+    if (is_libc && replaces(target)) {
+        drop(&target->libc);
         target->libc = module;
-    } else if (is_named(mapping->path, "ld-linux-x86-64.so", "ld-2.") && !target->loader.base) {
+    } else if (is_loader && !target->loader.base) {
         target->loader = module;
     } else {
-        if (find_symbol(&module, "malloc", &size) || find_symbol(&module, "free", &size))
+        if (!is_libc && !is_loader && (find_symbol(&module, "malloc", &size) || find_symbol(&module, "free", &size)))
             *other = mapping->path;
         drop(&module);
     }
@@ -170,6 +253,7 @@ void find_modules(struct target *target)
 
     drop(&target->libc);
     drop(&target->loader);
+    target->symbol_bytes = 0;
     for (const struct mapping *m = target->maps.list; m < target->maps.list + target->maps.count; m++) {
         end_if_asked();
         if (m->is_file && !m->offset && m->kind == PRIVATE_FILE && m->path[0] == '/' && strncmp(m->path, "/memfd:leak_attach_start", 24))
@@ -181,13 +265,13 @@ void find_modules(struct target *target)
         refuse_allocator(target, other);
 }
 
-/* The same, if files were mapped or unmapped since the last time. */
+/* The same, if code of files was mapped or unmapped since the last time. */
 void read_files(struct target *target)
 {
     uint64_t sum = 0xcbf29ce484222325ull;
 
     for (const struct mapping *m = target->maps.list; m < target->maps.list + target->maps.count; m++)
-        if (m->is_file)
+        if (m->is_file && m->flags & PF_X)
             sum = (((sum ^ m->start) * 0x100000001b3ull ^ m->end) * 0x100000001b3ull ^ m->inode) * 0x100000001b3ull;
     if (sum != target->files)
         find_modules(target);

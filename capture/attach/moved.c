@@ -15,7 +15,8 @@ static bool put_distance(uint8_t *at, uint64_t there, uint64_t to)
     return far == distance;
 }
 
-/* A jump becomes one of 32 bits. One into what is taken away would lead into the jump's bytes. */
+/* A jump becomes one of 32 bits. One into what is taken away would lead into the jump's bytes, and one to its start would
+ * be another call. */
 static bool move_branch(struct moved *moved, const uint8_t *code, const struct instruction *i, uint64_t from, uint64_t to)
 {
     int32_t distance = (int8_t)code[i->bytes - 1];
@@ -26,7 +27,7 @@ static bool move_branch(struct moved *moved, const uint8_t *code, const struct i
     if (i->branch == 4)
         memcpy(&distance, code + i->bytes - 4, sizeof distance);
     uint64_t leads = from + i->bytes + (int64_t)distance;
-    if (leads > start && leads < start + MOST_TAKEN)
+    if (leads >= start && leads < start + MOST_TAKEN)
         return false;
     if (i->is_conditional) {
         moved->code[moved->bytes++] = 0x0f;
@@ -62,7 +63,8 @@ struct moved move_code(const uint8_t code[32], uint64_t from, uint64_t size, uin
 
     while (moved.taken < JUMP_BYTES) {
         struct instruction i = decode(code + moved.taken);
-        if (!i.bytes || moved.taken + i.bytes > MOST_TAKEN || (size && (uint64_t)moved.taken + i.bytes > size))
+        if (!i.bytes || i.is_fixed || moved.taken + i.bytes > MOST_TAKEN
+            || (size && (uint64_t)moved.taken + i.bytes > size))
             return none;
         if (!(i.branch ? move_branch : move_plain)(&moved, code + moved.taken, &i, from + moved.taken, to))
             return none;
@@ -75,6 +77,19 @@ struct moved move_code(const uint8_t code[32], uint64_t from, uint64_t size, uin
     return moved;
 }
 
+/* Whether the function lies in code of libc that is this process's own: what is written into shared memory others would
+ * run too. */
+static bool is_own_code(const struct target *target, uint64_t at)
+{
+    const struct span *code = &target->libc.code;
+
+    for (const struct mapping *m = target->maps.list; m < target->maps.list + target->maps.count; m++)
+        if (at >= m->start && at < m->end)
+            return m->flags & PF_X && (m->kind == PRIVATE_FILE || m->kind == ANONYMOUS) && m->end - at >= SAVED_BYTES
+                && at >= code->start && at < code->end;
+    return false;
+}
+
 /* Finds the functions, and how many bytes a jump takes of each. Two names of one function are one. */
 void find_entries(struct target *target)
 {
@@ -84,6 +99,9 @@ void find_entries(struct target *target)
         entry->at = find_symbol(&target->libc, function_names[k], &entry->size);
         if (!entry->at)
             continue;
+        if (!is_own_code(target, entry->at))
+            fail("process %d: its libc says that %s lies where no code of libc is", target->process.id,
+                 function_names[k]);
         get(target, entry->at, entry->code, sizeof entry->code);
         entry->taken = move_code(entry->code, entry->at, entry->size, entry->at).taken;
         const uint8_t *c = entry->code;

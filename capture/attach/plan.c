@@ -18,10 +18,11 @@ static uint64_t distance(uint64_t a, uint64_t b)
 /* Where the island may be between two mappings, or 0. It stays far from where the heap or a stack may grow. */
 static uint64_t place_between(const struct mapping *before, const struct mapping *after, uint64_t near, uint64_t bytes)
 {
-    uint64_t start = before ? before->end : MARGIN, end = after ? after->start : END_OF_MEMORY;
+    uint64_t start = before ? before->end : MARGIN;
+    uint64_t end = after && after->start < END_OF_MEMORY ? after->start : END_OF_MEMORY;
     uint64_t below = before && !strcmp(before->path, "[heap]") ? FAR : MARGIN, above = after && !strncmp(after->path, "[stack", 6) ? FAR : MARGIN;
 
-    if (end - start < bytes + below + above + PAGE)
+    if (start > end || end - start < bytes + below + above + PAGE)
         return 0;
     uint64_t low = start + below, high = (end - bytes - above) & -(uint64_t)PAGE;
     return near < low ? low : near > high ? high : near & -(uint64_t)PAGE;

@@ -1,15 +1,17 @@
 /* What can't be made safe, and is refused before anything is changed. */
 #define _GNU_SOURCE
 #include <dirent.h>
+#include <linux/kcmp.h>
 #include <stdio.h>
 #include <stdlib.h>
 #include <string.h>
 #include <sys/statfs.h>
+#include <sys/syscall.h>
 #include <unistd.h>
 
 #include "attach.h"
 
-enum { PROC_MAGIC = 0x9fa0, MOST_CODE = 64 << 20 };
+enum { PROC_MAGIC = 0x9fa0, MOST_CODE = 64 << 20, SHORT_REACH = 130, LONGEST = 32 };
 
 /* The library is loaded by its name below /proc, as the process sees it. */
 static bool has_proc(pid_t process)
@@ -44,7 +46,7 @@ static void refuse_thread(pid_t process, pid_t thread)
 
     if (number_after(status, "\nSeccomp:", 10))
         fail("thread %d of process %d is under seccomp, which might end the process for the calls that loading needs", thread, process);
-    if (strstr(status.bytes, "shstk"))
+    if (tells_shadow_stack(&status))
         fail("thread %d of process %d has a shadow stack, which knows nothing of the jumps", thread, process);
     free(status.bytes);
 }
@@ -65,6 +67,37 @@ void refuse_threads(pid_t process)
             refuse_thread(process, atoi(entry->d_name));
     }
     closedir(tasks);
+}
+
+struct sharing {
+    pid_t process, other;       /* 0: none */
+};
+
+/* kcmp(2): who may not look at a process can't know. */
+static void find_sharer(void *argument)
+{
+    struct sharing *sharing = argument;
+    struct dirent *entry;
+    DIR *processes = opendir("/proc");
+
+    while (processes && !sharing->other && (entry = readdir(processes))) {
+        pid_t other = atoi(entry->d_name);
+        if (other > 0 && other != sharing->process && !syscall(SYS_kcmp, sharing->process, other, KCMP_VM, 0, 0))
+            sharing->other = other;
+    }
+    if (processes)
+        closedir(processes);
+}
+
+/* Who shares the memory without being a thread (clone(2), CLONE_VM) is not stopped, and would run what is just written. A
+ * child of vfork is none: while it is there the thread that made it does not stop. */
+void refuse_sharers(pid_t process)
+{
+    struct sharing sharing = { process, 0 };
+
+    apart(find_sharer, &sharing);
+    if (sharing.other)
+        fail("process %d shares its memory with process %d, which does not stop with it", process, sharing.other);
 }
 
 /* Whether an address is among the first instructions of a function, which won't be there any more: then its name. */
@@ -91,19 +124,41 @@ static void refuse_far_branches(const struct target *target, const uint8_t *byte
     }
 }
 
-/* Jumps by a distance of 8 bits, in the function itself as far as its instructions are known. */
-static void refuse_near_branches(const struct target *target, const uint8_t *bytes, uint64_t function)
+static void refuse_near_branch(const struct target *target, uint64_t behind, uint8_t distance)
+{
+    const char *name = taken_name(target, behind + (int8_t)distance);
+
+    if (name)
+        fail("process %d: %s jumps into its own first instructions", target->process.id, name);
+}
+
+/* What may be a jump by a distance of 8 bits, at each byte. */
+static void refuse_any_near(const struct target *target, const uint8_t *bytes, uint64_t from, uint64_t end)
+{
+    for (uint64_t at = from; at < end; at++) {
+        uint8_t op = bytes[at - target->libc.code.start];
+        if ((op >= 0x70 && op <= 0x7f) || op == 0xeb || (op >= 0xe0 && op <= 0xe3))
+            refuse_near_branch(target, at + 2, bytes[at + 1 - target->libc.code.start]);
+    }
+}
+
+/* Jumps by a distance of 8 bits in the function itself, as far behind its first instructions as such a one reaches. */
+static void refuse_near_branches(const struct target *target, const uint8_t *bytes, const struct entry *entry)
 {
     const struct span *code = &target->libc.code;
+    uint64_t size = entry->taken + SHORT_REACH, end;
 
-    for (uint64_t at = function; at >= code->start && at + 32 <= code->end;) {
+    size = entry->size && entry->size < size ? entry->size : size;
+    end = code->end - LONGEST < entry->at + size ? code->end - LONGEST : entry->at + size;
+    for (uint64_t at = entry->at; at < end;) {
         const uint8_t *here = bytes + (at - code->start);
         struct instruction i = decode(here);
-        if (!i.bytes)
+        if (!i.bytes) {
+            refuse_any_near(target, bytes, at, end);
             return;
-        const char *name = i.branch == 1 ? taken_name(target, at + i.bytes + (int8_t)here[i.bytes - 1]) : NULL;
-        if (name)
-            fail("process %d: %s jumps into its own first instructions", target->process.id, name);
+        }
+        if (i.branch == 1)
+            refuse_near_branch(target, at + i.bytes, here[i.bytes - 1]);
         at += i.bytes;
     }
 }
@@ -121,6 +176,6 @@ void refuse_branches(const struct target *target)
     refuse_far_branches(target, bytes, size);
     for (int k = 0; k < FUNCTIONS; k++)
         if (target->entries[k].taken)
-            refuse_near_branches(target, bytes, target->entries[k].at);
+            refuse_near_branches(target, bytes, target->entries + k);
     free(bytes);
 }

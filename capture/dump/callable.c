@@ -15,12 +15,20 @@ enum { CODE_OF_64_BITS = 0x33, NT_SHADOW_STACK = 0x204, STACK_LEFT = 4 * PAGE,
 /* ptrace(2), PTRACE_GET_SYSCALL_USER_DISPATCH_CONFIG, which older headers lack. */
 #define GET_DISPATCH ((enum __ptrace_request)0x4211)
 
+/* Linux, arch/x86, arch_proc_pid_thread_features: a line of words. The name of a thread may be any word too. */
+bool tells_shadow_stack(const struct text *status)
+{
+    const char *line = strstr(status->bytes, "\nx86_Thread_features:"), *end = line ? strchr(line + 1, '\n') : NULL;
+
+    return line && memmem(line, end ? (size_t)(end - line) : strlen(line), "shstk", 5);
+}
+
 /* By /proc: a filter would see the call and may end the process for it; a shadow stack would miss the frame's return. */
 static const char *refusal_by_status(pid_t process, pid_t thread)
 {
     struct text status = read_text("/proc/%d/task/%d/status", process, thread);
     bool is_read = strstr(status.bytes, "\nState:"), has_filter = number_after(status, "\nSeccomp:", 10);
-    bool has_shadow_stack = strstr(status.bytes, "shstk");
+    bool has_shadow_stack = tells_shadow_stack(&status);
 
     free(status.bytes);
     return !is_read ? "its status can't be read" : has_filter ? "it is under seccomp" : has_shadow_stack ? "it has a shadow stack" : NULL;

@@ -52,6 +52,7 @@ struct code find_code(pid_t process);
 bool has_code(pid_t witness, const struct code *code);
 
 /* callable.c */
+bool tells_shadow_stack(const struct text *status);
 void look_at_thread(struct call *call, const struct process *process);
 bool stands_on_own_stack(const struct call *call, const struct maps *maps);
 

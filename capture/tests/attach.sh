@@ -4,7 +4,7 @@ section a process that runs already
 build attached.c
 build union.c
 export LEAK_FIND=$finder
-trace=$kit/leak_trace
+. "$kit/tests/attach_common.sh"
 # As leak_attach is built, but it kills itself at the step that LEAK_CORE_DIE says.
 gcc -std=gnu11 -O1 -g -pthread -DFAULT "$kit"/attach/{leak_attach,attach,plan,detach,island,modules,decode,moved,refuse}.c "$kit"/objects/attach/{gate,library}.o \
     "$kit"/dump/{fault,stop,refuse,text,memory,maps,served,calls,callable,code,frame,front,apart}.c -o dying 2> cc || { cat cc >&2; exit 1; }
@@ -25,25 +25,6 @@ ended() {
     unset "started[$process]"
     echo "$(cat attached.status) $(md5sum < attached.out)"
 }
-# whole: what a process has for code, and for mappings without those of the library: a sum.
-cat > whole.py << 'END'
-import hashlib, re, sys
-sums, kept = hashlib.md5(), []
-with open(f"/proc/{sys.argv[1]}/maps") as maps, open(f"/proc/{sys.argv[1]}/mem", "rb") as memory:
-    for line in maps:
-        start, end, rights, path = re.match(r"(\w+)-(\w+) (....) \S+ \S+ \S+ *(.*)", line).groups()
-        if rights.startswith("r-x") and path.startswith("/") and "memfd" not in path:
-            memory.seek(int(start, 16))
-            sums.update(memory.read(int(end, 16) - int(start, 16)))
-        if len(sys.argv) > 2 and "[" not in path:
-            kept.append(line.split(" ", 2)[:2])
-print(sums.hexdigest(), hashlib.md5(repr(kept).encode()).hexdigest())
-END
-whole() { python3 whole.py "$@"; }
-# attach PID, detach PID: what they say goes to NAME.said.
-attach() { limited 60 "$trace" -d 4 --attach "$1" 2> attach.said; }
-detach() { limited 60 "$trace" --detach "$1" 2> detach.said; }
-
 # rounds NAME WORD..: attached and detached again and again while it runs; its answers and its status are those of an untouched run.
 rounds() {
     local name=$1 wrong=0 count=0 untouched before
@@ -214,16 +195,6 @@ verdict 'the other is traced' "$process live" "$("$trace" --list | awk 'NR == 2 
 detach $process
 verdict 'until it is detached' 0 "$(ls table.* 2> /dev/null | wc -l)"
 stop "$child" $process
-
-# refused NAME WHY PID: it says why, and the process is as it was.
-refused() {
-    local before after
-    before=$(whole "$3" mappings)
-    limited 60 "$trace" --attach "$3" 2> refused.said
-    verdict "refused: $1" "2, 1: $2" "$?, $(wc -l < refused.said): $(grep -oF -- "$2" refused.said | head -n 1)"
-    after=$(whole "$3" mappings)
-    verdict "refused: $1: it is as it was" "$before" "$after"
-}
 
 section what is refused
 [ -x plain ] || build plain.c

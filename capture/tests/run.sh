@@ -46,6 +46,8 @@ part walk
 part heaps "$dumps"
 part union "$dumps"
 part attach "$attaches"
+part attach_kinds "$attaches"
+part attach_lies "$attaches"
 part what "$dumps"
 part types
 part frames "$dumps"
