@@ -1,5 +1,5 @@
 #!/bin/bash
-# What searches with and without each option find in Debian's own programs, into which plant.c plants leaks: the table of docs/USING.md.
+# What searches with and without each option find in Debian's own programs, into which plant.c plants leaks: the table of docs/STUDIES.md.
 # Programs that are not installed are left out; as root vsftpd, dovecot and exim are taken too. Not part of `make check`.
 . "$(dirname "$0")/common.sh"
 mkdir -m 777 planted

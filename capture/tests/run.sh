@@ -34,6 +34,7 @@ part kernel_words "$attaches"
 part hostile "$attaches"
 part known "$dumps"
 part pages
+part docs
 part lines
 part lines_symbols
 part lines_options
