@@ -1,8 +1,9 @@
-"""The documents: a link leads to a page that is there and to a heading of it."""
+"""The documents: a link leads to a page that is there and to a heading of it, and lines have at most 120 columns."""
 import os
 import re
 import unittest
 
+COLUMNS = 120
 ROOT = os.path.realpath(os.path.join(os.path.dirname(os.path.realpath(__file__)), "..", ".."))
 FENCE = re.compile(r"^```.*?^```$", re.MULTILINE | re.DOTALL)
 CODE = re.compile(r"`[^`]*`")
@@ -45,6 +46,12 @@ class Documents(unittest.TestCase):
                     self.assertTrue(os.path.exists(os.path.join(ROOT, target)))
                     if anchor:
                         self.assertIn(anchor, anchors_of(target))
+
+    def test_lines_fit(self):
+        for page in pages():
+            with self.subTest(page=page):
+                wide = [number for number, line in enumerate(text_of(page).split("\n"), 1) if len(line) > COLUMNS]
+                self.assertEqual(wide, [])
 
     def test_there_are_links(self):
         self.assertTrue(all(links_of(page) for page in ("README.md", "docs/USING.md", "docs/REFERENCE.md")))
