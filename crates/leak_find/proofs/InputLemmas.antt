@@ -1,11 +1,12 @@
 -- Readers that are read one after the other.
-use Rattle.std.proofs.Common.{◌≡◌, ℕ, suc, ◌+◌, ◌<◌, ◌≤◌, List, [], ◌∷◌, ◌++◌, length, refl, sym, subst}
+use Rattle.std.proofs.Common.{◌≡◌, ℕ, suc, ◌+◌, ◌<◌, ◌≤◌, List, [], ◌∷◌, ◌++◌, length, refl, sym, subst, arith}
 use Rattle.std.specs.Prelude.{Some, slice_get, slice_index_or, slice_set}
 use Rattle.std.proofs.lemmas.Option.{none-some, same_Some, slice_get-get_or}
 use Rattle.leak_streams.specs.declared.fault.ReadFault.{ReadFault}
-use Rattle.leak_find.specs.declared.fault.RunFault.TheVariants.{Read}
+use Rattle.leak_find.specs.declared.fault.RunFault.{RunFault}
+use Rattle.leak_find.specs.declared.fault.RunFault.TheVariants.{Read, Find, NoBlock, Write}
 use Rattle.leak_find.specs.Streams.{Source}
-use Rattle.leak_find.specs.Inputs.{AreRead, AreReadUpTo, IsReadAt, IsReaderFault, IsReadFaultWithin, IsStoppedAt}
+use Rattle.leak_find.specs.Inputs.{AreRead, AreReadUpTo, IsReadAt, IsReaderFault, IsReadFaultWithin, IsReadRefusal, IsStoppedAt}
 
 module _ {R : Type 0} (source : Source R) where
   -- the reader with the number was read, by what the list of readers gave
@@ -42,7 +43,7 @@ module _ {R : Type 0} (source : Source R) where
   more_at limit (b ∷ bs) (m ∷ ms) (x ∷ xs) bytes first last so_far is whole =
       (so_far.0, more_at (λ i. limit (suc i)) bs ms xs bytes first last so_far.1 is whole)
 
-  pub one_more : (limit : ℕ → ℕ) (before mid after : List R) (inputs : List (List ℕ)) (bytes : List ℕ) → AreRead source limit before mid inputs
+  one_more : (limit : ℕ → ℕ) (before mid after : List R) (inputs : List (List ℕ)) (bytes : List ℕ) → AreRead source limit before mid inputs
       → IsReadAt source (length inputs) (limit (length inputs)) mid after bytes → AreRead source limit before after (inputs ++ bytes ∷ [])
   one_more limit before mid after inputs bytes so_far at =
       subst (λ (a : List R). AreRead source limit before a (inputs ++ bytes ∷ [])) (sym at.becomes)
@@ -61,7 +62,7 @@ module _ {R : Type 0} (source : Source R) where
   stops_at limit (b ∷ bs) (m ∷ ms) (x ∷ xs) first last e so_far is stopped =
       (so_far.0, stops_at (λ i. limit (suc i)) bs ms xs first last e so_far.1 is stopped)
 
-  pub stopped_within : (limit : ℕ → ℕ) (readers : ℕ) (before mid after : List R) (inputs : List (List ℕ)) (number : ℕ) (e : ReadFault)
+  stopped_within : (limit : ℕ → ℕ) (readers : ℕ) (before mid after : List R) (inputs : List (List ℕ)) (number : ℕ) (e : ReadFault)
       → AreRead source limit before mid inputs → length inputs + 1 ≤ readers
       → IsReaderFault source (length inputs) (limit (length inputs)) mid after (Read number e) → IsReadFaultWithin source limit readers before after number e
   stopped_within limit readers before mid after inputs number e so_far few fault = record {
@@ -71,3 +72,26 @@ module _ {R : Type 0} (source : Source R) where
     stopped = subst (λ (a : List R). AreReadUpTo source limit before a inputs e) (sym fault.1.becomes)
         (stops_at limit before mid inputs fault.1.first fault.1.last e so_far fault.1.is fault.1.stopped);
   }
+
+  -- the next reader, by its number and by what it may hold
+  pub one_next : (limit : ℕ → ℕ) (before mid after : List R) (inputs : List (List ℕ)) (n most : ℕ) (bytes : List ℕ) → AreRead source limit before mid inputs
+      → length inputs ≡ n → most ≡ limit n → IsReadAt source n most mid after bytes → AreRead source limit before after (inputs ++ bytes ∷ [])
+  one_next limit before mid after inputs n most bytes so_far count is at =
+      one_more limit before mid after inputs bytes so_far
+      (subst (λ (k : ℕ). IsReadAt source k (limit k) mid after bytes) (sym count) (subst (λ (m : ℕ). IsReadAt source n m mid after bytes) is at))
+
+  -- a reader that was not read to its end refuses the run, if those before it were
+  refused_at : (limit : ℕ → ℕ) (before mid after : List R) (inputs : List (List ℕ)) (e : RunFault)
+      → AreRead source limit before mid inputs → length inputs + 1 ≤ length before
+      → IsReaderFault source (length inputs) (limit (length inputs)) mid after e → IsReadRefusal source limit before after e
+  refused_at limit before mid after inputs (Read number e) so_far few fault =
+      stopped_within limit (length before) before mid after inputs number e so_far few fault
+  refused_at limit before mid after inputs (Find e) so_far few fault = absurd fault
+  refused_at limit before mid after inputs (NoBlock a) so_far few fault = absurd fault
+  refused_at limit before mid after inputs (Write f) so_far few fault = absurd fault
+
+  pub refused_next : (limit : ℕ → ℕ) (before mid after : List R) (inputs : List (List ℕ)) (n most : ℕ) (e : RunFault) → AreRead source limit before mid inputs
+      → length inputs ≡ n → most ≡ limit n → n < length before → IsReaderFault source n most mid after e → IsReadRefusal source limit before after e
+  refused_next limit before mid after inputs n most e so_far count is low fault =
+      refused_at limit before mid after inputs e so_far (omega (arith, count, low))
+      (subst (λ (k : ℕ). IsReaderFault source k (limit k) mid after e) (sym count) (subst (λ (m : ℕ). IsReaderFault source n m mid after e) is fault))

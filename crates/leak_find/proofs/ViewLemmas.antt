@@ -5,10 +5,11 @@ use Rattle.leak_streams.specs.declared.fault.ReadFault.{ReadFault}
 use Rattle.leak_streams.specs.declared.fault.WriteFault.{WriteFault}
 use Rattle.leak_streams.proofs.Consumed.{stopped, whole_input, tells as tells_left}
 use Rattle.leak_streams.proofs.Appended.{cut_off_appends, cut_off_short, whole_appends, tells as tells_held}
-use Rattle.leak_request.specs.declared.options.Options.{Options}
 use Rattle.leak_find.specs.Streams.{IsTried, Sink, Source, by_bytes_held, by_bytes_left, by_reads, by_writes}
-use Rattle.leak_find.specs.Inputs.{AreRead, AreReadUpTo, IsReadFaultWithin}
-use Rattle.leak_find.specs.Holders.{AreAllInputs, limit_of_held}
+use Rattle.leak_find.specs.declared.task.Task.{Task}
+use Rattle.leak_find.specs.Inputs.{AreAllRead, AreRead, AreReadUpTo, IsReadFaultWithin}
+use Rattle.leak_find.specs.Run.{OfInputs}
+use Rattle.leak_find.specs.Tasks.{limit_at}
 
 -- what is known of a source, of readers as the view has them
 pub record Sees {R S : Type 0} (view : R → S) (source : Source R) (known : Source S) : Type 0 where
@@ -39,7 +40,7 @@ tried view sink known shows text before after (inl whole) = inl (shows.whole tex
 tried view sink known shows text before after (inr cut) = inr (cut.0, shows.cut_off text before after cut.0 cut.1)
 
 module _ {R S : Type 0} (view : R → S) (source : Source R) (known : Source S) (sees : Sees view source known) where
-  pub are_read : (limit : ℕ → ℕ) (before after : List R) (inputs : List (List ℕ)) → AreRead source limit before after inputs
+  are_read : (limit : ℕ → ℕ) (before after : List R) (inputs : List (List ℕ)) → AreRead source limit before after inputs
       → AreRead known limit (map view before) (map view after) inputs
   are_read limit before after [] read = ap (map view) read
   are_read limit [] after (x ∷ xs) read = absurd read
@@ -53,7 +54,7 @@ module _ {R S : Type 0} (view : R → S) (source : Source R) (known : Source S) 
   up_to limit (b ∷ bs) (a ∷ rest) [] e read = (sees.stopped (limit 0) b a e read.0, ap (map view) read.1)
   up_to limit (b ∷ bs) (a ∷ rest) (x ∷ xs) e read = (sees.whole (limit 0) b a x read.0, up_to (λ i. limit (suc i)) bs rest xs e read.1)
 
-  pub fault_within : (limit : ℕ → ℕ) (readers : ℕ) (before after : List R) (number : ℕ) (e : ReadFault) → IsReadFaultWithin source limit readers before after number e
+  fault_within : (limit : ℕ → ℕ) (readers : ℕ) (before after : List R) (number : ℕ) (e : ReadFault) → IsReadFaultWithin source limit readers before after number e
       → IsReadFaultWithin known limit readers (map view before) (map view after) number e
   fault_within limit readers before after number e fault = record {
     inputs = fault.inputs;
@@ -62,16 +63,25 @@ module _ {R S : Type 0} (view : R → S) (source : Source R) (known : Source S) 
     stopped = up_to limit before after fault.inputs e fault.stopped;
   }
 
-  pub held_within : (o : Options) (before after : List R) (number : ℕ) (e : ReadFault)
-      → IsReadFaultWithin source (limit_of_held o) (length before) before after number e
-      → IsReadFaultWithin known (limit_of_held o) (length (map view before)) (map view before) (map view after) number e
-  held_within o before after number e fault =
-      subst (λ (n : ℕ). IsReadFaultWithin known (limit_of_held o) n (map view before) (map view after) number e) (sym (length-map before view))
-      (fault_within (limit_of_held o) (length before) before after number e fault)
+  pub within_all : (limit : ℕ → ℕ) (before after : List R) (number : ℕ) (e : ReadFault)
+      → IsReadFaultWithin source limit (length before) before after number e
+      → IsReadFaultWithin known limit (length (map view before)) (map view before) (map view after) number e
+  within_all limit before after number e fault =
+      subst (λ (n : ℕ). IsReadFaultWithin known limit n (map view before) (map view after) number e) (sym (length-map before view))
+      (fault_within limit (length before) before after number e fault)
 
-  pub all_inputs : (o : Options) (before after : List R) (inputs : List (List ℕ)) → AreAllInputs source o before after inputs
-      → AreAllInputs known o (map view before) (map view after) inputs
-  all_inputs o before after inputs are = record {
+  pub all_read : (limit : ℕ → ℕ) (before after : List R) (inputs : List (List ℕ)) → AreAllRead source limit before after inputs
+      → AreAllRead known limit (map view before) (map view after) inputs
+  all_read limit before after inputs are = record {
     count = are.count ∙ sym (length-map before view);
-    read = are_read (limit_of_held o) before after inputs are.read;
+    read = are_read limit before after inputs are.read;
+  }
+
+  pub of_inputs : (task : Task) (before after : List R) (Holds : List (List ℕ) → Type 0) → OfInputs source task before after Holds
+      → OfInputs known task (map view before) (map view after) Holds
+  of_inputs task before after Holds of = record {
+    inputs = of.inputs;
+    takes = of.takes;
+    read = all_read (limit_at task) before after of.inputs of.read;
+    holds = of.holds;
   }

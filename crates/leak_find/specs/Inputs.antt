@@ -1,9 +1,14 @@
 -- Readers that are read to their ends, one after the other.
-use Rattle.std.specs.Prelude.{◌≡◌, ℕ, suc, ◌+◌, ◌≤◌, List, [], ◌∷◌, length, Some, slice_get, slice_index_or, slice_set}
+use Rattle.std.specs.Prelude.{◌≡◌, ℕ, suc, ◌+◌, ◌≤◌, List, [], ◌∷◌, length, map, Some, Vec, slice_get, slice_index_or, slice_set}
+use Rattle.std.specs.declared.alloc.Global.{Global}
 use Rattle.leak_streams.specs.declared.fault.ReadFault.{ReadFault}
 use Rattle.leak_find.specs.declared.fault.RunFault.{RunFault}
 use Rattle.leak_find.specs.declared.fault.RunFault.TheVariants.{Read, Find, NoBlock, Write}
 use Rattle.leak_find.specs.Streams.{Source}
+
+-- the bytes of inputs that were read
+abbrev pub bytes_of : List (Vec ℕ Global) → List (List ℕ)
+bytes_of inputs = map (λ input. input.items) inputs
 
 -- the bytes that the reader with the number, from 0, held
 abbrev pub input_at : List (List ℕ) → ℕ → List ℕ
@@ -26,6 +31,11 @@ AreReadUpTo source limit (first ∷ before) (last ∷ after) [] e =
     source.stopped (limit 0) first last e × (after ≡ before)
 AreReadUpTo source limit (first ∷ before) (last ∷ after) (bytes ∷ inputs) e =
     source.whole (limit 0) first last bytes × AreReadUpTo source (λ i. limit (suc i)) before after inputs e
+
+-- all readers were read to their ends, and held these inputs
+pub record AreAllRead {R : Type 0} (source : Source R) (limit : ℕ → ℕ) (before after : List R) (inputs : List (List ℕ)) : Type 0 where
+  pub count : length inputs ≡ length before
+  pub read : AreRead source limit before after inputs
 
 -- of this many readers, the one with the number, from 1, is the first that was not read to its end
 pub record IsReadFaultWithin {R : Type 0} (source : Source R) (limit : ℕ → ℕ) (readers : ℕ) (before after : List R)
@@ -57,3 +67,10 @@ IsReaderFault source i limit before after (Read n e) = (n ≡ i + 1) × IsStoppe
 IsReaderFault source i limit before after (Find e) = ⊥
 IsReaderFault source i limit before after (NoBlock a) = ⊥
 IsReaderFault source i limit before after (Write f) = ⊥
+
+-- a reader refuses the run, the first that was not read to its end
+abbrev pub IsReadRefusal : {R : Type 0} → Source R → (ℕ → ℕ) → List R → List R → RunFault → Type 0
+IsReadRefusal source limit before after (Read n e) = IsReadFaultWithin source limit (length before) before after n e
+IsReadRefusal source limit before after (Find e) = ⊥
+IsReadRefusal source limit before after (NoBlock a) = ⊥
+IsReadRefusal source limit before after (Write f) = ⊥

@@ -2,9 +2,7 @@
 pub mod Streams
 pub mod Inputs
 pub mod Rules
+pub mod Tasks
+pub mod Answers
 pub mod Run
-pub mod Why
-pub mod Grow
-pub mod HeldInputs
-pub mod Holders
 pub mod Laws

@@ -5,24 +5,25 @@
 //! other marked block is claimed by exactly one worker, and no block that can be reached in the second core is reported.
 //! If an input is not accepted, the answer is the first refusal by the order of [`FindError`].
 //!
-//! The program makes a [`Request`] of the words of a command line by [`request`], and then one of four calls, which go from
-//! readers that are said to have sizes to writers:
+//! The program makes a [`Request`] of the words of a command line by [`request`], and runs its [`Task`] by [`run_sized`], from
+//! readers that are said to have sizes to writers. A task says what is asked of the inputs:
 //!
-//! - [`run_sized`] searches one core by [`find_one`], or a later core by [`find_two`] from what an earlier one says;
-//! - [`run_why_sized`] tells by [`find_why`] why a block is held;
-//! - [`run_holders_sized`] tells by [`find_holders`] who holds the memory, or by [`find_held`] what some blocks hold;
-//! - [`run_grow_sized`] tells by [`find_growth`] what grew between two logs.
+//! - [`Task::Search`] which blocks leaked: of one core by [`find_one`], or of a later core by [`find_two`] from what an earlier
+//!   one says;
+//! - [`Task::Why`] what holds a block, by [`find_why`];
+//! - [`Task::Holders`] who holds the memory, by [`find_holders`], or what some blocks hold, by [`find_held`];
+//! - [`Task::Grow`] what grew between two logs, by [`find_growth`].
 //!
 //! The searches are in `leak_search`, which also says what a leak, a root and a chain are, in `leak_holding` and in `leak_growth`.
 //!
-//! [`run`] and [`run_why`] are for libraries and tests: they call [`run_sized`] and [`run_why_sized`] without sizes. So are
-//! [`find_alone`], which searches one core on the caller's thread under the promise of [`find_one`], and [`read_all`].
+//! [`run`] is for libraries and tests: it calls [`run_sized`] without sizes. So are [`find_alone`], which searches one core on the
+//! caller's thread under the promise of [`find_one`], and [`read_all`].
 //!
-//! `specs/Run.antt`, `Why.antt`, `Holders.antt` and `Grow.antt` say what a run does to its readers and writers, over
-//! what is known of reading one and of writing to one (`specs/Streams.antt`). The runs promise it by each call of a reader
-//! and of a writer (`leak_streams`), so also of a file, of whose bytes no contract knows. [`run`] and [`run_why`] promise it by
-//! the bytes that a reader has left and a writer holds; [`runs_tell`] is the law that each promise by calls is one by bytes
-//! too.
+//! `specs/Tasks.antt` and `specs/Answers.antt` say for each task what it is asked of, what its answer is, and why there is none.
+//! `specs/Run.antt` says what a run does to its readers and writers, over what is known of reading one and of writing to one
+//! (`specs/Streams.antt`): [`run_sized`] promises it by each call of a reader and of a writer (`leak_streams`), so also of a
+//! file, of whose bytes no contract knows, and [`run`] by the bytes that a reader has left and a writer holds. [`runs_tell`] is
+//! the law that each promise by calls is one by bytes too.
 //!
 //! An allocation of 32 bytes, and a core in which no word leads to it:
 //!
@@ -40,18 +41,16 @@
 //! the program, or how long a search takes.
 #![tactic(auto)]
 
-mod asking;
+mod answer;
 mod fault;
-mod growing;
-mod holding;
 mod laws;
+mod reading;
 mod rules;
 mod running;
+mod task;
 
-pub use asking::{run_why, run_why_sized};
+pub use answer::Context;
 pub use fault::RunFault;
-pub use growing::run_grow_sized;
-pub use holding::run_holders_sized;
 pub use laws::runs_tell;
 pub use leak_growth::{Grown, find_growth};
 pub use leak_holders::{Question, Side};
@@ -70,3 +69,4 @@ pub use leak_search::{
 };
 pub use leak_streams::{ReadCalls, ReadFault, WriteCalls, WriteFault, read_all, write};
 pub use running::{run, run_sized};
+pub use task::Task;

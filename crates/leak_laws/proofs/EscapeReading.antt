@@ -2,7 +2,7 @@
 use Rattle.std.proofs.Common.{◌≡◌, ◌∙◌, ap, sym, refl, ℕ, ◌+◌, ◌-◌, ◌*◌, ◌<◌, ◌/◌, ◌%◌, ◌==◌, Bool, cond, List, [], ◌∷◌, ◌++◌, length, nat_lt, arith}
 use Rattle.std.proofs.lemmas.Bool.{cond_both, eqb-true, le-ltb, lt-ltb, ltb-false, ltb-true}
 use Rattle.std.proofs.lemmas.Nat.{div-add-mod'}
-use Rattle.leak_escapes.specs.Escaped.{escape_of, escaped, hex_digit, is_control}
+use Rattle.leak_request.specs.Escaped.{escape_of, escaped, hex_digit, is_control}
 use Rattle.leak_laws.specs.EscapedTexts.{EscapedReadsBack}
 
 digit_of : ℕ → ℕ

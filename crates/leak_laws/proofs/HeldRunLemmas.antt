@@ -1,28 +1,26 @@
 -- A run that tells what is held, or what grew, is a function of its inputs.
 use Rattle.std.proofs.Common.{◌≡◌, ℕ, Bool, List, [], ◌∷◌, length, Option, None, Some, sym, ap, subst, ◌∙◌}
 use Rattle.std.specs.Io.KnownBytes.{Appends}
+use Rattle.std.specs.Prelude.{slice_get}
 use Rattle.leak_index.specs.Leads.{Distances}
 use Rattle.leak_index.specs.Readings.{distances_of}
 use Rattle.leak_roots.specs.declared.skip.Skip.{Skip}
-use Rattle.leak_report.specs.declared.signs.Signs.{Signs}
-use Rattle.leak_report.specs.Warnings.{warnings_of}
 use Rattle.leak_input.specs.Signs.{AreSigns}
 use Rattle.leak_holders.specs.declared.question.Question.{Question}
 use Rattle.leak_request.specs.declared.options.GrowOptions.{GrowOptions}
 use Rattle.leak_request.specs.declared.options.Options.{Options}
-use Rattle.leak_growth.specs.Growth.{FindsGrowth}
 use Rattle.leak_search.specs.Holding.{TellsWhy}
 use Rattle.leak_holding.specs.declared.finding.Holding.{Holding}
 use Rattle.leak_holding.specs.Held.{FindsHeld}
 use Rattle.leak_holding.specs.Holders.{FindsHolders}
-use Rattle.leak_find.specs.Grow.{RunsGrow}
-use Rattle.leak_find.specs.Holders.{RunsHolders, Tells, earlier_in, limit_of_held}
+use Rattle.leak_find.specs.Answers.{Holds, TellsChain, TellsGrowth, TellsHolding, leaked_if_not}
 use Rattle.leak_find.specs.Inputs.{input_at}
-use Rattle.leak_find.specs.Run.{limit_at, status_by}
+use Rattle.leak_find.specs.Run.{Runs}
+use Rattle.leak_find.specs.Tasks.{limit_at}
+use Rattle.leak_find.specs.declared.task.Task.TheVariants.{Grow, Holders, Why}
 use Rattle.leak_find.specs.Streams.{by_bytes_held, by_bytes_left}
-use Rattle.leak_find.specs.Why.{RunsWhy, leaked_if_not}
 use Rattle.leak_laws.specs.Runs.{AreAlike, AskAlike, HoldAlike}
-use Rattle.leak_laws.proofs.RunLemmas.{inputs_are_one}
+use Rattle.leak_laws.proofs.RunLemmas.{inputs_are_one, one_status}
 use Rattle.leak_laws.proofs.SameGrowth.{one_growth}
 use Rattle.leak_laws.proofs.SameHeld.{one_answer, one_holders}
 use Rattle.leak_laws.proofs.SameLemmas.{one_signs}
@@ -30,80 +28,82 @@ use Rattle.leak_laws.proofs.SameWhy.{as_long}
 
 -- ---- what is held
 
-same_told : (question : Option Question) (a b : Options) (core log : List ℕ) (since : Option (List ℕ)) (x y : Holding) → AskAlike a b → Tells question a core log since x → Tells question b core log since y → x.report.items ≡ y.report.items
-same_told None a b core log since x y ask f g =
+same_held : (question : Option Question) (a b : Options) (core log : List ℕ) (since : Option (List ℕ)) (x y : Holding) → AskAlike a b → Holds question a core log since x → Holds question b core log since y → x.report.items ≡ y.report.items
+same_held None a b core log since x y ask f g =
     let one = subst (λ (r : Distances). FindsHolders core log since r b.skip y) (sym ask.reading) g in
     let two = subst (λ (s : Skip). FindsHolders core log since (distances_of a.reading) s y) (sym ask.skip) one in
     one_holders core log since (distances_of a.reading) a.skip x y f two
-same_told (Some question) a b core log since x y ask f g =
+same_held (Some question) a b core log since x y ask f g =
     let one = subst (λ (r : Distances). FindsHeld core log since r b.skip question y) (sym ask.reading) g in
     let two = subst (λ (s : Skip). FindsHeld core log since (distances_of a.reading) s question y) (sym ask.skip) one in
     one_answer core log since (distances_of a.reading) a.skip question x y f two
 
 pub holders_runs_are_one : (a b : Options) (question : Option Question) (before after readers left : List (Option (List ℕ))) (held holds heard hears other others told tells : Option (List ℕ)) (status same : ℕ)
     → AskAlike a b → length before ≡ length readers → HoldAlike (length before) before readers
-    → RunsHolders by_bytes_left by_bytes_held by_bytes_held a question before after held holds heard hears status
-    → RunsHolders by_bytes_left by_bytes_held by_bytes_held b question readers left other others told tells same
+    → Runs by_bytes_left by_bytes_held by_bytes_held (Holders a question) before after held holds heard hears status
+    → Runs by_bytes_left by_bytes_held by_bytes_held (Holders b question) readers left other others told tells same
     → AreAlike held holds other others status same
 holders_runs_are_one a b question before after readers left held holds heard hears other others told tells status same ask many hold f g =
-    let inputs : f.has_held.inputs ≡ g.has_held.inputs =
-    inputs_are_one (limit_of_held a) (limit_of_held b) before after readers left f.has_held.inputs g.has_held.inputs (f.has_held.are.count ∙ many ∙ sym g.has_held.are.count)
-    (subst (λ (n : ℕ). HoldAlike n before readers) (sym f.has_held.are.count) hold) f.has_held.are.read g.has_held.are.read in
-    let tells_too = subst (λ (is : List (List ℕ)). Tells question b (input_at is 0) (input_at is 1) (earlier_in is) g.holding) (sym inputs) g.has_held.tells in
-    let report : f.holding.report.items ≡ g.holding.report.items =
-    same_told question a b (input_at f.has_held.inputs 0) (input_at f.has_held.inputs 1) (earlier_in f.has_held.inputs) f.holding g.holding ask f.has_held.tells tells_too in
-    let signs_too = subst (λ (is : List (List ℕ)). AreSigns b.other_heap (input_at is 0 ∷ input_at is 1 ∷ []) g.holding.signs.items) (sym inputs) g.has_held.signs in
-    let signs_alike = subst (λ (heap : Bool). AreSigns heap (input_at f.has_held.inputs 0 ∷ input_at f.has_held.inputs 1 ∷ []) g.holding.signs.items) (sym ask.other_heap) signs_too in
-    let signs : f.holding.signs.items ≡ g.holding.signs.items =
-    one_signs a.other_heap (input_at f.has_held.inputs 0 ∷ input_at f.has_held.inputs 1 ∷ []) f.holding.signs.items g.holding.signs.items f.has_held.signs signs_alike in
+    let inputs : f.answered.inputs ≡ g.answered.inputs =
+    inputs_are_one (limit_at (Holders a question)) (limit_at (Holders b question)) before after readers left f.answered.inputs g.answered.inputs (f.answered.read.count ∙ many ∙ sym g.answered.read.count)
+    (subst (λ (n : ℕ). HoldAlike n before readers) (sym f.answered.read.count) hold) f.answered.read.read g.answered.read.read in
+    let core = input_at f.answered.inputs 0 in
+    let log = input_at f.answered.inputs 1 in
+    let since = slice_get f.answered.inputs 2 in
+    let x : TellsHolding a question core log since f.answer = f.answered.holds in
+    let y : TellsHolding b question core log since g.answer =
+    subst (λ (is : List (List ℕ)). TellsHolding b question (input_at is 0) (input_at is 1) (slice_get is 2) g.answer) (sym inputs) g.answered.holds in
+    let text : f.answer.text.items ≡ g.answer.text.items = x.text ∙ same_held question a b core log since x.holding y.holding ask x.holds y.holds ∙ sym y.text in
+    let signs = one_signs a.other_heap (core ∷ log ∷ []) f.answer.signs.items g.answer.signs.items x.signs
+    (subst (λ (heap : Bool). AreSigns heap (core ∷ log ∷ []) g.answer.signs.items) (sym ask.other_heap) y.signs) in
     record {
-      written = record { bytes = f.holding.report.items; first = f.written; second = subst (λ (bs : List ℕ). Appends other others bs) (sym report) g.written };
-      status_same = f.status_is
-          ∙ ap (λ (ss : List Signs). status_by a.strict 0 (warnings_of ss)) signs
-          ∙ ap (λ (s : Bool). status_by s 0 (warnings_of g.holding.signs.items)) ask.strict
-          ∙ sym g.status_is;
+      written = record { bytes = f.answer.text.items; first = f.written; second = subst (λ (bs : List ℕ). Appends other others bs) (sym text) g.written };
+      status_same = one_status a.strict b.strict f.answer.leaked g.answer.leaked f.answer.signs.items g.answer.signs.items status same
+          ask.strict (x.leaked ∙ sym y.leaked) signs f.status_is g.status_is;
     }
 
 -- ---- what grew
 
 pub grow_runs_are_one : (a b : GrowOptions) (before after readers left : List (Option (List ℕ))) (held holds heard hears other others told tells : Option (List ℕ)) (status same : ℕ)
     → a.strict ≡ b.strict → HoldAlike 2 before readers
-    → RunsGrow by_bytes_left by_bytes_held by_bytes_held a before after held holds heard hears status
-    → RunsGrow by_bytes_left by_bytes_held by_bytes_held b readers left other others told tells same
+    → Runs by_bytes_left by_bytes_held by_bytes_held (Grow a) before after held holds heard hears status
+    → Runs by_bytes_left by_bytes_held by_bytes_held (Grow b) readers left other others told tells same
     → AreAlike held holds other others status same
 grow_runs_are_one a b before after readers left held holds heard hears other others told tells status same strict hold f g =
-    let inputs : f.has_grown.inputs ≡ g.has_grown.inputs =
-    inputs_are_one (λ i. a.log_limit) (λ i. b.log_limit) before after readers left f.has_grown.inputs g.has_grown.inputs (f.has_grown.count ∙ sym g.has_grown.count)
-    (subst (λ (n : ℕ). HoldAlike n before readers) (sym f.has_grown.count) hold) f.has_grown.read g.has_grown.read in
-    let finds : FindsGrowth (input_at f.has_grown.inputs 0) (input_at f.has_grown.inputs 1) g.grown =
-    subst (λ (is : List (List ℕ)). FindsGrowth (input_at is 0) (input_at is 1) g.grown) (sym inputs) g.has_grown.finds in
-    let one = one_growth (input_at f.has_grown.inputs 0) (input_at f.has_grown.inputs 1) f.grown g.grown f.has_grown.finds finds in
+    let inputs : f.answered.inputs ≡ g.answered.inputs =
+    inputs_are_one (limit_at (Grow a)) (limit_at (Grow b)) before after readers left f.answered.inputs g.answered.inputs (f.answered.takes ∙ sym g.answered.takes)
+    (subst (λ (n : ℕ). HoldAlike n before readers) (sym f.answered.takes) hold) f.answered.read.read g.answered.read.read in
+    let log1 = input_at f.answered.inputs 0 in
+    let log2 = input_at f.answered.inputs 1 in
+    let x : TellsGrowth log1 log2 f.answer = f.answered.holds in
+    let y : TellsGrowth log1 log2 g.answer = subst (λ (is : List (List ℕ)). TellsGrowth (input_at is 0) (input_at is 1) g.answer) (sym inputs) g.answered.holds in
+    let one = one_growth log1 log2 x.grown y.grown x.finds y.finds in
+    let text : f.answer.text.items ≡ g.answer.text.items = x.text ∙ one.report ∙ sym y.text in
     record {
-      written = record { bytes = f.grown.report.items; first = f.written; second = subst (λ (bs : List ℕ). Appends other others bs) (sym one.report) g.written };
-      status_same = f.status_is ∙ ap (λ (ss : List Signs). status_by a.strict 0 (warnings_of ss)) one.signs ∙ ap (λ (s : Bool). status_by s 0 (warnings_of g.grown.signs.items)) strict ∙ sym g.status_is;
+      written = record { bytes = f.answer.text.items; first = f.written; second = subst (λ (bs : List ℕ). Appends other others bs) (sym text) g.written };
+      status_same = one_status a.strict b.strict f.answer.leaked g.answer.leaked f.answer.signs.items g.answer.signs.items status same
+          strict (x.leaked ∙ sym y.leaked) (x.signs ∙ one.signs ∙ sym y.signs) f.status_is g.status_is;
     }
 
 -- ---- why a block is held
 
 pub why_runs_are_one : (a b : Options) (address : ℕ) (before after readers left : List (Option (List ℕ))) (held holds heard hears other others told tells : Option (List ℕ)) (status same : ℕ)
     → AskAlike a b → HoldAlike 2 before readers
-    → RunsWhy by_bytes_left by_bytes_held by_bytes_held a address before after held holds heard hears status
-    → RunsWhy by_bytes_left by_bytes_held by_bytes_held b address readers left other others told tells same
+    → Runs by_bytes_left by_bytes_held by_bytes_held (Why a address) before after held holds heard hears status
+    → Runs by_bytes_left by_bytes_held by_bytes_held (Why b address) readers left other others told tells same
     → status ≡ same
 why_runs_are_one a b address before after readers left held holds heard hears other others told tells status same ask hold f g =
-    let inputs : f.has_told.inputs ≡ g.has_told.inputs =
-    inputs_are_one (limit_at a) (limit_at b) before after readers left f.has_told.inputs g.has_told.inputs (f.has_told.count ∙ sym g.has_told.count)
-    (subst (λ (n : ℕ). HoldAlike n before readers) (sym f.has_told.count) hold) f.has_told.read g.has_told.read in
-    let one = subst (λ (is : List (List ℕ)). TellsWhy (input_at is 0) (input_at is 1) (distances_of b.reading) b.skip address g.why) (sym inputs) g.has_told.tells in
-    let two = subst (λ (r : Distances). TellsWhy (input_at f.has_told.inputs 0) (input_at f.has_told.inputs 1) r b.skip address g.why) (sym ask.reading) one in
-    let three = subst (λ (s : Skip). TellsWhy (input_at f.has_told.inputs 0) (input_at f.has_told.inputs 1) (distances_of a.reading) s address g.why) (sym ask.skip) two in
-    let same_held = as_long (input_at f.has_told.inputs 0) (input_at f.has_told.inputs 1) (distances_of a.reading) a.skip address f.why g.why f.has_told.tells three in
-    let signs_too = subst (λ (is : List (List ℕ)). AreSigns b.other_heap (input_at is 0 ∷ input_at is 1 ∷ []) g.why.signs.items) (sym inputs) g.has_told.signs in
-    let signs_alike = subst (λ (heap : Bool). AreSigns heap (input_at f.has_told.inputs 0 ∷ input_at f.has_told.inputs 1 ∷ []) g.why.signs.items) (sym ask.other_heap) signs_too in
-    let signs : f.why.signs.items ≡ g.why.signs.items =
-    one_signs a.other_heap (input_at f.has_told.inputs 0 ∷ input_at f.has_told.inputs 1 ∷ []) f.why.signs.items g.why.signs.items f.has_told.signs signs_alike in
-    f.status_is
-    ∙ ap (λ (h : Bool). status_by a.strict (leaked_if_not h) (warnings_of f.why.signs.items)) same_held.held
-    ∙ ap (λ (ss : List Signs). status_by a.strict (leaked_if_not g.why.held) (warnings_of ss)) signs
-    ∙ ap (λ (s : Bool). status_by s (leaked_if_not g.why.held) (warnings_of g.why.signs.items)) ask.strict
-    ∙ sym g.status_is
+    let inputs : f.answered.inputs ≡ g.answered.inputs =
+    inputs_are_one (limit_at (Why a address)) (limit_at (Why b address)) before after readers left f.answered.inputs g.answered.inputs (f.answered.takes ∙ sym g.answered.takes)
+    (subst (λ (n : ℕ). HoldAlike n before readers) (sym f.answered.takes) hold) f.answered.read.read g.answered.read.read in
+    let core = input_at f.answered.inputs 0 in
+    let log = input_at f.answered.inputs 1 in
+    let x : TellsChain a address core log f.answer = f.answered.holds in
+    let y : TellsChain b address core log g.answer = subst (λ (is : List (List ℕ)). TellsChain b address (input_at is 0) (input_at is 1) g.answer) (sym inputs) g.answered.holds in
+    let one = subst (λ (r : Distances). TellsWhy core log r b.skip address y.chain) (sym ask.reading) y.tells in
+    let two = subst (λ (s : Skip). TellsWhy core log (distances_of a.reading) s address y.chain) (sym ask.skip) one in
+    let same_chain = as_long core log (distances_of a.reading) a.skip address x.chain y.chain x.tells two in
+    let signs = one_signs a.other_heap (core ∷ log ∷ []) f.answer.signs.items g.answer.signs.items x.signs
+    (subst (λ (heap : Bool). AreSigns heap (core ∷ log ∷ []) g.answer.signs.items) (sym ask.other_heap) y.signs) in
+    one_status a.strict b.strict f.answer.leaked g.answer.leaked f.answer.signs.items g.answer.signs.items status same
+    ask.strict (x.leaked ∙ ap leaked_if_not same_chain.held ∙ sym y.leaked) signs f.status_is g.status_is

@@ -14,7 +14,10 @@ use Rattle.leak_request.specs.Requests.{file_count}
 use Rattle.leak_search.specs.Search.{FindsOne}
 use Rattle.leak_search.specs.SearchTwo.{FindsTwo}
 use Rattle.leak_find.specs.Inputs.{AreRead, input_at}
-use Rattle.leak_find.specs.Run.{Finds, Runs, limit_at, status_by}
+use Rattle.leak_find.specs.Answers.{Finds, TellsLeaks}
+use Rattle.leak_find.specs.Run.{Runs, status_by}
+use Rattle.leak_find.specs.Tasks.{limit_at}
+use Rattle.leak_find.specs.declared.task.Task.TheVariants.{Search}
 use Rattle.leak_find.specs.Streams.{by_bytes_held, by_bytes_left}
 use Rattle.leak_laws.specs.OneLine.{AreOfOneLine}
 use Rattle.leak_laws.specs.Reports.{IsReport, told_by_one, told_by_two}
@@ -63,28 +66,36 @@ same_found true a b inputs x y ask f g =
     let three = subst (λ (c : Bool). FindsTwo (input_at inputs 0) (input_at inputs 1) (input_at inputs 2) (input_at inputs 3) (distances_of a.reading) a.skip c b.plan.workers y) (sym ask.check) two in
     two_report (input_at inputs 0) (input_at inputs 1) (input_at inputs 2) (input_at inputs 3) (distances_of a.reading) a.skip a.check a.plan.workers b.plan.workers x y f three
 
+-- ---- statuses
+
+pub one_status : (strict lax : Bool) (n m : ℕ) (xs ys : List Signs) (status same : ℕ) → strict ≡ lax → n ≡ m → xs ≡ ys
+    → status ≡ status_by strict n (warnings_of xs) → same ≡ status_by lax m (warnings_of ys) → status ≡ same
+one_status strict lax n m xs ys status same alike leaked signs is other =
+    is ∙ ap (λ (k : ℕ). status_by strict k (warnings_of xs)) leaked
+    ∙ ap (λ (ss : List Signs). status_by strict m (warnings_of ss)) signs
+    ∙ ap (λ (s : Bool). status_by s m (warnings_of ys)) alike
+    ∙ sym other
+
 pub runs_are_one : (a b : Options) (before after readers left : List (Option (List ℕ))) (held holds heard hears other others told tells : Option (List ℕ)) (status same : ℕ)
     → AskAlike a b → HoldAlike (file_count a.two) before readers
-    → Runs by_bytes_left by_bytes_held by_bytes_held a before after held holds heard hears status
-    → Runs by_bytes_left by_bytes_held by_bytes_held b readers left other others told tells same
+    → Runs by_bytes_left by_bytes_held by_bytes_held (Search a) before after held holds heard hears status
+    → Runs by_bytes_left by_bytes_held by_bytes_held (Search b) readers left other others told tells same
     → AreAlike held holds other others status same
 runs_are_one a b before after readers left held holds heard hears other others told tells status same ask hold f g =
-    let inputs : f.has_found.inputs ≡ g.has_found.inputs =
-    inputs_are_one (limit_at a) (limit_at b) before after readers left f.has_found.inputs g.has_found.inputs (f.has_found.count ∙ ap file_count ask.two ∙ sym g.has_found.count)
-    (subst (λ (n : ℕ). HoldAlike n before readers) (sym f.has_found.count) hold) f.has_found.read g.has_found.read in
-    let finds1 = subst (λ (two : Bool). Finds two b g.has_found.inputs g.found) (sym ask.two) g.has_found.finds in
-    let finds2 = subst (λ (is : List (List ℕ)). Finds a.two b is g.found) (sym inputs) finds1 in
-    let report = same_found a.two a b f.has_found.inputs f.found g.found ask f.has_found.finds finds2 in
-    let signs1 = subst (λ (heap : Bool). AreSigns heap g.has_found.inputs g.found.signs.items) (sym ask.other_heap) g.has_found.signs in
-    let signs2 = subst (λ (is : List (List ℕ)). AreSigns a.other_heap is g.found.signs.items) (sym inputs) signs1 in
-    let signs : f.found.signs.items ≡ g.found.signs.items = one_signs a.other_heap f.has_found.inputs f.found.signs.items g.found.signs.items f.has_found.signs signs2 in
+    let inputs : f.answered.inputs ≡ g.answered.inputs =
+    inputs_are_one (limit_at (Search a)) (limit_at (Search b)) before after readers left f.answered.inputs g.answered.inputs (f.answered.takes ∙ ap file_count ask.two ∙ sym g.answered.takes)
+    (subst (λ (n : ℕ). HoldAlike n before readers) (sym f.answered.takes) hold) f.answered.read.read g.answered.read.read in
+    let x : TellsLeaks a f.answered.inputs f.answer = f.answered.holds in
+    let y : TellsLeaks b f.answered.inputs g.answer = subst (λ (is : List (List ℕ)). TellsLeaks b is g.answer) (sym inputs) g.answered.holds in
+    let finds = subst (λ (two : Bool). Finds two b f.answered.inputs y.found) (sym ask.two) y.finds in
+    let report = same_found a.two a b f.answered.inputs x.found y.found ask x.finds finds in
+    let text : f.answer.text.items ≡ g.answer.text.items = x.text ∙ report.report ∙ sym y.text in
+    let signs = one_signs a.other_heap f.answered.inputs f.answer.signs.items g.answer.signs.items x.signs
+    (subst (λ (heap : Bool). AreSigns heap f.answered.inputs g.answer.signs.items) (sym ask.other_heap) y.signs) in
     record {
-      written = record { bytes = f.found.report.items; first = f.written; second = subst (λ (bs : List ℕ). Appends other others bs) (sym report.report) g.written };
-      status_same = f.status_is
-          ∙ ap (λ (n : ℕ). status_by a.strict n (warnings_of f.found.signs.items)) report.leaked
-          ∙ ap (λ (ss : List Signs). status_by a.strict g.found.leaked (warnings_of ss)) signs
-          ∙ ap (λ (s : Bool). status_by s g.found.leaked (warnings_of g.found.signs.items)) ask.strict
-          ∙ sym g.status_is;
+      written = record { bytes = f.answer.text.items; first = f.written; second = subst (λ (bs : List ℕ). Appends other others bs) (sym text) g.written };
+      status_same = one_status a.strict b.strict f.answer.leaked g.answer.leaked f.answer.signs.items g.answer.signs.items status same
+          ask.strict (x.leaked ∙ report.leaked ∙ sym y.leaked) signs f.status_is g.status_is;
     }
 
 -- ---- what is written
@@ -103,16 +114,17 @@ told_lines true o inputs found f = (
 )
 
 pub runs_write_reports : (o : Options) (before after : List (Option (List ℕ))) (held holds heard hears : Option (List ℕ)) (status : ℕ)
-    → Runs by_bytes_left by_bytes_held by_bytes_held o before after held holds heard hears status → (t : Told) × IsRunReport o held holds status t
+    → Runs by_bytes_left by_bytes_held by_bytes_held (Search o) before after held holds heard hears status → (t : Told) × IsRunReport o held holds status t
 runs_write_reports o before after held holds heard hears status f =
-    let told = told_lines o.two o f.has_found.inputs f.found f.has_found.finds in (
+    let x : TellsLeaks o f.answered.inputs f.answer = f.answered.holds in
+    let told = told_lines o.two o f.answered.inputs x.found x.finds in (
       told.0,
       record {
-        written = subst (λ (bs : List ℕ). Appends held holds bs) told.1.bytes f.written;
+        written = subst (λ (bs : List ℕ). Appends held holds bs) (x.text ∙ told.1.bytes) f.written;
         together = told.1.together;
         of_lines = told.2;
         by_leaks = λ lax.
-            f.status_is ∙ ap (λ (s : Bool). status_by s f.found.leaked (warnings_of f.found.signs.items)) lax
-            ∙ ap (λ (n : ℕ). if nat_lt 0 n then 1 else 0) told.1.leaked;
+            f.status_is ∙ ap (λ (s : Bool). status_by s f.answer.leaked (warnings_of f.answer.signs.items)) lax
+            ∙ ap (λ (n : ℕ). if nat_lt 0 n then 1 else 0) (x.leaked ∙ told.1.leaked);
       },
     )

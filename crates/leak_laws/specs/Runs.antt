@@ -5,6 +5,7 @@ use Rattle.leak_index.specs.Readings.{distances_of}
 use Rattle.leak_request.specs.declared.options.Options.{Options}
 use Rattle.leak_request.specs.Requests.{file_count}
 use Rattle.leak_find.specs.Run.{Runs}
+use Rattle.leak_find.specs.declared.task.Task.TheVariants.{Search}
 use Rattle.leak_find.specs.Streams.{by_bytes_held, by_bytes_left}
 use Rattle.leak_laws.specs.OneLine.{AreOfOneLine}
 use Rattle.leak_laws.specs.Together.{BelongTogether}
@@ -42,8 +43,8 @@ abbrev pub RunsAreOne : Type 0
 RunsAreOne =
     (a b : Options) (before after readers left : List (Option (List ℕ))) (held holds heard hears other others told tells : Option (List ℕ)) (status same : ℕ)
     → AskAlike a b → HoldAlike (file_count a.two) before readers
-    → Runs by_bytes_left by_bytes_held by_bytes_held a before after held holds heard hears status
-    → Runs by_bytes_left by_bytes_held by_bytes_held b readers left other others told tells same
+    → Runs by_bytes_left by_bytes_held by_bytes_held (Search a) before after held holds heard hears status
+    → Runs by_bytes_left by_bytes_held by_bytes_held (Search b) readers left other others told tells same
     → AreAlike held holds other others status same
 
 -- what was written has these lines, and the status is 1 if a block leaked, and otherwise 0, unless warnings have a status of their own
@@ -56,4 +57,4 @@ pub record IsRunReport (o : Options) (held holds : Option (List ℕ)) (status : 
 abbrev pub RunsWriteReports : Type 0
 RunsWriteReports =
     (o : Options) (before after : List (Option (List ℕ))) (held holds heard hears : Option (List ℕ)) (status : ℕ)
-    → Runs by_bytes_left by_bytes_held by_bytes_held o before after held holds heard hears status → (t : Told) × IsRunReport o held holds status t
+    → Runs by_bytes_left by_bytes_held by_bytes_held (Search o) before after held holds heard hears status → (t : Told) × IsRunReport o held holds status t

@@ -3,3 +3,5 @@ mod Lines
 mod Paths
 mod Refusals
 mod SampleLemmas
+pub mod OpeningLemmas
+mod TextLemmas

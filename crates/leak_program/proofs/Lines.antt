@@ -1,13 +1,13 @@
 -- Each message is one line, except clap's.
 use Rattle.std.proofs.Common.{ℕ, List, [], ◌∷◌, ◌++◌, codes, false, refl, sym, append_assoc, string_bytes}
 use Rattle.std.specs.Fmt.{digits}
-use Rattle.leak_escapes.specs.Escaped.{AreShown, escaped}
-use Rattle.leak_escapes.proofs.ShownLemmas.{both, escaped_shown, hexadecimal_shown}
+use Rattle.leak_request.specs.Escaped.{AreShown, escaped}
+use Rattle.leak_request.proofs.ShownLemmas.{both, escaped_shown, hexadecimal_shown}
 use Rattle.leak_find.specs.declared.fault.RunFault.{RunFault}
 use Rattle.leak_find.specs.declared.fault.RunFault.TheVariants as run
-use Rattle.leak_messages.specs.Inputs.{read_text, reason_text}
-use Rattle.leak_messages.specs.Words.{usage_text}
-use Rattle.leak_messages.proofs.TextLemmas.{displace_shown, find_shown, numbered, read_shown, reason_shown, write_shown}
+use Rattle.leak_program.specs.InputTexts.{read_text, reason_text}
+use Rattle.leak_program.specs.WordTexts.{usage_text}
+use Rattle.leak_program.proofs.TextLemmas.{displace_shown, find_shown, numbered, read_shown, reason_shown, write_shown}
 use Rattle.leak_streams.specs.declared.fault.ReadFault.{ReadFault}
 use Rattle.leak_request.specs.declared.fault.AddressArgument.TheVariants as argument
 use Rattle.leak_request.specs.declared.fault.UsageFault.{UsageFault}

@@ -1,58 +1,98 @@
 -- From files that are not opened, and runs without a status, to words that get no answer.
-use Rattle.std.proofs.Common.{◌≡◌, List, [], ℕ, String, Global, refl, sym, subst, string_bytes}
+use Rattle.std.proofs.Common.{◌≡◌, List, [], ℕ, Option, None, refl, sym, subst}
 use Rattle.leak_find.specs.declared.fault.RunFault.{RunFault}
 use Rattle.leak_find.specs.declared.fault.RunFault.TheVariants as run
+use Rattle.leak_find.specs.declared.task.Task.{Task}
 use Rattle.leak_find.specs.Streams.{Sink, Source}
 use Rattle.std.proofs.lemmas.List.{append-nil}
-use Rattle.leak_opening.specs.Opening.{IsOpenFault, Opens}
-use Rattle.leak_opening.proofs.OpeningLemmas.{part_opened}
-use Rattle.leak_opening.specs.declared.fault.OpenFault.{OpenFault}
-use Rattle.leak_opening.specs.declared.fault.OpenFault.TheVariants as opening
+use Rattle.leak_program.specs.Opening.{IsOpenFault, Opens}
+use Rattle.leak_program.proofs.OpeningLemmas.{part_opened}
+use Rattle.leak_program.specs.declared.open_fault.OpenFault.{OpenFault}
+use Rattle.leak_program.specs.declared.open_fault.OpenFault.TheVariants as opening
 use Rattle.leak_streams.specs.declared.fault.ReadFault.{ReadFault}
 use Rattle.leak_request.specs.declared.options.Request.{Request}
-use Rattle.leak_request.specs.declared.options.Request.TheVariants.{Text}
 use Rattle.leak_request.specs.Requests.{IsRequestOf}
 use Rattle.leak_program.specs.declared.failure.Failure.{Failure}
 use Rattle.leak_program.specs.declared.failure.Failure.TheVariants.{Word, Usage, Open, Read, Run, NoMemory}
-use Rattle.leak_program.specs.Answer.{FailsRequest, IsCut, IsFailureOf, IsNotShown, RunFailsBy, paths_in}
+use Rattle.leak_program.specs.Answer.{Answers, AnswersBy, FailsBy, IsFailureOf, IsNotShown}
+use Rattle.leak_program.specs.Asked.{AsksFiles, AsksText, paths_in, task_in, text_in}
 use Rattle.leak_program.specs.Failures.{IsNamedBy, IsOfReader, LacksPath, at_opening}
-use Rattle.leak_program.specs.Files.{IsRefusalOf, OfOpened}
+use Rattle.leak_program.specs.Files.{AnswersFiles, FailsFiles, IsRefusalOf, OfOpened}
 
--- what refuses the files of a request refuses the words that make it
-pub refused_by : {O F W : Type 0} (opens : Opens O F) (source : Source F) (sink : Sink W) (words : List (List ℕ)) (r : Request) (first last : O)
-    (held holds : W) (failure : Failure) → IsRequestOf words r
-    → IsRefusalOf opens (paths_in r) first last held holds (RunFailsBy source sink r held holds) failure
-    → IsFailureOf opens source sink words first last held holds failure
-refused_by opens source sink words r first last held holds Word asked fails = absurd fails
-refused_by opens source sink words r first last held holds (Usage fault) asked fails = absurd fails
-refused_by opens source sink words r first last held holds (Open path reason) asked fails = record { request = r; asked = asked; fails = fails }
-refused_by opens source sink words r first last held holds (Read n path f) asked fails = record { request = r; asked = asked; fails = fails }
-refused_by opens source sink words r first last held holds (Run fault) asked fails = record { request = r; asked = asked; fails = fails }
-refused_by opens source sink words r first last held holds NoMemory asked fails = record { request = r; asked = asked; fails = fails }
-
--- a text that was not written completely
-cut : {O F W : Type 0} (opens : Opens O F) (source : Source F) (sink : Sink W) (words : List (List ℕ)) (text : String Global) (first : O)
-    (held holds : W) (fault : RunFault) → IsRequestOf words (Text text) → IsCut sink (string_bytes text) held holds fault
-    → FailsRequest opens source sink words first first held holds (Run fault)
-cut opens source sink words text first held holds (run.Read n f) asked fails = absurd fails
-cut opens source sink words text first held holds (run.Find e) asked fails = absurd fails
-cut opens source sink words text first held holds (run.NoBlock a) asked fails = absurd fails
-cut opens source sink words text first held holds (run.Write f) asked fails = record {
-  request = Text text;
+-- the task of a request, done for its files, answers the words that make the request
+pub answered : {O F W V : Type 0} (opens : Opens O F) (source : Source F) (sink : Sink W) (warner : Sink V) (words : List (List ℕ)) (r : Request) (paths : List (List ℕ)) (task : Task)
+    (first last : O) (held holds : W) (heard hears : V) (status : ℕ) → IsRequestOf words r → AsksFiles r paths task
+    → OfOpened opens paths first last (AnswersFiles source sink warner task held holds heard hears status)
+    → Answers opens source sink warner words first last held holds heard hears status
+answered opens source sink warner words r paths task first last held holds heard hears status asked asks answers = record {
+  request = r;
   asked = asked;
-  fails = (record { files = []; opened = refl; holds = fails }, tt);
+  answers = subst (λ (t : Option Task). OfOpened opens (paths_in r) first last (AnswersBy source sink warner t (text_in r) held holds heard hears status)) (sym asks.task_is)
+      (subst (λ (ps : List (List ℕ)). OfOpened opens ps first last (AnswersFiles source sink warner task held holds heard hears status)) asks.paths_are answers);
 }
 
-pub not_shown : {O F W : Type 0} (opens : Opens O F) (source : Source F) (sink : Sink W) (words : List (List ℕ)) (text : String Global) (first : O)
-    (held holds : W) (failure : Failure) → IsRequestOf words (Text text) → IsNotShown sink (string_bytes text) held holds failure
+fails_by : {O F W : Type 0} (opens : Opens O F) (source : Source F) (sink : Sink W) (r : Request) (paths : List (List ℕ)) (task : Task) (first last : O)
+    (held holds : W) (failure : Failure) → AsksFiles r paths task
+    → IsRefusalOf opens paths first last held holds (FailsFiles source sink task held holds) failure
+    → IsRefusalOf opens (paths_in r) first last held holds (FailsBy source sink (task_in r) (text_in r) held holds) failure
+fails_by opens source sink r paths task first last held holds failure asks fails =
+    subst (λ (t : Option Task). IsRefusalOf opens (paths_in r) first last held holds (FailsBy source sink t (text_in r) held holds) failure) (sym asks.task_is)
+    (subst (λ (ps : List (List ℕ)). IsRefusalOf opens ps first last held holds (FailsFiles source sink task held holds) failure) asks.paths_are fails)
+
+-- what refuses the request refuses the words that make it
+refuses : {O F W : Type 0} (opens : Opens O F) (source : Source F) (sink : Sink W) (words : List (List ℕ)) (r : Request) (first last : O)
+    (held holds : W) (failure : Failure) → IsRequestOf words r
+    → IsRefusalOf opens (paths_in r) first last held holds (FailsBy source sink (task_in r) (text_in r) held holds) failure
+    → IsFailureOf opens source sink words first last held holds failure
+refuses opens source sink words r first last held holds Word asked fails = absurd fails
+refuses opens source sink words r first last held holds (Usage fault) asked fails = absurd fails
+refuses opens source sink words r first last held holds (Open path reason) asked fails = record { request = r; asked = asked; fails = fails }
+refuses opens source sink words r first last held holds (Read n path f) asked fails = record { request = r; asked = asked; fails = fails }
+refuses opens source sink words r first last held holds (Run fault) asked fails = record { request = r; asked = asked; fails = fails }
+refuses opens source sink words r first last held holds NoMemory asked fails = record { request = r; asked = asked; fails = fails }
+
+pub refused_by : {O F W : Type 0} (opens : Opens O F) (source : Source F) (sink : Sink W) (words : List (List ℕ)) (r : Request) (paths : List (List ℕ)) (task : Task) (first last : O)
+    (held holds : W) (failure : Failure) → IsRequestOf words r → AsksFiles r paths task
+    → IsRefusalOf opens paths first last held holds (FailsFiles source sink task held holds) failure
+    → IsFailureOf opens source sink words first last held holds failure
+refused_by opens source sink words r paths task first last held holds failure asked asks fails =
+    refuses opens source sink words r first last held holds failure asked
+    (fails_by opens source sink r paths task first last held holds failure asks fails)
+
+-- ---- a text
+
+pub shown : {O F W V : Type 0} (opens : Opens O F) (source : Source F) (sink : Sink W) (warner : Sink V) (words : List (List ℕ)) (r : Request) (text : List ℕ)
+    (first : O) (held holds : W) (heard : V) (status : ℕ) → IsRequestOf words r → AsksText r text → (status ≡ 0) × sink.whole text held holds
+    → Answers opens source sink warner words first first held holds heard heard status
+shown opens source sink warner words r text first held holds heard status asked asks told = record {
+  request = r;
+  asked = asked;
+  answers = subst (λ (t : Option Task). OfOpened opens (paths_in r) first first (AnswersBy source sink warner t (text_in r) held holds heard heard status)) (sym asks.none)
+      (subst (λ (ps : List (List ℕ)). OfOpened opens ps first first (AnswersBy source sink warner None (text_in r) held holds heard heard status)) (sym asks.no_path)
+      (record { files = []; opened = refl; holds = record { written = subst (λ (t : List ℕ). sink.whole t held holds) asks.text_is told.1; silent = refl; status_is = told.0 } }));
+}
+
+cut : {O F W : Type 0} (opens : Opens O F) (source : Source F) (sink : Sink W) (text : List ℕ) (first : O) (held holds : W) (failure : Failure)
+    → IsNotShown sink text held holds failure → IsRefusalOf opens [] first first held holds (FailsBy source sink None text held holds) failure
+cut opens source sink text first held holds Word fails = absurd fails
+cut opens source sink text first held holds (Usage fault) fails = absurd fails
+cut opens source sink text first held holds (Open path reason) fails = absurd fails
+cut opens source sink text first held holds (Read n path f) fails = absurd fails
+cut opens source sink text first held holds (Run (run.Read n f)) fails = absurd fails
+cut opens source sink text first held holds (Run (run.Find e)) fails = absurd fails
+cut opens source sink text first held holds (Run (run.NoBlock a)) fails = absurd fails
+cut opens source sink text first held holds (Run (run.Write f)) fails = (record { files = []; opened = refl; holds = fails }, tt)
+cut opens source sink text first held holds NoMemory fails = absurd fails
+
+pub not_shown : {O F W : Type 0} (opens : Opens O F) (source : Source F) (sink : Sink W) (words : List (List ℕ)) (r : Request) (text : List ℕ) (first : O)
+    (held holds : W) (failure : Failure) → IsRequestOf words r → AsksText r text → IsNotShown sink text held holds failure
     → IsFailureOf opens source sink words first first held holds failure
-not_shown opens source sink words text first held holds Word asked fails = absurd fails
-not_shown opens source sink words text first held holds (Usage fault) asked fails = absurd fails
-not_shown opens source sink words text first held holds (Open path reason) asked fails = absurd fails
-not_shown opens source sink words text first held holds (Read n path f) asked fails = absurd fails
-not_shown opens source sink words text first held holds (Run fault) asked fails =
-    cut opens source sink words text first held holds fault asked fails
-not_shown opens source sink words text first held holds NoMemory asked fails = absurd fails
+not_shown opens source sink words r text first held holds failure asked asks fails =
+    refuses opens source sink words r first first held holds failure asked
+    (subst (λ (t : Option Task). IsRefusalOf opens (paths_in r) first first held holds (FailsBy source sink t (text_in r) held holds) failure) (sym asks.none)
+    (subst (λ (ps : List (List ℕ)). IsRefusalOf opens ps first first held holds (FailsBy source sink None (text_in r) held holds) failure) (sym asks.no_path)
+    (cut opens source sink (text_in r) first held holds failure
+    (subst (λ (t : List ℕ). IsNotShown sink t held holds failure) asks.text_is fails))))
 
 module _ {O F W : Type 0} (opens : Opens O F) (paths : List (List ℕ)) (first last : O) (held holds : W) (fails : RunFault → List F → Type 0) where
   -- files that are not opened

@@ -1,15 +1,16 @@
 -- What the program answers to the words of a command line, which begin with its name.
-use Rattle.std.specs.Prelude.{◌≡◌, ℕ, List, [], map, string_bytes}
+use Rattle.std.specs.Prelude.{◌≡◌, ℕ, List, Option, None, Some}
 use Rattle.leak_find.specs.declared.fault.RunFault.{RunFault}
 use Rattle.leak_find.specs.declared.fault.RunFault.TheVariants as run
+use Rattle.leak_find.specs.declared.task.Task.{Task}
 use Rattle.leak_find.specs.Streams.{Sink, Source}
-use Rattle.leak_opening.specs.Opening.{Opens}
+use Rattle.leak_program.specs.Opening.{Opens}
 use Rattle.leak_request.specs.declared.options.Request.{Request}
-use Rattle.leak_request.specs.declared.options.Request.TheVariants.{Search, Why, Holders, Grow, Text}
 use Rattle.leak_request.specs.Requests.{IsRequestOf, IsUsageFaultOf}
 use Rattle.leak_program.specs.declared.failure.Failure.{Failure}
 use Rattle.leak_program.specs.declared.failure.Failure.TheVariants.{Word, Usage, Open, Read, Run, NoMemory}
-use Rattle.leak_program.specs.Files.{AsksFiles, FailsAsked, FailsFiles, FailsGrown, FailsHeld, GrowsFiles, HoldsFiles, IsRefusalOf, OfOpened, SearchesFiles, paths_of_held}
+use Rattle.leak_program.specs.Asked.{paths_in, task_in, text_in}
+use Rattle.leak_program.specs.Files.{AnswersFiles, FailsFiles, IsRefusalOf, OfOpened}
 
 -- a text was asked for, and just that was written; there is no warning
 pub record IsShown {W V : Type 0} (sink : Sink W) (text : List ℕ) (held holds : W) (heard hears : V) (status : ℕ) : Type 0 where
@@ -33,49 +34,30 @@ IsNotShown sink text held holds (Read n path f) = ⊥
 IsNotShown sink text held holds (Run fault) = IsCut sink text held holds fault
 IsNotShown sink text held holds NoMemory = ⊥
 
--- files were searched; or asked for the block of the address, or who holds the memory; or logs were asked what grew; or a text was
--- asked for, and there are no files
-abbrev pub AnswersBy : {F W V : Type 0} → Source F → Sink W → Sink V → Request → W → W → V → V → ℕ → List F → Type 0
-AnswersBy source sink warner (Search r) held holds heard hears status files =
-    SearchesFiles source sink warner r.options held holds heard hears status files
-AnswersBy source sink warner (Why r) held holds heard hears status files =
-    AsksFiles source sink warner r.options r.address held holds heard hears status files
-AnswersBy source sink warner (Holders r) held holds heard hears status files =
-    HoldsFiles source sink warner r held holds heard hears status files
-AnswersBy source sink warner (Grow r) held holds heard hears status files =
-    GrowsFiles source sink warner r.options held holds heard hears status files
-AnswersBy source sink warner (Text text) held holds heard hears status files =
-    IsShown sink (string_bytes text) held holds heard hears status
+-- the task was done for the files; or, if there is none, the text was shown, and there are no files
+abbrev pub AnswersBy : {F W V : Type 0} → Source F → Sink W → Sink V → Option Task → List ℕ → W → W → V → V → ℕ → List F → Type 0
+AnswersBy source sink warner (Some task) text held holds heard hears status files =
+    AnswersFiles source sink warner task held holds heard hears status files
+AnswersBy source sink warner None text held holds heard hears status files = IsShown sink text held holds heard hears status
 
--- the paths of the files of a request
-abbrev pub paths_in : Request → List (List ℕ)
-paths_in (Search r) = map string_bytes r.paths.items
-paths_in (Why r) = map string_bytes r.paths.items
-paths_in (Holders r) = paths_of_held r
-paths_in (Grow r) = map string_bytes r.paths.items
-paths_in (Text text) = []
-
--- why the run of what the files hold has no status
-abbrev pub RunFailsBy : {F W : Type 0} → Source F → Sink W → Request → W → W → RunFault → List F → Type 0
-RunFailsBy source sink (Search r) held holds fault files = FailsFiles source sink r.options held holds fault files
-RunFailsBy source sink (Why r) held holds fault files = FailsAsked source sink r.options r.address held holds fault files
-RunFailsBy source sink (Holders r) held holds fault files = FailsHeld source sink r held holds fault files
-RunFailsBy source sink (Grow r) held holds fault files = FailsGrown source sink r.options held holds fault files
-RunFailsBy source sink (Text text) held holds fault files = IsCut sink (string_bytes text) held holds fault
+-- why the run of what the files hold has no status, or the text was not shown
+abbrev pub FailsBy : {F W : Type 0} → Source F → Sink W → Option Task → List ℕ → W → W → RunFault → List F → Type 0
+FailsBy source sink (Some task) text held holds fault files = FailsFiles source sink task held holds fault files
+FailsBy source sink None text held holds fault files = IsCut sink text held holds fault
 
 -- the request that the words make was answered, over the files that its paths opened, each once and in order
 pub record Answers {O F W V : Type 0} (opens : Opens O F) (source : Source F) (sink : Sink W) (warner : Sink V) (words : List (List ℕ))
     (first last : O) (held holds : W) (heard hears : V) (status : ℕ) : Type 0 where
   pub request : Request
   pub asked : IsRequestOf words request
-  pub answers : OfOpened opens (paths_in request) first last (AnswersBy source sink warner request held holds heard hears status)
+  pub answers : OfOpened opens (paths_in request) first last (AnswersBy source sink warner (task_in request) (text_in request) held holds heard hears status)
 
 -- the request that the words make has no answer, for this reason
 pub record FailsRequest {O F W : Type 0} (opens : Opens O F) (source : Source F) (sink : Sink W) (words : List (List ℕ))
     (first last : O) (held holds : W) (failure : Failure) : Type 0 where
   pub request : Request
   pub asked : IsRequestOf words request
-  pub fails : IsRefusalOf opens (paths_in request) first last held holds (RunFailsBy source sink request held holds) failure
+  pub fails : IsRefusalOf opens (paths_in request) first last held holds (FailsBy source sink (task_in request) (text_in request) held holds) failure
 
 -- why there is no answer: the words are no request, nothing is opened, and no call is made of the writer; or what they ask for has none
 abbrev pub IsFailureOf : {O F W : Type 0} → Opens O F → Source F → Sink W → List (List ℕ) → O → O → W → W → Failure → Type 0

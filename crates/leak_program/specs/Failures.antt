@@ -2,8 +2,8 @@
 use Rattle.std.specs.Prelude.{◌≡◌, ℕ, ◌-◌, ◌==◌, List, Option, None, Some, if◌then◌else◌, slice_get, string_bytes}
 use Rattle.leak_find.specs.declared.fault.RunFault.{RunFault}
 use Rattle.leak_find.specs.declared.fault.RunFault.TheVariants as run
-use Rattle.leak_opening.specs.declared.fault.OpenFault.{OpenFault}
-use Rattle.leak_opening.specs.declared.fault.OpenFault.TheVariants as opening
+use Rattle.leak_program.specs.declared.open_fault.OpenFault.{OpenFault}
+use Rattle.leak_program.specs.declared.open_fault.OpenFault.TheVariants as opening
 use Rattle.leak_program.specs.declared.failure.Failure.{Failure}
 use Rattle.leak_program.specs.declared.failure.Failure.TheVariants.{Word, Usage, Open, Read, Run, NoMemory}
 

@@ -1,13 +1,13 @@
 -- What the program says of a failure on standard error: one line, or clap's own text. Own rule.
 use Rattle.std.specs.Prelude.{◌≡◌, ℕ, List, [], ◌∷◌, ◌++◌, codes, decimal, false, string_bytes}
 use Rattle.std.specs.Fmt.{digits}
-use Rattle.leak_escapes.specs.Escaped.{AreShown, escaped}
+use Rattle.leak_request.specs.Escaped.{AreShown, escaped}
 use Rattle.leak_find.specs.declared.fault.RunFault.{RunFault}
 use Rattle.leak_find.specs.declared.fault.RunFault.TheVariants as run
-use Rattle.leak_messages.specs.Inputs.{find_text, read_text, reason_text, write_text}
-use Rattle.leak_messages.specs.Words.{usage_text}
+use Rattle.leak_program.specs.InputTexts.{find_text, read_text, reason_text, write_text}
+use Rattle.leak_program.specs.WordTexts.{usage_text}
 use Rattle.leak_streams.specs.declared.fault.ReadFault.{ReadFault}
-use Rattle.leak_opening.specs.declared.fault.Reason.{Reason}
+use Rattle.leak_program.specs.declared.open_fault.Reason.{Reason}
 use Rattle.leak_request.specs.declared.fault.UsageFault.{UsageFault}
 use Rattle.leak_request.specs.declared.fault.UsageFault.TheVariants as usage
 use Rattle.leak_program.specs.declared.failure.Failure.{Failure}

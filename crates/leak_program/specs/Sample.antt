@@ -4,6 +4,7 @@ use Rattle.leak_elf.specs.Sample.{sample_with}
 use Rattle.leak_index.specs.Readings.{distances_of}
 use Rattle.leak_request.specs.declared.options.Options.{Options}
 use Rattle.leak_find.specs.declared.fault.RunFault.{RunFault}
+use Rattle.leak_find.specs.declared.task.Task.TheVariants.{Search}
 use Rattle.leak_find.specs.Run.{IsRunFault, Runs}
 use Rattle.leak_find.specs.Streams.{Sink, by_bytes_left}
 use Rattle.leak_program.specs.declared.failure.Failure.{Failure}
@@ -31,14 +32,14 @@ pub record SearchesSample {W V : Type 0} (sink : Sink W) (warner : Sink V) (held
   pub options : Options
   pub of_sample : AreOfSample options
   pub after : List (Option (List ℕ))
-  pub runs : Runs by_bytes_left sink warner options sample_inputs after held holds heard hears status
+  pub runs : Runs by_bytes_left sink warner (Search options) sample_inputs after held holds heard hears status
 
 -- the search of the sample has no status for this reason
 pub record FailsSample {W : Type 0} (sink : Sink W) (held holds : W) (fault : RunFault) : Type 0 where
   pub options : Options
   pub of_sample : AreOfSample options
   pub after : List (Option (List ℕ))
-  pub fails : IsRunFault by_bytes_left sink options sample_inputs after held holds fault
+  pub fails : IsRunFault by_bytes_left sink (Search options) sample_inputs after held holds fault
 
 -- why the sample has no report: its search has none, or no memory is left for its core, and no call is made of the writer
 abbrev pub IsSampleFailure : {W : Type 0} → Sink W → W → W → Failure → Type 0

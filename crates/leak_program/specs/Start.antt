@@ -3,7 +3,7 @@ use Rattle.std.specs.Prelude.{◌≡◌, ◌⊎◌, ◌<◌, ◌≤◌, ℕ, Lis
 use Rattle.leak_find.specs.Streams.{IsTried, Sink, Source}
 use Rattle.std.specs.declared.io.ErrorKind.{ErrorKind}
 use Rattle.std.specs.declared.io.ErrorKind.TheVariants as kind
-use Rattle.leak_opening.specs.Opening.{Opens}
+use Rattle.leak_program.specs.Opening.{Opens}
 use Rattle.leak_program.specs.Answer.{Answers, IsFailureOf}
 use Rattle.leak_program.specs.Messages.{message_of}
 use Rattle.leak_program.specs.Sample.{IsSampleFailure, SearchesSample}

@@ -3,16 +3,14 @@
 ghost use Rattle.std.specs.Prelude.{◌≡◌, ◌<◌, ◌≤◌, IfOk, IfErr, length, map, string_bytes};
 ghost use Rattle.leak_find.specs.Streams.{by_reads, by_writes};
 ghost use Rattle.leak_program.specs.Answer.{Answers, IsFailureOf, IsNotShown};
+ghost use Rattle.leak_program.specs.Asked.{AsksFor};
 ghost use Rattle.leak_program.specs.Sample.{IsSampleFailure, SearchesSample};
 
-use crate::asking::ask_files;
 use crate::failure::Failure;
-use crate::files::search_files;
-use crate::growing::compare_logs;
-use crate::holding::tell_holders;
+use crate::files::answer_files;
+use crate::opener::Opener;
 use crate::sample::search_sample;
-use leak_find::{Progress, Request, RunFault, WriteCalls, request, write};
-use leak_opening::Opener;
+use leak_find::{Context, Progress, Request, RunFault, Task, WriteCalls, request, write};
 use std::thread::Threads;
 
 /// Searches what the words ask for, which begin with the program's name, writes the report to the first writer and then
@@ -56,12 +54,40 @@ pub fn answer<
         return search_sample(rt, writer, warner);
     }
     let alloc = rt.alloc();
-    match request(alloc, words)? {
-        Request::Search(request) => search_files(rt, opener, &request, writer, warner),
-        Request::Why(request) => ask_files(alloc, opener, &request, writer, warner),
-        Request::Holders(request) => tell_holders(rt, opener, &request, progress, writer, warner),
-        Request::Grow(request) => compare_logs(alloc, opener, &request, writer, warner),
-        Request::Text(text) => show(text.as_str(), writer),
+    let request = request(alloc, words)?;
+    match asked_of(&request) {
+        Asked::Files(paths, task) => {
+            let context = Context {
+                rt,
+                alloc,
+                progress,
+            };
+            answer_files(&context, opener, paths, &task, writer, warner)
+        }
+        Asked::Text(text) => show(text, writer),
+    }
+}
+
+/// What a request comes to.
+pub(crate) enum Asked<'a> {
+    /// The files with the paths are to be read, for the task.
+    Files(&'a [String], Task),
+    /// The text is to be shown.
+    Text(&'a str),
+}
+
+/// What the request asks for.
+fn asked_of(request: &Request) -> Asked<'_>
+    ensures { AsksFor request.now result }
+{
+    match request {
+        Request::Search(it) => Asked::Files(it.paths.as_slice(), Task::Search(it.options)),
+        Request::Why(it) => Asked::Files(it.paths.as_slice(), Task::Why(it.options, it.address)),
+        Request::Holders(it) => {
+            Asked::Files(it.paths.as_slice(), Task::Holders(it.options, it.question))
+        }
+        Request::Grow(it) => Asked::Files(it.paths.as_slice(), Task::Grow(it.options)),
+        Request::Text(text) => Asked::Text(text.as_str()),
     }
 }
 

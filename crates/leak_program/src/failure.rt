@@ -4,8 +4,8 @@ ghost use Rattle.std.specs.Prelude.{◌≡◌};
 ghost use Rattle.leak_program.specs.Failures.{at_opening};
 ghost use Rattle.leak_program.specs.declared.failure.Failure.TheVariants.{NoMemory, Usage};
 
+use crate::open_fault::{OpenFault, Reason};
 use leak_find::{ReadFault, RunFault, UsageFault};
-use leak_opening::{OpenFault, Reason};
 use std::alloc::{AllocError, AllocFailed};
 
 /// Why the program gives no report, in the order in which the reasons are tried.

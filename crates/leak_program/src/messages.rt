@@ -1,16 +1,16 @@
 //! What the program says of a failure.
 
 ghost use Rattle.std.specs.Prelude.{◌≡◌, ◌++◌, IfOk, OnOk, string_bytes};
-ghost use Rattle.leak_escapes.specs.Escaped.{escaped};
-ghost use Rattle.leak_messages.specs.Words.{usage_text};
+ghost use Rattle.leak_request.specs.Escaped.{escaped};
+ghost use Rattle.leak_program.specs.WordTexts.{usage_text};
 ghost use Rattle.leak_program.specs.Messages.{MessagesAreLines, failure_text, message_of, reader_text, run_text, unopened_text};
 ghost use Rattle.leak_program.specs.Messages.{unread_text};
 
 use crate::failure::Failure;
-use leak_escapes::push_escaped;
+use crate::open_fault::Reason;
+use crate::texts::{push_find, push_read, push_reason, push_usage, push_write};
 use leak_find::{ReadFault, RunFault, UsageFault};
-use leak_messages::{push_find, push_read, push_reason, push_usage, push_write};
-use leak_opening::Reason;
+use leak_request::push_escaped;
 use std::alloc::{AllocError, Global};
 
 /// What the program says of the failure on standard error: a line that begins with its name, or clap's text alone.

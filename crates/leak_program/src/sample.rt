@@ -6,7 +6,9 @@ ghost use Rattle.leak_program.specs.Sample.{IsSampleFailure, SearchesSample};
 
 use crate::failure::Failure;
 use leak_elf::core_k;
-use leak_find::{CORE_LIMIT, LOG_LIMIT, Options, Plan, Reading, Skip, WriteCalls, run_sized};
+use leak_find::{
+    CORE_LIMIT, Context, LOG_LIMIT, Options, Plan, Reading, Skip, Task, WriteCalls, run_sized,
+};
 use std::thread::Threads;
 
 /// One allocation of 32 bytes.
@@ -37,7 +39,8 @@ pub fn search_sample<R: AllocGlobal + Threads + Sync, W: WriteCalls, V: WriteCal
         core_limit: CORE_LIMIT,
         log_limit: LOG_LIMIT,
     };
-    match run_sized(rt, alloc, &mut readers, &[], &options, writer, warner) {
+    let (context, task) = (Context::silent(rt, alloc), Task::Search(options));
+    match run_sized(&context, &mut readers, &[], &task, writer, warner) {
         Ok(status) => Ok(status),
         Err(fault) => Err(Failure::Run(fault)),
     }

@@ -11,8 +11,8 @@ ghost use Rattle.leak_program.specs.Start.{HasStarted, IsAnswered, IsTold, IsUnr
 use crate::answering::answer;
 use crate::failure::Failure;
 use crate::messages::message;
+use crate::opener::Opener;
 use leak_find::{Progress, WriteCalls, write};
-use leak_opening::Opener;
 use std::alloc::Global;
 use std::env::Args;
 use std::process::ExitCode;

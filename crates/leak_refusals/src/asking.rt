@@ -1,13 +1,11 @@
 //! Questions who holds the memory, and what grew.
 
-ghost use Rattle.std.specs.Prelude.{◌≡◌, false};
-
 use crate::answer::Answer;
 use crate::running::{is_wanting, options};
 use crate::samples::core_of;
 use leak_find::{
-    Files, FindError, GrowOptions, Plan, Question, Rules, Side, Silent, WhyError, find_growth,
-    find_held, find_holders, run_grow_sized, run_holders_sized,
+    Context, Files, FindError, GrowOptions, Plan, Question, Rules, Side, Silent, Task, WhyError,
+    find_growth, find_held, find_holders, run_sized,
 };
 use std::alloc::Global;
 use std::io::Cursor;
@@ -133,7 +131,7 @@ pub(crate) fn growth(alloc: Global) -> Option<Answer> {
     Some(answer)
 }
 
-/// `run_holders_sized` over the core and its log.
+/// `run_sized` over the core and its log, that asks who holds the memory.
 pub(crate) fn runs_holders<R: AllocGlobal + Threads + Sync>(rt: &R) -> Option<Answer> {
     runs_by(rt, None, None, HOLDERS)
 }
@@ -148,7 +146,7 @@ pub(crate) fn runs_held<R: AllocGlobal + Threads + Sync>(rt: &R) -> Option<Answe
     )
 }
 
-/// `run_holders_sized` over the core, its log and, if there is one, the earlier log.
+/// `run_sized` over the core, its log and, if there is one, the earlier log.
 fn runs_by<R: AllocGlobal + Threads + Sync>(
     rt: &R,
     since: Option<&str>,
@@ -157,25 +155,15 @@ fn runs_by<R: AllocGlobal + Threads + Sync>(
 ) -> Option<Answer> {
     let alloc = rt.alloc();
     let mut readers = readers_of(alloc, since)?;
-    let options = options(false, Plan::new(3, 16, 4).ok()?);
+    let task = Task::Holders(options(false, Plan::new(3, 16, 4).ok()?), question);
     if readers.len() != 2 && readers.len() != 3 {
         return Some(Answer::Other);
     }
     let mut written: Vec<u8> = Vec::with_capacity(alloc, 1000).ok()?;
     let mut warned: Vec<u8> = Vec::with_capacity(alloc, 1000).ok()?;
     let sizes = [8192, HELD.len() as u64, 25];
-    let readers = readers.as_mut_slice();
-    let answer = match run_holders_sized(
-        rt,
-        alloc,
-        readers,
-        &sizes,
-        &options,
-        question,
-        &Silent,
-        &mut written,
-        &mut warned,
-    ) {
+    let (context, readers) = (Context::silent(rt, alloc), readers.as_mut_slice());
+    let answer = match run_sized(&context, readers, &sizes, &task, &mut written, &mut warned) {
         Ok(status) => Answer::of(status == 0 && written.as_slice() == wanted.as_bytes()),
         Err(fault) => Answer::of_refusal(
             is_wanting(&fault) && written.is_empty() && warned.is_empty(),
@@ -199,8 +187,9 @@ fn readers_of(alloc: Global, since: Option<&str>) -> Option<Vec<Cursor<Vec<u8>>>
     Some(readers)
 }
 
-/// `run_grow_sized` over both logs.
-pub(crate) fn runs_grow(alloc: Global) -> Option<Answer> {
+/// `run_sized` over both logs, that asks what grew.
+pub(crate) fn runs_grow<R: AllocGlobal + Threads + Sync>(rt: &R) -> Option<Answer> {
+    let alloc = rt.alloc();
     let mut readers = Vec::new(alloc);
     readers
         .push(Cursor::new(EARLIER.as_bytes().to_vec(alloc).ok()?))
@@ -208,18 +197,18 @@ pub(crate) fn runs_grow(alloc: Global) -> Option<Answer> {
     readers
         .push(Cursor::new(HELD.as_bytes().to_vec(alloc).ok()?))
         .ok()?;
-    let options = GrowOptions {
+    let task = Task::Grow(GrowOptions {
         strict: false,
         log_limit: 8192,
-    };
+    });
     if readers.len() != 2 {
         return Some(Answer::Other);
     }
     let mut written: Vec<u8> = Vec::with_capacity(alloc, 1000).ok()?;
     let mut warned: Vec<u8> = Vec::with_capacity(alloc, 1000).ok()?;
     let sizes = [EARLIER.len() as u64, HELD.len() as u64];
-    let readers = readers.as_mut_slice();
-    let answer = match run_grow_sized(alloc, readers, &sizes, &options, &mut written, &mut warned) {
+    let (context, readers) = (Context::silent(rt, alloc), readers.as_mut_slice());
+    let answer = match run_sized(&context, readers, &sizes, &task, &mut written, &mut warned) {
         Ok(status) => Answer::of(status == 0 && written.as_slice() == GREW.as_bytes()),
         Err(fault) => Answer::of_refusal(
             is_wanting(&fault) && written.is_empty() && warned.is_empty(),

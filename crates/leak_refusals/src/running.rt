@@ -6,9 +6,7 @@ use crate::alone::{HELD, LOST};
 use crate::answer::Answer;
 use crate::samples::{MOVED, ONE_BLOCK, TWO_BLOCKS, core_of};
 use crate::whole::{ASKED, HOLDING, TWO, holding_core, later_core};
-use leak_find::{
-    FindError, Options, ReadFault, RunFault, Skip, run, run_sized, run_why, run_why_sized,
-};
+use leak_find::{Context, FindError, Options, ReadFault, RunFault, Skip, Task, run, run_sized};
 use leak_index::Reading;
 use leak_pool::Plan;
 use std::alloc::Global;
@@ -55,24 +53,17 @@ fn run_of<R: AllocGlobal + Threads + Sync>(
     for input in inputs {
         readers.push(Cursor::new(input)).ok()?;
     }
-    let options = options(two, Plan::new(3, 16, 4).ok()?);
+    let task = Task::Search(options(two, Plan::new(3, 16, 4).ok()?));
     if readers.len() != if two { 4 } else { 2 } {
         return Some(Answer::Other);
     }
     let mut written: Vec<u8> = Vec::with_capacity(rt.alloc(), 1000).ok()?;
     let mut warned: Vec<u8> = Vec::with_capacity(rt.alloc(), 1000).ok()?;
-    let (alloc, readers) = (rt.alloc(), readers.as_mut_slice());
+    let (context, readers) = (Context::silent(rt, rt.alloc()), readers.as_mut_slice());
+    let (writer, warner) = (&mut written, &mut warned);
     let answer = match sizes {
-        Some(sizes) => run_sized(
-            rt,
-            alloc,
-            readers,
-            sizes,
-            &options,
-            &mut written,
-            &mut warned,
-        ),
-        None => run(rt, alloc, readers, &options, &mut written, &mut warned),
+        Some(sizes) => run_sized(&context, readers, sizes, &task, writer, warner),
+        None => run(&context, readers, &task, writer, warner),
     };
     match answer {
         Ok(given) => Some(Answer::of(given == status && written.as_slice() == report.as_bytes())),
@@ -116,33 +107,35 @@ pub(crate) fn runs_two<R: AllocGlobal + Threads + Sync>(rt: &R) -> Option<Answer
     run_of(rt, inputs, None, true, TWO, 0)
 }
 
-/// `run_why` of the same block.
-pub(crate) fn runs_why(alloc: Global) -> Option<Answer> {
-    why_of(alloc, None)
+/// `run` that asks for the same block.
+pub(crate) fn runs_why<R: AllocGlobal + Threads + Sync>(rt: &R) -> Option<Answer> {
+    why_of(rt, None)
 }
 
-/// `run_why_sized` of the same block, with the sizes of the core and the log.
-pub(crate) fn runs_why_sized(alloc: Global) -> Option<Answer> {
-    why_of(alloc, Some(&[8192, HOLDING.len() as u64]))
+/// `run_sized` that asks for the same block, with the sizes of the core and the log.
+pub(crate) fn runs_why_sized<R: AllocGlobal + Threads + Sync>(rt: &R) -> Option<Answer> {
+    why_of(rt, Some(&[8192, HOLDING.len() as u64]))
 }
 
 /// What a run that asks for the block answers. If sizes are given, the readers come with them.
-fn why_of(alloc: Global, sizes: Option<&[u64]>) -> Option<Answer> {
+fn why_of<R: AllocGlobal + Threads + Sync>(rt: &R, sizes: Option<&[u64]>) -> Option<Answer> {
+    let alloc = rt.alloc();
     let mut readers = Vec::new(alloc);
     readers.push(Cursor::new(holding_core(alloc)?)).ok()?;
     readers
         .push(Cursor::new(HOLDING.as_bytes().to_vec(alloc).ok()?))
         .ok()?;
-    let options = options(false, Plan::new(1, 1, 0).ok()?);
+    let task = Task::Why(options(false, Plan::new(1, 1, 0).ok()?), 0x10200);
     if readers.len() != 2 {
         return Some(Answer::Other);
     }
     let mut written: Vec<u8> = Vec::with_capacity(alloc, 1000).ok()?;
     let mut told: Vec<u8> = Vec::with_capacity(alloc, 1000).ok()?;
     let (readers, out, warner) = (readers.as_mut_slice(), &mut written, &mut told);
+    let context = Context::silent(rt, alloc);
     let answer = match sizes {
-        Some(sizes) => run_why_sized(alloc, readers, sizes, &options, 0x10200, out, warner),
-        None => run_why(alloc, readers, &options, 0x10200, out, warner),
+        Some(sizes) => run_sized(&context, readers, sizes, &task, out, warner),
+        None => run(&context, readers, &task, out, warner),
     };
     let answer = match answer {
         Ok(status) => Answer::of(status == 0 && written.as_slice() == ASKED.as_bytes()),

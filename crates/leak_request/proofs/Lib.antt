@@ -7,3 +7,4 @@ pub mod Listing
 pub mod Numbers
 pub mod Subcommands
 pub mod Values
+pub mod ShownLemmas

@@ -1,5 +1,5 @@
 -- What the values are that clap found.
-use Rattle.std.proofs.Common.{arith, zero, suc, take, ◌≡◌, ◌<◌, ◌≤◌, ◌^◌, get_or, map, subst, [], ◌∷◌, ◌∙◌, refl, sym, ap, length, Bool, true, false, List, ℕ, Option, Some, None}
+use Rattle.std.proofs.Common.{arith, zero, suc, take, ◌≡◌, ◌<◌, ◌≤◌, ◌^◌, ◌⊎◌, ◌++◌, codes, inl, inr, get_or, map, subst, [], ◌∷◌, ◌∙◌, refl, sym, ap, length, Bool, true, false, List, ℕ, Option, Some, None}
 use Rattle.std.proofs.lemmas.List.{get_or-map, length-map}
 use Rattle.std.proofs.lemmas.List.Elements.{All-get_or}
 use Rattle.std.specs.Borrow.{Bor}
@@ -8,7 +8,7 @@ use Rattle.clap.specs.Words.{ReadsOne, Row, Text, first_of}
 use Rattle.leak_request.specs.declared.fault.UsageFault.{UsageFault}
 use Rattle.leak_request.specs.declared.fault.UsageFault.TheVariants as fault
 use Rattle.leak_request.specs.CommandLine.{path_ids}
-use Rattle.leak_request.specs.Requests.{AreAt, HasFiles, IsBadBy, IsRequest, LacksOneOf, Writes, file_count}
+use Rattle.leak_request.specs.Requests.{AreAt, HasFiles, IsBadBy, IsRequest, LacksOneOf, Writes, earlier_ids, file_count}
 use Rattle.leak_request.specs.declared.options.Request.{Request}
 use Rattle.leak_request.specs.declared.options.Request.TheVariants.{Search, Why, Holders, Grow, Text as Shown}
 
@@ -60,10 +60,16 @@ pub paths_of : {A : Type 0} (rows : List Row) (two : Bool) (paths : List (String
 paths_of rows true paths at = sym (length-map paths _) ∙ ap length at
 paths_of rows false paths at = sym (length-map paths _) ∙ ap length at
 
+-- with the path of an earlier log, or without it, there are three or two
+paths_beside : {A : Type 0} (rows : List Row) (since : Option Text) (paths : List (String A)) → AreAt rows (path_ids false ++ earlier_ids since) paths
+    → (length paths ≡ 2) ⊎ (length paths ≡ 3)
+paths_beside rows None paths at = inl (sym (length-map paths _) ∙ ap length at)
+paths_beside rows (Some path) paths at = inr (sym (length-map paths _) ∙ ap length at)
+
 -- and so there are of any request
 pub files_of : (name : Text) (rows : List Row) (r : Request) → IsRequest name rows r → HasFiles r
 files_of name rows (Search r) is = paths_of rows r.options.two r.paths.items is.paths
 files_of name rows (Why r) is = (is.1.two, paths_of rows false r.paths.items is.1.paths)
-files_of name rows (Holders r) is = (is.1.two, paths_of rows false r.paths.items is.1.paths)
+files_of name rows (Holders r) is = (is.1.two, paths_beside rows (first_of (codes "since") rows) r.paths.items is.1.paths)
 files_of name rows (Grow r) is = sym (length-map r.paths.items _) ∙ ap length is.1.paths
 files_of name rows (Shown text) is = absurd is

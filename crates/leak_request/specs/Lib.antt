@@ -1,4 +1,5 @@
 -- The definitions of this crate, by subject.
+pub mod Escaped
 pub mod Address
 pub mod CommandLine
 pub mod Displacements

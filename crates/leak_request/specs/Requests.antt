@@ -1,5 +1,5 @@
 -- What a command line asks for, by the subcommand that clap met and the rows that it found there. Own rule.
-use Rattle.std.specs.Prelude.{◌≡◌, ◌↔◌, ◌≤◌, ◌<◌, ◌^◌, ◌⊎◌, ℕ, Bool, false, List, [], ◌∷◌, Option, Some, None, option_map, length, map, codes, String, string_bytes, IfSome, IsSome, IsTrue, IsSomeAnd, IsFalse, if◌then◌else◌}
+use Rattle.std.specs.Prelude.{◌≡◌, ◌↔◌, ◌≤◌, ◌<◌, ◌^◌, ◌⊎◌, ℕ, Bool, false, List, [], ◌∷◌, ◌++◌, Option, Some, None, length, map, codes, String, string_bytes, IfSome, IsSome, IsTrue, IsSomeAnd, IsFalse, if◌then◌else◌}
 use Rattle.std.specs.List.{All}
 use Rattle.std.specs.Str.Parse.{IsNumeral, digits_value, without_leading_plus}
 use Rattle.clap.specs.Words.{Row, Text, first_of, one_of, subcommand_of}
@@ -97,11 +97,18 @@ pub record IsWhyRequest (rows : List Row) (r : WhyRequest) : Type 0 where
   pub core_limit : r.options.core_limit ≡ 68719476736
   pub log_limit : r.options.log_limit ≡ 4294967296
 
+-- the ids of the paths of a question who holds the memory: that of an earlier log is the last, if there is one
+abbrev pub earlier_ids : Option Text → List Text
+earlier_ids None = []
+earlier_ids (Some path) = codes "since" ∷ []
+
+abbrev pub holders_path_ids : List Row → List Text
+holders_path_ids rows = path_ids false ++ earlier_ids (first_of (codes "since") rows)
+
 -- the request for who holds the memory: a search of one core that lists no misfits, and maybe a question about some blocks
 pub record IsHoldersRequest (rows : List Row) (r : HoldersRequest) : Type 0 where
   pub two : r.options.two ≡ false
-  pub paths : AreAt rows (path_ids false) r.paths.items
-  pub since : option_map string_bytes r.since ≡ first_of (codes "since") rows
+  pub paths : AreAt rows (holders_path_ids rows) r.paths.items
   pub question : IsQuestionAt rows r.question
   pub numbers : AreNumbersAt rows r.options.plan.workers r.options.plan.piece r.options.plan.stack
   pub reading : IsListedBy (list_in rows) (listed_by r.options.reading)
@@ -131,11 +138,11 @@ IsRequest name rows (Holders r) = (name ≡ holders_name) × IsHoldersRequest ro
 IsRequest name rows (Grow r) = (name ≡ grow_name) × IsGrowRequest rows r
 IsRequest name rows (Shown text) = ⊥
 
--- one core is searched or asked unless two are, and each request has a path for each of its files
+-- one core is searched or asked unless two are, and each request has a path for each of its files; an earlier log may be one
 abbrev pub HasFiles : Request → Type 0
 HasFiles (Search r) = length r.paths.items ≡ file_count r.options.two
 HasFiles (Why r) = (r.options.two ≡ false) × (length r.paths.items ≡ 2)
-HasFiles (Holders r) = (r.options.two ≡ false) × (length r.paths.items ≡ 2)
+HasFiles (Holders r) = (r.options.two ≡ false) × ((length r.paths.items ≡ 2) ⊎ (length r.paths.items ≡ 3))
 HasFiles (Grow r) = length r.paths.items ≡ 2
 HasFiles (Shown text) = Unit {0}
 

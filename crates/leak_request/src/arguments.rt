@@ -1,12 +1,12 @@
 //! From a command line to what it asks for.
 
-ghost use Rattle.std.specs.Prelude.{◌≡◌, ◌<◌, IfOk, IfErr, IfNone, IfSome, Bool};
+ghost use Rattle.std.specs.Prelude.{◌≡◌, ◌<◌, IfOk, IfErr, IfNone, IfSome, Bool, false};
 ghost use Rattle.std.specs.Prelude.{length, map, string_bytes};
 ghost use Rattle.leak_request.specs.CommandLine.{name_of, path_ids};
 ghost use Rattle.leak_request.specs.FoundRows.{found_rows};
 ghost use Rattle.leak_request.specs.Requests.{IsGrowRefusal, IsHoldersRefusal, IsRefusedAt, IsSearchRefusal, IsWhyRefusal};
-ghost use Rattle.leak_request.specs.Requests.{HasFiles, IsGrowRequest, IsHoldersRequest, IsRequest, IsRequestOf, IsSearchRequest};
-ghost use Rattle.leak_request.specs.Requests.{IsUsageFaultOf, IsWhyRequest};
+ghost use Rattle.leak_request.specs.Requests.{AreAt, HasFiles, IsGrowRequest, IsHoldersRequest, IsRequest, IsRequestOf, IsSearchRequest};
+ghost use Rattle.leak_request.specs.Requests.{IsUsageFaultOf, IsWhyRequest, holders_path_ids};
 
 use crate::address::address;
 use crate::asking::question;
@@ -150,11 +150,10 @@ fn holders_request(alloc: Global, found: &ArgMatches) -> Result<HoldersRequest, 
         Ok(reading) => reading,
         Err(fault) => return Err(UsageFault::Displace(fault)),
     };
-    let since = optional(alloc, found, "since")?;
+    let paths = with_earlier(alloc, found, paths)?;
     let question = question(found)?;
     Ok(HoldersRequest {
         paths,
-        since,
         options: Options {
             two: false,
             reading,
@@ -168,6 +167,23 @@ fn holders_request(alloc: Global, found: &ArgMatches) -> Result<HoldersRequest, 
         },
         question,
     })
+}
+
+/// The paths, and after them that of an earlier log, if there is one.
+fn with_earlier(
+    alloc: Global,
+    found: &ArgMatches,
+    paths: Vec<String>,
+) -> Result<Vec<String>, UsageFault>
+    ensures ok { IfOk result (λ all. AreAt (found_rows found.now) (path_ids false) paths.items
+        → AreAt (found_rows found.now) (holders_path_ids (found_rows found.now)) all.items) }
+    ensures memory { IfErr result (λ f. f ≡ UsageFault.NoMemory) }
+{
+    let mut paths = paths;
+    if let Some(path) = optional(alloc, found, "since")? {
+        paths.push(path)?;
+    }
+    Ok(paths)
 }
 
 /// The request for what grew between two logs, from what clap found for it.

@@ -57,10 +57,8 @@ pub struct WhyRequest {
 /// A question who holds the memory.
 #[derive(Debug, Drop)]
 pub struct HoldersRequest {
-    /// The paths of a core and of its log.
+    /// The paths of a core and of its log and, if only later blocks count, of an earlier log of the process.
     pub paths: Vec<String>,
-    /// The path of an earlier log of the process, if only later blocks count.
-    pub since: Option<String>,
     /// How the core is searched: `two` and `check` are false.
     pub options: Options,
     /// What is asked about some blocks. Without it: who holds what.

@@ -6,11 +6,11 @@ ghost use Rattle.leak_request.specs.Requests.{IsText};
 ghost use Rattle.leak_request.specs.Unmatched.{IsMistake, IsShownText};
 
 use crate::command_line::command;
+use crate::escaping::push_escaped;
 use crate::fault::UsageFault;
 use crate::options::Request;
 use clap::Error;
 use clap::error::ErrorKind;
-use leak_escapes::push_escaped;
 use std::alloc::{AllocError, Global};
 
 /// The text that the words ask for, help or the version, or what is wrong with them.

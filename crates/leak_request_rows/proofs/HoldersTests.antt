@@ -1,5 +1,6 @@
 -- What command lines ask of who holds the memory, by the values that clap found.
 use Rattle.std.proofs.Common.{◌≡◌, ◌↔◌, ℕ, inl, inr, ⊎_elim, Bool, true, false, List, [], ◌∷◌, ◌++◌, codes, map, Option, Some, None, refl, sym, ap, subst, ◌∙◌}
+use Rattle.std.proofs.lemmas.List.{map-append}
 use Rattle.std.specs.Prelude.{IsSome, IsSomeAnd}
 use Rattle.clap.specs.Words.{Row, Text, first_of}
 use Rattle.clap.specs.Faults.{fault_of}
@@ -11,13 +12,13 @@ use Rattle.leak_request.specs.Address.{IsAddress, IsBadAddress, value_of}
 use Rattle.leak_request.specs.CommandLine.{command_line, holders_name, path_ids}
 use Rattle.leak_request.specs.FoundRows.{IsGiven}
 use Rattle.leak_request.specs.Questions.{Asks, AsksBadAddress, AsksBothSides, AsksNoSide, IsQuestionAt, IsQuestionFault, other_id, side_id}
-use Rattle.leak_request.specs.Requests.{HoldersLacks, IsHoldersRefusal, IsRefusedAt, IsRequest}
+use Rattle.leak_request.specs.Requests.{HoldersLacks, IsHoldersRefusal, IsRefusedAt, IsRequest, earlier_ids, holders_path_ids}
 use Rattle.leak_request.specs.declared.fault.UsageFault.{UsageFault}
 use Rattle.leak_request.specs.declared.fault.UsageFault.TheVariants as fault
 use Rattle.leak_request.specs.declared.options.Request.{Request}
 use Rattle.leak_request.specs.declared.options.Request.TheVariants.{Search, Why, Holders, Grow, Text as Shown}
 use Rattle.leak_request_rows.specs.Requests.{AskFor, Planned, Reads, Signed}
-use Rattle.leak_request_rows.specs.Questions.{IsHoldersAsked}
+use Rattle.leak_request_rows.specs.Questions.{IsHoldersAsked, with_earlier}
 use Rattle.leak_request_rows.proofs.RequestTests.{HasFlag, IsSeen, flag_from, flag_to, given_is, list_is, name_in, no_list_fault, none_lacks, not_to, paths_from, paths_to, refused_at, request_at, rows_in, seen, sees, value_at}
 use Rattle.leak_request_rows.proofs.SearchTests.{AreNumbers, HasPlan, HasReads, IsListOf, flag_value, not_holders, plan_from, plan_lacks, plan_seen, plan_to, reading_values, reads_seen}
 use Rattle.leak_request_rows.proofs.QuestionTests.{address_at, good_address, holders_grow, is_address, reads_from, why_holders}
@@ -130,6 +131,20 @@ pub record HasHolders (name : Text) (rows : List Row) (paths : List Text) (since
   pub other_heap : HasFlag rows (codes "other-heap") s.other_heap
   pub strict : HasFlag rows (codes "strict") s.strict
 
+-- the values of all paths, with that of an earlier log
+there_with : (rows : List Row) (paths : List Text) (since : Option Text) → map (λ id. first_of id rows) (path_ids false) ≡ map Some paths
+    → first_of (codes "since") rows ≡ since → map (λ id. first_of id rows) (path_ids false ++ earlier_ids since) ≡ map Some (with_earlier paths since)
+there_with rows paths None there is = there
+there_with rows paths (Some path) there is =
+    ap (λ (values : List (Option Text)). values ++ first_of (codes "since") rows ∷ []) there
+    ∙ ap (λ (value : Option Text). map Some paths ++ value ∷ []) is ∙ sym (map-append Some paths (path ∷ []))
+
+all_there : (rows : List Row) (paths : List Text) (since : Option Text) → map (λ id. first_of id rows) (path_ids false) ≡ map Some paths
+    → first_of (codes "since") rows ≡ since → map (λ id. first_of id rows) (holders_path_ids rows) ≡ map Some (with_earlier paths since)
+all_there rows paths since there is =
+    subst (λ (o : Option Text). map (λ id. first_of id rows) (path_ids false ++ earlier_ids o) ≡ map Some (with_earlier paths since)) (sym is)
+    (there_with rows paths since there is)
+
 holders_is : (name : Text) (rows : List Row) (paths : List Text) (since : Option Text) (question : Option Question) (n : Planned) (w : Reads) (s : Signed) (r : Request) → HasHolders name rows paths since question n w s
     → IsRequest name rows r ↔ IsHoldersAsked paths since question n w s r
 holders_is name rows paths since question n w s (Search r) h = ((λ q. not_holders r.options.two (sym q.two ∙ h.named)), (λ q. absurd q))
@@ -137,8 +152,7 @@ holders_is name rows paths since question n w s (Why r) h = ((λ q. why_holders 
 holders_is name rows paths since question n w s (Holders r) h = (
   (λ q. record {
     two_is = q.1.two;
-    paths_are = paths_from rows (path_ids false) paths r.paths.items h.there q.1.paths;
-    since_is = q.1.since ∙ h.since_is;
+    paths_are = paths_from rows (holders_path_ids rows) (with_earlier paths since) r.paths.items (all_there rows paths since h.there h.since_is) q.1.paths;
     question_is = (h.asks.is r.question).0 q.1.question;
     plan = plan_from rows n r.options h.plan q.1.numbers;
     reading = reads_from rows w r.options h.reads q.1.reading q.1.ends q.1.freed q.1.links q.1.slack q.1.dead q.1.unwritable q.1.core_limit q.1.log_limit;
@@ -148,8 +162,7 @@ holders_is name rows paths since question n w s (Holders r) h = (
     h.named,
     record {
       two = q.two_is;
-      paths = paths_to rows (path_ids false) paths r.paths.items h.there q.paths_are;
-      since = q.since_is ∙ sym h.since_is;
+      paths = paths_to rows (holders_path_ids rows) (with_earlier paths since) r.paths.items (all_there rows paths since h.there h.since_is) q.paths_are;
       question = (h.asks.is r.question).1 q.question_is;
       numbers = plan_to rows n r.options h.plan q.plan;
       reading = (list_is rows w.listed (listed_by r.options.reading) h.reads.list).1 q.reading.listed;

@@ -1,5 +1,5 @@
 -- What command lines of the other subcommands ask for.
-use Rattle.std.specs.Prelude.{◌≡◌, ℕ, Bool, false, List, map, option_map, string_bytes, Option}
+use Rattle.std.specs.Prelude.{◌≡◌, ℕ, Bool, false, List, [], ◌∷◌, ◌++◌, map, string_bytes, Option, None, Some}
 use Rattle.clap.specs.Words.{Text}
 use Rattle.leak_holders.specs.declared.question.Question.{Question}
 use Rattle.leak_request.specs.declared.options.GrowRequest.{GrowRequest}
@@ -24,11 +24,15 @@ IsWhyAsked paths address w s (Holders r) = ⊥
 IsWhyAsked paths address w s (Grow r) = ⊥
 IsWhyAsked paths address w s (Shown text) = ⊥
 
+-- the path of the earlier log comes last, if there is one
+abbrev pub with_earlier : List Text → Option Text → List Text
+with_earlier paths None = paths
+with_earlier paths (Some path) = paths ++ path ∷ []
+
 -- who holds the memory, with an earlier log or none, and a question or none
 pub record IsHoldersFor (paths : List Text) (since : Option Text) (question : Option Question) (n : Planned) (w : Reads) (s : Signed) (r : HoldersRequest) : Type 0 where
   pub two_is : r.options.two ≡ false
-  pub paths_are : map string_bytes r.paths.items ≡ paths
-  pub since_is : option_map string_bytes r.since ≡ since
+  pub paths_are : map string_bytes r.paths.items ≡ with_earlier paths since
   pub question_is : r.question ≡ question
   pub plan : ArePlanned n r.options
   pub reading : AreReadAs w r.options

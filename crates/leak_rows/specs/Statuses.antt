@@ -4,7 +4,7 @@ use Rattle.leak_report.specs.Warnings.{warnings_of}
 use Rattle.leak_report.specs.declared.signs.Signs.{Signs}
 use Rattle.leak_input.specs.Signs.{misfits_counted}
 use Rattle.leak_find.specs.Run.{status_by}
-use Rattle.leak_find.specs.Why.{leaked_if_not}
+use Rattle.leak_find.specs.Answers.{leaked_if_not}
 
 -- the signs of a core that fits its log, and of one with a block that doesn't, by whether the heap is another than glibc's
 abbrev pub well : Signs

@@ -4,8 +4,8 @@ ghost use Rattle.std.specs.Prelude.{IfOk, false, ◌≡◌};
 use crate::comparisons::{same, same_in};
 use leak_elf::core_k;
 use leak_find::{
-    Options, Plan, ReadFault, Reading, Rules, RunFault, Skip, find_alone, read_all, run_sized,
-    run_why_sized,
+    Context, Options, Plan, ReadFault, Reading, Rules, RunFault, Skip, Task, find_alone, read_all,
+    run_sized,
 };
 use std::test::*;
 
@@ -65,22 +65,15 @@ const SIZES_OF_TWO: [&[u64]; 11] = [
 #[test]
 fn a_run_with_sizes_gives_the_report_without(rt: HostRuntime) -> Result<(), Fail> {
     let alloc = rt.alloc();
+    let context = Context::silent(&rt, alloc);
     let core = core_k(alloc, &[])?;
     for sizes in SIZES_OF_TWO {
         for log_limit in [36, 37, u64::MAX] {
             let mut readers = [core.as_slice(), ONE_BLOCK.as_slice()];
             let mut out: Vec<u8> = Vec::new(alloc);
             let mut warned: Vec<u8> = Vec::new(alloc);
-            let options = options(log_limit)?;
-            let status = run_sized(
-                &rt,
-                alloc,
-                &mut readers,
-                sizes,
-                &options,
-                &mut out,
-                &mut warned,
-            )?;
+            let task = Task::Search(options(log_limit)?);
+            let status = run_sized(&context, &mut readers, sizes, &task, &mut out, &mut warned)?;
             same_in(&rt, &(sizes, log_limit), status, 1);
             same_in(&rt, &(sizes, log_limit), out.as_slice(), LEAKED.as_bytes());
             assert!(rt; warned.is_empty());
@@ -92,21 +85,14 @@ fn a_run_with_sizes_gives_the_report_without(rt: HostRuntime) -> Result<(), Fail
 #[test]
 fn a_run_with_sizes_refuses_by_the_limit(rt: HostRuntime) -> Result<(), Fail> {
     let alloc = rt.alloc();
+    let context = Context::silent(&rt, alloc);
     let core = core_k(alloc, &[])?;
     for sizes in SIZES_OF_TWO {
         let mut readers = [core.as_slice(), ONE_BLOCK.as_slice()];
         let mut out: Vec<u8> = Vec::new(alloc);
         let mut warned: Vec<u8> = Vec::new(alloc);
-        let options = options(30)?;
-        let answer = run_sized(
-            &rt,
-            alloc,
-            &mut readers,
-            sizes,
-            &options,
-            &mut out,
-            &mut warned,
-        );
+        let task = Task::Search(options(30)?);
+        let answer = run_sized(&context, &mut readers, sizes, &task, &mut out, &mut warned);
         let wanted = Err(RunFault::Read(2, ReadFault::TooLong));
         same_in(&rt, &sizes, answer, wanted);
         same_in(&rt, &sizes, readers[1].len(), 5);
@@ -118,21 +104,14 @@ fn a_run_with_sizes_refuses_by_the_limit(rt: HostRuntime) -> Result<(), Fail> {
 #[test]
 fn a_question_with_sizes_gives_the_answer_without(rt: HostRuntime) -> Result<(), Fail> {
     let alloc = rt.alloc();
+    let context = Context::silent(&rt, alloc);
     let core = core_k(alloc, &[])?;
     for sizes in SIZES_OF_TWO {
         let mut readers = [core.as_slice(), ONE_BLOCK.as_slice()];
         let mut out: Vec<u8> = Vec::new(alloc);
-        let options = options(36)?;
+        let task = Task::Why(options(36)?, 0x1011F);
         let mut told: Vec<u8> = Vec::new(alloc);
-        let status = run_why_sized(
-            alloc,
-            &mut readers,
-            sizes,
-            &options,
-            0x1011F,
-            &mut out,
-            &mut told,
-        )?;
+        let status = run_sized(&context, &mut readers, sizes, &task, &mut out, &mut told)?;
         same_in(&rt, &sizes, status, 1);
         let wanted = b"asked 0x10100 32 1 ./a.out:[0x401136]\nleaked\n";
         same_in(&rt, &sizes, out.as_slice(), wanted.as_slice());

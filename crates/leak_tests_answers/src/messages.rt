@@ -3,9 +3,9 @@
 use crate::comparisons::same_in;
 use leak_elf::ElfError;
 use leak_find::{DisplaceFault, FindError, ReadFault, ReadingError, UsageFault, WriteFault};
-use leak_messages::{push_displace, push_find, push_read, push_usage, push_write};
 use leak_mtrace::LogError;
 use leak_notes::NoteError;
+use leak_program::{push_displace, push_find, push_read, push_usage, push_write};
 use leak_request::AddressArgument;
 use std::test::*;
 

@@ -2,8 +2,7 @@
 
 use crate::comparisons::same_in;
 use leak_find::{FindError, ReadFault, RunFault, UsageFault, WriteFault};
-use leak_opening::Reason;
-use leak_program::{Failure, message};
+use leak_program::{Failure, Reason, message};
 use std::process::Abort;
 use std::test::*;
 

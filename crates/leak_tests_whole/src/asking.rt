@@ -1,22 +1,18 @@
 //! Runs that ask what holds a block, over readers and a writer, some of which fail.
 
-ghost use Rattle.std.specs.Prelude.{IfOk, false, ◌≡◌};
-
 use crate::comparisons::same;
 use crate::examples::ONE_BLOCK;
 use crate::fakes::{Sink, Source};
 use crate::samples::core_of;
-use leak_find::{FindError, Options, ReadFault, RunFault, Skip, WriteFault, run_why};
+use leak_find::{Context, FindError, Options, ReadFault, RunFault, Skip, Task, WriteFault, run};
 use leak_index::Reading;
 use leak_mtrace::LogError;
 use leak_pool::Plan;
-use std::alloc::Global;
 use std::test::Fail;
+use std::thread::Threads;
 
 /// How the core and the log are read, with their limits.
-fn options(core_limit: u64, log_limit: u64) -> Result<Options, Fail>
-    ensures { IfOk result (λ options. options.two ≡ false) }
-{
+fn options(core_limit: u64, log_limit: u64) -> Result<Options, Fail> {
     Ok(Options {
         two: false,
         reading: Reading::interior(),
@@ -31,17 +27,18 @@ fn options(core_limit: u64, log_limit: u64) -> Result<Options, Fail>
 }
 
 /// What a run that asks for address 0 answers, and whether it wrote nothing.
-fn asked_for_zero(
-    alloc: Global,
+fn asked_for_zero<R: AllocGlobal + Threads + Sync>(
+    rt: &R,
     core: &[u8],
     log: &str,
     core_limit: u64,
 ) -> Result<(Result<u8, RunFault>, bool), Fail> {
-    let options = options(core_limit, 35)?;
+    let (alloc, task) = (rt.alloc(), Task::Why(options(core_limit, 35)?, 0));
     let mut readers = [core, log.as_bytes()];
     let mut out: Vec<u8> = Vec::new(alloc);
     let mut told: Vec<u8> = Vec::new(alloc);
-    let answer = run_why(alloc, &mut readers, &options, 0, &mut out, &mut told);
+    let context = Context::silent(rt, alloc);
+    let answer = run(&context, &mut readers, &task, &mut out, &mut told);
     Ok((answer, out.is_empty() && told.is_empty()))
 }
 
@@ -58,7 +55,7 @@ fn inputs_are_refused_before_the_address(rt: HostRuntime) -> Result<(), Fail> {
         ),
     ];
     for (core_limit, log, fault) in cases {
-        let (answer, silent) = asked_for_zero(rt.alloc(), &core, log, core_limit)?;
+        let (answer, silent) = asked_for_zero(&rt, &core, log, core_limit)?;
         same(&rt, answer, Err(fault));
         assert!(rt; silent);
     }
@@ -74,15 +71,9 @@ fn a_writer_that_fails_has_the_first_bytes(rt: HostRuntime) -> Result<(), Fail> 
     ];
     let mut out = Sink::of(rt.alloc(), 7);
     let mut told: Vec<u8> = Vec::new(rt.alloc());
-    let options = options(8192, 36)?;
-    let answer = run_why(
-        rt.alloc(),
-        &mut readers,
-        &options,
-        0x10100,
-        &mut out,
-        &mut told,
-    );
+    let task = Task::Why(options(8192, 36)?, 0x10100);
+    let context = Context::silent(&rt, rt.alloc());
+    let answer = run(&context, &mut readers, &task, &mut out, &mut told);
     same(&rt, answer, Err(RunFault::Write(WriteFault { written: 7 })));
     same(&rt, out.held.as_slice(), b"asked 0".as_slice());
     assert!(rt; told.is_empty());

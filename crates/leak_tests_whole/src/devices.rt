@@ -8,7 +8,7 @@ use crate::fakes::{Giver, Sink, Source, Taker, Turn};
 use crate::samples::{Part, core_of};
 use crate::searches::run_over;
 use leak_elf::ElfError;
-use leak_find::{FindError, Options, ReadFault, RunFault, Skip, run};
+use leak_find::{Context, FindError, Options, ReadFault, RunFault, Skip, Task, run};
 use leak_index::Reading;
 use leak_pool::Plan;
 use leak_streams::WriteFault;
@@ -105,7 +105,7 @@ fn a_core_that_is_refused_leaves_nothing_written(rt: HostRuntime) -> Result<(), 
 #[test]
 fn a_writer_that_fails_holds_what_the_fault_tells(rt: HostRuntime) -> Result<(), Fail> {
     let core = core_of(rt.alloc(), &[])?;
-    let options = options(8192, 36)?;
+    let task = Task::Search(options(8192, 36)?);
     let mut wanted = Vec::from_slice(rt.alloc(), LOST.as_bytes())?;
     for room in (0..LOST.len()).rev() {
         wanted.truncate(room);
@@ -113,10 +113,9 @@ fn a_writer_that_fails_holds_what_the_fault_tells(rt: HostRuntime) -> Result<(),
         let mut out = Sink::of(rt.alloc(), room);
         let mut warned: Vec<u8> = Vec::new(rt.alloc());
         let result = run(
-            &rt,
-            rt.alloc(),
+            &Context::silent(&rt, rt.alloc()),
             &mut readers,
-            &options,
+            &task,
             &mut out,
             &mut warned,
         );
@@ -175,16 +174,15 @@ fn a_core_that_is_always_interrupted_leaves_the_log_unread(rt: HostRuntime) -> R
 #[test]
 fn a_writer_that_takes_nothing_holds_nothing(rt: HostRuntime) -> Result<(), Fail> {
     let core = core_of(rt.alloc(), &[])?;
-    let options = options(8192, 36)?;
+    let task = Task::Search(options(8192, 36)?);
     for turn in [Turn::Bytes(0), Turn::Interrupted(u64::MAX), Turn::Fails] {
         let mut readers = [core.as_slice(), ONE_BLOCK.as_bytes()];
         let mut out = Taker::of(rt.alloc(), &[turn])?;
         let mut warned: Vec<u8> = Vec::new(rt.alloc());
         let result = run(
-            &rt,
-            rt.alloc(),
+            &Context::silent(&rt, rt.alloc()),
             &mut readers,
-            &options,
+            &task,
             &mut out,
             &mut warned,
         );

@@ -8,7 +8,7 @@ use crate::fakes::{Sink, Source};
 use crate::samples::{Part, core_of};
 use crate::searches::run_over;
 use leak_elf::ElfError;
-use leak_find::{FindError, Options, ReadFault, RunFault, Skip, run};
+use leak_find::{Context, FindError, Options, ReadFault, RunFault, Skip, Task, run};
 use leak_index::Reading;
 use leak_pool::Plan;
 use leak_streams::WriteFault;
@@ -164,7 +164,7 @@ fn inputs_that_are_refused_leave_nothing_written(rt: HostRuntime) -> Result<(), 
 
 #[test]
 fn a_writer_that_fails_holds_what_the_fault_tells(rt: HostRuntime) -> Result<(), Fail> {
-    let options = options(8192, 36)?;
+    let task = Task::Search(options(8192, 36)?);
     let core1 = core_of(rt.alloc(), &[])?;
     let core2 = core_of(rt.alloc(), &[Part::Word(0x10008, 0x10100)])?;
     let log = ONE_BLOCK.as_bytes();
@@ -174,10 +174,9 @@ fn a_writer_that_fails_holds_what_the_fault_tells(rt: HostRuntime) -> Result<(),
         let mut out = Sink::of(rt.alloc(), room);
         let mut warned: Vec<u8> = Vec::new(rt.alloc());
         let result = run(
-            &rt,
-            rt.alloc(),
+            &Context::silent(&rt, rt.alloc()),
             &mut readers,
-            &options,
+            &task,
             &mut out,
             &mut warned,
         );

@@ -5,7 +5,8 @@ ghost use Rattle.leak_request.specs.Requests.{file_count};
 
 use crate::comparisons::same_in;
 use leak_find::{
-    FindError, Found, Options, Rules, RunFault, Workers, find_alone, find_one, find_two, run,
+    Context, FindError, Found, Options, Rules, RunFault, Task, Workers, find_alone, find_one,
+    find_two, run,
 };
 use leak_pool::{Open, Plan};
 use std::alloc::Global;
@@ -101,7 +102,8 @@ pub fn run_over<T: Threads + Sync, R: Read>(
 {
     let mut out = Vec::new(alloc);
     let mut warned: Vec<u8> = Vec::new(alloc);
-    let answer = run(rt, alloc, readers, options, &mut out, &mut warned);
+    let (context, task) = (Context::silent(rt, alloc), Task::Search(*options));
+    let answer = run(&context, readers, &task, &mut out, &mut warned);
     Ran {
         answer,
         out,

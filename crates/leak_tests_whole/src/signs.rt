@@ -6,7 +6,7 @@ use crate::comparisons::same;
 use crate::examples::{LOST, ONE_BLOCK};
 use crate::fakes::{Sink, Taker, Turn};
 use crate::samples::core_of;
-use leak_find::{Options, RunFault, Skip, run};
+use leak_find::{Context, Options, RunFault, Skip, Task, run};
 use leak_index::Reading;
 use leak_pool::Plan;
 use std::test::Fail;
@@ -35,16 +35,15 @@ const MISFIT: &str =
 #[test]
 fn a_writer_that_takes_no_warning_loses_no_report(rt: HostRuntime) -> Result<(), Fail> {
     let core = core_of(rt.alloc(), &[])?;
-    let options = options()?;
+    let task = Task::Search(options()?);
     for room in [0, 1, 100] {
         let mut readers = [core.as_slice(), ONE_BLOCK.as_bytes()];
         let mut out: Vec<u8> = Vec::new(rt.alloc());
         let mut warned = Sink::of(rt.alloc(), room);
         let status = run(
-            &rt,
-            rt.alloc(),
+            &Context::silent(&rt, rt.alloc()),
             &mut readers,
-            &options,
+            &task,
             &mut out,
             &mut warned,
         )?;
@@ -59,15 +58,14 @@ fn a_writer_that_takes_no_warning_loses_no_report(rt: HostRuntime) -> Result<(),
 #[test]
 fn a_report_that_is_not_written_has_no_warning(rt: HostRuntime) -> Result<(), Fail> {
     let core = core_of(rt.alloc(), &[])?;
-    let options = options()?;
+    let task = Task::Search(options()?);
     let mut readers = [core.as_slice(), ONE_BLOCK.as_bytes()];
     let mut out = Taker::of(rt.alloc(), &[Turn::Bytes(5), Turn::Fails])?;
     let mut warned: Vec<u8> = Vec::new(rt.alloc());
     let result = run(
-        &rt,
-        rt.alloc(),
+        &Context::silent(&rt, rt.alloc()),
         &mut readers,
-        &options,
+        &task,
         &mut out,
         &mut warned,
     );

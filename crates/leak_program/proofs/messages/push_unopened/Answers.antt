@@ -1,8 +1,8 @@
 -- From lemmas of std.
 use Rattle.std.proofs.Common.{◌≡◌, ◌∙◌, ◌++◌, ap, append_assoc, codes, rules}
 use Rattle.std.proofs.lemmas.Result.{on_ok_weaker}
-use Rattle.leak_escapes.specs.Escaped.{escaped}
-use Rattle.leak_messages.specs.Inputs.{reason_text}
+use Rattle.leak_request.specs.Escaped.{escaped}
+use Rattle.leak_program.specs.InputTexts.{reason_text}
 use Rattle.leak_program.proofs.messages.push_unopened.Goals as goal
 
 pub returns : goal.returns

@@ -2,6 +2,7 @@
 use Rattle.std.proofs.Common.{rules, refl, false, true, Some, List, [], ◌∷◌, map, Option, ℕ}
 use Rattle.std.specs.Borrow.{Bor}
 use Rattle.leak_request.specs.declared.options.Options.{Options}
+use Rattle.leak_find.specs.declared.task.Task.TheVariants.{Search}
 use Rattle.leak_find.specs.Streams.{by_writes}
 use Rattle.leak_program.specs.Sample.{sample_inputs}
 use Rattle.leak_program.proofs.SampleLemmas.{fails_over_inputs, over_inputs}
@@ -23,6 +24,6 @@ returns-clause-refused g c =
       options = options;
       of_sample = record { one = refl; interior = c.interior.ensures; usual = c.usual.ensures; no_heap = refl; unchecked = refl; lenient = refl };
       after = map left c.run_sized.new.readers;
-      fails = fails_over_inputs left (by_writes g.W.WriteCalls.calls) options (c.as_slice-2.result ∷ c.as_bytes.result ∷ []) c.run_sized.new.readers sample_inputs
+      fails = fails_over_inputs left (by_writes g.W.WriteCalls.calls) (Search options) (c.as_slice-2.result ∷ c.as_bytes.result ∷ []) c.run_sized.new.readers sample_inputs
           c.args.writer.now c.run_sized.new.writer c.in-Err.fault c.in-Err.ensures.refused (search rules);
     }

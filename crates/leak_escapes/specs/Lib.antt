@@ -1,2 +1,0 @@
--- The definitions of this crate, by subject.
-pub mod Escaped

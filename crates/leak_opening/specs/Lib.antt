@@ -1,3 +1,0 @@
--- The definitions of this crate, by subject.
-pub mod Opening
-pub mod Reasons
