@@ -16,8 +16,8 @@ _leak_options() {
     leak_log) echo '--after --version' ;;
     leak_walk) echo '--partial --quiet --names --after --arenas --unused --version' ;;
     leak_what) echo '--types --root --place --version' ;;
-    leak_report) echo "--attach --for --keep --files --after --root --unchecked --list --version --whole-stack --no-calls --pipes --hold -n --structures --why $skips --other-heap --check --strict --workers --piece --stack" ;;
-    leak_lines) echo '-n --suppress --exit-code --folded --json --html --since --no-lines --what --structures --why --core --log --root --pid --unchecked --copy-files --version' ;;
+    leak_report) echo "--attach --grow --for --keep --files --after --root --unchecked --list --raw --version --whole-stack --no-calls --pipes --hold -n --structures --why $skips --other-heap --check --strict --workers --piece --stack" ;;
+    leak_lines) echo '-n --suppress --exit-code --folded --json --html --since --no-lines --what --structures --why --plain --core --log --root --pid --unchecked --copy-files --version' ;;
     esac
 }
 
@@ -28,7 +28,7 @@ _leak_value() {
     *' --in' | *' --of') echo address ;;
     'leak_report --keep' | 'leak_report --after' | *' --root' | 'leak_lines --copy-files') echo folder ;;
     'leak_dump --size' | 'leak_lines --pid' | 'leak_trace --attach' | 'leak_trace --detach') echo process ;;
-    *' --names' | *' --unused' | *' --after' | *' --core' | *' --suppress' | *' --since' | *' --html' | *' --what' | *' --log' | *' -o') echo file ;;
+    *' --names' | *' --unused' | *' --after' | *' --core' | *' --suppress' | *' --since' | *' --html' | *' --what' | *' --log' | *' --plain' | *' -o') echo file ;;
     esac
 }
 

@@ -78,9 +78,9 @@ def chain_of(dump, lines):
     return shown
 
 
-def likeness_of(row, said):
-    """The held block that most blocks of the row look like, and how many do; or None."""
-    return next(((it.fact.words[0], it.count) for it in said.facts(row) if it.fact.kind == "like"), None)
+def likeness_in(facts):
+    """The held block that most of the blocks with these facts look like, or None."""
+    return next((it.fact.words[0] for it in facts if it.fact.kind == "like"), None)
 
 
 def chain_to(dump, address):
@@ -110,8 +110,8 @@ def below_tables(asked, rows, said):
     dump = dump_beside(asked.what or asked.path) if asked.what or asked.why else None
     if dump is None:
         return []
-    likely = [likeness_of(row, said) for row in rows]
-    found = [it[0] if it else row.address for it, row in zip(likely, rows) if it or len(row.numbers) == OF_HOLDER]
+    likely = [likeness_in(said.facts(row)) for row in rows]
+    found = [it or row.address for it, row in zip(likely, rows) if it or len(row.numbers) == OF_HOLDER]
     addresses = list(dict.fromkeys(found))
     if asked.why:
         return lines_of(dump, addresses[:asked.why])

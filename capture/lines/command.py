@@ -1,46 +1,11 @@
 """The command: reads the report, asks for the names of the rows that are shown, and prints all."""
-import os
 import signal
 import sys
 
-from lines import builds, callers, chains, document, folded, held, html, judging, kernel_words, limited, options, processes
-from lines import progress, report, shown, signal_stacks, since, sources, structures, suppressions, tables, what
+from lines import callers, chains, document, folded, held, html, judging, kernel_words, limited, options, person, processes
+from lines import progress, report, shown, signal_stacks, since, structures, suppressions, tables, what
+from lines.inputs import read_lines, sources_of
 from lines.options import Refused
-
-
-def read_lines(path):
-    """The lines of the file, or of standard input. Bytes that are no UTF-8 stay as they are."""
-    if path is None and sys.stdin.isatty():
-        print("leak_lines: waits for a report of leak_find on standard input; leak_lines --help says more", file=sys.stderr)
-    try:
-        with open(path, "rb") if path is not None else sys.stdin.buffer as file:
-            text = file.read().decode("utf-8", "surrogateescape")
-    except OSError as error:
-        raise Refused(f"leak_lines: {path or 'standard input'}: {error.strerror}") from error
-    return text[:-1].split("\n") if text.endswith("\n") else text.split("\n") if text else []
-
-
-def log_beside(path):
-    """The log beside the report, by the names that leak_report --keep gives, or None."""
-    name = path and path.removesuffix(".report") + ".log"
-    return name if name and os.path.isfile(name) else None
-
-
-def kept_beside(log):
-    """The folder with the files that leak_report --files kept beside the log, in a list, which is empty where there is none."""
-    name = log.removesuffix(".log") + ".files" if log else ""
-    return [name] if os.path.isdir(name) else []
-
-
-def sources_of(path, log, asked):
-    """Where the files of the report at this path are looked for, by its log."""
-    log = log or log_beside(path)
-    try:
-        told = builds.read(log) if log is not None else builds.NONE
-    except OSError as error:
-        raise Refused(f"leak_lines: {log}: {error.strerror}") from error
-    process = processes.Process(asked.pid) if asked.pid else None
-    return sources.Sources(told, [*asked.roots, *kept_beside(log)], asked.is_lenient, process)
 
 
 def tell(files, is_table):
@@ -151,6 +116,8 @@ def run(asked):
     """The text that is printed, and the exit status."""
     if asked.copies is not None:
         return copy_files(asked)
+    if asked.about is not None:
+        return text_of_lines(person.lines_of(asked)), 0
     rules = suppressions.read_files([(path, read_lines(path)) for path in asked.suppress])
     return run_one(asked, rules) if asked.since is None else run_since(asked, rules)
 

@@ -25,7 +25,8 @@ PR_SET_PDEATHSIG, PR_SET_NO_NEW_PRIVS = 1, 38
 PART, LONGEST_LINE = 1 << 16, 1 << 16
 MOST_COPIED = 256 * MIB
 UNKNOWN = b"??"  # stands for a line that is too long
-said = set()
+said = {}  # in order
+silence = []  # what keeps it from being said at once
 
 
 class Limits(NamedTuple):
@@ -48,9 +49,9 @@ class NoAnswer(Exception):
 
 def say(text):
     """Says it on standard error, once."""
-    if text not in said:
+    if text not in said and not silence:
         print(f"leak_lines: {shown.escaped(text)}", file=sys.stderr)
-    said.add(text)
+    said[text] = None
 
 
 def drop_rights():

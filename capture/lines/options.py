@@ -18,6 +18,7 @@ Copies a report of leak_find, with its rows as a table by function, file and lin
   --what FILE      says what the lost blocks are, as leak_what wrote it
   --structures     with it: a row for each kind of structure that was lost, in place of callers
   --why N          shows what holds the blocks that those of the first N rows look like, or the first N holders
+  --plain ABOUT    prints a report of leaks for a person, as leak_report does, which makes the file ABOUT
   --core CORE      the core that leak_find why was asked about: says what a word is that only the kernel holds
   --log LOG        the log that was searched, which says of which build each file was; NAME.log beside a REPORT
                    NAME.report is found without it
@@ -29,10 +30,11 @@ Copies a report of leak_find, with its rows as a table by function, file and lin
 
 status: 0, or 1 as above; 2 if there is no answer, with a line on standard error"""
 HELP_WORDS = ("-h", "--help")
-VALUED = ("--suppress", "--since", "--html", "--what", "--why", "--core", "--log", "--root", "--pid", "--copy-files")
+VALUED = ("--suppress", "--since", "--html", "--what", "--why", "--plain", "--core", "--log", "--root", "--pid", "--copy-files")
 FORMS = {"--folded": "folded", "--json": "json"}
 FLAGS = {"--exit-code": {"is_judged": True}, "--no-lines": {"has_lines": False}, "--structures": {"by_structures": True},
          "--unchecked": {"is_lenient": True}}
+OTHER_NAMES = {"--copy-files": "copies", "--plain": "about"}
 NUMBER = re.compile("[1-9][0-9]{0,17}")
 
 
@@ -52,6 +54,7 @@ class Options(NamedTuple):
     has_lines: bool = True  # whether lines of sources are compared too
     what: str = None  # the file with what lost blocks are
     by_structures: bool = False  # whether rows are of structures
+    about: str = None  # what leak_report tells of a run, for a report in plain words
     core: str = None  # which says what words are that only the kernel holds
     why: int = 0  # for how many rows a chain is shown
     log: str = None  # that was searched
@@ -83,8 +86,8 @@ def with_option(options, name, value):
         return options._replace(roots=options.roots + (value,))
     if name == "--pid" and NUMBER.fullmatch(value):
         return options._replace(pid=value)
-    if name == "--copy-files":
-        return options._replace(copies=value)
+    if name in OTHER_NAMES:
+        return options._replace(**{OTHER_NAMES[name]: value})
     if name in ("--since", "--log", "--what", "--core"):
         return options._replace(**{name[2:]: value})
     if name == "--why" and NUMBER.fullmatch(value):
@@ -109,6 +112,8 @@ def read(words):
             raise Refused(HELP)
         options = with_option(options, *valued(word, words))
     if options.what is None and options.by_structures or options.what is not None and options.since is not None:
+        raise Refused(USAGE)
+    if options.about is not None and (options.is_judged or options.since is not None or options.form not in ("table", "html") or not words):
         raise Refused(USAGE)
     if len(words) > 1 or (options.form != "table" if options.since is not None else not options.has_lines):
         raise Refused(USAGE)

@@ -16,3 +16,8 @@ def escape_of(letter):
 def escaped(text):
     """The text with what stands for each character."""
     return text if text.isprintable() and "\\" not in text else "".join(map(escape_of, text))
+
+
+def visible(text):
+    """The text without what can do something to a terminal, where somebody has escaped it already: its backslashes stay."""
+    return "".join(it if it.isprintable() else escape_of(it) for it in text)

@@ -8,8 +8,10 @@ report  --keep DIR       keeps core, log and report in the folder
 report  --files          keeps the files that the process has mapped there too, so that names can be had later and elsewhere
 report  --after DIR      tells what was lost at both moments: now, and when DIR was kept
 report  --attach         attaches the process, waits, and tells who asked for what it lost since
-report  --for TIME       how long that waits, as 90s, 10m or 2h [10m]
-report  --list           prints a line for each lost block too
+report  --grow           dumps the process twice, and tells what grew between, held or lost, and who holds it
+report  --for TIME       how long --attach and --grow wait, as 90s, 10m or 2h [10m]
+report  --list           prints each lost block too
+report  --raw            prints the lines of leak_find, with names: for scripts
 report  --version        says which version this is
 dump    --whole-stack    keeps what lies below the stack pointers, which hides leaks
 dump    --no-calls       makes no system call in the process's threads, and so does not know their alternate signal stacks
@@ -61,12 +63,14 @@ take() {
     --keep) keep=$2 ;;
     --after) after=$2 ;;
     --list) list=1 ;;
+    --raw) raw=1 ;;
     --files) files=1 ;;
     --root)
         lines_words="$lines_words$(quoted "$@")"
         what_words="$what_words$(quoted "$@")"
         ;;
     --attach) attaches=1 ;;
+    --grow) grows=1 ;;
     --for) seconds=$(seconds_of "$2") ;;
     *) eval "${taker}_words=\$${taker}_words\$(quoted \"\$@\")" ;;
     esac
@@ -86,34 +90,43 @@ seconds_of() {
     printf '%s\n' "$1" | awk '/^[1-9][0-9]?[0-9]?[0-9]?[0-9]?[0-9]?[smh]?$/ { print $0 * (/h$/ ? 3600 : /m$/ ? 60 : 1) }'
 }
 
-# read_words WORD..: reads the options, and gives how many words they are.
+# read_words WORD..: reads the options, which may stand behind the operands too. These are in `operands`.
 read_words() {
-    keep='' after='' list='' files='' attaches='' seconds=600 dump_words='' find_words='' lines_words='' what_words='' read=0
+    keep='' after='' list='' raw='' files='' attaches='' grows='' seconds=600 dump_words='' find_words='' lines_words='' what_words='' operands=''
     while [ $# -gt 0 ]; do
         case $1 in
         -h | --help) usage help ;;
         --version) tell_version ;;
-        -*) ;;
-        *) return ;;
-        esac
-        option=$(options | awk -v name="${1%%=*}" '$2 == name { print $1, $2, $3 ~ /^[A-Z]+$/ }')
-        taker=${option%% *}
-        case "$option $1" in
-        ' '* | *' 0 '*=*) usage ;;
-        *' 0 '*) take "$1" ;;
-        *=*)
-            check_value "${1%%=*}" "${1#*=}"
-            take "${1%%=*}" "${1#*=}"
+        --) shift && operands="$operands$(quoted "$@")" && return ;;
+        -?*)
+            read_option "$@"
+            shift "$read"
             ;;
         *)
-            [ $# -gt 1 ] || usage
-            check_value "$1" "$2"
-            take "$1" "$2"
-            read=$((read + 1))
+            operands="$operands$(quoted "$1")"
             shift
             ;;
         esac
-        read=$((read + 1))
-        shift
     done
+}
+
+# read_option WORD..: reads the option that comes first, and gives in `read` how many words it has.
+read_option() {
+    read=1
+    option=$(options | awk -v name="${1%%=*}" '$2 == name { print $1, $2, $3 ~ /^[A-Z]+$/ }')
+    taker=${option%% *}
+    case "$option $1" in
+    ' '* | *' 0 '*=*) usage ;;
+    *' 0 '*) take "$1" ;;
+    *=*)
+        check_value "${1%%=*}" "${1#*=}"
+        take "${1%%=*}" "${1#*=}"
+        ;;
+    *)
+        [ $# -gt 1 ] || usage
+        check_value "$1" "$2"
+        take "$1" "$2"
+        read=2
+        ;;
+    esac
 }

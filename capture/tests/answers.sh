@@ -10,7 +10,7 @@ export LEAK_FIND=$finder
 answered() {
     local name=$1
     shift
-    limited 120 "$kit/leak_report" "$@" > "$name.out" 2> "$name.said"
+    limited 120 "$kit/leak_report" --raw "$@" > "$name.out" 2> "$name.said"
     status=$?
 }
 

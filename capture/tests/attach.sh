@@ -73,7 +73,7 @@ search after
 find_leaks one --skip-freed --skip-links after.core after.log > after.report
 verdict 'of the lost blocks the later one has callers' 'size,union' \
     "$(awk '$1 == "leak" { print ($6 ~ /union:\[/ ? "union" : $6) }' after.report | sort -u | paste -s -d ,)"
-limited 120 "$kit/leak_report" $process > after.out 2> after.said
+limited 120 "$kit/leak_report" --raw $process > after.out 2> after.said
 verdict 'leak_report tells them' 1 "$(grep -c '^.* late .*union\.c:' after.out)"
 detach $process
 verdict 'detached' 0 $?

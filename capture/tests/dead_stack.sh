@@ -66,11 +66,11 @@ verdict 'no segment lies below it' 'absent' "$(python3 "$kit/tests/dump.py" word
     "$(awk '$6 == "[stack]" { print "0x" substr($1, 1, index($1, "-") - 1) }' "/proc/$process/maps")")"
 verdict 'nothing is undumped' 0 "$(python3 "$kit/tests/dump.py" sizes part.core | cut -d ' ' -f 3)"
 for option in '' --whole-stack; do
-    limited 60 "$kit/leak_report" $option "$process" 2> said | awk -v o="leak_report $option:" '/^leaked/ { print o, $2 }'
+    limited 60 "$kit/leak_report" --raw $option "$process" 2> said | awk -v o="leak_report $option:" '/^leaked/ { print o, $2 }'
 done > reports
 verdict 'leak_report hands it on' 'leak_report : 5 leak_report --whole-stack: 0' "$(xargs < reports)"
 verdict 'of a core it is refused' '2 leak_dump: --whole-stack is of a process: the core whole.core has of its stacks what it has' \
-    "$("$kit/leak_report" --whole-stack whole.core > said 2>&1; echo "$? $(cat said)")"
+    "$("$kit/leak_report" --raw --whole-stack whole.core > said 2>&1; echo "$? $(cat said)")"
 verdict '--size says the size' "$(stat -c %s part.core) $(stat -c %s whole.core)" \
     "$("$kit/leak_core" --size "$process") $("$kit/leak_core" --whole-stack --size "$process")"
 stop "$process"
@@ -80,7 +80,7 @@ if [ "$dumps_core" ]; then
     hold_still first
     rm -f core core.*
     { kill -ABRT "$process" && wait "$process"; } 2> /dev/null
-    limited 60 "$kit/leak_report" "./$(kernel_core)" 2> said | awk '/^leaked/ { print $2 }' > given
+    limited 60 "$kit/leak_report" --raw "./$(kernel_core)" 2> said | awk '/^leaked/ { print $2 }' > given
     verdict 'the search leaves it out' '5 1' "$(cat given) $(grep -c -e ' --skip-dead-stack' said)"
     limited 60 "$kit/leak_dump" --core "./$(kernel_core)" given 2> said
     verdict 'leak_dump tells the same' 1 "$(grep -c 'now search: leak_find one .* --skip-dead-stack ' said)"

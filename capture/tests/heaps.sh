@@ -43,7 +43,7 @@ planted() {
     [ "$kind" != tcmalloc ] || others=1
     be_ready "$kind" "${@:3}" 4 3000 12000 5 400
     rm -rf "$kind.kept"
-    LEAK_FIND=$finder limited 120 "$kit/leak_report" --keep "$kind.kept" "$process" > "$kind.shown" 2> "$kind.said"
+    LEAK_FIND=$finder limited 120 "$kit/leak_report" --raw --keep "$kind.kept" "$process" > "$kind.shown" 2> "$kind.said"
     verdict "$kind: leak_report: something is lost" 1 $?
     stop "$process"
     verdict "$kind: its options" '--other-heap --skip-ends --skip-freed --all-memory' "$(sed -n 's/^leak_report: leak_find one //p' "$kind.said")"

@@ -11,7 +11,7 @@ programs=0 false_rows=0
 # look_into NAME PID: a row of the table.
 look_into() {
     rm -rf kept
-    limited 120 "$kit/leak_report" --keep kept --list "$2" > report 2> said
+    limited 120 "$kit/leak_report" --raw --keep kept --list "$2" > report 2> said
     if [ $? -gt 1 ]; then
         echo "| $1 | $(tail -n 1 said) |"
         return
@@ -19,7 +19,7 @@ look_into() {
     counts=$(limited 120 ./leads kept/dump.core kept/dump.log kept/dump.report "$2" 2> words)
     programs=$((programs + 1))
     [ ! -s words ] || { false_rows=$((false_rows + 1)); sed 's/^/     /' words | head -n 5; }
-    uncalled=$(limited 120 "$kit/leak_report" --no-calls "$2" 2> said | awk '$1 == "leaked" { print $2 }')
+    uncalled=$(limited 120 "$kit/leak_report" --raw --no-calls "$2" 2> said | awk '$1 == "leaked" { print $2 }')
     echo "| $1 | $(echo "$counts" | sed 's/ / | /g') | $uncalled |"
 }
 
@@ -48,7 +48,7 @@ bash -c 'a=($(seq 99)); read -r x' < fifo &
 process=$!
 started[$process]=1
 sleep 1
-"$kit/leak_report" --keep tried "$process" > report 2> said
+"$kit/leak_report" --raw --keep tried "$process" > report 2> said
 awk '/^@ size/ { print "leak", $(NF - 1), 9, 1, "head ?" }' tried/dump.log > all.report
 verdict 'blocks that are held are led to' yes "$(./leads tried/dump.core tried/dump.log all.report "$process" 2> words | awk '$1 > 99 && $2 * 2 > $1 { print "yes" }')"
 stop "$process"

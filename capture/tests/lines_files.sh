@@ -7,7 +7,7 @@ export LEAK_FIND=$finder
 
 # reports NAME WORD..: leak_report to NAME.lines, what it says to NAME.said, its status to `status`.
 reports() {
-    limited 120 "$kit/leak_report" "${@:2}" > "$1.lines" 2> "$1.said"
+    limited 120 "$kit/leak_report" --raw "${@:2}" > "$1.lines" 2> "$1.said"
     status=$?
 }
 own=older_library_table

@@ -62,6 +62,8 @@ part allocators "$attaches"
 part moments "$attaches"
 part untraced
 part report "$dumps"
+part person "$dumps"
+part grow "$attaches"
 part remains "$attaches"
 part lists
 part answers

@@ -68,7 +68,7 @@ elif [ "$dumps" ]; then
         "$(find_leaks holders known.core known.typed | awk '$1 == "holder" && $5 == 1176 { print $8, $9 }')"
     unprepared ./types_known
     reported=$process
-    limited 120 "$kit/leak_report" $reported > reported.out 2> reported.said
+    limited 120 "$kit/leak_report" --raw $reported > reported.out 2> reported.said
     verdict 'leak_report of a process that nobody prepared' '1 1' \
         "$? $(grep -c "^ *$likeness\$" reported.out)"
     stop $reported

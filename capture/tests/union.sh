@@ -96,7 +96,7 @@ limited 120 "$kit/leak_dump" --core whole.core late.table late 2> late.said
 verdict 'leak_dump takes both' '0 1' "$? $(grep -c "by the heap in the core, and their callers by leak_trace's table, which began at " late.said)"
 verdict 'the log has the moment' 1 "$(grep -cE '^= leak_log names since 1234567890 moment 0x[0-9a-f]+$' late.log)"
 verdict 'its callers' 0 "$(differ late.log whole.log)"
-limited 120 "$kit/leak_report" whole.core late.table > late.out 2> late.said
+limited 120 "$kit/leak_report" --raw whole.core late.table > late.out 2> late.said
 verdict 'leak_report tells them' '1 1' "$? $(grep -c ' early .*union\.c' late.out)"
 
 twice=$(changed whole.table twice twice.table)

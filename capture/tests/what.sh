@@ -280,7 +280,7 @@ verdict 'two reports' 2 "$("$kit/leak_lines" --what shown.what --since shown.rep
 section leak_report of a process that nobody prepared
 if [ "$attaches" ]; then
     unprepared ./what_blocks
-    LEAK_FIND=$finder limited 120 "$kit/leak_report" --keep kept $process > report.out 2> report.said
+    LEAK_FIND=$finder limited 120 "$kit/leak_report" --raw --keep kept $process > report.out 2> report.said
     verdict 'the status' 1 $?
     verdict 'a row says what its block is' 1 "$(grep -cE '^ *looks like (0x[0-9a-f]*|struct node( or array)?) \(2 held, by conns>\+0x0\)$' report.out)"
     verdict 'all that leak_what tells is kept' "$(cut -d ' ' -f 1,3- facts.what | grep -v like | sed 's/0x[0-9a-f]*//g')" \
@@ -290,29 +290,29 @@ if [ "$attaches" ]; then
     verdict 'that command' "conns $(sed -n 's/^chain to \([^:]*\): .*/\1/p' report.out)" \
         "$("$tells" --place kept/dump.core "$(sed -n 's/^root \([^ ]*\) .*/\1/p' chain.out)" | cut -d ' ' -f 3) $(tail -n 1 chain.out | cut -d ' ' -f 2)"
     verdict 'no block is listed' 0 "$(grep -cE '^(leak|what) ' report.out)"
-    LEAK_FIND=$finder limited 120 "$kit/leak_report" $process > gone.out 2> report.said
+    LEAK_FIND=$finder limited 120 "$kit/leak_report" --raw $process > gone.out 2> report.said
     verdict 'without a dump that is kept no command that needs it' '1 0' \
         "$(grep -c '^chain to 0x[0-9a-f]*: --why 1 ' gone.out) $(grep -c 'leak_find why -' gone.out)"
-    LEAK_FIND=$finder limited 120 "$kit/leak_report" --why 1 $process > report.out 2> report.said
+    LEAK_FIND=$finder limited 120 "$kit/leak_report" --raw --why 1 $process > report.out 2> report.said
     verdict 'a chain from the variable' 'conns 0x size' "$(sed -n '/^chain to /,$p' report.out | tail -n +2 | sed 's/0x[0-9a-f]*/0x/; s/struct/size/' | awk '{ print $1, $2 }' | paste -s -d ' ' | cut -d ' ' -f 1,3,4)"
     verdict 'no chain without a row that has one' 0 "$(limited 60 "$kit/leak_lines" --why 1 --what shown.what shown.report | grep -c '^chain')"
     find_leaks holders kept/dump.core kept/dump.log > kept/dump.holders
     LEAK_FIND=$finder limited 60 "$kit/leak_lines" -n 2 --why 2 kept/dump.holders > chain.out
     verdict 'chains to holders' "$(awk '$1 == "holder" { print $7 }' kept/dump.holders | head -n 2)" "$(sed -n 's/^chain to \(.*\):$/\1/p' chain.out)"
-    LEAK_FIND=$finder limited 120 "$kit/leak_report" --structures --list $process > report.out 2> report.said
+    LEAK_FIND=$finder limited 120 "$kit/leak_report" --raw --structures --list $process > report.out 2> report.said
     verdict 'a lost chain is one row' 1 "$(grep -cE '^ *440 +3 +1 ' report.out)"
     verdict 'blocks are listed with what they are' 1 "$(grep -c '^what 0x[0-9a-f]* begins "a lost' report.out)"
     stop $process
     mkdir no_what && cp -r "$kit"/leak_* "$kit/lines" "$kit/scripts" no_what && printf '#!/bin/sh\nexit 2\n' > no_what/leak_what
     unprepared ./what_blocks
-    LEAK_FIND=$finder limited 120 no_what/leak_report $process > report.out 2> report.said
+    LEAK_FIND=$finder limited 120 no_what/leak_report --raw $process > report.out 2> report.said
     verdict 'leak_what fails: the report is as without it' '1 1 0' "$? $(grep -c 'leak_what failed: the report' report.said) $(grep -c 'looks like' report.out)"
     stop $process
     options=
     start ./what_blocks
-    LEAK_FIND=$finder limited 120 "$kit/leak_report" $process > report.out 2> report.said
+    LEAK_FIND=$finder limited 120 "$kit/leak_report" --raw $process > report.out 2> report.said
     verdict 'a table of leak_trace: rows are of callers, as they were' 0 "$(grep -c 'looks like' report.out)"
-    LEAK_FIND=$finder limited 120 "$kit/leak_report" --structures $process > report.out 2> report.said
+    LEAK_FIND=$finder limited 120 "$kit/leak_report" --raw --structures $process > report.out 2> report.said
     verdict 'a table of leak_trace: structures on demand' 1 "$(grep -cE '^ *bytes +blocks +structures' report.out)"
     stop $process
 fi

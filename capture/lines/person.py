@@ -1,0 +1,152 @@
+"""A report for a person: a sentence, a table, what to do next, and last what may be wrong with it."""
+from typing import Callable, NamedTuple
+
+from lines import chains, core_notes, document, grown, growth, inputs, limited, logs, lost, options, paper, remarks, report, runs, shown
+from lines import structures, what
+from lines.units import counted, plain
+
+MOST_ROWS = 20
+
+
+def name_of(run, core):
+    """The process in words, by the core's notes and what was asked for."""
+    try:
+        _, name = core_notes.process_of(core) if core else (None, "")
+    except OSError:
+        name = ""
+    name = shown.escaped(name)
+    if run.process:
+        return f"{name} (pid {run.process})" if name else f"process {run.process}"
+    return f"{name} (core {run.core})" if name and run.core else run.core or name or "the process"
+
+
+def lost_in_words(counts, tops, run, effect):
+    """What was lost, in words. A search that may have missed something is no answer where it found nothing."""
+    sums, at_both = counts["leaked"], " at both moments" if run.has_two_moments else ""
+    if not sums["blocks"]:
+        return f"none found lost{at_both}, but the search is not complete" if effect >= remarks.HIDES else f"none lost{at_both}"
+    in_structures = f", in {counted(tops, 'structure')}" if tops is not None else ""
+    return f"{sums['blocks']:,} lost{at_both}, {plain(sums['bytes'])}{in_structures}"
+
+
+def sentence(name, counts, tops, run, effect):
+    """What a report of leaks says. What is in use is left out where the log lacks blocks."""
+    text = lost_in_words(counts, tops, run, effect)
+    if effect >= remarks.LACKS:
+        return f"{name}: {text} (of the blocks that could be searched)"
+    if not counts["blocks"]["blocks"]:
+        return f"{name}: no block in use"
+    return f"{name}: {counted(counts['blocks']['blocks'], 'block')}, {plain(counts['blocks']['bytes'])} in use; {text}"
+
+
+def next_if_none(run):
+    """What to do if nothing is lost."""
+    if run.process:
+        return f"if it grows all the same, leak_report --grow {run.process} --for 10m shows what grows and who holds it"
+    return f"leak_report --html FILE {run.target} shows who holds the memory"
+
+
+def next_if_lost(run, kind):
+    """What to do where something is lost."""
+    if not kind.has_callers and run.process and run.way != "attach":
+        if kind.is_attachable:
+            return f"leak_report --attach {run.process} shows which functions allocate what is lost from now on"
+        if kind.is_traceable:
+            return "start the program by leak_trace -d 8 PROGRAM: then this report has the functions that allocated what is lost"
+    if not kind.has_callers and kind.is_traceable and not run.process:
+        return "start the program by leak_trace -d 8 PROGRAM: then a report of its core has the functions that allocated what is lost"
+    if run.process and not run.has_two_moments:
+        begin = run.kept or "DIR"
+        keep = "" if run.kept else f"leak_report --keep DIR {run.process}, and "
+        return f"compare two moments: {keep}some minutes later leak_report --after {begin} {run.process} shows what is still lost then"
+    if run.way == "attach" and not kind.has_callers:
+        return f"wait longer: leak_report --attach --for 2h {run.process}"
+    return f"leak_report --list {run.target} has the address of each lost block, for a debugger"
+
+
+def next_if_grown(run, kind, found):
+    """What to do about what grew."""
+    again = f"leak_report --grow {run.process}"
+    if not found.new.blocks or found.now.size <= found.then.size and not found.lost.blocks:
+        return f"wait longer: {again} --for 2h"
+    if not kind.has_callers and kind.is_attachable:
+        return f"{again} --attach --for 10m shows which functions allocate what grows"
+    if not kind.has_callers and kind.is_traceable:
+        return "start the program by leak_trace -d 8 PROGRAM: then this report has the functions that allocate what grows"
+    return f"leak_report {run.process} shows all that is lost" if found.lost.blocks else f"{again} --html FILE shows all who hold it"
+
+
+def next_line(run, kind, counts):
+    """The line about what to do next."""
+    return f"Next: {next_if_lost(run, kind) if counts['leaked']['blocks'] else next_if_none(run)}."
+
+
+def stood_in_words(stood):
+    """How long the process stood still, in a list of a line or none."""
+    if not stood:
+        return []
+    often = "" if len(stood) == 1 else f" {len(stood)} times, the longest"
+    return [f"It stood still{often} for {max(stood)} ms."]
+
+
+def tops_of(read, facts):
+    """How many structures were lost, or None where that is not known."""
+    return None if facts is None else len(structures.structures_of(what.blocks_of(read), facts))
+
+
+def chains_of(asked, groups, facts):
+    """What holds the blocks that those of the first rows look like, if that is asked for."""
+    dump = chains.dump_beside(asked.path)
+    if not asked.why or dump is None:
+        return []
+    heads = [[it.address for it in group.heads or ()] for group in groups[:asked.most or MOST_ROWS]]
+    found = [chains.likeness_in(what.told_of(addresses, facts)[1]) for addresses in heads]
+    return chains.lines_of(dump, [it for it in dict.fromkeys(found) if it][:asked.why])
+
+
+def facts_of(asked):
+    """What leak_what told, but what the structures say too; or None."""
+    return structures.without_held(what.read(inputs.read_lines(asked.what), asked.what)) if asked.what is not None else None
+
+
+class Part(NamedTuple):
+    """The parts of a report: its sentence by what the remarks mean, whether something is lost, tables and lists, and what to do next."""
+    head: Callable
+    is_lost: bool
+    below: list
+    following: str
+
+
+def about_leaks(asked, read, files, run, sheet):
+    """The parts of a report of leaks."""
+    facts, counts, kind = facts_of(asked), document.counts_of(read), logs.read(inputs.beside(asked.path, ".log"))
+    groups, tops, name = lost.groups_of(read, facts), tops_of(read, facts), name_of(run, inputs.beside(asked.path, ".core"))
+    below = [lost.table_of(groups, facts, read, files, (asked.most or MOST_ROWS, sheet)), lost.listed(read, facts) if run.has_list else [],
+             [shown.escaped(part.line) for part in read.parts if part.line.startswith("misfit ")], chains_of(asked, groups, facts or lost.NONE)]
+    return Part(lambda effect: sentence(name, counts, tops, run, effect), counts["leaked"]["blocks"] > 0, below, next_line(run, kind, counts))
+
+
+def about_growth(asked, read, files, run, sheet):
+    """The parts of a report of what grew."""
+    found, gone = growth.read(asked.path, read)
+    kind, name = logs.read(inputs.beside(asked.path, ".log")), name_of(run, inputs.beside(asked.path, ".core"))
+    below = [grown.table_of(found, gone, facts_of(asked) or lost.NONE, files, (asked, asked.most or MOST_ROWS, sheet)),
+             grown.holders_table(asked.path, files, sheet)]
+    return Part(lambda effect: grown.sentence(name, found, run.seconds, effect < remarks.LACKS), found.lost.blocks > 0, below,
+                f"Next: {next_if_grown(run, kind, found)}.")
+
+
+def lines_of(asked):
+    """The lines that are printed."""
+    run, read, sheet = runs.read(asked.about), report.read(inputs.read_lines(asked.path)), paper.of_output()
+    limited.silence.append("a person has warnings last")
+    counts = document.counts_of(read)
+    if "blocks" not in counts or "leaked" not in counts:
+        raise options.Refused("leak_lines: this is no report of leaks")
+    files = inputs.sources_of(asked.path, asked.log, asked)
+    part = (about_growth if run.way == "grow" else about_leaks)(asked, read, files, run, sheet)
+    said = remarks.read([*run.said, *(f"leak_lines: {it}" for it in (*files.notes(), *limited.said))], counts)
+    lines = [sheet.painted(line, "lost" if part.is_lost else "head") for line in sheet.wrapped(part.head(said.effect))]
+    lines += [line for group in part.below if group for line in [""] + group]
+    lines += [""] + [sheet.painted(line, "next") for line in sheet.wrapped(part.following)] + stood_in_words(said.stood)
+    return lines + [sheet.painted(line, "warning") for it in said.warnings for line in sheet.wrapped(it)]
