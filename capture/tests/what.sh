@@ -122,6 +122,27 @@ if [ "$dumps" ]; then
     verdict 'damaged cores, logs and reports: each has an answer or is refused' 'status 0 or 2' "$(tail -n 1 damage.said)"
 fi
 
+section containers of C++
+# contained NAME: of each lost block of a container its size, the container, and the size of the block that has that.
+contained() {
+    limited 60 "$tells" "$1.core" "$1.log" "$1.report" > "$1.what" || echo "status $?"
+    awk 'NR == FNR { if ($1 == "leak") size[$2] = $3; next }
+        $1 == "container" { print size[$2], $1, $3, $4, size[$5], $6 }' "$1.report" "$1.what" | LC_ALL=C sort -u
+}
+if [ "$dumps" ]; then
+    build what_cxx.cc
+    unprepared_dump containers ./what_cxx
+    stop $process
+    verdict 'whose nodes, elements and texts blocks are' "$(wanted_of what_cxx.cc)" "$(contained containers)"
+    verdict 'all nodes of each' 'buckets 1, hash 6, string 1, tree 3, vector 1' \
+        "$(awk '$1 == "container" { count[$3]++ } END { for (it in count) print it, count[it] }' containers.what | LC_ALL=C sort | paste -s -d , | sed 's/,/, /g')"
+    g++ -O1 -g -static-libstdc++ -static-libgcc "$kit/tests/what_cxx.cc" -o what_cxx
+    unprepared_dump containers ./what_cxx
+    stop $process
+    verdict 'without the library that lays them out so nothing is told' '' "$(contained containers)"
+    rm containers.core
+fi
+
 section what several lost blocks lead to
 cat > shared_blocks.c << 'END'
 #include "lose.h"
@@ -219,6 +240,22 @@ text 0x1500 9 "third\x1b[1m"
 part 0x1500 0x1000
 word 0x1600 +0x0 _ZTV6Square+0x10
 END
+cat > container.what << 'END'
+container 0x1000 tree 2 0x1600 +0x10
+word 0x1000 +0x8 on_read
+container 0x1100 tree 2 0x1600 +0x10
+container 0x1200 tree 7 0x1600 +0x18
+container 0x1400 hash 1 0x1600 +0x18
+container 0x1500 vector 32 0x1600 +0x28
+END
+verdict 'containers' "$(cat << 'END'
+bytes blocks heads  function  where
+  224      4     2  ?  size 56
+                       node of std::map or set at 0x1600+0x10: 2 of 4, 2 kinds
+   80      2     1  ?  size 40
+                       node of std::unordered_map or set at 0x1600+0x18: 1 of 2, 2 kinds
+END
+)" "$("$kit/leak_lines" --what container.what shown.report | sed -n '/^bytes/,/^leak/p' | grep -v ^leak | head -n 5)"
 verdict 'below each row' "$(cat << 'END'
 bytes blocks heads  function  where
   224      4     2  ?  size 56

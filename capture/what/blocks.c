@@ -182,6 +182,16 @@ int is_freed(const struct blocks *blocks, uint64_t address)
     return low && address < blocks->freed[low - 1].end;
 }
 
+/* Whether malloc gives a block of this size for so many bytes: it rounds up to 24, 40, 56, ..; one with a mapping of
+ * its own has whole pages. */
+int fits_block(uint64_t size, uint64_t usable)
+{
+    enum { HEAP_SLACK = 16, LEAST_USABLE = 24, LARGE = 128 << 10, MAPPED_SLACK = PAGE + 16 };
+    uint64_t slack = size >= LARGE ? MAPPED_SLACK : usable == LEAST_USABLE ? LEAST_USABLE : HEAP_SLACK;
+
+    return size && size <= usable && usable - size < slack;
+}
+
 /* The type of the block with this number in a typed log, or NULL: the text is a size, a place or a caller. */
 const char *type_of_block(const struct blocks *blocks, long number, uint64_t *length)
 {

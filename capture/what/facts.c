@@ -133,6 +133,25 @@ static void put_likeness(struct what *what, struct sources *sources, long number
     put_text("\n");
 }
 
+/* Which container of C++ the block is of, and in which lost block and where that is. */
+static void put_container(struct what *what, const struct containers *containers, long number)
+{
+    static const char *const words[] = { "tree", "hash", "buckets", "vector", "string" };
+    uint32_t of = containers->of_block[number];
+    const struct container *found = containers->list + of;
+
+    if (!of || of == DOUBTFUL)
+        return;
+    begin_fact("container", what->blocks.list + number);
+    put_text(" ");
+    put_text(words[found->kind]);
+    put_text(" ");
+    put_number(found->count);
+    put_hex(" 0x", what->blocks.list[found->owner].start);
+    put_hex(" +0x", found->offset);
+    put_text("\n");
+}
+
 /* The first of those that lead to a place, or to one after it. */
 static size_t first_leading(const struct structures *s, long place)
 {
@@ -192,6 +211,8 @@ void put_facts(struct what *what, struct sources *sources, long number, long pla
         put_words(what, block, 0, &left);
         put_words(what, block, 1, &left);
     }
-    if (place != NONE)
-        put_structure(what, &sources->structures, place);
+    if (place == NONE)
+        return;
+    put_container(what, &sources->containers, number);
+    put_structure(what, &sources->structures, place);
 }

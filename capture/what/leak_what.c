@@ -88,6 +88,7 @@ static int tell_blocks(char **words, int count, char **roots, size_t root_count)
     sources.roles = find_roles(&what);
     sources.classes = find_classes(&what, &sources.roles);
     sources.structures = find_structures(&what);
+    sources.containers = find_containers(&what);
     for (int i = 3; i < count; i++)
         tell_one(&what, &sources, words[i]);
     for (size_t i = 0; count == 3 && i < sources.structures.count; i++)

@@ -5,7 +5,7 @@
 #include "types.h"
 
 enum { MOST_STEPS = 1 << 27, MOST_JOBS = 1 << 22, DEEPEST = 12 };
-enum { HEAP_SLACK = 16, LEAST_USABLE = 24, LARGE = 128 << 10, MAPPED_SLACK = PAGE + 16 };
+enum { HEAP_SLACK = 16 };
 
 /* So many things of a type that stand in a row. */
 struct job {
@@ -54,15 +54,6 @@ static uint64_t size_of_type(const struct typing *t, uint32_t number)
         number = type->to;
     }
     return 0;
-}
-
-/* Whether malloc gives a block of this size for so many bytes: it rounds up to 24, 40, 56, ..; one with a mapping of
- * its own has whole pages. */
-static int fits(uint64_t size, uint64_t usable)
-{
-    uint64_t slack = size >= LARGE ? MAPPED_SLACK : usable == LEAST_USABLE ? LEAST_USABLE : HEAP_SLACK;
-
-    return size && size <= usable && usable - size < slack;
 }
 
 /* Where the job is in the table, or where it may be put. */
@@ -130,7 +121,7 @@ static int fits_flexible(const struct type *s, uint64_t usable)
 {
     uint64_t more = usable > s->size ? usable - s->size : 0;
 
-    return s->each && (s->each < HEAP_SLACK || fits(s->size + more / s->each * s->each, usable));
+    return s->each && (s->each < HEAP_SLACK || fits_block(s->size + more / s->each * s->each, usable));
 }
 
 /* Whether a structure that begins with this one may be it: then the largest for which there is room. */
@@ -145,7 +136,7 @@ static int may_be_outer(const struct type *s, uint64_t usable)
         else
             high = middle;
     }
-    return low && fits(s->outer[low - 1], usable);
+    return low && fits_block(s->outer[low - 1], usable);
 }
 
 static int is_same_name(const struct typing *t, uint32_t a, uint32_t b)
@@ -201,8 +192,8 @@ static void point(struct typing *t, uint64_t word, uint32_t number)
         return;
     if (word == b->start && type->kind == STRUCT_TYPE) {
         uint64_t elements = b->size / size;
-        int is_one = fits(size, b->size) || fits_flexible(type, b->size);
-        if (is_one || (!type->each && fits(elements * size, b->size)))
+        int is_one = fits_block(size, b->size) || fits_flexible(type, b->size);
+        if (is_one || (!type->each && fits_block(elements * size, b->size)))
             vote(t, block, number, !is_one);
     } else if (word == b->start && type->kind == POINTER_TYPE) {
         if (!has_pointers_alone(t, b))

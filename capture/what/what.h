@@ -118,6 +118,7 @@ const char *type_of_block(const struct blocks *blocks, long block, uint64_t *len
 struct blocks read_blocks(const char *log, const char *report);
 long block_of(const struct blocks *blocks, uint64_t address);
 int is_freed(const struct blocks *blocks, uint64_t address);
+int fits_block(uint64_t size, uint64_t usable);
 
 /* modules.c */
 struct modules find_modules(struct core *core, char **roots, size_t root_count);
@@ -212,6 +213,26 @@ struct structures {
 
 struct structures find_structures(struct what *what);
 
+/* containers.c */
+enum container_kind { TREE_NODE, HASH_NODE, HASH_BUCKETS, VECTOR_ELEMENTS, STRING_TEXT };
+enum { DOUBTFUL = UINT32_MAX };
+
+struct container {
+    enum container_kind kind;
+    int is_listed;
+    long owner;                 /* the lost block that it is in, */
+    uint64_t offset;            /* and where */
+    uint64_t count;             /* of nodes, buckets, bytes or letters */
+};
+
+struct containers {
+    struct container *list;     /* from 1 on */
+    size_t count;
+    uint32_t *of_block;         /* by block the number of its container; 0 of none, or DOUBTFUL */
+};
+
+struct containers find_containers(struct what *what);
+
 /* places.c */
 void put_where(struct what *what, uint64_t address);
 
@@ -220,6 +241,7 @@ struct sources {
     struct roles roles;
     struct classes *classes;
     struct structures structures;
+    struct containers containers;
 };
 
 void put_facts(struct what *what, struct sources *sources, long block, long place);

@@ -4,7 +4,8 @@
 # docs/LIMITS.md. Programs that are not installed are left out. measure.sh [NAME..] takes those of these names alone.
 #
 # BUILT=FOLDER measure.sh [NAME..]: with programs of that folder, which were built with debug information from sources below it, and
-# how often the types of held blocks are right too (score_types.py).
+# how often the types of held blocks are right too (score_types.py), and of ninja and cppcheck the containers of C++
+# (score_containers.py), of the lost blocks and of all as if all were lost.
 here=$(dirname "$(readlink -f "$0")")
 kit=$here/../../capture
 finder=${LEAK_FIND:-leak_find}
@@ -14,6 +15,12 @@ trap 'rm -rf "$work"' EXIT
 cd "$work" || exit 1
 gcc -O2 -shared -fPIC "$here/drop_free.c" -o drop_free.so && gcc -O2 -g "$here/server.c" -o server || exit 1
 
+# score_containers NAME: a row of the table of containers for the lost blocks, and one for all blocks.
+score_containers() {
+    python3 -B "$here/score_containers.py" "$1" run.what run.log run.report >> containers.rows
+    python3 -B "$here/all_lost.py" run.walk > run.all && "$kit/leak_what" run.core run.walk run.all > run.all.what &&
+        python3 -B "$here/score_containers.py" "$1, all" run.all.what run.log run.all >> containers.rows
+}
 # run NAME EVERY AFTER INPUT SECONDS LOAD PROGRAM..: a row of the table. The program reads INPUT, and LOAD runs beside it.
 run() {
     local name=$1 every=$2 after=$3 input=$4 seconds=$5 load=$6 process
@@ -32,6 +39,7 @@ run() {
         "$finder" one --skip-freed --skip-links run.core run.walk > run.report
     "$kit/leak_what" run.core run.walk run.report > run.what && python3 -B "$here/score.py" "$name" run.what run.report run.log
     { kill -9 "$process" && wait "$process"; } 2> /dev/null
+    case ${BUILT:+$name} in ninja | cppcheck) score_containers "$name" ;; esac
     if [ "${BUILT-}" ] && "$kit/leak_what" --types run.core run.walk > run.typed; then
         "$finder" one --skip-freed --skip-links run.core run.typed > run.report
         "$kit/leak_what" run.core run.typed run.report > run.what
@@ -65,6 +73,11 @@ done | { echo '<all>'; cat; echo '</all>'; } > many.xml
 for i in $(seq 40); do
     printf 'load many.xml\nxpath //a[@n>%s]\ncd all\nls\nsetns p=urn:x\nxpath count(//b)\n' "$i"
 done > many.xpath
+for i in $(seq 1500); do
+    echo "build output_of_the_build_$i.o: copy input_of_the_build_$i.c | header_$((i % 40)).h"
+    printf '  flags = -DFLAG_%s\n  long_variable_%s = a value that is longer than sixteen\n' "$i" $((i % 30))
+    touch "input_of_the_build_$i.c" "header_$((i % 40)).h"
+done | { printf 'rule copy\n  command = sleep 60\n  depfile = $out.d\n'; cat; } > build.ninja
 printf '%s\n' 'break main' 'info functions new' 'info types .' 'info line main' 'ptype struct connection' 'print sizeof(struct timer)' > many.gdb
 
 names=$*
@@ -85,9 +98,15 @@ run gdb 60 2000 many.gdb 8 true gdb -nx -q ./server
 run tmux 12 500 /dev/null 2 "bash $here/load_tmux.bash" tmux -D -L measure -f /dev/null
 PYTHONMALLOC=malloc run python3 200 5000 /dev/null 12 true /usr/bin/python3 "$here/load_objects.py"
 run xmllint 25 500 many.xpath 5 true xmllint --shell many.xml
+[ ! "${BUILT-}" ] || run ninja 20 500 /dev/null 2 true ninja -j 4
+# No rule was chosen on cppcheck either.
+[ ! "${BUILT-}" ] || run cppcheck 200 5000 /dev/null 12 true cppcheck --enable=all "$here/../../capture"
 if [ "${BUILT-}" ]; then # Debian's redis has jemalloc
     run redis 60 2000 /dev/null 0 "bash $here/load_redis.bash" redis-server --port 21579 --save ''
     printf '\n%s\n%s\n' '| Program | blocks | with a type | right | wrong | not judged | arrays right | wrong | not judged | lost right | wrong | not judged |' \
         '|---|---|---|---|---|---|---|---|---|---|---|---|'
     cat types.rows
+    printf '\n%s\n%s\n' '| Program | blocks | tree right | wrong | silent | hash right | wrong | silent | buckets right | wrong | silent | vector right | wrong | silent | string right | wrong | silent |' \
+        '|---|---|---|---|---|---|---|---|---|---|---|---|---|---|---|---|---|'
+    cat containers.rows
 fi

@@ -23,7 +23,7 @@ NONE = {"char", "int", "long", "void", "double", "unsigned", "size_t", "uint8_t"
 BEFORE, AFTER = 120, 3
 
 
-def lines_of_frames(frames):
+def lines_of_frames(frames, *options):
     """By frame, the functions and source lines there, the innermost first."""
     found, by_path = {}, defaultdict(list)
     for frame in frames:
@@ -31,7 +31,7 @@ def lines_of_frames(frames):
         if match:
             by_path[match[1]].append((frame, int(match[2], 16) - 1))
     for path, places in by_path.items():
-        run = subprocess.run(["addr2line", "-a", "-f", "-i", "-e", path], capture_output=True, text=True, check=False,
+        run = subprocess.run(["addr2line", "-a", "-f", "-i", *options, "-e", path], capture_output=True, text=True, check=False,
                              input="\n".join(f"{at:#x}" for _, at in places))
         lines, of_place = run.stdout.split("\n"), []
         for number, line in enumerate(lines):
