@@ -15,12 +15,13 @@ SHAPES = {
     "text": re.compile(f"text {ADDRESS} ([0-9]+) {QUOTED}"),
     "word": re.compile(f"word {ADDRESS} (\\+0x[0-9a-f]+) (.+)"),
     "literal": re.compile(f"literal {ADDRESS} (\\+0x[0-9a-f]+) {QUOTED}"),
+    "object": re.compile(f"object {ADDRESS} (talloc|python) {QUOTED}"),
     "container": re.compile(f"container {ADDRESS} (tree|hash|buckets|vector|string) ([0-9]+) {ADDRESS} (\\+0x[0-9a-f]+)"),
     "holds": re.compile(f"holds {ADDRESS} ([0-9]+) bytes ([0-9]+)"),
     "part": re.compile(f"part {ADDRESS} {ADDRESS}"),
     "led": re.compile(f"led {ADDRESS} {ADDRESS}"),
 }
-TELLING = ("stdio", "like", "text", "container", "word", "literal", "holds")  # the most telling first
+TELLING = ("stdio", "like", "text", "object", "container", "word", "literal", "holds")  # the most telling first
 CONTAINERS = {
     "tree": "node of std::map or set",
     "hash": "node of std::unordered_map or set",
@@ -44,7 +45,8 @@ class Fact(NamedTuple):
     def same(self):
         """What is equal of blocks of one kind. All texts are one kind; of likenesses the way to the held block counts, and of containers
         where in a block they are."""
-        told = {"like": self.words[2:], "word": self.words, "literal": self.words, "container": self.words[::3]}
+        told = {"like": self.words[2:], "word": self.words, "literal": self.words, "container": self.words[::3],
+                "object": self.words}
         return (self.kind,) + told.get(self.kind, ())
 
     @property
@@ -55,6 +57,8 @@ class Fact(NamedTuple):
             return f"looks like {self.type or self.words[0]} ({self.words[1]} held{way})"
         if self.kind == "text":
             return f"begins {self.words[1]}"
+        if self.kind == "object":
+            return f"{'talloc' if self.words[0] == 'talloc' else 'Python object of type'} {self.words[1]}"
         if self.kind == "container":
             return f"{CONTAINERS[self.words[0]]} at {self.words[2]}{self.words[3]}"
         if self.kind == "holds":

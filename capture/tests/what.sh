@@ -143,6 +143,21 @@ if [ "$dumps" ]; then
     rm containers.core
 fi
 
+section blocks that have a name of themselves
+if [ "$dumps" ]; then
+    echo 'int is_talloc(void) { return 1; }' | gcc -shared -fPIC -x c - -o libtalloc.so.2 || exit 1
+    build what_objects.c -Wl,-rpath,"$work" "$work/libtalloc.so.2"
+    unprepared_dump objects ./what_objects
+    stop $process
+    told objects | grep ' object ' > objects.told
+    verdict 'of talloc, and of types of Python' "$(wanted_of what_objects.c)" "$(cat objects.told)"
+    strip what_objects && unprepared_dump objects ./what_objects
+    stop $process
+    told objects | grep ' object ' > objects.told
+    verdict 'without the type of types none is of Python' "$(wanted_of what_objects.c | grep -v python)" "$(cat objects.told)"
+    rm objects.core
+fi
+
 section what several lost blocks lead to
 cat > shared_blocks.c << 'END'
 #include "lose.h"
@@ -207,6 +222,12 @@ if [ "$dumps" ]; then
 ^like 4000 what_many 200000
 were.not.compared 1 what_odd 500000 odd
 END
+    unprepared_dump many ./what_many 1000000
+    stop $process
+    verdict 'a million blocks, 50,000 of them lost: at most 5 s of processor time and 200 MB' '0 in bounds' \
+        "$(ulimit -t 5; python3 "$kit/tests/measured.py" 300 200 100000000 many.what "$tells" many.core many.log many.report 2> many.figures)"
+    verdict 'of which 20,000 look like others' yes "$([ "$(grep -c '^like' many.what)" -ge 20000 ] && echo yes)"
+    rm -f many.core
 fi
 
 section what leak_lines shows of it
@@ -247,15 +268,19 @@ container 0x1100 tree 2 0x1600 +0x10
 container 0x1200 tree 7 0x1600 +0x18
 container 0x1400 hash 1 0x1600 +0x18
 container 0x1500 vector 32 0x1600 +0x28
+object 0x1600 python "Thing"
+word 0x1600 +0x8 PyType_Type
 END
-verdict 'containers' "$(cat << 'END'
+verdict 'containers and objects' "$(cat << 'END'
 bytes blocks heads  function  where
   224      4     2  ?  size 56
                        node of std::map or set at 0x1600+0x10: 2 of 4, 2 kinds
    80      2     1  ?  size 40
                        node of std::unordered_map or set at 0x1600+0x18: 1 of 2, 2 kinds
+   48      1     1  ?  size 48
+                       Python object of type "Thing"
 END
-)" "$("$kit/leak_lines" --what container.what shown.report | sed -n '/^bytes/,/^leak/p' | grep -v ^leak | head -n 5)"
+)" "$("$kit/leak_lines" --what container.what shown.report | sed -n '/^bytes/,/^leak/p' | grep -v ^leak)"
 verdict 'below each row' "$(cat << 'END'
 bytes blocks heads  function  where
   224      4     2  ?  size 56

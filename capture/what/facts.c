@@ -133,6 +133,22 @@ static void put_likeness(struct what *what, struct sources *sources, long number
     put_text("\n");
 }
 
+static void put_object(struct what *what, const struct block *block)
+{
+    const uint8_t *bytes;
+    const char *of;
+    uint64_t length = object_name(what, block, &bytes, &of);
+
+    if (!length)
+        return;
+    begin_fact("object", block);
+    put_text(" ");
+    put_text(of);
+    put_text(" ");
+    put_quoted(bytes, length, MOST_TEXT);
+    put_text("\n");
+}
+
 /* Which container of C++ the block is of, and in which lost block and where that is. */
 static void put_container(struct what *what, const struct containers *containers, long number)
 {
@@ -208,6 +224,7 @@ void put_facts(struct what *what, struct sources *sources, long number, long pla
     else if (place != NONE)
         put_likeness(what, sources, number);
     if (!length) {
+        put_object(what, block);
         put_words(what, block, 0, &left);
         put_words(what, block, 1, &left);
     }

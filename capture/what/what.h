@@ -213,6 +213,9 @@ struct structures {
 
 struct structures find_structures(struct what *what);
 
+/* objects.c */
+uint64_t object_name(struct what *what, const struct block *block, const uint8_t **bytes, const char **of);
+
 /* containers.c */
 enum container_kind { TREE_NODE, HASH_NODE, HASH_BUCKETS, VECTOR_ELEMENTS, STRING_TEXT };
 enum { DOUBTFUL = UINT32_MAX };

@@ -1,7 +1,9 @@
-"""Objects, texts and parsed documents, of which some are kept."""
+"""load_objects.py [TYPES]: objects, texts and parsed documents, of which some are kept."""
 import json
 import re
 import sys
+
+from objects_of import write_types
 
 
 class Thing:
@@ -23,4 +25,6 @@ for each in range(6000):
         documents.append(re.compile(f"x{each}(y+)z?"))
     if each % 6 == 0:
         kept.pop(each - 300, None)
+if len(sys.argv) > 1:
+    write_types(sys.argv[1])
 sys.stdin.readline()

@@ -15,6 +15,11 @@ trap 'rm -rf "$work"' EXIT
 cd "$work" || exit 1
 gcc -O2 -shared -fPIC "$here/drop_free.c" -o drop_free.so && gcc -O2 -g "$here/server.c" -o server || exit 1
 
+# score_objects NAME: a row of the table of Python's objects.
+score_objects() {
+    python3 -B "$here/all_lost.py" run.walk > run.all && "$kit/leak_what" run.core run.walk run.all > run.all.what &&
+        python3 -B "$here/score_objects.py" "$1" run.all.what run.types >> objects.rows
+}
 # score_containers NAME: a row of the table of containers for the lost blocks, and one for all blocks.
 score_containers() {
     python3 -B "$here/score_containers.py" "$1" run.what run.log run.report >> containers.rows
@@ -39,6 +44,7 @@ run() {
         "$finder" one --skip-freed --skip-links run.core run.walk > run.report
     "$kit/leak_what" run.core run.walk run.report > run.what && python3 -B "$here/score.py" "$name" run.what run.report run.log
     { kill -9 "$process" && wait "$process"; } 2> /dev/null
+    [ ! -s run.types ] || score_objects "$name"
     case ${BUILT:+$name} in ninja | cppcheck) score_containers "$name" ;; esac
     if [ "${BUILT-}" ] && "$kit/leak_what" --types run.core run.walk > run.typed; then
         "$finder" one --skip-freed --skip-links run.core run.typed > run.report
@@ -96,8 +102,11 @@ run gawk 25 500 /dev/null 4 true gawk 'BEGIN { for (i = 0; i < 20000; i++) { a[i
 # No rule was chosen on these.
 run gdb 60 2000 many.gdb 8 true gdb -nx -q ./server
 run tmux 12 500 /dev/null 2 "bash $here/load_tmux.bash" tmux -D -L measure -f /dev/null
-PYTHONMALLOC=malloc run python3 200 5000 /dev/null 12 true /usr/bin/python3 "$here/load_objects.py"
+PYTHONMALLOC=malloc run python3 200 5000 /dev/null 12 true /usr/bin/python3 -B "$here/load_objects.py" run.types
+PYTHONMALLOC=malloc run documents 200 5000 /dev/null 25 true /usr/bin/python3 -B "$here/load_documents.py" run.types
 run xmllint 25 500 many.xpath 5 true xmllint --shell many.xml
+printf '\n%s\n%s\n' '| Program | objects | right | wrong | none of them |' '|---|---|---|---|---|'
+cat objects.rows 2> /dev/null
 [ ! "${BUILT-}" ] || run ninja 20 500 /dev/null 2 true ninja -j 4
 # No rule was chosen on cppcheck either.
 [ ! "${BUILT-}" ] || run cppcheck 200 5000 /dev/null 12 true cppcheck --enable=all "$here/../../capture"
