@@ -16,7 +16,7 @@ SHAPES = {
     "word": re.compile(f"word {ADDRESS} (\\+0x[0-9a-f]+) (.+)"),
     "literal": re.compile(f"literal {ADDRESS} (\\+0x[0-9a-f]+) {QUOTED}"),
     "object": re.compile(f"object {ADDRESS} (talloc|python) {QUOTED}"),
-    "container": re.compile(f"container {ADDRESS} (tree|hash|buckets|vector|string) ([0-9]+) {ADDRESS} (\\+0x[0-9a-f]+)"),
+    "container": re.compile(f"container {ADDRESS} (tree|hash|buckets|string) ([0-9]+) {ADDRESS} (\\+0x[0-9a-f]+)"),
     "holds": re.compile(f"holds {ADDRESS} ([0-9]+) bytes ([0-9]+)"),
     "part": re.compile(f"part {ADDRESS} {ADDRESS}"),
     "led": re.compile(f"led {ADDRESS} {ADDRESS}"),
@@ -26,7 +26,6 @@ CONTAINERS = {
     "tree": "node of std::map or set",
     "hash": "node of std::unordered_map or set",
     "buckets": "buckets of std::unordered_map or set",
-    "vector": "elements of std::vector",
     "string": "text of std::string",
 }
 LEAK = re.compile(f"leak {ADDRESS} ([0-9]+) [0-9]+ (.*)", re.DOTALL)

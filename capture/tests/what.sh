@@ -134,7 +134,7 @@ if [ "$dumps" ]; then
     unprepared_dump containers ./what_cxx
     stop $process
     verdict 'whose nodes, elements and texts blocks are' "$(wanted_of what_cxx.cc)" "$(contained containers)"
-    verdict 'all nodes of each' 'buckets 1, hash 6, string 1, tree 3, vector 1' \
+    verdict 'all nodes of each' 'buckets 1, hash 6, string 1, tree 3' \
         "$(awk '$1 == "container" { count[$3]++ } END { for (it in count) print it, count[it] }' containers.what | LC_ALL=C sort | paste -s -d , | sed 's/,/, /g')"
     g++ -O1 -g -static-libstdc++ -static-libgcc "$kit/tests/what_cxx.cc" -o what_cxx
     unprepared_dump containers ./what_cxx
@@ -267,7 +267,7 @@ word 0x1000 +0x8 on_read
 container 0x1100 tree 2 0x1600 +0x10
 container 0x1200 tree 7 0x1600 +0x18
 container 0x1400 hash 1 0x1600 +0x18
-container 0x1500 vector 32 0x1600 +0x28
+container 0x1500 string 32 0x1600 +0x28
 object 0x1600 python "Thing"
 word 0x1600 +0x8 PyType_Type
 END

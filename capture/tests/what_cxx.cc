@@ -5,7 +5,6 @@
  * what 72 container hash 5 1016 +0x8
  * what 104 container buckets 13 1016 +0x8
  * what 56 container hash 1 1032 +0x8
- * what 88 container vector 80 1048 +0x8
  * what 216 container string 100 1064 +0x8
  */
 #include <cstdio>
@@ -29,7 +28,7 @@ template <int SIZE> struct Bytes {
     char bytes[SIZE] = {};
 };
 
-/* Each has blocks of sizes of its own. */
+/* Each has blocks of sizes of its own. Elements of vectors are not told. */
 __attribute__((noinline)) static void *tree(int nodes)
 {
     auto made = new With<std::map<char, short>, 1000>;

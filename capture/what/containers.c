@@ -1,5 +1,5 @@
-/* Which blocks are a container's of C++'s standard library: its nodes, elements or text. A container is known by the
- * words that it has in a lost block, and by what they lead to: all of its nodes must be as it says. */
+/* Which blocks are a container's of C++'s standard library: its nodes or its text. A container is known by the words that
+ * it has in a lost block, and by what they lead to: all of its nodes must be as it says. */
 #include <stdlib.h>
 
 #include "containers.h"
@@ -58,37 +58,6 @@ static uint64_t size_at(const struct search *s, long block)
     return s->what->blocks.list[block].size;
 }
 
-/* Whether words near these lead to the block too: the buffers of files and streams, and the first part of a deque, have
- * three such pointers too, and others. */
-static int has_others(struct search *s, uint64_t start)
-{
-    enum { AROUND = 32 * WORD };
-    const struct block *owner = s->what->blocks.list + s->now.owner;
-    uint64_t offset = s->now.offset, left = owner->size - offset;
-    struct reader reader = { &s->what->core, s->at - (offset < AROUND ? offset : AROUND),
-                             s->at + (left < AROUND ? left : AROUND), NULL, 0 };
-    uint64_t place, word;
-    int count = 0;
-
-    for (; next_word(&reader, &place, &word); s->steps++)
-        count += word == start;
-    return count > 1;
-}
-
-static void find_vector(struct search *s)
-{
-    const uint64_t *vector = s->words;
-    long block = block_at(s, vector[START]);
-    const uint8_t *text;
-
-    if (block == NONE || vector[FINISH] <= vector[START] || vector[FINISH] > vector[END]
-        || s->is_stale || !fits_block(vector[END] - vector[START], size_at(s, block)) || has_others(s, vector[START])
-        || text_of(s->what, s->what->blocks.list + block, &text))
-        return;
-    s->now.kind = VECTOR_ELEMENTS, s->now.count = vector[FINISH] - vector[START];
-    take_block(s, block);
-}
-
 static void find_string(struct search *s)
 {
     const uint64_t *string = s->words;
@@ -100,9 +69,9 @@ static void find_string(struct search *s)
         || string[CAPACITY] > size_at(s, block) || !fits_block(string[CAPACITY] + 1, size_at(s, block)))
         return;
     text = run_at(&s->what->core, string[TEXT_START], &size);
+    s->steps += size / WORD;
     if (!text || size <= string[LENGTH] || memchr(text, 0, size) != text + string[LENGTH])
         return;
-    s->steps += size / WORD;
     s->now.kind = STRING_TEXT, s->now.count = string[LENGTH];
     take_block(s, block);
 }
@@ -111,8 +80,7 @@ static const struct shape {
     void (*find)(struct search *search);
     size_t words, pointer;      /* how many, and which of them leads to a block that begins there */
 } shapes[] = {
-    { find_tree, TREE_WORDS, ROOT }, { find_table, TABLE_WORDS, FIRST }, { find_vector, VECTOR_WORDS, START },
-    { find_string, STRING_WORDS, TEXT_START },
+    { find_tree, TREE_WORDS, ROOT }, { find_table, TABLE_WORDS, FIRST }, { find_string, STRING_WORDS, TEXT_START },
 };
 
 /* Looks for each container that may begin there. */
@@ -150,7 +118,7 @@ static void look_into(struct search *s, long number)
     const uint8_t *bytes = run_at(&s->what->core, block->start, &size);
 
     s->is_stale = has_stale(s, block);
-    for (uint64_t at = 0; bytes && at + VECTOR_WORDS * WORD <= size && s->steps < MOST_STEPS; at += WORD, s->steps++) {
+    for (uint64_t at = 0; bytes && at + STRING_WORDS * WORD <= size && s->steps < MOST_STEPS; at += WORD, s->steps++) {
         s->at = block->start + at;
         s->now = (struct container){ .owner = number, .offset = at };
         look_at(s, bytes + at, size - at);

@@ -4,11 +4,9 @@
 
 #include "what.h"
 
-/* Words of a container, and of a tree's node (libstdc++, bits/stl_tree.h, bits/hashtable.h, bits/stl_vector.h,
- * bits/basic_string.h). A tree's own node is red, and has the root, the first and the last node. */
+/* Words of a container, and of a tree's node (libstdc++, bits/stl_tree.h, bits/hashtable.h, bits/basic_string.h). A tree's own node is red, and has the root, the first and the last node. */
 enum { COLOR, PARENT, LEFT, RIGHT, COUNT, TREE_WORDS, ROOT = PARENT };
 enum { BUCKETS, BUCKET_COUNT, FIRST, ELEMENTS, LOAD, RESIZE, ONLY_BUCKET, TABLE_WORDS };
-enum { START, FINISH, END, VECTOR_WORDS };
 enum { TEXT_START, LENGTH, CAPACITY, STRING_WORDS };
 enum { RED, BLACK, LEAST_CAPACITY = 16, MOST_STEPS = 1 << 26 };
 

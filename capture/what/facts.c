@@ -152,7 +152,7 @@ static void put_object(struct what *what, const struct block *block)
 /* Which container of C++ the block is of, and in which lost block and where that is. */
 static void put_container(struct what *what, const struct containers *containers, long number)
 {
-    static const char *const words[] = { "tree", "hash", "buckets", "vector", "string" };
+    static const char *const words[] = { "tree", "hash", "buckets", "string" };
     uint32_t of = containers->of_block[number];
     const struct container *found = containers->list + of;
 

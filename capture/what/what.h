@@ -217,7 +217,7 @@ struct structures find_structures(struct what *what);
 uint64_t object_name(struct what *what, const struct block *block, const uint8_t **bytes, const char **of);
 
 /* containers.c */
-enum container_kind { TREE_NODE, HASH_NODE, HASH_BUCKETS, VECTOR_ELEMENTS, STRING_TEXT };
+enum container_kind { TREE_NODE, HASH_NODE, HASH_BUCKETS, STRING_TEXT };
 enum { DOUBTFUL = UINT32_MAX };
 
 struct container {
@@ -225,7 +225,7 @@ struct container {
     int is_listed;
     long owner;                 /* the lost block that it is in, */
     uint64_t offset;            /* and where */
-    uint64_t count;             /* of nodes, buckets, bytes or letters */
+    uint64_t count;             /* of nodes, buckets or letters */
 };
 
 struct containers {

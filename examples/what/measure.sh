@@ -115,7 +115,6 @@ if [ "${BUILT-}" ]; then # Debian's redis has jemalloc
     printf '\n%s\n%s\n' '| Program | blocks | with a type | right | wrong | not judged | arrays right | wrong | not judged | lost right | wrong | not judged |' \
         '|---|---|---|---|---|---|---|---|---|---|---|---|'
     cat types.rows
-    printf '\n%s\n%s\n' '| Program | blocks | tree right | wrong | silent | hash right | wrong | silent | buckets right | wrong | silent | vector right | wrong | silent | string right | wrong | silent |' \
-        '|---|---|---|---|---|---|---|---|---|---|---|---|---|---|---|---|---|'
+    printf '\n%s\n%s\n' '| Program | blocks | tree: right / wrong / silent | hash | buckets | string |' '|---|---|---|---|---|---|'
     cat containers.rows
 fi

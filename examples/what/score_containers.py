@@ -26,7 +26,7 @@ def kind_of(names):
                 return found
             if match[1].startswith("char") and any("basic_string" in it for it in names):
                 return "string"
-            return "vector" if any("_Vector_base<" in it or "::vector<" in it for it in names) else "other"
+            return "other"
     return "string" if any(STRING.search(it) for it in names) else ""
 
 
@@ -50,7 +50,7 @@ def main(name, what, log, report):
         counts[(kind or truth, "silent" if not kind else "right" if kind == truth else "wrong")] += 1
         if kind and kind != truth:
             print("wrong", f"{address:#x}", kind, truth, callers[address], file=sys.stderr)
-    cells = [str(counts[(kind, it)]) for kind in (*KINDS, "vector", "string") for it in ("right", "wrong", "silent")]
+    cells = [" / ".join(str(counts[(kind, it)]) for it in ("right", "wrong", "silent")) for kind in (*KINDS, "string")]
     print(f"| {name} | {len(wanted)} | " + " | ".join(cells) + " |")
 
 
