@@ -16,7 +16,7 @@ _leak_options() {
     leak_log) echo '--after --version' ;;
     leak_walk) echo '--partial --quiet --names --after --arenas --unused --version' ;;
     leak_what) echo '--types --root --place --version' ;;
-    leak_report) echo "--attach --grow --for --keep --files --after --root --unchecked --list --raw --version --whole-stack --no-calls --pipes --hold -n --structures --why $skips --other-heap --check --strict --workers --piece --stack" ;;
+    leak_report) echo "--attach --grow --for --keep --files --after --root --unchecked --list --raw --html --version --whole-stack --no-calls --pipes --hold -n --structures --why $skips --other-heap --check --strict --workers --piece --stack" ;;
     leak_lines) echo '-n --suppress --exit-code --folded --json --html --since --no-lines --what --structures --why --plain --core --log --root --pid --unchecked --copy-files --version' ;;
     esac
 }

@@ -122,15 +122,6 @@ def run(asked):
     return run_one(asked, rules) if asked.since is None else run_since(asked, rules)
 
 
-def write_page(path, text):
-    """Writes the text to the file."""
-    try:
-        with open(path, "w", encoding="utf-8") as file:
-            file.write(text)
-    except OSError as error:
-        raise Refused(f"leak_lines: {path}: {error.strerror}") from error
-
-
 def write(text):
     """Prints the text."""
     signal.signal(signal.SIGPIPE, signal.SIG_DFL)  # `leak_lines | head` ends quietly
@@ -147,10 +138,10 @@ def main(words):
         asked = options.read(words)
         with progress.SHOWN:
             text, status = run(asked)
-        if asked.page is None:
+        if asked.page is None or asked.about is not None:
             write(text)
         else:
-            write_page(asked.page, text)
+            html.write(asked.page, text)
     except Refused as refusal:
         print("\n".join(map(shown.escaped, str(refusal).split("\n"))), file=sys.stderr)
         return 2

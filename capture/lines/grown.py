@@ -1,7 +1,7 @@
 """What grew, for a person: a sentence, a row for each caller with who holds it, and who retains the new memory."""
 import os
 
-from lines import chains, columns, frames, growth, inputs, lost, report, what
+from lines import chains, columns, frames, growth, inputs, lost, progress, report, sentences, what
 from lines.units import counted, plain, signed_plain
 
 TITLES, HOLDER_TITLES = ("grew", "new blocks", "held", "lost"), ("holds", "blocks")
@@ -24,11 +24,9 @@ def new_in_words(found):
     return begin + f"{new.blocks - gone.blocks:,} are held, {plain(new.size - gone.size)}, and {gone.blocks:,} are lost, {plain(gone.size)}"
 
 
-def sentence(name, found, seconds, is_whole):
+def sentence(found, seconds, is_whole):
     """By how much the process grew. Where not all blocks are known, that is said."""
-    change = found.now.size - found.then.size
-    grew = f"grew by {plain(change)}" if change > 0 else f"shrank by {plain(-change)}" if change else "did not grow"
-    begin = f"{name}: {grew} in {time_in_words(seconds)}"
+    begin = sentences.change(found.then.size, found.now.size, f" in {time_in_words(seconds)}")
     in_use = f", to {counted(found.now.blocks, 'block')}, {plain(found.now.size)} in use" if is_whole else " (of the blocks that could be searched)"
     return f"{begin}{in_use}; {new_in_words(found)}"
 
@@ -65,6 +63,7 @@ def holders_of(asked, rows, gone):
     texts = [row.text for row in rows if row.held > 0][:asked.why or MOST_ASKED]
     dump = chains.dump_beside(asked.path)
     dump = dump and chains.Dump(*map(os.path.abspath, dump))
+    progress.SHOWN.begin("asks who holds what is new")
     found = growth.new_blocks(asked.path, texts, gone) if dump else {}
     return {text: holder_in_words(dump, address) for text, address in found.items()}
 

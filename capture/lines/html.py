@@ -3,26 +3,20 @@ import json
 import os
 from collections import Counter
 
-from lines import document, folded, report
+from lines import document, folded, remarks, report, sentences
+from lines.options import Refused
+from lines.units import counted, plain
 
 PAGE = os.path.join(os.path.dirname(os.path.abspath(__file__)), "page.html")
 MARK = "@DATA@"
 SAID = "leak_find: "  # begins what leak_find says beside the report, where that was caught too
-WARNINGS = {
-    "undumped": "bytes of writable memory are not in the core: blocks that only this memory points to are named wrongly",
-    "unknown": "give-backs in the log are of no live block: the log may not be complete",
-    "displaced": "allocations in the log ended another: the log may not be complete",
-    "torn": "line of the log breaks off: what follows is missing",
-    "misfits": "live blocks have no chunk of their size in use in the core: core and log may not belong together",
-}
 
 
-def warnings_of(read, remarks):
-    """What the report, or leak_find beside it, says against itself."""
-    counts = document.counts_of(read)
-    counted = [f"{counts[name]} {text}" for name, text in WARNINGS.items() if counts.get(name)]
-    counted += [f"{count} callers: {remark}" for remark, count in Counter(remarks.values()).items()]
-    return [document.clean(part.line) for part in read.parts if part.line.startswith(SAID)] + counted
+def warnings_of(read, found):
+    """What the report, or leak_find beside it, says against itself, and what it means."""
+    said = remarks.read([part.line for part in read.parts if part.line.startswith(SAID)], document.counts_of(read))
+    counted = [f"Note: {count} callers: {remark}." for remark, count in Counter(found.remarks.values()).items()]
+    return said._replace(warnings=[document.clean(it) for it in said.warnings] + counted)
 
 
 def frame_of(place):
@@ -36,16 +30,17 @@ def what_of(row, said):
     return [[document.clean(text) for text in texts] for texts in (said.below(row.row), facts)]
 
 
-def data_of(read, found):
-    """What the script reads. Callers name their frames, the innermost first, by the places in a list: callers share most of them."""
+def part_of(read, found, count=None):
+    """A report as the script reads it, with all its rows or the first of so many. Callers name their frames, the innermost first, by the
+    places in a list: callers share most of them."""
     kind = report.kind_of(read)
     rows = found.shown.get(kind, [])
     index = {}
     stacks = [[index.setdefault(place, len(index)) for place in row.places] for row in rows]
     columns = document.NAMES[kind][:len(rows[0].row.numbers) if rows else None]
     return {
-        **document.head_of(read, found, kind), "warnings": warnings_of(read, found.remarks), "columns": columns,
-        "weight": folded.BYTES[kind], "frames": [frame_of(place) for place in index],
+        **document.head_of(read, found, kind), "columns": columns, "weight": folded.BYTES[kind], "frames": [frame_of(place) for place in index],
+        "left": max((count or 0) - len(rows), 0),
         "callers": [{"numbers": row.row.numbers, "address": row.row.address, "frames": stack, "what": what_of(row, found.what)} for row, stack in zip(rows, stacks)],
     }
 
@@ -57,8 +52,34 @@ def escaped(text):
     return text
 
 
-def lines_of(read, found):
-    """The lines of the page."""
+def page(title, head, warnings, parts):
+    """The text of a page with these parts, below its head in plain words."""
     with open(PAGE, encoding="utf-8") as file:
         begin, _, end = file.read().partition(MARK)
-    return (begin + escaped(json.dumps(data_of(read, found))) + end).removesuffix("\n").split("\n")
+    texts = {"title": title, "head": head, "warnings": warnings, "parts": parts}
+    return begin + escaped(json.dumps(texts)) + end
+
+
+def head_of(read, found, effect):
+    """The report in plain words, and what was suppressed."""
+    kind = report.kind_of(read)
+    rows = found.shown.get("structure", ())
+    tops = sum(row.row.numbers[2] for row in rows) if rows else None
+    blocks, size = found.suppressed_sums()
+    sentence = sentences.of_report(kind, document.counts_of(read), tops, effect)
+    return [sentence[:1].upper() + sentence[1:]] * bool(sentence) + [f"{counted(blocks, 'block')}, {plain(size)} are suppressed"] * bool(blocks)
+
+
+def lines_of(read, found):
+    """The lines of the page of one report."""
+    warned = warnings_of(read, found)
+    return page("leak_find", head_of(read, found, warned.effect), warned.warnings, [part_of(read, found)]).removesuffix("\n").split("\n")
+
+
+def write(path, text):
+    """Writes the text to the file."""
+    try:
+        with open(path, "w", encoding="utf-8") as file:
+            file.write(text)
+    except OSError as error:
+        raise Refused(f"leak_lines: {path}: {error.strerror}") from error

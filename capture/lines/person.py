@@ -1,11 +1,10 @@
 """A report for a person: a sentence, a table, what to do next, and last what may be wrong with it."""
 from typing import Callable, NamedTuple
 
-from lines import chains, core_notes, document, grown, growth, inputs, limited, logs, lost, options, paper, remarks, report, runs, shown
-from lines import structures, what
-from lines.units import counted, plain
+from lines import callers, chains, core_notes, document, grown, growth, html, inputs, limited, logs, lost, options, paper, remarks, report
+from lines import runs, sentences, shown, structures, suppressions, what
 
-MOST_ROWS = 20
+MOST_ROWS, MOST_ON_PAGE = 20, 5000
 
 
 def name_of(run, core):
@@ -18,25 +17,6 @@ def name_of(run, core):
     if run.process:
         return f"{name} (pid {run.process})" if name else f"process {run.process}"
     return f"{name} (core {run.core})" if name and run.core else run.core or name or "the process"
-
-
-def lost_in_words(counts, tops, run, effect):
-    """What was lost, in words. A search that may have missed something is no answer where it found nothing."""
-    sums, at_both = counts["leaked"], " at both moments" if run.has_two_moments else ""
-    if not sums["blocks"]:
-        return f"none found lost{at_both}, but the search is not complete" if effect >= remarks.HIDES else f"none lost{at_both}"
-    in_structures = f", in {counted(tops, 'structure')}" if tops is not None else ""
-    return f"{sums['blocks']:,} lost{at_both}, {plain(sums['bytes'])}{in_structures}"
-
-
-def sentence(name, counts, tops, run, effect):
-    """What a report of leaks says. What is in use is left out where the log lacks blocks."""
-    text = lost_in_words(counts, tops, run, effect)
-    if effect >= remarks.LACKS:
-        return f"{name}: {text} (of the blocks that could be searched)"
-    if not counts["blocks"]["blocks"]:
-        return f"{name}: no block in use"
-    return f"{name}: {counted(counts['blocks']['blocks'], 'block')}, {plain(counts['blocks']['bytes'])} in use; {text}"
 
 
 def next_if_none(run):
@@ -110,7 +90,9 @@ def facts_of(asked):
 
 
 class Part(NamedTuple):
-    """The parts of a report: its sentence by what the remarks mean, whether something is lost, tables and lists, and what to do next."""
+    """The parts of a report: the process, the sentence by what the remarks mean, whether something is lost, tables and lists, and what to do
+    next."""
+    name: str
     head: Callable
     is_lost: bool
     below: list
@@ -123,7 +105,8 @@ def about_leaks(asked, read, files, run, sheet):
     groups, tops, name = lost.groups_of(read, facts), tops_of(read, facts), name_of(run, inputs.beside(asked.path, ".core"))
     below = [lost.table_of(groups, facts, read, files, (asked.most or MOST_ROWS, sheet)), lost.listed(read, facts) if run.has_list else [],
              [shown.escaped(part.line) for part in read.parts if part.line.startswith("misfit ")], chains_of(asked, groups, facts or lost.NONE)]
-    return Part(lambda effect: sentence(name, counts, tops, run, effect), counts["leaked"]["blocks"] > 0, below, next_line(run, kind, counts))
+    return Part(name, lambda effect: sentences.leaks(counts, tops, run.has_two_moments, effect), counts["leaked"]["blocks"] > 0, below,
+                next_line(run, kind, counts))
 
 
 def about_growth(asked, read, files, run, sheet):
@@ -132,7 +115,7 @@ def about_growth(asked, read, files, run, sheet):
     kind, name = logs.read(inputs.beside(asked.path, ".log")), name_of(run, inputs.beside(asked.path, ".core"))
     below = [grown.table_of(found, gone, facts_of(asked) or lost.NONE, files, (asked, asked.most or MOST_ROWS, sheet)),
              grown.holders_table(asked.path, files, sheet)]
-    return Part(lambda effect: grown.sentence(name, found, run.seconds, effect < remarks.LACKS), found.lost.blocks > 0, below,
+    return Part(name, lambda effect: grown.sentence(found, run.seconds, effect < remarks.LACKS), found.lost.blocks > 0, below,
                 f"Next: {next_if_grown(run, kind, found)}.")
 
 
@@ -145,8 +128,31 @@ def lines_of(asked):
         raise options.Refused("leak_lines: this is no report of leaks")
     files = inputs.sources_of(asked.path, asked.log, asked)
     part = (about_growth if run.way == "grow" else about_leaks)(asked, read, files, run, sheet)
+    pages = parts_of_page(asked, read, files, run) if asked.page is not None else []
     said = remarks.read([*run.said, *(f"leak_lines: {it}" for it in (*files.notes(), *limited.said))], counts)
-    lines = [sheet.painted(line, "lost" if part.is_lost else "head") for line in sheet.wrapped(part.head(said.effect))]
+    head, end = part.head(said.effect), [part.following, *stood_in_words(said.stood)]
+    if asked.page is not None:
+        html.write(asked.page, html.page(part.name, [head, *end], said.warnings, pages))
+    lines = [sheet.painted(line, "lost" if part.is_lost else "head") for line in sheet.wrapped(f"{part.name}: {head}")]
     lines += [line for group in part.below if group for line in [""] + group]
-    lines += [""] + [sheet.painted(line, "next") for line in sheet.wrapped(part.following)] + stood_in_words(said.stood)
+    lines += [""] + [sheet.painted(line, "next") for line in sheet.wrapped(part.following)] + end[1:]
     return lines + [sheet.painted(line, "warning") for it in said.warnings for line in sheet.wrapped(it)]
+
+
+def named(said, read, files):
+    """The part of the page with the first rows of a report, of which this is said."""
+    kind = report.kind_of(read)
+    rows = read.rows.get(kind, [])
+    found = callers.name({kind: rows[:MOST_ON_PAGE]}, suppressions.read_files([]), files)
+    return html.part_of(read, found._replace(what=callers.What(*said)), len(rows))
+
+
+def parts_of_page(asked, read, files, run):
+    """The parts of the page: what was lost, what grew between two moments, and who holds the memory."""
+    facts = what.read(inputs.read_lines(asked.what), asked.what) if asked.what is not None else None
+    lost_rows, said = structures.grouped(read, facts) if facts is not None else (read, {})
+    parts = [named((said, facts.of_block if facts else {}), lost_rows, files)]
+    for ending in (".grow", ".holders"):
+        path = inputs.beside(asked.path, ending) if ending[1:] in run.parts else None
+        parts += [named(({}, {}), report.read(inputs.read_lines(path)), files)] if path else []
+    return parts

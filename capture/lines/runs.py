@@ -14,6 +14,7 @@ class Run(NamedTuple):
     seconds: int = 0  # between two moments
     kept: str = ""  # the folder in which the files stay
     has_list: bool = False  # whether blocks are listed
+    parts: tuple = ()  # what a page has beside what was lost: "grow" and "holders", reports beside that one
     said: tuple = ()  # what the programs said
 
     @property
@@ -34,6 +35,8 @@ def read(path):
         word, _, text = line.partition(" ")
         if word == "said":
             run = run._replace(said=run.said + (text,))
+        elif word == "part":
+            run = run._replace(parts=run.parts + (text,))
         elif word == "list":
             run = run._replace(has_list=True)
         elif word in ("process", "core", "way", "kept"):

@@ -38,6 +38,7 @@ about() {
     [ -z "$first_at" ] || echo "seconds $((second_at - first_at))"
     [ -z "$keep" ] || printf 'kept %s\n' "$(shown "$keep")"
     [ -z "$list" ] || echo list
+    for each in $parts; do echo "part $each"; done
     sed 's/^/said /' "$heard"
 }
 
@@ -45,7 +46,8 @@ about() {
 show_person() {
     about "$1" > "$folder/dump.about" || exit 2
     eval "set -- $lines_words"
-    run "$here/leak_lines" --plain "$folder/dump.about" "$@" "$folder/dump.report"
+    [ -z "$html" ] || set -- --html "$html" "$@"
+    run "$here/leak_lines" --plain "$folder/dump.about" "$@" "$folder/dump.report" 2>&4
     shown_by=$?
     rm -f -- "$folder/dump.about"
     [ $shown_by -ne 0 ] && [ $shown_by -lt 128 ] || return 0

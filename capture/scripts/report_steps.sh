@@ -65,11 +65,16 @@ check_found() {
     [ $found -lt 4 ] || fail "leak_find ended with status $found: there is no whole report"
 }
 
-# Makes dump.grow, of what grew since the first dump, and dump.holders, of who holds it.
+# Makes dump.holders, and if there are two moments dump.grow, for a report of what grew, and for a page. Who holds what grew is by what is new.
 compare() {
-    into "$folder/dump.grow" "$finder" grow "$after/dump.log" "$folder/dump.log"
-    check_found $?
-    holders --since "$after/dump.log"
+    [ "$grows$html" ] || return 0
+    parts=holders
+    if [ "$after" ]; then
+        parts='grow holders'
+        into "$folder/dump.grow" "$finder" grow "$after/dump.log" "$folder/dump.log"
+        check_found $?
+    fi
+    holders ${grows:+--since "$after/dump.log"}
 }
 
 # holders WORD..: makes dump.holders, by the options of the search, which are but one those of holders too.

@@ -12,6 +12,7 @@ report  --grow           dumps the process twice, and tells what grew between, h
 report  --for TIME       how long --attach and --grow wait, as 90s, 10m or 2h [10m]
 report  --list           prints each lost block too
 report  --raw            prints the lines of leak_find, with names: for scripts
+report  --html FILE      writes a page too: what was lost, what grew if there are two moments, and who holds the memory
 report  --version        says which version this is
 dump    --whole-stack    keeps what lies below the stack pointers, which hides leaks
 dump    --no-calls       makes no system call in the process's threads, and so does not know their alternate signal stacks
@@ -64,6 +65,7 @@ take() {
     --after) after=$2 ;;
     --list) list=1 ;;
     --raw) raw=1 ;;
+    --html) html=$2 ;;
     --files) files=1 ;;
     --root)
         lines_words="$lines_words$(quoted "$@")"
@@ -92,7 +94,7 @@ seconds_of() {
 
 # read_words WORD..: reads the options, which may stand behind the operands too. These are in `operands`.
 read_words() {
-    keep='' after='' list='' raw='' files='' attaches='' grows='' seconds=600 dump_words='' find_words='' lines_words='' what_words='' operands=''
+    keep='' after='' list='' raw='' html='' files='' attaches='' grows='' seconds=600 dump_words='' find_words='' lines_words='' what_words='' operands=''
     while [ $# -gt 0 ]; do
         case $1 in
         -h | --help) usage help ;;

@@ -60,11 +60,14 @@ if [ "$attaches" ]; then
     process=$!
     started[$process]=1
     sleep 1
-    grown bare --for 2s --keep bare $process
+    grown bare --for 2s --keep bare --html grown.html $process
     verdict 'not prepared: new blocks, and those that are lost' "1 $(new_of bare | cut -d ' ' -f 1,2)" "$status $(said_of bare.out)"
     verdict 'not prepared: what is held, and by whom' '1 1' \
         "$(grep -cE '^ *\+[0-9.]+ KB +[0-9]+ +[0-9.]+ KB +(blocks of 200 bytes|struct session)$' bare.out) $(grep -cE 'one is held by sessions, through [0-9]+ other blocks' bare.out)"
     verdict 'not prepared: what the lost ones are' 1 "$(grep -c 'lost: begins "HTTP/1.1 200 OK, and 7 more"' bare.out)"
+    verdict 'the page: what was lost, what grew, and who holds the memory' 'structures grow holders' \
+        "$(python3 -c 'import json, re, sys
+print(*(it["report"] for it in json.loads(re.search("id=\"data\">(.*?)</script>", open("grown.html").read(), re.DOTALL)[1])["parts"]))')"
     verdict 'not prepared: what to do next' 1 "$(grep -c "^Next: leak_report --grow $process --attach --for 10m shows which functions allocate what grows\.$" bare.out)"
     grown attached --attach --for 2s $process
     verdict 'attached: functions' '1 1 1' "$status $(grep -cE '^ *\+[0-9.]+ KB +.* +add_session +.*grows\.c:' attached.out) $(grep -cE '^ *\+[0-9.]+ KB +.* +lose_answer +.*grows\.c:' attached.out)"
@@ -91,7 +94,7 @@ if [ "$attaches" ]; then
 
     start ./plain
     grown still --for 1s $process
-    verdict 'what does not grow' "plain (pid $process): did not grow; no block is new" "$(sed -n '1s/ in [0-9]* seconds, .*;/;/p' still.out)"
+    verdict 'what does not grow' "plain (pid $process): did not grow; no block is new" "$(sed -n '1s/ in [0-9]* seconds*, .*;/;/p' still.out)"
     verdict 'what does not grow: what to do next' 1 "$(grep -c "^Next: wait longer: leak_report --grow $process --for 2h\.$" still.out)"
     verdict 'no table' 0 "$(grep -c 'grew  ' still.out)"
     stop $process

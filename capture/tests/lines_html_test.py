@@ -1,6 +1,7 @@
 """Tests of leak_lines --html: names in a report are only text on the page, and all of the report is there. No browser is needed."""
 import json
 import os
+import re
 import sys
 import unittest
 from html.parser import HTMLParser
@@ -37,11 +38,12 @@ class Parts(HTMLParser):
 
 
 def page_of(lines, *patterns):
-    """The page of the report of these lines, with these suppressions, its data, and the callers that are found."""
+    """The page of the report of these lines, with these suppressions, the data of its one part and its texts, and the callers that are found."""
     read = report.read(lines)
     found = callers.name(read.rows, suppressions.Suppressions(patterns))
     parts = Parts("\n".join(html.lines_of(read, found)))
-    return parts, json.loads(parts.scripts[0]), found
+    texts = json.loads(parts.scripts[0])
+    return parts, {**texts["parts"][0], **{name: texts[name] for name in ("title", "head", "warnings")}}, found
 
 
 def leaks(names):
@@ -59,7 +61,8 @@ class Pages(unittest.TestCase):
             told = name.encode("utf-8", "surrogateescape").decode("utf-8", "replace")
             self.assertEqual(data["frames"][0][3], told)
             self.assertEqual(data["frames"][0][0], told + "+1c")
-            self.assertEqual(data["warnings"], [f"leak_find: warning: {told}"])
+            self.assertEqual(len(data["warnings"]), 1)
+            self.assertTrue(data["warnings"][0].startswith("Warning: ") and data["warnings"][0].isprintable())
 
     def test_the_data_has_no_letter_that_ends_it(self):
         text = Parts("\n".join(html.lines_of(report.read(leaks(HOSTILE)), page_of(leaks(HOSTILE))[2]))).scripts[0]
@@ -101,12 +104,23 @@ class Pages(unittest.TestCase):
     def test_warnings_are_of_counts_above_zero(self):
         lines = ["undumped 4096", "unknown 0 displaced 3 torn 1", "leaked 0 bytes 0", "heads 0", "misfits 2"]
         _, data, _ = page_of(lines)
-        self.assertEqual([text.split(" ")[0] for text in data["warnings"]], ["4096", "3", "1", "2"])
+        self.assertEqual([re.sub("[^0-9]", "", text) for text in data["warnings"]], ["4096", "3", "", "2"])
+        self.assertEqual(data["head"], ["None found lost, but the search is not complete (of the blocks that could be searched)"])
         self.assertEqual(data["callers"], [])
         self.assertEqual(page_of(leaks(["f"]))[1]["warnings"], [])
 
+    def test_the_head_is_in_plain_words(self):
+        _, data, _ = page_of(leaks(["f"]))
+        self.assertEqual((data["title"], data["head"]), ("leak_find", ["9 blocks, 100 bytes in use; 1 lost, 1 byte"]))
+        grew = ["then 5 bytes 100", "now 7 bytes 2100", "new 3 bytes 2040", "grew 2000 1 2 3 4 5 6 /x/b:[0x1]"]
+        self.assertEqual(page_of(grew)[1]["head"], ["Grew by 2.0 KB, to 7 blocks, 2.1 KB in use; 3 blocks, 2.0 KB, are new"])
+        holders = ["new 3 bytes 50", "marked 6 bytes 2500", "leaked 0 bytes 0", "holder 6 1250 3 72 0 0x10100 /x/app:[0x99]"]
+        self.assertEqual(page_of(holders)[1]["head"], ["6 blocks, 2.5 KB are held; of 3 new blocks, 50 bytes"])
+        self.assertEqual(page_of(["asked 0x10 1 1 x", "held 2 bytes 30", "in 2 30 /x/b:[0x1]"])[1]["head"], ["2 blocks, 30 bytes are held"])
+
     def test_what_is_suppressed_is_counted(self):
         _, data, _ = page_of(leaks(["f", "g", "h"]), "^g$")
+        self.assertEqual(data["head"][1:], ["1 block, 2 bytes are suppressed"])
         self.assertEqual(data["suppressed"], {"blocks": 1, "bytes": 2})
         self.assertEqual([frame[3] for frame in data["frames"]], ["f", "main", "h"])
 

@@ -38,8 +38,17 @@ raw_of() {
     "$kit/leak_lines" --pid "$2" "${@:3}" "$1/dump.report" | sed -e '/^leak /d' -e '/^what /d'
 }
 
-# widest FILE: the longest line without colors.
-widest() { sed 's/\x1b\[[0-9;]*m//g; s/\r$//' "$1" | awk '{ if (length > most) most = length } END { print most }'; }
+# parts_of PAGE: the reports that the page has, and its title with the first line of its head. head_of PAGE: its head.
+parts_of() { data_of "$1" 'print(*(it["report"] for it in page["parts"]), page["title"] + ": " + page["head"][0])'; }
+head_of() { data_of "$1" 'print("\n".join(page["head"]))'; }
+data_of() {
+    python3 -c 'import json, re, sys
+page = json.loads(re.search("id=\"data\">(.*?)</script>", open(sys.argv[1], encoding="utf-8").read(), re.DOTALL)[1])
+exec(sys.argv[2])' "$1" "$2"
+}
+
+# widest FILE: the longest line without colors, and without progress, which is written over.
+widest() { sed 's/\x1b\[[0-9;]*m//g; s/\r$//; s/.*\r\x1b\[K//' "$1" | awk '{ if (length > most) most = length } END { print most }'; }
 
 if [ "$attaches" ]; then
     unprepared ./what_blocks
@@ -73,6 +82,23 @@ if [ "$attaches" ]; then
     script -qec "stty cols 70; NO_COLOR=1 TMPDIR=$work/temporary TERM=xterm '$kit/leak_report' $process" /dev/null < /dev/null > wide.out
     verdict 'on a terminal: NO_COLOR' 0 "$(grep -c $'\x1b\\[[0-9;]*m' wide.out)"
     verdict 'into a file: neither' 0 "$(grep -c $'\x1b' living.out)"
+
+    printf '#!/bin/sh\n[ "$1" = --version ] || [ "$2" = /dev/null ] || sleep 4\nexec "%s" "$@"\n' "$finder" > slow && chmod +x slow
+    script -qec "LEAK_FIND=$work/slow TMPDIR=$work/temporary '$kit/leak_report' $process > slow.out" /dev/null < /dev/null > slow.said
+    verdict 'progress of what takes more than two seconds' 'yes 1' \
+        "$(grep -qE 'leak_report: searches for what is lost \([2-9] s\)' slow.said && echo yes) $(head -n 1 slow.out | grep -c ' lost, ')"
+    verdict 'and none before' '' "$(grep -oE '\([01] s\)' slow.said)"
+    LEAK_FIND=$work/slow told quiet $process
+    verdict 'no progress where standard error is no terminal' '' "$(cat quiet.said)"
+    told page --html page.html $process
+    verdict 'a page: what was lost, and who holds the memory' "structures holders $(head -n 1 page.out)" "$(parts_of page.html)"
+    told page --after living --html page.html $process
+    verdict 'a page of two moments: what grew too' "structures grow holders $(head -n 1 page.out)" "$(parts_of page.html)"
+    verdict 'no zeros in its head' 0 "$(head_of page.html | grep -cE '(^|[^0-9.,])0 ')"
+    told wrong --html none/page.html $process
+    verdict 'a page that nobody can write' '2 leak_report: cannot write none/page.html ' "$status $(cat wrong.said) $(cat wrong.out)"
+    told wrong --raw --html page.html $process
+    verdict 'a page and lines for scripts' 2 $status
 
     mkdir -p no_python && printf '#!/bin/sh\nexit 127\n' > no_python/python3 && chmod +x no_python/python3
     PATH=$PWD/no_python:$PATH told unnamed $process

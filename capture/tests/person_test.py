@@ -9,7 +9,7 @@ import tempfile
 import unittest
 
 sys.path.insert(0, os.path.join(os.path.dirname(os.path.abspath(__file__)), ".."))
-from lines import columns, logs, lost, paper, person, remarks, report, runs, units, what  # noqa: E402
+from lines import columns, logs, lost, paper, person, remarks, report, runs, sentences, units, what  # noqa: E402
 
 LINES = os.path.join(os.path.dirname(os.path.abspath(__file__)), "..", "leak_lines")
 COUNTS = {"blocks": {"blocks": 12, "bytes": 1728}, "leaked": {"blocks": 6, "bytes": 576}}
@@ -71,7 +71,7 @@ class Sentences(unittest.TestCase):
     """The first line."""
 
     def sentence(self, counts=COUNTS, tops=2, run=LIVING, effect=remarks.NOTE):
-        return person.sentence("leaky (pid 4711)", counts, tops, run, effect)
+        return "leaky (pid 4711): " + sentences.leaks(counts, tops, run.has_two_moments, effect)
 
     def test_what_is_lost(self):
         self.assertEqual(self.sentence(), "leaky (pid 4711): 12 blocks, 1.7 KB in use; 6 lost, 576 bytes, in 2 structures")
@@ -233,6 +233,13 @@ class Places(unittest.TestCase):
                        about=["process 4711", "list", f"said leak_walk: undumped: 5 bytes of {HOSTILE}: why", f"said odd {HOSTILE}"])
         self.assertEqual({it for it in text if not it.isprintable()}, {"\n"})
         self.assertIn("\\x1b[2J\\n\\xff\\\\x (pid 4711)", text)
+        with tempfile.TemporaryDirectory() as folder:
+            words = written(folder, lines=lines, name=b"</script>\x1b\xff", about=["core </script>", "said odd </script>" + HOSTILE])
+            page = os.path.join(folder, "page")
+            subprocess.run([LINES, "--html", page, *words], check=True, stdout=subprocess.DEVNULL)
+            with open(page, encoding="utf-8") as file:
+                text = file.read()
+            self.assertEqual((text.count("</script>"), {it for it in text if not it.isprintable()}), (2, {"\n"}))
         odd = printed(about=[f"core {HOSTILE}", f"kept {HOSTILE}"], name=b"")
         self.assertEqual({it for it in odd if not it.isprintable()}, {"\n"})
 
