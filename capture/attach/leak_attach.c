@@ -26,11 +26,11 @@ static const double USUAL_SECONDS = 10;
 const char tracer_name[] = "leak_attach", what_is_not[] = "the process may be attached already: leak_trace --detach ends that";
 
 static const char USAGE[] = "usage: leak_attach [-d DEPTH] PID | leak_attach --detach PID\n", HELP[] =
-    "Keeps the callers of each block that a running process allocates from now on. leak_trace calls it.\n\n"
-    "  PID       the process: one of yours, or as root any; it stands still for a moment\n"
-    "  -d DEPTH  how many callers a block has, 1 to 32 [8]\n"
+    "Records the callers of each block that a running process allocates from now on. leak_trace calls it.\n\n"
+    "  PID       one of your processes; any process, as root; it stands still for a moment\n"
+    "  -d DEPTH  how many callers to record for each block, 1 to 32 [8]\n"
     "  --detach  ends that, and gives the process its own code back\n\n"
-    "status: 0, or 2 with a line on standard error and an unchanged process\n";
+    "status: 0; 2 with a line on standard error and an unchanged process\n";
 
 static struct target target;
 static volatile sig_atomic_t asked_to_end;

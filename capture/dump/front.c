@@ -63,7 +63,7 @@ static bool is_overdue(double more_ms)
 void end_if_overdue(void)
 {
     if (is_overdue(0))
-        fail("the process stood still for %g s (--hold) and goes on: the disk or its own memory did not answer; %s",
+        fail("the process stood still for %g s (--hold) and was resumed: the disk or its own memory did not answer; %s",
              shared->seconds, what_is_not);
 }
 

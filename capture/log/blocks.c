@@ -46,13 +46,13 @@ struct blocks read_table(struct file file, const struct core *core)
     blocks.kept_out = kept_out_bytes(core, head);
     blocks.is_more_kept_out = head->kept_out_missed && !core->is_whole;
     if (head->missed)
-        warn("%llu blocks found no place in the table (%s): leaks among them are not named", (unsigned long long)head->missed,
+        warn("%llu blocks found no place in the table (%s): leaks among them are not reported", (unsigned long long)head->missed,
              head->refused ? strerror(head->refused) : "it is full");
     if (moving)
-        warn("%zu blocks are just being moved by realloc: nobody knows where to, so that the table tells no freed memory", moving);
+        warn("%zu blocks are just being moved by realloc, to places that are not known yet: the table has no freed memory", moving);
     blocks.knows_freed = !moving && !head->missed;
     if (dropped)
-        warn("%zu blocks were freed behind leak_trace's back: others of those may be named wrongly", dropped);
+        warn("%zu blocks were freed behind leak_trace's back: others like them may be false positives", dropped);
     return blocks;
 }
 

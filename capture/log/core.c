@@ -117,7 +117,7 @@ void tell_undumped(const struct core *core, const struct table_head *head)
             own += p.p_memsz;
     }
     if (own)
-        warn("undumped: of %llu bytes %llu are leak_trace's own, where no pointer is missed; %llu are the program's",
+        warn("undumped: of %llu bytes %llu are leak_trace's own, and hold none of the program's pointers; %llu are the program's",
              (unsigned long long)all, (unsigned long long)own, (unsigned long long)(all - own));
     tell_undumped_files(core->file, &core->parts, core->is_whole, is_own);
 }

@@ -7,12 +7,13 @@
 #include "log.h"
 
 const char program[] = "leak_log", usage[] = "usage: leak_log CORE TABLE [--after LOG] | leak_log --version\n", help[] =
-    "Writes to standard output a log of the blocks that a table of leak_trace has, for leak_find. leak_dump calls it.\n\n"
-    "  CORE         a core of the process, of the moment of the table\n"
+    "Writes to standard output a log of the blocks in a table of leak_trace, for leak_find. leak_dump calls it.\n\n"
+    "  CORE         a core of the process, from the moment of the table\n"
     "  TABLE        a copy of the table\n"
-    "  --after LOG  writes LOG first, made of an earlier table of the same process, and then what came and went since\n"
-    "  --version    says which version this is\n\n"
-    "status: 0, or 2 if there is no log, with a line on standard error\n";
+    "  --after LOG  writes LOG first, made from an earlier table of the same process, and then what was allocated and\n"
+    "               freed since\n"
+    "  --version    prints the version\n\n"
+    "status: 0; 2 if there is no log, with a line on standard error\n";
 
 /* Writes the ends of the old blocks that are gone, and gives the new ones. A block of the earlier log is still
  * live if the later table has its start with a stamp of that time. Both ascend by start. */
@@ -54,8 +55,8 @@ static void tell_kept_out(const struct blocks *blocks)
     if (!blocks->kept_out && !blocks->is_more_kept_out)
         return;
     put_remark("kept out ", blocks->kept_out);
-    warn("the program keeps %s%llu bytes out of cores (MADV_DONTDUMP), which this core lacks, though it may not say so (undumped): "
-         "what they alone hold is named; leak_core has them", blocks->is_more_kept_out ? "more than " : "",
+    warn("the program keeps %s%llu bytes out of cores (MADV_DONTDUMP), which this core lacks, though undumped may not count them: "
+         "blocks that only they point to are false positives; leak_dump PID has them", blocks->is_more_kept_out ? "more than " : "",
          (unsigned long long)blocks->kept_out);
 }
 

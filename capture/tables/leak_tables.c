@@ -12,12 +12,12 @@ const char program[] = "leak_tables",
            usage[] = "usage: leak_tables --list [--all] NAME | --remove NAME | --of PID | --lacks TABLE | --version\n", help[] =
     "Shows the tables that leak_trace keeps, or removes those of dead processes. leak_trace and leak_dump call it.\n\n"
     "  NAME      the name of the tables, in which %p is a number\n"
-    "  --list    shows those of one's own and of processes that live\n"
+    "  --list    shows your own and those of living processes\n"
     "  --all     shows all\n"
     "  --remove  removes those whose processes are dead; what may live in another container stays\n"
-    "  --of      tells the table that a process writes\n"
-    "  --lacks   tells why a table has not all blocks\n"
-    "  --version says which version this is\n\n"
+    "  --of      prints the table that a process writes\n"
+    "  --lacks   prints why a table lacks blocks\n"
+    "  --version prints the version\n\n"
     "status: 0; 1 if there is none, or one can't be removed; 2 with a line on standard error\n";
 
 int main(int count, char **words)

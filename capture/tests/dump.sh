@@ -100,7 +100,7 @@ wait $dumper
 verdict 'a limit on the size of files' 'leak_core: limited.core: File too large' \
     "$( (ulimit -f 20; "$kit/leak_core" "$kinds" limited.core 2>&1; ls limited.core* 2> /dev/null) | grep -v 'stood still')"
 if mkdir tiny && mount -t tmpfs -o size=40k tmpfs tiny 2> /dev/null; then
-    verdict 'no room on the disk' "leak_core: tiny/x.core: no room: $("$kit/leak_core" --size "$kinds") bytes are needed, and 40960 free" \
+    verdict 'no room on the disk' "leak_core: tiny/x.core: no space: $("$kit/leak_core" --size "$kinds") bytes are needed, 40960 are free" \
         "$("$kit/leak_core" "$kinds" tiny/x.core 2>&1; ls tiny)"
     umount tiny
 else
@@ -114,8 +114,8 @@ else
 fi
 verdict 'no process' 'leak_core: no process 4194304' "$("$kit/leak_core" 4194304 none.core 2>&1)"
 [ "$(cat /proc/2/comm 2> /dev/null)" != kthreadd ] ||
-    verdict 'a thread of the kernel' 'leak_core: process 2 has no memory of its own: it is a thread of the kernel, or ends' "$("$kit/leak_core" 2 none.core 2>&1)"
-verdict 'no number' "leak_core: '12x' is no number of a process" "$("$kit/leak_core" 12x none.core 2>&1)"
+    verdict 'a thread of the kernel' 'leak_core: process 2 has no memory of its own: it is a kernel thread, or is exiting' "$("$kit/leak_core" 2 none.core 2>&1)"
+verdict 'no number' "leak_core: '12x' is not a PID" "$("$kit/leak_core" 12x none.core 2>&1)"
 kill -STOP "$kinds"
 until_true 5 has_states "$kinds" "$(echo "$before" | tr S T)"
 core_of "$kinds" stopped.core

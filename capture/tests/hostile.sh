@@ -65,7 +65,7 @@ for place in 'make 35' 'ask_for_room 17'; do
     dumps_to hung "$kit/leak_core" --hold 1
     verdict "a disk that hangs ($what): the process goes on after --hold" yes "$(freed_within 20 "$held")"
     ends "a disk that hangs ($what): the dump ends"
-    verdict "a disk that hangs ($what): one line says why" 'leak_core: the process stood still for 1 s (--hold) and goes on' "$(cut -d : -f 1,2 held.said)"
+    verdict "a disk that hangs ($what): one line says why" 'leak_core: the process stood still for 1 s (--hold) and was resumed' "$(cut -d : -f 1,2 held.said)"
     dumps_to hung "$kit/leak_core"
     kill "$dumper"
     verdict "a disk that hangs ($what): SIGTERM frees the process at once" yes "$(freed_within 5 "$held")"
@@ -85,7 +85,7 @@ for step in 'the mappings are read' 'a file is made'; do
     LEAK_CORE_HANG=$step dumps_to . ./faulty --hold 1
     verdict "a dump that hangs when $step ends after --hold" yes "$(freed_within 20 "$held")"
     ends "it has status 2, when $step"
-    verdict "one line says why, when $step" 'leak_core: the process stood still for 1 s (--hold) and goes on' "$(sed '/^hangs/d; s/ on: .*/ on/' held.said)"
+    verdict "one line says why, when $step" 'leak_core: the process stood still for 1 s (--hold) and was resumed' "$(sed '/^hangs/d; s/ resumed: .*/ resumed/' held.said)"
     LEAK_CORE_HANG=$step dumps_to . ./faulty
     until_true 10 grep -q '^hangs' held.said
     kill "$dumper"
@@ -167,7 +167,7 @@ exec 8<&-
 section names for a terminal
 cp faulty $'red\033[31m'
 LEAK_CORE_WAIT=3 dumps_to . $'./red\033[31m'
-verdict "a tracer's name is escaped" "leak_core: process $held is under a debugger or tracer already: process $(pgrep -P "$dumper") (red\\x1b[31m) must let it go first" \
+verdict "a tracer's name is escaped" "leak_core: process $held is under a debugger or tracer already: process $(pgrep -P "$dumper") (red\\x1b[31m) must detach first" \
     "$("$kit/leak_core" "$held" y.core 2>&1)"
 kill "$dumper"
 ends 'and that tracer ends'

@@ -66,8 +66,8 @@ if [ "$attaches" ]; then
         TMPDIR=$work/remains limited 60 remains_tools/leak_$command > held.out 2> held.said
         status=$?
         verdict "leak_${command%% *} --hold: the status, what is said, the files" \
-            '2 leak_core: the process stood still for 1 s (--hold) and goes on ' \
-            "$status $(grep '^leak_core' held.said | sed 's/ on: .*/ on/') $(ls remains)"
+            '2 leak_core: the process stood still for 1 s (--hold) and was resumed ' \
+            "$status $(grep '^leak_core' held.said | sed 's/ resumed: .*/ resumed/') $(ls remains)"
     done
     unset LEAK_CORE_HANG
     for lines in 1 3; do

@@ -13,17 +13,19 @@ enum { COMPLETE = 0, PARTIAL = 1 };
 const char program[] = "leak_walk",
     usage[] = "usage: leak_walk [--partial] [--quiet] [--names TABLE] [--after LOG] CORE | leak_walk --arenas CORE | "
               "leak_walk --unused TABLE CORE | leak_walk --version\n", help[] =
-    "Writes to standard output a log of the blocks that were in use in the heap of glibc's malloc, or of another allocator that it\n"
+    "Writes to standard output a log of the blocks in use in the heap of glibc's malloc, or of another allocator that it\n"
     "knows, for leak_find.\n\n"
     "  CORE            a core of the process: by leak_core, gcore or the kernel\n"
-    "  --names TABLE   tells who asked for blocks, by a table of leak_trace of the same moment\n"
-    "  --after LOG     writes LOG first, made of an earlier core of the same process, and then what came and went since\n"
+    "  --names TABLE   adds callers from a table of leak_trace of the same moment\n"
+    "  --after LOG     writes LOG first, made from an earlier core of the same process, and then what was allocated and\n"
+    "                  freed since\n"
     "  --partial       goes on if the heap is damaged, and says what is left out\n"
-    "  --arenas        writes of the heap only where malloc's own lists begin, as freed memory\n"
-    "  --unused TABLE  writes what was free too, if heap and table agree on the blocks\n"
-    "  --quiet         does not say how many blocks, arenas and free chunks there are\n"
-    "  --version       says which version this is\n\n"
-    "status: 0; 1 if --partial left something out, or a thread was at work on something; 2 if there is no log, with a line on standard error\n";
+    "  --arenas        writes only where malloc's own lists begin, as freed memory\n"
+    "  --unused TABLE  also writes what was free, if heap and table agree on the blocks\n"
+    "  --quiet         does not print how many blocks, arenas and free chunks there are\n"
+    "  --version       prints the version\n\n"
+    "status: 0; 1 if --partial left something out, or a thread was inside the allocator; 2 if there is no log, with a line\n"
+    "on standard error\n";
 
 static int may_be_partial, is_partial;
 

@@ -9,17 +9,17 @@
 const char program[] = "leak_what",
            usage[] = "usage: leak_what [--root DIR].. CORE LOG REPORT [ADDRESS..] |\n"
                      "       leak_what --types [--root DIR].. CORE LOG | leak_what --place CORE ADDRESS.. | leak_what --version\n", help[] =
-    "Writes to standard output what the lost blocks of a report are, a line for each fact: the text that a block\n"
-    "begins with, its pointers to functions and variables, the held block that it looks like, and what was\n"
+    "Writes to standard output what the leaked blocks of a report are, a line for each fact: the text that a block\n"
+    "begins with, its pointers to functions and variables, the reachable block that it looks like, and what was\n"
     "lost with it.\n\n"
     "  CORE     a core of the process: by leak_core, gcore or the kernel\n"
     "  LOG      its live blocks: by leak_walk, or by leak_log\n"
-    "  REPORT   what leak_find says of them\n"
-    "  ADDRESS  tells of the blocks with these addresses alone, lost or held\n"
+    "  REPORT   leak_find's report of them\n"
+    "  ADDRESS  describes only the blocks at these addresses, leaked or reachable\n"
     "  --types  copies the log with the types of blocks in place of their sizes, by the debug information of files\n"
-    "  --place  tells which symbol, file or stack has each address\n"
+    "  --place  prints which symbol, file or stack has each address\n"
     "  --root   looks for the files that the process had mapped below DIR first, as a process with that root would\n"
-    "  --version  says which version this is\n\n"
+    "  --version  prints the version\n\n"
     "status: 0; 2 if there is no answer, with a line on standard error\n";
 
 static long lost_place(const struct structures *s, long block)
