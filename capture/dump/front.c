@@ -138,7 +138,7 @@ static void kill_child(pid_t child, int asked)
     if (asked)
         dprintf(STDERR_FILENO, "%s: ended by signal %d: %s\n", tracer_name, asked, what_is_not);
     else
-        dprintf(STDERR_FILENO, "%s: the process stood still for %g s (--hold) and goes on: %s\n", tracer_name,
+        dprintf(STDERR_FILENO, "%s: the process stood still for %g s (--hold) and was resumed: %s\n", tracer_name,
                 (double)shared->seconds, what_is_not);
 }
 

@@ -102,7 +102,7 @@ if [ "$attaches" ]; then
         limited 120 "$kit/leak_dump" $process remains/d2 2> said
         verdict 'with the sticky bit' '0 d2.core d2.log d2.table' "$? $(cd remains && echo d2.*)"
     fi
-    verdict 'the earlier dump is not written over' '2 leak_dump: remains/d1 is the earlier dump, and would be lost yes' \
+    verdict 'the earlier dump is not written over' '2 leak_dump: remains/d1 is the earlier dump, and would be overwritten yes' \
         "$(said=$("$kit/leak_dump" --after remains/d1 $process remains/d1 2>&1); echo "$? $said") $([ -s remains/d1.log ] && echo yes)"
     stop $process
 fi
