@@ -94,7 +94,7 @@ for i in $(seq 2 3 $((steps - 2))); do try_step KILL "$i"; done > faults
 verdict 'SIGKILL at every third step leaves no core' '' "$(cat faults)"
 wait_at 12 "$kinds" bad.core
 verdict 'a process under a debugger' "leak_core: process $kinds is under a debugger or tracer already: process $(pgrep -P $dumper) (faulty) must \
-let it go first" "$("$kit/leak_core" "$kinds" other.core 2>&1)"
+detach first" "$("$kit/leak_core" "$kinds" other.core 2>&1)"
 kill $dumper
 wait $dumper
 verdict 'a limit on the size of files' 'leak_core: limited.core: File too large' \
