@@ -50,6 +50,7 @@ rounds() {
 rounds 'four threads' 4 100000
 rounds 'signals and children' 3 80000 signals children
 LEAK_TRACE_FORK=1 rounds 'children that are traced' 2 80000 children
+rounds 'programs by vfork, and files that come and go' 3 60000 spawns modules
 
 section what is lost after
 rm -f in && mkfifo in

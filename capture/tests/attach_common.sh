@@ -1,13 +1,14 @@
 # What the tests of attaching share.
 trace=$kit/leak_trace
-# whole: what a process has for code, and for mappings without those of the library: a sum.
+# whole: what a process has for code (but of libm, which comes and goes), and for mappings without those of the
+# library: a sum.
 cat > whole.py << 'END'
 import hashlib, re, sys
 sums, kept = hashlib.md5(), []
 with open(f"/proc/{sys.argv[1]}/maps") as maps, open(f"/proc/{sys.argv[1]}/mem", "rb") as memory:
     for line in maps:
         start, end, rights, path = re.match(r"(\w+)-(\w+) (....) \S+ \S+ \S+ *(.*)", line).groups()
-        if rights.startswith("r-x") and path.startswith("/") and "memfd" not in path:
+        if rights.startswith("r-x") and path.startswith("/") and "memfd" not in path and "/libm.so" not in path:
             memory.seek(int(start, 16))
             sums.update(memory.read(int(end, 16) - int(start, 16)))
         if len(sys.argv) > 2 and "[" not in path:

@@ -1,17 +1,21 @@
-# What is hard to attach: loaded in an unusual way, on an unusual stack, in a container. Each is attached and detached, or
-# refused and as it was.
+# What is hard to attach: loaded in an unusual way, on an unusual stack, in a container. Each is attached and
+# detached, or refused and as it was.
 . "$kit/tests/attach_common.sh"
 build kinds.c
-build attached.c
+rm -f table.*
 gcc -shared -fPIC -O1 -g -o module.so "$kit/tests/module.c"
 # asks PID: has it do what it does at SIGUSR1.
-asks() { kill -USR1 "$1" && until_true 30 grep -qsx done kinds.out || { echo "it does not: $(cat kinds.out)"; return 1; }; }
+asks() { kill -USR1 "$1" && until_true 30 grep -qsx done kinds.out || echo "it does not: $(cat kinds.out)"; }
+# told WORDS: how often attaching said so.
+told() { grep -c "$1" attach.said; }
+# first_table: whose the first table is, and whether that process lives.
+first_table() { "$trace" --list | awk 'NR == 2 { print $1, $2 }'; }
 # goes NAME: attaches and detaches `process`, whose code is then as it was, and which lives.
 goes() {
     local before
     before=$(whole "$process")
     attach "$process"
-    verdict "$1: attached" '0 1' "$? $(grep -c 'its blocks have callers from now on' attach.said)"
+    verdict "$1: attached" '0 1' "$? $(told 'its blocks have callers from now on')"
     detach "$process"
     verdict "$1: detached, and it lives with its own code" "0 $before" "$? $(whole "$process")"
 }
@@ -26,7 +30,7 @@ verdict 'no static thread-local memory is left' yes \
 before=$(whole "$process")
 attach "$process"
 verdict 'no static thread-local memory: it is told' '2 1' \
-    "$? $(grep -c 'could not load the library, and is as it was: .*cannot allocate memory in static TLS block' attach.said)"
+    "$? $(told 'could not load the library, and is as it was: .*cannot allocate memory in static TLS block')"
 verdict 'no static thread-local memory: it lives with its own code' "$before" "$(whole "$process")"
 verdict 'no static thread-local memory: no table' 0 "$(ls table.* 2> /dev/null | wc -l)"
 stop "$process"
@@ -38,7 +42,8 @@ sleep 1
 limited 120 "$kit/leak_dump" "$process" "$work/bind" 2> bind.said
 search bind
 verdict 'RTLD_DEEPBIND: what its module loses has callers there' yes \
-    "$(awk '$1 == "leak" && $3 >= 61 && $3 <= 72 && !/module\.so:\[/ { wrong = 1 } $1 == "leak" && /module\.so:\[/ { right = 1 }
+    "$(awk '$1 == "leak" && $3 >= 61 && $3 <= 72 && !/module\.so:\[/ { wrong = 1 }
+            $1 == "leak" && /module\.so:\[/ { right = 1 }
             END { print right && !wrong ? "yes" : right " " wrong }' bind.report)"
 detach "$process"
 stop "$process"
@@ -71,7 +76,7 @@ detach "$process"
 verdict 'no thread can be called: detached, and the file stays' \
     '0 1' "$? $(grep -c "no thread could be called, so the table's file stays" detach.said)"
 verdict 'no thread can be called: it lives with its own code' "$before" "$(whole "$process")"
-verdict 'no thread can be called: the table has ended' "$process ended" "$("$trace" --list | awk 'NR == 2 { print $1, $2 }')"
+verdict 'no thread can be called: the table has ended' "$process ended" "$(first_table)"
 limited 60 "$trace" --remove > /dev/null
 verdict 'no thread can be called: its table can be removed' 0 "$(ls table.* 2> /dev/null | wc -l)"
 stop "$process"
@@ -93,7 +98,8 @@ if [ "$(id -u)" = 0 ] && unshare -m mount --bind status "/proc/$process/task/$pr
     limited 60 unshare -m sh -c 'mount --bind status "/proc/$0/task/$0/status" && exec "$@"' \
         "$process" "$trace" --attach "$process" 2> shadow.said
     verdict 'refused: a shadow stack, as Linux 6.6 tells of one' \
-        "2 leak_attach: thread $process of process $process has a shadow stack, which knows nothing of the jumps" "$? $(cat shadow.said)"
+        "2 leak_attach: thread $process of process $process has a shadow stack, which knows nothing of the jumps" \
+        "$? $(cat shadow.said)"
     verdict 'refused: a shadow stack: it is as it was' "$before" "$(whole "$process" mappings)"
 else
     leave_out 'a shadow stack: no file can be mounted over one of /proc here'
@@ -101,7 +107,8 @@ fi
 stop "$process"
 
 section namespaces
-# in_namespace OPTION..: runs `kinds` in a pid namespace, by unshare with these options. `outside` is the process that made it.
+# in_namespace OPTION..: runs `kinds` in a pid namespace, by unshare with these options. `outside` is the process
+# that made it.
 in_namespace() {
     rm -f kinds.out
     unshare "$@" > kinds.out 2>&1 & outside=$!
@@ -115,7 +122,7 @@ if [ "$(id -u)" = 0 ] && unshare -p -m -f --mount-proc true 2> /dev/null; then
     goes 'a pid namespace with its own /proc'
     attach "$process"
     verdict 'a pid namespace: its table has its own number' table.1 "$(ls table.*)"
-    verdict "a pid namespace: the table is the process's" "$process live" "$("$trace" --list | awk 'NR == 2 { print $1, $2 }')"
+    verdict "a pid namespace: the table is the process's" "$process live" "$(first_table)"
     detach "$process"
     verdict 'a pid namespace: no table is left' 0 "$(ls table.* 2> /dev/null | wc -l)"
     stop "$process" $outside
@@ -130,7 +137,7 @@ if [ "$(id -u)" = 0 ] && unshare -p -m -f --mount-proc true 2> /dev/null; then
     before=$(whole "$process")
     attach "$process"
     verdict 'a pid namespace with the /proc of another: it is told' \
-        '2 1' "$? $(grep -c 'could not load the library, and is as it was: .*/proc/self/fd/' attach.said)"
+        '2 1' "$? $(told 'could not load the library, and is as it was: .*/proc/self/fd/')"
     verdict 'a pid namespace with the /proc of another: it lives with its own code' "$before" "$(whole "$process")"
     stop "$process" $outside
 else

@@ -1,5 +1,5 @@
-# Processes that lie to leak_trace --attach: of what their libc has, and of its code. Each is refused in time, and is as it
-# was. And the first instructions of functions, as objdump has them.
+# Processes that lie to leak_trace --attach: of what their libc has, and of its code. Each is refused in time, and
+# is as it was. And the first instructions of functions, as objdump has them.
 . "$kit/tests/attach_common.sh"
 section the first instructions of functions
 gcc -std=gnu11 -O1 -g -fsanitize=address,undefined "$kit"/tests/moved.c "$kit"/attach/{decode,moved}.c -o moved 2> cc ||
@@ -54,7 +54,8 @@ refused 'a malloc in a file whose name has two lines' "has another allocator, of
 stop "$process"
 python3 -B "$kit/tests/lying.py" count lies/many.so
 be_ready lying ./lying "${true_libc[@]}" lies/many.so
-refused 'a file whose symbols are too many to look for a malloc' 'lies/many.so has more symbols than are looked at' "$process"
+refused 'a file whose symbols are too many to look for a malloc' 'lies/many.so has more symbols than are looked at' \
+    "$process"
 stop "$process"
 be_ready lying ./lying "${true_libc[@]}" lies/old/libc.so.6
 refused 'two C libraries' 'has two C libraries' "$process"

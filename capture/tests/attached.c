@@ -1,7 +1,11 @@
-/* Threads that allocate in all ways, a fixed number of times, and check what their blocks have; besides a signal's handler that allocates, children
- * by fork, and short threads. What it prints depends on the seed alone. `attached THREADS ROUNDS [signals] [children]`. */
+/* Threads that allocate in all ways, a fixed number of times, and check what their blocks have; besides a signal's
+ * handler that allocates, children by fork, programs by posix_spawn (vfork), files by dlopen, and short threads.
+ * What it prints depends on the seed alone. `attached THREADS ROUNDS [signals] [children] [spawns] [modules]
+ * [passes]`: with passes, again and again until there is a file named end. */
+#include <dlfcn.h>
 #include <pthread.h>
 #include <signal.h>
+#include <spawn.h>
 #include <stdint.h>
 #include <stdio.h>
 #include <sys/time.h>
@@ -9,7 +13,8 @@
 #include "lose.h"
 enum { SLOTS = 64, MOST = 6000 };
 static unsigned long rounds;
-static int has_children;
+static int has_children, has_spawns, has_modules;
+extern char **environ;
 static volatile sig_atomic_t handled;
 
 static uint32_t next(uint32_t *seed) { return (*seed = *seed * 1103515245 + 12345) >> 8; }
@@ -49,6 +54,23 @@ static int child(unsigned char **slots, const size_t *sizes)
     _exit(sum);
 }
 
+static unsigned long spawn(void)
+{
+    char *words[] = { "true", NULL };
+    pid_t pid;
+    int status = -1;
+    if (!posix_spawnp(&pid, "true", NULL, NULL, words, environ))
+        waitpid(pid, &status, 0);
+    return status;
+}
+
+static unsigned long load(void)
+{
+    void *library = dlopen("libm.so.6", RTLD_NOW | RTLD_LOCAL);
+    int is_there = library && dlsym(library, "cos");
+    return is_there + 2 * !dlclose(library);
+}
+
 static unsigned long once(uint32_t *seed, unsigned char **slots, size_t *sizes, unsigned long k)
 {
     uint32_t at = next(seed) % SLOTS, how = next(seed), size = 1 + next(seed) % MOST;
@@ -71,6 +93,10 @@ static unsigned long once(uint32_t *seed, unsigned char **slots, size_t *sizes, 
         waitpid(pid, &status, 0);
         sum += WIFEXITED(status) ? WEXITSTATUS(status) : 100000;
     }
+    if (has_spawns && k % 2000 == 13)
+        sum += spawn();
+    if (has_modules && k % 100 == 17)
+        sum += load();
     return sum;
 }
 
@@ -81,6 +107,7 @@ static void *work(void *number)
     unsigned char *slots[SLOTS] = { NULL };
     size_t sizes[SLOTS] = { 0 };
     unsigned long *sum = sums + (uintptr_t)number;
+    *sum = 0;
     for (unsigned long k = 0; k < rounds; k++)
         *sum = *sum * 31 + once(&seed, slots, sizes, k);
     for (int i = 0; i < SLOTS; i++)
@@ -106,28 +133,47 @@ static void *take_signals(void *unused)
     return NULL;
 }
 
-int main(int count, char **words)
+/* A line of the sums of all threads, or a line for each. */
+static void pass(size_t threads, const char *end)
 {
-    size_t threads = strtoul(words[1], NULL, 10);
-    pthread_t list[64], other;
-    rounds = strtoul(words[2], NULL, 10);
-    for (int i = 3; i < count; i++) {
-        struct itimerval often = { { 0, 2000 }, { 0, 2000 } };
-        has_children |= !strcmp(words[i], "children");
-        if (!strcmp(words[i], "signals")) {
-            signal(SIGALRM, handle);
-            setitimer(ITIMER_REAL, &often, NULL);
-            pthread_create(&other, NULL, take_signals, NULL);
-        }
-    }
-    puts("ready");
-    fflush(stdout);
+    pthread_t list[64];
     for (size_t i = 0; i < threads; i++)
         pthread_create(list + i, NULL, work, (void *)i);
     for (size_t i = 0; i < threads; i++) {
         void *sum;
         pthread_join(list[i], &sum);
-        printf("%zu %lu\n", i, *(unsigned long *)sum);
+        printf("%zu %lu%s", i, *(unsigned long *)sum, i + 1 < threads ? end : "\n");
     }
+    fflush(stdout);
+}
+
+static void begin_signals(void)
+{
+    struct itimerval often = { { 0, 2000 }, { 0, 2000 } };
+    pthread_t other;
+    signal(SIGALRM, handle);
+    setitimer(ITIMER_REAL, &often, NULL);
+    pthread_create(&other, NULL, take_signals, NULL);
+}
+
+int main(int count, char **words)
+{
+    size_t threads = strtoul(words[1], NULL, 10);
+    int has_passes = 0;
+    rounds = strtoul(words[2], NULL, 10);
+    for (int i = 3; i < count; i++) {
+        has_children |= !strcmp(words[i], "children");
+        has_spawns |= !strcmp(words[i], "spawns");
+        has_modules |= !strcmp(words[i], "modules");
+        has_passes |= !strcmp(words[i], "passes");
+        if (!strcmp(words[i], "signals"))
+            begin_signals();
+    }
+    if (!has_passes)
+        puts("ready");
+    fflush(stdout);
+    do
+        pass(threads, has_passes ? " " : "\n");
+    while (has_passes && access("end", F_OK));
     return 7;
 }

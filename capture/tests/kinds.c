@@ -1,11 +1,11 @@
-/* Programs that are hard to attach, each of which allocates all the time. At SIGUSR1 some do what they could not have done
- * before, and say `done`.
+/* Programs that are hard to attach, each of which allocates all the time. At SIGUSR1 some do what they could not have
+ * done before, and say `done`.
  *   tls FILE..    loads files until there is no room for thread-local memory that is static
  *   bind FILE     loads a file that finds its symbols in itself first, and has it lose blocks from SIGUSR1 on
  *   data FILE..   maps files as data
  *   space FILE    loads the file into a namespace of its own, at SIGUSR1
  *   lent          goes on on a stack that it made, at SIGUSR1
- *   deep          has an address among malloc's first instructions far up its stack, as where a signal's handler returns to
+ *   deep          has an address among malloc's first instructions far up its stack, as one to which a handler returns
  *   sharer        shares its memory with a process
  *   named NAME    has that name */
 #define _GNU_SOURCE

@@ -1,6 +1,6 @@
-/* Maps files as code, each as a C library would be: `lying [served FILE] [times N] FILE..`. The first file lies at a known
- * place. Below it is memory that is no code, above it memory that is shared. The last is mapped N times. Of the served one
- * nobody supplies the pages (userfaultfd(2)). */
+/* Maps files as code, each as a C library would be: `lying [served FILE] [times N] FILE..`. The first file lies at
+ * a known place. Below it is memory that is no code, above it memory that is shared. The last is mapped N times. Of
+ * the served one nobody supplies the pages (userfaultfd(2)). */
 #define _GNU_SOURCE
 #include <fcntl.h>
 #include <linux/userfaultfd.h>

@@ -1,4 +1,4 @@
-"""Writes files that say to be a C library, for a process that maps them: lying.py KIND FILE.. What lies is in KIND's name."""
+"""Writes files that say to be a C library, for a process that maps them: lying.py KIND FILE.."""
 import struct
 import sys
 
@@ -58,15 +58,19 @@ def content(lies):
     count, room = lies.get("count", len(table) // 24), lies.get("room", 0x5000)
     strings_at = room - PAGE
     where = lies.get("hash_at", HASH)
-    hash_of = struct.pack(f"<{len(lies['gnu'])}I", *lies["gnu"]) if "gnu" in lies else struct.pack("<IIII", 1, count, 1, 0)
-    entries = [(DT_GNU_HASH if "gnu" in lies else DT_HASH, where), (DT_STRTAB, strings_at), (DT_STRSZ, lies.get("string_bytes", len(text))),
-               (DT_SYMTAB, lies.get("symbols_at", SYMBOLS)), (0, 0)]
+    words = lies.get("gnu", (1, count, 1, 0))
+    hash_of = struct.pack(f"<{len(words)}I", *words)
+    entries = [(DT_GNU_HASH if "gnu" in lies else DT_HASH, where), (DT_STRTAB, strings_at),
+               (DT_STRSZ, lies.get("string_bytes", len(text))), (DT_SYMTAB, lies.get("symbols_at", SYMBOLS)), (0, 0)]
     dynamic = b"".join(struct.pack("<QQ", *entry) for entry in entries)
-    head = struct.pack("<16sHHIQQQIHHHHHH", b"\x7fELF\2\1\1", 3, 62, 1, 0, lies.get("header_at", 64), 0, 0, 64, 56, 2, 64, 0, 0)
+    at = lies.get("header_at", 64)
+    head = struct.pack("<16sHHIQQQIHHHHHH", b"\x7fELF\2\1\1", 3, 62, 1, 0, at, 0, 0, 64, 56, 2, 64, 0, 0)
     head += struct.pack("<IIQQQQQQ", 1, 5, 0, 0, 0, room, room, PAGE)
-    head += struct.pack("<IIQQQQQQ", 2, 4, DYNAMIC, DYNAMIC, DYNAMIC, len(dynamic), lies.get("dynamic_bytes", len(dynamic)), 8)
+    head += struct.pack("<IIQQQQQQ", 2, 4, DYNAMIC, DYNAMIC, DYNAMIC, len(dynamic),
+                        lies.get("dynamic_bytes", len(dynamic)), 8)
     file = bytearray(room)
-    for at, what in ((0, head), (DYNAMIC, dynamic), (where, hash_of), (CODE, code_of(lies)), (SYMBOLS, table), (strings_at, text)):
+    for at, what in ((0, head), (DYNAMIC, dynamic), (where, hash_of), (CODE, code_of(lies)), (SYMBOLS, table),
+                     (strings_at, text)):
         file[at:at + len(what)] = what
     return bytes(file)
 

@@ -1,6 +1,6 @@
-/* What attach/decode.c and moved.c make of code. Reads lines FROM SIZE TO HEX: a function's address and size, where its
- * first instructions are to go, and its bytes. Prints for each how long its first instruction is, where in it an address
- * relative to rip is and how long one of a jump is, how many bytes are taken, and what they become. */
+/* What attach/decode.c and moved.c make of code. Reads lines FROM SIZE TO HEX: a function's address and size, where
+ * its first instructions are to go, and its bytes. Prints for each how long its first instruction is, where in it
+ * an address relative to rip is and how long one of a jump is, how many bytes are taken, and what they become. */
 #include <inttypes.h>
 #include <stdio.h>
 #include <string.h>
