@@ -115,11 +115,15 @@ void give_island_back(struct target *target)
 /* Whether a function begins as it did, or with its jump, which someone who was killed left there. */
 static bool is_as_known(const struct target *target, int k)
 {
+    const uint8_t *was = target->island.saved[k];
     uint8_t now[SAVED_BYTES], jump[JUMP_BYTES];
+    size_t rest = target->island.saved_bytes[k] < SAVED_BYTES ? target->island.saved_bytes[k] : SAVED_BYTES;
 
+    rest = rest > JUMP_BYTES ? rest - JUMP_BYTES : 0;
     get(target, target->island.function[k], now, sizeof now);
     jump_of(target, k, jump);
-    return !memcmp(now, target->island.saved[k], JUMP_BYTES) || !memcmp(now, jump, sizeof jump);
+    return (!memcmp(now, was, JUMP_BYTES) || !memcmp(now, jump, JUMP_BYTES))
+        && !memcmp(now + JUMP_BYTES, was + JUMP_BYTES, rest);
 }
 
 /* The process may run another program by now, or be under a debugger that has a breakpoint there. */

@@ -90,6 +90,7 @@ static bool find_by_maps(struct target *target)
 void read_target(struct target *target)
 {
     free(target->maps.list);
+    free(target->maps.hidden);
     target->maps = read_maps(target->process.witness);
     read_files(target);
 }

@@ -67,6 +67,17 @@ verdict 'a second C library after attaching: no table' 0 "$(ls table.* 2> /dev/n
 refused 'a second C library' 'has two C libraries' "$process"
 stop "$process"
 
+# (its first instruction has seven bytes where glibc is built as Debian's)
+if [ "$(gdb -batch -ex 'x/2i valloc' "$libc" 2> /dev/null | grep -c '+7>')" = 1 ]; then
+    be_ready kinds ./kinds changes
+    goes 'code that is changed later'
+    asks "$process"
+    refused 'code that is changed later' 'the code of valloc has changed' "$process"
+    stop "$process"
+else
+    leave_out 'code that changes: valloc begins otherwise here, or there is no gdb'
+fi
+
 section where its threads are
 be_ready kinds ./kinds lent
 before=$(whole "$process")

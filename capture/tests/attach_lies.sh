@@ -19,10 +19,31 @@ lies() {
         python3 -B "$kit/tests/lying.py" nothing "lies/$kind/ld-linux-x86-64.so.2"
     done
 }
+# A leak_attach that ends at the first access out of bounds.
+gcc -std=gnu11 -O1 -g -pthread -fsanitize=address,undefined -fno-sanitize-recover=all \
+    "$kit"/attach/{leak_attach,attach,plan,detach,island,modules,decode,moved,refuse}.c "$kit"/objects/attach/{gate,library}.o \
+    "$kit"/dump/{stop,refuse,text,memory,maps,served,calls,callable,code,frame,front,apart}.c -o checked 2> cc ||
+    { cat cc >&2; exit 1; }
+export ASAN_OPTIONS=detect_leaks=0    # (it ends soon)
+# in_bounds NAME WORD..: the same by that one: status 2, and one line.
+in_bounds() {
+    limited 60 ./checked "${@:2}" 2> checked.said
+    verdict "$1: nothing is read out of bounds" '2 1' "$? $(wc -l < checked.said)"
+    grep -m 3 -E 'ERROR|runtime error|^ *#[0-4] ' checked.said
+}
+build kinds.c
+be_ready kinds ./kinds
+limited 60 ./checked $process 2> checked.said
+verdict 'attached by one that ends at the first access out of bounds' '0 1' "$? $(grep -c 'from now on' checked.said)"
+limited 60 ./checked --detach $process 2> checked.said
+verdict 'and detached' 0 $?
+stop $process
 while read -r kind why; do
     lies "$kind"
     be_ready lying ./lying lies/"$kind"/{libc.so.6,ld-linux-x86-64.so.2}
-    refused "$kind" "${why/PID/$process}" "$process"
+    refused "$kind" "$why" "$process"
+    in_bounds "$kind" "$process"
+    [[ $kind != *_island ]] || in_bounds "$kind, detaching" --detach "$process"
     stop "$process"
 done << 'END_OF_KINDS'
 old its libc has no dlopen: it is older than glibc 2.34
@@ -30,14 +51,14 @@ nothing its libc has no malloc
 elsewhere its libc says that malloc lies where no code of libc is
 shared its libc says that malloc lies where no code of libc is
 end its libc says that malloc lies where no code of libc is
-nowhere 5 bytes at 0x7f0020000000 can't be read
+nowhere 5 bytes at 0x7f0120000000 can't be read
 count libc.so.6 has more symbols than are looked at
 strings libc.so.6 has more symbols than are looked at
 buckets libc.so.6 has more symbols than are looked at
 chain libc.so.6 has more symbols than are looked at
 odd_chain libc.so.6 has more symbols than are looked at
-cut_chain 4096 bytes at 0x20008000 can't be read
-bloom bytes at 0x820000808 can't be read
+cut_chain 4096 bytes at 0x120008000 can't be read
+bloom bytes at 0x920000808 can't be read
 tables bytes at 0x7f0000000000 can't be read
 dynamic its libc has no dlopen
 headers has no libc.so.6 and ld.so of glibc mapped
@@ -46,6 +67,10 @@ back free jumps into its own first instructions
 back_behind_a_call free jumps into its own first instructions
 back_behind_what_is_unknown realloc jumps into its own first instructions
 unknown the first instructions of malloc are none that can be moved: cc
+zero_island was attached by another build of leak_trace: detach it by that
+full_island was attached by another build of leak_trace: detach it by that
+on_island bytes at 0x4141414141414141 can't be read
+own_island was attached by another build of leak_trace: detach it by that
 END_OF_KINDS
 true_libc=(lies/old/libc.so.6 lies/old/ld-linux-x86-64.so.2)
 python3 -B "$kit/tests/lying.py" malloc $'lies/a\nb.so'

@@ -5,6 +5,7 @@
  *   data FILE..   maps files as data
  *   space FILE    loads the file into a namespace of its own, at SIGUSR1
  *   lent          goes on on a stack that it made, at SIGUSR1
+ *   changes       changes the seventh byte of valloc, at SIGUSR1
  *   deep          has an address among malloc's first instructions far up its stack, as one to which a handler returns
  *   sharer        shares its memory with a process
  *   named NAME    has that name */
@@ -70,6 +71,17 @@ static void work_on(void)
     work(0);
 }
 
+static void change_code(void)
+{
+    char *at = (char *)&valloc;
+    void *page = (void *)((uintptr_t)at & -4096);
+    if (mprotect(page, 8192, PROT_READ | PROT_WRITE | PROT_EXEC))
+        perror("mprotect");
+    at[6] ^= 1;
+    mprotect(page, 8192, PROT_READ | PROT_EXEC);
+    say("done");
+}
+
 static void lend_stack(void)
 {
     static ucontext_t here, there;
@@ -118,6 +130,8 @@ int main(int count, char **words)
     work(strcmp(kind, "bind"));
     if (!strcmp(kind, "space"))
         say(dlmopen(LM_ID_NEWLM, words[2], RTLD_NOW) ? "done" : dlerror());
+    if (!strcmp(kind, "changes"))
+        change_code();
     if (!strcmp(kind, "lent"))
         lend_stack();
     work(0);

@@ -14,7 +14,10 @@
 #include <sys/syscall.h>
 #include <unistd.h>
 
-enum { PAGE = 4096, DATA_AT = 0x10000000, FIRST_AT = 0x20000000, SHARED_AT = 0x30000000, SERVED_PAGES = 16 };
+enum { PAGE = 4096, SERVED_PAGES = 16 };
+
+/* Above all places where the heap may begin. */
+static const uintptr_t DATA_AT = 0x110000000, FIRST_AT = 0x120000000, SHARED_AT = 0x130000000;
 
 static const uint8_t ENTRY[] = { 0x48, 0x83, 0xec, 0x18, 0x31, 0xc0, 0x31, 0xd2 };
 

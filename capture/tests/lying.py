@@ -2,15 +2,17 @@
 import struct
 import sys
 
-PAGE, AT, CODE, SYMBOLS = 4096, 0x20000000, 0x1000, 0x2000
+PAGE, AT, CODE, SYMBOLS = 4096, 0x120000000, 0x1000, 0x2000
 HASH, DYNAMIC = 0x800, 0x400
 GATES = ["malloc", "free", "calloc", "realloc"]
 ENTRY = bytes.fromhex("4883ec18 31c0 31d2").ljust(64, b"\x90")     # sub, xor, xor, nop..
+ISLAND, STUB, MAGIC = 0x5000, 0x6C00, 0x31656C73696B6C61
+JUMP = b"\xe9" + struct.pack("<i", STUB - CODE - 5)
 DT_HASH, DT_STRTAB, DT_SYMTAB, DT_STRSZ, DT_GNU_HASH = 4, 5, 6, 10, 0x6FFFFEF5
 KINDS = {
     "old": {},
-    "elsewhere": {"malloc": 0x10000000 - AT},
-    "shared": {"malloc": 0x30000000 - AT},
+    "elsewhere": {"malloc": 0x110000000 - AT},
+    "shared": {"malloc": 0x130000000 - AT},
     "nowhere": {"malloc": 0x7F0000000000},
     "end": {"malloc": 0x5000 - 8},
     "count": {"count": 0xFFFFFFF0},
@@ -31,6 +33,10 @@ KINDS = {
     "nothing": {"names": []},
     "malloc": {"names": ["malloc"]},
     "much": {"count": 300000, "room": 0x800000},
+    "zero_island": {"code": (0, JUMP), "island": b"\0" * 2048, "room": 0x9000},
+    "full_island": {"code": (0, JUMP), "island": b"\xff" * 2048, "room": 0x9000},
+    "on_island": {"code": (0, JUMP), "island": struct.pack("<Ii", 3, 1) + b"\x41" * 2048, "room": 0x9000},
+    "own_island": {"code": (0, JUMP), "island": struct.pack("<Ii", 2, -1) + b"\x00" * 2048, "room": 0x9000},
 }
 
 
@@ -69,8 +75,9 @@ def content(lies):
     head += struct.pack("<IIQQQQQQ", 2, 4, DYNAMIC, DYNAMIC, DYNAMIC, len(dynamic),
                         lies.get("dynamic_bytes", len(dynamic)), 8)
     file = bytearray(room)
+    island = struct.pack("<Q", MAGIC) + lies["island"] if "island" in lies else b""
     for at, what in ((0, head), (DYNAMIC, dynamic), (where, hash_of), (CODE, code_of(lies)), (SYMBOLS, table),
-                     (strings_at, text)):
+                     (strings_at, text), (ISLAND, island)):
         file[at:at + len(what)] = what
     return bytes(file)
 
