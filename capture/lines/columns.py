@@ -1,4 +1,4 @@
-"""Lays out a table for a person: numbers, and right of them functions with their places, and lines that say what blocks are."""
+"""Lays out a table for a person: numbers, right of them functions with their places, and what blocks are."""
 from typing import NamedTuple
 
 from lines import paper
@@ -7,7 +7,8 @@ GAP, LEAST_TEXT, WIDEST_NAME = "  ", 8, 60
 
 
 class Entry(NamedTuple):
-    """The numbers of a row as texts, its pairs of a function and where it is, and further lines."""
+    """The numbers of a row as texts, its pairs of a function and where it is, and further lines: texts, or pairs of a
+    text and an end that is never cut."""
     cells: list
     places: list
     texts: list
@@ -21,17 +22,26 @@ def numbers_of(titles, entries):
     return [GAP.join(text.rjust(width) for text, width in zip(texts, widths)) + GAP for texts in zip(*columns)]
 
 
+def fitted(text, width):
+    """The text in a line of this width, or in two if its end leaves too little of it."""
+    text, end = (text, "") if isinstance(text, str) else text
+    left = width - paper.columns(end)
+    if width and end and left < 3 * LEAST_TEXT:
+        return [paper.cut(text, width), paper.cut(end.strip(" :"), width)]
+    return [(paper.cut(text, left) if width else text) + end]
+
+
 def texts_of(entry, width, name_width):
     """What stands right of a row's numbers, in lines of a width, or of any if it is 0."""
     lines = []
     for name, where in entry.places:
         begin = paper.padded(paper.cut(name, name_width), name_width) + GAP
         lines.append(begin + paper.cut_before(where, max(width - paper.columns(begin), 2) if width else 0))
-    return lines + [paper.cut(text, width) for text in entry.texts]
+    return lines + [line for text in entry.texts for line in fitted(text, width)]
 
 
 def name_width_of(names, places, width):
-    """The width of the functions, if these are the widths of them and of their places: two fifths at least, and what places leave."""
+    """The width of the functions, by those of their names and places: two fifths at least, and what places leave."""
     wanted = max([len("function"), *names])
     return min(wanted, max(width * 2 // 5, width - len(GAP) - max(places, default=0)) if width else WIDEST_NAME)
 

@@ -1,4 +1,4 @@
-"""Notes of a core: those of one name and type, and who the process was (gABI, Note Section; Linux, struct elf_prpsinfo)."""
+"""Notes of a core by name and type, and who the process was (gABI, Note Section; Linux, struct elf_prpsinfo)."""
 import struct
 from itertools import islice
 
@@ -47,8 +47,8 @@ def notes_of(file):
 
 
 def find(file, name, kind, most):
-    """The descriptor of the first note with this name and type, if it has at most so many bytes; or b"". Of a core that has more notes
-    than any process the first ones are read."""
+    """The descriptor of the first note with this name and type, if it has at most so many bytes; or b"". Of a core that
+    has more notes than any process the first ones are read."""
     for name_size, other, at, size in islice(notes_of(file), MOST_NOTES):
         if (name_size, other) == (len(name), kind) and take(file, at, name_size) == name:
             return (take(file, at + padded(name_size), size) if size <= most else None) or b""

@@ -21,14 +21,15 @@ def new_in_words(found):
     begin = f"of {counted(new.blocks, 'new block')}, {plain(new.size)}, "
     if not gone.blocks or gone == new:
         return begin + ("none is lost" if not gone.blocks else "all are lost")
-    return begin + f"{new.blocks - gone.blocks:,} are held, {plain(new.size - gone.size)}, and {gone.blocks:,} are lost, {plain(gone.size)}"
+    held = f"{new.blocks - gone.blocks:,} are held, {plain(new.size - gone.size)}"
+    return f"{begin}{held}, and {gone.blocks:,} are lost, {plain(gone.size)}"
 
 
 def sentence(found, seconds, is_whole):
     """By how much the process grew. Where not all blocks are known, that is said."""
     begin = sentences.change(found.then.size, found.now.size, f" in {time_in_words(seconds)}")
-    in_use = f", to {counted(found.now.blocks, 'block')}, {plain(found.now.size)} in use" if is_whole else " (of the blocks that could be searched)"
-    return f"{begin}{in_use}; {new_in_words(found)}"
+    in_use = f", to {counted(found.now.blocks, 'block')}, {plain(found.now.size)} in use"
+    return f"{begin}{in_use if is_whole else sentences.OF_KNOWN}; {new_in_words(found)}"
 
 
 def is_shown(row):
@@ -50,12 +51,13 @@ def places_of(text, names):
 
 
 def holder_in_words(dump, address):
-    """What holds the block: the root of a shortest chain, and how many blocks are between, in a list of a line or none."""
+    """The root of a shortest chain to the block, and how many blocks are between, in a list of a line or none."""
     chain = chains.chain_to(dump, address) if dump else []
     if not chain:
         return []
     between = len(chain) - 2
-    return [f"one is held by {chain[0].strip()}" + (f", through {counted(between, 'other block')}" if between > 0 else "")]
+    through = f", through {counted(between, 'other block')}" if between > 0 else ""
+    return [f"one is held by {chain[0].strip()}{through}"]
 
 
 def holders_of(asked, rows, gone):
@@ -71,15 +73,15 @@ def holders_of(asked, rows, gone):
 def about_lost(addresses, facts):
     """What the lost ones of a row are, in a list of a line or none."""
     group = lost.Group("", [], [what.Block(address, size, "") for address, size in addresses])
-    return [f"lost: {line}" for line in lost.about_heads(group, facts)]
+    return [(f"lost: {text}", end) for text, end in lost.about_heads(group, facts)]
 
 
 def entry_of(row, names, below):
     """The entry of a row in the table."""
     places, texts = places_of(row.text, names)
-    cells = [signed_plain(row.growth), f"{row.new.blocks:,}" if row.new.blocks else "", plain(row.held) if row.held else "",
-             plain(row.lost.size) if row.lost.blocks else ""]
-    return columns.Entry(cells, places, texts + below)
+    blocks, held = f"{row.new.blocks:,}" if row.new.blocks else "", plain(row.held) if row.held else ""
+    gone = plain(row.lost.size) if row.lost.blocks else ""
+    return columns.Entry([signed_plain(row.growth), blocks, held, gone], places, texts + below)
 
 
 def names_for(texts, files):
@@ -88,14 +90,17 @@ def names_for(texts, files):
 
 
 def table_of(found, gone, facts, files, asked):
-    """The table of what grew, and a last line of what is left out. `asked` has the options, how many rows there are, and the paper."""
+    """The table of what grew, and a last line of what is left out. `asked` has the options, the most rows, and the
+    paper."""
     options, most, sheet = asked
     rows = [row for row in found.rows if is_shown(row)]
     chosen = rows[:most]
     holders, names = holders_of(options, chosen, gone), names_for([row.text for row in chosen], files)
-    entries = [entry_of(it, names, holders.get(it.text, []) + about_lost(gone.get(it.text, ()), facts)) for it in chosen]
+    below = [holders.get(it.text, []) + about_lost(gone.get(it.text, ()), facts) for it in chosen]
+    entries = [entry_of(it, names, lines) for it, lines in zip(chosen, below)]
     left = rows[len(chosen):]
-    more = f"and {counted(len(left), 'more row')}: {signed_plain(sum(row.growth for row in left))}; -n {len(rows)} shows all"
+    grew = signed_plain(sum(row.growth for row in left))
+    more = f"and {counted(len(left), 'more row')}: {grew}; -n {len(rows)} shows all"
     return columns.lay_out(TITLES, entries, sheet) + ([more] if left else [])
 
 
@@ -105,7 +110,9 @@ def holders_table(path, files, sheet):
     rows = [row for row in read.rows.get("holder", ()) if row.numbers[4] == 0 and row.numbers[1] > row.numbers[3]]
     chosen = rows[:MOST_HOLDERS]
     names = names_for([row.text for row in chosen], files)
-    entries = [columns.Entry([plain(row.numbers[1]), f"{row.numbers[0]:,}"], *places_of(row.text, names)) for row in chosen]
+    entries = [columns.Entry([plain(row.numbers[1]), f"{row.numbers[0]:,}"], *places_of(row.text, names))
+               for row in chosen]
     left = rows[len(chosen):]
     more = [f"and {counted(len(left), 'more holder')}, none of more than {plain(left[0].numbers[1])}"] if left else []
-    return ["Blocks without which other new ones would be lost:", *columns.lay_out(HOLDER_TITLES, entries, sheet), *more] if entries else []
+    lines = columns.lay_out(HOLDER_TITLES, entries, sheet)
+    return ["Blocks without which other new ones would be lost:", *lines, *more] if lines else []

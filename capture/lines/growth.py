@@ -1,6 +1,7 @@
 """What grew between two dumps of a process: by caller, how much of what is new is held, and how much of it is lost.
 
-The second log begins with the first one, so a block is new if its line follows those of the first (docs/FORMAT.md, What grew).
+The second log begins with the first one, so a block is new if its line follows those of the first (docs/FORMAT.md,
+What grew).
 """
 import os
 import re
@@ -35,7 +36,7 @@ class Row(NamedTuple):
 
 
 class Growth(NamedTuple):
-    """The live blocks then and now, the new ones, those of them that are lost, and the rows with the greatest growth first."""
+    """The live blocks then and now, the new ones, the lost ones of these, and rows with the greatest growth first."""
     then: Sums
     now: Sums
     new: Sums
@@ -91,7 +92,8 @@ def rows_of(grew, lost):
 
 
 def read(path, leaks):
-    """The growth that the reports beside the one at this path tell, which has these leaks; and the lost blocks that are new, by text."""
+    """The growth that the reports beside the one at this path tell, which has these leaks; and the new lost blocks, by
+    text."""
     lines = inputs.read_lines(inputs.beside(path, ".grow"))
     lost = lost_since(leaks, lines_in(first_log(path))[0])
     rows = rows_of(report.read(lines).rows.get("grew", ()), lost)
@@ -111,7 +113,7 @@ def new_lines(path, offset):
 
 
 def new_blocks(path, texts, lost):
-    """By text the address of a new block with it that is held, where there is one. `lost` has the lost ones, by text."""
+    """By text the address of a new block with it that is held, where there is one. `lost` has lost ones, by text."""
     wanted = {text.encode("utf-8", "surrogateescape"): text for text in texts}
     gone = {address for blocks in lost.values() for address, _ in blocks}
     found, of_address = {text: {} for text in texts}, {}

@@ -1,4 +1,4 @@
-"""A report as one page of HTML that needs no network: counts, a table and a flame graph. page.html has all but the data."""
+"""Reports as one page of HTML that needs no network: tables and flame graphs. page.html has all but the data."""
 import json
 import os
 from collections import Counter
@@ -31,17 +31,18 @@ def what_of(row, said):
 
 
 def part_of(read, found, count=None):
-    """A report as the script reads it, with all its rows or the first of so many. Callers name their frames, the innermost first, by the
-    places in a list: callers share most of them."""
+    """A report as the script reads it, with all its rows or the first of so many. Callers name their frames, the
+    innermost first, by the places in a list: callers share most of them."""
     kind = report.kind_of(read)
     rows = found.shown.get(kind, [])
     index = {}
     stacks = [[index.setdefault(place, len(index)) for place in row.places] for row in rows]
     columns = document.NAMES[kind][:len(rows[0].row.numbers) if rows else None]
     return {
-        **document.head_of(read, found, kind), "columns": columns, "weight": folded.BYTES[kind], "frames": [frame_of(place) for place in index],
-        "left": max((count or 0) - len(rows), 0),
-        "callers": [{"numbers": row.row.numbers, "address": row.row.address, "frames": stack, "what": what_of(row, found.what)} for row, stack in zip(rows, stacks)],
+        **document.head_of(read, found, kind), "columns": columns, "weight": folded.BYTES[kind],
+        "frames": [frame_of(place) for place in index], "left": max((count or 0) - len(rows), 0),
+        "callers": [{"numbers": row.row.numbers, "address": row.row.address, "frames": stack,
+                     "what": what_of(row, found.what)} for row, stack in zip(rows, stacks)],
     }
 
 
@@ -67,13 +68,15 @@ def head_of(read, found, effect):
     tops = sum(row.row.numbers[2] for row in rows) if rows else None
     blocks, size = found.suppressed_sums()
     sentence = sentences.of_report(kind, document.counts_of(read), tops, effect)
-    return [sentence[:1].upper() + sentence[1:]] * bool(sentence) + [f"{counted(blocks, 'block')}, {plain(size)} are suppressed"] * bool(blocks)
+    suppressed = f"{counted(blocks, 'block')}, {plain(size)} are suppressed" if blocks else ""
+    return [it for it in (sentence[:1].upper() + sentence[1:], suppressed) if it]
 
 
 def lines_of(read, found):
     """The lines of the page of one report."""
     warned = warnings_of(read, found)
-    return page("leak_find", head_of(read, found, warned.effect), warned.warnings, [part_of(read, found)]).removesuffix("\n").split("\n")
+    text = page("leak_find", head_of(read, found, warned.effect), warned.warnings, [part_of(read, found)])
+    return text.removesuffix("\n").split("\n")
 
 
 def write(path, text):

@@ -9,7 +9,8 @@ from lines.options import Refused
 def read_lines(path):
     """The lines of the file, or of standard input. Bytes that are no UTF-8 stay as they are."""
     if path is None and sys.stdin.isatty():
-        print("leak_lines: waits for a report of leak_find on standard input; leak_lines --help says more", file=sys.stderr)
+        print("leak_lines: waits for a report of leak_find on standard input; leak_lines --help says more",
+              file=sys.stderr)
     try:
         with open(path, "rb") if path is not None else sys.stdin.buffer as file:
             text = file.read().decode("utf-8", "surrogateescape")
@@ -25,7 +26,7 @@ def beside(path, ending):
 
 
 def kept_beside(log):
-    """The folder with the files that leak_report --files kept beside the log, in a list, which is empty where there is none."""
+    """The folder with the files that leak_report --files kept beside the log, in a list, which may be empty."""
     name = log.removesuffix(".log") + ".files" if log else ""
     return [name] if os.path.isdir(name) else []
 

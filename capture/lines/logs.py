@@ -4,12 +4,14 @@ from typing import NamedTuple
 
 from lines import builds, opened
 
-REMARK = re.compile(rb"\n= leak_(walk arena|walk heap|log names|log moment|log program static|log allocator [^\n]{1,200})(?![^\n ])")
+REMARK = re.compile(rb"\n= leak_(walk arena|walk heap|log names|log moment|log program static|"
+                    rb"log allocator [^\n]{1,200})(?![^\n ])")
+NAMES = b"log allocator "
 
 
 class Kind(NamedTuple):
-    """Whether the log has callers, those of all blocks or those since a table began; the allocators of its heaps; and whether the
-    program is static."""
+    """Whether the log has callers, those of all blocks or those since a table began; the allocators of its heaps; and
+    whether the program is static."""
     has_callers: bool = False
     allocators: tuple = ()
     is_static: bool = False
@@ -27,10 +29,13 @@ class Kind(NamedTuple):
 
 def read(path):
     """The kind of the log at this path."""
-    found = {}
+    found, allocators = set(), set()
     with opened.open_here(path) as file:
         for part in builds.parts_of(file):
             for remark in REMARK.findall(part):
-                found.setdefault(remark.split(b" allocator ")[0], set()).add(remark.rpartition(b" allocator ")[2].decode("utf-8", "replace"))
-    is_of_heap_alone = bool({b"walk arena", b"walk heap"} & set(found)) and b"log names" not in found and b"log moment" not in found
-    return Kind(not is_of_heap_alone, tuple(sorted(found.get(b"log", ()))), b"log program static" in found)
+                if remark.startswith(NAMES):
+                    allocators.add(remark.removeprefix(NAMES).decode("utf-8", "replace"))
+                else:
+                    found.add(remark)
+    is_of_heap_alone = {b"walk arena", b"walk heap"} & found and not {b"log names", b"log moment"} & found
+    return Kind(not is_of_heap_alone, tuple(sorted(allocators)), b"log program static" in found)

@@ -1,4 +1,4 @@
-"""What was lost, for a person: a row for each kind of structure, with the functions that allocated it, or with what it is."""
+"""What was lost, for a person: a row for each kind of structure, with who allocated it, or with what it is."""
 import re
 from collections import Counter
 from typing import NamedTuple
@@ -6,7 +6,8 @@ from typing import NamedTuple
 from lines import columns, frames, signal_stacks, structures, what
 from lines.units import counted, plain
 
-START = ("_start", "__libc_start_main", "__libc_start_main_impl", "__libc_start_call_main", "start_thread", "clone", "__clone", "clone3", "__clone3")
+START = ("_start", "__libc_start_main", "__libc_start_main_impl", "__libc_start_call_main", "start_thread", "clone",
+         "__clone", "clone3", "__clone3")
 SIZE = re.compile("size [0-9]+")
 MOST_SIZES, WIDEST_FACT = 4, 120
 TITLES = ("lost", "blocks", "structures")
@@ -14,7 +15,8 @@ NONE = what.Facts({}, {}, {})
 
 
 class Group(NamedTuple):
-    """Lost blocks of a row: the text of the log, all of them, and the first ones of its structures, or None where these are not known."""
+    """Lost blocks of a row: the text of the log, all of them, and the first ones of its structures, or None where these
+    are not known."""
     text: str
     blocks: list
     heads: list
@@ -26,13 +28,14 @@ def is_caller(text):
 
 
 def by_structure(blocks, facts):
-    """The groups of lost structures: those of a caller are one, and others are by what tells most of their first blocks."""
+    """The groups of lost structures: those of a caller are one, others are by what tells most of their first blocks."""
     groups = {}
     for it in structures.structures_of(blocks, facts):
         found = facts.of_block.get(it.head.address)
         key = it.head.text, what.most_telling(found).same if found and not is_caller(it.head.text) else None
         groups.setdefault(key, []).append(it)
-    return [Group(text, [block for it in group for block in it.blocks], [it.head for it in group]) for (text, _), group in groups.items()]
+    return [Group(text, [block for it in group for block in it.blocks], [it.head for it in group])
+            for (text, _), group in groups.items()]
 
 
 def by_text(blocks):
@@ -63,7 +66,7 @@ def in_words(fact):
 
 
 def about_heads(group, facts):
-    """What the first blocks of the group's structures have in common, in a list of a line or none."""
+    """What the first blocks of the structures have in common, and how many of them, in a list of a pair or none."""
     known = [(it.address, facts.of_block[it.address]) for it in group.heads if it.address in facts.of_block]
     found = what.shared((address, what.most_telling(of_block)) for address, of_block in known)
     if not found:
@@ -72,7 +75,7 @@ def about_heads(group, facts):
     text = in_words(first.fact)
     text = text if len(text) <= WIDEST_FACT else text[:WIDEST_FACT - 2] + ".."
     others = f" and {counted(first.others, 'other text')}" if first.others else ""
-    return [text + others + (f": {first.count:,} of {len(group.heads):,}" if first.count < len(group.heads) else "")]
+    return [(text, others + (f": {first.count:,} of {len(group.heads):,}" if first.count < len(group.heads) else ""))]
 
 
 def about_sizes(group):
@@ -101,14 +104,16 @@ def entry_of(group, facts, names, marks):
     texts += [] if has_places and len(group.blocks) == 1 else [about_sizes(group)]
     texts += [marks[group.text]] if group.text in marks else []
     places = [place.shown for place in without_start(names.places_of(group.text))] if has_places else []
-    return columns.Entry([plain(bytes_of(group)), f"{len(group.blocks):,}", f"{len(group.heads or ()):,}"], places, texts)
+    numbers = [plain(bytes_of(group)), f"{len(group.blocks):,}", f"{len(group.heads or ()):,}"]
+    return columns.Entry(numbers, places, texts)
 
 
 def rest_of(groups, shown):
     """The last line, of the groups that are not shown, in a list of a line or none."""
     left = groups[shown:]
     size, blocks = sum(map(bytes_of, left)), sum(len(it.blocks) for it in left)
-    return [f"and {counted(len(left), 'more row')}: {plain(size)} in {counted(blocks, 'block')}; -n {len(groups)} shows all"] if left else []
+    line = f"and {counted(len(left), 'more row')}: {plain(size)} in {counted(blocks, 'block')}"
+    return [f"{line}; -n {len(groups)} shows all"] if left else []
 
 
 def listed(read, facts):
@@ -123,7 +128,7 @@ def listed(read, facts):
 
 
 def table_of(groups, facts, read, files, asked):
-    """The table of what was lost, and a last line of what is left out. `asked` has how many rows there are at most, and the paper."""
+    """The table of what was lost, and a last line of what is left out. `asked` has the most rows, and the paper."""
     most, sheet = asked
     chosen = groups[:most]
     names = frames.Names(frames.frames_of_all(it.text for it in chosen if is_caller(it.text)), files)

@@ -39,7 +39,8 @@ def of_output():
         width = os.get_terminal_size(sys.stdout.fileno()).columns
     except OSError:
         width = 0
-    return Paper(max(width or 80, NARROWEST), not os.environ.get("NO_COLOR") and os.environ.get("TERM", "dumb") != "dumb")
+    has_colors = not os.environ.get("NO_COLOR") and os.environ.get("TERM", "dumb") != "dumb"
+    return Paper(max(width or 80, NARROWEST), has_colors)
 
 
 def columns_of(letter):

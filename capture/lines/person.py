@@ -1,10 +1,11 @@
 """A report for a person: a sentence, a table, what to do next, and last what may be wrong with it."""
 from typing import Callable, NamedTuple
 
-from lines import callers, chains, core_notes, document, grown, growth, html, inputs, limited, logs, lost, options, paper, remarks, report
-from lines import runs, sentences, shown, structures, suppressions, what
+from lines import callers, chains, core_notes, document, grown, growth, html, inputs, limited, logs, lost, options
+from lines import paper, remarks, report, runs, sentences, shown, structures, suppressions, what
 
 MOST_ROWS, MOST_ON_PAGE = 20, 5000
+TRACE = "start the program by leak_trace -d 8 PROGRAM: then "
 
 
 def name_of(run, core):
@@ -32,13 +33,14 @@ def next_if_lost(run, kind):
         if kind.is_attachable:
             return f"leak_report --attach {run.process} shows which functions allocate what is lost from now on"
         if kind.is_traceable:
-            return "start the program by leak_trace -d 8 PROGRAM: then this report has the functions that allocated what is lost"
+            return TRACE + "this report has the functions that allocated what is lost"
     if not kind.has_callers and kind.is_traceable and not run.process:
-        return "start the program by leak_trace -d 8 PROGRAM: then a report of its core has the functions that allocated what is lost"
+        return TRACE + "a report of its core has the functions that allocated what is lost"
     if run.process and not run.has_two_moments:
         begin = run.kept or "DIR"
         keep = "" if run.kept else f"leak_report --keep DIR {run.process}, and "
-        return f"compare two moments: {keep}some minutes later leak_report --after {begin} {run.process} shows what is still lost then"
+        later = f"some minutes later leak_report --after {begin} {run.process}"
+        return f"compare two moments: {keep}{later} shows what is still lost then"
     if run.way == "attach" and not kind.has_callers:
         return f"wait longer: leak_report --attach --for 2h {run.process}"
     return f"leak_report --list {run.target} has the address of each lost block, for a debugger"
@@ -52,8 +54,10 @@ def next_if_grown(run, kind, found):
     if not kind.has_callers and kind.is_attachable:
         return f"{again} --attach --for 10m shows which functions allocate what grows"
     if not kind.has_callers and kind.is_traceable:
-        return "start the program by leak_trace -d 8 PROGRAM: then this report has the functions that allocate what grows"
-    return f"leak_report {run.process} shows all that is lost" if found.lost.blocks else f"{again} --html FILE shows all who hold it"
+        return TRACE + "this report has the functions that allocate what grows"
+    if found.lost.blocks:
+        return f"leak_report {run.process} shows all that is lost"
+    return f"{again} --html FILE shows all who hold it"
 
 
 def next_line(run, kind, counts):
@@ -86,12 +90,14 @@ def chains_of(asked, groups, facts):
 
 def facts_of(asked):
     """What leak_what told, but what the structures say too; or None."""
-    return structures.without_held(what.read(inputs.read_lines(asked.what), asked.what)) if asked.what is not None else None
+    if asked.what is None:
+        return None
+    return structures.without_held(what.read(inputs.read_lines(asked.what), asked.what))
 
 
 class Part(NamedTuple):
-    """The parts of a report: the process, the sentence by what the remarks mean, whether something is lost, tables and lists, and what to do
-    next."""
+    """The parts of a report: the process, the sentence by what the remarks mean, whether something is lost, tables and
+    lists, and what to do next."""
     name: str
     head: Callable
     is_lost: bool
@@ -102,21 +108,24 @@ class Part(NamedTuple):
 def about_leaks(asked, read, files, run, sheet):
     """The parts of a report of leaks."""
     facts, counts, kind = facts_of(asked), document.counts_of(read), logs.read(inputs.beside(asked.path, ".log"))
-    groups, tops, name = lost.groups_of(read, facts), tops_of(read, facts), name_of(run, inputs.beside(asked.path, ".core"))
-    below = [lost.table_of(groups, facts, read, files, (asked.most or MOST_ROWS, sheet)), lost.listed(read, facts) if run.has_list else [],
-             [shown.escaped(part.line) for part in read.parts if part.line.startswith("misfit ")], chains_of(asked, groups, facts or lost.NONE)]
-    return Part(name, lambda effect: sentences.leaks(counts, tops, run.has_two_moments, effect), counts["leaked"]["blocks"] > 0, below,
-                next_line(run, kind, counts))
+    groups, tops = lost.groups_of(read, facts), tops_of(read, facts)
+    misfits = [shown.escaped(part.line) for part in read.parts if part.line.startswith("misfit ")]
+    below = [lost.table_of(groups, facts, read, files, (asked.most or MOST_ROWS, sheet)),
+             lost.listed(read, facts) if run.has_list else [], misfits, chains_of(asked, groups, facts or lost.NONE)]
+    return Part(name_of(run, inputs.beside(asked.path, ".core")),
+                lambda effect: sentences.leaks(counts, tops, run.has_two_moments, effect),
+                counts["leaked"]["blocks"] > 0, below, next_line(run, kind, counts))
 
 
 def about_growth(asked, read, files, run, sheet):
     """The parts of a report of what grew."""
     found, gone = growth.read(asked.path, read)
-    kind, name = logs.read(inputs.beside(asked.path, ".log")), name_of(run, inputs.beside(asked.path, ".core"))
-    below = [grown.table_of(found, gone, facts_of(asked) or lost.NONE, files, (asked, asked.most or MOST_ROWS, sheet)),
+    kind, facts = logs.read(inputs.beside(asked.path, ".log")), facts_of(asked) or lost.NONE
+    below = [grown.table_of(found, gone, facts, files, (asked, asked.most or MOST_ROWS, sheet)),
              grown.holders_table(asked.path, files, sheet)]
-    return Part(name, lambda effect: grown.sentence(found, run.seconds, effect < remarks.LACKS), found.lost.blocks > 0, below,
-                f"Next: {next_if_grown(run, kind, found)}.")
+    return Part(name_of(run, inputs.beside(asked.path, ".core")),
+                lambda effect: grown.sentence(found, run.seconds, effect < remarks.LACKS),
+                found.lost.blocks > 0, below, f"Next: {next_if_grown(run, kind, found)}.")
 
 
 def lines_of(asked):

@@ -1,4 +1,4 @@
-"""What the programs of a run said beside their work, for a person: in plain words, each once, and what it means for the answer.
+"""What the programs of a run said beside their work, for a person: in plain words, each once, and what it means.
 
 Own rule: what no rule here knows is a warning, and keeps a search that found nothing from being told as an answer.
 """
@@ -16,7 +16,7 @@ USUAL = tuple(re.compile(it) for it in (
     "leak_dump: the blocks of .* are by leak_trace's table",
     "leak_dump: the blocks of .* are by the heap in the core, and their callers by leak_trace's table, which began.*",
     "leak_dump: now search: .*",
-    "leak_dump: its blocks stand side by side: its heap is not glibc's",
+    "leak_dump: its blocks are adjacent: its heap is not glibc's",
     "leak_dump: the blocks are of .*: its heap is not glibc's",
     "leak_walk: [0-9]+ blocks of [0-9]+ bytes in use[,;] .*",
     "leak_walk: of [0-9]+ blocks of the table the heap has [0-9]+: of these the callers are known",
@@ -31,30 +31,50 @@ STOOD = re.compile("leak_(?:core|attach): process [0-9]+ stood still for ([0-9]+
 WRONG = "what only that memory points to is listed as lost"
 RULES = tuple((re.compile(shape), effect, text) for shape, effect, text in (
     ("leak_(?:walk|log): undumped: ([0-9]+ bytes of .*): (.*)", MISNAMES, "The dump lacks {0} ({1}): " + WRONG + "."),
-    ("leak_core: ([0-9]+ bytes) could not be read: .*", MISNAMES, "The dump lacks {0}, which could not be read: " + WRONG + "."),
+    ("leak_core: ([0-9]+ bytes) could not be read: .*", MISNAMES,
+     "The dump lacks {0}, which could not be read: " + WRONG + "."),
     ("leak_core: ([0-9]+ bytes) are not there, and the program is to supply them .*", MISNAMES,
      "The dump lacks {0} that the program supplies by userfaultfd: " + WRONG + "."),
     ("leak_find: warning: input [12]: ([0-9]+ of [0-9]+) live blocks have no chunk of their size .*", HIDES,
-     "{0} blocks are not in the heap of the core with their size: core and log may be of two moments, or of two processes."),
+     "{0} blocks are not in the core's heap with their size: core and log may be of two moments, or of two processes."),
     ("leak_find: warning: input [12]: no live block.*", HIDES, "There is no block to search."),
-    ("leak_find: warning: input [12]: ([0-9]+) (give-backs of blocks that were not live|allocations over a live block): .*", HIDES,
-     "The list of blocks has {0} {1}: it may be incomplete."),
-    ("leak_find: warning: input [12]: the log ends inside a line.*", HIDES, "The list of blocks is cut off: its last calls are missing."),
+    ("leak_find: warning: input [12]: ([0-9]+) (give-backs of blocks that were not live|allocations over a live "
+     "block): .*", HIDES, "The list of blocks has {0} {1}: it may be incomplete."),
+    ("leak_find: warning: input [12]: the log ends inside a line.*", HIDES,
+     "The list of blocks is cut off: its last calls are missing."),
     ("leak_walk: (.*): ([0-9]+) things are as while a thread changes them, or damaged, the first: (.*)", LACKS,
      "The heap of {0} was being changed during the dump, or is damaged, in {1} places (the first: {2}): dump again."),
-    ("leak_walk: ([0-9]+) (free chunks have no size behind them|lists of free chunks lead nowhere), the first at (0x[0-9a-f]+): .*", LACKS,
-     "The dump came in the middle of a malloc, or the heap is damaged at {2}: dump again."),
+    ("leak_walk: ([0-9]+) (free chunks have no size behind them|lists of free chunks lead nowhere), the first at "
+     "(0x[0-9a-f]+): .*", LACKS, "The dump came in the middle of a malloc, or the heap is damaged at {2}: dump again."),
     ("leak_walk: the blocks of (.*) are not in the log: (.*)", LACKS, "The blocks of {0} were not searched: {1}."),
     ("leak_walk: (.*): its blocks are not in the log", LACKS, "The blocks of {0} were not searched."),
-    ("leak_walk: the log is not complete: ([0-9]+ bytes) of the heap are left out", LACKS, "{0} of the heap were not searched."),
+    ("leak_walk: the log is not complete: ([0-9]+ bytes) of the heap are left out", LACKS,
+     "{0} of the heap were not searched."),
     ("leak_log: ([0-9]+) blocks found no place in the table \\((.*)\\): .*", LACKS,
      "leak_trace had no room for {0} blocks ({1}): leaks among them are missing."),
     ("leak_dump: .*, and their callers by leak_trace's table, which missed ([0-9]+) blocks", NOTE,
      "leak_trace had no room for {0} blocks, so these have no functions."),
     ("leak_log: ([0-9]+) blocks were freed behind leak_trace's back: .*", MISNAMES,
-     "{0} blocks were freed in ways that leak_trace does not see, so some blocks may be listed though they were freed."),
-    ("leak_report: this leak_find was compiled without its proofs (.*)", NOTE, "This leak_find was compiled without its proofs {0}."),
-    ("leak_what failed.*|leak_report: leak_what failed: .*", NOTE, "leak_what failed, so the report does not say what the blocks are."),
+     "{0} blocks were freed in ways that leak_trace does not see, so others may be listed though they were freed."),
+    ("leak_report: this leak_find was compiled without its proofs (.*)", NOTE,
+     "This leak_find was compiled without its proofs {0}."),
+    ("leak_report: leak_what failed: the report .*", NOTE,
+     "leak_what failed, so the report does not say what the blocks are."),
+))
+# What is plain as it is said.
+AS_SAID = tuple((re.compile(shape), effect) for shape, effect in (
+    ("leak_core: of shared memory the core lacks .*", MISNAMES),
+    ("leak_core: of [0-9]+ of [0-9]+ threads it is not known .*", MISNAMES),
+    ("leak_core: [0-9]+ requests of io_uring are in flight: .*", MISNAMES),
+    ("leak_core: the process handed more words to the kernel than were read .*", MISNAMES),
+    ("leak_core: [0-9]+ bytes at 0x[0-9a-f]+ stay mapped in the process", NOTE),
+    ("leak_core: the code of the process could not be read in .*", NOTE),
+    ("leak_log: the program keeps .* out of cores .*", MISNAMES),
+    ("leak_log: [0-9]+ blocks are just being moved by realloc, .*", HIDES),
+    ("leak_log: .* keeps addresses of blocks, so leaks may be hidden .*", HIDES),
+    ("leak_(?:walk|log): undumped: [0-9]+ bytes of further files", MISNAMES),
+    ("leak_(?:walk|log): paths of files are left out of the log .*", NOTE),
+    ("leak_dump: .* has no callers, and so .* has none either: .*", NOTE),
 ))
 OF_NAMES = ("leak_lines: ", "leak_what: ", "leak_types: ")  # who says nothing of what was searched
 PREFIX = re.compile("leak_[a-z]+: (?:warning: )?")
@@ -63,11 +83,11 @@ COUNTED = {
     "unknown": (HIDES, "The list of blocks has {} give-backs of blocks that were not live: it may be incomplete."),
     "displaced": (HIDES, "The list of blocks has {} allocations over a live block: it may be incomplete."),
     "torn": (HIDES, "The list of blocks is cut off: its last calls are missing."),
-    "misfits": (HIDES, "{} blocks are not in the heap of the core with their size: core and log may not belong together."),
+    "misfits": (HIDES, "{} blocks are not in the core's heap with their size: core and log may not belong together."),
 }
 # In a line that says of a count what the count says.
-TOLD = {"undumped": ": undumped: ", "unknown": " give-backs of blocks ", "displaced": " allocations over a ", "torn": "ends inside a line",
-        "misfits": "live blocks have no chunk"}
+TOLD = {"undumped": ": undumped: ", "unknown": " give-backs of blocks ", "displaced": " allocations over a ",
+        "torn": "ends inside a line", "misfits": "live blocks have no chunk"}
 
 
 class Remarks(NamedTuple):
@@ -82,16 +102,22 @@ def as_sentence(text):
     return text[:1].upper() + text[1:] + ("" if text.endswith((".", ")")) else ".")
 
 
-def remark_of(line):
-    """What the line means, and its text; "" of one that a person needs not."""
-    if any(it.fullmatch(line) for it in USUAL) or not line:
+def known(line):
+    """What the line means, and its text, "" of one that a person needs not; or None if no rule knows it."""
+    if any(it.fullmatch(line) for it in (*USUAL, STOOD)) or not line:
         return NOTE, ""
     for shape, effect, text in RULES:
         match = shape.fullmatch(line)
         if match:
             return effect, text.format(*match.groups())
-    text = PREFIX.sub("", line, count=1)
-    return NOTE if line.startswith(OF_NAMES) else LACKS, as_sentence(text)
+    effect = next((effect for shape, effect in AS_SAID if shape.fullmatch(line)), None)
+    effect = NOTE if effect is None and line.startswith(OF_NAMES) else effect
+    return None if effect is None else (effect, as_sentence(PREFIX.sub("", line, count=1)))
+
+
+def remark_of(line):
+    """What the line means, and its text."""
+    return known(line) or (LACKS, as_sentence(PREFIX.sub("", line, count=1)))
 
 
 def of_counts(counts, lines):
@@ -103,9 +129,10 @@ def of_counts(counts, lines):
 def read(lines, counts):
     """The remarks of these lines, and those of the report's counts."""
     stood = [STOOD.fullmatch(line) for line in lines]
-    found = [remark_of(shown.visible(line)) for line, match in zip(lines, stood) if not match]
+    found = [remark_of(shown.visible(line)) for line in lines]
     found += of_counts(counts, lines)
     found = list(dict.fromkeys(it for it in found if it[1]))
-    lines = [f"{'Note' if effect == NOTE else 'Warning'}: {text}" for effect, text in sorted(found, key=lambda it: it[0] == NOTE)]
+    found.sort(key=lambda it: it[0] == NOTE)
+    lines = [f"{'Note' if effect == NOTE else 'Warning'}: {text}" for effect, text in found]
     return Remarks(list(dict.fromkeys(lines)), max((it[0] for it in found), default=NOTE),
                    [int(match[1]) for match in stood if match])

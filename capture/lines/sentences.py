@@ -2,6 +2,8 @@
 from lines import remarks
 from lines.units import counted, plain
 
+OF_KNOWN = " (of the blocks that could be searched)"
+
 
 def blocks_of(count):
     """Blocks with their bytes, as a report counts them."""
@@ -9,10 +11,12 @@ def blocks_of(count):
 
 
 def lost(sums, tops, is_at_both, effect):
-    """What was lost, and in how many structures. A search that may have missed something is no answer where it found nothing."""
+    """What was lost, and in how many structures. A search that may have missed something is no answer where it found
+    nothing."""
     at_both = " at both moments" if is_at_both else ""
     if not sums["blocks"]:
-        return f"none found lost{at_both}, but the search is not complete" if effect >= remarks.HIDES else f"none lost{at_both}"
+        is_answer = effect < remarks.HIDES
+        return f"none lost{at_both}" if is_answer else f"none found lost{at_both}, but the search is not complete"
     in_structures = f", in {counted(tops, 'structure')}" if tops is not None else ""
     return f"{sums['blocks']:,} lost{at_both}, {plain(sums['bytes'])}{in_structures}"
 
@@ -21,7 +25,7 @@ def leaks(counts, tops, is_at_both, effect):
     """What is in use, and what of it was lost. What is in use is left out where the log lacks blocks."""
     text = lost(counts["leaked"], tops, is_at_both, effect)
     if effect >= remarks.LACKS or "blocks" not in counts:
-        return f"{text} (of the blocks that could be searched)"
+        return text + OF_KNOWN
     if not counts["blocks"]["blocks"]:
         return "no block in use"
     return f"{blocks_of(counts['blocks'])} in use; {text}"
@@ -29,8 +33,9 @@ def leaks(counts, tops, is_at_both, effect):
 
 def holders(counts):
     """What is held."""
-    new = f"; of {counted(counts['new']['blocks'], 'new block')}, {plain(counts['new']['bytes'])}" if "new" in counts else ""
-    return f"{blocks_of(counts['marked'])} are held{new}"
+    new = counts.get("new")
+    of_new = f"; of {counted(new['blocks'], 'new block')}, {plain(new['bytes'])}" if new else ""
+    return f"{blocks_of(counts['marked'])} are held{of_new}"
 
 
 def change(then, now, time=""):
@@ -46,10 +51,12 @@ def growth(counts):
         f"{blocks_of(new)}, are new" if new["blocks"] else "no block is new")
 
 
+WANTED = {"holder": ("marked",), "grew": ("then", "now", "new"), "in": ("held",), "by": ("held",)}
+
+
 def of_report(kind, counts, tops, effect):
     """The sentence of a report of this kind, or "" of one that lacks what it would say."""
-    wanted = {"holder": ("marked",), "grew": ("then", "now", "new"), "in": ("held",), "by": ("held",)}.get(kind, ("leaked",))
-    if not all(isinstance(counts.get(word), dict) for word in wanted):
+    if not all(isinstance(counts.get(word), dict) for word in WANTED.get(kind, ("leaked",))):
         return ""
     if kind == "holder":
         return holders(counts)

@@ -1,5 +1,5 @@
-# Progress of leak_report: on a terminal it says what is done, and for how long, once that takes over two seconds. Descriptor 4 is standard
-# error of who asked.
+# Progress of leak_report: on a terminal it says what is done, and for how long, once that takes over two seconds.
+# Descriptor 4 is standard error of who asked.
 
 # seconds_up: since the system started, whatever becomes of its clock.
 seconds_up() { cut -d . -f 1 /proc/uptime; }

@@ -2,7 +2,8 @@
 
 # Prints the lines of a report: with tables by leak_lines, or as they are.
 lines_of() {
-    [ "$keep" ] && hint='' || hint='s/^\(chain to 0x[0-9a-f]*: \)leak_find why .*/\1--why 1 shows it, and --keep DIR keeps the dump for leak_find why/'
+    hint='--why 1 shows it, and --keep DIR keeps the dump for leak_find why'
+    [ "$keep" ] && hint='' || hint="s/^\\(chain to 0x[0-9a-f]*: \\)leak_find why .*/\\1$hint/"
     if [ "$list" ]; then sed -e "$hint" -- "$1"; else sed -e '/^leak /d' -e '/^what /d' -e "$hint" -- "$1"; fi
 }
 

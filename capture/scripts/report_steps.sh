@@ -1,4 +1,4 @@
-# The steps of leak_report: a dump and its log, the search, and what leak_what tells of the blocks. The files are in `folder`.
+# The steps of leak_report: a dump and its log, the search, and what leak_what tells. Files are in `folder`.
 
 # What leak_dump says, but for the search, which is settled here, and for a folder that goes.
 told() {
@@ -23,7 +23,8 @@ dump() {
 
 # Where the log is by the heap: puts types in place of sizes, as far as there is debug information.
 name_types() {
-    [ -x "$here/leak_types" ] && grep -q '^= leak_walk ' "$folder/dump.log" && grep -q '^@ ' "$folder/dump.log" || return 0
+    [ -x "$here/leak_types" ] || return 0
+    grep -q '^= leak_walk ' "$folder/dump.log" && grep -q '^@ ' "$folder/dump.log" || return 0
     eval "set -- $what_words"
     if into "$folder/dump.typed" "$here/leak_what" --types "$@" "$folder/dump.core" "$folder/dump.log"; then
         mv -fT -- "$folder/dump.typed" "$folder/dump.log" || exit 2
@@ -50,7 +51,8 @@ search_options() {
 search() {
     search_options
     set -- one "$folder/dump.core" "$folder/dump.log"
-    [ ! "$after" ] || [ "$grows" ] || set -- two "$after/dump.core" "$after/dump.log" "$folder/dump.core" "$folder/dump.log"
+    [ ! "$after" ] || [ "$grows" ] ||
+        set -- two "$after/dump.core" "$after/dump.log" "$folder/dump.core" "$folder/dump.log"
     eval "set -- \"\$@\" $find_words"
     say "leak_find $1$(printf '%s\n' "$find_words" | tr -d "'")"
     into "$folder/dump.report" "$finder" "$@"
@@ -65,7 +67,8 @@ check_found() {
     [ $found -lt 4 ] || fail "leak_find ended with status $found: there is no whole report"
 }
 
-# Makes dump.holders, and if there are two moments dump.grow, for a report of what grew, and for a page. Who holds what grew is by what is new.
+# Makes dump.holders, and if there are two moments dump.grow, for a report of what grew, and for a page. Who holds what
+# grew is by what is new.
 compare() {
     [ "$grows$html" ] || return 0
     parts=holders
@@ -84,7 +87,8 @@ holders() {
     check_found $?
 }
 
-# Does the report need what leak_what tells? Lines for scripts do if the log is by the heap, which knows no callers, or for structures.
+# Does the report need what leak_what tells? Lines for scripts do if the log is by the heap, which knows no callers, or
+# for structures.
 needs_facts() {
     [ "$raw" ] || return 0
     case $lines_words in
@@ -97,7 +101,8 @@ needs_facts() {
 what() {
     [ $status != 0 ] && needs_facts || return 0
     eval "set -- $what_words"
-    if into "$folder/dump.what" "$here/leak_what" "$@" "$folder/dump.core" "$folder/dump.log" "$folder/dump.report"; then
+    set -- "$@" "$folder/dump.core" "$folder/dump.log" "$folder/dump.report"
+    if into "$folder/dump.what" "$here/leak_what" "$@"; then
         lines_words="$lines_words$(quoted --what "$folder/dump.what")"
     else
         say 'leak_what failed: the report does not say what blocks are'
@@ -109,10 +114,12 @@ what() {
 check_answer() {
     lacks=$(remarks lacks "$folder/dump.log" | tail -n 1)
     if grep -q '^blocks 0 ' "$folder/dump.report" && LC_ALL=C grep -aq '^= leak_log moment ' "$folder/dump.log"; then
-        fail 'the table has no live block. Either the program has a malloc of its own, which passes leak_trace by: build it without; or' \
-            'it allocates nothing: its work may be done by another of its processes, which leak_trace --list shows'
+        fail 'the table has no live block. Either the program has a malloc of its own, which passes leak_trace by:' \
+            'build it without; or it allocates nothing: its work may be done by another of its processes, which' \
+            'leak_trace --list shows'
     elif [ "$lacks" ] && [ $status = 0 ]; then
-        fail "nothing is lost in glibc's heap, but most blocks may be those of $lacks, which were not searched: start the program by leak_trace"
+        fail "nothing is lost in glibc's heap, but most blocks may be those of $lacks, which were not searched:" \
+            'start the program by leak_trace'
     fi
 }
 

@@ -94,7 +94,8 @@ seconds_of() {
 
 # read_words WORD..: reads the options, which may stand behind the operands too. These are in `operands`.
 read_words() {
-    keep='' after='' list='' raw='' html='' files='' attaches='' grows='' seconds=600 dump_words='' find_words='' lines_words='' what_words='' operands=''
+    keep='' after='' list='' raw='' html='' files='' attaches='' grows='' seconds=600 operands=''
+    dump_words='' find_words='' lines_words='' what_words=''
     while [ $# -gt 0 ]; do
         case $1 in
         -h | --help) usage help ;;

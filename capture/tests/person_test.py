@@ -67,6 +67,30 @@ def on_terminal(columns_there, **environment):
         return text.decode().replace("\r\n", "\n")
 
 
+def literals(text, begin):
+    """The string literals that follow each place where the text begins so, joined, with samples for what is put in."""
+    for match in re.finditer(re.escape(begin) + r'((?:"(?:[^"\\]|\\.)*"(?:\s|PRIu64)*)+)', text):
+        parts = re.findall(r'"((?:[^"\\]|\\.)*)"|(PRIu64)', match[1])
+        joined = "".join("7" if number else part for part, number in parts).replace("\\n", "").replace("%7", "7")
+        yield re.sub("%[-.0-9]*(?:s|[lz]*[udxf]|g)", lambda it: "x" if it[0].endswith("s") else "7", joined)
+
+
+def said_by_programs():
+    """A sample of each remark in the sources of leak_core, leak_walk, leak_log and leak_dump."""
+    kit = os.path.dirname(LINES)
+    folders = (("dump", "", 'fprintf(stderr, '), ("walk", "leak_walk: ", "warn("), ("heaps", "leak_walk: ", "warn("), ("log", "leak_log: ", "warn("))
+    for folder, prefix, begin in folders:
+        for name in sorted(os.listdir(os.path.join(kit, folder))):
+            with open(os.path.join(kit, folder, name), encoding="utf-8") as file:
+                yield from (prefix + it for it in literals(file.read(), begin) if (prefix + it).startswith("leak_"))
+    with open(os.path.join(kit, "common", "undumped.c"), encoding="utf-8") as file:
+        yield from ("leak_log: " + it for it in literals(file.read(), "warn("))
+    with open(os.path.join(kit, "leak_dump"), encoding="utf-8") as file:
+        yield from ("leak_dump: " + re.sub(r"\$[a-z_.]+", "x", it) for it in re.findall(r'say "([^"]*)"', file.read()) if "$lacks" not in it)
+    yield "leak_dump: the blocks of x.log are by the heap in the core, and their callers by leak_trace's table, which began at 2026-01-01 10:00:00"
+    yield "leak_dump: the blocks of x.log are by the heap in the core, and their callers by leak_trace's table, which missed 7 blocks"
+
+
 class Sentences(unittest.TestCase):
     """The first line."""
 
@@ -172,6 +196,11 @@ class Remarks(unittest.TestCase):
         self.assertEqual(found, remarks.Remarks(["Warning: Something new happened."], remarks.LACKS, []))
         self.assertEqual(remarks.read(["leak_lines: no names for x"], {}).effect, remarks.NOTE)
 
+    def test_all_that_the_programs_say_is_known(self):
+        found = list(said_by_programs())
+        self.assertGreater(len(found), 30)
+        self.assertEqual([line for line in found if remarks.known(line) is None], [])
+
     def test_what_makes_a_search_incomplete(self):
         for line in ("leak_walk: jemalloc 5.3: 2 things are as while a thread changes them, or damaged, the first: x",
                      "leak_walk: /x/libjemalloc.so.2: its blocks are not in the log", "leak_walk: the blocks of x are not in the log: y",
@@ -266,6 +295,13 @@ class Places(unittest.TestCase):
         self.assertEqual([paper.columns(it) for it in ("ab", "\u4e2d\u6587", "e\u0301")], [2, 4, 1])
         self.assertEqual((paper.cut("\u4e2d\u6587\u4e2d", 5), paper.cut_before("/a/b/c.c:12", 8)), ("\u4e2d..", "..c.c:12"))
         self.assertEqual(paper.Paper(10).wrapped("one two three four"), ["one two", "  three", "  four"])
+
+    def test_how_many_share_a_fact_is_never_cut(self):
+        entry = columns.Entry(["1"], [], [("begins " + "x" * 200, ": 11 of 42")])
+        for width in (100, 40, 30):
+            lines = columns.lay_out(("lost",), [entry], paper.Paper(width))[1:]
+            self.assertTrue("".join(lines).endswith("11 of 42"), lines)
+            self.assertLessEqual(max(map(len, lines)), width)
 
     def test_no_report_is_refused(self):
         with tempfile.TemporaryDirectory() as folder:

@@ -43,7 +43,7 @@ if [ "$attaches" ]; then
     verdict 'attached: and what was lost before has none' yes "$(awk '$5 == "size" && $6 == 56 && $2 >= 50 { print "yes" }' attached.out)"
     verdict 'attached: it is not traced any more' "leak_attach: process $process is not attached" "$("$kit/leak_trace" --detach $process 2>&1)"
     verdict 'attached: no file is left behind' ' ' "$(ls "$work/temporary") $(ls "$work"/table.$process 2> /dev/null)"
-    (exec "$kit/leak_report" --raw --attach --for 10m $process > ended.out 2> ended.said) &
+    (exec env --default-signal=INT "$kit/leak_report" --raw --attach --for 10m $process > ended.out 2> ended.said) &
     reporter=$!
     started[$reporter]=1
     until_true 60 test -e "$work/table.$process"
