@@ -8,25 +8,26 @@ Copies a report of leak_find, with its rows as a table by function, file and lin
 
   REPORT           the report, or standard input
   -n N             shows the first N rows
-  --suppress FILE  leaves out the rows that a suppression in the file names, and with --what the blocks that only they lead to
-  --exit-code      status 1 if leaks are left, 2 if the report is not whole
+  --suppress FILE  leaves out rows that match a suppression in the file, and with --what blocks that only they lead to
+  --exit-code      status 1 if leaks are left, 2 if the report is incomplete
   --since OLD      compares with an older report
-  --no-lines       with it: a function is the same though its lines have moved
+  --no-lines       with it: a function is the same even if its lines have moved
   --folded         stacks for flame graphs
   --json           a document for programs
   --html FILE      writes a page
-  --what FILE      says what the lost blocks are, as leak_what wrote it
-  --structures     with it: a row for each kind of structure that was lost, in place of callers
-  --why N          shows what holds the blocks that those of the first N rows look like, or the first N holders
-  --plain ABOUT    prints a report of leaks for a person, as leak_report does, which makes the file ABOUT
-  --core CORE      the core that leak_find why was asked about: says what a word is that only the kernel holds
-  --log LOG        the log that was searched, which says of which build each file was; NAME.log beside a REPORT
-                   NAME.report is found without it
+  --what FILE      says what the leaked blocks are, as leak_what wrote it
+  --structures     with it: a row for each kind of lost structure, in place of callers
+  --why N          shows the path to blocks that those of the first N rows look like, or to the first N holders
+  --plain ABOUT    prints a report of leaks for a person, as leak_report does, which writes the file ABOUT
+  --core CORE      the core that leak_find why was asked about: says what a word is that only the kernel has
+  --log LOG        the log that was searched, which has the build of each file; NAME.log beside a REPORT NAME.report
+                   is found without it
   --root DIR       looks for files below DIR first, as a process with that root would
   --pid PID        looks then at the files of the process, while it lives
-  --unchecked      names also from files whose build nobody can tell: those without a build-id
-  --copy-files DIR with --pid and --log: copies the files that the log names into the new folder DIR, and does nothing else
-  --version        says which version this is
+  --unchecked      takes names also from files without a build-id, whose build is unknown
+  --copy-files DIR with --pid and --log: copies the files that the log names into the new folder DIR, and does nothing
+                   else
+  --version        prints the version
 
 status: 0, or 1 as above; 2 if there is no answer, with a line on standard error"""
 HELP_WORDS = ("-h", "--help")

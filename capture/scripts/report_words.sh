@@ -5,34 +5,34 @@
 options() {
     cat << 'END'
 report  --keep DIR       keeps core, log and report in the folder
-report  --files          keeps the files that the process has mapped there too, so that names can be had later and elsewhere
-report  --after DIR      tells what was lost at both moments: now, and when DIR was kept
-report  --attach         attaches the process, waits, and tells who asked for what it lost since
-report  --grow           dumps the process twice, and tells what grew between, held or lost, and who holds it
+report  --files          also keeps the files that the process has mapped there, to have names later and elsewhere
+report  --after DIR      reports what was lost at both moments: now, and when DIR was kept
+report  --attach         traces the process from now on, waits, and reports what it lost since, with call stacks
+report  --grow           dumps the process twice, and reports what grew between, reachable or lost, and who retains it
 report  --for TIME       how long --attach and --grow wait, as 90s, 10m or 2h [10m]
-report  --list           prints each lost block too
+report  --list           also prints each lost block
 report  --raw            prints the lines of leak_find, with names: for scripts
-report  --html FILE      writes a page too: what was lost, what grew if there are two moments, and who holds the memory
-report  --version        says which version this is
+report  --html FILE      also writes a page: what was lost, what grew if there are two moments, who retains the memory
+report  --version        prints the version
 dump    --whole-stack    keeps what lies below the stack pointers, which hides leaks
-dump    --no-calls       makes no system call in the process's threads, and so does not know their alternate signal stacks
-dump    --pipes          counts words that wait in pipes as held
-dump    --hold SECONDS   how long the process may stand still, after which there is no report [20, and 1 for each 32 MiB]
+dump    --no-calls       makes no system call in the process's threads; alternate signal stacks are unknown then
+dump    --pipes          counts addresses that wait in pipes
+dump    --hold SECONDS   how long the process may stand still; after that there is no report [20, and 1 for each 32 MiB]
 lines   -n N             shows the first N rows of the table
 lines   --structures     shows a row for each kind of lost structure
-lines   --why N          shows what holds the blocks that those of the first N rows look like
+lines   --why N          shows the path to the reachable blocks that those of the first N rows look like
 lines   --root DIR       looks for the files of the process below DIR first, as in a container's root
-lines   --unchecked      names also from files without a build-id, which nobody can tell from other builds
-find    --skip-freed     leaves out pointers in freed memory [taken if the heap says what was freed]
-find    --skip-links     leaves out the links of glibc's malloc to free memory [taken if the heap is glibc's]
-find    --skip-slack     leaves out pointers in what malloc gave a block past its size
-find    --skip-dead-stack  leaves out pointers below stack pointers [taken of a core that is given]
-find    --skip-ends      leaves out pointers one past the end of a block [taken if the heap is not glibc's]
-find    --displace LIST  byte offsets at which a pointer keeps a block, besides 0, as 8,16 [any]
-find    --all-memory     takes pointers in memory that can't be written too [always taken]
-find    --other-heap     the allocator is not glibc's [taken if the log says so]
+lines   --unchecked      takes names also from files without a build-id, whose build is unknown
+find    --skip-freed     skips pointers in freed memory [chosen if the heap says what was freed]
+find    --skip-links     skips the links of glibc's malloc to free memory [chosen if the heap is glibc's]
+find    --skip-slack     skips pointers in what malloc gave a block past its size
+find    --skip-dead-stack  skips pointers below stack pointers [chosen for a core that is given]
+find    --skip-ends      skips pointers one past the end of a block [chosen if the heap is not glibc's]
+find    --displace LIST  byte offsets at which a pointer keeps a block alive, besides 0, as 8,16 [any]
+find    --all-memory     also takes pointers in memory that can't be written [always chosen]
+find    --other-heap     the allocator is not glibc's [chosen if the log says so]
 find    --check          lists the live blocks that have no chunk of their size in use
-find    --strict         status 3 if there is a warning
+find    --strict         status 3 on any warning
 find    --workers N      threads that search, 1 to 64
 find    --piece N        root words that a thread takes at a time
 find    --stack N        blocks that a thread's stack holds
@@ -43,11 +43,11 @@ usage() {
     echo 'usage: leak_report [OPTION..] PID | CORE [TABLE]' >&2
     [ "${1-}" != help ] || {
         cat << 'END'
-Tells what a C or C++ program has lost: memory that was allocated, not given back, and that nothing leads to any more.
+Reports what a C or C++ program has leaked: memory that was allocated, not freed, and is no longer reachable.
 
-  PID              a running process: one of yours, or as root any; it stands still for a moment, and goes on
-  CORE             a core that the kernel wrote of a dead one (a core whose name is a number: ./4711)
-  TABLE            the table that it left, if it ran under leak_trace (leak_trace --list): so the report has functions
+  PID              one of your processes; any process, as root; it stands still for a moment and is resumed
+  CORE             a core that the kernel wrote (a core whose name is a number: ./4711)
+  TABLE            the table that the process left, if it ran under leak_trace (leak_trace --list), for call stacks
 END
         options | sed 's/^[a-z]*  *-/  -/'
         cat << 'END'

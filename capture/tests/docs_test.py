@@ -16,6 +16,12 @@ def pages():
     return ["README.md", os.path.join("capture", "README.md"), *docs]
 
 
+def manuals():
+    """The man pages, by their paths in the repository."""
+    folder = os.path.join("capture", "man")
+    return [os.path.join(folder, name) for name in sorted(os.listdir(os.path.join(ROOT, folder)))]
+
+
 def text_of(page):
     """The text of a page."""
     with open(os.path.join(ROOT, page), encoding="utf-8") as file:
@@ -48,7 +54,7 @@ class Documents(unittest.TestCase):
                         self.assertIn(anchor, anchors_of(target))
 
     def test_lines_fit(self):
-        for page in pages():
+        for page in [*pages(), *manuals()]:
             with self.subTest(page=page):
                 wide = [number for number, line in enumerate(text_of(page).split("\n"), 1) if len(line) > COLUMNS]
                 self.assertEqual(wide, [])

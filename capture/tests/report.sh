@@ -85,7 +85,7 @@ fi
 reported none 999999999
 verdict 'no such process' '2 leak_dump: no process 999999999' "$status $(cat none.said)"
 reported word 12x
-verdict 'no process and no file' "2 leak_report: '12x' is no number of a process, and no file that can be read" "$status $(cat word.said)"
+verdict 'no process and no file' "2 leak_report: '12x' is neither a PID nor a file that can be read" "$status $(cat word.said)"
 while read -r what wanted; do
     reported kind "$what"
     verdict "no core: $what" "2 leak_dump: $what $wanted" "$status $(cat kind.said)"
