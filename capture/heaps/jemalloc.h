@@ -1,10 +1,15 @@
-/* What the files of the walk of jemalloc 5.3 share (x86-64: LG_PAGE 12, LG_VADDR 48, compact leaves). */
+/* What the files of the walk of jemalloc 5.3 share (x86-64: LG_PAGE 12, LG_VADDR 48 or 57). */
 #ifndef LEAK_JEMALLOC_H
 #define LEAK_JEMALLOC_H
 
 #include "heaps.h"
 
-enum { EDATA_BYTES = 128, SIZE_CLASSES = 232, BINS = 36, LEAF_PAGES = 1 << 18, LEAF_BYTES = 8 * LEAF_PAGES, MAP_WORDS = 8, MOST_REGIONS = 512 };
+enum { EDATA_BYTES = 128, SIZE_CLASSES = 232, BINS = 36, MAP_WORDS = 8, MOST_REGIONS = 512 };
+
+/* The tree of extents (rtree.h): how many levels, how many bits of an address each takes, and how many bytes a page has in a leaf. */
+struct shape {
+    unsigned levels, bits, entry;
+};
 
 /* An extent of small regions. A set bit: the region is free, in a thread's cache, or jemalloc's own. */
 struct slab {
@@ -39,6 +44,7 @@ struct jemalloc {
     struct other_heap *heap;
     struct range *bases;        /* memory of its records, by ascending start */
     size_t base_count;
+    const struct shape *shape;
     uint64_t root;
     uint64_t size_of[SIZE_CLASSES];
     struct slab *slabs;         /* by ascending start, once sorted */
@@ -58,9 +64,16 @@ int is_in_base(const struct jemalloc *je, uint64_t at, uint64_t size);
 /* jemalloc_root.c */
 int find_root(struct jemalloc *je);
 
+/* jemalloc_leaves.c */
+int may_be_leaf(const struct jemalloc *je, uint64_t value);
+int may_be_node(const struct jemalloc *je, uint64_t value);
+int read_entry(struct jemalloc *je, uint64_t at, uint64_t *word);
+int next_entry(struct jemalloc *je, uint64_t leaf, uint64_t *at, uint64_t *word);
+int leaf_of(struct jemalloc *je, uint64_t address, uint64_t *leaf);
+int leaf_word(struct jemalloc *je, uint64_t page, uint64_t *word);
+
 /* jemalloc_tree.c */
 void take_extents(struct jemalloc *je);
-int leaf_word(struct jemalloc *je, uint64_t page, uint64_t *value);
 
 /* jemalloc_caches.c */
 void take_thread_caches(struct jemalloc *je);
@@ -70,6 +83,14 @@ struct large *large_at(const struct jemalloc *je, uint64_t start);
 /* jemalloc_hands.c */
 void find_hands(struct jemalloc *je);
 int is_in_hands(const struct jemalloc *je, struct range words, struct range but);
+
+/* Bits of an address below those that say which leaf it is. */
+static inline unsigned leaf_shift(const struct jemalloc *je) { return 12 + je->shape->bits; }
+static inline uint64_t node_bytes(const struct jemalloc *je) { return (uint64_t)8 << je->shape->bits; }
+static inline uint64_t leaf_bytes(const struct jemalloc *je) { return (uint64_t)je->shape->entry << je->shape->bits; }
+
+/* The extent that the word of a page leads to (edata.h, edata_t). */
+static inline uint64_t edata_of(uint64_t word) { return (uint64_t)((int64_t)(word << 16) >> 16) & -(uint64_t)EDATA_BYTES; }
 
 static inline int has_bit(const uint64_t *map, uint64_t i)
 {

@@ -4,7 +4,7 @@
 
 #include "jemalloc.h"
 
-enum { ACTIVE = 0, LAST_AT_REST = 3, LEAF_SHIFT = 30 };
+enum { ACTIVE = 0, LAST_AT_REST = 3 };
 
 /* The words of an edata: bits, address, size. */
 struct edata {
@@ -15,7 +15,7 @@ struct edata {
 
 static int read_edata(struct jemalloc *je, uint64_t word, struct edata *e)
 {
-    *e = (struct edata){ .at = (uint64_t)((int64_t)(word << 16) >> 16) & -(uint64_t)EDATA_BYTES };
+    *e = (struct edata){ .at = edata_of(word) };
     if (!is_in_base(je, e->at, EDATA_BYTES) || !read_word(je->heap, e->at, &e->bits) || !read_word(je->heap, e->at + 8, &e->address)
         || !read_word(je->heap, e->at + 16, &e->size))
         return 0;
@@ -27,14 +27,6 @@ static int read_edata(struct jemalloc *je, uint64_t word, struct edata *e)
     e->is_slab = e->class != SIZE_CLASSES && (e->bits >> 12 & 1); /* of what is free by now, it is left as it was */
     e->free = e->bits >> 28 & 1023;
     return e->size && e->last >= e->first && !(e->bits >> 45) && e->class <= SIZE_CLASSES;
-}
-
-int leaf_word(struct jemalloc *je, uint64_t page, uint64_t *value)
-{
-    uint64_t leaf;
-
-    return !(page >> 48) && read_word(je->heap, je->root + 8 * (page >> LEAF_SHIFT), &leaf) && leaf
-        && read_word(je->heap, leaf + 8 * (page >> 12 & (LEAF_PAGES - 1)), value);
 }
 
 /* What jemalloc does only if it is told to. */
@@ -53,7 +45,7 @@ static int has_pages(struct jemalloc *je, const struct edata *e)
     uint64_t value, page = e->is_slab ? e->first : e->last;
 
     for (; page <= e->last; page += PAGE)
-        if (!leaf_word(je, page, &value) || ((uint64_t)((int64_t)(value << 16) >> 16) & -(uint64_t)EDATA_BYTES) != e->at
+        if (!leaf_word(je, page, &value) || edata_of(value) != e->at
             || (e->is_slab && ((value >> 48) != e->class || !(value & 1))))
             return 0;
     return 1;
@@ -142,10 +134,28 @@ static void take_page(struct jemalloc *je, uint64_t page, uint64_t word)
 
 static void take_leaf(struct jemalloc *je, uint64_t leaf, uint64_t key)
 {
-    uint64_t at = leaf, value;
+    uint64_t at = leaf, word;
 
-    for (; next_word(je->heap, &at, leaf + LEAF_BYTES, &value); at += 8)
-        take_page(je, key << LEAF_SHIFT | (at - leaf) / 8 << 12, value);
+    if (!may_be_leaf(je, leaf)) {
+        tell_odd(je->heap, "the tree of extents leads to 0x%llx, where no leaf is", (unsigned long long)leaf);
+        return;
+    }
+    for (; next_entry(je, leaf, &at, &word); at += je->shape->entry)
+        take_page(je, key << leaf_shift(je) | (at - leaf) / je->shape->entry << 12, word);
+}
+
+/* Takes the leaves of a node at this level, of which the root has 1. */
+static void take_node(struct jemalloc *je, uint64_t node, unsigned level, uint64_t key)
+{
+    uint64_t at = node, next;
+
+    for (; next_word(je->heap, &at, node + node_bytes(je), &next); at += 8) {
+        uint64_t number = key << je->shape->bits | (at - node) / 8;
+        if (level + 1 == je->shape->levels)
+            take_leaf(je, next, number);
+        else
+            take_node(je, next, level + 1, number);
+    }
 }
 
 /* An edata of a slab that is in use must be in the tree: one that is not says so no more. */
@@ -167,10 +177,7 @@ static void look_for_slabs(struct jemalloc *je, const struct range *base)
 /* Takes all extents of the tree. */
 void take_extents(struct jemalloc *je)
 {
-    uint64_t at = je->root, leaf;
-
-    for (; next_word(je->heap, &at, je->root + LEAF_BYTES, &leaf); at += 8)
-        take_leaf(je, leaf, (at - je->root) / 8);
+    take_node(je, je->root, 1, 0);
     if (je->slab_count)
         qsort(je->slabs, je->slab_count, sizeof *je->slabs, by_start);
     if (je->large_count)
