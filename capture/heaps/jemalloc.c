@@ -89,14 +89,12 @@ static void tell_slab(struct jemalloc *je, const struct slab *s)
 /* A block begins at a random place of its first page; the other bytes of its extent are nobody's. */
 static void tell_large(struct jemalloc *je, const struct large *l)
 {
-    uint64_t size = je->size_of[l->class];
-
     if (l->use == CACHED)
         add_unused(je->heap, l->first, l->end);
     if (l->use != IN_USE)
         return;
     add_unused(je->heap, l->first, l->end);
-    add_block(je->heap, l->start, size, size);
+    add_block(je->heap, l->start, l->size, l->size);
 }
 
 /* Tells all. The stacks of caches are no blocks; where no thread is at work, their words are no pointers of the program either. */
@@ -111,7 +109,7 @@ static void tell_all(struct jemalloc *je)
     for (size_t i = 0; i < je->stack_count && !je->heap->inside; i++) {
         const struct large *l = large_at(je, je->stacks[i].start);
         const struct slab *s = slab_at(je, je->stacks[i].start);
-        uint64_t size = je->size_of[l ? l->class : s->class];
+        uint64_t size = l ? l->size : je->size_of[s->class];
         add_unused(je->heap, je->stacks[i].start, je->stacks[i].start + size);
     }
 }
@@ -127,6 +125,8 @@ static enum finding walk_bases(struct jemalloc *je)
     je->heap->anchor = je->root;
     count_inside(je->heap, je->root);
     take_extents(je);
+    if (je->heap->odd > je->slab_count + je->large_count)
+        return refuse(je->heap, "%llu of its records are not as those of jemalloc 5.3, so it is another version", (unsigned long long)je->heap->odd);
     if (je->refused)
         return refuse(je->heap, "it has %s, whose heap is not known", je->refused);
     if (judge(je->heap, 4, 4) != WALKED)

@@ -25,6 +25,7 @@ enum use { IN_USE, CACHED, OWN };
 struct large {
     uint64_t start;             /* of the block */
     uint64_t first, end;        /* of the extent */
+    uint64_t size;
     unsigned class;
     enum use use;
 };
@@ -51,6 +52,7 @@ struct jemalloc {
     size_t slab_count;
     struct large *larges;
     size_t large_count;
+    int is_padded, is_bare;     /* the extents of some have a page more, or none more */
     struct stack *stacks;
     size_t stack_count;
     struct hand *hands;         /* words of threads that are inside, by value */

@@ -7,6 +7,7 @@
 enum { BIN_BYTES = 24, MOST_BINS = 128 };
 #define JUNK_BEFORE 0x7a7a7a7a7a7a7a7aull
 #define JUNK_BEHIND 0xa7a7a7a7a7a7a7a7ull
+#define JUNK_BEHIND_5_3_1 0x7a7a7a7a7a7a7a7bull
 
 /* Items are from head up to end. */
 struct bin {
@@ -52,20 +53,21 @@ static struct slab *region_at(const struct jemalloc *je, uint64_t address, uint6
     return has_bit(s->free, *number) ? NULL : s;
 }
 
-/* Reads a bin: its head, and the low bits of the lowest head since the last collection, of its start and of its end. */
+/* Reads a bin: its head, and the low bits of the lowest head since the last collection, of its start and of its end; and how many items it has room for, or 0
+ * before 5.3.1. */
 static int read_bin(struct jemalloc *je, uint64_t at, struct bin *bin)
 {
     uint64_t low;
     uint16_t items, room, least;
 
-    if (!read_word(je->heap, at, &bin->head) || bin->head % 8 || !bin->head || !read_word(je->heap, at + 16, &low) || low >> 48)
+    if (!read_word(je->heap, at, &bin->head) || bin->head % 8 || !bin->head || !read_word(je->heap, at + 16, &low))
         return 0;
     room = (low >> 32) - (low >> 16);
     items = (low >> 32) - bin->head;
     least = (low >> 32) - low;
     bin->end = bin->head + items;
     bin->start = bin->end - room;
-    return room && room % 8 == 0 && items <= room && least <= items;
+    return room && room % 8 == 0 && items <= room && least <= items && (!(low >> 48) || low >> 48 == room / 8);
 }
 
 /* Reads as many bins as follow one another, up to the junk behind the last. */
@@ -136,13 +138,18 @@ static int has_items(const struct cache *cache)
     return 0;
 }
 
+static int has_junk_behind(struct jemalloc *je, uint64_t at)
+{
+    return is_word(je->heap->core, at, JUNK_BEHIND) || is_word(je->heap->core, at, JUNK_BEHIND_5_3_1);
+}
+
 /* Takes a cache. That of a thread that has ended is empty, and its stack may be anything. */
 static void take_cache(struct jemalloc *je, const struct cache *cache)
 {
     struct stack *stack = stack_at(je, cache->bins[0].start - 8);
     int is_filled = has_items(cache);
 
-    if (!stack || !is_word(je->heap->core, cache->bins[cache->count - 1].end, JUNK_BEHIND) || (is_filled && stack->has_items)) {
+    if (!stack || !has_junk_behind(je, cache->bins[cache->count - 1].end) || (is_filled && stack->has_items)) {
         if (is_filled)
             tell_odd(je->heap, "the cache at 0x%llx has items and no stack of its own", (unsigned long long)cache->at);
         return;

@@ -56,13 +56,26 @@ static int can_be_slab(const struct jemalloc *je, const struct edata *e)
     return e->class < BINS && e->address == e->first && e->size % je->size_of[e->class] == 0 && e->size / je->size_of[e->class] <= MOST_REGIONS;
 }
 
+/* Whether its class is that of blocks of this size. From 5.3.1 on a block may have less than the size of its class. */
+static int is_of_class(const struct jemalloc *je, const struct edata *e, uint64_t size)
+{
+    return size > je->size_of[e->class - 1] && size <= je->size_of[e->class];
+}
+
 /* A block that isn't small has a page more, in which it begins at a random place, or none (cache_oblivious). */
+static int may_be_padded(const struct jemalloc *je, const struct edata *e)
+{
+    return is_of_class(je, e, e->size - PAGE);
+}
+
+static int may_be_bare(const struct jemalloc *je, const struct edata *e)
+{
+    return is_of_class(je, e, e->size) && e->address == e->first;
+}
+
 static int can_be_large(const struct jemalloc *je, const struct edata *e)
 {
-    uint64_t behind = e->address - e->first;
-
-    return e->class >= BINS && e->class < SIZE_CLASSES
-        && (e->size == je->size_of[e->class] + PAGE || (e->size == je->size_of[e->class] && !behind)) && behind % 64 == 0;
+    return e->class >= BINS && e->class < SIZE_CLASSES && (e->address - e->first) % 64 == 0 && (may_be_padded(je, e) || may_be_bare(je, e));
 }
 
 /* The map of free regions must have as many bits as the edata says. */
@@ -85,8 +98,19 @@ static void add_slab(struct jemalloc *je, const struct edata *e)
 
 static void add_large(struct jemalloc *je, const struct edata *e)
 {
+    je->is_padded |= !may_be_bare(je, e);
+    je->is_bare |= !may_be_padded(je, e);
     je->larges = grown(je->larges, je->large_count, sizeof *je->larges);
-    je->larges[je->large_count++] = (struct large){ e->address, e->first, e->first + e->size, e->class, IN_USE };
+    je->larges[je->large_count++] = (struct large){ e->address, e->first, e->first + e->size, 0, e->class, IN_USE };
+}
+
+/* Sets the sizes, once it is known whether blocks have a page more: all have, or none. */
+static void set_large_sizes(struct jemalloc *je)
+{
+    if (je->is_padded && je->is_bare)
+        tell_odd(je->heap, "some extents have a page more than their block, and some have none");
+    for (size_t i = 0; i < je->large_count; i++)
+        je->larges[i].size = je->larges[i].end - je->larges[i].first - (je->is_padded ? PAGE : 0);
 }
 
 /* An extent, by the word of its first page. One that is not in use is nobody's. */
@@ -119,10 +143,9 @@ static void take_page(struct jemalloc *je, uint64_t page, uint64_t word)
 
     if (word == cleared)
         return;
-    fits = read_edata(je, word, &e);
-    if (fits && unknown_kind(&e))
+    fits = read_edata(je, word, &e) && page >= e.first && page <= e.last && e.state == (word >> 2 & 7) && (e.is_slab || page == e.first || page == e.last);
+    if (fits && word >> 48 == e.class && unknown_kind(&e))
         je->refused = unknown_kind(&e);
-    fits = fits && page >= e.first && page <= e.last && e.state == (word >> 2 & 7) && (e.is_slab || page == e.first || page == e.last);
     if (fits && page == e.first)
         fits = take_extent(je, &e, word);
     else if (fits)
@@ -178,6 +201,7 @@ static void look_for_slabs(struct jemalloc *je, const struct range *base)
 void take_extents(struct jemalloc *je)
 {
     take_node(je, je->root, 1, 0);
+    set_large_sizes(je);
     if (je->slab_count)
         qsort(je->slabs, je->slab_count, sizeof *je->slabs, by_start);
     if (je->large_count)
