@@ -193,13 +193,12 @@ static void find_stacks(struct jemalloc *je)
 
 static void look_in(struct jemalloc *je, const struct segment *s)
 {
+    enum { LEAST_ADDRESS = 1 << 16, ADDRESS_BITS = 47 };
     static struct cache cache;
-    uint64_t low = je->slab_count ? je->slabs[0].start : UINT64_MAX, value;
+    uint64_t value;
 
-    if (je->large_count && je->larges[0].start < low)
-        low = je->larges[0].start;
     for (uint64_t at = (s->start + 7) & -(uint64_t)8; next_word(je->heap, &at, s->start + s->size, &value); at += 8) {
-        if (value < low || value % 8 || value >> 47)
+        if (value < LEAST_ADDRESS || value % 8 || value >> ADDRESS_BITS)
             continue;
         read_cache(je, at, &cache);
         if (cache.count < BINS)

@@ -181,20 +181,25 @@ static void take_node(struct jemalloc *je, uint64_t node, unsigned level, uint64
     }
 }
 
-/* An edata of a slab that is in use must be in the tree: one that is not says so no more. */
-static void look_for_slabs(struct jemalloc *je, const struct range *base)
+/* Whether the tree has it, as the extent of blocks that it says it is. */
+static int is_in_tree(const struct jemalloc *je, const struct edata *e)
+{
+    const struct slab *s = e->is_slab ? slab_at(je, e->first) : NULL;
+    const struct large *l = e->is_slab ? NULL : large_at(je, e->address);
+
+    return s ? s->edata == e->at : l && l->first == e->first && l->end == e->first + e->size;
+}
+
+/* An edata of blocks that are in use must be in the tree: one that is not says so no more. */
+static void look_for_extents(struct jemalloc *je, const struct range *base)
 {
     struct edata e;
     uint64_t at = base->start, value;
 
-    for (; next_word(je->heap, &at, base->end, &value); at += 8) {
-        if (at % EDATA_BYTES || !(value >> 12 & 1) || value >> 45 || !read_edata(je, at & (((uint64_t)1 << 48) - 1), &e) || e.state != ACTIVE
-            || !e.is_slab || !can_be_slab(je, &e) || !segment_at(je->heap->core, e.first))
-            continue;
-        const struct slab *s = slab_at(je, e.first);
-        if (!s || s->edata != at)
-            tell_odd(je->heap, "the slab at 0x%llx is not in the tree", (unsigned long long)e.first);
-    }
+    for (; next_word(je->heap, &at, base->end, &value); at += 8)
+        if (at % EDATA_BYTES == 0 && !(value >> 45) && read_edata(je, at & (((uint64_t)1 << 48) - 1), &e) && e.state == ACTIVE
+            && (e.is_slab ? can_be_slab(je, &e) : can_be_large(je, &e)) && segment_at(je->heap->core, e.first) && !is_in_tree(je, &e))
+            tell_odd(je->heap, "the extent at 0x%llx is not in the tree", (unsigned long long)e.first);
 }
 
 /* Takes all extents of the tree. */
@@ -207,5 +212,5 @@ void take_extents(struct jemalloc *je)
     if (je->large_count)
         qsort(je->larges, je->large_count, sizeof *je->larges, by_start);
     for (size_t i = 0; i < je->base_count; i++)
-        look_for_slabs(je, je->bases + i);
+        look_for_extents(je, je->bases + i);
 }

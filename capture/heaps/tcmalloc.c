@@ -24,6 +24,7 @@ static enum finding walk_tables(struct tcmalloc *tc)
     count_inside(tc->heap, tc->root);
     take_spans(tc);
     take_object_lists(tc);
+    take_caches_of_threads(tc);
     for (size_t i = 0; i < tc->object_count; i++)
         tell_objects(tc, tc->objects + i);
     return judge(tc->heap, 4, 4);
@@ -42,6 +43,7 @@ enum finding walk_tcmalloc(struct other_heap *heap)
     for (size_t i = 0; i < tc->object_count; i++)
         free(tc->objects[i].free);
     free(tc->objects);
+    free(tc->caches);
     free(tc);
     return found;
 }

@@ -25,6 +25,8 @@ struct tcmalloc {
     uint64_t root;              /* of the map of pages */
     struct objects *objects;    /* by ascending start, once sorted */
     size_t object_count;
+    struct range *caches;       /* where threads' caches begin */
+    size_t cache_count;
     uint64_t pages, free_pages, returned_pages; /* of all spans, and of those that are free, or given back to the system too */
     uint64_t spans_of[MOST_CLASSES], free_of[MOST_CLASSES]; /* spans of a class, and objects in their own lists */
 };
@@ -40,5 +42,9 @@ void take_spans(struct tcmalloc *tc);
 
 /* tcmalloc_lists.c */
 void take_object_lists(struct tcmalloc *tc);
+uint64_t take_list(struct tcmalloc *tc, uint64_t object, unsigned class, uint64_t *last);
+
+/* tcmalloc_caches.c */
+void take_caches_of_threads(struct tcmalloc *tc);
 
 #endif

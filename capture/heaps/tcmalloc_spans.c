@@ -85,16 +85,17 @@ static void take_leaf(struct tcmalloc *tc, uint64_t leaf, uint64_t key)
         take_word(tc, key << LEAF_SHIFT | (at - leaf) / 8, span);
 }
 
-/* Whether the page heap, which has the map, counts as many bytes as the spans have: all, free ones, and those given back (page_heap.h, Stats). */
+/* Whether the page heap, which has the map, counts as many bytes as the spans have: all, free ones, and those given back (page_heap.h, Stats). Of its
+ * counts the first that is as large as all is that of all. */
 static int has_bytes(struct tcmalloc *tc)
 {
     enum { AROUND = 256 << 10 };
     uint64_t after = tc->root + 8 * ROOT_LENGTH, value, free, returned;
 
     for (uint64_t at = after; next_word(tc->heap, &at, after + AROUND, &value); at += 8)
-        if (value == tc->pages << PAGE_SHIFT && read_word(tc->heap, at + 8, &free) && free == tc->free_pages << PAGE_SHIFT
-            && read_word(tc->heap, at + 16, &returned) && returned == tc->returned_pages << PAGE_SHIFT)
-            return 1;
+        if (value == tc->pages << PAGE_SHIFT)
+            return read_word(tc->heap, at + 8, &free) && free == tc->free_pages << PAGE_SHIFT && read_word(tc->heap, at + 16, &returned)
+                && returned == tc->returned_pages << PAGE_SHIFT;
     return 0;
 }
 
