@@ -20,6 +20,13 @@ struct other_heap {
     char why[300];              /* what does not fit */
 };
 
+/* What a thread runs, or ran as a signal interrupted it: then its registers are in memory. */
+struct moment {
+    uint64_t rip, rsp;
+    uint64_t saved, saved_count;
+    unsigned depth;
+};
+
 /* memory.c */
 int read_word(struct other_heap *heap, uint64_t address, uint64_t *value);
 int next_word(struct other_heap *heap, uint64_t *at, uint64_t to, uint64_t *value);
@@ -38,6 +45,10 @@ void cut_out(struct spans *unused, const struct spans *blocks);
 __attribute__((format(printf, 2, 3))) enum finding refuse(struct other_heap *heap, const char *form, ...);
 __attribute__((format(printf, 2, 3))) void tell_odd(struct other_heap *heap, const char *form, ...);
 enum finding judge(struct other_heap *heap, uint64_t each, uint64_t more);
+
+/* inside.c */
+struct moment moment_of(const struct thread *thread);
+int go_to_interrupted(struct other_heap *heap, struct moment *m);
 void count_inside(struct other_heap *heap, uint64_t address);
 
 /* the walks */

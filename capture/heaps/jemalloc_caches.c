@@ -67,7 +67,8 @@ static int read_bin(struct jemalloc *je, uint64_t at, struct bin *bin)
     least = (low >> 32) - low;
     bin->end = bin->head + items;
     bin->start = bin->end - room;
-    return room && room % 8 == 0 && items <= room && least <= items && (!(low >> 48) || low >> 48 == room / 8);
+    /* the lowest head is written after the head */
+    return room && room % 8 == 0 && items <= room && least <= items + 8 && (!(low >> 48) || low >> 48 == room / 8);
 }
 
 /* Reads as many bins as follow one another, up to the junk behind the last. */
@@ -160,25 +161,36 @@ static void take_cache(struct jemalloc *je, const struct cache *cache)
         take_bin(je, cache, i);
 }
 
-static void add_stack(struct jemalloc *je, uint64_t start)
+/* Whether a block of that size begins with the one word, and has the other behind. */
+static int is_stack(struct jemalloc *je, uint64_t start, uint64_t size)
 {
-    uint64_t first;
+    uint64_t at = start + 8, value;
 
-    if (start % PAGE || !read_word(je->heap, start, &first) || first != JUNK_BEFORE)
+    if (start % PAGE || !is_word(je->heap->core, start, JUNK_BEFORE))
+        return 0;
+    for (; next_word(je->heap, &at, start + size, &value); at += 8)
+        if (value == JUNK_BEHIND || value == JUNK_BEHIND_5_3_1)
+            return 1;
+    return 0;
+}
+
+static void add_stack(struct jemalloc *je, uint64_t start, uint64_t size)
+{
+    if (!is_stack(je, start, size))
         return;
     je->stacks = grown(je->stacks, je->stack_count, sizeof *je->stacks);
     je->stacks[je->stack_count++] = (struct stack){ start, 0, 0 };
 }
 
-/* Finds blocks at a page's start that begin with the junk, and takes them for jemalloc's own. */
+/* Finds blocks at a page's start that have the junk, and takes them for jemalloc's own. */
 static void find_stacks(struct jemalloc *je)
 {
     for (size_t i = 0; i < je->large_count; i++)
-        add_stack(je, je->larges[i].start);
+        add_stack(je, je->larges[i].start, je->larges[i].size);
     for (size_t i = 0; i < je->slab_count; i++)
         for (uint64_t at = je->slabs[i].start, number; at < je->slabs[i].end; at += PAGE)
             if (region_at(je, at, &number))
-                add_stack(je, at);
+                add_stack(je, at, je->size_of[je->slabs[i].class]);
     if (je->stack_count)
         qsort(je->stacks, je->stack_count, sizeof *je->stacks, by_start);
     for (size_t i = 0; i < je->stack_count; i++) {

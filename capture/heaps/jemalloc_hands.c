@@ -4,7 +4,8 @@
 
 #include "jemalloc.h"
 
-enum { RSP = 19, TOP = 8192 };
+/* A flush has up to 200 words of its own on the stack. A function that calls none may use the bytes below it. */
+enum { TOP = 8192, BELOW = 128 };
 
 static void add_hand(struct jemalloc *je, uint64_t value, uint64_t at)
 {
@@ -12,20 +13,36 @@ static void add_hand(struct jemalloc *je, uint64_t value, uint64_t at)
     je->hands[je->hand_count++] = (struct hand){ value, at };
 }
 
-/* Lists the words of all threads that are inside. A flush has up to 200 words of its own on the stack. */
+static void add_words(struct jemalloc *je, uint64_t from, uint64_t to)
+{
+    uint64_t value;
+
+    for (uint64_t at = from; at < to && read_word(je->heap, at, &value); at += 8)
+        add_hand(je, value, at);
+}
+
+/* The words of a thread, and of what signals interrupted. */
+static void add_thread(struct jemalloc *je, const struct thread *thread)
+{
+    struct moment m = moment_of(thread);
+
+    for (size_t k = 0; k < REGISTERS; k++)
+        add_hand(je, thread->words[k], 0);
+    do {
+        add_words(je, m.saved, m.saved + 8 * m.saved_count);
+        add_words(je, m.rsp - BELOW, m.rsp);
+        add_words(je, m.rsp, m.rsp + TOP);
+    } while (go_to_interrupted(je->heap, &m));
+}
+
+/* Lists the words of all threads that are inside. */
 void find_hands(struct jemalloc *je)
 {
     const struct core *core = je->heap->core;
 
-    for (size_t i = 0; i < core->thread_count; i++) {
-        uint64_t rsp = core->threads[i].words[RSP] & -(uint64_t)8, value;
-        if (!je->heap->is_inside[i])
-            continue;
-        for (size_t k = 0; k < REGISTERS; k++)
-            add_hand(je, core->threads[i].words[k], 0);
-        for (uint64_t at = rsp; at - rsp < TOP && read_word(je->heap, at, &value); at += 8)
-            add_hand(je, value, at);
-    }
+    for (size_t i = 0; i < core->thread_count; i++)
+        if (je->heap->is_inside[i])
+            add_thread(je, core->threads + i);
     if (je->hand_count)
         qsort(je->hands, je->hand_count, sizeof *je->hands, by_start);
 }

@@ -1,7 +1,9 @@
 # leak_walk of other heaps than glibc's: programs at rest and killed at any moment, whose memory says what is live; leaks that leak_report names without
-# an option; and words of the heap's records that are changed. STORMS and DAMAGES say how many (heaps_long.sh); an allocator that is not installed is left out.
+# an option; and words of the heap's records that are changed. STORMS and DAMAGES say how many (heaps_long.sh), and SEED which: each commit has others. An
+# allocator that is not installed is left out.
 section other heaps
 walk=$kit/leak_walk
+seed=${SEED:-$((0x$(git -C "$kit" rev-parse --short=7 HEAD 2> /dev/null || echo 1)))}
 build heaps_storm.c
 
 # core_now PID NAME: a core of the process, which is ended.
@@ -32,8 +34,8 @@ at_rest() {
 
 # damages KIND: changed words refuse the core, or change nothing.
 damages() {
-    limited 900 python3 "$kit/tests/heaps_damage.py" "$walk" "$1" "$1.core" "${DAMAGES:-24}" "${SEED:-1}" > "$1.damaged"
-    verdict "$1: changed words: no log is wrong" '0 wrong 0' "$? $(sed -n 's/.*\(wrong [0-9]*\) of .*/\1/p' "$1.damaged")"
+    limited 900 python3 "$kit/tests/heaps_damage.py" "$walk" "$1" "$1.core" "${DAMAGES:-8}" "$seed" > "$1.damaged"
+    verdict "$1: changed words, as by SEED=$seed: no log is wrong" '0 wrong 0' "$? $(sed -n 's/.*\(wrong [0-9]*\) of .*/\1/p' "$1.damaged")"
     sed 's/^/     /' "$1.damaged"
 }
 
@@ -53,11 +55,12 @@ planted() {
     rm -rf "$kind.kept"
 }
 
-# storms_of KIND PROGRAM..: killed at any moment: nothing is missing. What a thread has in hand may not fit: then it is said.
+# storms_of KIND PROGRAM..: killed at any moment, in every second one with threads that a signal stopped at any moment before: nothing is missing. What a
+# thread has in hand may not fit: then it is said.
 storms_of() {
     local kind=$1 bad=0 odd=0 refused=0 status
     for i in $(seq "${STORMS:-3}"); do
-        "${@:2}" 6 2000 0 $((i + ${SEED:-1})) > "$kind.out" 2>&1 &
+        "${@:2}" 6 2000 0 $((i + seed)) $((i % 2 * 3)) > "$kind.out" 2>&1 &
         process=$!
         started[$process]=1
         sleep 0.$((RANDOM % 60 + 35))

@@ -23,9 +23,9 @@ def musl(core, blocks, anchor):
 
 
 def jemalloc(core, blocks, anchor):
-    """Heads of base blocks, the tree's root and leaves, edatas with their maps, and threads' caches: bins without the words that only the thread has,
-    and the junk at their stack's ends (jemalloc 5.3, include/jemalloc/internal/{base,rtree,edata,cache_bin}.h)."""
-    found = {"bases": [], "root": [], "leaves": [], "edatas": [], "maps": [], "bins": [], "junk": []}
+    """Heads of base blocks, the tree's root and leaves, edatas with their maps, and threads' caches: bins, the heads of their items by themselves, and the
+    junk at their stack's ends (jemalloc 5.3, include/jemalloc/internal/{base,rtree,edata,cache_bin}.h)."""
+    found = {"bases": [], "root": [], "leaves": [], "edatas": [], "maps": [], "bins": [], "heads": [], "junk": []}
     bases = []
     for start, size in core.writable():
         for at in range(-(-start // HUGE) * HUGE, start + size - 64, HUGE):
@@ -34,7 +34,7 @@ def jemalloc(core, blocks, anchor):
                 bases.append((at, at + length))
                 found["bases"] += [at, at + 8, at + 24, at + 32]
     inside = lambda at: any(start <= at < end for start, end in bases)
-    found["root"] = [anchor + 8 * i for i in range(1 << 18) if core.word(anchor + 8 * i)]
+    found["root"] = [at for page in range(anchor & -4096, anchor + (1 << 21), 4096) for at in used(core, page, 512) if 0 <= at - anchor < 1 << 21]
     edatas = set()
     for root in found["root"]:
         leaf = core.word(root)
@@ -50,9 +50,17 @@ def jemalloc(core, blocks, anchor):
             found["maps"] += used(core, edata + 64, 8)
     for at, count in arrays(core):
         found["bins"] += [at + 24 * i + 16 for i in range(count)]
+        found["heads"] += [at + 24 * i for i in range(count)]
         stack = core.word(at) - ((core.word(at) - (core.word(at + 16) >> 16)) & 0xffff) - 8
         found["junk"] += [stack] if core.word(stack) == 0x7a7a7a7a7a7a7a7a else []
     return found
+
+
+def jemalloc_unconfirmed(record, old, new, records):
+    """A map with as many free regions, the place in its first page where a large block begins, and where in its stack the items of a bin begin."""
+    (at, before), after = next(iter(old.items())), next(iter(new.values()))
+    return len(new) == 1 and (record == "heads" or (record == "maps" and bin(before).count("1") == bin(after).count("1"))
+                              or (record == "edatas" and at % 128 == 8 and not (before ^ after) & ~0xfc0))
 
 
 HUGE = 2 << 20
@@ -81,9 +89,9 @@ def arrays(core):
 
 
 def mimalloc(core, blocks, anchor):
-    """Heaps and their threads' data, segments, pages, the slices that lead back, and free blocks (mimalloc 2.0, include/mimalloc-types.h). But for lists
-    of blocks that other threads freed, of which nothing has the length."""
-    found = {"heaps": [], "segments": [], "pages": [], "slices": [], "lists": []}
+    """Heaps and their threads' data, segments, pages, the slices that lead back, free blocks, and those that other threads freed (mimalloc 2.0,
+    include/mimalloc-types.h)."""
+    found = {"heaps": [], "segments": [], "pages": [], "slices": [], "lists": [], "others": []}
     heaps = {anchor}
     for start, size in core.writable():
         for segment in range(-(-start // SEGMENT) * SEGMENT, start + size - 512, SEGMENT):
@@ -99,10 +107,26 @@ def mimalloc(core, blocks, anchor):
                     found["pages"] += [page + word for word in (0, 8, 16, 24, 32, 48)]
                     heaps.add(core.word(page + 48))
                     found["lists"] += [block for block in (core.word(page + word) for word in (16, 32)) if block]
+                    found["others"] += [page + 40] + chain(core, core.word(page + 40) & ~3)
                 at += count
     for heap in heaps - {0}:
         found["heaps"] += [heap, core.word(heap) + 16, core.word(heap) + 896] + [heap + at for at in (1080, 1104, 2848, 2864, 3024)]
+        found["others"] += [heap + 2840] + chain(core, core.word(heap + 2840))
     return found
+
+
+def chain(core, block):
+    """The blocks of a list."""
+    found = []
+    while block and len(found) < 100000:
+        found.append(block)
+        block = core.word(block)
+    return found
+
+
+def mimalloc_unconfirmed(record, old, new, records):
+    """Of lists of blocks that other threads freed nothing has the length."""
+    return any(at in old for at in records["others"])
 
 
 SEGMENT = 32 << 20
@@ -137,4 +161,5 @@ def tcmalloc(core, blocks, anchor):
     return found
 
 
+UNCONFIRMED = {"jemalloc": jemalloc_unconfirmed, "mimalloc": mimalloc_unconfirmed}
 RECORDS = {"musl": musl, "jemalloc": jemalloc, "mimalloc": mimalloc, "tcmalloc": tcmalloc}

@@ -1,9 +1,11 @@
 /* heaps_storm THREADS SLOTS ROUNDS SEED [LEAKS]: threads that allocate and free at random, and what is live at a fixed place of memory, from which a
  * core tells it. Without rounds it goes on until it is killed; else it rests after as many, and says `ready`. With LEAKS, as many blocks are lost in
- * pairs, of which the first leads to the second, and the slots hold what they have; else all addresses are complemented, so that nothing leads to a block. */
+ * pairs, of which the first leads to the second, and the slots hold what they have; else all addresses are complemented, so that nothing leads to a block.
+ * With LEAKS and without rounds as many threads are stopped, each in a handler of a signal, while the others go on. */
 #define _GNU_SOURCE
 #include <malloc.h>
 #include <pthread.h>
+#include <signal.h>
 #include <stdatomic.h>
 #include <stdint.h>
 #include <stdlib.h>
@@ -11,7 +13,7 @@
 #include <sys/mman.h>
 #include <unistd.h>
 
-enum { HANDS = 256, MOST_LEAKS = 4000, BRIEF = 200, BRIEF_THREADS = 4, BRIEF_TURNS = 20 };
+enum { HANDS = 256, MOST_THREADS = 64, MOST_LEAKS = 4000, BRIEF = 200, BRIEF_THREADS = 4, BRIEF_TURNS = 20, LETTERS = 8192 };
 
 struct slot {
     _Atomic uint64_t address;
@@ -32,6 +34,7 @@ static struct truth {
 
 static uint64_t rounds, leaks_each, none, busy;
 static pthread_barrier_t rest;
+static char *letters;       /* as jemalloc begins a thread's stack of free blocks */
 
 static uint64_t told(void *block) { return truth->is_plain ? (uint64_t)block : ~(uint64_t)block; }
 
@@ -179,23 +182,44 @@ static void run_brief_ones(int turn)
     usleep(3000);
 }
 
+static void wait_forever(int signal)
+{
+    (void)signal;
+    for (;;)
+        pause();
+}
+
+/* What a thread has half done in the allocator stays so. */
+static void stop(const pthread_t *threads, uintptr_t count)
+{
+    usleep(200000);
+    signal(SIGUSR1, wait_forever);
+    for (uintptr_t i = 0; i < count; i++, usleep(5000))
+        pthread_kill(threads[i], SIGUSR1);
+}
+
 int main(int count, char **words)
 {
     uintptr_t threads = atol(words[1]), slots = atol(words[2]), seed = atol(words[4]), leaks = count > 5 ? atol(words[5]) : 0;
-    pthread_t thread;
+    pthread_t thread[MOST_THREADS];
 
     rounds = atol(words[3]);
-    leaks_each = leaks / 2 / threads;
+    leaks_each = rounds ? leaks / 2 / threads : 0;
     truth = mmap((void *)0x100000000000, sizeof *truth + slots * sizeof *truth->slots, PROT_READ | PROT_WRITE,
                  MAP_PRIVATE | MAP_ANONYMOUS | MAP_FIXED_NOREPLACE, -1, 0);
     truth->slot_count = slots;
-    truth->is_plain = leaks > 0;
+    truth->is_plain = leaks_each > 0;
     none = told(NULL), busy = told((void *)8);
     for (uintptr_t i = 0; i < slots; i++)
         truth->slots[i].address = none;
     pthread_barrier_init(&rest, NULL, threads + 1);
+    if (posix_memalign((void **)&letters, 4096, LETTERS))
+        abort();
+    memset(letters, 'z', LETTERS);
     for (uintptr_t i = 1; i <= threads; i++)
-        pthread_create(&thread, NULL, storm_and_rest, (void *)(i + (seed << 16)));
+        pthread_create(thread + i, NULL, storm_and_rest, (void *)(i + (seed << 16)));
+    if (!rounds)
+        stop(thread + 1, leaks);
     for (int i = 0; !rounds || i < BRIEF_TURNS; i++)
         run_brief_ones(i);
     pthread_barrier_wait(&rest);
