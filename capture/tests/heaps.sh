@@ -39,6 +39,14 @@ damages() {
     sed 's/^/     /' "$1.damaged"
 }
 
+# interrupted: what a thread of jemalloc gives back counts as blocks while a signal has stopped it there, though its handler waits elsewhere.
+interrupted() {
+    cp jemalloc.core interrupted.core
+    python3 "$kit/tests/heaps_interrupted.py" "$walk" interrupted.core > interrupted.told
+    verdict "jemalloc: a thread that a signal stopped: all that it was giving back is told as blocks" yes "$(awk '{ print ($1 > 0 && $1 == $2 ? "yes" : $0) }' interrupted.told)"
+    rm -f interrupted.core
+}
+
 # planted KIND LEAST PROGRAM..: leak_report names lost blocks, at least so many of 400, and nothing else, but the object that tcmalloc loses itself.
 planted() {
     local kind=$1 least=$2 others=0
@@ -83,6 +91,7 @@ storms_of() {
 heap() {
     at_rest "$1" "$2" "${@:4}"
     damages "$1"
+    [ "$1" != jemalloc ] || interrupted
     [ ! "$attaches" ] || planted "$1" "$3" "${@:4}"
     [ ! "$dumps_core" ] || storms_of "$1" "${@:4}"
     rm -f "$1.core"

@@ -50,7 +50,8 @@ class Core:
     def writable(self):
         return [(start, size) for start, size, _, flags in self.segments if flags & 2]
 
-    def auxv(self, wanted):
+    def each_note(self):
+        """The kind of each note, and what it has."""
         for place, size in self.notes:
             self.file.seek(place)
             notes = self.file.read(size)
@@ -58,12 +59,8 @@ class Core:
             while at + 12 <= len(notes):
                 name, length, kind = struct.unpack_from("<III", notes, at)
                 at += 12 + (name + 3) // 4 * 4
-                if kind == 6:
-                    for key, value in struct.iter_unpack("<QQ", notes[at:at + length // 16 * 16]):
-                        if key == wanted:
-                            return value
+                yield kind, notes[at:at + length]
                 at += (length + 3) // 4 * 4
-        return None
 
 
 def read_log(text):

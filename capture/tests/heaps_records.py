@@ -135,7 +135,7 @@ SEGMENT = 32 << 20
 def tcmalloc(core, blocks, anchor):
     """The map of pages, spans, central lists and their chains, threads' caches and the first objects of lists (gperftools 2.10,
     src/{span,central_freelist,thread_cache}.h)."""
-    found = {"root": used(core, anchor, 1 << 17), "leaves": [], "spans": [], "central": [], "caches": [], "lists": []}
+    found = {"root": used(core, anchor, 1 << 17), "leaves": [], "spans": [], "central": [], "chains": [], "caches": [], "lists": []}
     spans = set()
     for root in found["root"]:
         for page in range(0, 8 << 18, 4096):
@@ -153,7 +153,8 @@ def tcmalloc(core, blocks, anchor):
         for i, value in enumerate(words):
             if value == 1 and i + 152 * 20 < len(words) and all(words[i + 152 * k] == k + 1 for k in range(20)):
                 for at in range(start + 8 * i - 8, start + 8 * i - 8 + 1216 * 80, 1216):
-                    found["central"] += [at + 8, at + 112, at + 120, at + 1152] + used(core, at + 128, 2 * (core.word(at + 1152) & 255))
+                    found["central"] += [at + 8, at + 112, at + 120] + used(core, at + 128, 2 * (core.word(at + 1152) & 255))
+                    found["chains"] += [at + 1152]
             if value == 8 and i + 4 < len(words) and words[i + 4] == 16 and all(words[i + 4 * k] > 16 for k in range(2, 20)):
                 for at in range(start + 8 * i - 24, start + 8 * i - 24 + 32 * 80, 32):
                     found["caches"] += [at + word for word in (0, 8, 24) if core.word(at + word)]
@@ -161,5 +162,10 @@ def tcmalloc(core, blocks, anchor):
     return found
 
 
-UNCONFIRMED = {"jemalloc": jemalloc_unconfirmed, "mimalloc": mimalloc_unconfirmed}
+def tcmalloc_unconfirmed(record, old, new, records):
+    """How many chains a central list's cache has."""
+    return any(at in old for at in records["chains"])
+
+
+UNCONFIRMED = {"jemalloc": jemalloc_unconfirmed, "mimalloc": mimalloc_unconfirmed, "tcmalloc": tcmalloc_unconfirmed}
 RECORDS = {"musl": musl, "jemalloc": jemalloc, "mimalloc": mimalloc, "tcmalloc": tcmalloc}
