@@ -1,5 +1,5 @@
-// heaps_storm_rust THREADS SLOTS SEED: as heaps_storm.c without rounds, in Rust: vectors that grow and shrink, boxes, strings and aligned blocks, until it is
-// killed.
+// storm_rust THREADS SLOTS 0 SEED: as heaps_storm.c without rounds, by the allocator of Rust's std: blocks that grow and shrink, aligned ones, and strings of
+// threads that end, until it is killed.
 use std::alloc::{alloc, alloc_zeroed, dealloc, realloc, Layout};
 use std::collections::HashMap;
 use std::sync::atomic::{AtomicU64, Ordering::SeqCst};
@@ -71,7 +71,7 @@ fn storm(number: usize, threads: usize, slots: usize, mut seed: u64) {
 
 fn main() {
     let words: Vec<u64> = std::env::args().skip(1).map(|word| word.parse().unwrap()).collect();
-    let (threads, slots, seed) = (words[0] as usize, words[1] as usize, words[2]);
+    let (threads, slots, seed) = (words[0] as usize, words[1] as usize, words[3]);
     // readable and writable, private, of no file, at this place
     unsafe { mmap(TRUTH, SLOTS_AT + 32 * slots, 3, 0x100022, -1, 0) };
     word(0).store(slots as u64, SeqCst);
