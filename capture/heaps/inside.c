@@ -5,9 +5,10 @@
 
 /* Linux, struct user_regs_struct, in words */
 enum { ORIG_RAX = 15, RIP = 16, RSP = 19 };
-/* Linux, struct rt_sigframe: from its start, the words of struct ucontext that are the same of each, and of the registers three and how many there are */
-enum { TO_UC_FLAGS = 8, MOST_UC_FLAGS = 7, TO_UC_LINK = 16, TO_SAVED = 48, SAVED = 23, TO_SAVED_RSP = 168, TO_SAVED_RIP = 176, TO_SAVED_CS = 192,
-       USER_CS = 0x33 };
+/* Linux, struct rt_sigframe: from its start, the words of struct ucontext that are the same of each, and of the
+ * registers three and how many there are */
+enum { TO_UC_FLAGS = 8, MOST_UC_FLAGS = 7, TO_UC_LINK = 16, TO_SAVED = 48, SAVED = 23, TO_SAVED_RSP = 168,
+       TO_SAVED_RIP = 176, TO_SAVED_CS = 192, USER_CS = 0x33 };
 
 /* Is it in a system call that no allocator makes? */
 static int is_elsewhere(const struct thread *thread)
@@ -53,8 +54,9 @@ static int is_signal_frame(struct other_heap *heap, uint64_t at)
 {
     uint64_t selectors, flags, link;
 
-    return read_word(heap, at + TO_SAVED_CS, &selectors) && (selectors & UINT16_MAX) == USER_CS && read_word(heap, at + TO_UC_FLAGS, &flags)
-        && flags <= MOST_UC_FLAGS && read_word(heap, at + TO_UC_LINK, &link) && !link;
+    return read_word(heap, at + TO_SAVED_CS, &selectors) && (selectors & UINT16_MAX) == USER_CS
+        && read_word(heap, at + TO_UC_FLAGS, &flags) && flags <= MOST_UC_FLAGS && read_word(heap, at + TO_UC_LINK, &link)
+        && !link;
 }
 
 /* Goes on to what a signal interrupted, whose handler runs or has called what runs; says whether there is one. */
@@ -66,7 +68,8 @@ int go_to_interrupted(struct other_heap *heap, struct moment *m)
     if (m->depth == MOST_SIGNALS)
         return 0;
     for (uint64_t at = m->rsp; at - m->rsp < HANDLER && read_word(heap, at, &value); at += 8)
-        if (is_signal_frame(heap, at) && read_word(heap, at + TO_SAVED_RSP, &m->rsp) && read_word(heap, at + TO_SAVED_RIP, &m->rip)) {
+        if (is_signal_frame(heap, at) && read_word(heap, at + TO_SAVED_RSP, &m->rsp)
+            && read_word(heap, at + TO_SAVED_RIP, &m->rip)) {
             m->rsp &= -(uint64_t)8;
             m->saved = at + TO_SAVED;
             m->saved_count = SAVED;

@@ -1,7 +1,9 @@
-/* The heap of jemalloc 5.3, without symbols (include/jemalloc/internal/{base,rtree,edata,emap,sc}.h, src/{base,emap,cache_bin,tcache}.c).
+/* The heap of jemalloc 5.3, without symbols (include/jemalloc/internal/{base,rtree,edata,emap,sc}.h,
+ * src/{base,emap,cache_bin,tcache}.c).
  *
- * Its records lie in base blocks of 2 MiB or more, whose heads check themselves. The root of its tree of extents is found by a word that leads to a leaf,
- * whose first extent says where in the root that word is. All extents are in the tree, and those with small regions have a map of the free ones. */
+ * Its records lie in base blocks of 2 MiB or more, whose heads check themselves. The root of its tree of extents is
+ * found by a word that leads to a leaf, whose first extent says where in the root that word is. All extents are in the
+ * tree, and those with small regions have a map of the free ones. */
 #include <stdlib.h>
 
 #include "jemalloc.h"
@@ -97,7 +99,8 @@ static void tell_large(struct jemalloc *je, const struct large *l)
     add_block(je->heap, l->start, l->size, l->size);
 }
 
-/* Tells all. The stacks of caches are no blocks; where no thread is at work, their words are no pointers of the program either. */
+/* Tells all. The stacks of caches are no blocks; where no thread is at work, their words are no pointers of the
+ * program either. */
 static void tell_all(struct jemalloc *je)
 {
     for (size_t i = 0; i < je->slab_count; i++)
@@ -126,7 +129,8 @@ static enum finding walk_bases(struct jemalloc *je)
     count_inside(je->heap, je->root);
     take_extents(je);
     if (je->heap->odd > je->slab_count + je->large_count)
-        return refuse(je->heap, "%llu of its records are not as those of jemalloc 5.3, so it is another version", (unsigned long long)je->heap->odd);
+        return refuse(je->heap, "%llu of its records are not as those of jemalloc 5.3, so it is another version",
+                      (unsigned long long)je->heap->odd);
     if (je->refused)
         return refuse(je->heap, "it has %s, whose heap is not known", je->refused);
     if (judge(je->heap, 4, 4) != WALKED)

@@ -6,7 +6,8 @@
 
 enum { EDATA_BYTES = 128, SIZE_CLASSES = 232, BINS = 36, MAP_WORDS = 8, MOST_REGIONS = 512 };
 
-/* The tree of extents (rtree.h): how many levels, how many bits of an address each takes, and how many bytes a page has in a leaf. */
+/* The tree of extents (rtree.h): how many levels, how many bits of an address each takes, and how many bytes a page
+ * has in a leaf. */
 struct shape {
     unsigned levels, bits, entry;
 };
@@ -92,7 +93,10 @@ static inline uint64_t node_bytes(const struct jemalloc *je) { return (uint64_t)
 static inline uint64_t leaf_bytes(const struct jemalloc *je) { return (uint64_t)je->shape->entry << je->shape->bits; }
 
 /* The extent that the word of a page leads to (edata.h, edata_t). */
-static inline uint64_t edata_of(uint64_t word) { return (uint64_t)((int64_t)(word << 16) >> 16) & -(uint64_t)EDATA_BYTES; }
+static inline uint64_t edata_of(uint64_t word)
+{
+    return (uint64_t)((int64_t)(word << 16) >> 16) & -(uint64_t)EDATA_BYTES;
+}
 
 static inline int has_bit(const uint64_t *map, uint64_t i)
 {

@@ -1,5 +1,6 @@
-/* Threads' caches of jemalloc (cache_bin.h, tcache_structs.h). Each has an array of bins in the thread's own memory, and one stack of all their items, which
- * jemalloc gave itself, between two words of junk. Each bin tells where its part of the stack begins and ends, and the next one begins there. */
+/* Threads' caches of jemalloc (cache_bin.h, tcache_structs.h). Each has an array of bins in the thread's own memory,
+ * and one stack of all their items, which jemalloc gave itself, between two words of junk. Each bin tells where its
+ * part of the stack begins and ends, and the next one begins there. */
 #include <stdlib.h>
 
 #include "jemalloc.h"
@@ -53,8 +54,8 @@ static struct slab *region_at(const struct jemalloc *je, uint64_t address, uint6
     return has_bit(s->free, *number) ? NULL : s;
 }
 
-/* Reads a bin: its head, and the low bits of the lowest head since the last collection, of its start and of its end; and how many items it has room for, or 0
- * before 5.3.1. */
+/* Reads a bin: its head, and the low bits of the lowest head since the last collection, of its start and of its end;
+ * and how many items it has room for, or 0 before 5.3.1. */
 static int read_bin(struct jemalloc *je, uint64_t at, struct bin *bin)
 {
     uint64_t low;

@@ -1,5 +1,5 @@
-/* Which bins of its cache a thread is just filling or flushing: its registers or the top of its stack lead to them. Their items may be another thread's
- * by now, or be only in the stack above the bin's head (cache_bin.h, tcache.c). */
+/* Which bins of its cache a thread is just filling or flushing: its registers or the top of its stack lead to them.
+ * Their items may be another thread's by now, or be only in the stack above the bin's head (cache_bin.h, tcache.c). */
 #include <stdlib.h>
 
 #include "jemalloc.h"
@@ -47,7 +47,8 @@ void find_hands(struct jemalloc *je)
         qsort(je->hands, je->hand_count, sizeof *je->hands, by_start);
 }
 
-/* Whether one of them leads to these words, but for those that lie in `but`: a stack may end where the bins themselves are. */
+/* Whether one of them leads to these words, but for those that lie in `but`: a stack may end where the bins themselves
+ * are. */
 int is_in_hands(const struct jemalloc *je, struct range words, struct range but)
 {
     size_t low = 0, high = je->hand_count;

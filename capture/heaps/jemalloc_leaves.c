@@ -1,5 +1,5 @@
-/* Nodes and leaves of jemalloc's tree (rtree.h). A leaf has for each page a word with the extent, its class and flags; or where addresses of 57 bits leave
- * it no room for them, a second word. Such an entry is read as one word. */
+/* Nodes and leaves of jemalloc's tree (rtree.h). A leaf has for each page a word with the extent, its class and flags;
+ * or where addresses of 57 bits leave it no room for them, a second word. Such an entry is read as one word. */
 #include "jemalloc.h"
 
 static int is_record(const struct jemalloc *je, uint64_t value, uint64_t size)
@@ -15,7 +15,8 @@ int may_be_node(const struct jemalloc *je, uint64_t value)
     return je->shape->levels == 2 ? may_be_leaf(je, value) : is_record(je, value, node_bytes(je));
 }
 
-/* Reads the entry of a page, as one word: 8 bits of the class, 48 of the extent's address, of which 5 are flags. What does not fit leads nowhere. */
+/* Reads the entry of a page, as one word: 8 bits of the class, 48 of the extent's address, of which 5 are flags. What
+ * does not fit leads nowhere. */
 int read_entry(struct jemalloc *je, uint64_t at, uint64_t *word)
 {
     enum { FLAGS = 5, CLASS = 8, CLASS_AT = 48, NOWHERE = 1 };

@@ -6,8 +6,8 @@ enum { TRIES = 16 };
 /* As jemalloc is built for addresses of 48 bits, and of 57. */
 static const struct shape shapes[] = { { 2, 18, 8 }, { 3, 15, 16 } };
 
-/* Gives which leaf it is, by the first extents that its words lead to: each has its address. Words of one extent come first and last, so
- * not each has its own. */
+/* Gives which leaf it is, by the first extents that its words lead to: each has its address. Words of one extent come
+ * first and last, so not each has its own. */
 static int key_of(struct jemalloc *je, uint64_t leaf, uint64_t *key)
 {
     uint64_t at = leaf, word, address;
@@ -55,13 +55,14 @@ static int is_root(struct jemalloc *je, uint64_t root)
     return found;
 }
 
-/* A thread remembers leaves (rtree_ctx.h): by the address, without its low bits, the leaf. The tree must have the same. */
+/* A thread remembers leaves (rtree_ctx.h): by the address, without its low bits, the leaf. The tree must have the
+ * same. */
 static int agrees(struct jemalloc *je, uint64_t address, uint64_t leaf)
 {
     uint64_t value, key;
 
-    return address >> 48 || address % ((uint64_t)1 << leaf_shift(je)) || !address || !key_of(je, leaf, &key) || key != address >> leaf_shift(je)
-        || (leaf_of(je, address, &value) && value == leaf);
+    return address >> 48 || address % ((uint64_t)1 << leaf_shift(je)) || !address || !key_of(je, leaf, &key)
+        || key != address >> leaf_shift(je) || (leaf_of(je, address, &value) && value == leaf);
 }
 
 /* Whether this word, which leads to a node, is the root's; or if the root is known, whether it may be beside it. */

@@ -1,5 +1,5 @@
-/* The extents of jemalloc's tree (edata.h, emap.c). A word for the first page and the last one of each leads to its edata, and for a slab one for each
- * page. Word and edata say the same. */
+/* The extents of jemalloc's tree (edata.h, emap.c). A word for the first page and the last one of each leads to its
+ * edata, and for a slab one for each page. Word and edata say the same. */
 #include <stdlib.h>
 
 #include "jemalloc.h"
@@ -75,7 +75,8 @@ static int may_be_bare(const struct jemalloc *je, const struct edata *e)
 
 static int can_be_large(const struct jemalloc *je, const struct edata *e)
 {
-    return e->class >= BINS && e->class < SIZE_CLASSES && (e->address - e->first) % 64 == 0 && (may_be_padded(je, e) || may_be_bare(je, e));
+    return e->class >= BINS && e->class < SIZE_CLASSES && (e->address - e->first) % 64 == 0
+        && (may_be_padded(je, e) || may_be_bare(je, e));
 }
 
 /* The map of free regions must have as many bits as the edata says. */
@@ -143,7 +144,8 @@ static void take_page(struct jemalloc *je, uint64_t page, uint64_t word)
 
     if (word == cleared)
         return;
-    fits = read_edata(je, word, &e) && page >= e.first && page <= e.last && e.state == (word >> 2 & 7) && (e.is_slab || page == e.first || page == e.last);
+    fits = read_edata(je, word, &e) && page >= e.first && page <= e.last && e.state == (word >> 2 & 7)
+        && (e.is_slab || page == e.first || page == e.last);
     if (fits && word >> 48 == e.class && unknown_kind(&e))
         je->refused = unknown_kind(&e);
     if (fits && page == e.first)
@@ -197,8 +199,9 @@ static void look_for_extents(struct jemalloc *je, const struct range *base)
     uint64_t at = base->start, value;
 
     for (; next_word(je->heap, &at, base->end, &value); at += 8)
-        if (at % EDATA_BYTES == 0 && !(value >> 45) && read_edata(je, at & (((uint64_t)1 << 48) - 1), &e) && e.state == ACTIVE
-            && (e.is_slab ? can_be_slab(je, &e) : can_be_large(je, &e)) && segment_at(je->heap->core, e.first) && !is_in_tree(je, &e))
+        if (at % EDATA_BYTES == 0 && !(value >> 45) && read_edata(je, at & (((uint64_t)1 << 48) - 1), &e)
+            && e.state == ACTIVE && (e.is_slab ? can_be_slab(je, &e) : can_be_large(je, &e))
+            && segment_at(je->heap->core, e.first) && !is_in_tree(je, &e))
             tell_odd(je->heap, "the extent at 0x%llx is not in the tree", (unsigned long long)e.first);
 }
 

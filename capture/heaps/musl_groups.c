@@ -141,7 +141,7 @@ static int can_be(const struct group *g)
 {
     if (g->class >= CLASSES && (g->class != MAPPED_CLASS || g->last || !g->pages || !g->can_go))
         return 0;
-    if ((g->available | g->freed) & ~((2u << g->last) - 1) || (g->available & g->freed))
+    if (g->memory >> 47 || (g->available | g->freed) & ~((2u << g->last) - 1) || (g->available & g->freed))
         return 0;
     if (g->pages)
         return g->memory % PAGE == 0 && g->can_go && fits_pages(g);

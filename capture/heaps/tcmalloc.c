@@ -1,5 +1,5 @@
-/* The heap of gperftools' tcmalloc 2.10, without symbols (src/{common,pagemap,span,central_freelist,thread_cache}.h): by its table of sizes, its map of
- * pages and its central lists. */
+/* The heap of gperftools' tcmalloc 2.10, without symbols (src/{common,pagemap,span,central_freelist,thread_cache}.h):
+ * by its table of sizes, its map of pages and its central lists. */
 #include <stdlib.h>
 
 #include "tcmalloc.h"

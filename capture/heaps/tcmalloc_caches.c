@@ -1,5 +1,6 @@
-/* Threads' caches of tcmalloc (src/thread_cache.h): each has a list for each class, with the class's size. Those of threads that have ended are kept, empty.
- * Each leads to the one before and the one behind it in a list of all, or did: so one that is not known as a cache is missed. */
+/* Threads' caches of tcmalloc (src/thread_cache.h): each has a list for each class, with the class's size. Those of
+ * threads that have ended are kept, empty. Each leads to the one before and the one behind it in a list of all, or
+ * did: so one that is not known as a cache is missed. */
 #include <stdlib.h>
 
 #include "tcmalloc.h"
@@ -20,7 +21,8 @@ static unsigned sizes_at(struct tcmalloc *tc, uint64_t cache)
     return found;
 }
 
-/* A thread's cache: its lists, and what they count. Behind them is how many bytes they have in all, and how many they may have, which is never 0. */
+/* A thread's cache: its lists, and what they count. Behind them is how many bytes they have in all, and how many they
+ * may have, which is never 0. */
 static void take_cache(struct tcmalloc *tc, uint64_t cache)
 {
     uint64_t bytes = 0, total, list, length, last;
@@ -29,7 +31,8 @@ static void take_cache(struct tcmalloc *tc, uint64_t cache)
         uint64_t at = cache + LIST_BYTES * i;
         if (!read_word(tc->heap, at, &list) || !read_word(tc->heap, at + 8, &length)
             || take_list(tc, list, i, &last) != (length & UINT32_MAX) || length >> 32 > (length & UINT32_MAX))
-            tell_odd(tc->heap, "the cache at 0x%llx has a list of another length, of class %u", (unsigned long long)cache, i);
+            tell_odd(tc->heap, "the cache at 0x%llx has a list of another length, of class %u",
+                     (unsigned long long)cache, i);
         bytes += (length & UINT32_MAX) * tc->size_of[i];
     }
     if (!read_word(tc->heap, cache + TO_TOTAL, &total) || (total & UINT32_MAX) != bytes || !(total >> 32))
@@ -37,14 +40,16 @@ static void take_cache(struct tcmalloc *tc, uint64_t cache)
     add_unused(tc->heap, cache, cache + TO_TOTAL);
 }
 
-/* Looks for caches by two lists in a row, and by two others, so that one that has an odd word is seen too. Gives where a cache begins, or 0. */
+/* Looks for caches by two lists in a row, and by two others, so that one that has an odd word is seen too. Gives where
+ * a cache begins, or 0. */
 static uint64_t cache_at(struct tcmalloc *tc, uint64_t at, uint64_t value)
 {
     enum { FIRST = 1, SECOND = 5 };
     uint64_t next;
 
     for (unsigned class = FIRST; class <= SECOND; class += SECOND - FIRST)
-        if ((value & UINT32_MAX) == tc->size_of[class] && read_word(tc->heap, at + LIST_BYTES, &next) && (next & UINT32_MAX) == tc->size_of[class + 1]
+        if ((value & UINT32_MAX) == tc->size_of[class] && read_word(tc->heap, at + LIST_BYTES, &next)
+            && (next & UINT32_MAX) == tc->size_of[class + 1]
             && sizes_at(tc, at - 24 - LIST_BYTES * class) + 2 >= tc->classes - 1)
             return at - 24 - LIST_BYTES * class;
     return 0;
@@ -52,9 +57,9 @@ static uint64_t cache_at(struct tcmalloc *tc, uint64_t at, uint64_t value)
 
 static void look_in(struct tcmalloc *tc, const struct segment *s)
 {
-    uint64_t value;
+    uint64_t value, end = s->start + s->size;
 
-    for (uint64_t at = (s->start + 7) & -(uint64_t)8, cache; next_word(tc->heap, &at, s->start + s->size, &value); at += 8) {
+    for (uint64_t at = (s->start + 7) & -(uint64_t)8, cache; next_word(tc->heap, &at, end, &value); at += 8) {
         cache = cache_at(tc, at, value);
         if (!cache)
             continue;
@@ -71,7 +76,8 @@ static void look_in(struct tcmalloc *tc, const struct segment *s)
 /* Whether a link leads to a cache or to none, and which. */
 static int read_link(struct tcmalloc *tc, uint64_t at, uint64_t *link)
 {
-    return read_word(tc->heap, at, link) && (!*link || bsearch(link, tc->caches, tc->cache_count, sizeof *tc->caches, by_start));
+    return read_word(tc->heap, at, link)
+        && (!*link || bsearch(link, tc->caches, tc->cache_count, sizeof *tc->caches, by_start));
 }
 
 /* Whether all caches lead to caches, by links at this offset, or there is but one. */

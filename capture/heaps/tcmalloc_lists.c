@@ -1,8 +1,9 @@
-/* Free objects of tcmalloc: in lists of their spans, in the central lists' caches, and in threads' caches (src/central_freelist.h, thread_cache.h). Each list
- * has its length somewhere. */
+/* Free objects of tcmalloc: in lists of their spans, in the central lists' caches, and in threads' caches
+ * (src/central_freelist.h, thread_cache.h). Each list has its length somewhere. */
 #include "tcmalloc.h"
 
-enum { CENTRAL_BYTES = 1216, TO_SPAN_COUNT = 112, TO_FREE_COUNT = 120, TO_SLOTS = 128, TO_USED = 1152, MOST_SLOTS = 64 };
+enum { CENTRAL_BYTES = 1216, TO_SPAN_COUNT = 112, TO_FREE_COUNT = 120, TO_SLOTS = 128, TO_USED = 1152,
+       MOST_SLOTS = 64 };
 
 static struct objects *objects_at(const struct tcmalloc *tc, uint64_t address)
 {
@@ -65,22 +66,26 @@ static int has_counts(struct tcmalloc *tc, uint64_t at, unsigned class)
 {
     uint64_t spans, free;
 
-    return read_word(tc->heap, at + TO_SPAN_COUNT, &spans) && read_word(tc->heap, at + TO_FREE_COUNT, &free) && spans == tc->spans_of[class]
-        && free == tc->free_of[class];
+    return read_word(tc->heap, at + TO_SPAN_COUNT, &spans) && read_word(tc->heap, at + TO_FREE_COUNT, &free)
+        && spans == tc->spans_of[class] && free == tc->free_of[class];
 }
 
-/* A central list's cache has chains, each as long as what moves at once. A thread that has the list's lock may just be counting: the chains are right then. */
+/* A central list's cache has chains, each as long as what moves at once. A thread that has the list's lock may just be
+ * counting: the chains are right then. */
 static void take_central(struct tcmalloc *tc, unsigned class)
 {
     uint64_t at = tc->central + CENTRAL_BYTES * class, used, head, tail, last;
     int is_known = read_word(tc->heap, at + TO_USED, &used) && (used &= UINT32_MAX) <= MOST_SLOTS;
 
     if (!has_counts(tc, at, class) || !is_known)
-        tell_odd(tc->heap, "the central list at 0x%llx counts other spans or objects than there are", (unsigned long long)at);
+        tell_odd(tc->heap, "the central list at 0x%llx counts other spans or objects than there are",
+                 (unsigned long long)at);
     for (uint64_t i = 0; is_known && i < used; i++)
-        if (!read_word(tc->heap, at + TO_SLOTS + 16 * i, &head) || !read_word(tc->heap, at + TO_SLOTS + 16 * i + 8, &tail)
+        if (!read_word(tc->heap, at + TO_SLOTS + 16 * i, &head)
+            || !read_word(tc->heap, at + TO_SLOTS + 16 * i + 8, &tail)
             || take_list(tc, head, class, &last) != tc->moved_of[class] || last != tail)
-            tell_odd(tc->heap, "the central list at 0x%llx has a chain of another length, number %llu", (unsigned long long)at, (unsigned long long)i);
+            tell_odd(tc->heap, "the central list at 0x%llx has a chain of another length, number %llu",
+                     (unsigned long long)at, (unsigned long long)i);
 }
 
 void take_object_lists(struct tcmalloc *tc)

@@ -1,5 +1,5 @@
-/* tcmalloc's spans (src/span.h, page_heap.cc). The map's words for the first page and the last one of a span lead to it, and for each page if it has objects of
- * a class. Other words may be left over from spans that are gone. */
+/* tcmalloc's spans (src/span.h, page_heap.cc). The map's words for the first page and the last one of a span lead to
+ * it, and for each page if it has objects of a class. Other words may be left over from spans that are gone. */
 #include <stdlib.h>
 
 #include "tcmalloc.h"
@@ -65,7 +65,8 @@ static int take_run(struct tcmalloc *tc, const struct run *r)
     return 1;
 }
 
-/* A word of the map. One for another page than the first of a span may be old, if the span's own first page leads elsewhere. */
+/* A word of the map. One for another page than the first of a span may be old, if the span's own first page leads
+ * elsewhere. */
 static void take_word(struct tcmalloc *tc, uint64_t page, uint64_t span)
 {
     struct run r;
@@ -85,8 +86,8 @@ static void take_leaf(struct tcmalloc *tc, uint64_t leaf, uint64_t key)
         take_word(tc, key << LEAF_SHIFT | (at - leaf) / 8, span);
 }
 
-/* Whether the page heap, which has the map, counts as many bytes as the spans have: all, free ones, and those given back (page_heap.h, Stats). Of its
- * counts the first that is as large as all is that of all. */
+/* Whether the page heap, which has the map, counts as many bytes as the spans have: all, free ones, and those given
+ * back (page_heap.h, Stats). Of its counts the first that is as large as all is that of all. */
 static int has_bytes(struct tcmalloc *tc)
 {
     enum { AROUND = 256 << 10 };
@@ -94,8 +95,8 @@ static int has_bytes(struct tcmalloc *tc)
 
     for (uint64_t at = after; next_word(tc->heap, &at, after + AROUND, &value); at += 8)
         if (value == tc->pages << PAGE_SHIFT)
-            return read_word(tc->heap, at + 8, &free) && free == tc->free_pages << PAGE_SHIFT && read_word(tc->heap, at + 16, &returned)
-                && returned == tc->returned_pages << PAGE_SHIFT;
+            return read_word(tc->heap, at + 8, &free) && free == tc->free_pages << PAGE_SHIFT
+                && read_word(tc->heap, at + 16, &returned) && returned == tc->returned_pages << PAGE_SHIFT;
     return 0;
 }
 

@@ -1,7 +1,8 @@
 #!/bin/bash
-# Some minutes of AFL++ over leak_walk and leak_log, built with the address and undefined sanitizers, from files that are made here, and over the walk of each
-# other heap, from words of its records. By hand, beside the gate. EACH seconds for each of the ways (60), or of those that ONLY names; KEEP names a folder in
-# which what was found is kept, and taken up again.
+# Some minutes of AFL++ over leak_walk and leak_log, built with the address and undefined sanitizers, from files that
+# are made here, and over the walk of each other heap, from words of its records. By hand, beside the gate. EACH
+# seconds for each of the ways (60), or of those that ONLY names; KEEP names a folder in which what was found is kept,
+# and taken up again.
 . "$(dirname "$0")/common.sh"
 command -v afl-fuzz > /dev/null && command -v afl-clang-fast > /dev/null || { leave_out 'fuzzing: no afl++'; complete=1; exit; }
 export AFL_USE_ASAN=1 AFL_USE_UBSAN=1 AFL_QUIET=1 AFL_NO_UI=1 AFL_SKIP_CPUFREQ=1 AFL_AUTORESUME=1 AFL_I_DONT_CARE_ABOUT_MISSING_CRASHES=1 AFL_NO_AFFINITY=1
@@ -17,7 +18,8 @@ python3 "$kit/tests/hostile_cores.py" names cores/names
 python3 "$kit/tests/hostile_cores.py" few tables/few few.core
 "$kit/leak_walk" --quiet cores/small > logs/small
 
-# fuzzed NAME FOLDER COMMAND..: no input that the fuzzer makes of those in the folder may end it by a signal, or take over two seconds.
+# fuzzed NAME FOLDER COMMAND..: no input that the fuzzer makes of those in the folder may end it by a signal, or take
+# over two seconds.
 fuzzed() {
     [[ " ${ONLY:-$1} " = *" $1 "* ]] || return 0
     afl-fuzz -V "$EACH" -t 2000 -m none -i "$2" -o "$KEEP/$1" -- "${@:3}" > "$1.said" 2>&1 || tail -n 20 "$1.said"
@@ -30,7 +32,8 @@ patched() {
     be_ready "$1" "${@:2}" 2 60 600 1
     "$kit/leak_core" "$process" "$1.core" > "$1.dumped" 2>&1
     stop "$process"
-    "$kit/leak_walk" --quiet "$1.core" > "$1.log" && python3 "$kit/tests/heaps_places.py" "$1" "$1.core" "$1.log" "$1.places" "$1.changes" || exit 1
+    "$kit/leak_walk" --quiet "$1.core" > "$1.log" || exit 1
+    python3 "$kit/tests/heaps_places.py" "$1" "$1.core" "$1.log" "$1.places" "$1.changes" || exit 1
     CORE=$PWD/$1.core PLACES=$PWD/$1.places fuzzed "heaps_$1" "$1.changes" ./heaps_patched @@
 }
 
@@ -48,7 +51,8 @@ fuzzed walk_after logs ./leak_walk --after @@ cores/small
 fuzzed log tables ./leak_log few.core @@
 
 build heaps_storm.c
-afl-clang-fast -I. -O1 -g -fno-sanitize-recover=undefined -o heaps_patched "$kit/tests/heaps_patched.c" $(ls objects/common/*.o objects/walk/*.o objects/heaps/*.o | grep -v /leak_walk.o) || exit 1
+afl-clang-fast -I. -O1 -g -fno-sanitize-recover=undefined -o heaps_patched "$kit/tests/heaps_patched.c" \
+    $(ls objects/{common,walk,heaps}/*.o | grep -v /leak_walk.o) || exit 1
 if command -v musl-gcc > /dev/null; then
     musl-gcc -O1 -g -pthread "$kit/tests/heaps_storm.c" -o storm_musl && patched musl ./storm_musl
 else

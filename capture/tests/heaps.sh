@@ -1,6 +1,6 @@
-# leak_walk of other heaps than glibc's: programs at rest and killed at any moment, whose memory says what is live; leaks that leak_report names without
-# an option; and words of the heap's records that are changed. STORMS and DAMAGES say how many (heaps_long.sh), and SEED which: each commit has others. An
-# allocator that is not installed is left out.
+# leak_walk of other heaps than glibc's: programs at rest and killed at any moment, whose memory says what is live;
+# leaks that leak_report names without an option; and words of the heap's records that are changed. STORMS and DAMAGES
+# say how many (heaps_long.sh), and SEED which: each commit has others. An allocator that is not installed is left out.
 section other heaps
 walk=$kit/leak_walk
 seed=${SEED:-$((0x$(git -C "$kit" rev-parse --short=7 HEAD 2> /dev/null || echo 1)))}

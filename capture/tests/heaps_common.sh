@@ -1,4 +1,5 @@
-# What the tests of other heaps share: storms at rest and killed at any moment, changed words, and planted leaks. They want `walk` and `seed`.
+# What the tests of other heaps share: storms at rest and killed at any moment, changed words, and planted leaks. They
+# want `walk` and `seed`.
 
 # core_now PID NAME: a core of the process, which is ended.
 core_now() {
@@ -33,22 +34,28 @@ damages() {
     sed 's/^/     /' "$1.damaged"
 }
 
-# interrupted: what a thread of jemalloc gives back counts as blocks while a signal has stopped it there, though its handler waits elsewhere.
+# interrupted: what a thread of jemalloc gives back counts as blocks while a signal has stopped it there, though its
+# handler waits elsewhere.
 interrupted() {
     cp jemalloc.core interrupted.core
     python3 "$kit/tests/heaps_interrupted.py" "$walk" interrupted.core > interrupted.told
-    verdict "jemalloc: a thread that a signal stopped: all that it was giving back is told as blocks" yes "$(awk '{ print ($1 > 0 && $1 == $2 ? "yes" : $0) }' interrupted.told)"
+    verdict "jemalloc: a thread that a signal stopped: all that it was giving back is told as blocks" yes \
+        "$(awk '{ print ($1 > 0 && $1 == $2 ? "yes" : $0) }' interrupted.told)"
     rm -f interrupted.core
 }
 
-# widened: jemalloc's tree of extents has another shape where it was built on another processor: then the blocks are the same.
+# widened: jemalloc's tree of extents has another shape where it was built on another processor: then the blocks are
+# the same.
 widened() {
-    python3 "$kit/tests/heaps_wide.py" jemalloc.core jemalloc.log wide.core && limited 60 "$walk" --quiet wide.core > wide.log
-    verdict 'jemalloc: a tree of three levels: the same blocks' "$(grep -v '^[-+]' jemalloc.log | md5sum)" "$(grep -v '^[-+]' wide.log | md5sum)"
+    python3 "$kit/tests/heaps_wide.py" jemalloc.core jemalloc.log wide.core &&
+        limited 60 "$walk" --quiet wide.core > wide.log
+    verdict 'jemalloc: a tree of three levels: the same blocks' "$(grep -v '^[-+]' jemalloc.log | md5sum)" \
+        "$(grep -v '^[-+]' wide.log | md5sum)"
     rm -f wide.core
 }
 
-# planted KIND LEAST PROGRAM..: leak_report names lost blocks, at least so many of 400, and nothing else, but the object that tcmalloc loses itself.
+# planted KIND LEAST PROGRAM..: leak_report names lost blocks, at least so many of 400, and nothing else, but the
+# object that tcmalloc loses itself.
 planted() {
     local kind=$1 least=$2 others=0
     [ "$kind" != tcmalloc ] || others=1
@@ -64,8 +71,8 @@ planted() {
     rm -rf "$kind.kept"
 }
 
-# storms_of KIND PROGRAM..: killed at any moment, in every second one with threads that a signal stopped at any moment before: nothing is missing. What a
-# thread has in hand may not fit: then it is said.
+# storms_of KIND PROGRAM..: killed at any moment, in every second one with threads that a signal stopped at any moment
+# before: nothing is missing. What a thread has in hand may not fit: then it is said.
 storms_of() {
     local kind=$1 bad=0 odd=0 refused=0 status
     for i in $(seq "${STORMS:-3}"); do

@@ -1,6 +1,7 @@
-"""heaps_damage.py WALK KIND CORE COUNT SEED: changes a word of each kind of record of a heap in turn, COUNT in all, or fills the bytes around it with zeros,
-and walks the core each time. Such a walk must refuse the core, or find the same blocks, and no more memory that is not in use. Prints how many did each, and
-where a log was another one; those of which nothing else in the core says the same are counted by themselves."""
+"""heaps_damage.py WALK KIND CORE COUNT SEED: changes a word of each kind of record of a heap in turn, COUNT in all, or
+fills the bytes around it with zeros, and walks the core each time. Such a walk must refuse the core, or find the same
+blocks, and no more memory that is not in use. Prints how many did each, and where a log was another one; those of which
+nothing else in the core says the same are counted by themselves."""
 import random
 import subprocess
 import sys

@@ -1,6 +1,7 @@
-"""heaps_interrupted.py WALK CORE: makes of a core of jemalloc at rest one in which a signal has stopped a thread as it gave back what a bin of its cache has,
-and the handler waits in a system call (Linux, struct rt_sigframe). Prints how many items the bin has, and how many of them the walk then tells as blocks: all,
-since another thread may have them by now."""
+"""heaps_interrupted.py WALK CORE: makes of a core of jemalloc at rest one in which a signal has stopped a thread as it
+gave back what a bin of its cache has, and the handler waits in a system call (Linux, struct rt_sigframe). Prints how
+many items the bin has, and how many of them the walk then tells as blocks: all, since another thread may have them by
+now."""
 import struct
 import subprocess
 import sys

@@ -1,5 +1,6 @@
-/* heaps_patched CHANGES, for a fuzzer: leak_walk of the core that the variable CORE names, of which words are changed. The file that PLACES names has where in
- * the core's file the records of a heap have theirs, 8 bytes for each; CHANGES has 10 for each change: which of these words, and what it becomes. */
+/* heaps_patched CHANGES, for a fuzzer: leak_walk of the core that the variable CORE names, of which words are changed.
+ * The file that PLACES names has where in the core's file the records of a heap have theirs, 8 bytes for each; CHANGES
+ * has 10 for each change: which of these words, and what it becomes. */
 #define _GNU_SOURCE
 #include <stdint.h>
 #include <stdio.h>
@@ -46,7 +47,8 @@ static void change(struct bytes core, struct bytes places, const char *change)
 int main(int count, char **words)
 {
     enum { CHANGE = 10 };
-    struct bytes core = contents(getenv("CORE")), places = contents(getenv("PLACES")), changes = contents(words[count - 1]);
+    struct bytes core = contents(getenv("CORE")), places = contents(getenv("PLACES"));
+    struct bytes changes = contents(words[count - 1]);
     int file = memfd_create("core", 0);
     char path[40], quiet[] = "--quiet", *of_walk[] = { words[0], quiet, path, NULL };
 

@@ -1,5 +1,5 @@
-"""heaps_places.py KIND CORE LOG PLACES CHANGES: for heaps_patched.c, where in the core's file the words of a heap's records are, at most 65,536; and in a new
-folder some changes."""
+"""heaps_places.py KIND CORE LOG PLACES CHANGES: for heaps_patched.c, where in the core's file the words of a heap's
+records are, at most 65,536; and in a new folder some changes."""
 import os
 import random
 import struct
@@ -23,4 +23,6 @@ os.mkdir(changes)
 for number in range(40):
     chosen = [random.randrange(len(words)) for _ in range(1 + number % 3)]
     with open("%s/%d" % (changes, number), "wb") as file:
-        file.write(b"".join(struct.pack("<HQ", i, core.word(words[i]) ^ random.choice([0, 1 << random.randrange(64), random.getrandbits(16)])) for i in chosen))
+        for i in chosen:
+            change = random.choice([0, 1 << random.randrange(64), random.getrandbits(16)])
+            file.write(struct.pack("<HQ", i, core.word(words[i]) ^ change))

@@ -23,8 +23,9 @@ def musl(core, blocks, anchor):
 
 
 def jemalloc(core, blocks, anchor):
-    """Heads of base blocks, the tree's root and leaves, edatas with their maps, and threads' caches: bins, the heads of their items by themselves, and the
-    junk at their stack's ends (jemalloc 5.3, include/jemalloc/internal/{base,rtree,edata,cache_bin}.h)."""
+    """Heads of base blocks, the tree's root and leaves, edatas with their maps, and threads' caches: bins, the heads of
+    their items by themselves, and the junk at their stack's ends (jemalloc 5.3,
+    include/jemalloc/internal/{base,rtree,edata,cache_bin}.h)."""
     found = {"bases": [], "root": [], "leaves": [], "edatas": [], "maps": [], "bins": [], "heads": [], "junk": []}
     bases = []
     for start, size in core.writable():
@@ -34,7 +35,8 @@ def jemalloc(core, blocks, anchor):
                 bases.append((at, at + length))
                 found["bases"] += [at, at + 8, at + 24, at + 32]
     inside = lambda at: any(start <= at < end for start, end in bases)
-    found["root"] = [at for page in range(anchor & -4096, anchor + (1 << 21), 4096) for at in used(core, page, 512) if 0 <= at - anchor < 1 << 21]
+    found["root"] = [at for page in range(anchor & -4096, anchor + (1 << 21), 4096) for at in used(core, page, 512)
+                     if 0 <= at - anchor < 1 << 21]
     edatas = set()
     for root in found["root"]:
         leaf = core.word(root)
@@ -57,7 +59,8 @@ def jemalloc(core, blocks, anchor):
 
 
 def jemalloc_unconfirmed(record, old, new, records):
-    """A map with as many free regions, the place in its first page where a large block begins, and where in its stack the items of a bin begin."""
+    """A map with as many free regions, the place in its first page where a large block begins, and where in its stack
+    the items of a bin begin."""
     (at, before), after = next(iter(old.items())), next(iter(new.values()))
     return len(new) == 1 and (record == "heads" or (record == "maps" and bin(before).count("1") == bin(after).count("1"))
                               or (record == "edatas" and at % 128 == 8 and not (before ^ after) & ~0xfc0))
@@ -89,8 +92,8 @@ def arrays(core):
 
 
 def mimalloc(core, blocks, anchor):
-    """Heaps and their threads' data, segments, pages, the slices that lead back, free blocks, and those that other threads freed (mimalloc 2.0,
-    include/mimalloc-types.h)."""
+    """Heaps and their threads' data, segments, pages, the slices that lead back, free blocks, and those that other
+    threads freed (mimalloc 2.0, include/mimalloc-types.h)."""
     found = {"heaps": [], "segments": [], "pages": [], "slices": [], "lists": [], "others": []}
     heaps = {anchor}
     for start, size in core.writable():
@@ -133,9 +136,10 @@ SEGMENT = 32 << 20
 
 
 def tcmalloc(core, blocks, anchor):
-    """The map of pages, spans, central lists and their chains, threads' caches and the first objects of lists (gperftools 2.10,
-    src/{span,central_freelist,thread_cache}.h)."""
-    found = {"root": used(core, anchor, 1 << 17), "leaves": [], "spans": [], "central": [], "chains": [], "caches": [], "lists": []}
+    """The map of pages, spans, central lists and their chains, threads' caches and the first objects of lists
+    (gperftools 2.10, src/{span,central_freelist,thread_cache}.h)."""
+    found = {"root": used(core, anchor, 1 << 17), "leaves": [], "spans": [], "central": [], "chains": [], "caches": [],
+             "lists": []}
     spans = set()
     for root in found["root"]:
         for page in range(0, 8 << 18, 4096):

@@ -1,6 +1,7 @@
 #!/bin/bash
-# heaps_releases.sh [RELEASE..]: leak_walk of heaps of the allocators that other Debian releases have, by hand. apt-get fetches their packages, from the network,
-# into a folder of this test. A storm under each must be walked, at rest and killed at any moment, or be refused in a line.
+# heaps_releases.sh [RELEASE..]: leak_walk of heaps of the allocators that other Debian releases have, by hand. apt-get
+# fetches their packages, from the network, into a folder of this test. A storm under each must be walked, at rest and
+# killed at any moment, or be refused in a line.
 . "$(dirname "$0")/common.sh"
 command -v apt-get > /dev/null || { leave_out 'other releases: no apt-get'; complete=1; exit; }
 walk=$kit/leak_walk
@@ -13,26 +14,34 @@ command -v musl-gcc > /dev/null && musl-gcc -O1 -g -pthread "$kit/tests/heaps_st
 fetch() {
     local at=$work/$1 names package
     mkdir -p "$at/lists/partial" "$at/cache/archives/partial"
-    echo "deb [signed-by=/usr/share/keyrings/debian-archive-keyring.gpg] http://deb.debian.org/debian $1 main" > "$at/sources.list"
+    echo "deb [signed-by=/usr/share/keyrings/debian-archive-keyring.gpg] http://deb.debian.org/debian $1 main" \
+        > "$at/sources.list"
     : > "$at/status"
-    printf '%s "%s";\n' Dir::Etc::sourcelist "$at/sources.list" Dir::Etc::sourceparts - Dir::State::lists "$at/lists" Dir::State::status "$at/status" \
-        Dir::Cache "$at/cache" APT::Sandbox::User root > "$at/apt.conf"
+    printf '%s "%s";\n' Dir::Etc::sourcelist "$at/sources.list" Dir::Etc::sourceparts - Dir::State::lists "$at/lists" \
+        Dir::State::status "$at/status" Dir::Cache "$at/cache" APT::Sandbox::User root > "$at/apt.conf"
     apt-get -c "$at/apt.conf" update > "$at/said" 2>&1 || return
-    names=$(for package in libc6 libgcc-s1 libstdc++6 libatomic1 zlib1g liblzma5 libunwind8 musl libjemalloc2 libmimalloc2.0 libmimalloc3 libtcmalloc-minimal4 \
-        libtcmalloc-minimal4t64 libgoogle-perftools4 libgoogle-perftools4t64; do apt-cache -c "$at/apt.conf" show $package 2> /dev/null | sed -n 's/^Package: //p' | head -n 1; done)
-    (cd "$at" && apt-get -c "$at/apt.conf" download $names >> said 2>&1 && for package in *.deb; do dpkg -x "$package" .; done)
+    names=$(for package in libc6 libgcc-s1 libstdc++6 libatomic1 zlib1g liblzma5 libunwind8 musl libjemalloc2 libmimalloc2.0 \
+        libmimalloc3 libtcmalloc-minimal4 libtcmalloc-minimal4t64 libgoogle-perftools4 libgoogle-perftools4t64; do
+        apt-cache -c "$at/apt.conf" show $package 2> /dev/null | sed -n 's/^Package: //p' | head -n 1
+    done)
+    (cd "$at" && apt-get -c "$at/apt.conf" download $names >> said 2>&1 &&
+        for package in *.deb; do dpkg -x "$package" .; done)
 }
 
 # tried NAME PROGRAM..: walked, or refused.
 tried() {
     be_ready "$1" "${@:2}" 3 1500 8000 1
+    local status
     core_now "$process" "$1"
-    if limited 60 "$walk" --quiet "$1.core" > "$1.log" 2> "$1.said"; then
+    limited 60 "$walk" --quiet "$1.core" > "$1.log" 2> "$1.said"
+    status=$?
+    if [ $status = 0 ]; then
         python3 "$kit/tests/heaps_truth.py" "$1.core" "$1.log" > "$1.truth"
         verdict "$1: at rest: its blocks" 'missing 0 smaller 0' "$(head -n 1 "$1.truth")"
         storms_of "$@"
     else
-        verdict "$1: refused in a line" '0 1' "$(wc -l < "$1.log") $(wc -l < "$1.said")"
+        [ -s "$1.core" ] || status='no core'
+        verdict "$1: refused in a line" '2 0 1' "$status $(wc -l < "$1.log") $(wc -l < "$1.said")"
         sed 's/^/     /' "$1.said"
     fi
     rm -f "$1.core"
@@ -46,10 +55,11 @@ for release in ${@:-bullseye trixie sid}; do
     for library in "$libraries"/lib{jemalloc,mimalloc,tcmalloc,tcmalloc_minimal}.so.?; do
         [ -e "$library" ] || continue
         # one older than the program's C library is preloaded as it is
-        if "$loader" --library-path "$libraries:$work/$release/lib/x86_64-linux-gnu" --list ./heaps_storm > /dev/null 2>&1; then
-            tried "$release.$(basename "$library")" "$loader" --library-path "$libraries" --preload "$library" ./heaps_storm
+        name=$release.$(basename "$library")
+        if [ ! "$("$loader" --library-path "$libraries" --list ./heaps_storm 2>&1 | grep 'not found')" ]; then
+            tried "$name" "$loader" --library-path "$libraries" --preload "$library" ./heaps_storm
         else
-            tried "$release.$(basename "$library")" env LD_PRELOAD="$library" ./heaps_storm
+            tried "$name" env LD_PRELOAD="$library" ./heaps_storm
         fi
     done
     musl=$(find "$work/$release" -path '*musl/libc.so' | head -n 1)

@@ -1,7 +1,8 @@
-/* heaps_storm THREADS SLOTS ROUNDS SEED [LEAKS]: threads that allocate and free at random, and what is live at a fixed place of memory, from which a
- * core tells it. Without rounds it goes on until it is killed; else it rests after as many, and says `ready`. With LEAKS, as many blocks are lost in
- * pairs, of which the first leads to the second, and the slots hold what they have; else all addresses are complemented, so that nothing leads to a block.
- * With LEAKS and without rounds as many threads are stopped, each in a handler of a signal, while the others go on. */
+/* heaps_storm THREADS SLOTS ROUNDS SEED [LEAKS]: threads that allocate and free at random, and what is live at a fixed
+ * place of memory, from which a core tells it. Without rounds it goes on until it is killed; else it rests after as
+ * many, and says `ready`. With LEAKS, as many blocks are lost in pairs, of which the first leads to the second, and
+ * the slots hold what they have; else all addresses are complemented, so that nothing leads to a block. With LEAKS and
+ * without rounds as many threads are stopped, each in a handler of a signal, while the others go on. */
 #define _GNU_SOURCE
 #include <malloc.h>
 #include <pthread.h>
@@ -13,7 +14,8 @@
 #include <sys/mman.h>
 #include <unistd.h>
 
-enum { HANDS = 256, MOST_THREADS = 64, MOST_LEAKS = 4000, BRIEF = 200, BRIEF_THREADS = 4, BRIEF_TURNS = 20, LETTERS = 8192 };
+enum { HANDS = 256, MOST_THREADS = 64, MOST_LEAKS = 4000, BRIEF = 200, BRIEF_THREADS = 4, BRIEF_TURNS = 20,
+       LETTERS = 8192 };
 
 struct slot {
     _Atomic uint64_t address;

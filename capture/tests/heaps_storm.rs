@@ -1,5 +1,5 @@
-// storm_rust THREADS SLOTS 0 SEED: as heaps_storm.c without rounds, by the allocator of Rust's std: blocks that grow and shrink, aligned ones, and strings of
-// threads that end, until it is killed.
+// storm_rust THREADS SLOTS 0 SEED: as heaps_storm.c without rounds, by the allocator of Rust's std: blocks that grow
+// and shrink, aligned ones, and strings of threads that end, until it is killed.
 use std::alloc::{alloc, alloc_zeroed, dealloc, realloc, Layout};
 use std::collections::HashMap;
 use std::sync::atomic::{AtomicU64, Ordering::SeqCst};
@@ -79,11 +79,15 @@ fn main() {
         word(SLOTS_AT + 32 * slot).store(!0, SeqCst);
     }
     let storms: Vec<_> = (0..threads)
-        .map(|number| std::thread::spawn(move || storm(number, threads, slots, (seed * 64 + number as u64 + 1).wrapping_mul(0x9e3779b97f4a7c15) | 1)))
+        .map(|number| {
+            let own_seed = (seed * 64 + number as u64 + 1).wrapping_mul(0x9e3779b97f4a7c15) | 1;
+            std::thread::spawn(move || storm(number, threads, slots, own_seed))
+        })
         .collect();
     loop {
         // threads that end, with what they allocated
-        let brief: Vec<_> = (0..4u64).map(|n| std::thread::spawn(move || (0..200).map(|i| format!("{i} {n}")).collect::<Vec<_>>().len())).collect();
+        let strings = |n| (0..200).map(|i| format!("{i} {n}")).collect::<Vec<String>>().len();
+        let brief: Vec<_> = (0..4).map(|n: u64| std::thread::spawn(move || strings(n))).collect();
         brief.into_iter().for_each(|thread| drop(thread.join()));
         std::thread::sleep(std::time::Duration::from_millis(3));
         if storms.iter().all(|storm| storm.is_finished()) {

@@ -1,5 +1,6 @@
-"""heaps_wide.py CORE LOG WIDE: writes of a core of jemalloc 5.3 one as if it had been built for addresses of 57 bits: its tree of extents has three levels of 15
-bits in place of two of 18, and a page has two words in a leaf (include/jemalloc/internal/rtree.h). The nodes and leaves lie where the leaves were."""
+"""heaps_wide.py CORE LOG WIDE: writes of a core of jemalloc 5.3 one as if it had been built for addresses of 57 bits:
+its tree of extents has three levels of 15 bits in place of two of 18, and a page has two words in a leaf
+(include/jemalloc/internal/rtree.h). The nodes and leaves lie where the leaves were."""
 import struct
 import sys
 
@@ -59,11 +60,13 @@ for page, word in pages.items():
     put(leaves[page >> 15] + 16 * (page & 0x7fff), word & (1 << 48) - 128)
     put(leaves[page >> 15] + 16 * (page & 0x7fff) + 8, word >> 48 << 5 | word & 31)
 
-new = [(start & -PAGE, area_of(start & -PAGE, start % PAGE) + bytes(area) + area_of(start + AREA, -start % PAGE)) for start, area in areas.items()]
+new = [(start & -PAGE, area_of(start & -PAGE, start % PAGE) + bytes(area) + area_of(start + AREA, -start % PAGE))
+       for start, area in areas.items()]
 new.append((root_at, bytes(new_root)))
 loads = [(start, 6, bytes(data)) for start, data in new]        # readable and writable
 for start, size, place, flags in core.segments:
-    cuts = sorted((begin, begin + len(data)) for begin, data in new if begin < start + size and start < begin + len(data))
+    cuts = sorted((begin, begin + len(data)) for begin, data in new
+                  if begin < start + size and start < begin + len(data))
     at = start
     for begin, end in cuts + [(start + size, start + size)]:
         if at < begin:
@@ -80,7 +83,7 @@ struct.pack_into("<Q", head, 32, 64)
 struct.pack_into("<H", head, 56, len(notes) + len(loads))
 place = 64 + 56 * (len(notes) + len(loads))
 headers, contents = [], []
-for kind, start, flags, data in [(4, 0, 4, note) for note in notes] + [(1, start, flags, data) for start, flags, data in loads]:
+for kind, start, flags, data in [(4, 0, 4, note) for note in notes] + [(1, *load) for load in loads]:
     headers.append(struct.pack("<IIQQQQQQ", kind, flags, place, start, 0, len(data), len(data) if kind == 1 else 0, 1))
     contents.append(data)
     place += len(data)
