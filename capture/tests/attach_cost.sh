@@ -1,8 +1,8 @@
 #!/bin/bash
 # What attaching costs a program that only allocates: how long it stood still, as it saw it itself, a malloc and a
 # free before, meanwhile and after, and memory left behind; beside heaptrack -p and uprobes of bpftrace, one after
-# the other in the same minutes. `attach_cost.sh [THREADS..]` (1 4). As root, on a machine that is otherwise idle;
-# not part of `make check`.
+# the other in the same minutes. `attach_cost.sh [THREADS..]` (1 4). As root, on a machine that is otherwise idle, or
+# by `chrt -r 1`; not part of `make check`.
 . "$(dirname "$0")/common.sh"
 . "$kit/tests/attach_common.sh"
 unset LEAK_TRACE
@@ -16,6 +16,7 @@ uprobe:LIBC:free /pid == PID/ { delete(@blocks[arg0]); }
 END { clear(@blocks); clear(@size); }
 END_OF_PROGRAM
 
+declare -A shown=([leak_trace]='leak_trace --attach' [heaptrack]='heaptrack -p' [bpftrace]='bpftrace, uprobes')
 private() { awk '$1 == "RssAnon:" { print $2 }' "/proc/$1/status"; }
 lines() { wc -l < cost.out; }
 # middle COLUMN FROM: of the lines from there on.
@@ -73,14 +74,24 @@ measure() {
     sleep 0.5
     stood_at_end=$(longest "$from")
     after=$(while_on 3)
-    echo "| $1 | $2 | $stood, $stood_at_end | $before | $meanwhile | $after | $(($(private "$process") - memory)) |"
+    memory=$(($(private "$process") - memory))
+    echo "| ${shown[$1]} | $2 | $stood, $stood_at_end | $before | $meanwhile | $after | $memory |"
     verdict "$1: the program lives" yes "$(is_dead "$process" || echo yes)"
     stop "$process"
+}
+# measure_started THREADS: a row of leak_trace from the program's start on.
+measure_started() {
+    LEAK_TRACE=/dev/shm/leak_trace_cost.$$ be_ready cost "$trace" -d 8 ./attach_cost "$1"
+    sleep 1
+    echo "| leak_trace -d 8, from the start | $1 | | | $(while_on 4) | | |"
+    stop "$process"
+    rm -f /dev/shm/leak_trace_cost.$$*
 }
 echo "$(nproc) processors, load $(cut -d ' ' -f 1-3 /proc/loadavg), Linux $(uname -r)"
 echo '| Tool | threads | longest standstill, attaching and detaching, ms |' \
     'ns for malloc and free before: processor (clock) | meanwhile | after | KiB of private memory left |'
 for threads in "$@"; do
+    measure_started "$threads"
     measure leak_trace "$threads"
     for tool in heaptrack bpftrace; do
         command -v $tool > /dev/null || { leave_out "$tool, which is not installed"; continue; }
