@@ -21,7 +21,7 @@ SHAPES = {
     "part": re.compile(f"part {ADDRESS} {ADDRESS}"),
     "led": re.compile(f"led {ADDRESS} {ADDRESS}"),
 }
-TELLING = ("stdio", "like", "text", "object", "container", "word", "literal", "holds")  # the most telling first
+TELLING = ("stdio", "object", "like", "text", "container", "word", "literal", "holds")  # the most telling first
 CONTAINERS = {
     "tree": "node of std::map or set",
     "hash": "node of std::unordered_map or set",

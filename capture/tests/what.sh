@@ -136,6 +136,8 @@ if [ "$dumps" ]; then
     verdict 'whose nodes, elements and texts blocks are' "$(wanted_of what_cxx.cc)" "$(contained containers)"
     verdict 'all nodes of each' 'buckets 1, hash 6, string 1, tree 3' \
         "$(awk '$1 == "container" { count[$3]++ } END { for (it in count) print it, count[it] }' containers.what | LC_ALL=C sort | paste -s -d , | sed 's/,/, /g')"
+    limited 300 python3 "$kit/tests/what_damage.py" "$tells" containers.core containers.log containers.report > damage.said 2>&1
+    verdict 'damaged ones: each has an answer or is refused' 'status 0 or 2' "$(tail -n 1 damage.said)"
     g++ -O1 -g -static-libstdc++ -static-libgcc "$kit/tests/what_cxx.cc" -o what_cxx
     unprepared_dump containers ./what_cxx
     stop $process
@@ -151,6 +153,8 @@ if [ "$dumps" ]; then
     stop $process
     told objects | grep ' object ' > objects.told
     verdict 'of talloc, and of types of Python' "$(wanted_of what_objects.c)" "$(cat objects.told)"
+    limited 300 python3 "$kit/tests/what_damage.py" "$tells" objects.core objects.log objects.report > damage.said 2>&1
+    verdict 'damaged ones: each has an answer or is refused' 'status 0 or 2' "$(tail -n 1 damage.said)"
     strip what_objects && unprepared_dump objects ./what_objects
     stop $process
     told objects | grep ' object ' > objects.told
@@ -222,6 +226,12 @@ if [ "$dumps" ]; then
 ^like 4000 what_many 200000
 were.not.compared 1 what_odd 500000 odd
 END
+    build what_chains.cc
+    unprepared_dump many ./what_chains
+    stop $process
+    (ulimit -t 20; limited 300 "$tells" many.core many.log many.report > many.what 2> many.said)
+    verdict 'a chain of 20,000 tables: at most 20 s of processor time, and none is told' '0 1 0' \
+        "$? $(grep -c 'too many words: no containers are told' many.said) $(grep -c '^container' many.what)"
     unprepared_dump many ./what_many 1000000
     stop $process
     verdict 'a million blocks, 50,000 of them lost: at most 5 s of processor time and 200 MB' '0 in bounds' \
