@@ -49,6 +49,15 @@ elif [ "$dumps" ]; then
     verdict 'an object with a table keeps its class by that' 1 \
         "$(grep -c "^@ $work/types_cxx:\[0x[0-9a-f]*\] + 0x[0-9a-f]* 0x68\$" cxx.typed)"
 
+    if command -v clang > /dev/null; then
+        clang -O1 -g "${known[@]}" -o types_clang || exit 1
+        heap_dump clang types_clang
+        types clang
+        verdict 'by clang, which has the addresses of variables in a list' "$(wanted_types types.c)" "$(typed clang)"
+    else
+        leave_out 'types by clang'
+    fi
+
     # array_of LANGUAGE: what is said of an array of three by a source in that language (DWARF, DW_LANG).
     array_of() {
         echo 'char *list[3];' | gcc -O1 -g -dA -S -x c - -o language.s

@@ -80,20 +80,35 @@ static void define(struct debug *debug, Dwarf_Die *die, const char *scope)
     debug->list[debug->count++] = found;
 }
 
-/* Takes a variable at a fixed address. One of a thread has an expression that is longer. */
+/* The fixed address of a variable: gcc writes it down, clang its number in a list. One of a thread has a longer
+ * expression. */
+static int address_of(Dwarf_Die *die, uint64_t *at)
+{
+    Dwarf_Attribute location, listed;
+    Dwarf_Op *operations;
+    Dwarf_Addr address;
+    size_t count;
+
+    if (!dwarf_attr(die, DW_AT_location, &location) || dwarf_getlocation(&location, &operations, &count) || count != 1)
+        return 0;
+    *at = operations[0].number;
+    if (operations[0].atom == DW_OP_addr)
+        return 1;
+    if ((operations[0].atom != DW_OP_addrx && operations[0].atom != DW_OP_GNU_addr_index)
+        || dwarf_getlocation_attr(&location, operations, &listed) || dwarf_formaddr(&listed, &address))
+        return 0;
+    *at = address;
+    return 1;
+}
+
 static void take_variable(struct debug *debug, Dwarf_Die *die)
 {
     struct variable found;
-    Dwarf_Attribute location;
-    Dwarf_Op *operations;
-    size_t count;
 
-    if (!dwarf_attr(die, DW_AT_location, &location) || dwarf_getlocation(&location, &operations, &count) || count != 1
-        || operations[0].atom != DW_OP_addr || !type_of(die, &found.type))
+    if (!address_of(die, &found.at) || !type_of(die, &found.type))
         return;
     if (debug->variable_count >= MOST_LISTED)
         fail("standard input: too many variables");
-    found.at = operations[0].number;
     debug->variables = grown(debug->variables, debug->variable_count, sizeof *debug->variables);
     debug->variables[debug->variable_count++] = found;
 }

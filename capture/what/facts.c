@@ -133,20 +133,22 @@ static void put_likeness(struct what *what, struct sources *sources, long number
     put_text("\n");
 }
 
-static void put_object(struct what *what, const struct block *block)
+/* Gives whether the block is an object, whose likeness would tell less. */
+static int put_object(struct what *what, const struct block *block)
 {
-    const uint8_t *bytes;
-    const char *of;
-    uint64_t length = object_name(what, block, &bytes, &of);
+    struct object object;
 
-    if (!length)
-        return;
+    if (!is_object(what, block, &object))
+        return 0;
+    if (!object.length)
+        return 1;
     begin_fact("object", block);
     put_text(" ");
-    put_text(of);
+    put_text(object.of);
     put_text(" ");
-    put_quoted(bytes, length, MOST_TEXT);
+    put_quoted(object.name, object.length, MOST_TEXT);
     put_text("\n");
+    return 1;
 }
 
 /* Which container of C++ the block is of, and in which lost block and where that is. */
@@ -221,10 +223,9 @@ void put_facts(struct what *what, struct sources *sources, long number, long pla
         put_text_fact(block, bytes, length);
     else if (is_stdio(what, block))
         begin_fact("stdio", block), put_text("\n");
-    else if (place != NONE)
+    else if (!put_object(what, block) && place != NONE)
         put_likeness(what, sources, number);
     if (!length) {
-        put_object(what, block);
         put_words(what, block, 0, &left);
         put_words(what, block, 1, &left);
     }

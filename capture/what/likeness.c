@@ -144,6 +144,15 @@ static int is_periodic(const uint32_t *codes, size_t count)
     return 0;
 }
 
+/* Whether the word may be what malloc left there: the size of a chunk, which is a multiple of 16, and a bit. */
+static int is_left(uint32_t code)
+{
+    enum { LEAST = 32, ALIGNMENT = 16 };
+    uint32_t number = code & DETAIL;
+
+    return code >> KIND_AT == SMALL && number >= LEAST && number % ALIGNMENT == 1;
+}
+
 /* Whether all words that are not null are addresses of blocks. Arrays of pointers look alike, whatever they are of. */
 static int is_array(const uint32_t *codes, size_t count)
 {
@@ -151,7 +160,7 @@ static int is_array(const uint32_t *codes, size_t count)
     size_t pointers = 0, some = 0;
 
     for (size_t i = 0; i < count; i++) {
-        some += codes[i] >> KIND_AT != NULL_WORD;
+        some += codes[i] >> KIND_AT != NULL_WORD && !is_left(codes[i]);
         pointers += codes[i] >> KIND_AT == BLOCK;
     }
     return pointers >= LEAST && pointers == some;

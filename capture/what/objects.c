@@ -85,16 +85,20 @@ static int has_size(const struct block *block, uint64_t before, const uint64_t *
     return size < MOST_SIZE && fits_block(before + ((size + WORD - 1) & -(uint64_t)WORD), block->size);
 }
 
-/* The name of a type. A `str` has its letters behind it, so its size says nothing. */
-static uint64_t type_name(struct what *what, const uint64_t *type, const uint8_t **bytes)
+/* Whether the object has this type, whose name is in `object`. A `str` has its letters behind it, so its size says
+ * nothing, and the name is not told. */
+static int has_type(struct what *what, const struct block *block, uint64_t before, const uint64_t *type,
+                    uint64_t items, struct object *object)
 {
-    uint64_t length = name_at(what, type[TYPE_NAME], bytes);
-
-    return length == strlen("str") && !memcmp(*bytes, "str", length) ? 0 : length;
+    object->length = name_at(what, type[TYPE_NAME], &object->name);
+    if (object->length != strlen("str") || memcmp(object->name, "str", object->length))
+        return object->length && has_size(block, before, type, items);
+    object->length = 0;
+    return 1;
 }
 
-/* The name of the type of an object of Python, before which the collector and the members may have words. */
-static uint64_t python_name(struct what *what, const struct block *block, const uint8_t **bytes)
+/* Whether it is an object of Python, before which the collector and the members may have words. */
+static int is_python(struct what *what, const struct block *block, struct object *object)
 {
     uint64_t words[MOST_BEFORE / WORD + ITEMS + 1] = { 0 }, type[TYPE_WORDS];
     uint64_t count = block->size / WORD < sizeof words / WORD ? block->size / WORD : sizeof words / WORD;
@@ -104,16 +108,18 @@ static uint64_t python_name(struct what *what, const struct block *block, const 
     for (uint64_t at = 0; at <= MOST_BEFORE / WORD && at + TYPE < count; at += 2)
         if (words[at + REFERENCES] <= UINT32_MAX && words[at + TYPE] >= PAGE
             && read_words(what, words[at + TYPE], type, TYPE_WORDS) && is_type_of_types(what, type[TYPE])
-            && has_size(block, at * WORD, type, words[at + ITEMS]))
-            return type_name(what, type, bytes);
+            && has_type(what, block, at * WORD, type, words[at + ITEMS], object))
+            return 1;
     return 0;
 }
 
-/* The name that the block has, and whose names these are; 0 if it has none. */
-uint64_t object_name(struct what *what, const struct block *block, const uint8_t **bytes, const char **of)
+/* Whether the block says of itself what it is. */
+int is_object(struct what *what, const struct block *block, struct object *object)
 {
-    uint64_t length = talloc_name(what, block, bytes);
-
-    *of = length ? "talloc" : "python";
-    return length ? length : python_name(what, block, bytes);
+    object->of = "talloc";
+    object->length = talloc_name(what, block, &object->name);
+    if (object->length)
+        return 1;
+    object->of = "python";
+    return is_python(what, block, object);
 }

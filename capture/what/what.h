@@ -214,7 +214,13 @@ struct structures {
 struct structures find_structures(struct what *what);
 
 /* objects.c */
-uint64_t object_name(struct what *what, const struct block *block, const uint8_t **bytes, const char **of);
+struct object {
+    const char *of;             /* whose names these are */
+    const uint8_t *name;
+    uint64_t length;            /* 0: its name is not told */
+};
+
+int is_object(struct what *what, const struct block *block, struct object *object);
 
 /* containers.c */
 enum container_kind { TREE_NODE, HASH_NODE, HASH_BUCKETS, STRING_TEXT };

@@ -1,16 +1,19 @@
 """score.py NAME WHAT REPORT LOG: what leak_what said of lost blocks, against who asked for them. LOG is leak_trace's, with callers.
 
 Prints a row: name, lost blocks, and of likenesses how many are right, wrong and silent; then how often the size alone would be right. A
-likeness is right if both blocks were asked for at the same place: the innermost caller outside of libc that is no wrapper of malloc. A
-wrapper is a place that several callers use for more than six sizes.
+likeness is right if both blocks were asked for at the same place: the innermost caller outside of libc that is no wrapper of malloc, or
+by the same allocator of C++, if addr2line knows of one. A wrapper is a place that several callers use for more than six sizes.
 """
 import re
 import sys
 from collections import Counter, defaultdict
 
+from lines_of import lines_of_frames
+
 LEAST_SIZE = 41  # of a block that may be likened
 DEEPEST = 6
 LEFT_OUT = re.compile(r"libc\.so|drop_free")
+ALLOCATOR = re.compile(r"std::__new_allocator<.*>::allocate\(")
 
 
 def usable(size):
@@ -48,6 +51,13 @@ def sites_of(callers):
             for address, (_, frames) in callers.items()}
 
 
+def with_allocators(sites, addresses):
+    """The places of these blocks; where an allocator of C++ was inlined its name, which says of what the blocks are, stands for all."""
+    lines = lines_of_frames({sites[it] for it in addresses}, "-C")
+    first = {place: found[0][0] for place, found in lines.items() if found}
+    return {it: first[sites[it]] if ALLOCATOR.match(first.get(sites[it], "")) else sites[it] for it in addresses}
+
+
 def read_lost(path):
     """The addresses of lost blocks, with their sizes."""
     with open(path, encoding="utf-8", errors="replace") as file:
@@ -82,6 +92,7 @@ def main(name, what, report, log):
     sites, (kinds, like) = sites_of(callers), read_facts(what)
     guessed = by_size(sites, callers, lost)
     known = {address: size for address, size in lost.items() if address in sites}
+    places = with_allocators(sites, {it for pair in like.items() for it in pair if it in sites})
     counts = Counter()
     for address, size in known.items():
         counts.update(kinds[address])
@@ -90,7 +101,7 @@ def main(name, what, report, log):
         counts["candidates"] += 1
         held = like.get(address)
         if held in sites:
-            counts["right" if sites[held] == sites[address] else "wrong"] += 1
+            counts["right" if places[held] == places[address] else "wrong"] += 1
             counts["by size"] += guessed.get(size) == sites[address]
     said = counts["right"] + counts["wrong"]
     share = f"{100 * counts['right'] / said:.1f}" if said else "-"

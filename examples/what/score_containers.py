@@ -8,8 +8,8 @@ import re
 import sys
 from collections import Counter
 
+from lines_of import lines_of_frames
 from score import read_callers
-from score_types import lines_of_frames
 
 KINDS = {"tree": "_Rb_tree_node<", "hash": "__detail::_Hash_node<", "buckets": "__detail::_Hash_node_base*"}
 ALLOCATOR = re.compile(r"(?:new_allocator|allocator_traits<std::allocator)<(.*?)>+ ?>?::allocate\(")

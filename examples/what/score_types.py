@@ -8,39 +8,18 @@ copy of a text tells that it is none. SITES lists what is not right.
 """
 import os
 import re
-import subprocess
 import sys
-from collections import Counter, defaultdict
+from collections import Counter
 
+from lines_of import lines_of_frames
 from score import sites_of, read_callers
 
 TYPED = re.compile(r"@ (.*) \+ 0x([0-9a-f]+) 0x[0-9a-f]+$")
-FRAME = re.compile(r"(.*):\[0x([0-9a-f]+)\]$")
 SIZEOF = re.compile(r"\bsizeof\s*\(?\s*(?:(?:const\s+)?(?:struct\s+)?(\w+)(\s*\*)?\s*\)|\*\s*\(?([\w>.-]+)\)?)")
 ASSIGNED = re.compile(r"(?:(\w+)\s*\*+\s*)?([\w>.-]+)\s*=[^=]")
 TEXT = re.compile(r"strn?dup|savestring|asprintf|sdsnew|sdscat|sdsdup")
 NONE = {"char", "int", "long", "void", "double", "unsigned", "size_t", "uint8_t", "u_char", "uint32_t"}
 BEFORE, AFTER = 120, 3
-
-
-def lines_of_frames(frames, *options):
-    """By frame, the functions and source lines there, the innermost first."""
-    found, by_path = {}, defaultdict(list)
-    for frame in frames:
-        match = FRAME.match(frame)
-        if match:
-            by_path[match[1]].append((frame, int(match[2], 16) - 1))
-    for path, places in by_path.items():
-        run = subprocess.run(["addr2line", "-a", "-f", "-i", *options, "-e", path], capture_output=True, text=True, check=False,
-                             input="\n".join(f"{at:#x}" for _, at in places))
-        lines, of_place = run.stdout.split("\n"), []
-        for number, line in enumerate(lines):
-            if line.startswith("0x"):
-                of_place.append([])
-            elif of_place and len(of_place[-1]) < 9 and number + 1 < len(lines) and re.search(r":[0-9?]+", lines[number + 1]):
-                of_place[-1].append((line, re.sub(r" \(disc.*", "", lines[number + 1])))
-        found.update((frame, of_it) for (frame, _), of_it in zip(places, of_place))
-    return found
 
 
 def read_typedefs(folder):
