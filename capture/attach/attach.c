@@ -11,7 +11,8 @@
 
 #include "attach.h"
 
-enum { MOST_TRIES = 50, WAIT_NS = 2000000, LOOK_NS = 1000000, PIECE = 256 << 10, MOST_FOREIGN = 256 << 10 };
+enum { MOST_TRIES = 50, WAIT_NS = 2000000, LOOK_NS = 1000000, PIECE = 256 << 10, MOST_FOREIGN = 256 << 10,
+       MOST_OWN = 64 << 20 };
 
 static void nap(long nanoseconds)
 {
@@ -33,7 +34,7 @@ static uint64_t end_of_stack(const struct mapping *in, const struct user_regs_st
 {
     if (!strcmp(in->path, "[stack]"))
         return in->end;
-    if (r->fs_base > r->rsp && r->fs_base < in->end)
+    if (r->fs_base > r->rsp && r->fs_base < in->end && r->fs_base - r->rsp < MOST_OWN)
         return r->fs_base;
     return in->end - r->rsp < MOST_FOREIGN ? in->end : r->rsp + MOST_FOREIGN;
 }
@@ -190,7 +191,7 @@ static bool try_arm(struct target *target, const struct settings *settings)
 {
     look(target);
     refuse_threads(target->process.id);
-    refuse_sharers(target->process.id);
+    refuse_sharers(&target->process);
     check_functions(target);
     for (size_t i = 0; i < target->process.count; i++)
         if (is_at_entry(target, target->process.threads[i].id)) {

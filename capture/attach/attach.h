@@ -57,7 +57,7 @@ void get(const struct target *target, uint64_t address, void *to, size_t size);
 /* refuse.c */
 void refuse_untraceable(pid_t process);
 void refuse_threads(pid_t process);
-void refuse_sharers(pid_t process);
+void refuse_sharers(const struct process *process);
 void refuse_branches(const struct target *target);
 
 /* decode.c */

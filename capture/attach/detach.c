@@ -1,6 +1,7 @@
 /* --detach: lets the jumps lead by, gives the functions their bytes back, and once no thread is in the library has the process
  * give up the table and the finder. The island and the library stay: a thread may be about to return through them. */
 #define _GNU_SOURCE
+#include <errno.h>
 #include <stdio.h>
 #include <string.h>
 #include <sys/ptrace.h>
@@ -12,7 +13,7 @@
 
 enum { MOST_TRIES = 100, SHORTEST_NS = 300000, MOST_SHIFT = 6, LEFT_STACK = 64 << 10 };
 
-static const char NO_THREAD[] = "; no thread could be called, so the table's file stays, and leak_trace --remove removes it";
+static const char STAYS[] = "; it could not remove its table's file, which leak_trace --remove removes";
 
 static void pause_before(int tries)
 {
@@ -99,7 +100,7 @@ static bool unmap_table(struct target *target, const struct table_head *head)
 }
 
 /* The process removes the file itself, as it made it. This comes first: whoever is killed after that leaves no file that
- * nobody knows. Gives false if no thread can be called for as long as that is tried. */
+ * nobody knows. Gives false if no thread can be called for as long as that is tried, or may not remove it any more. */
 static bool remove_file(struct target *target)
 {
     struct request_of_call unlinks = { SYS_unlink, { 0 } };
@@ -120,7 +121,7 @@ static bool remove_file(struct target *target)
         pause_before(tries);
     }
     call_step();
-    return true;
+    return !result || result == -ENOENT;
 }
 
 /* Makes all as it was but the table's memory, in one stop. */
@@ -195,6 +196,6 @@ int detach(struct target *target)
     write_bytes(target->process.id, target->base + offsetof(struct island, state), &(uint32_t){ ISLAND_OFF }, sizeof(uint32_t));
     fprintf(stderr, "leak_attach: process %d stood still for %.0f ms%s%s, and its blocks get no more callers\n",
             target->process.id, stood, is_done ? "" : "; a thread stayed in the library, so its table stays in memory",
-            leaving.is_removed ? "" : NO_THREAD);
+            leaving.is_removed ? "" : STAYS);
     return 0;
 }

@@ -70,7 +70,8 @@ void refuse_threads(pid_t process)
 }
 
 struct sharing {
-    pid_t process, other;       /* 0: none */
+    const struct process *process;
+    pid_t other;                /* 0: none */
 };
 
 /* kcmp(2): who may not look at a process can't know. */
@@ -82,7 +83,8 @@ static void find_sharer(void *argument)
 
     while (processes && !sharing->other && (entry = readdir(processes))) {
         pid_t other = atoi(entry->d_name);
-        if (other > 0 && other != sharing->process && !syscall(SYS_kcmp, sharing->process, other, KCMP_VM, 0, 0))
+        if (other > 0 && other != sharing->process->id
+            && !syscall(SYS_kcmp, sharing->process->witness, other, KCMP_VM, 0, 0))
             sharing->other = other;
     }
     if (processes)
@@ -91,13 +93,14 @@ static void find_sharer(void *argument)
 
 /* Who shares the memory without being a thread (clone(2), CLONE_VM) is not stopped, and would run what is just written. A
  * child of vfork is none: while it is there the thread that made it does not stop. */
-void refuse_sharers(pid_t process)
+void refuse_sharers(const struct process *process)
 {
     struct sharing sharing = { process, 0 };
 
     apart(find_sharer, &sharing);
     if (sharing.other)
-        fail("process %d shares its memory with process %d, which does not stop with it", process, sharing.other);
+        fail("process %d shares its memory with process %d, which does not stop with it", process->id,
+             sharing.other);
 }
 
 /* Whether an address is among the first instructions of a function, which won't be there any more: then its name. */

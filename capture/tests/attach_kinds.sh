@@ -85,12 +85,24 @@ attach "$process"
 asks "$process"
 detach "$process"
 verdict 'no thread can be called: detached, and the file stays' \
-    '0 1' "$? $(grep -c "no thread could be called, so the table's file stays" detach.said)"
+    '0 1' "$? $(grep -c "it could not remove its table's file" detach.said)"
 verdict 'no thread can be called: it lives with its own code' "$before" "$(whole "$process")"
 verdict 'no thread can be called: the table has ended' "$process ended" "$(first_table)"
 limited 60 "$trace" --remove > /dev/null
 verdict 'no thread can be called: its table can be removed' 0 "$(ls table.* 2> /dev/null | wc -l)"
 stop "$process"
+if [ "$(id -u)" = 0 ]; then
+    be_ready kinds ./kinds drops
+    attach "$process"
+    asks "$process"
+    detach "$process"
+    verdict 'rights that were dropped: detached, and the file stays' \
+        '0 1' "$? $(grep -c "it could not remove its table's file" detach.said)"
+    verdict 'rights that were dropped: the table has ended' "$process ended" "$(first_table)"
+    limited 60 "$trace" --remove > /dev/null
+    verdict 'rights that were dropped: its table can be removed' 0 "$(ls table.* 2> /dev/null | wc -l)"
+    stop "$process"
+fi
 be_ready kinds ./kinds deep
 refused 'a thread that would return among the first instructions' \
     'at each of 50 times a thread was at the first instructions of malloc' "$process"

@@ -4,6 +4,7 @@
  *   bind FILE     loads a file that finds its symbols in itself first, and has it lose blocks from SIGUSR1 on
  *   data FILE..   maps files as data
  *   space FILE    loads the file into a namespace of its own, at SIGUSR1
+ *   drops         is nobody from then on, at SIGUSR1
  *   lent          goes on on a stack that it made, at SIGUSR1
  *   changes       changes the seventh byte of valloc, at SIGUSR1
  *   deep          has an address among malloc's first instructions far up its stack, as one to which a handler returns
@@ -132,6 +133,8 @@ int main(int count, char **words)
         say(dlmopen(LM_ID_NEWLM, words[2], RTLD_NOW) ? "done" : dlerror());
     if (!strcmp(kind, "changes"))
         change_code();
+    if (!strcmp(kind, "drops"))
+        say(setgid(65534) || setuid(65534) ? "no" : "done");
     if (!strcmp(kind, "lent"))
         lend_stack();
     work(0);
