@@ -20,10 +20,9 @@ fetch() {
     printf '%s "%s";\n' Dir::Etc::sourcelist "$at/sources.list" Dir::Etc::sourceparts - Dir::State::lists "$at/lists" \
         Dir::State::status "$at/status" Dir::Cache "$at/cache" APT::Sandbox::User root > "$at/apt.conf"
     apt-get -c "$at/apt.conf" update > "$at/said" 2>&1 || return
-    names=$(for package in libc6 libgcc-s1 libstdc++6 libatomic1 zlib1g liblzma5 libunwind8 musl libjemalloc2 libmimalloc2.0 \
-        libmimalloc3 libtcmalloc-minimal4 libtcmalloc-minimal4t64 libgoogle-perftools4 libgoogle-perftools4t64; do
-        apt-cache -c "$at/apt.conf" show $package 2> /dev/null | sed -n 's/^Package: //p' | head -n 1
-    done)
+    names=$(apt-cache -c "$at/apt.conf" show libc6 libgcc-s1 libstdc++6 libatomic1 zlib1g liblzma5 libunwind8 musl \
+        libjemalloc2 libmimalloc2.0 libmimalloc3 libtcmalloc-minimal4 libtcmalloc-minimal4t64 libgoogle-perftools4 \
+        libgoogle-perftools4t64 2> /dev/null | sed -n 's/^Package: //p' | sort -u)
     (cd "$at" && apt-get -c "$at/apt.conf" download $names >> said 2>&1 &&
         for package in *.deb; do dpkg -x "$package" .; done)
 }
