@@ -1,7 +1,7 @@
 """Command lines: what is taken, what is refused, and help.
 
 The texts of a refused command line and of help are those of clap, the library that reads it. They are pinned as it writes them
-(those of help in help/); which words are refused is the table in docs/USING.md, section 5. No file is there: the words come first.
+(those of help in help/); which words are refused is the table in docs/REFERENCE.md. No file is there: the words come first.
 """
 
 from pathlib import Path
