@@ -69,7 +69,7 @@ for option in '' --whole-stack; do
     limited 60 "$kit/leak_report" --raw $option "$process" 2> said | awk -v o="leak_report $option:" '/^leaked/ { print o, $2 }'
 done > reports
 verdict 'leak_report hands it on' 'leak_report : 5 leak_report --whole-stack: 0' "$(xargs < reports)"
-verdict 'of a core it is refused' '2 leak_dump: --whole-stack is of a process: the core whole.core has of its stacks what it has' \
+verdict 'of a core it is refused' '2 leak_dump: --whole-stack applies to a running process: the core whole.core is as it was written' \
     "$("$kit/leak_report" --raw --whole-stack whole.core > said 2>&1; echo "$? $(cat said)")"
 verdict '--size says the size' "$(stat -c %s part.core) $(stat -c %s whole.core)" \
     "$("$kit/leak_core" --size "$process") $("$kit/leak_core" --whole-stack --size "$process")"
