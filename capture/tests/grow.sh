@@ -42,15 +42,15 @@ ended_by() {
 
 if [ "$attaches" ]; then
     wait=1 start ./grows
-    grown traced --for 2s --keep traced $process
+    grown with_calls --for 2s --keep with_calls $process
     verdict 'the status' 1 $status
-    verdict 'new blocks, and those that are lost' "$(new_of traced | cut -d ' ' -f 1,2)" "$(said_of traced.out)"
-    verdict 'one in four is lost' yes "$(new_of traced | awk '{ if ($2 > 5 && $2 * 4 >= $1 - 4 && $2 * 4 <= $1 + 4 && $3 == 500 * $2) print "yes" }')"
+    verdict 'new blocks, and those that are lost' "$(new_of with_calls | cut -d ' ' -f 1,2)" "$(said_of with_calls.out)"
+    verdict 'one in four is lost' yes "$(new_of with_calls | awk '{ if ($2 > 5 && $2 * 4 >= $1 - 4 && $2 * 4 <= $1 + 4 && $3 == 500 * $2) print "yes" }')"
     verdict 'what is held, and by whom' '1 1' \
-        "$(grep -cE '^ *\+[0-9.]+ KB +[0-9]+ +[0-9.]+ KB +add_session +.*grows\.c:[0-9]+$' traced.out) $(grep -cE 'one is held by sessions, through [0-9]+ other blocks' traced.out)"
-    verdict 'what is lost' 1 "$(grep -cE '^ *\+[0-9.]+ KB +[0-9]+ +[0-9.]+ KB +lose_answer +.*grows\.c:[0-9]+$' traced.out)"
-    verdict 'how long it was' yes "$(sed -n '1s/.* in \([0-9]*\) seconds, .*/\1/p' traced.out | awk '$1 >= 2 && $1 < 60 { print "yes" }')"
-    TMPDIR=$work/temporary limited 60 "$kit/leak_lines" --log traced/dump.log traced/dump.grow > by_lines.out
+        "$(grep -cE '^ *\+[0-9.]+ KB +[0-9]+ +[0-9.]+ KB +add_session +.*grows\.c:[0-9]+$' with_calls.out) $(grep -cE 'one is held by sessions, through [0-9]+ other blocks' with_calls.out)"
+    verdict 'what is lost' 1 "$(grep -cE '^ *\+[0-9.]+ KB +[0-9]+ +[0-9.]+ KB +lose_answer +.*grows\.c:[0-9]+$' with_calls.out)"
+    verdict 'how long it was' yes "$(sed -n '1s/.* in \([0-9]*\) seconds, .*/\1/p' with_calls.out | awk '$1 >= 2 && $1 < 60 { print "yes" }')"
+    TMPDIR=$work/temporary limited 60 "$kit/leak_lines" --log with_calls/dump.log with_calls/dump.grow > by_lines.out
     grown raw --raw --for 1s $process
     verdict '--raw: the lines of both reports' "$(sed 's/ .*//' by_lines.out | grep '^[a-z]' | xargs) blocks undumped unknown freed new marked leaked" \
         "$(grep '^[a-z]' raw.out | sed 's/ .*//' | grep -v '^and' | xargs)"
@@ -103,7 +103,7 @@ print(*(it["report"] for it in json.loads(re.search("id=\"data\">(.*?)</script>"
         verdict "refused: $words" "2 $wanted" "$status $(cat wrong.said wrong.out | head -n 1)"
     done << END
 $kit/leak_log|leak_report: --grow is of a running process, and this is a core
---after traced 1|leak_report: --grow makes both dumps itself: without --after
+--after with_calls 1|leak_report: --grow makes both dumps itself: without --after
 --for 0 1|usage: leak_report [OPTION..] PID | CORE [TABLE]
 999999999|leak_dump: no process 999999999
 END
