@@ -1,11 +1,12 @@
 #!/usr/bin/env python3
-"""Runs leak_find over inputs made to take time or memory, and prints what it answered, how long it took and its peak memory.
+"""Runs leak_find over inputs made to take time or memory, and prints what it answered, how long it took and its peak
+memory.
 
     examples/hostile.py LEAK_FIND [NAME..]
 
-LEAK_FIND is the program; NAMEs choose cases, and without one all are run but those of a gigabyte and more ('--large' runs them too).
-Each case says what is wanted: a refusal by its text, or the first lines of a report. The status is 0 where all came out so.
-Files are made in a temporary folder, and dropped after each case.
+LEAK_FIND is the program; NAMEs choose cases, and without one all are run but those of a gigabyte and more ('--large'
+runs them too). Each case says what is wanted: a refusal by its text, or the first lines of a report. The status is 0
+where all came out so. Files are made in a temporary folder, and dropped after each case.
 """
 import multiprocessing
 import os
@@ -144,7 +145,8 @@ def sparse(core, log):
     note = thread_status()
     at = 64 + 56 * 2
     with open(core, "wb") as f:
-        f.write(file_header(64, 2) + header(NOTE, at, 0, len(note), 0, 0) + header(LOAD, 4096, 0x10000, size, size) + note)
+        f.write(file_header(64, 2) + header(NOTE, at, 0, len(note), 0, 0) + header(LOAD, 4096, 0x10000, size,
+                                                                                   size) + note)
         f.truncate(4096 + size)
     write(log, b"+ 0x20000 0x10\n")
     yield "a sparse core of 4 GiB", "blocks 1 bytes 16"
@@ -166,7 +168,8 @@ def run(program, core, log, limit=None):
 
 
 def faults(err):
-    """What was said on the error stream but for warnings, which these inputs give cause for: most have no live block."""
+    """What was said on the error stream but for warnings, which these inputs give cause for: most have no live
+    block."""
     return "".join(line for line in err.splitlines(True) if not line.startswith("leak_find: warning: "))
 
 
@@ -181,7 +184,8 @@ def is_wanted(wanted, texts, status, out, err):
 
 
 def limits(runner, program, folder):
-    """Gives the search more and more memory, from 8 MiB on: it answers want of memory, with no output, until it gives its report."""
+    """Gives the search more and more memory, from 8 MiB on: it answers want of memory, with no output, until it gives
+    its report."""
     core, log = os.path.join(folder, "core"), os.path.join(folder, "log")
     write(core, core_with(empty_segments([page(i) for i in range(1000)])))
     write(log, b"".join(b"@ c%d + 0x%x 0x10\n" % (i % 1000, 0x10000 + 32 * i) for i in range(200_000)))
@@ -196,7 +200,8 @@ def limits(runner, program, folder):
             bad += 1
             print("  at %d KiB: status %s, %d bytes of output, %s" % (limit >> 10, status, len(out), err.strip()))
         limit += limit // 32
-    print("%-40s %s: %d runs refused, then the report at %d MiB" % ("memory limits", "bad" if bad else "fine", refused, limit >> 20))
+    print("%-40s %s: %d runs refused, then the report at %d MiB" % ("memory limits", "bad" if bad else "fine", refused,
+                                                                    limit >> 20))
     return bad
 
 
@@ -224,7 +229,9 @@ def main():
                 fine = is_wanted(wanted, texts[0] if texts else [], status, out, err)
                 bad += not fine
                 inputs = (os.path.getsize(core) + os.path.getsize(log)) / (1 << 20)
-                print("%-40s %s %8.0f MiB in, %7.2f s, %6.0f MiB peak" % (what, "fine" if fine else "bad: " + (faults(err).strip() or str(status)), inputs, seconds, peak), flush=True)
+                print("%-40s %s %8.0f MiB in, %7.2f s, %6.0f MiB peak" % (what, "fine" if fine else "bad: " +
+                                                                          (faults(err).strip() or str(status)), inputs,
+                                                                          seconds, peak), flush=True)
         if not named or "limits" in named:
             bad += limits(runner, program, folder)
     sys.exit(1 if bad else 0)

@@ -1,12 +1,13 @@
 #!/bin/sh
-# Builds many_maps.c, lets it die under mtrace, takes the kernel's core of its 70,000 mappings, searches it, and compares the
-# report with what the program's construction says: which sizes leaked, and that nothing else did.
+# Builds many_maps.c, lets it die under mtrace, takes the kernel's core of its 70,000 mappings, searches it, and
+# compares the report with what the program's construction says: which sizes leaked, and that nothing else did.
 #
 #     examples/many_maps.sh LEAK_FIND
 #
-# LEAK_FIND is the installed program. Needs gcc, readelf and addr2line; 300 MB in the folder for temporary files ($TMPDIR); a kernel
-# that writes a file named core (see /proc/sys/kernel/core_pattern), or else gdb's gcore, and permission to attach to a process of one's
-# own; and vm.max_map_count of at least 70,100, or permission to raise it for the time of the run, as root has.
+# LEAK_FIND is the installed program. Needs gcc, readelf and addr2line; 300 MB in the folder for temporary files
+# ($TMPDIR); a kernel that writes a file named core (see /proc/sys/kernel/core_pattern), or else gdb's gcore, and
+# permission to attach to a process of one's own; and vm.max_map_count of at least 70,100, or permission to raise it for
+# the time of the run, as root has.
 set -eu
 leak_find=${1:?usage: many_maps.sh LEAK_FIND}
 here=$(cd "$(dirname "$0")" && pwd)
@@ -54,7 +55,8 @@ dump() {
 check() {
     status=0
     "$leak_find" one core many_maps.log > report || status=$?
-    echo "== $1, by $by: $(readelf -h core 2> /dev/null | sed -n 's/^ *Number of program headers: *//p') program headers"
+    echo "== $1, by $by: $(readelf -h core 2> /dev/null |
+        sed -n 's/^ *Number of program headers: *//p') program headers"
     cat report
     awk '$1 == "leak" { print $3, $6 }' report | while read -r size caller; do
         offset=$(printf '%s\n' "$caller" | sed 's/.*\[\(0x[0-9a-f]*\)\]$/\1/')

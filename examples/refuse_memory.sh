@@ -1,16 +1,20 @@
 #!/bin/sh
-# Makes each call that takes memory with its first allocation refused, then with its second, and so on until a run meets no
-# refusal, and prints how often it answered what. Wants gcc and the program of crates/leak_refusals.
+# Makes each call that takes memory with its first allocation refused, then with its second, and so on until a run meets
+# no refusal, and prints how often it answered what. Wants gcc and the program of crates/leak_refused_memory.
 #
-#   (cd crates/leak_refusals && rt run)      # once: proves and builds it
-#   examples/refuse_memory.sh                # ends with status 0 where no call answered anything but want of memory, or the same
+#   (cd crates/leak_refused_memory && rt run)      # once: proves and builds it
+#   examples/refuse_memory.sh                      # ends with status 0 where no call answered anything but want of
+#                                                  # memory, or the same
 #
-# 'same' counts answers like those with ample memory after a refusal: as where a thread could not be had, and its work was done by another.
-# 'inputs' counts refusals that hit the making of a call's inputs.
+# 'same' counts answers like those with ample memory after a refusal: as where a thread could not be had, and its work
+# was done by another. 'inputs' counts refusals that hit the making of a call's inputs.
 set -u
 here=$(cd "$(dirname "$0")" && pwd)
-program=${1:-$here/../crates/leak_refusals/out/leak_refusals}
-[ -x "$program" ] || { echo "no program at $program: build it with 'rt run' in crates/leak_refusals" >&2; exit 2; }
+program=${1:-$here/../crates/leak_refused_memory/out/leak_refused_memory}
+[ -x "$program" ] || {
+    echo "no program at $program: build it with 'rt run' in crates/leak_refused_memory" >&2
+    exit 2
+}
 work=$(mktemp -d) || exit 2
 trap 'rm -rf "$work"' EXIT
 gcc -O1 -shared -fPIC -Wall -Wextra -o "$work/refuse.so" "$here/refuse_memory.c" || exit 2

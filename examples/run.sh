@@ -1,15 +1,17 @@
 #!/bin/sh
-# Builds leaky.c, in_vector.c, hidden.c, protected.c, in_flight.c, mixed.c, stale.c and side_by_side.c, runs them under mtrace and then with
-# capture, takes cores of them, searches the cores, and compares each report with what the program's construction says: which sizes leaked, and
-# that nothing else did. Then it searches cores with logs that are theirs and with logs that aren't, and compares the warnings and the misfits
-# that --check lists. It asks what holds a block that only a stale word holds. At last it searches a program under jemalloc, whose blocks stand
-# side by side, with their ends and without.
+# Builds leaky.c, in_vector.c, hidden.c, protected.c, in_flight.c, mixed.c, stale.c and side_by_side.c, runs them under
+# mtrace and then with capture, takes cores of them, searches the cores, and compares each report with what the
+# program's construction says: which sizes leaked, and that nothing else did. Then it searches cores with logs that are
+# theirs and with logs that aren't, and compares the warnings and the misfits that --check lists. It asks what holds a
+# block that only a stale word holds. At last it searches a program under jemalloc, whose blocks stand side by side,
+# with their ends and without.
 #
 #     examples/run.sh LEAK_FIND
 #
-# LEAK_FIND is the installed program. Needs gcc, gdb and addr2line, and permission to attach to a process of one's own; without it
-# only cores by the kernel are searched. The last part needs libjemalloc.so.2 too (Debian's package libjemalloc2), and is left out without it.
-# The last line is `examples: N passed, M failed`; a script that ends early has one failure.
+# LEAK_FIND is the installed program. Needs gcc, gdb and addr2line, and permission to attach to a process of one's own;
+# without it only cores by the kernel are searched. The last part needs libjemalloc.so.2 too (Debian's package
+# libjemalloc2), and is left out without it. The last line is `examples: N passed, M failed`; a script that ends early
+# has one failure.
 set -eu
 leak_find=${1:?usage: run.sh LEAK_FIND}
 here=$(cd "$(dirname "$0")" && pwd)
@@ -57,8 +59,8 @@ gcc -g -O0 -o "$work/side_by_side" "$here/side_by_side.c"
 cd "$work"
 judge "programs that are built" 8 "$(ls | wc -l)"
 
-# check NAME LINES SIZES HEADS SUBCOMMAND FILE..: searches, shows the report, and compares its first lines, those that speak of
-# live and of new blocks, the sizes of the leaked blocks, and those of the heads among them.
+# check NAME LINES SIZES HEADS SUBCOMMAND FILE..: searches, shows the report, and compares its first lines, those that
+# speak of live and of new blocks, the sizes of the leaked blocks, and those of the heads among them.
 check() {
     name=$1 lines=$2 wanted=$3 wanted_heads=$4
     shift 4
@@ -98,10 +100,12 @@ await() {
     done
 }
 
-# dump PROGRAM NUMBER: waits until it is ready, stops it by gdb, dumps it, copies the log while it stands still, and lets it go.
+# dump PROGRAM NUMBER: waits until it is ready, stops it by gdb, dumps it, copies the log while it stands still, and
+# lets it go.
 dump() {
     await "$1" "$2"
-    limited gdb -nx --batch -p "$process" -ex "generate-core-file $1.core.$2" -ex "shell cp $1.log $1.copy.$2" -ex detach > gdb.out 2>&1
+    limited gdb -nx --batch -p "$process" -ex "generate-core-file $1.core.$2" -ex "shell cp $1.log $1.copy.$2" \
+        -ex detach > gdb.out 2>&1
 }
 
 # stop: ends the program that was started.
@@ -111,8 +115,8 @@ stop() {
     process=
 }
 
-# leaky.c: what must be reported is the lost block, the chain behind a lost head, the ring. All else is held. Heads are the lost
-# block and the first of the chain; the ring has none.
+# leaky.c: what must be reported is the lost block, the chain behind a lost head, the ring. All else is held. Heads are
+# the lost block and the first of the chain; the ring has none.
 leaky_lines="blocks 12 bytes 1596"
 leaky_sizes="45 61 77 93 109 125"
 leaky_heads="45 61"
@@ -128,8 +132,8 @@ else
     echo "left out: cores by the kernel, since $(cat /proc/sys/kernel/core_pattern) takes them elsewhere"
 fi
 
-# in_vector.c: blocks are held by registers of all kinds alone, each by one. What must be reported is the lost block; and where mm3
-# and ymm8 are cleared, those that they held.
+# in_vector.c: blocks are held by registers of all kinds alone, each by one. What must be reported is the lost block;
+# and where mm3 and ymm8 are cleared, those that they held.
 vector_lines="blocks 6 bytes 510"
 cleared_sizes="45 93 109"
 grep -qw avx /proc/cpuinfo && avx=1 || avx=
@@ -167,10 +171,9 @@ if [ -n "$dead" ]; then
     check "cleared registers, by the kernel" "$vector_lines" "$cleared_sizes" "$cleared_sizes" one "$dead" dead.log
 fi
 
-# protected.c: one block is held by memory that was made read-only, one by memory without rights, and one is lost. Without an
-# option all three are named, and with --all-memory the lost one alone. The kernel's cores have both pages, and so have those of
-# gdb 13.1, by which leak_dump dumps.
-# protected_by CORE LOG
+# protected.c: one block is held by memory that was made read-only, one by memory without rights, and one is lost.
+# Without an option all three are named, and with --all-memory the lost one alone. The kernel's cores have both pages,
+# and so have those of gdb 13.1, by which leak_dump dumps. protected_by CORE LOG
 protected_by() {
     check "protected: writable memory" "blocks 4 bytes 276" "45 61 77" "45 61 77" one "$1" "$2"
     check "protected: --all-memory" "blocks 4 bytes 276" "45" "45" one --all-memory "$1" "$2"
@@ -209,17 +212,19 @@ registers_of "registers, by gdb" in_vector.core.1 in_vector.copy.1
 start in_vector cleared
 dump in_vector 1
 stop
-check "cleared registers, by gdb" "$vector_lines" "$cleared_sizes" "$cleared_sizes" one in_vector.core.1 in_vector.copy.1
+check "cleared registers, by gdb" "$vector_lines" "$cleared_sizes" "$cleared_sizes" one in_vector.core.1 \
+    in_vector.copy.1
 name_lines in_vector
 
-# hidden.c: three blocks are lost, and no search without an option names one. --skip-freed names the one whose pointer is left in
-# freed memory, and --skip-links those in whose last bytes malloc keeps the header of free memory. A log by capture lists malloc's own
-# words as freed memory too, so with it --skip-freed names all three.
+# hidden.c: three blocks are lost, and no search without an option names one. --skip-freed names the one whose pointer
+# is left in freed memory, and --skip-links those in whose last bytes malloc keeps the header of free memory. A log by
+# capture lists malloc's own words as freed memory too, so with it --skip-freed names all three.
 # hidden_by CORE LOG FREED: FREED are those that --skip-freed names.
 hidden_by() {
     check "hidden: without an option" "blocks 5 bytes 439" "" "" one "$1" "$2"
     check "hidden: --skip-freed" "blocks 5 bytes 439" "$3" "$3" one --skip-freed "$1" "$2"
-    check "hidden: --skip-freed --skip-links" "blocks 5 bytes 439" "45 56 72" "45 56 72" one --skip-freed --skip-links "$1" "$2"
+    check "hidden: --skip-freed --skip-links" "blocks 5 bytes 439" "45 56 72" "45 56 72" one \
+        --skip-freed --skip-links "$1" "$2"
 }
 start hidden
 dump hidden 1
@@ -241,12 +246,13 @@ kill -USR1 "$process"
 dump in_flight 3
 stop
 
-# One core names what is in the pipe (61 at the first, 93 at the second), beside what is lost. No leaked block points to another,
-# so each is a head.
+# One core names what is in the pipe (61 at the first, 93 at the second), beside what is lost. No leaked block points to
+# another, so each is a head.
 check "the first core alone" "blocks 5 bytes 449" "45 61" "45 61" one in_flight.core.1 in_flight.copy.1
 check "the second core alone" "blocks 7 bytes 651" "45 77 93 109" "45 77 93 109" one in_flight.core.2 in_flight.copy.2
 
-# The pair names what was lost at the first core and is lost at the second. What was lost in between waits for the next pair.
+# The pair names what was lost at the first core and is lost at the second. What was lost in between waits for the next
+# pair.
 check "the first and the second core" "blocks 7 bytes 651,new 2 bytes 202" "45" "45" \
     two in_flight.core.1 in_flight.copy.1 in_flight.core.2 in_flight.copy.2
 name_lines in_flight
@@ -308,8 +314,8 @@ check "the second and the third core" "blocks 7 bytes 651,new 0 bytes 0" "45 77 
     two in_flight.traced.2.core in_flight.traced.2.log in_flight.traced.3.core in_flight.traced.3.log
 "$capture/leak_lines" report
 
-# warns NAME MISFITS FILE FILE: searches a core and a log strictly, and compares whether there is a warning of misfits (1 or 0).
-# Without one there is no other warning either.
+# warns NAME MISFITS FILE FILE: searches a core and a log strictly, and compares whether there is a warning of misfits
+# (1 or 0). Without one there is no other warning either.
 warns() {
     status=0
     limited "$leak_find" one --strict "$3" "$4" > report 2> warned || status=$?
@@ -350,7 +356,9 @@ awk '$1 == "misfit" { print $2 }' report | sort > listed
 judge "misfits are listed" some "$([ -s listed ] && echo some)"
 judge "as many as are counted" "$(awk '$1 == "misfits" { print $2 }' report)" "$(wc -l < listed)"
 judge "each was given back" "" "$(comm -23 listed given_back)"
-echo "$(grep -c '^leak ' report || true) leaks, of which $(awk 'NR == FNR { if (/^misfit /) misfit[$2]; next } /^leak / && $2 in misfit' report report | wc -l) are none"
+echo "$(grep -c '^leak ' \
+    report || true) leaks, of which $(awk 'NR == FNR { if (/^misfit /) misfit[$2]; next } /^leak / && $2 in misfit' \
+    report report | wc -l) are none"
 
 warns "the log of another process" 1 mixed.core.1 in_flight.copy.1
 
@@ -367,14 +375,16 @@ echo "== what holds a lost block"
 cat report
 root=$(awk -v block="$block" 'NR == 2 && $1 == "root" && $3 == "holds" && $4 == block { print $2 }' report)
 lines=$(awk -v block="$block" '$2 == block && $3 == 45 { print $1 }' report | tr '\n' ' ')
-judge "why" "status 0, 3 lines, of the block: asked block " "status $status, $(wc -l < report) lines, of the block: $lines"
+judge "why" "status 0, 3 lines, of the block: asked block " \
+    "status $status, $(wc -l < report) lines, of the block: $lines"
 judge "the root is in the stack, $stack" 1 "$((root >= 0x${stack%-*} && root < 0x${stack#*-}))"
 
 # An address that no block holds is refused.
 status=0
 limited "$leak_find" why stale.core.1 stale.copy.1 0x10 2> warned || status=$?
 judge "an address that no block holds" "2 leak_find: no live block holds 0x10" "$status $(cat warned)"
-# side_by_side.c: 24 blocks are lost under jemalloc. At the ends of 12 of them a held block begins, so only --skip-ends names these.
+# side_by_side.c: 24 blocks are lost under jemalloc. At the ends of 12 of them a held block begins, so only --skip-ends
+# names these.
 jemalloc=$(/sbin/ldconfig -p | awk '$1 == "libjemalloc.so.2" { print $NF; exit }')
 if [ -z "$jemalloc" ]; then
     echo "left out: blocks side by side, since the package libjemalloc2 is missing"
@@ -385,18 +395,22 @@ export LD_PRELOAD="$jemalloc"
 start_traced side_by_side
 unset LD_PRELOAD
 capture side_by_side 1
-judge "jemalloc is the program's allocator" some "$(grep -q "$(readlink -f "$jemalloc")" "/proc/$process/maps" && echo some)"
+judge "jemalloc is the program's allocator" some "$(grep -q "$(readlink -f "$jemalloc")" "/proc/$process/maps" &&
+    echo some)"
 stop
 
-# count_by_size NAME WANTED OPTION..: searches its core, shows the report, and compares how many blocks of each size leaked.
+# count_by_size NAME WANTED OPTION..: searches its core, shows the report, and compares how many blocks of each size
+# leaked.
 count_by_size() {
     name=$1 wanted=$2
     shift 2
     status=0
-    limited "$leak_find" one --other-heap "$@" side_by_side.traced.1.core side_by_side.traced.1.log > report 2> warned || status=$?
+    limited "$leak_find" one --other-heap "$@" side_by_side.traced.1.core side_by_side.traced.1.log > report \
+        2> warned || status=$?
     echo "== $name"
     cat report
-    found=$(awk '$1 == "leak" { leaked[$3]++ } END { for (size in leaked) print leaked[size] " of " size }' report | sort | tr '\n' ' ')
+    found=$(awk '$1 == "leak" { leaked[$3]++ } END { for (size in leaked) print leaked[size] " of " size }' report |
+        sort | tr '\n' ' ')
     judge "$name" "status 1, $wanted, warned: " "status $status, ${found% }, warned: $(cat warned)"
 }
 count_by_size "side by side: with ends" "12 of 100"

@@ -16,6 +16,8 @@ from dataclasses import replace
 
 import cases
 import rows
+import rows_options
+import rows_words
 from case import case
 
 GOOD = 'read line < in.txt; echo "$line, $1"; echo warned >&2; exit 3'
@@ -117,6 +119,12 @@ def whole_runs(folder):
         yield "two cases of one name", with_cases([WANTED, WANTED], lambda: cases.main([good])) == 1
 
 
+def options_of_the_table(_folder):
+    """Each flag that says which words keep a block has a block of its own: it is one of `why`, and speaks of no warning."""
+    flags = {it.name for it in rows_words.TABLE.of("why") if not it.value}
+    yield "a block for each flag", set(rows_options.OPTIONS) == flags - {"--other-heap", "--strict"}
+
+
 def with_cases(given, run):
     """What the call gives if these are all cases."""
     kept, rows.all_cases = rows.all_cases, lambda: given
@@ -130,7 +138,7 @@ def main():
     """Runs all tests."""
     passed = failed = 0
     begun = time.monotonic()
-    for tests in (wrong_runs, programs_to_run, surroundings, whole_runs):
+    for tests in (wrong_runs, programs_to_run, surroundings, whole_runs, options_of_the_table):
         with tempfile.TemporaryDirectory(prefix="cases-test-") as folder:
             for name, is_right in tests(folder):
                 passed, failed = (passed + 1, failed) if is_right else (passed, failed + 1)

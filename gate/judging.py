@@ -3,7 +3,8 @@ import re
 
 LINE = re.compile(r"^fn (\S+): (.*)$", re.M)
 GOALS = re.compile(r"`search` did not prove ((?:`[^`]+`(?:, | and )?)+)")
-ERROR = re.compile(r"^(?:\./)?(src|specs|proofs)/(\S+?):\d+:\d+: error: (.*)$", re.M)
+# (of a name that is missing a long message says so in its second line)
+ERROR = re.compile(r"^(?:\./)?(src|specs|proofs)/(\S+?):\d+:\d+: error: (.*(?:\n +(?:has no|is not in scope)\b.*)?)$", re.M)
 OF_FUNCTION = re.compile(r"^(.+)/(?:Answers|Invariants|Proof)\.antt$")
 # An error that only misses a name, which the edit took away, says nothing of a contract.
 MISSES_A_NAME = re.compile(r"has no field|is not in scope|has no `|was not admitted|was rejected|were not checked")

@@ -47,7 +47,7 @@ report() {
     inside sh -c 'bin=$1; shift; rm -f /tmp/ready; cd /tmp
         "$@" /tmp/leaky 2> /tmp/ready & process=$!
         until grep -qs ready /tmp/ready; do sleep 0.2; done
-        "$bin/leak_report" $process 2> /tmp/said; status=$?; kill $process; exit $status' - "$@"
+        "$bin/leak_report" --raw $process 2> /tmp/said; status=$?; kill $process; exit $status' - "$@"
 }
 
 # tried NAME COMMANDS: both ways are reported, and traced with functions.

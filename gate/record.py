@@ -1,12 +1,15 @@
 """The record of refused wrong bodies: gate/refused.txt, a line for each crate all of whose wrong bodies were refused.
 
-A line has the crate's name, how many wrong bodies it has, and a checksum of all that decides whether they are wrong: the kit,
-the scripts that judge, the crate's line of crates.txt, its sources, specs, proofs and wrong bodies; and of the crates of the
-repository below it the public types, heads and clauses, as `rt ci` left them in out/, and the definitions that these or the crate
-name, directly or not. When any of these changes, the line no longer speaks of the crate.
+A line has the crate's name, how many wrong bodies it has, the first digits of a checksum of the scripts that judged them, and a
+checksum of all that decides whether they are wrong: the kit, the crate's line of crates.txt, its sources, specs, proofs and wrong
+bodies; and of the crates of the repository below it the public types, heads and clauses, as `rt ci` left them in out/, and the
+definitions that these or the crate name, directly or not. When any of these changes, the line no longer speaks of the crate.
+
+A line of an earlier judge counts as long as JUDGES_BEFORE has it: refusing more than before, a judge casts doubt on what the earlier
+one took, but whoever changes a crate has its bodies judged anew.
 
 A body that is wrong by a contract stays so whatever becomes of bodies, inner functions and lemmas of the crates below, so these
-count nowhere; nor do lines that are comments, but in wrong bodies.
+count nowhere, nor does a crate that declares nothing, as one of lemmas alone; nor do lines that are comments, but in wrong bodies.
 """
 import hashlib
 import os
@@ -14,7 +17,9 @@ import re
 import subprocess
 
 PARTS = ("src", "specs", "proofs")
-JUDGES = ("edits.py", "judging.py", "record.py", "wrong_bodies.py")
+JUDGES = ("edits.py", "judging.py", "wrong_bodies.py")
+# The judge that took an error about a missing name for a refusal if it was worded in two further ways.
+JUDGES_BEFORE = ("911f463c36c17260",)
 FILE = "gate/refused.txt"
 COMMENT = {".rt": "//", ".antt": "--"}
 # A library's definitions that a text names, as 'use Rattle.leak_elf.specs.Words.{word_of}' or '.. as words'; the heads of a function and of a type.
@@ -90,8 +95,14 @@ def definitions(root, below, named):
     return found
 
 
+def judge():
+    """Returns the first digits of the checksum of the scripts that judge."""
+    folder = os.path.dirname(os.path.abspath(__file__))
+    return hashlib.sha256("".join(text_of(f"{folder}/{it}") for it in JUDGES).encode()).hexdigest()[:16]
+
+
 def sum_of(root, crate, libraries, below):
-    """Returns the checksum of all that decides whether a crate's wrong bodies are wrong."""
+    """Returns the checksum of all that decides whether a crate's wrong bodies are wrong, but the judge."""
     found = hashlib.sha256()
 
     def add(*texts):
@@ -100,36 +111,41 @@ def sum_of(root, crate, libraries, below):
             found.update(b"%d:" % len(text) + text)
 
     add(subprocess.run(["rt", "version"], capture_output=True, text=True, check=True).stdout)
-    for name in JUDGES:
-        add(name, text_of(f"{os.path.dirname(os.path.abspath(__file__))}/{name}"))
     own = {it: text_of(it) for part in (*PARTS, "wrong") for it in files_below(f"{root}/crates/{crate}/{part}")}
     named = [it for text in own.values() for it in NAMED.findall(text)]
-    for name in (crate, *sorted(below)):
-        add(" ".join([name, *libraries[name]]))
-    for name in sorted(below):
-        for text, names in public_texts(root, name):
-            add(text)
-            named += names
+    declared = {it: list(public_texts(root, it)) for it in sorted(below)}
+    silent = {it for it, texts in declared.items() if not any(text.strip() for text, _ in texts)}
+    for name in (crate, *declared):
+        if name not in silent:
+            add(" ".join([name, *(it for it in libraries[name] if it not in silent)]))
+    for text, names in (it for texts in declared.values() for it in texts if it[0].strip()):
+        add(text)
+        named += names
     for path, text in sorted((own | definitions(root, below, named)).items()):
         add(os.path.relpath(path, root), text)
     return found.hexdigest()
 
 
 def read(root):
-    """Returns the record: by a crate's name, how many wrong bodies were refused and the checksum."""
+    """Returns the record: by a crate's name, how many wrong bodies were refused, who judged, and the checksum."""
     try:
         with open(f"{root}/{FILE}", encoding="utf-8") as it:
             rows = [line.split() for line in it if not line.startswith("#")]
     except FileNotFoundError:
         return {}
-    return {name: (int(count), checksum) for name, count, checksum in rows}
+    return {name: (int(count), who, checksum) for name, count, who, checksum in rows}
+
+
+def speaks_of(row, count, checksum):
+    """Returns whether a row of the record speaks of a crate that has so many wrong bodies and this checksum."""
+    return row is not None and (row[0], row[2]) == (count, checksum) and row[1] in (judge(), *JUDGES_BEFORE)
 
 
 def write(root, record):
     """Writes the record."""
     with open(f"{root}/{FILE}", "w", encoding="utf-8") as it:
-        it.write("# Crates all of whose wrong bodies were refused, how many these are, and the checksum of all that was read (record.py).\n")
-        it.writelines(f"{name} {count} {checksum}\n" for name, (count, checksum) in sorted(record.items()))
+        it.write("# Crates all of whose wrong bodies were refused, how many these are, by which judge, and a checksum of what was read (record.py).\n")
+        it.writelines(f"{name} {count} {who} {checksum}\n" for name, (count, who, checksum) in sorted(record.items()))
 
 
 def commit_of(root):

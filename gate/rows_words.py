@@ -1,22 +1,28 @@
 """Command lines: what is taken, what is refused, and help.
 
-The texts of a refused command line and of help are those of clap, the library that reads it. They are pinned as it writes them
-(those of help in help/); which words are refused is the table in docs/REFERENCE.md. No file is there: the words come first.
+The texts of a refused command line and of help are those of clap, the library that reads it. They are pinned as it writes them;
+the options, and what help says of them, are those of setup/options.txt. No file is there: the words come first.
 """
 
+import sys
 from pathlib import Path
 
 from case import case, one, refused
 from cores import ONE_BLOCK, core, word
 from texts import held, lost, misfits
 
-HELP = Path(__file__).parent / "help"
+sys.path.insert(0, str(Path(__file__).parent.parent / "setup"))
+import option_help  # noqa: E402
+import option_table  # noqa: E402
+
+TABLE = option_table.read()
 VERSION = "leak_find 0.1.0\n"
 PROGRAM = "leak_find <COMMAND>"
-USAGE = {"one": "<CORE> <LOG>", "two": "<CORE1> <LOG1> <CORE2> <LOG2>", "why": "<CORE> <LOG> <ADDRESS>",
-         "holders": "<CORE> <LOG>", "grow": "<LOG1> <LOG2>"}
-ONE = "one core.k trace.log "
-READING = ("--skip-ends", "--all-memory", "--skip-freed", "--skip-links", "--skip-slack", "--skip-dead-stack")  # the flags that `why` has too
+LINES = {"one": "one core.k trace.log ", "two": "two a b c d ", "why": "why a b 0x1 ", "holders": "holders a b ", "grow": "grow a b "}
+ONE = LINES["one"]
+# What clap offers in place of an option that a subcommand lacks: one that it finds similar, as help names it.
+SIMILAR = {("one", "--since"): "--piece <N>", ("two", "--since"): "--piece <N>", ("why", "--since"): "--strict",
+           ("grow", "--since"): "--strict", ("why", "--stack"): "--strict", ("grow", "--stack"): "--strict"}
 
 
 def clap(error, usage="", tip=""):
@@ -28,7 +34,8 @@ def clap(error, usage="", tip=""):
 
 def usage_of(command, options=" [OPTIONS]"):
     """How a subcommand is used."""
-    return f"leak_find {command}{options} {USAGE[command]}"
+    operands = " ".join(f"<{name}>" for name, _ in TABLE.subcommand(command).operand)
+    return f"leak_find {command}{options} {operands}"
 
 
 def bad(name, line, error, usage="", tip=""):
@@ -38,11 +45,11 @@ def bad(name, line, error, usage="", tip=""):
 
 def of_help():
     """Help and the version are asked for: they go to standard output, with status 0."""
-    rows = [("--help", "program"), ("-h", "program"), ("help", "program"), ("one --help", "one"), ("two -h", "two"),
-            ("why --help", "why"), ("holders --help", "holders"), ("grow -h", "grow"),
-            ("help one", "one"), ("help two", "two"), ("help why", "why"), ("help holders", "holders"), ("help grow", "grow"), ("one core.k trace.log --help", "one"),
-            ("one --help --nonsense", "one")]
-    found = [case(f"help: {line}", "help is asked for", line, {}, (HELP / f"{name}.txt").read_bytes()) for line, name in rows]
+    rows = [(line.format(name), name) for name in LINES for line in ("{} --help", "{} -h", "help {}")]
+    rows += [("one core.k trace.log --help", "one"), ("one --help --nonsense", "one")]
+    asked = [(line, option_help.help_of_program(TABLE)) for line in ("--help", "-h", "help")]
+    asked += [(line, option_help.help_of(TABLE, name)) for line, name in rows]
+    found = [case(f"help: {line}", "help is asked for", line, {}, text) for line, text in asked]
     return found + [case(f"version: {line}", "the version is asked for", line, {}, VERSION) for line in
                     ("--version", "-V", "--version one", "-V --nonsense")]
 
@@ -100,7 +107,7 @@ def of_paths():
 
 def of_numbers():
     """Numbers of options, one below and one above their bounds, and no number."""
-    bounds = {"workers": (1, 64), "piece": (1, 65536), "stack": (0, 65536)}
+    bounds = {it.name.removeprefix("--"): it.bounds for it in TABLE.options if it.value == "N"}
     found = []
     for option, (least, most) in bounds.items():
         shown, valued = f"for '--{option} <N>'", "invalid value '{}' for '--" + option + " <N>': "
@@ -118,33 +125,28 @@ def of_numbers():
 
 
 def of_flags():
-    """Flags are given once, and without a value; `why` has not all of them."""
+    """Flags are given once, and without a value."""
     found = []
-    for flag in READING + ("--check", "--strict", "--other-heap"):
-        found.append(bad(f"{flag} twice", f"{ONE}{flag} {flag}", f"the argument '{flag}' cannot be used multiple times",
-                         usage_of("one")))
-        found.append(bad(f"{flag} with a value", f"{ONE}{flag}=true",
+    for command, flag in [(command, it.name) for command in LINES for it in TABLE.of(command) if not it.value]:
+        found.append(bad(f"{command} with {flag} twice", f"{LINES[command]}{flag} {flag}",
+                         f"the argument '{flag}' cannot be used multiple times", usage_of(command)))
+        found.append(bad(f"{command} with {flag} and a value", f"{LINES[command]}{flag}=true",
                          f"unexpected value 'true' for '{flag}' found; no more were expected",
-                         usage_of("one", f" {flag}")))
-    for option in ("--workers", "--check"):
-        found.append(bad(f"why with {option}", f"why a b 0x1 {option}", f"unexpected argument '{option}' found",
-                         usage_of("why", ""),
-                         f"to pass '{option}' as a value, use '-- {option}'"))
-    for line, option, command in (("holders a b", "--check", "holders"), ("grow a b", "--other-heap", "grow"),
-                                  ("grow a b", "--skip-freed", "grow")):
-        found.append(bad(f"{command} with {option}", f"{line} {option}", f"unexpected argument '{option}' found",
-                         usage_of(command, ""), f"to pass '{option}' as a value, use '-- {option}'"))
-    for flag in READING:
-        for command, line in (("two", "two a b c d "), ("why", "why a b 0x1 "), ("holders", "holders a b ")):
-            found.append(bad(f"{command} with {flag} twice", f"{line}{flag} {flag}",
-                             f"the argument '{flag}' cannot be used multiple times", usage_of(command)))
-            found.append(bad(f"{command} with {flag} and a value", f"{line}{flag}=true",
-                             f"unexpected value 'true' for '{flag}' found; no more were expected",
-                             usage_of(command, f" {flag}")))
-    twice = bad("check twice with another heap", ONE + "--check --check --other-heap",
-                "the argument '--check' cannot be used multiple times", usage_of("one"))
-    return [*found, twice, bad("another option", ONE + "--no", "unexpected argument '--no' found", usage_of("one", ""),
-                               "to pass '--no' as a value, use '-- --no'")]
+                         usage_of(command, f" {flag}")))
+    return [*found, bad("check twice with another heap", ONE + "--check --check --other-heap",
+                        "the argument '--check' cannot be used multiple times", usage_of("one"))]
+
+
+def of_other_options():
+    """An option that no subcommand has, and each that another one has."""
+    found = [bad("another option", ONE + "--no", "unexpected argument '--no' found", usage_of("one", ""),
+                 "to pass '--no' as a value, use '-- --no'")]
+    for command, option in [(command, it.name) for command in LINES for it in TABLE.options if it not in TABLE.of(command)]:
+        similar = SIMILAR.get((command, option), "")
+        tip = f"a similar argument exists: '{similar.split()[0]}'" if similar else f"to pass '{option}' as a value, use '-- {option}'"
+        found.append(bad(f"{command} with {option}", f"{LINES[command]}{option}", f"unexpected argument '{option}' found",
+                         usage_of(command, f" {similar}".rstrip()), tip))
+    return found
 
 
 def of_lists():
@@ -194,5 +196,6 @@ def of_taken_words():
 
 def cases():
     """All command lines."""
-    tables = (of_help, of_sample, of_subcommands, of_control_characters, of_paths, of_numbers, of_flags, of_lists, of_taken_words)
+    tables = (of_help, of_sample, of_subcommands, of_control_characters, of_paths, of_numbers, of_flags, of_other_options, of_lists,
+              of_taken_words)
     return [each for table in tables for each in table()]

@@ -23,7 +23,7 @@ from concurrent.futures import ThreadPoolExecutor
 import judging
 import record
 from edits import Fault, batch_of, read_edit, texts_with
-from judging import FOR_CALLEE, REFUSED, Output
+from judging import REFUSED, Output
 
 # Their checks take longest, though they are not the largest.
 DEAREST = ("leak_search", "leak_request", "leak_pool")
@@ -141,9 +141,10 @@ def judge_batch(edits, output):
     for edit in edits:
         keys = output.keys_of(edit.function)
         kind, why = output.verdict(keys)
-        told[edit.name] = (kind, why) if kind == REFUSED else None
-        if kind == FOR_CALLEE:
-            edit.avoid |= {callee for key in keys for callee in judging.callees_of(edit.crate, output.lines[key])}
+        callees = {callee for key in keys for callee in judging.callees_of(edit.crate, output.lines[key])}
+        # (the goals of a function that waits for a callee were not tried)
+        told[edit.name] = (kind, why) if kind == REFUSED and not callees else None
+        edit.avoid |= callees
     return told
 
 
@@ -175,7 +176,7 @@ def lanes():
 
 def left_to_try(crates, known, commit):
     """Returns the crates that the record doesn't know as they are, and two others, which the commit chooses, with one batch each."""
-    told = [it for it in crates if known.get(it.name) == (len(it.edits), it.sum)]
+    told = [it for it in crates if record.speaks_of(known.get(it.name), len(it.edits), it.sum)]
     for it in told:
         print(f"-- {it.name}: {len(it.edits)} wrong bodies were refused before, by {record.FILE}", flush=True)
     chosen = []
@@ -194,7 +195,7 @@ def recorded(root, crates, found):
     for it in crates:
         known.pop(it.name, None)
         if it.edits and not it.faults and all(found.get(str(edit), (FAULT,))[0] == REFUSED for edit in it.edits):
-            known[it.name] = (len(it.edits), it.sum)
+            known[it.name] = (len(it.edits), record.judge(), it.sum)
     record.write(root, {name: row for name, row in known.items() if os.path.isdir(f"{root}/crates/{name}/wrong")})
 
 

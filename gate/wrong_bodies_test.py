@@ -69,6 +69,9 @@ MISTAKEN = {
 SAID = """./proofs/one/Answers.antt:3:1: error: `returns`: computed as far as they go, the two types differ
 ./proofs/two/Answers.antt:3:1: error: `returns`: `goal.returns`: module `Rattle.sums.proofs.two.Goals` has no `returns`
 ./proofs/halves/+fn-both-join+both/Answers.antt:3:1: error: `returns`: the two types differ
+  here the record `c` has no field
+./proofs/eight/Answers.antt:3:1: error: `returns`: record `Rattle.sums.proofs.eight.View` (nearest: .in_ok-first)
+  has no field `in_ok-second`
 fn sums::one: not proved
 fn sums::two: not proved
 fn sums::three: no proof: it calls `sums::one`, which is not proved
@@ -77,9 +80,16 @@ fn sums::five: proved
 fn sums::fn::six::sort+FnMut::call_mut: no proof: expected answers in ./proofs/fn/six; `search` did not prove `a`, `b`; it calls `sums::one`, which is not proved
 fn sums::six: proved
 fn sums::halves::both: not proved
-only=8 proved=2
+fn sums::eight: not proved
+only=9 proved=2
 """
-VERDICTS = {"one": REFUSED, "two": NAME_ALONE, "three": FOR_CALLEE, "four": UNTOLD, "five": PROVED, "six": REFUSED, "seven": UNTOLD, "halves::both": REFUSED}
+SAID_BESIDE = """./proofs/one/Answers.antt:3:1: error: `returns`: the two types differ
+./proofs/three/Answers.antt:3:1: error: `returns`: the two types differ
+fn sums::one: not proved
+fn sums::three: no proof: it calls `sums::one`, which is not proved
+only=2 proved=0
+"""
+VERDICTS = {"one": REFUSED, "two": NAME_ALONE, "three": FOR_CALLEE, "four": UNTOLD, "five": PROVED, "six": REFUSED, "seven": UNTOLD, "halves::both": REFUSED, "eight": NAME_ALONE}
 
 
 def write_crate(root, edits):
@@ -101,7 +111,7 @@ def tried(edits):
     with tempfile.TemporaryDirectory(prefix="wrong-test-") as root:
         write_crate(root, edits)
         os.mkdir(f"{root}/gate")
-        record.write(root, {"sums": (1, "old")})
+        record.write(root, {"sums": (1, record.judge(), "old")})
         told = wrong_bodies.run(root, ["sums"], 1, "--record")
         return {it.partition("/")[2].removesuffix(".edit"): kind for it, (kind, _) in told.items()}, "sums" in record.read(root)
 
@@ -152,26 +162,32 @@ def facts_of_sums():
         sums.append(changed(root, f"crates/sums/wrong/{min(WRONG)}.edit", "function: next"))
         sums.append(changed(root, "crates.txt", "sums: low more\nlow:\nother: sums\n"))
         unread = {changed(root, it, "one\n") for it in UNREAD_BY_CHECKS}
+        lemmas = changed(root, "crates.txt", "lemmas:\nsums: low more lemmas\nlow: lemmas\nother: sums\n")
         inner = changed(root, f"{LOW}/lang/src/lib.rt", HEADS.replace("IsOne result", "IsOne 1").replace("{ IsTwo }", "{ IsTwo 2 }"))
         commented = {changed(root, path, f"two\n{text}") for path, text in COMMENTED.items()}
         found = {"what a check reads changes the checksum": len(set(sums)) == len(sums)}
         found["an inner function of a crate below does not"] = inner == sums[-1]
+        found["a crate below that declares nothing does not"] = lemmas == sums[-1]
         return found | {"what no check reads does not": unread == {sums[-1]}, "a comment does not": commented == {sums[-1]}}
 
 
 def facts_of_record():
     """Returns what a record of three crates leaves to try."""
     crates = [types.SimpleNamespace(name=it, sum=f"sum of {it}", edits=[Edit(it, str(n), f"f{n // 2}", [], False) for n in range(6)]) for it in "abc"]
-    whole = {it.name: (6, it.sum) for it in crates}
+    whole = {it.name: (6, record.judge(), it.sum) for it in crates}
+    before = {it.name: (6, who, it.sum) for it, who in zip(crates, (record.JUDGES_BEFORE[0], "another", record.judge()))}
     with contextlib.redirect_stdout(io.StringIO()):
         fresh = wrong_bodies.left_to_try(copy.deepcopy(crates), {}, 7)
         same = wrong_bodies.left_to_try(copy.deepcopy(crates), whole, 7)
         other = wrong_bodies.left_to_try(copy.deepcopy(crates), whole, 8)
-        moved = wrong_bodies.left_to_try(copy.deepcopy(crates), {**whole, "b": (6, "another"), "c": (5, "sum of c")}, 7)
+        changed_since = {"b": (6, record.judge(), "another"), "c": (5, record.judge(), "sum of c")}
+        moved = wrong_bodies.left_to_try(copy.deepcopy(crates), whole | changed_since, 7)
+        judged = wrong_bodies.left_to_try(copy.deepcopy(crates), before, 7)
     found = {"without a record all are tried": [len(it.edits) for it in fresh] == [6, 6, 6]}
     found["of recorded crates two are tried, a batch of each"] = [len(it.edits) for it in same] == [3, 3]
     found["the commit chooses which"] = [it.name for it in same] != [it.name for it in other]
     found["a crate that changed is tried whole"] = [(it.name, len(it.edits)) for it in moved] == [("a", 3), ("b", 6), ("c", 6)]
+    found["so is one of an unknown judge, and none of the judge before"] = [(it.name, len(it.edits)) for it in judged] == [("a", 3), ("b", 6), ("c", 3)]
     return found
 
 
@@ -188,8 +204,11 @@ def facts():
     found |= {f"{it} fails the run": unread[it] == FAULT for it in (*UNREAD, *MISTAKEN)}
     found |= {f"{it} is told": it in mistakes() for it in MISTAKEN}
     found |= {f"{it} is {kind}": output.verdict(output.keys_of(it))[0] == kind for it, kind in VERDICTS.items()}
-    found["an unedited function that fails disturbs"] = disturbed(output, ["one", "two", "four", "six"]) == "sums::halves::both: `returns`: the two types differ"
-    found["callees disturb nothing"] = disturbed(output, ["one", "two", "four", "six", "halves::both"]) is None
+    batch = [Edit("sums", f"{it}_is_wrong", it, [], False) for it in ("one", "three")]
+    beside = wrong_bodies.judge_batch(batch, Output("sums", SAID_BESIDE))
+    found["a batch tells nothing of a function whose callee is unproved"] = [bool(it) for it in beside.values()] == [True, False]
+    found["an unedited function that fails disturbs"] = disturbed(output, ["one", "two", "four", "six", "eight"]) == "sums::halves::both: `returns`: the two types differ"
+    found["callees disturb nothing"] = disturbed(output, ["one", "two", "four", "six", "halves::both", "eight"]) is None
     found["a check that was cut off tells nothing"] = not Output("sums", SAID.rpartition("only=")[0]).is_told()
     found["a crate whose bodies are all refused is recorded"] = kept and set(refused.values()) == {REFUSED}
     found["a crate with a harmless body is not, though it was"] = not mixed_kept

@@ -161,7 +161,7 @@ static void arm(struct target *target, const struct settings *settings)
     call_step();
 }
 
-/* Looks for an island, before the process stands still, and plans one if there is none. Gives whether one is to be made. */
+/* Looks for an island, before the process is stopped, and plans one if there is none. Gives whether one is to be made. */
 static bool survey(struct target *target)
 {
     static const char *const refusals[] = { [ISLAND_ARMED] = "is attached already", [ISLAND_LOADING] = "is attached already",
@@ -248,7 +248,7 @@ int attach(struct target *target, const struct settings *settings)
         detach(target);
         fail("process %d could not load the library, and is as it was: %s", target->process.id, *error ? error : "no file could be made");
     }
-    fprintf(stderr, "leak_attach: process %d stood still for %.0f ms, and %s\n", target->process.id, stood,
+    fprintf(stderr, "leak_attach: process %d was stopped for %.0f ms, and %s\n", target->process.id, stood,
             state == ISLAND_ON ? "its blocks have callers from now on"
                                : "has not allocated since: its blocks have callers from its next call of malloc on");
     return 0;

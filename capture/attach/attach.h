@@ -20,7 +20,7 @@ struct module {
     size_t string_bytes;
 };
 
-/* The process, while it stands still. */
+/* The process, while it is stopped. */
 struct target {
     struct process process;
     struct maps maps;

@@ -194,7 +194,7 @@ int detach(struct target *target)
     for (tries = 0; is_done && !unmap_table(target, &leaving.head) && tries < MOST_SHIFT; tries++)
         pause_before(tries);
     write_bytes(target->process.id, target->base + offsetof(struct island, state), &(uint32_t){ ISLAND_OFF }, sizeof(uint32_t));
-    fprintf(stderr, "leak_attach: process %d stood still for %.0f ms%s%s, and its blocks get no more callers\n",
+    fprintf(stderr, "leak_attach: process %d was stopped for %.0f ms%s%s, and its blocks get no more callers\n",
             target->process.id, stood, is_done ? "" : "; a thread stayed in the library, so its table stays in memory",
             leaving.is_removed ? "" : STAYS);
     return 0;

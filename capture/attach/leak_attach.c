@@ -12,7 +12,6 @@
 #include <stdio.h>
 #include <stdlib.h>
 #include <string.h>
-#include <sys/prctl.h>
 #include <unistd.h>
 
 #include "../common/escape.h"
@@ -26,14 +25,13 @@ static const double USUAL_SECONDS = 10;
 const char tracer_name[] = "leak_attach", what_is_not[] = "the process may be attached already: leak_trace --detach ends that";
 
 static const char USAGE[] = "usage: leak_attach [-d DEPTH] PID | leak_attach --detach PID\n", HELP[] =
-    "Records the callers of each block that a running process allocates from now on. leak_trace calls it.\n\n"
-    "  PID       one of your processes; any process, as root; it stands still for a moment\n"
+    "Records the callers of the blocks that a running process allocates from now on. leak_trace calls it.\n\n"
+    "  PID       one of your processes (any process, as root); it is stopped for a moment\n"
     "  -d DEPTH  how many callers to record for each block, 1 to 32 [8]\n"
-    "  --detach  ends that, and gives the process its own code back\n\n"
-    "status: 0; 2 with a line on standard error and an unchanged process\n";
+    "  --detach  stops that, and restores the process's own code\n\n"
+    "status: 0; 2 with a line on standard error, and the process is unchanged\n";
 
 static struct target target;
-static volatile sig_atomic_t asked_to_end;
 static bool is_searching;
 static struct timespec searching_since;
 
@@ -75,43 +73,12 @@ void limit_search(bool is_on)
 
 void end_if_asked(void)
 {
-    if (asked_to_end)
-        fail("ended by signal %d", (int)asked_to_end);
+    if (ending_signal())
+        fail("ended by signal %d", ending_signal());
     if (is_searching && milliseconds_since(searching_since) > SEARCH_MS)
         fail("process %d could not be looked at in %d s: its disk or its own memory does not answer, or it has too much",
              target.process.id, SEARCH_MS / 1000);
     end_if_overdue();
-}
-
-void *grown(void *list, size_t count, size_t each)
-{
-    if (count & (count - 1))
-        return list;
-    list = realloc(list, (count ? 2 * count : 1) * each);
-    if (!list)
-        fail("no memory for a list");
-    return list;
-}
-
-static void ask_to_end(int signal)
-{
-    asked_to_end = signal;
-}
-
-static sigset_t set_signals(void)
-{
-    static const int ends[] = { SIGINT, SIGTERM, SIGHUP, SIGQUIT };
-    struct sigaction ask = { .sa_handler = ask_to_end };
-    sigset_t set;
-
-    sigemptyset(&set);
-    for (size_t i = 0; i < sizeof ends / sizeof *ends; i++) {
-        sigaction(ends[i], &ask, NULL);
-        sigaddset(&set, ends[i]);
-    }
-    signal(SIGPIPE, SIG_IGN);
-    prctl(PR_SET_PDEATHSIG, SIGTERM);
-    return set;
 }
 
 static long number_of(const char *word, long most)

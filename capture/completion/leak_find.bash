@@ -1,22 +1,36 @@
 # Completion for bash of leak_find and the commands around it. `make install` puts it where bash-completion looks for each of them.
 
+# The options of leak_find's subcommands, and what their values are (written by setup/options.py: begin).
+_leak_find_options() {
+    case $1 in
+    one | two) echo '--skip-freed --skip-links --skip-slack --skip-dead-stack --skip-ends --all-memory --displace --check --other-heap --strict --workers --piece --stack' ;;
+    why) echo '--skip-freed --skip-links --skip-slack --skip-dead-stack --skip-ends --all-memory --displace --other-heap --strict' ;;
+    holders) echo '--skip-freed --skip-links --skip-slack --skip-dead-stack --skip-ends --all-memory --displace --other-heap --strict --in --of --block --since --workers --piece --stack' ;;
+    grow) echo '--strict' ;;
+    esac
+}
+
+_leak_find_value() {
+    case $1 in
+    --displace | --workers | --piece | --stack) echo number ;;
+    --in | --of) echo address ;;
+    --since) echo file ;;
+    esac
+}
+# written by setup/options.py: end
+
 # The options of a command, or of a subcommand of leak_find.
 _leak_options() {
-    local skips='--skip-freed --skip-links --skip-slack --skip-dead-stack --skip-ends --all-memory --displace'
-    local search="$skips --other-heap --strict --workers --piece --stack"
     case $1 in
     leak_find) echo '-h --help -V --version' ;;
     help) echo '-h --help' ;;
-    one | two) echo "$search --check -h --help" ;;
-    holders) echo "$search --in --of --block --since -h --help" ;;
-    why) echo "$skips --other-heap --strict -h --help" ;;
-    grow) echo '--strict -h --help' ;;
+    one | two | holders | why | grow) echo "$(_leak_find_options "$1") -h --help" ;;
     leak_trace) echo '-o -d -m -w -k -e --attach --detach --list --all --remove --version' ;;
     leak_dump) echo '--after --core --size --whole-stack --no-calls --pipes --hold --version' ;;
     leak_log) echo '--after --version' ;;
     leak_walk) echo '--partial --quiet --names --after --arenas --unused --version' ;;
     leak_what) echo '--types --root --place --version' ;;
-    leak_report) echo "--attach --grow --for --keep --files --after --root --unchecked --list --raw --html --version --whole-stack --no-calls --pipes --hold -n --structures --why $skips --other-heap --check --strict --workers --piece --stack" ;;
+    leak_report) echo "--attach --grow --for --keep --files --after --root --unchecked --list --raw --html --version --whole-stack --no-calls --pipes --hold -n --structures --why $(_leak_find_options one)" ;;
     leak_lines) echo '-n --suppress --exit-code --folded --json --html --since --no-lines --what --structures --why --plain --core --log --root --pid --unchecked --copy-files --version' ;;
     esac
 }
@@ -24,11 +38,11 @@ _leak_options() {
 # What the value of an option is, or nothing where it has none.
 _leak_value() {
     case "$1 $2" in
-    *' --workers' | *' --piece' | *' --stack' | *' --displace' | leak_*' --hold' | leak_*' -n' | leak_*' --why' | 'leak_trace -d' | 'leak_trace -m' | 'leak_report --for') echo number ;;
-    *' --in' | *' --of') echo address ;;
+    leak_*' --hold' | leak_*' -n' | leak_*' --why' | 'leak_trace -d' | 'leak_trace -m' | 'leak_report --for') echo number ;;
     'leak_report --keep' | 'leak_report --after' | *' --root' | 'leak_lines --copy-files') echo folder ;;
     'leak_dump --size' | 'leak_lines --pid' | 'leak_trace --attach' | 'leak_trace --detach') echo process ;;
     *' --names' | *' --unused' | *' --after' | *' --core' | *' --suppress' | *' --since' | *' --html' | *' --what' | *' --log' | *' --plain' | *' -o') echo file ;;
+    *) _leak_find_value "$2" ;;
     esac
 }
 
@@ -94,4 +108,4 @@ _leak_complete() {
     mapfile -t COMPREPLY < <(_leak_offer "$kind" "$word")
 }
 
-complete -F _leak_complete leak_find leak_trace leak_dump leak_log leak_walk leak_report leak_lines
+complete -F _leak_complete leak_find leak_trace leak_dump leak_log leak_walk leak_what leak_report leak_lines

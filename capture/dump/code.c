@@ -132,7 +132,7 @@ struct code find_code(pid_t process)
     return code;
 }
 
-/* Whether the code is still there, now that the process stands still. */
+/* Whether the code is still there, now that the process is stopped. */
 bool has_code(pid_t witness, const struct code *code)
 {
     uint8_t call[sizeof CALL - 1], handler_end[sizeof HANDLER_END - 1];

@@ -16,7 +16,7 @@
 
 #include "dump.h"
 
-/* A process may stand still for so many seconds, and for one more for each so many bytes of its core: a disk that takes less than 32 MiB a second
+/* A process may be stopped for so many seconds, and for one more for each so many bytes of its core: a disk that takes less than 32 MiB a second
  * is taken for one that hangs. */
 enum { BASE_SECONDS = 20, BYTES_A_SECOND = 32 << 20 };
 
@@ -27,7 +27,7 @@ static struct shared {
     struct timespec since;          /* when the process was stopped */
     atomic_bool stands;
     atomic_bool is_told;            /* a fault was told: what follows is the end */
-    _Atomic double seconds;         /* how long it may stand still */
+    _Atomic double seconds;         /* how long it may be stopped */
     struct made {
         char part[MOST_PATH], path[MOST_PATH];
         atomic_int state;           /* enum made_state */
@@ -54,7 +54,7 @@ void end_standstill(void)
     shared->stands = false;
 }
 
-/* Whether the process stands still for longer than it may, and this much longer. */
+/* Whether the process is stopped for longer than it may, and this much longer. */
 static bool is_overdue(double more_ms)
 {
     return shared->stands && milliseconds_since(shared->since) > shared->seconds * 1000 + more_ms;
@@ -63,7 +63,7 @@ static bool is_overdue(double more_ms)
 void end_if_overdue(void)
 {
     if (is_overdue(0))
-        fail("the process stood still for %g s (--hold) and was resumed: the disk or its own memory did not answer; %s",
+        fail("the process was stopped for %g s (--hold) and resumed: the disk or its own memory did not answer; %s",
              shared->seconds, what_is_not);
 }
 
@@ -138,7 +138,7 @@ static void kill_child(pid_t child, int asked)
     if (asked)
         dprintf(STDERR_FILENO, "%s: ended by signal %d: %s\n", tracer_name, asked, what_is_not);
     else
-        dprintf(STDERR_FILENO, "%s: the process stood still for %g s (--hold) and was resumed: %s\n", tracer_name,
+        dprintf(STDERR_FILENO, "%s: the process was stopped for %g s (--hold) and resumed: %s\n", tracer_name,
                 (double)shared->seconds, what_is_not);
 }
 

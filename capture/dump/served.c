@@ -1,4 +1,4 @@
-/* Memory whose missing pages the program itself supplies (userfaultfd(2)): who reads such a page waits until it does, and while it stands still it
+/* Memory whose missing pages the program itself supplies (userfaultfd(2)): who reads such a page waits until it does, and while it is stopped it
  * never does. Nobody knows what such a page would have. The kernel tells which mappings are registered so (proc(5), smaps: `um` and `ui`). */
 #include <stdlib.h>
 #include <string.h>

@@ -101,7 +101,7 @@ static void add_stack(struct call *call, struct words *words)
         add_word(words, (struct word){ SIGNAL_STACK, call->thread->id, (uintptr_t)stack.ss_sp, stack.ss_size });
 }
 
-/* The code was looked for before the process stood still. A process that was just starting a program is looked at again. */
+/* The code was looked for before the process was stopped. A process that was just starting a program is looked at again. */
 void ask_signal_stacks(struct process *process, const struct maps *maps, const struct code *found, struct words *words)
 {
     struct call *calls = calloc(process->count, sizeof *calls);

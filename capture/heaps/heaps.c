@@ -8,28 +8,34 @@ static const struct kind {
     enum finding (*walk)(struct other_heap *heap);
 } kinds[] = {
     { "musl", walk_musl },
-    { "jemalloc 5.3", walk_jemalloc },
-    { "mimalloc 2.0", walk_mimalloc },
+    { "jemalloc", walk_jemalloc },
+    { "mimalloc", walk_mimalloc },
     { "tcmalloc 2.10", walk_tcmalloc },
 };
 
 enum { KINDS = sizeof kinds / sizeof *kinds };
 
-/* The steps are many times those of a right heap. A block has a word in the core that leads to it, or is lost; so has what is free. */
+/* The steps are many times those of a right heap. A block has at least one word of its own in the core; so has what is
+ * free. */
 static struct other_heap new_heap(struct core *core, const struct kind *kind)
 {
     enum { STEPS = 4, MORE_STEPS = 1 << 22, SPAN = 8, MORE_SPANS = 1 << 20 };
-    uint64_t dumped = 0;
+    uint64_t dumped = 0, spans = core->file.size / SPAN + MORE_SPANS;
 
     for (size_t i = 0; i < core->segment_count; i++)
         dumped += core->segments[i].size;
     return (struct other_heap){ .core = core, .name = kind->name, .steps_left = STEPS * dumped + MORE_STEPS,
-                                .spans_left = core->file.size / SPAN + MORE_SPANS };
+                                .spans_left = spans, .places_left = spans };
 }
 
+/* Most lists are in order, and qsort takes as much memory again. */
 static void sort(struct spans *spans)
 {
-    if (spans->count)
+    size_t i = 1;
+
+    while (i < spans->count && spans->list[i - 1].start <= spans->list[i].start)
+        i++;
+    if (i < spans->count)
         qsort(spans->list, spans->count, sizeof *spans->list, by_start);
 }
 
@@ -48,6 +54,10 @@ static enum finding walk_one(struct other_heap *heap, const struct kind *kind)
 
 static void add_all(struct spans *to, const struct spans *from)
 {
+    if (!to->count) {
+        *to = *from;
+        return;
+    }
     for (size_t i = 0; i < from->count; i++) {
         to->list = grown(to->list, to->count, sizeof *to->list);
         to->list[to->count++] = from->list[i];
@@ -108,6 +118,13 @@ static void join(struct heap *heap)
     free(all.list);
 }
 
+static void drop_spans(struct other_heap *heap)
+{
+    free(heap->blocks.list);
+    free(heap->unused.list);
+    heap->blocks = heap->unused = (struct spans){ 0 };
+}
+
 void walk_others(struct heap *heap)
 {
     struct others *others = &heap->others;
@@ -115,6 +132,8 @@ void walk_others(struct heap *heap)
     for (size_t i = 0; i < KINDS; i++) {
         struct other_heap one = new_heap(heap->core, kinds + i);
         enum finding found = walk_one(&one, kinds + i);
+        if (found != WALKED)
+            drop_spans(&one);
         if (found == NOT_THERE)
             continue;
         struct other_heap **to = found == WALKED ? &others->list : &others->refused;

@@ -9,14 +9,14 @@ enum finding { NOT_THERE, NOT_RIGHT, WALKED };
 /* The heap of one allocator. */
 struct other_heap {
     struct core *core;
-    const char *name;           /* as the log has it */
+    const char *name;           /* as the log has it, with the version once that is known */
     uint64_t anchor;            /* an address that stays the same in a process, and tells it from others */
     struct spans blocks;        /* with what is neither in use nor free */
     struct spans unused;        /* free memory, and the allocator's own */
     uint64_t inside;            /* threads that may be at work in it */
     uint8_t *is_inside;         /* of each thread of the core */
     uint64_t odd;               /* what doesn't fit, as if a thread were at work on it */
-    uint64_t steps_left, spans_left;
+    uint64_t steps_left, spans_left, places_left;
     char why[300];              /* what does not fit */
 };
 
@@ -38,6 +38,7 @@ void take_of(struct other_heap *heap, uint64_t steps);
 void add_block(struct other_heap *heap, uint64_t start, uint64_t size, uint64_t room);
 void add_unused(struct other_heap *heap, uint64_t start, uint64_t end);
 void add_neither(struct other_heap *heap, uint64_t start, uint64_t end);
+uint8_t *bits_for(struct other_heap *heap, uint64_t count);
 const struct span *overlap_of(const struct spans *spans);
 void cut_out(struct spans *unused, const struct spans *blocks);
 

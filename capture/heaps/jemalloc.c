@@ -1,5 +1,5 @@
-/* The heap of jemalloc 5.3, without symbols (include/jemalloc/internal/{base,rtree,edata,emap,sc}.h,
- * src/{base,emap,cache_bin,tcache}.c).
+/* The heap of jemalloc 5.3 or 5.2.1, without symbols (include/jemalloc/internal/{base,rtree,edata,emap,sc}.h,
+ * src/{base,emap,cache_bin,tcache}.c; of 5.2.1 {base_structs,rtree,extent_structs,sc}.h, src/{base,extent,tcache}.c).
  *
  * Its records lie in base blocks of 2 MiB or more, whose heads check themselves. The root of its tree of extents is
  * found by a word that leads to a leaf, whose first extent says where in the root that word is. All extents are in the
@@ -117,25 +117,59 @@ static void tell_all(struct jemalloc *je)
     }
 }
 
+static const struct layout layouts[] = {
+    { "jemalloc 5.3", 17, 7, 20, 28, -((uint64_t)1 << 45), EDATA_BYTES, EDATA_BYTES - 1, 1, take_thread_caches },
+    { "jemalloc 5.2.1", 16, 3, 18, 26, 0, 64, 1, 0, take_old_caches },
+};
+
+/* Forgets what was found by another layout. */
+static void forget(struct jemalloc *je)
+{
+    je->slab_count = je->large_count = je->heap->unused.count = 0;
+    je->is_padded = je->is_bare = 0;
+    je->heap->odd = 0;
+    je->refused = NULL;
+}
+
+/* Takes the extents by the layout by which most of them fit. Says whether there is one. */
+static int find_layout(struct jemalloc *je)
+{
+    uint64_t odd = 0;
+
+    for (size_t i = 0; i < sizeof layouts / sizeof *layouts; i++) {
+        je->layout = layouts + i;
+        if (!find_root(je))
+            continue;
+        forget(je);
+        take_extents(je);
+        if (je->heap->odd <= je->slab_count + je->large_count)
+            return 1;
+        odd = je->heap->odd;
+    }
+    if (odd)
+        refuse(je->heap, "%llu of its records are not as those of jemalloc 5.3 or 5.2.1, so it is another version", (unsigned long long)odd);
+    else
+        refuse(je->heap, "%zu base blocks, the first at 0x%llx, and no tree of extents that is known (jemalloc 5.3 and 5.2.1 have one)",
+               je->base_count, (unsigned long long)je->bases[0].start);
+    return 0;
+}
+
 static enum finding walk_bases(struct jemalloc *je)
 {
     if (!are_chained(je))
         return refuse(je->heap, "the base block at 0x%llx, or one after it, leads to none", (unsigned long long)je->bases[0].start);
     set_sizes(je);
-    if (!find_root(je))
-        return refuse(je->heap, "%zu base blocks, the first at 0x%llx, and no tree of extents that is known (jemalloc 5.3 has one)", je->base_count,
-                      (unsigned long long)je->bases[0].start);
+    if (!find_layout(je))
+        return NOT_RIGHT;
+    je->heap->name = je->layout->name;
     je->heap->anchor = je->root;
     count_inside(je->heap, je->root);
-    take_extents(je);
-    if (je->heap->odd > je->slab_count + je->large_count)
-        return refuse(je->heap, "%llu of its records are not as those of jemalloc 5.3, so it is another version",
-                      (unsigned long long)je->heap->odd);
     if (je->refused)
         return refuse(je->heap, "it has %s, whose heap is not known", je->refused);
     if (judge(je->heap, 4, 4) != WALKED)
         return NOT_RIGHT;
-    take_thread_caches(je);
+    find_hands(je);
+    je->layout->take(je);
     tell_all(je);
     return judge(je->heap, 4, 4);
 }

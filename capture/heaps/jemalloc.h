@@ -1,4 +1,4 @@
-/* What the files of the walk of jemalloc 5.3 share (x86-64: LG_PAGE 12, LG_VADDR 48 or 57). */
+/* What the files of the walk of jemalloc 5.3 and 5.2.1 share (x86-64: LG_PAGE 12, LG_VADDR 48 or 57). */
 #ifndef LEAK_JEMALLOC_H
 #define LEAK_JEMALLOC_H
 
@@ -10,6 +10,20 @@ enum { EDATA_BYTES = 128, SIZE_CLASSES = 232, BINS = 36, MAP_WORDS = 8, MOST_REG
  * has in a leaf. */
 struct shape {
     unsigned levels, bits, entry;
+};
+
+struct jemalloc;
+
+/* What a version lays out as no other does: the bits of an extent's record, and those of a leaf's word that are not the
+ * record's address. */
+struct layout {
+    const char *name;
+    unsigned state_at, state_mask, class_at, free_at;
+    uint64_t none;              /* bits of a record that are 0 */
+    uint64_t align;             /* of a record */
+    uint64_t flags;             /* of a leaf's word */
+    int has_state;              /* so has a leaf's word, which 5.2.1 lacks */
+    void (*take)(struct jemalloc *je);
 };
 
 /* An extent of small regions. A set bit: the region is free, in a thread's cache, or jemalloc's own. */
@@ -37,6 +51,23 @@ struct stack {
     int owners, has_items;
 };
 
+enum { BIN_BYTES = 24 };
+
+/* Free blocks of one class, which a thread keeps: its part of the stack is from start to end, and the items are from
+ * head on. */
+struct bin {
+    uint64_t start, head, end;
+};
+
+/* A thread's cache: small and large say where the bins of small classes and those of others are. */
+struct cache {
+    uint64_t at, end;
+    uint64_t block;             /* the stack's, of 5.2.1 */
+    uint64_t small, large;
+    unsigned count;
+    struct bin bins[SIZE_CLASSES];
+};
+
 /* A word of a register, or of the top of a stack, and where it is. */
 struct hand {
     uint64_t value, at;
@@ -46,6 +77,7 @@ struct jemalloc {
     struct other_heap *heap;
     struct range *bases;        /* memory of its records, by ascending start */
     size_t base_count;
+    const struct layout *layout;
     const struct shape *shape;
     uint64_t root;
     uint64_t size_of[SIZE_CLASSES];
@@ -58,6 +90,7 @@ struct jemalloc {
     size_t stack_count;
     struct hand *hands;         /* words of threads that are inside, by value */
     size_t hand_count;
+    uint8_t is_held[SIZE_CLASSES];  /* a register of one has a block of the class */
     const char *refused;        /* what is not known */
 };
 
@@ -78,10 +111,20 @@ int leaf_word(struct jemalloc *je, uint64_t page, uint64_t *word);
 /* jemalloc_tree.c */
 void take_extents(struct jemalloc *je);
 
+/* jemalloc_items.c */
+struct slab *slab_at(const struct jemalloc *je, uint64_t address);
+struct slab *region_at(const struct jemalloc *je, uint64_t address, uint64_t *number);
+struct large *large_at(const struct jemalloc *je, uint64_t start);
+uint64_t place_of_bin(const struct cache *cache, unsigned class);
+int set_own(struct jemalloc *je, uint64_t block);
+int has_items(const struct cache *cache);
+void take_items(struct jemalloc *je, const struct cache *cache);
+
 /* jemalloc_caches.c */
 void take_thread_caches(struct jemalloc *je);
-struct slab *slab_at(const struct jemalloc *je, uint64_t address);
-struct large *large_at(const struct jemalloc *je, uint64_t start);
+
+/* jemalloc_old_caches.c */
+void take_old_caches(struct jemalloc *je);
 
 /* jemalloc_hands.c */
 void find_hands(struct jemalloc *je);
@@ -92,10 +135,10 @@ static inline unsigned leaf_shift(const struct jemalloc *je) { return 12 + je->s
 static inline uint64_t node_bytes(const struct jemalloc *je) { return (uint64_t)8 << je->shape->bits; }
 static inline uint64_t leaf_bytes(const struct jemalloc *je) { return (uint64_t)je->shape->entry << je->shape->bits; }
 
-/* The extent that the word of a page leads to (edata.h, edata_t). */
-static inline uint64_t edata_of(uint64_t word)
+/* The extent that the word of a page leads to (edata.h, edata_t; before 5.3 extent_structs.h, extent_t). */
+static inline uint64_t edata_of(const struct jemalloc *je, uint64_t word)
 {
-    return (uint64_t)((int64_t)(word << 16) >> 16) & -(uint64_t)EDATA_BYTES;
+    return (uint64_t)((int64_t)(word << 16) >> 16) & ~je->layout->flags;
 }
 
 static inline int has_bit(const uint64_t *map, uint64_t i)

@@ -1,58 +1,14 @@
-/* Threads' caches of jemalloc (cache_bin.h, tcache_structs.h). Each has an array of bins in the thread's own memory,
+/* Threads' caches of jemalloc 5.3 (cache_bin.h, tcache_structs.h). Each has an array of bins in the thread's own memory,
  * and one stack of all their items, which jemalloc gave itself, between two words of junk. Each bin tells where its
  * part of the stack begins and ends, and the next one begins there. */
 #include <stdlib.h>
 
 #include "jemalloc.h"
 
-enum { BIN_BYTES = 24, MOST_BINS = 128 };
+enum { MOST_BINS = 128 };
 #define JUNK_BEFORE 0x7a7a7a7a7a7a7a7aull
 #define JUNK_BEHIND 0xa7a7a7a7a7a7a7a7ull
 #define JUNK_BEHIND_5_3_1 0x7a7a7a7a7a7a7a7bull
-
-/* Items are from head up to end. */
-struct bin {
-    uint64_t start, head, end;
-};
-
-struct cache {
-    uint64_t at;                /* the array */
-    uint64_t stack;             /* what jemalloc gave for the items */
-    unsigned count;
-    struct bin bins[MOST_BINS];
-};
-
-/* The slab that has the address, or NULL. */
-struct slab *slab_at(const struct jemalloc *je, uint64_t address)
-{
-    size_t low = 0, high = je->slab_count;
-
-    while (low < high) {
-        size_t middle = low + (high - low) / 2;
-        if (je->slabs[middle].end <= address)
-            low = middle + 1;
-        else
-            high = middle;
-    }
-    return low < je->slab_count && je->slabs[low].start <= address ? je->slabs + low : NULL;
-}
-
-/* The block that isn't small and begins there, or NULL. */
-struct large *large_at(const struct jemalloc *je, uint64_t start)
-{
-    return je->large_count ? bsearch(&start, je->larges, je->large_count, sizeof *je->larges, by_start) : NULL;
-}
-
-/* The slab that has a region there that is in use, and its number; or NULL. */
-static struct slab *region_at(const struct jemalloc *je, uint64_t address, uint64_t *number)
-{
-    struct slab *s = slab_at(je, address);
-
-    if (!s || (address - s->start) % je->size_of[s->class])
-        return NULL;
-    *number = (address - s->start) / je->size_of[s->class];
-    return has_bit(s->free, *number) ? NULL : s;
-}
 
 /* Reads a bin: its head, and the low bits of the lowest head since the last collection, of its start and of its end;
  * and how many items it has room for, or 0 before 5.3.1. */
@@ -75,9 +31,10 @@ static int read_bin(struct jemalloc *je, uint64_t at, struct bin *bin)
 /* Reads as many bins as follow one another, up to the junk behind the last. */
 static void read_cache(struct jemalloc *je, uint64_t at, struct cache *cache)
 {
-    cache->at = at;
+    cache->at = cache->small = cache->end = at;
+    cache->large = at + BIN_BYTES * BINS;
     cache->count = 0;
-    for (struct bin bin; cache->count < MOST_BINS && read_bin(je, at, &bin); at += BIN_BYTES) {
+    for (struct bin bin; cache->count < MOST_BINS && read_bin(je, at, &bin); at += BIN_BYTES, cache->end = at) {
         if (cache->count && bin.start != cache->bins[cache->count - 1].end)
             return;
         cache->bins[cache->count++] = bin;
@@ -89,55 +46,6 @@ static int by_stack(const void *a, const void *b) { return by_start(a, b); }
 static struct stack *stack_at(const struct jemalloc *je, uint64_t start)
 {
     return je->stack_count ? bsearch(&start, je->stacks, je->stack_count, sizeof *je->stacks, by_stack) : NULL;
-}
-
-/* Whether an item is a block of the bin's class that is in use and in no other cache. */
-static int can_be_item(const struct jemalloc *je, uint64_t item, unsigned class)
-{
-    uint64_t number;
-    const struct slab *s = region_at(je, item, &number);
-    const struct large *l = large_at(je, item);
-
-    return s ? s->class == class && !has_bit(s->cached, number) && !has_bit(s->own, number) : l && l->class == class && l->use == IN_USE;
-}
-
-static void take_item(struct jemalloc *je, uint64_t item)
-{
-    uint64_t number;
-    struct slab *s = region_at(je, item, &number);
-
-    if (s)
-        set_bit(s->cached, number);
-    else
-        large_at(je, item)->use = CACHED;
-}
-
-/* Takes the items of a bin, all or none: if one can't be, a thread may be giving all back. */
-static void take_bin(struct jemalloc *je, const struct cache *cache, unsigned class)
-{
-    const struct bin *bin = cache->bins + class;
-    struct range words = { .start = bin->start, .end = bin->end + 1 }, own = { .start = cache->at, .end = cache->at + BIN_BYTES * cache->count };
-    struct range head = { .start = cache->at + BIN_BYTES * class, .end = cache->at + BIN_BYTES * class + 1 };
-    uint64_t item;
-
-    if (bin->head == bin->end || is_in_hands(je, words, own) || is_in_hands(je, head, own))
-        return;
-    for (uint64_t at = bin->head; at < bin->end; at += 8)
-        if (!read_word(je->heap, at, &item) || !can_be_item(je, item, class)) {
-            tell_odd(je->heap, "the cache at 0x%llx has an item that is no block of its class, at 0x%llx", (unsigned long long)cache->at, (unsigned long long)at);
-            return;
-        }
-    for (uint64_t at = bin->head; at < bin->end; at += 8)
-        if (read_word(je->heap, at, &item))
-            take_item(je, item);
-}
-
-static int has_items(const struct cache *cache)
-{
-    for (unsigned i = 0; i < cache->count; i++)
-        if (cache->bins[i].head != cache->bins[i].end)
-            return 1;
-    return 0;
 }
 
 static int has_junk_behind(struct jemalloc *je, uint64_t at)
@@ -158,8 +66,7 @@ static void take_cache(struct jemalloc *je, const struct cache *cache)
     }
     stack->owners++;
     stack->has_items |= is_filled;
-    for (unsigned i = 0; i < cache->count; i++)
-        take_bin(je, cache, i);
+    take_items(je, cache);
 }
 
 /* Whether a block of that size begins with the one word, and has the other behind. */
@@ -194,14 +101,8 @@ static void find_stacks(struct jemalloc *je)
                 add_stack(je, at, je->size_of[je->slabs[i].class]);
     if (je->stack_count)
         qsort(je->stacks, je->stack_count, sizeof *je->stacks, by_start);
-    for (size_t i = 0; i < je->stack_count; i++) {
-        uint64_t number;
-        struct slab *s = region_at(je, je->stacks[i].start, &number);
-        if (s)
-            set_bit(s->own, number);
-        else
-            large_at(je, je->stacks[i].start)->use = OWN;
-    }
+    for (size_t i = 0; i < je->stack_count; i++)
+        set_own(je, je->stacks[i].start);
 }
 
 static void look_in(struct jemalloc *je, const struct segment *s)
@@ -226,7 +127,6 @@ void take_thread_caches(struct jemalloc *je)
 {
     const struct segment *s;
 
-    find_hands(je);
     find_stacks(je);
     for (size_t next = 0; (s = next_writable(je->heap, &next));)
         look_in(je, s);

@@ -7,18 +7,38 @@
 /* A flush has up to 200 words of its own on the stack. A function that calls none may use the bytes below it. */
 enum { TOP = 8192, BELOW = 128 };
 
+/* Threads have words of their own: a core can have no more of them than words. */
 static void add_hand(struct jemalloc *je, uint64_t value, uint64_t at)
 {
+    if (!je->heap->places_left) {
+        je->heap->steps_left = 0;
+        return;
+    }
+    je->heap->places_left--;
     je->hands = grown(je->hands, je->hand_count, sizeof *je->hands);
     je->hands[je->hand_count++] = (struct hand){ value, at };
 }
 
-static void add_words(struct jemalloc *je, uint64_t from, uint64_t to)
+/* A register, which may have a block that is just becoming an item. */
+static void add_register(struct jemalloc *je, uint64_t value, uint64_t at)
+{
+    uint64_t number;
+    const struct slab *s = region_at(je, value, &number);
+    const struct large *l = large_at(je, value);
+
+    add_hand(je, value, at);
+    if (s)
+        je->is_held[s->class] = 1;
+    else if (l)
+        je->is_held[l->class] = 1;
+}
+
+static void add_words(struct jemalloc *je, uint64_t from, uint64_t to, void (*add)(struct jemalloc *, uint64_t, uint64_t))
 {
     uint64_t value;
 
     for (uint64_t at = from; at < to && read_word(je->heap, at, &value); at += 8)
-        add_hand(je, value, at);
+        add(je, value, at);
 }
 
 /* The words of a thread, and of what signals interrupted. */
@@ -27,11 +47,11 @@ static void add_thread(struct jemalloc *je, const struct thread *thread)
     struct moment m = moment_of(thread);
 
     for (size_t k = 0; k < REGISTERS; k++)
-        add_hand(je, thread->words[k], 0);
+        add_register(je, thread->words[k], 0);
     do {
-        add_words(je, m.saved, m.saved + 8 * m.saved_count);
-        add_words(je, m.rsp - BELOW, m.rsp);
-        add_words(je, m.rsp, m.rsp + TOP);
+        add_words(je, m.saved, m.saved + 8 * m.saved_count, add_register);
+        add_words(je, m.rsp - BELOW, m.rsp, add_hand);
+        add_words(je, m.rsp, m.rsp + TOP, add_hand);
     } while (go_to_interrupted(je->heap, &m));
 }
 

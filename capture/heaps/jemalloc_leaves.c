@@ -15,23 +15,30 @@ int may_be_node(const struct jemalloc *je, uint64_t value)
     return je->shape->levels == 2 ? may_be_leaf(je, value) : is_record(je, value, node_bytes(je));
 }
 
-/* Reads the entry of a page, as one word: 8 bits of the class, 48 of the extent's address, of which 5 are flags. What
- * does not fit leads nowhere. */
+/* The class and the flags of a page's second word, as the first has them where it has room; or -1. */
+static uint64_t rest_of_entry(const struct jemalloc *je, uint64_t second)
+{
+    enum { FLAGS = 5, CLASS = 8, CLASS_AT = 48, SLAB_AT = 32 };
+    uint64_t class = je->layout->has_state ? second >> FLAGS : second & UINT32_MAX;
+    uint64_t flags = je->layout->has_state ? second & ((1 << FLAGS) - 1) : second >> SLAB_AT;
+
+    return class >> CLASS || flags & ~je->layout->flags ? UINT64_MAX : class << CLASS_AT | flags;
+}
+
+/* Reads the entry of a page, as one word. What does not fit leads nowhere. */
 int read_entry(struct jemalloc *je, uint64_t at, uint64_t *word)
 {
-    enum { FLAGS = 5, CLASS = 8, CLASS_AT = 48, NOWHERE = 1 };
-    uint64_t flags;
+    enum { NOWHERE = 1 };
+    uint64_t second, rest;
 
     if (!read_word(je->heap, at, word))
         return 0;
     if (je->shape->entry == sizeof *word)
         return 1;
-    if (!read_word(je->heap, at + 8, &flags))
+    if (!read_word(je->heap, at + 8, &second))
         return 0;
-    if (*word >> 47 || *word % EDATA_BYTES || flags >> (FLAGS + CLASS))
-        *word = NOWHERE;
-    else
-        *word |= flags >> FLAGS << CLASS_AT | (flags & ((1 << FLAGS) - 1));
+    rest = rest_of_entry(je, second);
+    *word = *word >> 47 || *word % je->layout->align || rest == UINT64_MAX ? NOWHERE : *word | rest;
     return 1;
 }
 

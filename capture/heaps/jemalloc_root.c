@@ -13,10 +13,11 @@ static int key_of(struct jemalloc *je, uint64_t leaf, uint64_t *key)
     uint64_t at = leaf, word, address;
 
     for (int tried = 0; tried < TRIES && next_entry(je, leaf, &at, &word); at += je->shape->entry) {
-        if (!edata_of(word))
+        uint64_t edata = edata_of(je, word);
+        if (!edata)
             continue;
         tried++;
-        if (!is_in_base(je, edata_of(word), EDATA_BYTES) || !read_word(je->heap, edata_of(word) + 8, &address))
+        if (edata % je->layout->align || !is_in_base(je, edata, EDATA_BYTES) || !read_word(je->heap, edata + 8, &address))
             return 0;
         *key = address >> leaf_shift(je);
         if (address >> 12 == (*key << je->shape->bits | (at - leaf) / je->shape->entry))
@@ -104,6 +105,7 @@ static int find_root_of(struct jemalloc *je, const struct shape *shape)
 
 int find_root(struct jemalloc *je)
 {
+    je->root = 0;
     for (size_t i = 0; i < sizeof shapes / sizeof *shapes && !je->root; i++)
         if (find_root_of(je, shapes + i))
             return 1;

@@ -1,4 +1,4 @@
-/* The extents of jemalloc's tree (edata.h, emap.c). A word for the first page and the last one of each leads to its
+/* The extents of jemalloc's tree (edata.h, emap.c; before 5.3 extent_structs.h, extent.c). A word for the first page and the last one of each leads to its
  * edata, and for a slab one for each page. Word and edata say the same. */
 #include <stdlib.h>
 
@@ -15,26 +15,28 @@ struct edata {
 
 static int read_edata(struct jemalloc *je, uint64_t word, struct edata *e)
 {
-    *e = (struct edata){ .at = edata_of(word) };
-    if (!is_in_base(je, e->at, EDATA_BYTES) || !read_word(je->heap, e->at, &e->bits) || !read_word(je->heap, e->at + 8, &e->address)
+    const struct layout *l = je->layout;
+
+    *e = (struct edata){ .at = edata_of(je, word) };
+    if (e->at % l->align || !is_in_base(je, e->at, EDATA_BYTES) || !read_word(je->heap, e->at, &e->bits) || !read_word(je->heap, e->at + 8, &e->address)
         || !read_word(je->heap, e->at + 16, &e->size))
         return 0;
     e->size &= -(uint64_t)PAGE;
     e->first = e->address & -(uint64_t)PAGE;
     e->last = e->first + e->size - PAGE;
-    e->state = e->bits >> 17 & 7;
-    e->class = e->bits >> 20 & 255;
+    e->state = e->bits >> l->state_at & l->state_mask;
+    e->class = e->bits >> l->class_at & 255;
     e->is_slab = e->class != SIZE_CLASSES && (e->bits >> 12 & 1); /* of what is free by now, it is left as it was */
-    e->free = e->bits >> 28 & 1023;
-    return e->size && e->last >= e->first && !(e->bits >> 45) && e->class <= SIZE_CLASSES;
+    e->free = e->bits >> l->free_at & 1023;
+    return e->size && e->last >= e->first && !(e->bits & l->none) && e->class <= SIZE_CLASSES;
 }
 
 /* What jemalloc does only if it is told to. */
-static const char *unknown_kind(const struct edata *e)
+static const char *unknown_kind(const struct jemalloc *je, const struct edata *e)
 {
-    if (e->bits >> 14 & 1)
+    if (je->layout->has_state && (e->bits >> 14 & 1))
         return "huge pages of its own (hpa)";
-    if (e->bits >> 16 & 1)
+    if (je->layout->has_state && (e->bits >> 16 & 1))
         return "guarded extents";
     return e->state == ACTIVE && !e->is_slab && e->class < BINS ? "a profile (prof)" : NULL;
 }
@@ -45,7 +47,7 @@ static int has_pages(struct jemalloc *je, const struct edata *e)
     uint64_t value, page = e->is_slab ? e->first : e->last;
 
     for (; page <= e->last; page += PAGE)
-        if (!leaf_word(je, page, &value) || edata_of(value) != e->at
+        if (!leaf_word(je, page, &value) || edata_of(je, value) != e->at
             || (e->is_slab && ((value >> 48) != e->class || !(value & 1))))
             return 0;
     return 1;
@@ -138,21 +140,23 @@ static int take_extent(struct jemalloc *je, const struct edata *e, uint64_t word
 static void take_page(struct jemalloc *je, uint64_t page, uint64_t word)
 {
     static const uint64_t cleared = (uint64_t)SIZE_CLASSES << 48;
+    const char *unknown;
     struct edata e;
     uint64_t other;
     int fits;
 
     if (word == cleared)
         return;
-    fits = read_edata(je, word, &e) && page >= e.first && page <= e.last && e.state == (word >> 2 & 7)
-        && (e.is_slab || page == e.first || page == e.last);
-    if (fits && word >> 48 == e.class && unknown_kind(&e))
-        je->refused = unknown_kind(&e);
+    fits = read_edata(je, word, &e) && page >= e.first && page <= e.last
+        && (!je->layout->has_state || e.state == (word >> 2 & 7)) && (e.is_slab || page == e.first || page == e.last);
+    unknown = fits && word >> 48 == e.class ? unknown_kind(je, &e) : NULL;
+    if (unknown)
+        je->refused = unknown;
     if (fits && page == e.first)
         fits = take_extent(je, &e, word);
     else if (fits)
-        fits = leaf_word(je, e.first, &other) && (((other ^ word) & (((uint64_t)1 << 48) - EDATA_BYTES)) == 0);
-    if (!fits)
+        fits = leaf_word(je, e.first, &other) && edata_of(je, other) == e.at;
+    if (!fits && !unknown)
         tell_odd(je->heap, "the edata at 0x%llx does not fit the page at 0x%llx, whose word is 0x%llx", (unsigned long long)e.at,
                  (unsigned long long)page, (unsigned long long)word);
 }
@@ -199,7 +203,7 @@ static void look_for_extents(struct jemalloc *je, const struct range *base)
     uint64_t at = base->start, value;
 
     for (; next_word(je->heap, &at, base->end, &value); at += 8)
-        if (at % EDATA_BYTES == 0 && !(value >> 45) && read_edata(je, at & (((uint64_t)1 << 48) - 1), &e)
+        if (at % je->layout->align == 0 && !(value & je->layout->none) && read_edata(je, at & (((uint64_t)1 << 48) - 1), &e)
             && e.state == ACTIVE && (e.is_slab ? can_be_slab(je, &e) : can_be_large(je, &e))
             && segment_at(je->heap->core, e.first) && !is_in_tree(je, &e))
             tell_odd(je->heap, "the extent at 0x%llx is not in the tree", (unsigned long long)e.first);

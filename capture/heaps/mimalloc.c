@@ -1,4 +1,4 @@
-/* The heap of mimalloc 2.0, without symbols (include/mimalloc-types.h, src/{segment,page,alloc,heap,init}.c).
+/* The heap of mimalloc 2.0 and 2.1, without symbols (include/mimalloc-types.h or mimalloc/types.h, src/{segment,page,alloc,heap,init}.c).
  *
  * A thread's first heap and the thread's own data lead to each other, and the heap has the sizes of its queues. Segments begin at multiples of 32 MiB
  * with a cookie, which is the address and the cookie of the main heap. Heaps count their pages, threads their segments, segments their pages, and
@@ -105,14 +105,17 @@ static void tell_page(struct mimalloc *mi, const struct mi_page *p)
 static enum finding walk_heaps(struct mimalloc *mi)
 {
     if (!find_segments(mi))
-        return mi->segment_count ? refuse(mi->heap, "its segments have other cookies than its heaps: no mimalloc that is known (2.0 is)") : NOT_THERE;
+        return mi->segment_count ? refuse(mi->heap, "its segments have other cookies than its heaps: no mimalloc that is known (2.0 and 2.1 are)") : NOT_THERE;
     for (size_t i = 0; i < mi->heap_count; i++)
         if (mi->heaps[i].cookie == mi->cookie)
             mi->heap->anchor = mi->heaps[i].start;
     count_inside(mi->heap, mi->heap->anchor);
+    find_layout(mi);
     take_segments(mi);
     take_lists(mi);
     check_counts(mi);
+    if (judge(mi->heap, 4, 2) != WALKED)
+        return NOT_RIGHT;
     for (size_t i = 0; i < mi->page_count; i++)
         tell_page(mi, mi->pages + i);
     return judge(mi->heap, 4, 2);

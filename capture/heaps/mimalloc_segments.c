@@ -8,7 +8,16 @@
 enum { TO_USED = 208, TO_SEGMENT_COOKIE = 216, TO_SLICES = 224, TO_INFO = 232, TO_KIND = 240, TO_ENTRIES = 248, TO_OWNER = 256 };
 /* Offsets in mi_page_t, by words. */
 enum { TO_COUNT = 0, TO_CAPACITY = 8, TO_USED_AND_SIZE = 24, TO_PAGES_HEAP = 48 };
-enum { FIRST_OFFSET = 384, MOST_SMALL = 1024 };
+
+/* src/segment.c, _mi_segment_page_start and _mi_segment_page_start_from_slice */
+static uint64_t first_offset_2_0(uint64_t size) { return size >= 8 && size <= 1024 ? 384 : 0; }
+
+static uint64_t first_offset_2_1(uint64_t size)
+{
+    return size < 8 ? 0 : size <= 64 ? 3 * size : size <= 512 ? size : 0;
+}
+
+static const struct mi_layout layouts[] = { { "mimalloc 2.0", first_offset_2_0 }, { "mimalloc 2.1", first_offset_2_1 } };
 
 static int has_words(struct mimalloc *mi, struct mi_segment *s)
 {
@@ -84,36 +93,44 @@ static uint64_t place_of_slice(const struct mi_segment *s, uint64_t slice)
 }
 
 /* Whether the page is of a heap, or of none as its segment is of no thread. */
-static int count_page(struct mimalloc *mi, const struct mi_segment *s, uint64_t heap)
+static int count_page(struct mimalloc *mi, const struct mi_segment *s, uint64_t heap, struct mi_page *p)
 {
     struct mi_heap *h = heap ? known_heap(mi, heap) : NULL;
 
-    if (h)
+    if (h) {
         h->pages++;
+        p->thread = h->thread;
+    }
     return h || (!heap && !s->thread);
 }
 
-/* A page: how many blocks it may have follows from their size. */
-static int take_page(struct mimalloc *mi, const struct mi_segment *s, uint64_t slice, uint64_t count)
+/* Reads a page: how many blocks it may have follows from their size. */
+static int read_page(struct mimalloc *mi, const struct mi_segment *s, uint64_t slice, uint64_t count, struct mi_page *p)
 {
-    uint64_t record = place_of_slice(s, slice), capacity, sizes, heap, size, start = s->start + slice * SLICE, reserved;
-    struct mi_page p = { .record = record, .limit = start + count * SLICE };
+    uint64_t record = place_of_slice(s, slice), capacity, sizes, size, start = s->start + slice * SLICE, reserved;
 
-    if (!read_word(mi->heap, record + TO_CAPACITY, &capacity) || !read_word(mi->heap, record + TO_USED_AND_SIZE, &sizes)
-        || !read_word(mi->heap, record + TO_PAGES_HEAP, &heap))
+    *p = (struct mi_page){ .record = record, .limit = start + count * SLICE };
+    if (!read_word(mi->heap, record + TO_CAPACITY, &capacity) || !read_word(mi->heap, record + TO_USED_AND_SIZE, &sizes))
         return 0;
     size = sizes >> 32;
-    p.start = start + (size >= 8 && size <= MOST_SMALL ? FIRST_OFFSET : 0);
-    p.size = size >= (uint64_t)2 << 30 ? p.limit - start : size;
-    p.count = capacity >> 16 & UINT16_MAX, reserved = capacity >> 32 & UINT16_MAX, p.used = sizes & UINT32_MAX;
-    p.end = p.start + p.count * p.size;
-    if (!can_be_size(p.size, reserved) || reserved != (uint16_t)((p.limit - p.start) / p.size) || p.count > reserved || p.end > p.limit || p.used > p.count)
+    p->start = start + mi->layout->first_offset(size);
+    p->size = size >= (uint64_t)2 << 30 ? p->limit - start : size;
+    p->count = capacity >> 16 & UINT16_MAX, reserved = capacity >> 32 & UINT16_MAX, p->used = sizes & UINT32_MAX;
+    p->end = p->start + p->count * p->size;
+    return can_be_size(p->size, reserved) && reserved == (uint16_t)((p->limit - p->start) / p->size) && p->count <= reserved && p->end <= p->limit
+        && p->used <= p->count;
+}
+
+static int take_page(struct mimalloc *mi, const struct mi_segment *s, uint64_t slice, uint64_t count)
+{
+    struct mi_page p;
+    uint64_t heap;
+
+    if (!read_page(mi, s, slice, count, &p) || !read_word(mi->heap, p.record + TO_PAGES_HEAP, &heap) || !count_page(mi, s, heap, &p))
         return 0;
-    if (!count_page(mi, s, heap))
-        return 0;
-    p.free = calloc(p.count / 8 + 1, 1);
+    p.free = bits_for(mi->heap, p.count);
     if (!p.free)
-        fail("out of memory");
+        return 0;
     mi->pages = grown(mi->pages, mi->page_count, sizeof *mi->pages);
     mi->pages[mi->page_count++] = p;
     return 1;
@@ -148,6 +165,48 @@ static uint64_t take_slices(struct mimalloc *mi, const struct mi_segment *s, uin
         add_unused(mi->heap, s->start + slice * SLICE, s->start + (slice + count) * SLICE);
     }
     return count;
+}
+
+/* How many pages of a segment fit by the layout. */
+static uint64_t count_fitting(struct mimalloc *mi, const struct mi_segment *s)
+{
+    uint64_t fitting = 0, count, sizes;
+    struct mi_page p;
+
+    for (uint64_t slice = 1; slice < s->entries; slice += count) {
+        if (!read_word(mi->heap, place_of_slice(s, slice), &count) || !count || count > s->slices - slice
+            || !read_word(mi->heap, place_of_slice(s, slice) + TO_USED_AND_SIZE, &sizes))
+            return fitting;
+        fitting += sizes >> 32 > 1 && read_page(mi, s, slice, count, &p);
+    }
+    return fitting;
+}
+
+static uint64_t count_all_fitting(struct mimalloc *mi, const struct mi_layout *layout)
+{
+    uint64_t fitting = 0;
+
+    mi->layout = layout;
+    for (size_t i = 0; i < mi->segment_count; i++)
+        fitting += count_fitting(mi, mi->segments + i);
+    return fitting;
+}
+
+/* Takes the layout by which most pages fit. */
+void find_layout(struct mimalloc *mi)
+{
+    const struct mi_layout *best = layouts;
+    uint64_t most = count_all_fitting(mi, best);
+
+    for (size_t i = 1; i < sizeof layouts / sizeof *layouts; i++) {
+        uint64_t fitting = count_all_fitting(mi, layouts + i);
+        if (fitting > most) {
+            best = layouts + i;
+            most = fitting;
+        }
+    }
+    mi->layout = best;
+    mi->heap->name = best->name;
 }
 
 static void take_segment(struct mimalloc *mi, const struct mi_segment *s)

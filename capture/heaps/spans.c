@@ -32,6 +32,22 @@ void add_neither(struct other_heap *heap, uint64_t start, uint64_t end)
         add(heap, &heap->blocks, (struct span){ start, 0, end - start });
 }
 
+/* A bit for each of so many places for blocks, or NULL if the core can't have them. */
+uint8_t *bits_for(struct other_heap *heap, uint64_t count)
+{
+    uint8_t *bits;
+
+    if (count > heap->places_left) {
+        heap->steps_left = 0;
+        return NULL;
+    }
+    heap->places_left -= count;
+    bits = calloc(count / 8 + 1, 1);
+    if (!bits)
+        fail("out of memory");
+    return bits;
+}
+
 /* The first that begins before another, sorted by start, has ended; or NULL. */
 const struct span *overlap_of(const struct spans *spans)
 {

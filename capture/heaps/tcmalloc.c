@@ -25,6 +25,8 @@ static enum finding walk_tables(struct tcmalloc *tc)
     take_spans(tc);
     take_object_lists(tc);
     take_caches_of_threads(tc);
+    if (judge(tc->heap, 4, 4) != WALKED)
+        return NOT_RIGHT;
     for (size_t i = 0; i < tc->object_count; i++)
         tell_objects(tc, tc->objects + i);
     return judge(tc->heap, 4, 4);

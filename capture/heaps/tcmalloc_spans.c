@@ -31,18 +31,19 @@ static int has_pages(struct tcmalloc *tc, const struct run *r)
     return 1;
 }
 
-static void add_objects(struct tcmalloc *tc, const struct run *r)
+static int add_objects(struct tcmalloc *tc, const struct run *r)
 {
     struct objects o = { .start = r->start << PAGE_SHIFT, .end = (r->start + r->length) << PAGE_SHIFT, .size = tc->size_of[class_of(r)],
                          .span = r->at, .class = class_of(r) };
 
     o.count = (o.end - o.start) / o.size;
-    o.free = calloc(o.count / 8 + 1, 1);
+    o.free = bits_for(tc->heap, o.count);
     if (!o.free)
-        fail("out of memory");
+        return 0;
     tc->spans_of[o.class]++;
     tc->objects = grown(tc->objects, tc->object_count, sizeof *tc->objects);
     tc->objects[tc->object_count++] = o;
+    return 1;
 }
 
 /* A span, by its first page. */
@@ -59,7 +60,7 @@ static int take_run(struct tcmalloc *tc, const struct run *r)
     if (place != IN_USE)
         add_unused(tc->heap, start, end);
     else if (class)
-        add_objects(tc, r);
+        return add_objects(tc, r);
     else
         add_block(tc->heap, start, end - start, end - start);
     return 1;

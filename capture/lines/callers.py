@@ -4,7 +4,8 @@ from typing import NamedTuple
 
 from lines import frames, progress, report
 
-# Which numbers of a row are its own blocks and their bytes: what holders hold overlaps, and of growth what is there now counts.
+# Which numbers of a row are its own blocks and their bytes: what holders hold overlaps, and of growth what is there now
+# counts.
 OWN = {"caller": (0, 1), "holder": (2, 3), "in": (0, 1), "by": (0, 1), "grew": (3, 4), "structure": (0, 1)}
 
 
@@ -15,7 +16,8 @@ class Caller(NamedTuple):
 
 
 class What(NamedTuple):
-    """By a row's text and address the lines below it in a table and its facts; and by the address of a lost block its own facts."""
+    """By a row's text and address the lines below it in a table and its facts; and by the address of a lost block its
+    own facts."""
     of_row: dict
     of_block: dict
 
@@ -29,8 +31,9 @@ class What(NamedTuple):
 
 
 class Callers(NamedTuple):
-    """By kind the callers that are shown, in the report's order, and those that are suppressed; what is said of lost blocks; the blocks
-    and bytes of other callers that only suppressed blocks lead to; and of callers of leaks by their texts what else is to be said."""
+    """By kind the callers that are shown, in the report's order, and those that are suppressed; what is said of lost
+    blocks; the blocks and bytes of other callers that only suppressed blocks lead to; and of callers of leaks by their
+    texts what else is to be said."""
     shown: dict
     suppressed: dict
     what: What = What({}, {})
@@ -44,7 +47,8 @@ class Callers(NamedTuple):
 
 def sums(callers_by_kind):
     """The own blocks of callers, and their bytes."""
-    pairs = [[caller.row.numbers[i] for i in OWN[kind]] for kind, callers in callers_by_kind.items() for caller in callers]
+    pairs = [[caller.row.numbers[i] for i in OWN[kind]] for kind, callers in callers_by_kind.items()
+             for caller in callers]
     return sum(blocks for blocks, _ in pairs), sum(size for _, size in pairs)
 
 

@@ -1,4 +1,5 @@
-"""From a row to the variable: what holds the block that its blocks look like, by leak_find why; leak_what names the root."""
+"""From a row to the variable: what holds the block that its blocks look like, by leak_find why; leak_what names the
+root."""
 import os
 import re
 import shutil
@@ -9,9 +10,11 @@ from lines.what import visible
 
 HERE = os.path.join(os.path.dirname(os.path.abspath(__file__)), "..")
 OF_HOLDER = 5  # numbers of a row of holders
-OTHER_HEAP = ("--other-heap", "--skip-ends", "--all-memory")  # the options that fit a log, as scripts/common.sh has them
-GLIBC_HEAP = ("--skip-freed", "--skip-links", "--all-memory")
+# The options that fit a log, as `fitting` of scripts/common.sh has them. A path through dead stack explains nothing.
+OTHER_HEAP = ("--other-heap", "--skip-ends", "--all-memory", "--skip-dead-stack")
+GLIBC_HEAP = ("--skip-freed", "--skip-links", "--all-memory", "--skip-dead-stack")
 ALLOCATOR = re.compile(b"= [a-z_]+ allocator (?!glibc)")
+WALKED = re.compile(b"= leak_walk (?:heap|unused) ")
 ROOT = re.compile("root (.*) holds (0x[0-9a-f]+)")
 LINK = re.compile("word (0x[0-9a-f]+) holds (0x[0-9a-f]+)")
 BLOCK = re.compile("block (0x[0-9a-f]+) [0-9]+ [0-9]+ (.*)", re.DOTALL)
@@ -45,8 +48,14 @@ def output_of(dump, name, *words):
 
 def options_for(log):
     """The options of a search that fit the log."""
+    is_other = is_walked = False
     with open(log, "rb") as file:
-        return OTHER_HEAP if any(ALLOCATOR.match(line) for line in file) else GLIBC_HEAP
+        for line in file:
+            is_other = is_other or bool(ALLOCATOR.match(line))
+            is_walked = is_walked or bool(WALKED.match(line))
+    if not is_other:
+        return GLIBC_HEAP
+    return (*OTHER_HEAP, "--skip-freed") if is_walked else OTHER_HEAP
 
 
 def why_of(dump, address):

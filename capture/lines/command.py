@@ -2,14 +2,15 @@
 import signal
 import sys
 
-from lines import callers, chains, document, folded, held, html, judging, kernel_words, limited, options, person, processes
-from lines import progress, report, shown, signal_stacks, since, structures, suppressions, tables, what
+from lines import callers, chains, document, folded, held, html, judging, kernel_words, limited, options, person
+from lines import processes, progress, report, shown, signal_stacks, since, structures, suppressions, tables, what
 from lines.inputs import read_lines, sources_of
 from lines.options import Refused
 
 
 def tell(files, is_table):
-    """The lines that come before a table, which say from which files nothing is named; before another form standard error has them."""
+    """The lines that come before a table, which say from which files nothing is named; before another form standard
+    error has them."""
     unchecked = sum(it.unchecked for it in files)
     if unchecked:
         limited.say(f"{unchecked} files may be of another build than those that ran: no log tells (--log LOG)")
@@ -47,7 +48,8 @@ def with_words(read, path):
         address, texts = kernel_words.read(path)
     except OSError as error:
         raise Refused(f"leak_lines: {path}: {error.strerror}") from error
-    return read._replace(parts=[part._replace(line=kernel_words.told(part.line, address, texts)) for part in read.parts])
+    return read._replace(parts=[part._replace(line=kernel_words.told(part.line, address, texts))
+                                for part in read.parts])
 
 
 def run_since(asked, rules):
@@ -65,7 +67,8 @@ def run_since(asked, rules):
 
 
 def with_facts(asked, read):
-    """The report with the rows that are asked for, what is said below rows of structures, and what is known of its blocks."""
+    """The report with the rows that are asked for, what is said below rows of structures, and what is known of its
+    blocks."""
     if asked.what is None:
         return read, {}, what.Facts({}, {}, {})
     facts = what.read(read_lines(asked.what), asked.what)

@@ -1,6 +1,8 @@
-"""Files with the symbols that a stripped file lacks: separate debug files by build-id or by .gnu_debuglink, and .gnu_debugdata.
+"""Files with the symbols that a stripped file lacks: separate debug files by build-id or by .gnu_debuglink, and
+.gnu_debugdata.
 
-The folders are those that gdb and Debian's binutils look in, then debuginfod is asked. A debug file of another build is none.
+The folders are those that gdb and Debian's binutils look in, then debuginfod is asked. A debug file of another build is
+none.
 """
 import os
 import zlib
@@ -70,7 +72,8 @@ def separate(file, sections, roots):
 
 
 def unpacked(data):
-    """A file in memory with the bytes of the ELF file that is packed in .gnu_debugdata, or None. They are written part by part."""
+    """A file in memory with the bytes of the ELF file that is packed in .gnu_debugdata, or None. They are written part
+    by part."""
     if lzma is None or not data:
         return None
     file, left = opened.unnamed(DATA), LARGEST
@@ -91,8 +94,8 @@ def unpacked(data):
 
 
 class DebugFiles:
-    """The open files with a file's further symbols, for as long as the block of this `with` runs: the separate debug file and what
-    was packed in the file, each None where there is none."""
+    """The open files with a file's further symbols, for as long as the block of this `with` runs: the separate debug
+    file and what was packed in the file, each None where there is none."""
 
     def __init__(self, file, roots=()):
         """Looks for those of the open file, below these roots first."""

@@ -1,4 +1,5 @@
-"""Debug files by build-id from the servers that DEBUGINFOD_URLS names, by elfutils' client debuginfod-find (debuginfod-find(1)).
+"""Debug files by build-id from the servers that DEBUGINFOD_URLS names, by elfutils' client debuginfod-find
+(debuginfod-find(1)).
 
 It runs with limits, and as root as nobody with a cache of its own, which goes; else with the user's cache.
 """
@@ -22,7 +23,8 @@ class Client:
         self.is_silent = False
 
     def variables(self, folder):
-        """What the client is handed of the environment. Without a time of their own servers have 30 s to begin an answer."""
+        """What the client is handed of the environment. Without a time of their own servers have 30 s to begin an
+        answer."""
         handed = {"DEBUGINFOD_TIMEOUT": "30", **{name: os.environ[name] for name in HANDED if name in os.environ}}
         if os.geteuid() == 0:
             os.chown(folder, limited.NOBODY, limited.NOBODY)

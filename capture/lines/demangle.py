@@ -1,6 +1,7 @@
 """Names of C++, Rust and D as their sources have them, by c++filt. Only names that are shown are asked for.
 
-A name of some letters may stand for one that no memory can hold, so c++filt has limits, and what is over them stays as it is.
+A name of some letters may stand for one that no memory can hold, so c++filt has limits, and what is over them stays as
+it is.
 """
 import os
 import select
@@ -11,7 +12,8 @@ import time
 from lines import limited
 
 COMMAND = ["c++filt"]
-LIMITS = limited.Limits(256 * limited.MIB, 600, 3, 0)  # the clock is a name's; a right one takes less than a millisecond
+# the clock is a name's; a right one takes less than a millisecond
+LIMITS = limited.Limits(256 * limited.MIB, 600, 3, 0)
 LONGEST, LONGEST_RESULT, MOST_FAILED = 1 << 14, 1 << 16, 4
 
 

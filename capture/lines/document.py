@@ -39,7 +39,8 @@ def counts_of(read):
 @lru_cache(maxsize=None)
 def frame_of(place):
     """The parts of a frame, as JSON. What is not known is null."""
-    return json.dumps({"function": clean(place.function) or None, "file": clean(place.file) or None, "line": place.line or None,
+    return json.dumps({"function": clean(place.function) or None, "file": clean(place.file) or None,
+                       "line": place.line or None,
             "module": clean(place.module) or None, "offset": place.address if place.module else None,
             "inlined": place.is_inlined, "text": clean(place.text), "unnamed": place.problem or None})
 
@@ -62,7 +63,8 @@ def caller_of(kind, caller, said, remark):
 def head_of(read, found, kind):
     """What the document has beside its callers."""
     blocks, size = found.suppressed_sums()
-    return {"version": VERSION, "report": REPORTS[kind], "counts": counts_of(read), "suppressed": {"blocks": blocks, "bytes": size}}
+    return {"version": VERSION, "report": REPORTS[kind], "counts": counts_of(read),
+            "suppressed": {"blocks": blocks, "bytes": size}}
 
 
 def lines_of(read, found):

@@ -1,7 +1,7 @@
 """An ELF file's build-id, and sections that tell where a stripped file's symbols are. What is damaged tells nothing.
 
-Rules: gABI, Program Header, Section Header, Note Section; gdb, Separate Debug Files and MiniDebugInfo. What is read of a file has
-limits, since whoever made it may have made it to harm.
+Rules: gABI, Program Header, Section Header, Note Section; gdb, Separate Debug Files and MiniDebugInfo. What is read of
+a file has limits, since whoever made it may have made it to harm.
 """
 import os
 import struct
@@ -46,7 +46,8 @@ def section_of(fields):
 
 
 def read_headers(file):
-    """The sections, and the number of the one with their names. Where there are too many for the header, section 0 has both."""
+    """The sections, and the number of the one with their names. Where there are too many for the header, section 0 has
+    both."""
     header = header_of(file)
     place, step, count, names = header[6], header[11], header[12], header[13]
     if place == 0 or step != SECTION.size:
@@ -125,7 +126,8 @@ def loaded_build_id(file):
 
 
 def debug_link(section):
-    """The name of a debug file and the CRC-32 of its bytes, or None. A name with a slash in it is none: it is sought in set folders."""
+    """The name of a debug file and the CRC-32 of its bytes, or None. A name with a slash in it is none: it is sought in
+    set folders."""
     name = section.split(b"\0", 1)[0]
     place = len(name) + 4 & ~3
     if not name or b"/" in name or place + 4 > len(section):

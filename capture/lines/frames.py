@@ -85,17 +85,20 @@ class Names:
             calls = sorted({frame.call for frame in frames})
             answers = self.lines[path] = tools.ask_lines(further.separate or file, calls)
             if not all(call in answers and has_line(answers[call][-1][1]) for call in calls):
-                self.symbols[path] = tools.ask_symbols(file, further.all(), calls, sorted({frame.address for frame in frames}))
+                self.symbols[path] = tools.ask_symbols(file, further.all(), calls,
+                                                       sorted({frame.address for frame in frames}))
 
     def placed(self, frame):
-        """The frame with its address in the ELF file. Where the log knew no program headers it has the offset in the file."""
+        """The frame with its address in the ELF file. Where the log knew no program headers it has the offset in the
+        file."""
         for offset, size, address in self.segments.get(frame.path, ()):
             if offset <= frame.call < offset + size:
                 return frame._replace(address=frame.address - offset + address)
         return frame
 
     def by_symbol(self, frame, function):
-        """The function that was told, if a symbol of it has the address; else the object that has it, or another function, or "".
+        """The function that was told, if a symbol of it has the address; else the object that has it, or another
+        function, or "".
 
         Where no line is known the tools tell the nearest symbol before, of data too."""
         symbols = self.symbols.get(frame.path)
@@ -108,7 +111,8 @@ class Names:
         return symbols.objects.get(frame.address) or around[-1]
 
     def place(self, frame, function, where, is_inlined):
-        """The place of a pair of addr2line's. What is inlined is known by debug information, whether its line is or not."""
+        """The place of a pair of addr2line's. What is inlined is known by debug information, whether its line is or
+        not."""
         name = function
         if places.is_unknown(function) or not (is_inlined or has_line(where)):
             name = self.by_symbol(frame, function)

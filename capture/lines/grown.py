@@ -115,4 +115,4 @@ def holders_table(path, files, sheet):
     left = rows[len(chosen):]
     more = [f"and {counted(len(left), 'more holder')}, none of more than {plain(left[0].numbers[1])}"] if left else []
     lines = columns.lay_out(HOLDER_TITLES, entries, sheet)
-    return ["Blocks without which other new ones would be lost:", *lines, *more] if lines else []
+    return ["Blocks that retain other new blocks:", *lines, *more] if lines else []

@@ -1,13 +1,15 @@
 """Leaked blocks that only suppressed ones lead to: they are suppressed too, as LeakSanitizer does (docs, Suppressions).
 
-A report does not say which leaked block leads to which. leak_what does: of each block whether one other leaked block, the first one
-of a structure, is in each chain of leaked blocks to it; and of the first one of a structure which others lead to it.
+A report does not say which leaked block leads to which. leak_what does: of each block whether one other leaked block,
+the first one of a structure, is in each chain of leaked blocks to it; and of the first one of a structure which others
+lead to it.
 """
 from lines import tables, what
 
 
 def reached(tops, hidden, led):
-    """The first blocks of structures to which a chain leads that begins with none of these hidden ones, nor passes one."""
+    """The first blocks of structures to which a chain leads that begins with none of these hidden ones, nor passes
+    one."""
     leads = {}
     for address, others in led.items():
         for other in others:

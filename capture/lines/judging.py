@@ -6,8 +6,8 @@ OTHER_KINDS = ("holder", "in", "by", "grew")
 
 
 def check_whole(read):
-    """Refuses what is no whole report of leaks, whose callers have all leaked blocks: a search that failed must not seem to be one
-    without leaks."""
+    """Refuses what is no whole report of leaks, whose callers have all leaked blocks: a search that failed must not
+    seem to be one without leaks."""
     if any(kind in read.rows for kind in OTHER_KINDS) or any(part.line.startswith(OTHER) for part in read.parts):
         return
     leaked = next((part.line.split(" ")[1] for part in read.parts if part.line.startswith("leaked ")), None)

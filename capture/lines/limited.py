@@ -38,7 +38,8 @@ class Limits(NamedTuple):
 
 
 def limits_for(size, questions):
-    """What a program may take of a file of this size: measured for debug information of 20 MB to 1 GB, and some times that."""
+    """What a program may take of a file of this size: measured for debug information of 20 MB to 1 GB, and some times
+    that."""
     seconds = 30 + size // (16 * MIB) + questions // 50
     return Limits(min(256 * MIB + 16 * size, 8192 * MIB), seconds, 4 * seconds, 64 * MIB + 8 * size)
 
@@ -74,7 +75,8 @@ def is_whole_system():
 
 
 def limits_for_dump(core, log):
-    """What leak_find or leak_what may take of a dump of these sizes: some times what they take of a core in which all is live."""
+    """What leak_find or leak_what may take of a dump of these sizes: some times what they take of a core in which all
+    is live."""
     seconds = 60 + (core + log) // (8 * MIB)
     return Limits(1024 * MIB + 2 * core + 16 * log, seconds, 4 * seconds, 4 * MIB)
 
@@ -92,7 +94,8 @@ def restrain(limits, keeps_rights):
 
 
 def environment(variables):
-    """The variables of the child: nothing by which a program asks the network or finds other files, unless it is handed on."""
+    """The variables of the child: nothing by which a program asks the network or finds other files, unless it is handed
+    on."""
     return {"PATH": os.environ.get("PATH", os.defpath), "LC_ALL": "C", **variables}
 
 
@@ -124,8 +127,10 @@ class Running:
     def __init__(self, command, limits, files=(), variables=(), keeps_rights=False, **streams):
         """Begins to run it."""
         self.limits, self.why, self.end = limits, None, time.monotonic() + limits.clock
-        self.run = subprocess.Popen(command, stdout=subprocess.PIPE, stderr=subprocess.DEVNULL, cwd="/", env=environment(dict(variables)),
-                                    pass_fds=[it.descriptor for it in files], preexec_fn=lambda: restrain(limits, keeps_rights),
+        self.run = subprocess.Popen(command, stdout=subprocess.PIPE, stderr=subprocess.DEVNULL, cwd="/",
+                                    env=environment(dict(variables)),
+                                    pass_fds=[it.descriptor for it in files],
+                                    preexec_fn=lambda: restrain(limits, keeps_rights),
                                     **streams)
 
     def parts(self):
@@ -171,7 +176,8 @@ class Running:
 def lines_of(command, file, text, questions):
     """The lines that a program prints of this file with this text as its input. What fails is said, and gives fewer."""
     limits, name = limits_for(file.size, questions), os.path.basename(command[0])
-    with ExitStack() as stack, tempfile.TemporaryFile() as words:  # a file: a pipe that is not read to its end would stop us
+    # a file: a pipe that is not read to its end would stop us
+    with ExitStack() as stack, tempfile.TemporaryFile() as words:
         words.write(text.encode())
         words.seek(0)
         try:

@@ -6,34 +6,34 @@ USAGE = "usage: leak_lines [OPTION..] [REPORT] | leak_lines [OPTION..] --since O
 HELP = USAGE + """
 Copies a report of leak_find, with its rows as a table by function, file and line.
 
-  REPORT           the report, or standard input
+  REPORT           the report [standard input]
   -n N             shows the first N rows
-  --suppress FILE  leaves out rows that match a suppression in the file, and with --what blocks that only they lead to
+  --suppress FILE  leaves out rows that a suppression in the file matches; with --what, also what only they lead to
   --exit-code      status 1 if leaks are left, 2 if the report is incomplete
   --since OLD      compares with an older report
-  --no-lines       with it: a function is the same even if its lines have moved
-  --folded         stacks for flame graphs
-  --json           a document for programs
+  --no-lines       with --since: compares functions, not lines, which move when a source changes
+  --folded         prints stacks for flame graphs
+  --json           prints JSON
   --html FILE      writes a page
-  --what FILE      says what the leaked blocks are, as leak_what wrote it
-  --structures     with it: a row for each kind of lost structure, in place of callers
-  --why N          shows the path to blocks that those of the first N rows look like, or to the first N holders
-  --plain ABOUT    prints a report of leaks for a person, as leak_report does, which writes the file ABOUT
-  --core CORE      the core that leak_find why was asked about: says what a word is that only the kernel has
-  --log LOG        the log that was searched, which has the build of each file; NAME.log beside a REPORT NAME.report
-                   is found without it
+  --what FILE      adds what the leaked blocks are, from the file that leak_what wrote
+  --structures     with --what: a row for each kind of lost structure, not for each caller
+  --why N          shows the paths to blocks that the lost ones in the first N rows look like, or to the first N holders
+  --plain ABOUT    prints a report of leaks for a person; leak_report calls it so, and writes the file ABOUT
+  --core CORE      the core that leak_find why was asked about: explains words that only the kernel holds
+  --log LOG        the log that was searched, with the build of each file [NAME.log beside NAME.report]
   --root DIR       looks for files below DIR first, as a process with that root would
-  --pid PID        looks then at the files of the process, while it lives
-  --unchecked      takes names also from files without a build-id, whose build is unknown
-  --copy-files DIR with --pid and --log: copies the files that the log names into the new folder DIR, and does nothing
-                   else
+  --pid PID        then looks at the files of the process, while it lives
+  --unchecked      also takes names from files without a build-id, whose build is unknown
+  --copy-files DIR with --pid and --log: only copies the files that the log names into the new folder DIR
   --version        prints the version
 
 status: 0, or 1 as above; 2 if there is no answer, with a line on standard error"""
 HELP_WORDS = ("-h", "--help")
-VALUED = ("--suppress", "--since", "--html", "--what", "--why", "--plain", "--core", "--log", "--root", "--pid", "--copy-files")
+VALUED = ("--suppress", "--since", "--html", "--what", "--why", "--plain", "--core", "--log", "--root", "--pid",
+          "--copy-files")
 FORMS = {"--folded": "folded", "--json": "json"}
-FLAGS = {"--exit-code": {"is_judged": True}, "--no-lines": {"has_lines": False}, "--structures": {"by_structures": True},
+FLAGS = {"--exit-code": {"is_judged": True}, "--no-lines": {"has_lines": False},
+         "--structures": {"by_structures": True},
          "--unchecked": {"is_lenient": True}}
 OTHER_NAMES = {"--copy-files": "copies", "--plain": "about"}
 NUMBER = re.compile("[1-9][0-9]{0,17}")
@@ -114,7 +114,8 @@ def read(words):
         options = with_option(options, *valued(word, words))
     if options.what is None and options.by_structures or options.what is not None and options.since is not None:
         raise Refused(USAGE)
-    if options.about is not None and (options.is_judged or options.since is not None or options.form not in ("table", "html") or not words):
+    if options.about is not None and (options.is_judged or options.since is not None or
+                                      options.form not in ("table", "html") or not words):
         raise Refused(USAGE)
     if len(words) > 1 or (options.form != "table" if options.since is not None else not options.has_lines):
         raise Refused(USAGE)

@@ -23,8 +23,8 @@ def name_of(run, core):
 def next_if_none(run):
     """What to do if nothing is lost."""
     if run.process:
-        return f"if it grows all the same, leak_report --grow {run.process} --for 10m shows what grows and who holds it"
-    return f"leak_report --html FILE {run.target} shows who holds the memory"
+        return f"if it still grows, leak_report --grow {run.process} --for 10m shows what grew and what retains it"
+    return f"leak_report --html FILE {run.target} shows what retains the memory"
 
 
 def next_if_lost(run, kind):
@@ -40,7 +40,7 @@ def next_if_lost(run, kind):
         begin = run.kept or "DIR"
         keep = "" if run.kept else f"leak_report --keep DIR {run.process}, and "
         later = f"some minutes later leak_report --after {begin} {run.process}"
-        return f"compare two moments: {keep}{later} shows what is still lost then"
+        return f"compare with a second dump: {keep}{later} shows what is still lost"
     if run.way == "attach" and not kind.has_callers:
         return f"wait longer: leak_report --attach --for 2h {run.process}"
     return f"leak_report --list {run.target} has the address of each lost block, for a debugger"
@@ -57,7 +57,7 @@ def next_if_grown(run, kind, found):
         return TRACE + "this report has the functions that allocate what grows"
     if found.lost.blocks:
         return f"leak_report {run.process} shows all that is lost"
-    return f"{again} --html FILE shows all who hold it"
+    return f"{again} --html FILE shows all holders"
 
 
 def next_line(run, kind, counts):
@@ -66,11 +66,11 @@ def next_line(run, kind, counts):
 
 
 def stood_in_words(stood):
-    """How long the process stood still, in a list of a line or none."""
+    """How long the process was stopped, in a list of a line or none."""
     if not stood:
         return []
-    often = "" if len(stood) == 1 else f" {len(stood)} times, the longest"
-    return [f"It stood still{often} for {max(stood)} ms."]
+    often = f"for {max(stood)} ms" if len(stood) == 1 else f"{len(stood)} times, for {max(stood)} ms at most"
+    return [f"The process was stopped {often}."]
 
 
 def tops_of(read, facts):

@@ -50,9 +50,11 @@ def is_unknown(word):
 
 
 def of(frame, name, where, problem):
-    """The place of a frame: its function, or "", and addr2line's words file:line. Where nothing was named from the file it says why."""
+    """The place of a frame: its function, or "", and addr2line's words file:line. Where nothing was named from the file
+    it says why."""
     in_module = f"{os.path.basename(frame.path)}+{frame.address:#x}" if frame.path else ""
     function, (file, line) = name or logged(frame.name), source(where)
     place = where if not is_unknown(where) else f"{frame.text} ({problem})" if problem else frame.text
-    return Place((name or frame.name or in_module or "?", place), function, file, line, frame.path, frame.address, frame.text,
+    return Place((name or frame.name or in_module or "?", place), function, file, line, frame.path, frame.address,
+                 frame.text,
                  function or in_module or frame.text, False, problem)

@@ -33,7 +33,8 @@ class Process:
         return found
 
     def mapped(self, path):
-        """The links by which the system gives the file that is mapped (proc(5), map_files), in a list. Only root may follow them."""
+        """The links by which the system gives the file that is mapped (proc(5), map_files), in a list. Only root may
+        follow them."""
         if self.by_path is None:
             self.by_path = self.read_maps()
         return [f"{self.folder}/map_files/{self.by_path[path]}"] if path in self.by_path else []
@@ -64,7 +65,8 @@ def write_copy(file, writer):
 
 
 def copy_file(file, folder):
-    """Copies the file to its path below the folder, and gives its bytes. A path that would lead out of it is refused."""
+    """Copies the file to its path below the folder, and gives its bytes. A path that would lead out of it is
+    refused."""
     *folders, name = [it for it in file.path.split("/") if it]
     if ".." in folders + [name]:
         raise OSError(errno.EINVAL, "not a path that a process has")
@@ -95,7 +97,8 @@ def open_right(process, path, wanted):
 
 
 def copy_files(number, log, folder):
-    """Copies the files of the process that the log tells into the folder, which must not be there. Says which can't be had."""
+    """Copies the files of the process that the log tells into the folder, which must not be there. Says which can't be
+    had."""
     signal.signal(signal.SIGALRM, signal.SIG_DFL)
     signal.alarm(MOST_SECONDS)
     process, left = Process(number), MOST_OF_ALL
@@ -104,7 +107,8 @@ def copy_files(number, log, folder):
         file = open_right(process, path, wanted)
         try:
             if file is None or left < file.size:
-                raise OSError(errno.ENOENT, "the process has it no more" if file is None else "all files are more than 16 GB")
+                raise OSError(errno.ENOENT, "the process has it no more" if file is None
+                              else "all files are more than 16 GB")
             with file:
                 left -= copy_file(file, folder)
         except OSError as error:

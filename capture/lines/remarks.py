@@ -26,7 +26,7 @@ USUAL = tuple(re.compile(it) for it in (
     "leak_what: [0-9]+ of [0-9]+ blocks have a type, by the debug information of [0-9]+ files",
     "leak_report: leak_find (one|two) .*",
 ))
-STOOD = re.compile("leak_(?:core|attach): process [0-9]+ stood still for ([0-9]+) ms(?:, and .*|; .*)?")
+STOOD = re.compile("leak_(?:core|attach): process [0-9]+ was stopped for ([0-9]+) ms(?:, and .*|; .*)?")
 
 WRONG = "what only that memory points to is listed as lost"
 RULES = tuple((re.compile(shape), effect, text) for shape, effect, text in (
@@ -36,12 +36,14 @@ RULES = tuple((re.compile(shape), effect, text) for shape, effect, text in (
     ("leak_core: ([0-9]+ bytes) are not there, and the program is to supply them .*", MISNAMES,
      "The dump lacks {0} that the program supplies by userfaultfd: " + WRONG + "."),
     ("leak_find: warning: input [12]: ([0-9]+ of [0-9]+) live blocks have no chunk of their size .*", HIDES,
-     "{0} blocks are not in the core's heap with their size: core and log may be of two moments, or of two processes."),
+     "{0} blocks don't fit the core's heap: core and log may be of different moments or processes."),
     ("leak_find: warning: input [12]: no live block.*", HIDES, "There is no block to search."),
-    ("leak_find: warning: input [12]: ([0-9]+) (give-backs of blocks that were not live|allocations over a live "
-     "block): .*", HIDES, "The list of blocks has {0} {1}: it may be incomplete."),
+    ("leak_find: warning: input [12]: ([0-9]+) give-backs of blocks that were not live: .*", HIDES,
+     "The log has {0} frees of blocks that were not live: it may be incomplete."),
+    ("leak_find: warning: input [12]: ([0-9]+) allocations over a live block: .*", HIDES,
+     "The log has {0} allocations over a live block: it may be incomplete."),
     ("leak_find: warning: input [12]: the log ends inside a line.*", HIDES,
-     "The list of blocks is cut off: its last calls are missing."),
+     "The log is cut off: its last calls are missing."),
     ("leak_walk: (.*): ([0-9]+) things are as while a thread changes them, or damaged, the first: (.*)", LACKS,
      "The heap of {0} was being changed during the dump, or is damaged, in {1} places (the first: {2}): dump again."),
     ("leak_walk: ([0-9]+) (free chunks have no size behind them|lists of free chunks lead nowhere), the first at "
@@ -51,11 +53,11 @@ RULES = tuple((re.compile(shape), effect, text) for shape, effect, text in (
     ("leak_walk: the log is not complete: ([0-9]+ bytes) of the heap are left out", LACKS,
      "{0} of the heap were not searched."),
     ("leak_log: ([0-9]+) blocks found no place in the table \\((.*)\\): .*", LACKS,
-     "leak_trace had no room for {0} blocks ({1}): leaks among them are missing."),
+     "leak_trace had no room for {0} blocks ({1}): leaks among them are not reported."),
     ("leak_dump: .*, and their callers by leak_trace's table, which missed ([0-9]+) blocks", NOTE,
      "leak_trace had no room for {0} blocks, so these have no functions."),
     ("leak_log: ([0-9]+) blocks were freed behind leak_trace's back: .*", MISNAMES,
-     "{0} blocks were freed in ways that leak_trace does not see, so others may be listed though they were freed."),
+     "{0} blocks were freed in ways that leak_trace does not see: freed blocks may be listed as lost."),
     ("leak_report: this leak_find was compiled without its proofs (.*)", NOTE,
      "This leak_find was compiled without its proofs {0}."),
     ("leak_report: leak_what failed: the report .*", NOTE,
@@ -80,10 +82,10 @@ OF_NAMES = ("leak_lines: ", "leak_what: ", "leak_types: ")  # who says nothing o
 PREFIX = re.compile("leak_[a-z]+: (?:warning: )?")
 COUNTED = {
     "undumped": (MISNAMES, "The dump lacks {} bytes of writable memory: " + WRONG + "."),
-    "unknown": (HIDES, "The list of blocks has {} give-backs of blocks that were not live: it may be incomplete."),
-    "displaced": (HIDES, "The list of blocks has {} allocations over a live block: it may be incomplete."),
-    "torn": (HIDES, "The list of blocks is cut off: its last calls are missing."),
-    "misfits": (HIDES, "{} blocks are not in the core's heap with their size: core and log may not belong together."),
+    "unknown": (HIDES, "The log has {} frees of blocks that were not live: it may be incomplete."),
+    "displaced": (HIDES, "The log has {} allocations over a live block: it may be incomplete."),
+    "torn": (HIDES, "The log is cut off: its last calls are missing."),
+    "misfits": (HIDES, "{} blocks don't fit the core's heap: core and log may not belong together."),
 }
 # In a line that says of a count what the count says.
 TOLD = {"undumped": ": undumped: ", "unknown": " give-backs of blocks ", "displaced": " allocations over a ",
@@ -91,7 +93,7 @@ TOLD = {"undumped": ": undumped: ", "unknown": " give-backs of blocks ", "displa
 
 
 class Remarks(NamedTuple):
-    """The warnings, the worst of what they mean, and for how many milliseconds the process stood still each time."""
+    """The warnings, the worst of what they mean, and for how many milliseconds the process was stopped each time."""
     warnings: list
     effect: int
     stood: list

@@ -1,4 +1,5 @@
-"""A report of leak_find: which of its lines are rows of a table, and what their words say. docs/FORMAT.md defines the lines."""
+"""A report of leak_find: which of its lines are rows of a table, and what their words say. docs/FORMAT.md defines the
+lines."""
 import re
 from typing import NamedTuple
 
@@ -19,7 +20,8 @@ HEADS = re.compile("heads [^ ]+|leak [^ ]+ [^ ]+ [^ ]+ (head|held)( .*)?", re.DO
 LEAK = re.compile("leak 0x[0-9a-f]{1,16} ([0-9]+) [0-9]+ (.*)", re.DOTALL)
 KIND = re.compile("head |held ")
 
-# The first words of lines that stand in reports of a kind alone, in this order: "leaked" stands in those of holders too.
+# The first words of lines that stand in reports of a kind alone, in this order: "leaked" stands in those of holders
+# too.
 BESIDE = {"then ": "grew", "heads ": "caller", "held ": "in", "leaked ": "holder"}
 
 
@@ -37,7 +39,8 @@ class Part(NamedTuple):
 
 
 class Report(NamedTuple):
-    """The parts in order, the rows of each kind, the bytes of the lines that sum up, and whether callers have heads counted."""
+    """The parts in order, the rows of each kind, the bytes of the lines that sum up, and whether callers have heads
+    counted."""
     parts: list
     rows: dict
     bytes_of: dict

@@ -1,7 +1,7 @@
 """Text from outside as it is shown, so that it can do nothing to a terminal: escaped as leak_find escapes paths.
 
-A line feed is \\n, a carriage return \\r, a tab \\t, a backslash \\\\; each byte of another character that can't be printed, or that is
-no UTF-8, is \\x with two digits.
+A line feed is \\n, a carriage return \\r, a tab \\t, a backslash \\\\; each byte of another character that can't be
+printed, or that is no UTF-8, is \\x with two digits.
 """
 NAMED = {"\\": "\\\\", "\n": "\\n", "\r": "\\r", "\t": "\\t"}
 
@@ -10,7 +10,8 @@ def escape_of(letter):
     """What stands for the character."""
     if letter in NAMED:
         return NAMED[letter]
-    return letter if letter.isprintable() else "".join(f"\\x{byte:02x}" for byte in letter.encode("utf-8", "surrogateescape"))
+    return letter if letter.isprintable() else "".join(f"\\x{byte:02x}"
+                                                       for byte in letter.encode("utf-8", "surrogateescape"))
 
 
 def escaped(text):
@@ -19,5 +20,6 @@ def escaped(text):
 
 
 def visible(text):
-    """The text without what can do something to a terminal, where somebody has escaped it already: its backslashes stay."""
+    """The text without what can do something to a terminal, where somebody has escaped it already: its backslashes
+    stay."""
     return "".join(it if it.isprintable() else escape_of(it) for it in text)

@@ -1,9 +1,9 @@
 """Rows that may be alternate signal stacks: a core that does not tell these leaves their blocks to look lost.
 
 leak_log and leak_walk write how many threads may have one that is not known, and the usual size of this processor:
-`= leak_log signal stacks THREADS SIZE`. The kernel's own cores tell none, and leak_core's those of the threads that it could ask.
-A block is marked if it has a size that programs use for such stacks, and if all blocks of such sizes are no more than these threads.
-Own rule: what a program asked for is not known, so the mark says no more than 'may be'.
+`= leak_log signal stacks THREADS SIZE`. The kernel's own cores tell none, and leak_core's those of the threads that it
+could ask. A block is marked if it has a size that programs use for such stacks, and if all blocks of such sizes are no
+more than these threads. Own rule: what a program asked for is not known, so the mark says no more than 'may be'.
 """
 import re
 from typing import NamedTuple

@@ -51,7 +51,8 @@ def kind_of(reports):
 
 
 def stack_of(places, has_lines):
-    """What makes callers the same: functions, and if asked for the files' names and lines. Addresses and folders differ between builds."""
+    """What makes callers the same: functions, and if asked for the files' names and lines. Addresses and folders differ
+    between builds."""
     return tuple((it.label,) + ((os.path.basename(it.file), it.line) if has_lines else ()) for it in places)
 
 

@@ -1,4 +1,5 @@
-"""Where the files are that the process had mapped: below given roots, then at their paths here. One of another build is none.
+"""Where the files are that the process had mapped: below given roots, then at their paths here. One of another build is
+none.
 
 A place of a file is told as (another build) or the like where nothing may be named from it.
 """
@@ -12,9 +13,11 @@ NOT_FOUND, NO_ELF, OTHER, UNKNOWN = "file not found", "no ELF file", "another bu
 # Which of two candidates' problems is told.
 ORDER = (NOT_FOUND, NO_ELF, UNKNOWN, OTHER)
 NOTES = {
-    OTHER: "are not those that ran, and nothing is named from them; put the right ones below a folder DIR, at the same paths, and add "
+    OTHER: "are not those that ran, and nothing is named from them; put the right ones below a folder DIR, at the "
+           "same paths, and add "
            "--root DIR",
-    UNKNOWN: "have no build-id in the log, and nothing is named from them; if they did not change since they ran, add --unchecked",
+    UNKNOWN: "have no build-id in the log, and nothing is named from them; if they did not change since they ran, add "
+             "--unchecked",
 }
 
 
@@ -37,14 +40,15 @@ class Sources:
     """Looks for files, and remembers from which nothing may be named."""
 
     def __init__(self, told=builds.NONE, roots=(), is_lenient=False, process=None):
-        """Of these builds, below these roots, the first one first, then of the process while it lives. `is_lenient` takes files too
-        whose build nobody can tell."""
+        """Of these builds, below these roots, the first one first, then of the process while it lives. `is_lenient`
+        takes files too whose build nobody can tell."""
         self.told, self.is_lenient, self.process = told, is_lenient, process
         self.roots = tuple(roots) + ((process.root,) if process else ())
         self.refused, self.asked, self.unchecked = {OTHER: [], UNKNOWN: []}, 0, 0
 
     def candidates(self, path):
-        """Openers of the files that may be this one. Where the build is known, a deleted file may be back at its path."""
+        """Openers of the files that may be this one. Where the build is known, a deleted file may be back at its
+        path."""
         names = [path]
         if path.endswith(DELETED) and self.told.ids.get(path, {""}) != {""}:
             names.append(path.removesuffix(DELETED))

@@ -1,6 +1,8 @@
-"""Suppressions as LeakSanitizer reads them: lines leak:PATTERN, of which one that matches a frame leaves the caller out.
+"""Suppressions as LeakSanitizer reads them: lines leak:PATTERN, of which one that matches a frame leaves the caller
+out.
 
-A pattern matches within a text; ^ at its start and $ are the text's begin and end, and * is any text (LeakSanitizer, Suppressions).
+A pattern matches within a text; ^ at its start and $ are the text's begin and end, and * is any text (LeakSanitizer,
+Suppressions).
 """
 import re
 
@@ -23,7 +25,8 @@ def read_pattern(line, place):
         return ""
     pattern = line.removeprefix(PREFIX)
     if pattern == line:
-        raise Refused(f"leak_lines: {place}: '{line}' is no suppression of leaks: a line is leak:PATTERN, or # and a comment")
+        raise Refused(f"leak_lines: {place}: '{line}' is no suppression of leaks: a line is leak:PATTERN, or # and a "
+                      f"comment")
     if pattern == "":
         raise Refused(f"leak_lines: {place}: leak: without a pattern would leave everything out, as leak:* does")
     return pattern
@@ -45,7 +48,8 @@ class Suppressions:
 
     def leaves_out(self, places):
         """Whether a function, a source file or a module of these places matches."""
-        return self.shape is not None and any(self.matches(text) for it in places for text in (it.function, it.file, it.module))
+        return self.shape is not None and any(self.matches(text) for it in places for text in (it.function, it.file,
+                                                                                               it.module))
 
 
 def read_files(files):

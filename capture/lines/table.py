@@ -1,4 +1,5 @@
-"""Lays out a table. Columns are as wide as their widest cell; a function's name of more than 60 characters widens none."""
+"""Lays out a table. Columns are as wide as their widest cell; a function's name of more than 60 characters widens
+none."""
 from typing import NamedTuple
 
 WIDEST_NAME = 60
@@ -29,6 +30,7 @@ def lay_out(titles, entries, gap, title_counts):
     for cells, frames in zip(rows, places):
         begin = gap.join(cell.rjust(width) for cell, width in zip(cells, columns))
         for place in frames:
-            lines.append(begin + (ends.get(place) or ends.setdefault(place, f"  {place[0].ljust(name_width)}  {place[1]}")))
+            lines.append(begin + (ends.get(place) or
+                                  ends.setdefault(place, f"  {place[0].ljust(name_width)}  {place[1]}")))
             begin = blank
     return lines

@@ -9,10 +9,11 @@ KIND = re.compile("head |held ")
 
 
 def table_of(read, kind, rows, left_out, found):
-    """The lines of the table of a kind, with a last one of the rows that are left out. Callers' tables have a form of their own, which
-    is older."""
+    """The lines of the table of a kind, with a last one of the rows that are left out. Callers' tables have a form of
+    their own, which is older."""
     whole = report.whole(read, kind)
-    entries = [table.Entry(views.CELLS[kind](caller.row, whole), [place.shown for place in caller.places] + below(kind, caller.row, found))
+    entries = [table.Entry(views.CELLS[kind](caller.row, whole),
+                           [place.shown for place in caller.places] + below(kind, caller.row, found))
                for caller in rows]
     is_caller = kind == "caller"
     lines = table.lay_out(views.TITLES[kind], entries, " " if is_caller else "  ", not is_caller)
@@ -28,7 +29,8 @@ def below(kind, row, found):
 def lines_of_leak(line, said):
     """The line about a leaked block, and those with what it is."""
     match = BLOCK.match(line) if said.of_block else None
-    return [shown.escaped(line)] + ([f"what {match[1]} {fact.text}" for fact in said.of_block.get(match[1], [])] if match else [])
+    return [shown.escaped(line)] + ([f"what {match[1]} {fact.text}" for fact in said.of_block.get(match[1], [])]
+                                    if match else [])
 
 
 def is_about(line, addresses):
@@ -44,13 +46,14 @@ def text_of_leak(line, has_heads):
 
 
 def lines_of(read, found, most):
-    """The lines of the report with tables of so many rows at most, which must be among those found. Blocks of suppressed callers are
-    left out."""
+    """The lines of the report with tables of so many rows at most, which must be among those found. Blocks of
+    suppressed callers are left out."""
     hidden = {caller.row.text for kind in found.suppressed for caller in found.suppressed[kind]}
     out = []
     for part in read.parts:
         if not part.kind:
-            out += lines_of_leak(part.line, found.what) if not hidden or text_of_leak(part.line, read.has_heads) not in hidden else []
+            is_shown = not hidden or text_of_leak(part.line, read.has_heads) not in hidden
+            out += lines_of_leak(part.line, found.what) if is_shown else []
         elif part.kind in found.shown:
             left = [row for row in read.rows[part.kind] if row.text not in hidden]
             out += table_of(read, part.kind, found.shown[part.kind][:most], left[most or len(left):], found)

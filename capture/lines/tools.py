@@ -1,5 +1,5 @@
-"""Asks eu-addr2line for lines and nm for symbols, or others where these are not there. They get open files, and one that they
-can't read has neither."""
+"""Asks eu-addr2line for lines and nm for symbols, or others where these are not there. They get open files, and one
+that they can't read has neither."""
 import re
 import shutil
 from bisect import bisect_left
@@ -12,9 +12,10 @@ SYMBOL = re.compile("([0-9a-f]{16}) (?:([0-9a-f]{16}) )?([A-Za-z]) (.*)", re.DOT
 FUNCTION_TYPES, OBJECT_TYPES = "TtWwi", "BbDdRrVvuGgSs"
 VERSION = re.compile("@{1,2}[^@ ]+$")
 DISCRIMINATOR = re.compile(r" \(discriminator [0-9]+\)$")
-# Those that are asked, the first that is there. elfutils tell the right file of a line in a header and the name of each inlined
-# function, which addr2line of binutils 2.40 does not always; but they take some milliseconds for a place in a large source, so
-# for many places it is the other way round. The nm of elfutils does not say that an indirect function is one.
+# Those that are asked, the first that is there. elfutils tell the right file of a line in a header and the name of each
+# inlined function, which addr2line of binutils 2.40 does not always; but they take some milliseconds for a place in a
+# large source, so for many places it is the other way round. The nm of elfutils does not say that an indirect function
+# is one.
 LINES = (("eu-addr2line", "-a", "-f", "-i", "-e"), ("addr2line", "-a", "-f", "-i", "-e"))
 SYMBOLS = (("nm", "-S"), ("eu-nm", "-B", "-S", "-p"))
 INLINED = re.compile(" inlined (at|in) ")
@@ -24,7 +25,8 @@ MOST_AROUND = 1 << 20  # pairs of an address and a function around it, of which 
 
 
 class Symbols(NamedTuple):
-    """What nm knows of a file: of an address the functions around it, the innermost last, and the object that has it."""
+    """What nm knows of a file: of an address the functions around it, the innermost last, and the object that has
+    it."""
     around: dict
     objects: dict
 
@@ -49,7 +51,8 @@ def of_elfutils(function, where):
 
 
 def read_answers(lines, addresses, pair=of_binutils):
-    """Of each address, in the order asked, the pairs of function and file:line: first what was inlined, last the function itself."""
+    """Of each address, in the order asked, the pairs of function and file:line: first what was inlined, last the
+    function itself."""
     answers, following, pairs, function = {}, iter(addresses), None, None
     expected = next(following, None)
     for line in lines:
@@ -72,7 +75,8 @@ def ask_lines(file, addresses):
     lines = limited.lines_of(command, file, text, len(addresses)) if command else ()
     answers = read_answers(lines, addresses, of_elfutils if command == LINES[0] else of_binutils)
     if command and len(answers) < len(addresses):
-        limited.say(f"{command[0]} told nothing of {len(addresses) - len(answers)} of {len(addresses)} places in {file.path}")
+        limited.say(f"{command[0]} told nothing of {len(addresses) - len(answers)} of {len(addresses)} places in "
+                    f"{file.path}")
     return answers
 
 
@@ -88,8 +92,9 @@ def within(addresses, start, size):
 
 
 def read_symbols(lines, calls, addresses):
-    """The symbols of nm's lines at these addresses, which are sorted: functions at calls, objects at addresses. Of functions
-    around one address the one that starts last is the innermost. No more are taken than a right file has of them."""
+    """The symbols of nm's lines at these addresses, which are sorted: functions at calls, objects at addresses. Of
+    functions around one address the one that starts last is the innermost. No more are taken than a right file has of
+    them."""
     around, objects, left = {}, {}, MOST_AROUND
     for line in lines:
         match = SYMBOL.fullmatch(line)
@@ -114,5 +119,6 @@ def symbol_lines(files):
 
 
 def ask_symbols(file, further, calls, addresses):
-    """What nm knows of the file: its own symbols, those for the loader, which a stripped file still has, and those of its debug files."""
+    """What nm knows of the file: its own symbols, those for the loader, which a stripped file still has, and those of
+    its debug files."""
     return read_symbols(symbol_lines([((), file), (("-D",), file)] + [((), it) for it in further]), calls, addresses)

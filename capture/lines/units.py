@@ -9,7 +9,8 @@ def rounded(number, by):
 
 
 def size(number):
-    """Bytes in the unit that leaves up to three digits before the point, with two behind it; below 1,000 as they are."""
+    """Bytes in the unit that leaves up to three digits before the point, with two behind it; below 1,000 as they
+    are."""
     if number < 1000:
         return f"{number} B"
     power = min((len(str(number)) - 1) // 3, len(UNITS) - 1)
@@ -21,7 +22,8 @@ def size(number):
 
 
 def plain(number):
-    """Bytes for a sentence: in the unit that leaves up to three digits before the point, with one behind it; below 1,000 as they are."""
+    """Bytes for a sentence: in the unit that leaves up to three digits before the point, with one behind it; below
+    1,000 as they are."""
     if number < 1000:
         return f"{number} byte{'' if number == 1 else 's'}"
     power = min((len(str(number)) - 1) // 3, len(PLAIN) - 1)

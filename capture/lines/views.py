@@ -21,7 +21,8 @@ def caller_cells(row, _):
 
 
 def holder_cells(row, whole):
-    """What the blocks of this caller hold, what they have themselves, how many other callers hold each of them, and one of them."""
+    """What the blocks of this caller hold, what they have themselves, how many other callers hold each of them, and one
+    of them."""
     blocks, held, _, own, within = row.numbers
     return [size(held), share(held, whole), str(blocks), size(own), str(within), row.address]
 
@@ -48,7 +49,8 @@ def total(rows, index):
 
 
 def rest(kind, rows):
-    """The last line of a table without these rows. What holders hold overlaps, so it has no sum: their own blocks have one."""
+    """The last line of a table without these rows. What holders hold overlaps, so it has no sum: their own blocks have
+    one."""
     begin = f"and {len(rows)} more"
     if kind == "caller":
         heads = f", {total(rows, 2)} heads" if len(rows[0].numbers) > 2 else ""
@@ -56,7 +58,8 @@ def rest(kind, rows):
     if kind == "structure":
         return f"{begin}: {total(rows, 1)} bytes, {total(rows, 0)} blocks, {total(rows, 2)} structures"
     if kind == "holder":
-        return f"{begin}, none holds more than {size(rows[0].numbers[1])}: {size(total(rows, 3))} in {total(rows, 2)} own blocks"
+        own = f"{size(total(rows, 3))} in {total(rows, 2)} own blocks"
+        return f"{begin}, none holds more than {size(rows[0].numbers[1])}: {own}"
     if kind == "by":
         return f"{begin}, none holds more than {size(rows[0].numbers[1])}"
     if kind == "in":

@@ -15,7 +15,7 @@ SHAPES = {
     "text": re.compile(f"text {ADDRESS} ([0-9]+) {QUOTED}"),
     "word": re.compile(f"word {ADDRESS} (\\+0x[0-9a-f]+) (.+)"),
     "literal": re.compile(f"literal {ADDRESS} (\\+0x[0-9a-f]+) {QUOTED}"),
-    "object": re.compile(f"object {ADDRESS} (talloc|python) {QUOTED}"),
+    "object": re.compile(f"object {ADDRESS} (talloc|python|glib) {QUOTED}"),
     "container": re.compile(f"container {ADDRESS} (tree|hash|buckets|string) ([0-9]+) {ADDRESS} (\\+0x[0-9a-f]+)"),
     "holds": re.compile(f"holds {ADDRESS} ([0-9]+) bytes ([0-9]+)"),
     "part": re.compile(f"part {ADDRESS} {ADDRESS}"),
@@ -28,6 +28,7 @@ CONTAINERS = {
     "buckets": "buckets of std::unordered_map or set",
     "string": "text of std::string",
 }
+OBJECTS = {"talloc": "talloc", "python": "Python object of type", "glib": "GLib object of type"}
 LEAK = re.compile(f"leak {ADDRESS} ([0-9]+) [0-9]+ (.*)", re.DOTALL)
 KIND = re.compile("(head|held) ")
 WIDEST = 60
@@ -35,15 +36,16 @@ MANGLED = re.compile(r"\b_Z\w+")
 
 
 class Fact(NamedTuple):
-    """A fact of a block: its kind, the words after the block's address, and of a likeness the type of the held block, if it is known."""
+    """A fact of a block: its kind, the words after the block's address, and of a likeness the type of the held block,
+    if it is known."""
     kind: str
     words: tuple
     type: str = ""
 
     @property
     def same(self):
-        """What is equal of blocks of one kind. All texts are one kind; of likenesses the way to the held block counts, and of containers
-        where in a block they are."""
+        """What is equal of blocks of one kind. All texts are one kind; of likenesses the way to the held block counts,
+        and of containers where in a block they are."""
         told = {"like": self.words[2:], "word": self.words, "literal": self.words, "container": self.words[::3],
                 "object": self.words}
         return (self.kind,) + told.get(self.kind, ())
@@ -57,7 +59,7 @@ class Fact(NamedTuple):
         if self.kind == "text":
             return f"begins {self.words[1]}"
         if self.kind == "object":
-            return f"{'talloc' if self.words[0] == 'talloc' else 'Python object of type'} {self.words[1]}"
+            return f"{OBJECTS[self.words[0]]} {self.words[1]}"
         if self.kind == "container":
             return f"{CONTAINERS[self.words[0]]} at {self.words[2]}{self.words[3]}"
         if self.kind == "holds":
@@ -82,8 +84,8 @@ class Shared(NamedTuple):
 
 
 class Facts(NamedTuple):
-    """By address, the facts of a block, and the first block of the structure that it is part of; of the first block of a structure
-    those of the structures that lead to it."""
+    """By address, the facts of a block, and the first block of the structure that it is part of; of the first block of
+    a structure those of the structures that lead to it."""
     of_block: dict
     top: dict
     led: dict
@@ -116,7 +118,8 @@ def read(lines, place):
         if kind == "part":
             facts.top[address] = words[0]
         elif kind == "type":
-            facts.of_block[address] = [it._replace(type=words[0]) if it.kind == "like" else it for it in facts.of_block.get(address, [])]
+            facts.of_block[address] = [it._replace(type=words[0]) if it.kind == "like" else it
+                                       for it in facts.of_block.get(address, [])]
         elif kind == "led":
             facts.led.setdefault(address, []).append(words[0])
         else:

@@ -8,9 +8,9 @@
 
 const char program[] = "leak_log", usage[] = "usage: leak_log CORE TABLE [--after LOG] | leak_log --version\n", help[] =
     "Writes to standard output a log of the blocks in a table of leak_trace, for leak_find. leak_dump calls it.\n\n"
-    "  CORE         a core of the process, from the moment of the table\n"
+    "  CORE         a core of the process, of the same moment as the table\n"
     "  TABLE        a copy of the table\n"
-    "  --after LOG  writes LOG first, made from an earlier table of the same process, and then what was allocated and\n"
+    "  --after LOG  first writes LOG, made from an earlier table of the same process, and then what was allocated and\n"
     "               freed since\n"
     "  --version    prints the version\n\n"
     "status: 0; 2 if there is no log, with a line on standard error\n";

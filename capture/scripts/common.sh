@@ -1,7 +1,8 @@
 # What the scripts share: messages, the programs beside them, words that are handed on, and the options of a search.
 program=$(basename "$0")
 
-# shown TEXT: the text with each control character (of C1 in UTF-8 too) and each backslash escaped, since the names of files are anybody's.
+# shown TEXT: the text with each control character (of C1 in UTF-8 too) and each backslash escaped, since the names of
+# files are anybody's.
 shown() {
     case $1 in
     *[[:cntrl:]\\]* | *"$first_of_c1"*) printf '%s' "$1" | od -A n -v -t u1 | LC_ALL=C awk '
@@ -23,7 +24,8 @@ fail() {
     exit 2
 }
 
-# tell_version: says which version this is, and ends. The file is where `make install` puts it, or at the top of the repository.
+# tell_version: says which version this is, and ends. The file is where `make install` puts it, or at the top of the
+# repository.
 tell_version() {
     for file in "$scripts/../VERSION" "$scripts/../../VERSION"; do
         [ ! -r "$file" ] || { echo "$program $(cat "$file")"; exit 0; }
@@ -54,10 +56,10 @@ remarks() { LC_ALL=C sed -n "s/^= leak_log $1 //p" "$2"; }
 other_allocator() { remarks allocator "$1" | grep -v '^glibc' | tail -n 1; }
 
 # The options that fit the heap of a log, which is not glibc's if OTHER says so. glibc's own links and what was
-# freed are known where no other allocator is named; others lay blocks side by side, so that the start of one is the end of another, and what
-# was freed is known where their heap was walked.
-# Memory that can't be written holds blocks too: a static program of glibc has pointers there. leak_core leaves dead stack out of its cores;
-# of a core that is GIVEN the search leaves it out.
+# freed are known where no other allocator is named; others lay blocks side by side, so that the start of one is the end
+# of another, and what was freed is known where their heap was walked. Memory that can't be written holds blocks too: a
+# static program of glibc has pointers there. leak_core leaves dead stack out of its cores; of a core that is GIVEN the
+# search leaves it out.
 #
 # fitting LOG [OTHER [GIVEN]]
 fitting() {
@@ -75,14 +77,17 @@ check_folder() {
     about=$(stat -L -c '%A %u %g' -- "$(dirname -- "$1")" 2> /dev/null)
     case $about in
     ?????????[tT]* | *' '*' 0') is_open='' ;;
-    ?????w*) [ "${about##* }" = "$(printf '%s\n' "$about" | cut -d ' ' -f 2)" ] && is_open='' || is_open=1 ;; # a group of one's own
+    # a group of one's own
+    ?????w*) [ "${about##* }" = "$(printf '%s\n' "$about" | cut -d ' ' -f 2)" ] && is_open='' || is_open=1 ;;
     *) is_open='' ;;
     esac
     case $about in ????????w[!tT]*) is_open=1 ;; esac
-    [ ! "$is_open" ] || fail "others may write in $(dirname -- "$1"), which has no sticky bit: as root take another folder"
+    [ ! "$is_open" ] ||
+        fail "others may write in $(dirname -- "$1"), which has no sticky bit: as root take another folder"
 }
 
-# run COMMAND..: runs it, so that a signal which ends this script ends the command first, and isn't heeded only after it.
+# run COMMAND..: runs it, so that a signal which ends this script ends the command first, and isn't heeded only after
+# it.
 run() {
     "$@" <&0 &
     child=$!
@@ -92,8 +97,8 @@ run() {
     return $ran
 }
 
-# into FILE COMMAND..: runs it with its output in the file, which is there once it is whole, and for its owner alone. A status of 0, 1
-# or 3 is an answer. No link that stands in the file's place is followed.
+# into FILE COMMAND..: runs it with its output in the file, which is there once it is whole, and for its owner alone. A
+# status of 0, 1 or 3 is an answer. No link that stands in the file's place is followed.
 into() {
     file=$1
     shift
@@ -107,7 +112,8 @@ into() {
     return $ran
 }
 
-# end_well: what a signal is to do. It ends the command that runs, and sets `ended`; the EXIT trap then removes what is half done.
+# end_well: what a signal is to do. It ends the command that runs, and sets `ended`; the EXIT trap then removes what is
+# half done.
 end_well() {
     trap '' INT TERM HUP QUIT PIPE
     ended=1

@@ -1,43 +1,51 @@
 # The words of leak_report.
 
-# Its options, once each: who takes it, its name and value, and what it does. `report` is leak_report itself; `dump`, `find` and
-# `lines` are leak_dump, leak_find and leak_lines, to which the option is handed on as it is.
+# Its options, once each: who takes it, its name and value, and what it does. `report` is leak_report itself; `dump`,
+# `find` and `lines` are leak_dump, leak_find and leak_lines, to which the option is handed on as it is.
 options() {
     cat << 'END'
 report  --keep DIR       keeps core, log and report in the folder
-report  --files          also keeps the files that the process has mapped there, to have names later and elsewhere
-report  --after DIR      reports what was lost at both moments: now, and when DIR was kept
-report  --attach         traces the process from now on, waits, and reports what it lost since, with call stacks
-report  --grow           dumps the process twice, and reports what grew between, reachable or lost, and who retains it
-report  --for TIME       how long --attach and --grow wait, as 90s, 10m or 2h [10m]
+report  --files          with --keep: also keeps the process's mapped files, for names later or on another machine
+report  --after DIR      reports only what is lost both now and in the dump that DIR keeps
+report  --attach         traces the process, waits, and reports what is lost; blocks allocated since have call stacks
+report  --grow           dumps the process twice, and reports what grew, reachable or lost, and what retains it
+report  --for TIME       how long --attach and --grow wait, such as 90s, 10m or 2h [10m]
 report  --list           also prints each lost block
-report  --raw            prints the lines of leak_find, with names: for scripts
-report  --html FILE      also writes a page: what was lost, what grew if there are two moments, who retains the memory
+report  --raw            prints leak_find's own lines, with names, for scripts
+report  --html FILE      also writes a page: what was lost, what grew (if there are two dumps), what retains the memory
 report  --version        prints the version
-dump    --whole-stack    keeps what lies below the stack pointers, which hides leaks
-dump    --no-calls       makes no system call in the process's threads; alternate signal stacks are unknown then
-dump    --pipes          counts addresses that wait in pipes
-dump    --hold SECONDS   how long the process may stand still; after that there is no report [20, and 1 for each 32 MiB]
+dump    --whole-stack    keeps memory below the stack pointers in the core, though it hides leaks
+dump    --no-calls       makes no system calls in the process's threads; alternate signal stacks stay unknown
+dump    --pipes          counts blocks whose addresses wait in pipes as reachable
+dump    --hold SECONDS   how long the process may be stopped; past that there is no report [20, and 1 for each 32 MiB]
 lines   -n N             shows the first N rows of the table
-lines   --structures     shows a row for each kind of lost structure
-lines   --why N          shows the path to the reachable blocks that those of the first N rows look like
-lines   --root DIR       looks for the files of the process below DIR first, as in a container's root
-lines   --unchecked      takes names also from files without a build-id, whose build is unknown
-find    --skip-freed     skips pointers in freed memory [chosen if the heap says what was freed]
-find    --skip-links     skips the links of glibc's malloc to free memory [chosen if the heap is glibc's]
-find    --skip-slack     skips pointers in what malloc gave a block past its size
-find    --skip-dead-stack  skips pointers below stack pointers [chosen for a core that is given]
-find    --skip-ends      skips pointers one past the end of a block [chosen if the heap is not glibc's]
-find    --displace LIST  byte offsets at which a pointer keeps a block alive, besides 0, as 8,16 [any]
-find    --all-memory     also takes pointers in memory that can't be written [always chosen]
-find    --other-heap     the allocator is not glibc's [chosen if the log says so]
-find    --check          lists the live blocks that have no chunk of their size in use
-find    --strict         status 3 on any warning
-find    --workers N      threads that search, 1 to 64
-find    --piece N        root words that a thread takes at a time
-find    --stack N        blocks that a thread's stack holds
+lines   --structures     with --raw: shows a row for each kind of lost structure, not for each caller
+lines   --why N          shows the paths to the reachable blocks that the lost ones in the first N rows look like
+lines   --root DIR       looks for the process's files below DIR first, such as a container's root
+lines   --unchecked      also takes names from files without a build-id, whose build is unknown
+END
+    find_options
+}
+
+# Those that leak_find takes (written by setup/options.py: begin).
+find_options() {
+    cat << 'END'
+find    --skip-freed     skips pointers in freed memory [chosen if the heap is glibc's, or another that was walked]
+find    --skip-links     skips glibc's own links to free memory [chosen if the heap is glibc's]
+find    --skip-slack     skips pointers in the bytes that malloc gave a block past its size
+find    --skip-dead-stack  skips pointers below stack pointers [chosen if you give a core]
+find    --skip-ends      skips pointers one past the end of a block [chosen if the log names another allocator]
+find    --all-memory     also counts pointers in memory that can't be written [always chosen]
+find    --displace LIST  byte offsets at which a pointer keeps a block alive, besides 0, such as 8,16 [any]
+find    --check          lists live blocks that have no chunk of their size in use
+find    --other-heap     the allocator is not glibc's [chosen if the log names another allocator]
+find    --strict         exits with status 3 on any warning
+find    --workers N      threads that search, 1 to 64 [4]
+find    --piece N        root words that a thread takes at a time [512]
+find    --stack N        blocks that a thread keeps to scan itself [1024]
 END
 }
+# written by setup/options.py: end
 
 usage() {
     echo 'usage: leak_report [OPTION..] PID | CORE [TABLE]' >&2
@@ -45,14 +53,15 @@ usage() {
         cat << 'END'
 Reports what a C or C++ program has leaked: memory that was allocated, not freed, and is no longer reachable.
 
-  PID              one of your processes; any process, as root; it stands still for a moment and is resumed
-  CORE             a core that the kernel wrote (a core whose name is a number: ./4711)
-  TABLE            the table that the process left, if it ran under leak_trace (leak_trace --list), for call stacks
+  PID              one of your processes (any process, as root); it is stopped for a moment, then resumed
+  CORE             a core that the kernel wrote (if its name is a number: ./4711)
+  TABLE            for call stacks: the table that a process under leak_trace left (leak_trace --list shows it)
 END
         options | sed 's/^[a-z]*  *-/  -/'
         cat << 'END'
 
-status: 0 if nothing is lost; 1 if something is; 2 if there is no answer, with a line on standard error; 3 if --strict asks for it
+status: 0 if nothing is lost; 1 if something is; 2 if there is no answer, with a line on standard error; 3 with
+--strict, if there is a warning
 END
     } >&2
     exit 2
@@ -89,7 +98,8 @@ check_value() {
 
 # seconds_of TIME: 90s, 10m or 2h in seconds, and nothing of what is no time.
 seconds_of() {
-    printf '%s\n' "$1" | awk '/^[1-9][0-9]?[0-9]?[0-9]?[0-9]?[0-9]?[smh]?$/ { print $0 * (/h$/ ? 3600 : /m$/ ? 60 : 1) }'
+    printf '%s\n' "$1" |
+        awk '/^[1-9][0-9]?[0-9]?[0-9]?[0-9]?[0-9]?[smh]?$/ { print $0 * (/h$/ ? 3600 : /m$/ ? 60 : 1) }'
 }
 
 # read_words WORD..: reads the options, which may stand behind the operands too. These are in `operands`.

@@ -11,10 +11,10 @@
 const char program[] = "leak_tables",
            usage[] = "usage: leak_tables --list [--all] NAME | --remove NAME | --of PID | --lacks TABLE | --version\n", help[] =
     "Shows the tables that leak_trace keeps, or removes those of dead processes. leak_trace and leak_dump call it.\n\n"
-    "  NAME      the name of the tables, in which %p is a number\n"
-    "  --list    shows your own and those of living processes\n"
-    "  --all     shows all\n"
-    "  --remove  removes those whose processes are dead; what may live in another container stays\n"
+    "  NAME      the name of the tables, in which %p is a PID\n"
+    "  --list    shows your own tables and those of living processes\n"
+    "  --all     shows all tables\n"
+    "  --remove  removes the tables of dead processes; one that may live in another container keeps its table\n"
     "  --of      prints the table that a process writes\n"
     "  --lacks   prints why a table lacks blocks\n"
     "  --version prints the version\n\n"

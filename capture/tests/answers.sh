@@ -1,5 +1,5 @@
-# leak_report gives no false answer: no block to search, an allocator that was not searched, memory that the core lacks, memory that can't
-# be written.
+# leak_report gives no false answer: no block to search, an allocator that was not searched, memory that the core lacks,
+# memory that can't be written.
 section answers of leak_report
 [ -x walk_leaks ] || build walk_leaks.c
 [ -x walk_none ] || build walk_none.c
@@ -29,7 +29,8 @@ int main(void) { for (int i = 0; i < 9; i++) *(volatile char *)malloc(100) = 7; 
 END
 gcc -O1 own_malloc.c -o own_malloc
 gcc -O1 -shared -fPIC -Dmain=no_main own_malloc.c -o libown.so
-# A static program of glibc has a pointer to a block in memory that can't be written. This one loses one block besides, of 61 bytes, for which malloc gives 72.
+# A static program of glibc has a pointer to a block in memory that can't be written. This one loses one block besides,
+# of 61 bytes, for which malloc gives 72.
 cat > static_one.c << 'END'
 #include "lose.h"
 static void *volatile held;
@@ -40,32 +41,38 @@ int main(void)
     rest();
 }
 END
-gcc -O1 -static -I "$kit/tests" static_one.c -o static_one 2> static.cc || leave_out 'a static program: no static C library'
+gcc -O1 -static -I "$kit/tests" static_one.c -o static_one 2> static.cc ||
+    leave_out 'a static program: no static C library'
 
 if [ "$attaches" ]; then
     unprepared ./walk_none
     answered none $process
     verdict 'malloc was never called: the status, and it is said' '0 1 leaked 0 bytes 0' \
-        "$status $(grep -c '^leak_walk: malloc was never called: there is no block$' none.said) $(grep '^leaked' none.out)"
+        "$status $(grep -c '^leak_walk: malloc was never called: there is no block$' none.said) $(grep '^leaked' \
+        none.out)"
     verdict 'nothing else fails' 0 "$(grep -c failed none.said)"
     stop $process
     start ./walk_none
     answered traced_none $process
-    verdict 'under leak_trace too few answers' '2 1 ' "$status $(grep -c '^leak_report: the table has no live block' traced_none.said) $(cat traced_none.out)"
+    verdict 'under leak_trace too few answers' '2 1 ' \
+        "$status $(grep -c '^leak_report: the table has no live block' traced_none.said) $(cat traced_none.out)"
     stop $process
 
     unprepared ./own_malloc
     answered own $process
-    verdict 'a malloc of its own' '2 1 ' "$status $(grep -c "never called, and $work/own_malloc has or may have one of its own" own.said) $(cat own.out)"
+    verdict 'a malloc of its own' '2 1 ' \
+        "$status $(grep -c "never called, and $work/own_malloc has or may have one of its own" own.said) $(cat own.out)"
     stop $process
     start ./own_malloc
     answered traced_own $process
     verdict 'under leak_trace: what to do' '2 1 ' \
-        "$status $(grep -c 'a malloc of its own, which passes leak_trace by: build it without' traced_own.said) $(cat traced_own.out)"
+        "$status $(grep -c 'a malloc of its own, which passes leak_trace by: build it without' \
+        traced_own.said) $(cat traced_own.out)"
     stop $process
     unprepared env LD_PRELOAD="$work/libown.so" ./walk_none
     answered own_library $process
-    verdict 'a malloc of a library' '2 1 ' "$status $(grep -c "never called, and $work/libown.so has or may have" own_library.said) $(cat own_library.out)"
+    verdict 'a malloc of a library' '2 1 ' \
+        "$status $(grep -c "never called, and $work/libown.so has or may have" own_library.said) $(cat own_library.out)"
     stop $process
 
     # The files that it has mapped may be others by now: of another build, or what waits for a reader.
@@ -73,16 +80,20 @@ if [ "$attaches" ]; then
     cp libnothing.so libmapped.so
     unprepared env LD_PRELOAD="$work/libmapped.so" ./walk_none
     "$kit/leak_core" $process mapped.core 2> mapped.said
-    verdict 'a library without a malloc' '0 1' "$("$kit/leak_walk" mapped.core 2> mapped.said > mapped.log; echo $?) $(grep -c 'never called: there is no block$' mapped.said)"
+    verdict 'a library without a malloc' '0 1' "$("$kit/leak_walk" mapped.core 2> mapped.said > mapped.log;
+        echo $?) $(grep -c 'never called: there is no block$' mapped.said)"
     gcc -shared -fPIC -DANOTHER=1 -Wl,--build-id=0x1234 nothing.c -o libother.so && mv libother.so libmapped.so
     verdict 'another build of it, of which nobody knows' "2 1" \
-        "$("$kit/leak_walk" mapped.core 2> mapped.said > mapped.log; echo $?) $(grep -c "$work/libmapped.so has or may have one of its own" mapped.said)"
+        "$("$kit/leak_walk" mapped.core 2> mapped.said > mapped.log;
+        echo $?) $(grep -c "$work/libmapped.so has or may have one of its own" mapped.said)"
     rm libmapped.so && mkfifo libmapped.so
     (echo waits > libmapped.so) & writer=$!
     started[$writer]=1
     sleep 0.2
     verdict 'a FIFO in its place' "2 1 waits" \
-        "$("$kit/leak_walk" mapped.core 2> mapped.said > mapped.log; echo $?) $(grep -c "$work/libmapped.so has or may have one of its own" mapped.said) $(sleep 0.2; kill -0 $writer && echo waits)"
+        "$("$kit/leak_walk" mapped.core 2> mapped.said > mapped.log;
+        echo $?) $(grep -c "$work/libmapped.so has or may have one of its own" mapped.said) $(sleep 0.2;
+        kill -0 $writer && echo waits)"
     stop $process $writer
     rm -f mapped.core libmapped.so
 
@@ -97,7 +108,9 @@ END
     unprepared env LD_PRELOAD="$work/libjemalloc.so.2" ./holds
     answered lacks $process
     verdict 'blocks of another allocator are not in the log, and nothing is lost' '2 1 ' \
-        "$status $(grep -c '^leak_report: nothing is lost in glibc.s heap, but most blocks may be those of libjemalloc.so.2' lacks.said) $(cat lacks.out)"
+        "$status $(grep -c \
+        '^leak_report: nothing is lost in glibc.s heap, but most blocks may be those of libjemalloc.so.2' \
+        lacks.said) $(cat lacks.out)"
     verdict 'the remarks of the log' 'allocator glibc lacks libjemalloc.so.2 ' \
         "$("$kit/leak_dump" $process lacks 2> said; remarks_of lacks.log)"
     stop $process
@@ -105,9 +118,11 @@ END
         unprepared ./static_one
         answered static --list $process
         verdict 'a static program: only what it lost' '1 72 ' "$status $(named static.out)"
-        verdict 'by the option that is told' 1 "$(grep -c '^leak_report: leak_find one --skip-freed --skip-links --all-memory$' static.said)"
+        verdict 'by the option that is told' 1 \
+            "$(grep -c '^leak_report: leak_find one --skip-freed --skip-links --all-memory$' static.said)"
         "$kit/leak_dump" $process static 2> said
-        verdict 'leak_dump tells the same' 1 "$(grep -c '^leak_dump: now search: leak_find one --skip-freed --skip-links --all-memory static.core static.log$' said)"
+        verdict 'leak_dump tells the same' 1 \
+            "$(grep -c '^leak_dump: now search: leak_find one --skip-freed --skip-links --all-memory static.core static.log$' said)"
         verdict 'the remarks of its log' 'allocator glibc program static ' "$(remarks_of static.log)"
         stop $process
     fi
@@ -143,29 +158,35 @@ if [ "$attaches" ]; then
     shared=$(printf 'a\033[2Jb')
     unprepared ./shares "$work/$shared"
     answered shares $process
-    verdict 'which file, how much and why' "leak_walk: undumped: 40960 bytes of $work/a\\x1b[2Jb: shared with the file, or it can't be read" \
+    verdict 'which file, how much and why' \
+        "leak_walk: undumped: 40960 bytes of $work/a\\x1b[2Jb: shared with the file, or it can't be read" \
         "$(grep undumped: shares.said)"
     verdict 'as many bytes as the report counts' 'undumped 40960' "$(grep '^undumped' shares.out)"
     stop $process
     start ./shares "$work/$shared"
     answered shares $process
-    verdict 'by a table' "leak_log: undumped: 40960 bytes of $work/a\\x1b[2Jb: shared with the file, or it can't be read" "$(grep undumped: shares.said)"
+    verdict 'by a table' \
+        "leak_log: undumped: 40960 bytes of $work/a\\x1b[2Jb: shared with the file, or it can't be read" \
+        "$(grep undumped: shares.said)"
     stop $process
 fi
 
 section programs that leak_trace runs untraced
 if command -v musl-gcc > /dev/null && musl-gcc "$kit/tests/hello.c" -o hello_musl 2> musl.cc; then
     "$kit/leak_trace" ./hello_musl > hello.out 2> said
-    verdict 'one with musl' "0 hello leak_trace: ./hello_musl has musl's C library: it is not traced" "$? $(cat hello.out said | paste -s -d ' ')"
+    verdict 'one with musl' "0 hello leak_trace: ./hello_musl has musl's C library: it is not traced" \
+        "$? $(cat hello.out said | paste -s -d ' ')"
     printf '#! %s/hello_musl -x\n' "$work" > by_musl && chmod +x by_musl
-    verdict 'a script of it' 'hello 1' "$("$kit/leak_trace" ./by_musl 2> said) $(grep -c '^leak_trace: ./by_musl has musl' said)"
+    verdict 'a script of it' 'hello 1' \
+        "$("$kit/leak_trace" ./by_musl 2> said) $(grep -c '^leak_trace: ./by_musl has musl' said)"
 else
     leave_out "a program with musl's C library: no musl-gcc"
 fi
 # (a 32-bit compiler may be missing: the head of a file is enough)
 printf '\177ELF\1\1\1\0' > narrow && head -c 100 /dev/zero >> narrow && chmod +x narrow
 "$kit/leak_trace" ./narrow > said 2>&1
-verdict 'a program of 32 bits' "leak_trace: ./narrow is a program of 32 bits: it can't be dumped, and is not traced" "$(head -n 1 said)"
+verdict 'a program of 32 bits' "leak_trace: ./narrow is a program of 32 bits: it can't be dumped, and is not traced" \
+    "$(head -n 1 said)"
 if [ "$(id -u)" = 0 ] && [ "$attaches" ]; then
     cat > hides.c << 'END'
 #include <sys/prctl.h>
@@ -173,9 +194,11 @@ if [ "$(id -u)" = 0 ] && [ "$attaches" ]; then
 int main(void) { char byte; prctl(PR_SET_DUMPABLE, 0); return (int)read(0, &byte, 1); }
 END
     gcc hides.c -o hides
-    mkdir -p shown && cp -r "$kit"/leak_dump "$kit"/leak_core "$kit/scripts" hides shown && mkdir -p shown/to && chmod 777 shown/to && chmod 755 . shown
+    mkdir -p shown && cp -r "$kit"/leak_dump "$kit"/leak_core "$kit/scripts" hides shown && mkdir -p shown/to &&
+        chmod 777 shown/to && chmod 755 . shown
     unprepared setpriv --reuid=65534 --regid=65534 --clear-groups shown/hides
-    (cd shown/to && limited 60 setpriv --reuid=65534 --regid=65534 --clear-groups ../leak_dump $process d1 2> "$work/said")
+    (cd shown/to && limited 60 setpriv --reuid=65534 --regid=65534 --clear-groups ../leak_dump $process \
+        d1 2> "$work/said")
     verdict 'a process that is not dumpable' \
         "leak_core: process $process keeps itself from being traced (prctl, PR_SET_DUMPABLE), or was started as a setuid program: run this as root" "$(cat said)"
     stop $process

@@ -1,15 +1,19 @@
-# leak_trace --attach and --detach: a process that runs already is traced from now on, and lives on as it was: under load, if leak_attach is killed at
-# any of its steps, with children, and where it is refused.
+# leak_trace --attach and --detach: a process that runs already is traced from now on, and lives on as it was: under
+# load, if leak_attach is killed at any of its steps, with children, and where it is refused.
 section a process that runs already
 build attached.c
 build union.c
 export LEAK_FIND=$finder
 . "$kit/tests/attach_common.sh"
 # As leak_attach is built, but it kills itself at the step that LEAK_CORE_DIE says.
-gcc -std=gnu11 -O1 -g -pthread -DFAULT "$kit"/attach/{leak_attach,attach,plan,detach,island,modules,decode,moved,refuse}.c "$kit"/objects/attach/{gate,library}.o \
-    "$kit"/dump/{fault,stop,refuse,text,memory,maps,served,calls,callable,code,frame,front,apart}.c -o dying 2> cc || { cat cc >&2; exit 1; }
+gcc -std=gnu11 -O1 \
+    -g -pthread -DFAULT "$kit"/attach/{leak_attach,attach,plan,detach,island,modules,decode,moved,refuse}.c \
+    "$kit"/objects/attach/{gate,library}.o \
+    "$kit"/dump/{fault,ending,stop,refuse,text,memory,maps,served,calls,callable,code,frame,front,apart}.c \
+    -o dying 2> cc || { cat cc >&2; exit 1; }
 
-# launch WORD..: runs `attached` with these words untraced in the background; what it prints goes to attached.out, its status to attached.status.
+# launch WORD..: runs `attached` with these words untraced in the background; what it prints goes to attached.out, its
+# status to attached.status.
 launch() {
     rm -f attached.out attached.status attached.pid
     (./attached "$@" > attached.out & echo $! > attached.pid; wait $!; echo $? > attached.status) &
@@ -25,7 +29,8 @@ ended() {
     unset "started[$process]"
     echo "$(cat attached.status) $(md5sum < attached.out)"
 }
-# rounds NAME WORD..: attached and detached again and again while it runs; its answers and its status are those of an untouched run.
+# rounds NAME WORD..: attached and detached again and again while it runs; its answers and its status are those of an
+# untouched run.
 rounds() {
     local name=$1 wrong=0 count=0 untouched before
     shift
@@ -34,10 +39,13 @@ rounds() {
     launch "$@"
     before=$(whole $process)
     while [ ! -e attached.status ]; do
-        attach $process || { [ -e attached.status ] || is_dead $process || { cat attach.said; wrong=$((wrong + 1)); }; break; }
+        attach $process || { [ -e attached.status ] || is_dead $process || { cat attach.said; wrong=$((wrong + 1)); };
+            break; }
         sleep 0.0$((RANDOM % 90 + 10))
-        detach $process || { [ -e attached.status ] || is_dead $process || { cat detach.said; wrong=$((wrong + 1)); }; break; }
-        [ "$(whole $process 2> /dev/null)" = "$before" ] || is_dead $process || { echo 'the code has changed'; wrong=$((wrong + 1)); }
+        detach $process || { [ -e attached.status ] || is_dead $process || { cat detach.said; wrong=$((wrong + 1)); };
+            break; }
+        [ "$(whole $process 2> /dev/null)" = "$before" ] || is_dead $process || { echo 'the code has changed';
+            wrong=$((wrong + 1)); }
         [ ! -e "$work/table.$process" ] || { echo 'a table is left'; wrong=$((wrong + 1)); }
         count=$((count + 1))
     done
@@ -60,7 +68,8 @@ started[$process]=1
 until_true 60 grep -qs '^one ' union.out
 settle $process
 until_true 60 attach $process || cat attach.said
-verdict 'a process that waits is armed' 1 "$(grep -c "has not allocated since: its blocks have callers from its next call of malloc on" attach.said)"
+verdict 'a process that waits is armed' 1 \
+    "$(grep -c "has not allocated since: its blocks have callers from its next call of malloc on" attach.said)"
 echo > in
 until_true 60 grep -qs '^again ' union.out
 settle $process
@@ -80,7 +89,8 @@ detach $process
 verdict 'detached' 0 $?
 limited 120 "$kit/leak_dump" $process "$work/without" 2> without.said
 verdict 'then a log by the heap alone' 1 "$(grep -c "there is no table by leak_trace" without.said)"
-verdict 'twice is refused' "leak_attach: process $process is not attached" "$(limited 60 "$trace" --detach $process 2>&1)"
+verdict 'twice is refused' "leak_attach: process $process is not attached" \
+    "$(limited 60 "$trace" --detach $process 2>&1)"
 stop $process
 rm -f ./*.core
 
@@ -92,7 +102,8 @@ died=0 wrong=0 step=$((1 + RANDOM % 3))
 until [ $step -gt 400 ] || is_dead $process; do
     LEAK_CORE_DIE=$step limited 60 ./dying $process 2> dying.said && break
     grep -q 'ended by signal 9' dying.said && died=$((died + 1))
-    limited 60 "$kit/leak_attach" --detach $process 2> detach.said || grep -q 'is not attached' detach.said || { cat detach.said; wrong=$((wrong + 1)); }
+    limited 60 "$kit/leak_attach" --detach $process 2> detach.said || grep -q 'is not attached' detach.said ||
+        { cat detach.said; wrong=$((wrong + 1)); }
     [ "$(whole $process)" = "$before" ] || { echo "step $step: the code has changed"; wrong=$((wrong + 1)); }
     step=$((step + ${STEP:-1 + RANDOM % 5}))
 done
@@ -102,7 +113,8 @@ died=0 step=$((1 + RANDOM % 3))
 until [ $step -gt 400 ] || is_dead $process; do
     LEAK_CORE_DIE=$step limited 60 ./dying --detach $process 2> dying.said && break
     grep -q 'ended by signal 9' dying.said && died=$((died + 1))
-    limited 60 "$kit/leak_attach" --detach $process 2> detach.said || grep -q 'is not attached' detach.said || { cat detach.said; wrong=$((wrong + 1)); }
+    limited 60 "$kit/leak_attach" --detach $process 2> detach.said || grep -q 'is not attached' detach.said ||
+        { cat detach.said; wrong=$((wrong + 1)); }
     [ "$(whole $process)" = "$before" ] || { echo "step $step: the code has changed"; wrong=$((wrong + 1)); }
     limited 60 "$kit/leak_attach" $process 2> attach.said || { cat attach.said; wrong=$((wrong + 1)); }
     step=$((step + ${STEP:-1 + RANDOM % 5}))
@@ -166,8 +178,10 @@ attach $process
 verdict 'a shell is attached' 1 "$(grep -c 'its blocks have callers from now on' attach.said)"
 echo go > in
 until_true 30 grep -qs sleep /proc/$process/comm
-verdict 'it runs another program: the table is of nobody' "$process untraced" "$("$trace" --list | awk 'NR == 2 { print $1, $2 }')"
-verdict 'it is not attached any more' "leak_attach: process $process is not attached" "$(limited 60 "$trace" --detach $process 2>&1)"
+verdict 'it runs another program: the table is of nobody' "$process untraced" \
+    "$("$trace" --list | awk 'NR == 2 { print $1, $2 }')"
+verdict 'it is not attached any more' "leak_attach: process $process is not attached" \
+    "$(limited 60 "$trace" --detach $process 2>&1)"
 stop $process
 limited 60 "$trace" --remove > /dev/null
 verdict 'its table can be removed' 0 "$(ls table.* 2> /dev/null | wc -l)"

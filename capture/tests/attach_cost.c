@@ -1,6 +1,6 @@
 /* Allocates and frees all the time, through some functions, and prints each quarter of a second what a pair of
  * malloc and free cost its first thread: nanoseconds of processor time, nanoseconds by the clock, and the longest
- * time in ms that it stood still. `attach_cost [THREADS]`. */
+ * time in ms that it was stopped. `attach_cost [THREADS]`. */
 #include <pthread.h>
 #include <stdint.h>
 #include <stdio.h>

@@ -1,5 +1,5 @@
 #!/bin/bash
-# What attaching costs a program that only allocates: how long it stood still, as it saw it itself, a malloc and a
+# What attaching costs a program that only allocates: how long it was stopped, as it saw it itself, a malloc and a
 # free before, meanwhile and after, and memory left behind; beside heaptrack -p and uprobes of bpftrace, one after
 # the other in the same minutes. `attach_cost.sh [THREADS..]` (1 4). As root, on a machine that is otherwise idle, or
 # by `chrt -r 1`; not part of `make check`.

@@ -21,8 +21,9 @@ lies() {
 }
 # A leak_attach that ends at the first access out of bounds.
 gcc -std=gnu11 -O1 -g -pthread -fsanitize=address,undefined -fno-sanitize-recover=all \
-    "$kit"/attach/{leak_attach,attach,plan,detach,island,modules,decode,moved,refuse}.c "$kit"/objects/attach/{gate,library}.o \
-    "$kit"/dump/{stop,refuse,text,memory,maps,served,calls,callable,code,frame,front,apart}.c -o checked 2> cc ||
+    "$kit"/attach/{leak_attach,attach,plan,detach,island,modules,decode,moved,refuse}.c \
+    "$kit"/objects/attach/{gate,library}.o \
+    "$kit"/dump/{ending,stop,refuse,text,memory,maps,served,calls,callable,code,frame,front,apart}.c -o checked 2> cc ||
     { cat cc >&2; exit 1; }
 export ASAN_OPTIONS=detect_leaks=0    # (it ends soon)
 # in_bounds NAME WORD..: the same by that one: status 2, and one line.

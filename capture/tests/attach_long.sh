@@ -1,5 +1,5 @@
 #!/bin/bash
-# Attaches real programs under load and detaches them again, ROUNDS times each (50): how long they stood still,
+# Attaches real programs under load and detaches them again, ROUNDS times each (50): how long they were stopped,
 # whether each round went well, how much memory is left behind, and whether they answer as in a run that nobody
 # touched, and end with its status. `attach_long.sh NAME..` takes these alone. Programs that are not installed are
 # left out. As root; not part of `make check`. Servers listen on loopback.
@@ -14,10 +14,10 @@ all=0
 # middle FILE: the middle and the largest number.
 middle() { sort -n "$1" | awk '{ n[NR] = $1 } END { print n[int((NR + 1) / 2)] " | " n[NR] }'; }
 resident() { awk '$1 == "RssAnon:" { print $2 }' "/proc/$1/status"; }
-# tried WORD PID: leak_trace --WORD, and how long the process stood still.
+# tried WORD PID: leak_trace --WORD, and how long the process was stopped.
 tried() {
     limited 60 "$trace" "--$1" "$2" 2> said || { echo "$name: $(tail -n 1 said)" >&2; return 1; }
-    sed -n 's/.*stood still for \([0-9]*\) ms.*/\1/p' said >> "$1.ms"
+    sed -n 's/.*was stopped for \([0-9]*\) ms.*/\1/p' said >> "$1.ms"
 }
 # rounds_of NAME PID: a row of the table.
 rounds_of() {

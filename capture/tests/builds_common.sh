@@ -1,5 +1,6 @@
 # What lines_builds.sh and lines_files.sh share: two builds of a program and its library, and tables of them.
-# build_of NAME OPTION..: in the folder NAME the program builds with its library, which it finds by the path of the folder `app`.
+# build_of NAME OPTION..: in the folder NAME the program builds with its library, which it finds by the path of the
+# folder `app`.
 build_of() {
     mkdir -p "$1" &&
         gcc -g -O1 -fPIC -shared -Wl,-soname,libbuilds.so "${@:2}" "$kit/tests/builds_library.c" -o "$1/libbuilds.so" &&

@@ -47,8 +47,10 @@ limited() { timeout -k 5 "$@" < /dev/null; }
 
 built=$kit/../crates/leak_cli/out/leak_cli
 finder=${LEAK_FIND:-$(command -v leak_find || readlink -e "$built")}
-[ -x "$finder" ] || { echo "no leak_find: install it, name it by LEAK_FIND, or run 'rt run' in crates/leak_cli" >&2; exit 2; }
-[ -x "$kit/leak_log" ] && [ -x "$kit/leak_core" ] && [ -e "$kit/leak_trace.so" ] || { echo "capture is not built: run make in $kit" >&2; exit 2; }
+[ -x "$finder" ] || { echo "no leak_find: install it, name it by LEAK_FIND, or run 'rt run' in crates/leak_cli" >&2;
+    exit 2; }
+[ -x "$kit/leak_log" ] && [ -x "$kit/leak_core" ] && [ -e "$kit/leak_trace.so" ] ||
+    { echo "capture is not built: run make in $kit" >&2; exit 2; }
 
 # find_leaks WORD..: leak_find.
 find_leaks() { limited 120 "$finder" "$@"; }
@@ -92,7 +94,8 @@ until_true() {
     done
 }
 
-# settle PID: waits until the process rests in read(), poll() or epoll_wait(), for three tenths of a second, or a minute in all.
+# settle PID: waits until the process rests in read(), poll() or epoll_wait(), for three tenths of a second, or a minute
+# in all.
 settle() {
     local still=0 end=$((SECONDS + 60))
     while [ $SECONDS -lt $end ]; do
@@ -109,8 +112,8 @@ settle() {
 # is_program PID: whether leak_trace has become the program, or is gone.
 is_program() { ! grep -qsxE 'leak_trace|bash' "/proc/$1/comm"; }
 
-# start PROGRAM ARGS..: runs it traced in the background, gives its id in `process`, and waits until it rests, or as many
-# seconds as `wait` says.
+# start PROGRAM ARGS..: runs it traced in the background, gives its id in `process`, and waits until it rests, or as
+# many seconds as `wait` says.
 start() {
     (cd "$work" && exec "$kit/leak_trace" $options "$@") &
     process=$!
@@ -119,7 +122,8 @@ start() {
     if [ "${wait-}" ]; then sleep "$wait"; else settle $process; fi
 }
 
-# be_ready NAME PROGRAM ARGS..: runs it in the background, its output in NAME.out, until it says so. Its id is in `process`.
+# be_ready NAME PROGRAM ARGS..: runs it in the background, its output in NAME.out, until it says so. Its id is in
+# `process`.
 be_ready() {
     rm -f "$1.out" # of one before, which was ready too
     "${@:2}" > "$1.out" 2>&1 &
@@ -176,7 +180,7 @@ dump() {
     largest=$(stat -c %s "$work"/table.* | sort -n | tail -n 1)
     if [ "$attaches" ]; then
         (ulimit -f $((largest / 1024 + 4000000)); limited 120 "$kit/leak_dump" "$@" 2> "$work/dump.said")
-        grep -vE 'stood still|^leak_dump: (the blocks|now search)' "$work/dump.said" >&2
+        grep -vE 'was stopped|^leak_dump: (the blocks|now search)' "$work/dump.said" >&2
     else
         dump_killed "$@"
     fi

@@ -1,4 +1,5 @@
-"""Completions: each command and subcommand is offered its options, all of them and no other, and the files and processes it takes."""
+"""Completions: each command and subcommand is offered its options, all of them and no other, and the files and
+processes it takes."""
 import os
 import re
 import subprocess
@@ -14,7 +15,8 @@ CASES = {"leak_find": ["leak_find"], **{name: ["leak_find", name] for name in op
 
 def offered(*words, folder=None):
     """What bash offers for the last of these words."""
-    script = '. "$1"; shift; COMP_WORDS=("$@"); COMP_CWORD=$(($# - 1)); _leak_complete; printf "%s\\n" "${COMPREPLY[@]}"'
+    script = ('. "$1"; shift; COMP_WORDS=("$@"); COMP_CWORD=$(($# - 1)); _leak_complete; '
+              'printf "%s\\n" "${COMPREPLY[@]}"')
     command = ["bash", "-c", script, "bash", os.path.abspath(BASH), *words]
     done = subprocess.run(command, cwd=folder, capture_output=True, text=True, check=True)
     assert not done.stderr, done.stderr
@@ -31,10 +33,10 @@ def wanted(name):
 def of_zsh(name):
     """The options of a branch of the completion for zsh, with those of the lists that it names."""
     text = options_of.text_of("completion", "_leak_find")
-    lists = dict(re.findall(r"^_leak_([a-z]+)=(\((?:\n(?:.*\n)*?\)|.*\)$)|'.*'$)", text, re.MULTILINE))
+    lists = dict(re.findall(r"^_leak_([a-z_]+)=(\((?:\n(?:.*\n)*?\)|.*\)$)|'.*'$)", text, re.MULTILINE))
     specs = re.search(rf"^ *{name}\)(?:.*\n)*?.*;;$", text, re.MULTILINE)[0]
     for _ in range(2):  # a list may name another
-        specs = re.sub(r"\$_leak_([a-z]+)", lambda match: lists[match[1]], specs)
+        specs = re.sub(r"\$_leak_([a-z_]+)", lambda match: lists[match[1]], specs)
     found = set(re.findall(r"'\*?(--?[a-z][a-z-]*)=?\[", specs))
     return found | ({"-h", "--help"} if "{-h,--help}" in specs else set())
 
@@ -46,6 +48,11 @@ class Bash(unittest.TestCase):
         for name, words in CASES.items():
             with self.subTest(name):
                 self.assertEqual(offered(*words, "-"), wanted(name))
+
+    def test_commands(self):
+        names = re.search(r"^complete -F _leak_complete (.*)$", options_of.text_of("completion", "leak_find.bash"),
+                          re.MULTILINE)[1]
+        self.assertEqual(set(names.split()), {"leak_find", *options_of.SOURCES})
 
     def test_begun_options(self):
         self.assertEqual(offered("leak_find", "one", "core", "log", "--skip-f"), {"--skip-freed"})

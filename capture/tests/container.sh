@@ -1,9 +1,9 @@
 #!/bin/bash
-# container.sh [SUITE | FOLDER]: a container of another release of Debian, made by debootstrap (or in the folder already), in which
-# perl runs under leak_trace.so, and who holds its memory. The files at its paths are of other builds than ours. Each function
-# that leak_lines names must be that of a symbol of the container's own file that has the address; and without these
-# files nothing is named from ours. Needs root, debootstrap and a mirror of Debian, and takes minutes, so run.sh leaves
-# it out. The last line is `capture: N passed, M failed`.
+# container.sh [SUITE | FOLDER]: a container of another release of Debian, made by debootstrap (or in the folder
+# already), in which perl runs under leak_trace.so, and who holds its memory. The files at its paths are of other builds
+# than ours. Each function that leak_lines names must be that of a symbol of the container's own file that has the
+# address; and without these files nothing is named from ours. Needs root, debootstrap and a mirror of Debian, and takes
+# minutes, so run.sh leaves it out. The last line is `capture: N passed, M failed`.
 . "$(dirname "$0")/common.sh"
 suite=${1:-trixie}
 mirror=http://deb.debian.org/debian
@@ -45,7 +45,8 @@ cp "$kit/leak_trace.so" "$root/"
 mkdir -p "$root/before"
 mkfifo hold
 # With mounts and a root of its own, as in a container: the system tells its paths from there.
-(exec 3<> hold; exec unshare -m --propagation private sh -c 'mount --bind "$0" "$0" && cd "$0" && pivot_root . before && cd / && exec "$@"' \
+(exec 3<> hold; exec unshare -m --propagation private sh \
+    -c 'mount --bind "$0" "$0" && cd "$0" && pivot_root . before && cd / && exec "$@"' \
     "$root" env LD_PRELOAD=/leak_trace.so LEAK_TRACE=/table.%p LEAK_TRACE_DEPTH=8 \
     perl -e 'use POSIX; my @x = map { {a => "b" x $_} } 1 .. 3000; sysread STDIN, $_, 1' <&3 3>&- > /dev/null 2>&1) &
 process=$!
@@ -54,8 +55,10 @@ settle $process
 mkdir kept
 limited 300 "$kit/leak_dump" $process kept/dump 2> dump.said || cat dump.said
 find_leaks holders kept/dump.core kept/dump.log > kept/dump.report
-verdict 'blocks of perl with their callers' yes "$(awk '$1 == "marked" { print ($2 > 1000 ? "yes" : $0) }' kept/dump.report)"
-verdict 'its file is of another build than ours' differ "$(cmp -s "$root/usr/bin/perl" /usr/bin/perl && echo same || echo differ)"
+verdict 'blocks of perl with their callers' yes \
+    "$(awk '$1 == "marked" { print ($2 > 1000 ? "yes" : $0) }' kept/dump.report)"
+verdict 'its file is of another build than ours' differ "$(cmp -s "$root/usr/bin/perl" /usr/bin/perl && echo same ||
+    echo differ)"
 
 # lines NAME WORD..: leak_lines to NAME.lines.
 lines() { "$kit/leak_lines" "${@:2}" kept/dump.report > "$1.lines" 2> "$1.said"; }
@@ -66,7 +69,8 @@ stop $process
 for name in living below; do
     judged $name.lines > judged
     echo "     $name: $(cat judged)"
-    verdict "$name: functions of the container's files, none wrong" yes "$(awk '{ print ($1 > 20 && $3 == 0 ? "yes" : $0) }' judged)"
+    verdict "$name: functions of the container's files, none wrong" yes \
+        "$(awk '{ print ($1 > 20 && $3 == 0 ? "yes" : $0) }' judged)"
 done
 judged none.lines > judged
 verdict 'without these files nothing is named' '0 right 0 wrong' "$(cat judged)"

@@ -33,7 +33,8 @@ begins plain
 shortened 0
 echo > cut.in
 until_true 60 answers 2> /dev/null
-verdict 'it is said' "leak_trace: $process: $work/table.$process: somebody made the table shorter; not traced" "$(cat cut.said)"
+verdict 'it is said' "leak_trace: $process: $work/table.$process: somebody made the table shorter; not traced" \
+    "$(cat cut.said)"
 verdict 'the table is gone' '' "$(ls table.* 2> /dev/null)"
 if [ "$attaches" ]; then
     limited 120 "$kit/leak_dump" "$process" cut 2> said

@@ -66,10 +66,12 @@ verdict 'no segment lies below it' 'absent' "$(python3 "$kit/tests/dump.py" word
     "$(awk '$6 == "[stack]" { print "0x" substr($1, 1, index($1, "-") - 1) }' "/proc/$process/maps")")"
 verdict 'nothing is undumped' 0 "$(python3 "$kit/tests/dump.py" sizes part.core | cut -d ' ' -f 3)"
 for option in '' --whole-stack; do
-    limited 60 "$kit/leak_report" --raw $option "$process" 2> said | awk -v o="leak_report $option:" '/^leaked/ { print o, $2 }'
+    limited 60 "$kit/leak_report" --raw $option "$process" 2> said | awk -v o="leak_report $option:" \
+        '/^leaked/ { print o, $2 }'
 done > reports
 verdict 'leak_report hands it on' 'leak_report : 5 leak_report --whole-stack: 0' "$(xargs < reports)"
-verdict 'of a core it is refused' '2 leak_dump: --whole-stack applies to a running process: the core whole.core is as it was written' \
+verdict 'of a core it is refused' \
+    '2 leak_dump: --whole-stack applies to a running process: the core whole.core is as it was written' \
     "$("$kit/leak_report" --raw --whole-stack whole.core > said 2>&1; echo "$? $(cat said)")"
 verdict '--size says the size' "$(stat -c %s part.core) $(stat -c %s whole.core)" \
     "$("$kit/leak_core" --size "$process") $("$kit/leak_core" --whole-stack --size "$process")"
@@ -84,7 +86,8 @@ if [ "$dumps_core" ]; then
     verdict 'the search leaves it out' '5 1' "$(cat given) $(grep -c -e ' --skip-dead-stack' said)"
     limited 60 "$kit/leak_dump" --core "./$(kernel_core)" given 2> said
     verdict 'leak_dump tells the same' 1 "$(grep -c 'now search: leak_find one .* --skip-dead-stack ' said)"
-    verdict 'without it they are hidden' 'leaked 0 bytes 0' "$(find_leaks one --skip-freed --skip-links given.core given.log 2> said | grep '^leaked')"
+    verdict 'without it they are hidden' 'leaked 0 bytes 0' \
+        "$(find_leaks one --skip-freed --skip-links given.core given.log 2> said | grep '^leaked')"
     rm -f core core.* given.*
 else
     leave_out 'dead stack in a core by the kernel: it writes no core here'
@@ -106,9 +109,9 @@ stop "$process"
 section a thousand threads on one stack
 hold_still crowd
 limited 20 "$kit/leak_dump" "$process" "$work/crowd" 2> crowd.said
-verdict 'the dump ends in time, and says how long it took' 1 "$(grep -c 'stood still' crowd.said)"
+verdict 'the dump ends in time, and says how long it took' 1 "$(grep -c 'was stopped' crowd.said)"
 find_leaks one --skip-freed --skip-links crowd.core crowd.log > crowd.report 2>&1
 verdict 'nothing is named' 'leaked 0 bytes 0' "$(grep '^leaked' crowd.report)"
-sed -n 's/.*stood still for/     standstill/p' crowd.said
+sed -n 's/.*was stopped for/     standstill/p' crowd.said
 stop "$process"
 rm -f ./*.core

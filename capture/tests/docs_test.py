@@ -12,7 +12,8 @@ LINK = re.compile(r"\]\(([^)\s]+)\)")
 
 def pages():
     """The pages of the repository, by their paths in it."""
-    docs = [os.path.join("docs", name) for name in sorted(os.listdir(os.path.join(ROOT, "docs"))) if name.endswith(".md")]
+    docs = [os.path.join("docs", name) for name in sorted(os.listdir(os.path.join(ROOT, "docs")))
+            if name.endswith(".md")]
     return ["README.md", os.path.join("capture", "README.md"), *docs]
 
 

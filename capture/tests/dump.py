@@ -1,14 +1,14 @@
-"""What a core has, for dump.sh:
-dump.py word CORE ADDRESS..: the words there, `absent` where no segment has them.
-dump.py vector CORE: the upper half of ymm8 of each thread where it is not 0, and how often the core has its bytes in all.
-dump.py notes CORE: the types of the notes, in order; `own` is that of leak_core's own.
-dump.py sizes CORE: segments, bytes of them, writable bytes that are listed without contents.
-dump.py order CORE: `first` if program headers and notes stand before all memory, and this by ascending address; else what does not."""
+"""What a core has, for dump.sh: dump.py word CORE ADDRESS..: the words there, `absent` where no segment has them.
+dump.py vector CORE: the upper half of ymm8 of each thread where it is not 0, and how often the core has its bytes in
+all. dump.py notes CORE: the types of the notes, in order; `own` is that of leak_core's own. dump.py sizes CORE:
+segments, bytes of them, writable bytes that are listed without contents. dump.py order CORE: `first` if program headers
+and notes stand before all memory, and this by ascending address; else what does not."""
 import struct
 import sys
 
 PT_LOAD, PT_NOTE, PF_W, PN_XNUM, NT_X86_XSTATE = 1, 4, 2, 0xffff, 0x202
-YMM_UPPER = 576     # where the upper halves stand in the standard format of XSAVE (Intel SDM, volume 1, 13.4.1 and 13.5.3)
+# where the upper halves stand in the standard format of XSAVE (Intel SDM, volume 1, 13.4.1 and 13.5.3)
+YMM_UPPER = 576
 
 
 def headers(core):
@@ -41,7 +41,8 @@ def word(core, address):
 
 def order(core):
     """What keeps a reader that goes from the beginning to the end from knowing what comes."""
-    loads = [(offset, address, filed) for kind, _, offset, address, filed, _ in headers(core) if kind == PT_LOAD and filed]
+    loads = [(offset, address, filed) for kind, _, offset, address, filed, _ in headers(core) if kind == PT_LOAD and
+             filed]
     begin = min(load[0] for load in loads)
     if struct.unpack_from('<Q', core, 32)[0] >= begin:
         return 'headers last'

@@ -15,13 +15,16 @@ serve() {
     limited 300 "$kit/leak_core" "$2" "$1.core" 2> said || cat said
     later=$(memory_of "$2") # it goes on taking and giving back
     [ "$later" -le "$there" ] || there=$later
-    echo "     $1: $(stat -c %s "$1.core") bytes, of $there that are there and $(awk '/^VmSize/ { print $2 }' "/proc/$2/status") kB mapped;" \
-        "standstill $(sed -n 's/.*stood still for //p' said)"
-    grep -v 'stood still' said
+    echo "     $1: $(stat -c %s "$1.core") bytes, of $there that are there and $(awk '/^VmSize/ { print $2 }' \
+        "/proc/$2/status") kB mapped;" \
+        "standstill $(sed -n 's/.*was stopped for //p' said)"
+    grep -v 'was stopped' said
     verdict "$1: no more bytes of memory than are there" yes \
-        "$([ "$(python3 "$kit/tests/dump.py" sizes "$1.core" | cut -d ' ' -f 2)" -le $((there + shared_more)) ] && echo yes)"
+        "$([ "$(python3 "$kit/tests/dump.py" sizes "$1.core" | cut -d ' ' -f 2)" -le $((there + shared_more)) ] &&
+        echo yes)"
     verdict "$1: gdb finds each thread" "$threads" \
-        "$(limited 300 gdb -nx --batch "$(readlink "/proc/$2/exe")" "$1.core" -ex 'thread apply all backtrace 1' 2> /dev/null | grep -c '^Thread ')"
+        "$(limited 300 gdb -nx --batch "$(readlink "/proc/$2/exe")" "$1.core" -ex 'thread apply all backtrace 1' \
+        2> /dev/null | grep -c '^Thread ')"
     : > "$1.log"
     find_leaks one "$1.core" "$1.log" > "$1.report" 2>&1
     verdict "$1: leak_find reads it" 'blocks 0 bytes 0' "$(head -n 1 "$1.report")"
@@ -34,8 +37,10 @@ shared_more=0
 if command -v mariadbd > /dev/null; then
     section mariadbd
     mkdir maria && chown nobody maria
-    limited 120 mariadb-install-db --no-defaults --datadir="$work/maria" --user=nobody --auth-root-authentication-method=normal > maria.out 2>&1
-    mariadbd --no-defaults --datadir="$work/maria" --user=nobody --socket="$work/maria/m.sock" --skip-networking > maria.out 2>&1 &
+    limited 120 mariadb-install-db --no-defaults --datadir="$work/maria" --user=nobody \
+        --auth-root-authentication-method=normal > maria.out 2>&1
+    mariadbd --no-defaults --datadir="$work/maria" --user=nobody --socket="$work/maria/m.sock" \
+        --skip-networking > maria.out 2>&1 &
     process=$!
     started[$process]=1
     ask() { mariadb --no-defaults -S "$work/maria/m.sock" -N -e 'select count(*) from mysql.global_priv' 2> /dev/null; }
@@ -70,13 +75,15 @@ fi
 if command -v node > /dev/null; then
     section node
     node -e 'let held = []; setInterval(() => { held.push(Buffer.alloc(1000)); if (held.length > 1000) held = []; }, 1);
-        require("http").createServer((q, a) => a.end("alive")).listen(28185, "127.0.0.1", () => console.log("ready"))' > node.out 2>&1 &
+        require("http").createServer((q, a) => a.end("alive")).listen(28185, "127.0.0.1", () => console.log("ready"))' \
+        > node.out 2>&1 &
     process=$!
     started[$process]=1
     until_true 60 grep -qx ready node.out
     serve node $process
     verdict 'node answers as before' alive \
-        "$(limited 20 python3 -c 'import urllib.request; print(urllib.request.urlopen("http://127.0.0.1:28185/").read().decode())')"
+        "$(limited 20 python3 \
+        -c 'import urllib.request; print(urllib.request.urlopen("http://127.0.0.1:28185/").read().decode())')"
     stop $process
 else
     leave_out node
@@ -109,7 +116,8 @@ if [ "$postgres" ]; then
     exec $as "$bin/postgres" -D data -k "$work/pg" -c listen_addresses= > postgres.out 2>&1) &
     process=$!
     started[$process]=1
-    ask() { limited 20 $as psql -h "$work/pg" -U nobody -Atc 'select count(*) from pg_class where oid < 1000' postgres 2> /dev/null; }
+    ask() { limited 20 $as psql -h "$work/pg" -U nobody -Atc 'select count(*) from pg_class where oid < 1000' \
+        postgres 2> /dev/null; }
     until_true 60 ask > answer
     # A process that serves one client: it has the shared memory that others wrote.
     (sleep 60 | $as psql -h "$work/pg" -U nobody postgres > /dev/null 2>&1) &

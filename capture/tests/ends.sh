@@ -1,4 +1,5 @@
-# The tables of processes that ended: one that ended by itself leaves none, unless -k asks for it, and one that was killed does.
+# The tables of processes that ended: one that ended by itself leaves none, unless -k asks for it, and one that was
+# killed does.
 section processes that end
 build ends.c
 rm -f table.*
@@ -38,7 +39,8 @@ kib=$(du -k table.* | cut -f 1)
 verdict 'one that was killed takes a megabyte' yes "$([ "$kib" -gt 1024 ] && echo yes)"
 verdict 'below the limit' '' "$(limited 60 "$kit/leak_trace" -m 100 ./hello 2>&1 > /dev/null)"
 limited 60 "$kit/leak_trace" -m 1 ./hello > hello.out 2> said
-verdict 'at the limit: the program runs, and it is said' 'hello 1' "$(cat hello.out) $(grep -c 'all tables together are at their limit .*; not traced' said)"
+verdict 'at the limit: the program runs, and it is said' 'hello 1' \
+    "$(cat hello.out) $(grep -c 'all tables together are at their limit .*; not traced' said)"
 verdict 'no table is made' 1 "$(left)"
 if [ "$(id -u)" = 0 ]; then
     chown 65534 table.*
@@ -53,6 +55,7 @@ options=
 until_true 20 pgrep -P $process > child
 started[$(cat child)]=1
 until_true 20 eval '"$kit/leak_trace" --list | grep -q "not traced"'
-verdict 'a child that has no table is told' "1 children were not traced: ./ends $(cat child)" "$("$kit/leak_trace" --list | tail -n 1)"
+verdict 'a child that has no table is told' "1 children were not traced: ./ends $(cat child)" \
+    "$("$kit/leak_trace" --list | tail -n 1)"
 stop $process "$(cat child)"
 rm -f table.*

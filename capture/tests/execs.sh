@@ -28,8 +28,10 @@ for way in execve execv execvp execvpe execl execlp execle fexecve execveat vfor
     stop "$process" "$child"
 done
 lost failing
-verdict 'an exec that fails' "$child live" "$("$kit/leak_trace" --list | awk -v child="$child" '$1 == child { print $1, $2 }')"
-verdict 'one that has another name now' 'now renamed' "$("$kit/leak_trace" --list | awk -v pid=$process '$1 == pid { print $(NF - 1), $NF }')"
+verdict 'an exec that fails' "$child live" \
+    "$("$kit/leak_trace" --list | awk -v child="$child" '$1 == child { print $1, $2 }')"
+verdict 'one that has another name now' 'now renamed' \
+    "$("$kit/leak_trace" --list | awk -v pid=$process '$1 == pid { print $(NF - 1), $NF }')"
 [ ! "$attaches" ] || look lost.c "$child"
 stop "$process" "$child"
 
@@ -54,7 +56,8 @@ if command -v musl-gcc > /dev/null && musl-gcc "$kit/tests/hello.c" -o hello_mus
         done
     done
     options=
-    printf '#include <stdio.h>\n#include <stdlib.h>\nint main(void) { return puts(getenv("LD_PRELOAD")) < 0; }\n' > shows.c
+    printf '#include <stdio.h>\n#include <stdlib.h>\nint main(void) { return puts(getenv("LD_PRELOAD")) < 0; }\n' \
+        > shows.c
     musl-gcc shows.c -o shows_musl
     verdict 'other libraries stay' '/x/liba.so:/y/libb.so 0 ' "$(ran python3 -c 'import os
 os.environ["LD_PRELOAD"] = "/x/liba.so:" + os.environ["LD_PRELOAD"] + ":/y/libb.so"
@@ -66,12 +69,15 @@ fi
 section the tables that are there
 rm -f table.*
 lost execve
-verdict 'one that runs another program' "$child untraced" "$("$kit/leak_trace" --list | awk -v child="$child" '$1 == child { print $1, $2 }')"
+verdict 'one that runs another program' "$child untraced" \
+    "$("$kit/leak_trace" --list | awk -v child="$child" '$1 == child { print $1, $2 }')"
 stop "$child"
 verdict 'it is dead' "$child dead" "$("$kit/leak_trace" --list | awk -v child="$child" '$1 == child { print $1, $2 }')"
 cp --sparse=always "table.$process" "table.$$"
-printf "$(printf '\\%03o' $(($$ & 255)) $(($$ >> 8 & 255)) $(($$ >> 16 & 255)))" | dd of="table.$$" bs=1 seek=8 conv=notrunc 2> /dev/null
-verdict 'a process that has the id of a dead one' "$$ dead" "$("$kit/leak_trace" --list | awk -v pid=$$ '$1 == pid { print $1, $2 }')"
+printf "$(printf '\\%03o' $(($$ & 255)) $(($$ >> 8 & 255)) $(($$ >> 16 & 255)))" | dd of="table.$$" bs=1 seek=8 \
+    conv=notrunc 2> /dev/null
+verdict 'a process that has the id of a dead one' "$$ dead" \
+    "$("$kit/leak_trace" --list | awk -v pid=$$ '$1 == pid { print $1, $2 }')"
 stop "$process"
 "$kit/leak_trace" --remove > /dev/null
 
@@ -84,7 +90,8 @@ started[$child]=1
 settle "$child"
 if [ "$attaches" ]; then
     limited 120 "$kit/leak_dump" "$child" cloned 2> said
-    verdict 'the table of its parent is not taken for its own' 1 "$(grep -c "process $child is not traced: .* it was cloned from" said)"
+    verdict 'the table of its parent is not taken for its own' 1 \
+        "$(grep -c "process $child is not traced: .* it was cloned from" said)"
 fi
 stop "$process" "$child"
 rm -f cloned.core

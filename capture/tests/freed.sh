@@ -15,7 +15,8 @@ skipped() {
 whole() {
     awk '/^\+ / { getline; next } { print }' "$1.log" > "$1.bare.log"
     diff <(sed 's/^\(leak [^ ]* [^ ]*\) [0-9]*/\1/' "$1.report") \
-        <(find_leaks one "$work/$1.core" "$1.bare.log" 2>&1 | sed 's/^\(leak [^ ]* [^ ]*\) [0-9]*/\1/') > /dev/null && echo same
+        <(find_leaks one "$work/$1.core" "$1.bare.log" 2>&1 | sed 's/^\(leak [^ ]* [^ ]*\) [0-9]*/\1/') > /dev/null &&
+        echo same
 }
 
 # freed NAME SOURCE PID: dumps the process, and looks.
@@ -69,8 +70,10 @@ if [ "$attaches" ]; then
     LD_PRELOAD=$work/stopped.so start ./moving
     limited 120 "$kit/leak_dump" $process "$work/moving" 2> said
     "$kit/leak_walk" --unused moving.table moving.core > moving.unused
-    verdict "while realloc moves a block: the heap's free memory alone" same "$(grep '^[-+] 0x' moving.log | cmp - moving.unused && echo same)"
+    verdict "while realloc moves a block: the heap's free memory alone" same \
+        "$(grep '^[-+] 0x' moving.log | cmp - moving.unused && echo same)"
     verdict 'it is said' 1 "$(grep -c 'just being moved by realloc' said)"
-    verdict 'what the block holds is not named' '' "$(find_leaks one --skip-freed --skip-links moving.core moving.log > moving.report; named moving.report)"
+    verdict 'what the block holds is not named' '' \
+        "$(find_leaks one --skip-freed --skip-links moving.core moving.log > moving.report; named moving.report)"
 fi
 rm -f ./*.core

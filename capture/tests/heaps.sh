@@ -9,7 +9,8 @@ build heaps_storm.c
 
 if command -v musl-gcc > /dev/null; then
     musl-gcc -O1 -g -pthread "$kit/tests/heaps_storm.c" -o storm_musl && heap musl musl 396 ./storm_musl
-    musl-gcc -O1 -g -static -pthread "$kit/tests/heaps_storm.c" -o storm_static && at_rest musl_static musl ./storm_static
+    musl-gcc -O1 -g -static -pthread "$kit/tests/heaps_storm.c" -o storm_static && at_rest musl_static musl \
+        ./storm_static
 else
     leave_out "musl's heap: no musl-gcc"
 fi

@@ -21,7 +21,8 @@ at_rest() {
     core_now "$process" "$kind"
     limited 60 "$walk" --quiet "$kind.core" > "$kind.log" 2> "$kind.said"
     verdict "$kind: at rest: walked, and nothing is said" '0 0' "$? $(wc -c < "$kind.said")"
-    verdict "$kind: the log says whose heap it is" "= leak_log allocator $name" "$(grep '^= leak_log allocator' "$kind.log")"
+    verdict "$kind: the log says whose heap it is" "= leak_log allocator $name" \
+        "$(grep '^= leak_log allocator' "$kind.log")"
     python3 "$kit/tests/heaps_truth.py" "$kind.core" "$kind.log" > "$kind.truth"
     verdict "$kind: at rest: its blocks" 'missing 0 smaller 0' "$(head -n 1 "$kind.truth")"
     echo "     $(tail -n 1 "$kind.truth")"
@@ -30,28 +31,57 @@ at_rest() {
 # damages KIND: changed words refuse the core, or change nothing.
 damages() {
     limited 900 python3 "$kit/tests/heaps_damage.py" "$walk" "$1" "$1.core" "${DAMAGES:-8}" "$seed" > "$1.damaged"
-    verdict "$1: changed words, as by SEED=$seed: no log is wrong" '0 wrong 0' "$? $(sed -n 's/.*\(wrong [0-9]*\) of .*/\1/p' "$1.damaged")"
+    verdict "$1: changed words, as by SEED=$seed: no log is wrong" '0 wrong 0' \
+        "$? $(sed -n 's/.*\(wrong [0-9]*\) of .*/\1/p' "$1.damaged")"
     sed 's/^/     /' "$1.damaged"
 }
 
-# interrupted: what a thread of jemalloc gives back counts as blocks while a signal has stopped it there, though its
-# handler waits elsewhere.
+# interrupted KIND: what a thread of jemalloc gives back counts as blocks while a signal has stopped it there, though its
+# handler waits elsewhere; and of a cache that it puts a block into, the newest item. One with an item twice is refused.
 interrupted() {
-    cp jemalloc.core interrupted.core
+    cp "$1.core" interrupted.core
     python3 "$kit/tests/heaps_interrupted.py" "$walk" interrupted.core > interrupted.told
-    verdict "jemalloc: a thread that a signal stopped: all that it was giving back is told as blocks" yes \
-        "$(awk '{ print ($1 > 0 && $1 == $2 ? "yes" : $0) }' interrupted.told)"
+    verdict "$1: a thread that a signal stopped: what it has in hand is told as blocks; and an item twice is refused" 'all 1 2' \
+        "$(awk '{ print ($1 > 1 && $1 == $2 ? "all" : $1 " " $2), $3, $4 }' interrupted.told)"
     rm -f interrupted.core
 }
 
-# widened: jemalloc's tree of extents has another shape where it was built on another processor: then the blocks are
+# widened KIND: jemalloc's tree of extents has another shape where it was built on another processor: then the blocks are
 # the same.
 widened() {
-    python3 "$kit/tests/heaps_wide.py" jemalloc.core jemalloc.log wide.core &&
+    python3 "$kit/tests/heaps_wide.py" "$1.core" "$1.log" wide.core &&
         limited 60 "$walk" --quiet wide.core > wide.log
-    verdict 'jemalloc: a tree of three levels: the same blocks' "$(grep -v '^[-+]' jemalloc.log | md5sum)" \
+    verdict "$1: a tree of three levels: the same blocks" "$(grep -v '^[-+]' "$1.log" | md5sum)" \
         "$(grep -v '^[-+]' wide.log | md5sum)"
     rm -f wide.core
+}
+
+# memory_of CORE EACH: the status of the walk of a core, and whether it took no more memory than it may: that many bytes
+# for each word of the core and a million more. A list that grows by doubling takes three times its own.
+memory_of() {
+    limited 60 env MEMORY="$PWD/most" LD_PRELOAD=./memory.so "$walk" --quiet "$1" > hostile.log 2> hostile.said
+    echo $? "$(awk -v core="$(stat -c %s "$1")" -v each="$2" '{ print ($1 <= each * (core / 8 + 1048576) ? "yes" : $1) }' most)"
+}
+
+# hostile KIND: a core that claims far more blocks than it can have is refused, before there is memory for them.
+hostile() {
+    local each=2
+    [ "$1" != jemalloc ] || each=64 # 16 bytes for a word of a thread, and the threads
+    [ -e memory.so ] || gcc -shared -fPIC -O1 -o memory.so "$kit/tests/walk_memory.c"
+    cp "$1.core" changed.core
+    python3 "$kit/tests/heaps_hostile.py" "$1" changed.core "$1.log" hostile.core "$2" 8144
+    verdict "$1: a core that claims more than it has: refused, with little memory" '2 yes' "$(memory_of hostile.core $each)"
+    sed 's/^/     /' hostile.said
+    [ "$1" != mimalloc ] || at_most "$@"
+    rm -f changed.core hostile.core
+}
+
+# at_most KIND PARTS: one that claims as many as it can have is walked.
+at_most() {
+    cp "$1.core" changed.core
+    python3 "$kit/tests/heaps_hostile.py" "$1" changed.core "$1.log" hostile.core "$2" 24
+    verdict "$1: a core that claims as much as it can have: walked, with memory for three times its blocks" '0 yes' \
+        "$(memory_of hostile.core 72)"
 }
 
 # planted KIND LEAST PROGRAM..: leak_report names lost blocks, at least so many of 400, and nothing else, but the
@@ -61,12 +91,17 @@ planted() {
     [ "$kind" != tcmalloc ] || others=1
     be_ready "$kind" "${@:3}" 4 3000 12000 5 400
     rm -rf "$kind.kept"
-    LEAK_FIND=$finder limited 120 "$kit/leak_report" --raw --keep "$kind.kept" "$process" > "$kind.shown" 2> "$kind.said"
+    LEAK_FIND=$finder limited 120 "$kit/leak_report" --raw --keep "$kind.kept" \
+        "$process" > "$kind.shown" 2> "$kind.said"
     verdict "$kind: leak_report: something is lost" 1 $?
     stop "$process"
-    verdict "$kind: its options" '--other-heap --skip-ends --skip-freed --all-memory' "$(sed -n 's/^leak_report: leak_find one //p' "$kind.said")"
-    python3 "$kit/tests/heaps_truth.py" "$kind.kept/dump.core" "$kind.kept/dump.log" "$kind.kept/dump.report" > "$kind.found"
-    verdict "$kind: named: $least of 400 at least, and no others" yes "$(awk -v least="$least" -v others=$others '$1 == "lost" { print ($2 == 400 && $4 >= least && $6 == others ? "yes" : $0) }' "$kind.found")"
+    verdict "$kind: its options" '--other-heap --skip-ends --skip-freed --all-memory' \
+        "$(sed -n 's/^leak_report: leak_find one //p' "$kind.said")"
+    python3 "$kit/tests/heaps_truth.py" "$kind.kept/dump.core" "$kind.kept/dump.log" \
+        "$kind.kept/dump.report" > "$kind.found"
+    verdict "$kind: named: $least of 400 at least, and no others" yes \
+        "$(awk -v least="$least" -v others=$others \
+        '$1 == "lost" { print ($2 == 400 && $4 >= least && $6 == others ? "yes" : $0) }' "$kind.found")"
     echo "     $(tail -n 1 "$kind.found")"
     rm -rf "$kind.kept"
 }
@@ -99,7 +134,10 @@ storms_of() {
 heap() {
     at_rest "$1" "$2" "${@:4}"
     damages "$1"
-    [ "$1" != jemalloc ] || { interrupted; widened; }
+    [[ $1 != jemalloc* ]] || { interrupted "$1"; widened "$1"; }
+    [ "$1" != mimalloc ] || hostile mimalloc 200
+    [ "$1" != tcmalloc ] || hostile tcmalloc 20
+    [ "$1" != jemalloc ] || hostile jemalloc 20000
     [ ! "$attaches" ] || planted "$1" "$3" "${@:4}"
     [ ! "$dumps_core" ] || storms_of "$1" "${@:4}"
     rm -f "$1.core"

@@ -26,7 +26,8 @@ def walked():
 def changed(value):
     """One bit more or less, nothing, a word of other memory, text, a little more or less."""
     how = random.randrange(6)
-    return [value ^ 1 << random.randrange(64), value ^ 1 << random.randrange(20), 0, random.getrandbits(64), 0x41414141414141,
+    return [value ^ 1 << random.randrange(64), value ^ 1 << random.randrange(20), 0, random.getrandbits(64),
+            0x41414141414141,
             (value + random.choice([-16, -8, -1, 1, 8, 16, 4096])) % 2**64][how]
 
 
@@ -43,7 +44,8 @@ def changes(address):
 SIZES = [8] * 8 + [16, 64, 512, 4096]       # most changes are of one word
 core = Core(path)
 blocks, unused, anchor, _ = walked()
-records = {name: [at for at in places if core.place(at) is not None] for name, places in RECORDS[kind](core, blocks, anchor).items()}
+records = {name: [at for at in places if core.place(at) is not None] for name, places in RECORDS[kind](core, blocks,
+                                                                                                       anchor).items()}
 records = {name: places for name, places in records.items() if places}
 told = {"refused": 0, "same": 0, "unconfirmed": 0, "wrong": 0}
 for number in range(count):
@@ -65,5 +67,7 @@ for number in range(count):
     else:
         told["wrong"] += 1
         print("%s: %d words from 0x%x on, 0x%x to 0x%x: %d blocks are missing, %d are more, status %d" %
-              (record, len(new), min(new), old[min(new)], new[min(new)], len(blocks - found[0]), len(found[0] - blocks), found[3]))
-print(", ".join("%s %d" % pair for pair in told.items()), "of", ", ".join("%d %s" % (len(records[r]), r) for r in sorted(records)))
+              (record, len(new), min(new), old[min(new)], new[min(new)], len(blocks - found[0]), len(found[0] - blocks),
+               found[3]))
+print(", ".join("%s %d" % pair for pair in told.items()), "of",
+      ", ".join("%d %s" % (len(records[r]), r) for r in sorted(records)))

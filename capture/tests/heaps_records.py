@@ -26,12 +26,46 @@ def jemalloc(core, blocks, anchor):
     """Heads of base blocks, the tree's root and leaves, edatas with their maps, and threads' caches: bins, the heads of
     their items by themselves, and the junk at their stack's ends (jemalloc 5.3,
     include/jemalloc/internal/{base,rtree,edata,cache_bin}.h)."""
+    found = tree(core, anchor, (1 << 48) - 128, 20)
+    for at, count in arrays(core):
+        found["bins"] += [at + 24 * i + 16 for i in range(count)]
+        found["heads"] += [at + 24 * i for i in range(count)]
+        stack = core.word(at) - ((core.word(at) - (core.word(at + 16) >> 16)) & 0xffff) - 8
+        found["junk"] += [stack] if core.word(stack) == 0x7a7a7a7a7a7a7a7a else []
+    return found
+
+
+def jemalloc_old(core, blocks, anchor):
+    """As of 5.3; of caches the bins' ends, their counts by themselves, and what leads from cache to cache and from the
+    arenas to them (jemalloc 5.2.1, include/jemalloc/internal/{extent,tcache,arena}_structs*.h)."""
+    found = tree(core, anchor, (1 << 48) - 2, 18)
+    found.update({"counts": [], "rings": [], "lists": []})
+    for cache, bins in old_caches(core):
+        found["bins"] += [at + 16 for at in bins]
+        found["counts"] += [at for at in bins] + [at + 8 for at in bins]
+        found["rings"] += [cache + at for at in (880, 888, 920, 928, 936, 944, 952)]
+        found["lists"] += [core.word(cache + 952) + 10184, core.word(cache + 952) + 10192]
+    return found
+
+
+def old_caches(core):
+    """Where each cache is, and its bins."""
+    for start, size in core.writable():
+        for i, value in enumerate(core.words(start, size // 8)):
+            cache = start + 8 * i - 936
+            if value == cache + 16 and core.word(cache + 944) == cache + 1000 and core.word(cache + 952):
+                yield cache, [cache + at + 24 * i for at, count in ((16, 36), (1000, 5)) for i in range(count)]
+
+
+def tree(core, anchor, mask, class_at):
+    """Heads of base blocks, the tree's root and leaves, and the records of extents with their maps."""
     found = {"bases": [], "root": [], "leaves": [], "edatas": [], "maps": [], "bins": [], "heads": [], "junk": []}
     bases = []
     for start, size in core.writable():
         for at in range(-(-start // HUGE) * HUGE, start + size - 64, HUGE):
             length, following, _, address, left = core.words(at, 5)
-            if length and length % HUGE == 0 and following % HUGE == 0 and at < address <= at + length == address + left:
+            is_whole = length and length % HUGE == 0 and following % HUGE == 0
+            if is_whole and at < address <= at + length == address + left:
                 bases.append((at, at + length))
                 found["bases"] += [at, at + 8, at + 24, at + 32]
     inside = lambda at: any(start <= at < end for start, end in bases)
@@ -43,18 +77,13 @@ def jemalloc(core, blocks, anchor):
         for page in range(0, 1 << 21, 4096):
             found["leaves"] += used(core, leaf + page, 512)
     for leaf in found["leaves"]:
-        edata = core.word(leaf) & (1 << 48) - 128
+        edata = core.word(leaf) & mask
         if inside(edata):
             edatas.add(edata)
     for edata in edatas:
         found["edatas"] += [edata, edata + 8, edata + 16]
-        if core.word(edata) >> 12 & 1 and core.word(edata) >> 20 & 255 < 36:
+        if core.word(edata) >> 12 & 1 and core.word(edata) >> class_at & 255 < 36:
             found["maps"] += used(core, edata + 64, 8)
-    for at, count in arrays(core):
-        found["bins"] += [at + 24 * i + 16 for i in range(count)]
-        found["heads"] += [at + 24 * i for i in range(count)]
-        stack = core.word(at) - ((core.word(at) - (core.word(at + 16) >> 16)) & 0xffff) - 8
-        found["junk"] += [stack] if core.word(stack) == 0x7a7a7a7a7a7a7a7a else []
     return found
 
 
@@ -62,8 +91,14 @@ def jemalloc_unconfirmed(record, old, new, records):
     """A map with as many free regions, the place in its first page where a large block begins, and where in its stack
     the items of a bin begin."""
     (at, before), after = next(iter(old.items())), next(iter(new.values()))
-    return len(new) == 1 and (record == "heads" or (record == "maps" and bin(before).count("1") == bin(after).count("1"))
-                              or (record == "edatas" and at % 128 == 8 and not (before ^ after) & ~0xfc0))
+    return len(new) == 1 and (record == "heads"
+                              or (record == "maps" and bin(before).count("1") == bin(after).count("1"))
+                              or (record == "edatas" and at % 64 == 8 and not (before ^ after) & ~0xfc0))
+
+
+def jemalloc_old_unconfirmed(record, old, new, records):
+    """The same, and how many items a bin has."""
+    return all(at in records["counts"] for at in new) or jemalloc_unconfirmed(record, old, new, records)
 
 
 HUGE = 2 << 20
@@ -85,7 +120,8 @@ def arrays(core):
     for start, size in core.writable():
         words, i = core.words(start, size // 8), 0
         while i < len(words) - 2:
-            count = bins_at(words[i:i + 192]) if words[i] > 4096 and words[i + 2] > 65536 and not words[i + 2] >> 48 else 0
+            may_begin = words[i] > 4096 and words[i + 2] > 65536 and not words[i + 2] >> 48
+            count = bins_at(words[i:i + 192]) if may_begin else 0
             if count >= 36:
                 yield start + 8 * i, count
             i += 3 * count if count >= 36 else 1
@@ -93,8 +129,8 @@ def arrays(core):
 
 def mimalloc(core, blocks, anchor):
     """Heaps and their threads' data, segments, pages, the slices that lead back, free blocks, and those that other
-    threads freed (mimalloc 2.0, include/mimalloc-types.h)."""
-    found = {"heaps": [], "segments": [], "pages": [], "slices": [], "lists": [], "others": []}
+    threads freed, by page and by heap (mimalloc 2.0, include/mimalloc-types.h)."""
+    found = {"heaps": [], "segments": [], "pages": [], "slices": [], "lists": [], "others": [], "delayed": []}
     heaps = {anchor}
     for start, size in core.writable():
         for segment in range(-(-start // SEGMENT) * SEGMENT, start + size - 512, SEGMENT):
@@ -113,8 +149,9 @@ def mimalloc(core, blocks, anchor):
                     found["others"] += [page + 40] + chain(core, core.word(page + 40) & ~3)
                 at += count
     for heap in heaps - {0}:
-        found["heaps"] += [heap, core.word(heap) + 16, core.word(heap) + 896] + [heap + at for at in (1080, 1104, 2848, 2864, 3024)]
-        found["others"] += [heap + 2840] + chain(core, core.word(heap + 2840))
+        found["heaps"] += [heap, core.word(heap) + 16, core.word(heap) + 896]
+        found["heaps"] += [heap + at for at in (1080, 1104, 2848, 2864, 3024)]
+        found["delayed"] += [heap + 2840] + chain(core, core.word(heap + 2840))
     return found
 
 
@@ -128,7 +165,7 @@ def chain(core, block):
 
 
 def mimalloc_unconfirmed(record, old, new, records):
-    """Of lists of blocks that other threads freed nothing has the length."""
+    """Of a page's list of blocks that other threads freed nothing has the length."""
     return any(at in old for at in records["others"])
 
 
@@ -145,7 +182,8 @@ def tcmalloc(core, blocks, anchor):
         for page in range(0, 8 << 18, 4096):
             found["leaves"] += used(core, core.word(root) + page, 512)
     # words that are left over lead to what is no span, or not theirs
-    page_of = lambda leaf: next((root - anchor) // 8 << 18 | (leaf - core.word(root)) // 8 for root in found["root"] if 0 <= leaf - core.word(root) < 8 << 18)
+    page_of = lambda leaf: next((root - anchor) // 8 << 18 | (leaf - core.word(root)) // 8 for root in found["root"]
+                                if 0 <= leaf - core.word(root) < 8 << 18)
     found["leaves"] = [leaf for leaf in found["leaves"] if core.word(core.word(leaf)) == page_of(leaf)]
     for leaf in found["leaves"]:
         spans.add(core.word(leaf))
@@ -157,9 +195,11 @@ def tcmalloc(core, blocks, anchor):
         for i, value in enumerate(words):
             if value == 1 and i + 152 * 20 < len(words) and all(words[i + 152 * k] == k + 1 for k in range(20)):
                 for at in range(start + 8 * i - 8, start + 8 * i - 8 + 1216 * 80, 1216):
-                    found["central"] += [at + 8, at + 112, at + 120] + used(core, at + 128, 2 * (core.word(at + 1152) & 255))
+                    found["central"] += [at + 8, at + 112, at + 120] + used(core, at + 128,
+                                                                            2 * (core.word(at + 1152) & 255))
                     found["chains"] += [at + 1152]
-            if value == 8 and i + 4 < len(words) and words[i + 4] == 16 and all(words[i + 4 * k] > 16 for k in range(2, 20)):
+            if value == 8 and i + 4 < len(words) and words[i + 4] == 16 and all(words[i + 4 * k] > 16
+                                                                                for k in range(2, 20)):
                 for at in range(start + 8 * i - 24, start + 8 * i - 24 + 32 * 80, 32):
                     found["caches"] += [at + word for word in (0, 8, 24) if core.word(at + word)]
                     found["lists"] += [core.word(at)] if core.word(at) else []
@@ -171,5 +211,5 @@ def tcmalloc_unconfirmed(record, old, new, records):
     return any(at in old for at in records["chains"])
 
 
-UNCONFIRMED = {"jemalloc": jemalloc_unconfirmed, "mimalloc": mimalloc_unconfirmed, "tcmalloc": tcmalloc_unconfirmed}
-RECORDS = {"musl": musl, "jemalloc": jemalloc, "mimalloc": mimalloc, "tcmalloc": tcmalloc}
+UNCONFIRMED = {"jemalloc": jemalloc_unconfirmed, "jemalloc_old": jemalloc_old_unconfirmed, "mimalloc": mimalloc_unconfirmed, "tcmalloc": tcmalloc_unconfirmed}
+RECORDS = {"musl": musl, "jemalloc": jemalloc, "jemalloc_old": jemalloc_old, "mimalloc": mimalloc, "tcmalloc": tcmalloc}

@@ -1,7 +1,8 @@
 #!/bin/bash
-# heaps_releases.sh [RELEASE..]: leak_walk of heaps of the allocators that other Debian releases have, by hand. apt-get
-# fetches their packages, from the network, into a folder of this test. A storm under each must be walked, at rest and
-# killed at any moment, or be refused in a line.
+# heaps_releases.sh [RELEASE..] [/LIBRARY..]: leak_walk of heaps of the allocators that other Debian releases have, or
+# of a library, by hand. apt-get fetches their packages, from the network, into a folder of this test. A storm under
+# each must be walked, at rest and killed at any moment, with words that are changed and with leaks, or be refused in a
+# line. STORMS and DAMAGES say how many.
 . "$(dirname "$0")/common.sh"
 command -v apt-get > /dev/null || { leave_out 'other releases: no apt-get'; complete=1; exit; }
 walk=$kit/leak_walk
@@ -27,41 +28,56 @@ fetch() {
         for package in *.deb; do dpkg -x "$package" .; done)
 }
 
+# kind_of ALLOCATOR: the records that are changed.
+kind_of() {
+    case $1 in
+    'jemalloc 5.2'*) echo jemalloc_old ;;
+    *) echo "${1%% *}" ;;
+    esac
+}
+
 # tried NAME PROGRAM..: walked, or refused.
 tried() {
+    section "$1"
     be_ready "$1" "${@:2}" 3 1500 8000 1
-    local status
+    local status allocator
     core_now "$process" "$1"
     limited 60 "$walk" --quiet "$1.core" > "$1.log" 2> "$1.said"
     status=$?
+    [ -s "$1.core" ] || status='no core'
+    rm -f "$1.core"
+    allocator=$(sed -n 's/^= leak_log allocator //p' "$1.log")
     if [ $status = 0 ]; then
-        python3 "$kit/tests/heaps_truth.py" "$1.core" "$1.log" > "$1.truth"
-        verdict "$1: at rest: its blocks" 'missing 0 smaller 0' "$(head -n 1 "$1.truth")"
-        storms_of "$@"
+        heap "$(kind_of "$allocator")" "$allocator" 390 "${@:2}"
     else
-        [ -s "$1.core" ] || status='no core'
         verdict "$1: refused in a line" '2 0 1' "$status $(wc -l < "$1.log") $(wc -l < "$1.said")"
         sed 's/^/     /' "$1.said"
     fi
-    rm -f "$1.core"
 }
 
-for release in ${@:-bullseye trixie sid}; do
-    section "$release"
-    fetch "$release" || { leave_out "$release: can't be fetched"; continue; }
-    loader=$(find "$release" -name 'ld-linux-x86-64.so.2' -not -type d | head -n 1)
-    libraries=$work/$release/usr/lib/x86_64-linux-gnu
+# try_release RELEASE
+try_release() {
+    local loader libraries library musl
+    fetch "$1" || { leave_out "$1: can't be fetched"; return; }
+    loader=$(find "$1" -name 'ld-linux-x86-64.so.2' -not -type d | head -n 1)
+    libraries=$work/$1/usr/lib/x86_64-linux-gnu
     for library in "$libraries"/lib{jemalloc,mimalloc,tcmalloc,tcmalloc_minimal}.so.?; do
         [ -e "$library" ] || continue
         # one older than the program's C library is preloaded as it is
-        name=$release.$(basename "$library")
         if [ ! "$("$loader" --library-path "$libraries" --list ./heaps_storm 2>&1 | grep 'not found')" ]; then
-            tried "$name" "$loader" --library-path "$libraries" --preload "$library" ./heaps_storm
+            tried "$1.$(basename "$library")" "$loader" --library-path "$libraries" --preload "$library" ./heaps_storm
         else
-            tried "$name" env LD_PRELOAD="$library" ./heaps_storm
+            tried "$1.$(basename "$library")" env LD_PRELOAD="$library" ./heaps_storm
         fi
     done
-    musl=$(find "$work/$release" -path '*musl/libc.so' | head -n 1)
-    [ ! "$musl" ] || [ ! -e storm_musl ] || tried "$release.musl" "$musl" ./storm_musl
+    musl=$(find "$work/$1" -path '*musl/libc.so' | head -n 1)
+    [ ! "$musl" ] || [ ! -e storm_musl ] || tried "$1.musl" "$musl" ./storm_musl
+}
+
+for name in ${@:-bullseye trixie sid}; do
+    case $name in
+    /*) tried "$(basename "$name")" env LD_PRELOAD="$name" ./heaps_storm ;;
+    *) try_release "$name" ;;
+    esac
 done
 complete=1

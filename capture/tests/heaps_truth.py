@@ -1,6 +1,7 @@
-"""heaps_truth.py CORE LOG [REPORT]: a log of a walk against what heaps_storm says in its memory is live, and the blocks that a report names against those
-that it lost. A block of which a thread was just at work may be in the log or not. An aligned block may begin after the start of the block that the
-allocator has. Prints what is missing, what is more, and how many blocks are smaller than what malloc says of them."""
+"""heaps_truth.py CORE LOG [REPORT]: a log of a walk against what heaps_storm says in its memory is live, and the blocks
+that a report names against those that it lost. A block of which a thread was just at work may be in the log or not. An
+aligned block may begin after the start of the block that the allocator has. Prints what is missing, what is more, and
+how many blocks are smaller than what malloc says of them."""
 import bisect
 import sys
 
@@ -46,7 +47,8 @@ for address, size in live.items():
 hand = {holder(address) for address in hands}
 more = [start for start in starts if start not in used and start not in hand]
 print("missing %d smaller %d" % (missing, smaller))
-print("live %d in the log %d more %d of %d bytes" % (len(live), len(blocks), len(more), sum(sizes[start] for start in more)))
+print("live %d in the log %d more %d of %d bytes" % (len(live), len(blocks), len(more),
+                                                     sum(sizes[start] for start in more)))
 if len(sys.argv) > 3:
     with open(sys.argv[3], "rb") as report:
         named = {int(line.split()[1], 16) for line in report if line.startswith(b"leak ")}

@@ -1,4 +1,4 @@
-"""heaps_wide.py CORE LOG WIDE: writes of a core of jemalloc 5.3 one as if it had been built for addresses of 57 bits:
+"""heaps_wide.py CORE LOG WIDE: writes of a core of jemalloc one as if it had been built for addresses of 57 bits:
 its tree of extents has three levels of 15 bits in place of two of 18, and a page has two words in a leaf
 (include/jemalloc/internal/rtree.h). The nodes and leaves lie where the leaves were."""
 import struct
@@ -10,7 +10,17 @@ PAGE, LEAF, AREA, CLEARED = 4096, 512 << 10, 2 << 20, 232 << 48
 path, log, wide = sys.argv[1:4]
 core = Core(path)
 with open(log, "rb") as file:
-    root = read_log(file.read())[2]
+    text = file.read()
+root = read_log(text)[2]
+is_old = b"allocator jemalloc 5.2" in text
+
+
+def entry_of(word):
+    """The record's address, and the class and flags: of 5.2 they have four bytes, and one."""
+    flags = 1 if is_old else 127
+    rest = word >> 48 | (word & 1) << 32 if is_old else word >> 48 << 5 | word & 31
+    return word & (1 << 48) - 1 - flags, rest
+
 
 
 def area_of(start, size):
@@ -57,8 +67,8 @@ for key, node in nodes.items():
 for key, leaf in leaves.items():
     put(nodes[key >> 15] + 8 * (key & 0x7fff), leaf)
 for page, word in pages.items():
-    put(leaves[page >> 15] + 16 * (page & 0x7fff), word & (1 << 48) - 128)
-    put(leaves[page >> 15] + 16 * (page & 0x7fff) + 8, word >> 48 << 5 | word & 31)
+    put(leaves[page >> 15] + 16 * (page & 0x7fff), entry_of(word)[0])
+    put(leaves[page >> 15] + 16 * (page & 0x7fff) + 8, entry_of(word)[1])
 
 new = [(start & -PAGE, area_of(start & -PAGE, start % PAGE) + bytes(area) + area_of(start + AREA, -start % PAGE))
        for start, area in areas.items()]

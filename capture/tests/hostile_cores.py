@@ -1,15 +1,15 @@
-"""hostile_cores.py KIND CORE: writes a core, of about 1 MB if nothing else is said, that is made to take time, memory or log.
-top: the heap's top chunk says that it has 2^46 bytes. notes: each program header names the same notes. segments: each names the same memory.
-threads: threads whose registers have chunks' addresses, arenas, and pages that look like the begin of a heap. pages: such pages and arenas alone.
-path: each block is an object of a class in a file whose path has 400 KB. long: in files whose paths are as long as a path can be. names: a file's
-path has control characters. sparse: 64 GiB of zeros, without a block of its disk. headers: an ELF header with 65,535 program headers, which
-each of the mapped files begins with.
-small: nothing of that, for a fuzzer to begin with: blocks, a free chunk in a list, a block with a mapping of its own, two threads, a file.
-hostile_cores.py table TABLE CORE: a table of leak_trace of 256 GiB, sparse, and a core of its process.
-hostile_cores.py few TABLE CORE: a table of three blocks and a leaf, for a fuzzer too, and a core of its process.
-hostile_cores.py paths TABLE CORE: a table whose blocks each have 32 callers in a file with a long path.
-hostile_cores.py leaves TABLE CORE: a table that tells of freed memory, of 65 MB that the core lacks, and 1,000 times of
-64 KiB that it has."""
+"""hostile_cores.py KIND CORE: writes a core, of about 1 MB if nothing else is said, that is made to take time, memory
+or log. top: the heap's top chunk says that it has 2^46 bytes. notes: each program header names the same notes.
+segments: each names the same memory. threads: threads whose registers have chunks' addresses, arenas, and pages that
+look like the begin of a heap. pages: such pages and arenas alone. path: each block is an object of a class in a file
+whose path has 400 KB. long: in files whose paths are as long as a path can be. names: a file's path has control
+characters. sparse: 64 GiB of zeros, without a block of its disk. headers: an ELF header with 65,535 program headers,
+which each of the mapped files begins with. small: nothing of that, for a fuzzer to begin with: blocks, a free chunk in
+a list, a block with a mapping of its own, two threads, a file. hostile_cores.py table TABLE CORE: a table of leak_trace
+of 256 GiB, sparse, and a core of its process. hostile_cores.py few TABLE CORE: a table of three blocks and a leaf, for
+a fuzzer too, and a core of its process. hostile_cores.py paths TABLE CORE: a table whose blocks each have 32 callers in
+a file with a long path. hostile_cores.py leaves TABLE CORE: a table that tells of freed memory, of 65 MB that the core
+lacks, and 1,000 times of 64 KiB that it has."""
 import struct
 import sys
 
@@ -37,8 +37,8 @@ def files(parts):
 
 
 def core(segments, notes, repeated=(), hole=0):
-    """Segments as (address, bytes); `repeated` are further headers, as (type, address) of the first notes or segment. The last segment may be
-    a hole of the file, which is to be made so much longer."""
+    """Segments as (address, bytes); `repeated` are further headers, as (type, address) of the first notes or segment.
+    The last segment may be a hole of the file, which is to be made so much longer."""
     count = 1 + len(segments) + len(repeated) + (hole > 0)
     at = 64 + 56 * count
     places = [(PT_NOTE, 0, at, len(notes), 0)]
@@ -53,7 +53,8 @@ def core(segments, notes, repeated=(), hole=0):
     if hole:
         places.append((PT_LOAD, TABLE, at, hole, hole))
     head = struct.pack('<16sHHIQQQIHHHHHH', b'\x7fELF\2\1\1', 4, 62, 1, 0, 64, 0, 0, 64, 56, count, 64, 0, 0)
-    headers = b''.join(struct.pack('<IIQQQQQQ', kind, 6, offset, address, 0, filed, held, PAGE) for kind, address, offset, filed, held in places)
+    headers = b''.join(struct.pack('<IIQQQQQQ', kind, 6, offset, address, 0, filed, held, PAGE) for kind, address,
+                       offset, filed, held in places)
     data = head + headers + notes
     for address, content in segments:
         data = pad(data, PAGE) + content
@@ -86,12 +87,14 @@ def heap_of(count, first, top_size=0x20000):
 
 
 def broken_heaps(arenas, pages, threads):
-    """Pages that each look like the begin of a heap, which breaks at its end, and arenas that are to be found somewhere."""
+    """Pages that each look like the begin of a heap, which breaks at its end, and arenas that are to be found
+    somewhere."""
     data = bytearray(chunks(pages * PAGE // 32, 0))
     data[-56:-48] = bytes(8)
     top = HEAP + len(data) - 16
     all_arenas = b''.join(arena(ARENA + i * ARENA_BYTES, top, 1 << 40, 2, ARENA) for i in range(arenas))
-    statuses = b''.join(status([HEAP + 32 * ((27 * i + k) % (pages * PAGE // 32)) for k in range(26)] + [0x21]) for i in range(threads))
+    statuses = b''.join(status([HEAP + 32 * ((27 * i + k) % (pages * PAGE // 32)) for k in range(26)] + [0x21])
+                        for i in range(threads))
     return core([(ARENA, pad(all_arenas, PAGE)), (HEAP, bytes(data))], statuses)
 
 
@@ -113,7 +116,8 @@ def small():
     struct.pack_into('<QQ', bins, TO_TOP + 16, free, free)
     mapped = struct.pack('<QQ', 0, PAGE | 2) + bytes(PAGE - 16)
     threads = status([heap + 32 * i for i in range(26)] + [0x21]) + status([0] * 27)
-    return core([(at, bytes(bins)), (heap, bytes(words)), (TABLE, mapped)], threads + files([(FILE, FILE + PAGE, b'/lib/x')]))
+    return core([(at, bytes(bins)), (heap, bytes(words)), (TABLE, mapped)],
+                threads + files([(FILE, FILE + PAGE, b'/lib/x')]))
 
 
 def made(kind):
@@ -124,7 +128,8 @@ def made(kind):
     if kind == 'notes':
         return core(heap_of(100, 0), status([0] * 27) * 1000, [(PT_NOTE, 0)] * 11000)
     if kind == 'segments':
-        return core([(HEAP << 1, bytes(1 << 19))], b'', [(PT_LOAD, (HEAP << 1) + (1 << 20) * i) for i in range(1, 9000)])
+        return core([(HEAP << 1, bytes(1 << 19))], b'',
+                    [(PT_LOAD, (HEAP << 1) + (1 << 20) * i) for i in range(1, 9000)])
     if kind == 'threads':
         return broken_heaps(200, 64, 800)
     if kind == 'pages':
@@ -141,7 +146,8 @@ def made(kind):
 def table(depth, used, entries, leaves=0):
     """A table: the head, the entries, and after them the leaves (table.h)."""
     head = bytearray(16384)
-    struct.pack_into('<8sQQQQQQQQQ', head, 0, b'leaktab7', 1, depth, TABLE, used, 0, 0, 0, 16384 + used * 8 * (3 + depth) if leaves else 16384, leaves)
+    struct.pack_into('<8sQQQQQQQQQ', head, 0, b'leaktab7', 1, depth, TABLE, used, 0, 0, 0,
+                     16384 + used * 8 * (3 + depth) if leaves else 16384, leaves)
     return bytes(head) + entries
 
 
@@ -163,7 +169,8 @@ def main():
             file.write(table(1, 3, struct.pack('<12Q', *words) + leaf, 1))
         elif kind == 'paths':
             entry = struct.pack('<35Q', *[~value % (1 << 64) for value in [0x1000, 16, 1] + [FILE + 64] * 32])
-            file.write(table(32, 3000, b''.join(struct.pack('<Q', ~(0x1001 + 32 * i) % (1 << 64) | 1) + entry[8:] for i in range(3000))))
+            file.write(table(32, 3000, b''.join(struct.pack('<Q', ~(0x1001 + 32 * i) % (1 << 64) | 1) + entry[8:]
+                                                for i in range(3000))))
         elif kind == 'leaves':
             file.write(table(1, 0, leaves(), 2000))
         elif kind == 'sparse':

@@ -15,7 +15,8 @@ by_gdb() {
     limited 120 "$kit/leak_dump" --core "$1.gdb" "table.$2" "$1" 2> said
     search "$1"
     verdict "$1: the core says nothing" 'undumped 0' "$(grep '^undumped' "$1.report")"
-    verdict "$1: what is missing is told" "$((8 * 4096))" "$(sed -n 's/.* keeps \([0-9]*\) bytes out of cores .*/\1/p' said)"
+    verdict "$1: what is missing is told" "$((8 * 4096))" \
+        "$(sed -n 's/.* keeps \([0-9]*\) bytes out of cores .*/\1/p' said)"
     verdict "$1: by the log too" "= leak_log kept out $((8 * 4096))" "$(grep 'kept out' "$1.log")"
 }
 if [ "$attaches" ] && command -v gdb > /dev/null; then

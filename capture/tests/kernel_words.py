@@ -1,5 +1,6 @@
-"""kernel_words.py CORE: how many threads were not asked for their alternate signal stack, then a line `KIND OF 0xVALUE SIZE` for each
-word of the note LEAKFIND, if the segment that it names has the same words in the same order."""
+"""kernel_words.py CORE: how many threads were not asked for their alternate signal stack, then a line
+`KIND OF 0xVALUE SIZE` for each word of the note LEAKFIND, if the segment that it names has the same words in the same
+order."""
 import struct
 import sys
 
@@ -35,7 +36,8 @@ def main():
     address, unasked, _ = struct.unpack_from("<3Q", note)
     words = [WORD.unpack_from(note, at) for at in range(24, len(note), WORD.size)]
     values = struct.pack(f"<{len(words)}Q", *(word[2] for word in words))
-    found = [core[at:at + len(values)] for kind, flags, at, start, _, _ in headers(core) if kind == 1 and flags == 6 and start == address]
+    found = [core[at:at + len(values)] for kind, flags, at, start, _, _ in headers(core) if kind == 1 and flags == 6 and
+             start == address]
     if found != ([values] if words else []):
         raise SystemExit("the segment has other words")
     print(unasked)

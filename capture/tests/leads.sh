@@ -1,7 +1,8 @@
 #!/bin/bash
-# Does anything lead to what leak_report names? Of programs of Debian as they are, each for some seconds: how many blocks are lost by the
-# report, to how many of them a search that knows nothing of any allocator finds a word (leads.c), to how many of these only
-# words in memory that malloc gave back, and how many are lost if no thread is asked for its signal stack. Programs that are not installed are left out. As root; not part of `make check`.
+# Does anything lead to what leak_report names? Of programs of Debian as they are, each for some seconds: how many
+# blocks are lost by the report, to how many of them a search that knows nothing of any allocator finds a word
+# (leads.c), to how many of these only words in memory that malloc gave back, and how many are lost if no thread is
+# asked for its signal stack. Programs that are not installed are left out. As root; not part of `make check`.
 . "$(dirname "$0")/common.sh"
 gcc -O2 "$kit/tests/leads.c" -o leads || exit 1
 export LEAK_FIND=$finder
@@ -50,7 +51,9 @@ started[$process]=1
 sleep 1
 "$kit/leak_report" --raw --keep tried "$process" > report 2> said
 awk '/^@ size/ { print "leak", $(NF - 1), 9, 1, "head ?" }' tried/dump.log > all.report
-verdict 'blocks that are held are led to' yes "$(./leads tried/dump.core tried/dump.log all.report "$process" 2> words | awk '$1 > 99 && $2 * 2 > $1 { print "yes" }')"
+verdict 'blocks that are held are led to' yes \
+    "$(./leads tried/dump.core tried/dump.log all.report "$process" 2> words |
+    awk '$1 > 99 && $2 * 2 > $1 { print "yes" }')"
 stop "$process"
 
 cat > busy.erl <<'END'
@@ -93,7 +96,8 @@ try bird bird -f -c bird.conf -s bird.ctl -P bird.pid
 printf 'defaults\n mode http\n timeout connect 5s\n timeout client 5s\n timeout server 5s\nfrontend f\n bind 127.0.0.1:28082\n' > haproxy.cfg
 try haproxy haproxy -db -f haproxy.cfg
 try Xvfb Xvfb :77 -screen 0 640x480x8
-try python3 python3 -c 'import json, re, sys, faulthandler; faulthandler.enable(); held = [json.loads("[1, 2, {}]") for _ in range(999)]; sys.stdin.read()'
+try python3 python3 \
+    -c 'import json, re, sys, faulthandler; faulthandler.enable(); held = [json.loads("[1, 2, {}]") for _ in range(999)]; sys.stdin.read()'
 try perl perl -e 'my %h = map { $_ => [1 .. 9] } 1 .. 999; <STDIN>'
 try gawk gawk 'BEGIN { for (i = 0; i < 999; i++) a[i] = i "x"; getline }'
 try gdb gdb -nx -q "$finder"
@@ -101,8 +105,10 @@ try bash bash -c 'a=($(seq 999)); read -r x'
 try ssh-agent ssh-agent -D
 rm -rf pg
 postgres=$(ls -d /usr/lib/postgresql/*/bin 2> /dev/null | tail -n 1)
-if [ "$postgres" ] && install -d -o postgres pg && setpriv --reuid=postgres --regid=postgres --clear-groups "$postgres/initdb" -D "$work/pg" > /dev/null 2>&1; then
-    try postgres setpriv --reuid=postgres --regid=postgres --clear-groups "$postgres/postgres" -D "$work/pg" -p 28432 -k /tmp
+if [ "$postgres" ] && install -d -o postgres pg && setpriv --reuid=postgres --regid=postgres \
+    --clear-groups "$postgres/initdb" -D "$work/pg" > /dev/null 2>&1; then
+    try postgres setpriv --reuid=postgres --regid=postgres --clear-groups "$postgres/postgres" -D "$work/pg" -p 28432 \
+        -k /tmp
 fi
 echo "programs with rows to which something leads: $false_rows of $programs"
 complete=1

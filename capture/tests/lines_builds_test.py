@@ -1,4 +1,5 @@
-"""Tests of how leak_lines reads builds from a log, and of how it opens files: only regular ones, and none outside of a root."""
+"""Tests of how leak_lines reads builds from a log, and of how it opens files: only regular ones, and none outside of a
+root."""
 import os
 import sys
 import tempfile
@@ -27,13 +28,16 @@ class Log(Folder):
         return builds.read(self.write("log", content))
 
     def test_build_ids_by_path(self):
-        log = b"= leak_log files\n= leak_log file ab01 /a b\n= leak_log file - /c\n@ x + 0x10 0x8\n= leak_log file cd02 /a b\n"
+        log = (b"= leak_log files\n= leak_log file ab01 /a b\n= leak_log file - /c\n@ x + 0x10 0x8\n"
+               b"= leak_log file cd02 /a b\n")
         self.assertEqual(self.read(log)[:2], (True, {"/a b": {"ab01", "cd02"}, "/c": {""}}))
         self.assertEqual(self.read(b"= leak_log file ? /a\n").ids, {"/a": {"?"}})
 
     def test_what_tells_no_build(self):
-        for log in (b"", b"= Start\n@ a + 0x10 0x8\n", b"@ = leak_log files\n", b"= leak_log file ab01 /a", b"= leak_log file AB /a\n",
-                    b"= leak_log file ab01\n", b"= leak_log file ab01 \n", b"x= leak_log file ab01 /a\n", b"= leak_log file abc"):
+        for log in (b"", b"= Start\n@ a + 0x10 0x8\n", b"@ = leak_log files\n", b"= leak_log file ab01 /a",
+                    b"= leak_log file AB /a\n",
+                    b"= leak_log file ab01\n", b"= leak_log file ab01 \n", b"x= leak_log file ab01 /a\n",
+                    b"= leak_log file abc"):
             self.assertEqual(self.read(log), builds.NONE, log)
 
     def test_lines_are_whole_wherever_the_log_is_cut(self):
@@ -66,14 +70,20 @@ class Opened(Folder):
         self.write("root/lib/file", b"inside")
         self.write("outside", b"outside")
         root = os.path.join(self.folder, "root")
-        for name, target in (("absolute", "/lib/file"), ("relative", "lib/file"), ("up", "../../../lib/file"), ("out", "../outside"),
-                             ("host", os.path.join(self.folder, "outside")), ("folder", "/lib/"), ("parent", ".."), ("self", "self"),
+        for name, target in (("absolute", "/lib/file"), ("relative", "lib/file"), ("up", "../../../lib/file"),
+                             ("out", "../outside"),
+                             ("host", os.path.join(self.folder, "outside")), ("folder", "/lib/"), ("parent", ".."),
+                             ("self", "self"),
                              ("chain", "absolute"), ("two", "/folder/../lib/./file")):
             os.symlink(target, os.path.join(root, name))
-        for path, content in (("/lib/file", b"inside"), ("absolute", b"inside"), ("/relative", b"inside"), ("/up", b"inside"),
-                              ("/chain", b"inside"), ("/two", b"inside"), ("/folder/file", b"inside"), ("/../../lib/file", b"inside"),
-                              ("/parent/parent/lib/file", b"inside"), ("/out", None), ("/host", None), ("/../outside", None),
-                              ("/parent/outside", None), ("/self", None), ("/lib/file/x", None), ("/none", None), ("/lib", None), ("", None)):
+        for path, content in (("/lib/file", b"inside"), ("absolute", b"inside"), ("/relative", b"inside"),
+                              ("/up", b"inside"),
+                              ("/chain", b"inside"), ("/two", b"inside"), ("/folder/file", b"inside"),
+                              ("/../../lib/file", b"inside"),
+                              ("/parent/parent/lib/file", b"inside"), ("/out", None), ("/host", None),
+                              ("/../outside", None),
+                              ("/parent/outside", None), ("/self", None), ("/lib/file/x", None), ("/none", None),
+                              ("/lib", None), ("", None)):
             self.assertEqual(self.below(path), content, path)
 
     def test_a_long_path_or_many_links_are_refused(self):
@@ -112,7 +122,8 @@ class Sources(unittest.TestCase):
     def test_a_file_must_be_the_only_build_that_ran(self):
         with opened.open_here(self.own) as file:
             own = sources.elf.loaded_build_id(file)
-        for ids, problem in (({own}, "" if own else "build not known"), ({"ab"}, "another build"), ({own, "ab"}, "another build")):
+        for ids, problem in (({own}, "" if own else "build not known"), ({"ab"}, "another build"),
+                             ({own, "ab"}, "another build")):
             self.assertEqual(self.problem(builds.Builds(True, {self.own: ids})), problem)
         for is_lenient, problem in ((False, "build not known"), (True, "")):
             self.assertEqual(self.problem(builds.Builds(True, {self.own: {"?"}}), is_lenient), problem)

@@ -1,8 +1,9 @@
-# Where files are looked for: kept beside the dump, below the root of a process that lives, and their debug files below roots and by
-# debuginfod.
+# Where files are looked for: kept beside the dump, below the root of a process that lives, and their debug files below
+# roots and by debuginfod.
 section files of a process, and their debug files
 . "$kit/tests/builds_common.sh"
-mkdir -p older newer app && rm -rf older/* newer/* app/* && build_of older && build_of newer -DNEWER && installs older || exit 1
+mkdir -p older newer app && rm -rf older/* newer/* app/* && build_of older && build_of newer -DNEWER &&
+    installs older || exit 1
 export LEAK_FIND=$finder
 
 # reports NAME WORD..: leak_report to NAME.lines, what it says to NAME.said, its status to `status`.
@@ -14,7 +15,9 @@ own=older_library_table
 unprepared ./app/builds
 reports now --keep files_kept --files $process
 verdict 'files are kept: status, names' "1 $own" "$status $(names_in now.lines | tr -d ' ')"
-verdict 'they are the ones that ran' same "$(cmp -s older/libbuilds.so "files_kept/dump.files$work/app/libbuilds.so" && cmp -s older/builds "files_kept/dump.files$work/app/builds" && echo same)"
+verdict 'they are the ones that ran' same \
+    "$(cmp -s older/libbuilds.so "files_kept/dump.files$work/app/libbuilds.so" && cmp -s older/builds \
+    "files_kept/dump.files$work/app/builds" && echo same)"
 verdict 'the loader and libc too' 2 "$(find files_kept/dump.files -name 'ld-linux*' -o -name 'libc.so.6' | wc -l)"
 installs newer
 reports later -n 99 $process
@@ -25,7 +28,8 @@ if [ "$(id -u)" = 0 ]; then
     rm app/*
     reports gone --keep files_gone --files $process
     stop $process
-    verdict 'deleted: kept' same "$(cmp -s older/libbuilds.so "files_gone/dump.files$work/app/libbuilds.so (deleted)" && echo same)"
+    verdict 'deleted: kept' same \
+        "$(cmp -s older/libbuilds.so "files_gone/dump.files$work/app/libbuilds.so (deleted)" && echo same)"
     lines files_gone/dump
     verdict 'deleted: names' "$own" "$(names_in files_gone/dump.lines | tr -d ' ')"
 else
@@ -34,7 +38,8 @@ else
 fi
 stop $process
 reports core --keep files_more --files files_gone/dump.core
-verdict '--files of a core' '2 leak_report: --files keeps the files of a running process, and this is a core' "$status $(cat core.said)"
+verdict '--files of a core' '2 leak_report: --files keeps the files of a running process, and this is a core' \
+    "$status $(cat core.said)"
 reports alone --files $$
 verdict '--files alone' '2 leak_report: --files needs --keep, which names the folder' "$status $(cat alone.said)"
 
@@ -50,7 +55,8 @@ else
 fi
 
 # Debug files below a root, and by debuginfod.
-mkdir -p debug && cp older/libbuilds.so debug/ && objcopy --only-keep-debug older/libbuilds.so debug/libbuilds.debug && strip older/libbuilds.so &&
+mkdir -p debug && cp older/libbuilds.so debug/ && objcopy --only-keep-debug older/libbuilds.so \
+    debug/libbuilds.debug && strip older/libbuilds.so &&
     installs older || exit 1
 identity=$(id_of older/libbuilds.so)
 place=$(nm debug/libbuilds.so | awk '/ older_library_give$/ { print $1 }')
@@ -73,7 +79,8 @@ with socket.socket() as it: it.bind(("127.0.0.1", 0)); print(it.getsockname()[1]
     env -u DEBUGINFOD_URLS debuginfod -d "$work/debuginfod.sqlite" -p "$port" -F "$work/debug" > debuginfod.said 2>&1 &
     server=$!
     started[$server]=1
-    served() { DEBUGINFOD_CACHE_PATH=$work/cache DEBUGINFOD_URLS=http://127.0.0.1:$port limited 20 debuginfod-find debuginfo "$identity" > /dev/null 2>&1 || { rm -rf cache; false; }; }
+    served() { DEBUGINFOD_CACHE_PATH=$work/cache DEBUGINFOD_URLS=http://127.0.0.1:$port limited 20 debuginfod-find \
+        debuginfo "$identity" > /dev/null 2>&1 || { rm -rf cache; false; }; }
     until_true 60 served
     DEBUGINFOD_URLS=http://127.0.0.1:$port lines stripped
     verdict 'a debug file by debuginfod' '1 0' "$(with_line stripped.lines) $(wc -l < stripped.lines.said)"
@@ -81,7 +88,8 @@ with socket.socket() as it: it.bind(("127.0.0.1", 0)); print(it.getsockname()[1]
     verdict 'without DEBUGINFOD_URLS none' 0 "$(with_line stripped.lines)"
     stop $server
     DEBUGINFOD_URLS=http://127.0.0.1:$port lines stripped
-    verdict 'no server: the name alone' '0 1' "$(with_line stripped.lines) $(grep -c ' older_library_give ' stripped.lines)"
+    verdict 'no server: the name alone' '0 1' \
+        "$(with_line stripped.lines) $(grep -c ' older_library_give ' stripped.lines)"
 else
     leave_out 'debuginfod, which is missing'
 fi

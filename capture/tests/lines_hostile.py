@@ -1,7 +1,7 @@
 """lines_hostile.py doubling N: assembly of a function whose mangled name has N types, each of the one before twice.
-lines_hostile.py around N: of N functions that all begin at one place and have all of it.
-lines_hostile.py suffixes N LENGTH FILE: an ELF file of N functions around one place, each of whose names is another end of
-one text of this length."""
+lines_hostile.py around N: of N functions that all begin at one place and have all of it. lines_hostile.py suffixes N
+LENGTH FILE: an ELF file of N functions around one place, each of whose names is another end of one text of this
+length."""
 import struct
 import sys
 
@@ -22,14 +22,16 @@ def doubling(count):
 def around(count):
     """The functions."""
     names = ["first"] + [f"f{it}" for it in range(count)]
-    return [line for name in names for line in (f".globl {name}", f".type {name},@function", f"{name}:")] + [".skip 65536,0x90"] + [
+    return [line for name in names for line in (f".globl {name}", f".type {name},@function",
+                                                f"{name}:")] + [".skip 65536,0x90"] + [
         f".size {name},65536" for name in names]
 
 
 def suffixes(count, length):
     """The file (gABI): its header, a segment of all of it, names, symbols, and sections."""
     names, at = b"\0" + b"f" * length + b"\0", 64 + 56
-    symbols = bytes(24) + b"".join(struct.pack("<IBBHQQ", 1 + it % (length // 2), 0x12, 0, 1, 0, at) for it in range(count))
+    symbols = bytes(24) + b"".join(struct.pack("<IBBHQQ", 1 + it % (length // 2), 0x12, 0, 1, 0, at)
+                                   for it in range(count))
     section_names = b"\0.text\0.symtab\0.strtab\0.shstrtab\0"
     bodies = [(names, 15, 3, 0, 0), (symbols, 7, 2, 2, 24), (section_names, 23, 3, 0, 0)]
     sections, content = [bytes(64), struct.pack("<IIQQQQIIQQ", 1, 1, 6, 0, 0, at, 0, 0, 1, 0)], b""

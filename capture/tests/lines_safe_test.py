@@ -48,13 +48,15 @@ class Limited(unittest.TestCase):
 
     def test_a_line_that_is_too_long_is_unknown(self):
         long = limited.LONGEST_LINE
-        command = "; ".join(f"head -c {size} /dev/zero | tr '\\0' x; echo" for size in (long, long + 1, 3 * long)) + "; echo a"
+        command = "; ".join(f"head -c {size} /dev/zero | tr '\\0' x; echo" for size in (long, long + 1,
+                                                                                        3 * long)) + "; echo a"
         self.assertEqual(run(command, limits())[0], ["x" * long, "??", "??", "a"])
 
     def test_no_variable_is_handed_on_by_which_files_are_found(self):
         os.environ["DEBUGINFOD_URLS"] = "http://127.0.0.1:9"
         self.addCleanup(os.environ.pop, "DEBUGINFOD_URLS")
-        self.assertEqual({line.split("=")[0] for line in run("exec env", limits())[0]} - {"PWD", "OLDPWD", "SHLVL", "_"}, {"PATH", "LC_ALL"})
+        self.assertEqual({line.split("=")[0] for line in run("exec env", limits())[0]} - {"PWD", "OLDPWD", "SHLVL",
+                                                                                          "_"}, {"PATH", "LC_ALL"})
 
 
 class Tools(unittest.TestCase):
@@ -71,15 +73,19 @@ class Tools(unittest.TestCase):
         self.assertEqual(sum(map(len, tools.read_symbols(lines, [2, 3], []).around.values())), 5)
 
     def test_elfutils_and_binutils_are_asked(self):
-        source = b"static inline __attribute__((always_inline)) int in(int x) { return x * x; }\nint out(int x) { return in(x); }\n"
+        source = (b"static inline __attribute__((always_inline)) int in(int x) { return x * x; }\n"
+                  b"int out(int x) { return in(x); }\n")
         with tempfile.TemporaryDirectory() as folder:
             os.chmod(folder, 0o755)
             path = os.path.join(folder, "x.so")
-            subprocess.run(["gcc", "-g", "-O1", "-shared", "-fPIC", "-x", "c", "-", "-o", path], input=source, check=True)
+            subprocess.run(["gcc", "-g", "-O1", "-shared", "-fPIC", "-x", "c", "-", "-o", path], input=source,
+                           check=True)
             symbols = subprocess.run(["nm", path], stdout=subprocess.PIPE, check=True).stdout
             address = next(int(line.split()[0], 16) for line in symbols.split(b"\n") if line.endswith(b" T out"))
-            for command, inlined in ((tools.LINES[0], "in"), (tools.LINES[1], "out")):  # binutils 2.40 tell the outer one twice
-                with unittest.mock.patch.object(tools, "command_of", lambda _, command=command: command), opened.open_here(path) as file:
+            # binutils 2.40 tell the outer one twice
+            for command, inlined in ((tools.LINES[0], "in"), (tools.LINES[1], "out")):
+                with unittest.mock.patch.object(tools, "command_of", lambda _,
+                                                command=command: command), opened.open_here(path) as file:
                     found = [name for name, _ in tools.ask_lines(file, [address])[address]]
                 self.assertIn(found, ([inlined, "out"], ["in", "out"]), command)
 
@@ -88,14 +94,17 @@ class Demangled(unittest.TestCase):
     def test_names(self):
         names = demangle.Demangler()
         self.addCleanup(names.end)
-        for name, wanted in (("_ZTVN6shapes6squareE", "vtable for shapes::square"), ("main", "main"), ("_start", "_start"), ("", ""),
-                             ("_ZN1aC1Ev.cold", "a::a() [clone .cold]"), ("_Zx\n", "_Zx\n"), ("_Z" + "x" * 99999, "_Z" + "x" * 99999)):
+        for name, wanted in (("_ZTVN6shapes6squareE", "vtable for shapes::square"), ("main", "main"),
+                             ("_start", "_start"), ("", ""),
+                             ("_ZN1aC1Ev.cold", "a::a() [clone .cold]"), ("_Zx\n", "_Zx\n"),
+                             ("_Z" + "x" * 99999, "_Z" + "x" * 99999)):
             self.assertEqual(names.of(name), wanted)
 
 
 class Shown(unittest.TestCase):
     def test_escapes(self):
-        for text, wanted in (("plain é", "plain é"), ("\\", "\\\\"), ("a\x1b\x7f\n\r\t\0", "a\\x1b\\x7f\\n\\r\\t\\x00"), ("\udcff\udc80", "\\xff\\x80"),
+        for text, wanted in (("plain é", "plain é"), ("\\", "\\\\"), ("a\x1b\x7f\n\r\t\0", "a\\x1b\\x7f\\n\\r\\t\\x00"),
+                             ("\udcff\udc80", "\\xff\\x80"),
                              ("\x9b", "\\xc2\\x9b"), ("\u202e\u2028", "\\xe2\\x80\\xae\\xe2\\x80\\xa8"), ("", "")):
             self.assertEqual(shown.escaped(text), wanted)
 

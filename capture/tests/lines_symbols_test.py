@@ -19,7 +19,8 @@ def file_with(name, content):
     header = struct.pack("<16sHHIQQQIHHHHHH", b"\x7fELF\x02\x01\x01", 3, 62, 1, 0, 0, 64, 0, 64, 0, 0, 64, 3, 1)
     start = 64 + 3 * 64
     sections = [(0, 0, 0, 0), (1, 3, start, len(names)), (11, 1, start + len(names), len(content))]
-    return header + b"".join(struct.pack("<IIQQQQIIQQ", it[0], it[1], 0, 0, it[2], it[3], 0, 0, 1, 0) for it in sections) + names + content
+    return header + b"".join(struct.pack("<IIQQQQIIQQ", it[0], it[1], 0, 0, it[2], it[3], 0, 0, 1, 0)
+                             for it in sections) + names + content
 
 
 class Elf(unittest.TestCase):
@@ -45,7 +46,8 @@ class Elf(unittest.TestCase):
 
     def test_build_ids(self):
         other = struct.pack("<III", 2, 4, 1) + b"X\0\0\0" + b"1234"
-        for note, identity in ((NOTE, "abcdef"), (other + NOTE, "abcdef"), (other, ""), (NOTE[:-2], ""), (b"", ""), (NOTE[:11], ""),
+        for note, identity in ((NOTE, "abcdef"), (other + NOTE, "abcdef"), (other, ""), (NOTE[:-2], ""), (b"", ""),
+                               (NOTE[:11], ""),
                                (struct.pack("<III", 4, 3, 3) + b"GNX\0abc\0", ""), (b"\xff" * 16, "")):
             self.assertEqual(elf.build_id(note), identity)
 
@@ -113,7 +115,8 @@ class DebugFiles(unittest.TestCase):
 
 class Functions(unittest.TestCase):
     symbols = ["0000000000001000 0000000000000010 t exact", "0000000000001020 0000000000000010 t parted.cold",
-               "0000000000001040 0000000000000010 t parted(int) [clone .cold]", "0000000000001060 0000000000000010 t parted",
+               "0000000000001040 0000000000000010 t parted(int) [clone .cold]",
+               "0000000000001060 0000000000000010 t parted",
                "0000000000001080 0000000000000010 t parted(int)"]
 
     def place(self, address, function, where):

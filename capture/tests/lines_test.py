@@ -1,4 +1,5 @@
-"""Tests of the parts of leak_lines. All values are by hand; the answers of binutils are as addr2line and nm of binutils 2.40 print them."""
+"""Tests of the parts of leak_lines. All values are by hand; the answers of binutils are as addr2line and nm of binutils
+2.40 print them."""
 import os
 import sys
 import unittest
@@ -18,7 +19,8 @@ class Units(unittest.TestCase):
         self.assertEqual([units.signed_size(it) for it in (16, 0, -32, -2100)], ["+16 B", "0 B", "-32 B", "-2.10 kB"])
 
     def test_shares(self):
-        self.assertEqual([units.share(*it) for it in ((26301912, 57000000), (1, 3), (-1, 4), (-1, 10000), (0, 5), (5, None))],
+        self.assertEqual([units.share(*it) for it in ((26301912, 57000000), (1, 3), (-1, 4), (-1, 10000), (0, 5),
+                                                      (5, None))],
                          ["46.1 %", "33.3 %", "-25.0 %", "0.0 %", "0.0 %", None])
 
 
@@ -39,7 +41,8 @@ class Report(unittest.TestCase):
         self.assertEqual(self.read_row("caller 1 11 7 t", True), ("caller", report.Row((1, 11, 7), "", "t")))
 
     def test_other_lines_are_no_rows(self):
-        for line in ("", "holder", "holder 1 2 3", "grew - 1 1 1 1 1 1 t", "grew -0 1 1 1 1 1 1 t", "in 01 2 t", "in 1 -2 t", "inn 1 2 t",
+        for line in ("", "holder", "holder 1 2 3", "grew - 1 1 1 1 1 1 t", "grew -0 1 1 1 1 1 1 t", "in 01 2 t",
+                     "in 1 -2 t", "inn 1 2 t",
                      "in 1 2", "held 2 bytes 88", "asked 0x1 1 2 in 1 2 t"):
             self.assertEqual(self.read_row(line), ("", None))
 
@@ -48,13 +51,15 @@ class Report(unittest.TestCase):
                                    (["new 1 bytes 8", "marked 1 bytes 96"], "holder", 8),
                                    (["new 0 bytes 0", "marked 1 bytes 96"], "holder", None),
                                    (["held 1 bytes 5"], "by", 5), ([], "in", None),
-                                   (["then 1 bytes 7", "now 1 bytes 9"], "grew", 2), (["then 1 bytes 9", "now 1 bytes 7"], "grew", None),
+                                   (["then 1 bytes 7", "now 1 bytes 9"], "grew", 2),
+                                   (["then 1 bytes 9", "now 1 bytes 7"], "grew", None),
                                    (["now 1 bytes 7"], "grew", None)):
             self.assertEqual(report.whole(report.read(lines), kind), whole)
 
     def test_an_answer_without_rows_of_held_blocks_is_of_who_holds_them(self):
         asked = "asked 0x10100 1 8 ?"
-        for lines, kind in (([asked, "held 1 bytes 8"], "by"), ([asked, "held 0 bytes 0"], "in"), ([asked, "held 1 bytes 8", "in 1 8 ?"], "in"),
+        for lines, kind in (([asked, "held 1 bytes 8"], "by"), ([asked, "held 0 bytes 0"], "in"),
+                            ([asked, "held 1 bytes 8", "in 1 8 ?"], "in"),
                             (["then 1 bytes 8", "held 1 bytes 8"], "grew"), ([asked, "leaked"], "")):
             self.assertEqual(report.kind_of(report.read(lines)), kind)
 
@@ -66,7 +71,8 @@ class Report(unittest.TestCase):
 
 class Views(unittest.TestCase):
     def test_the_last_line_sums_what_adds_up(self):
-        rows = {"caller": [(1, 2, 3), (10, 20, 30)], "holder": [(9, 1000, 2, 16, 0), (5, 80, 3, 24, 1)], "in": [(1, 64), (2, 936)],
+        rows = {"caller": [(1, 2, 3), (10, 20, 30)], "holder": [(9, 1000, 2, 16, 0), (5, 80, 3, 24, 1)],
+                "in": [(1, 64), (2, 936)],
                 "by": [(3, 192), (1, 64)], "grew": [(16, 1, 32, 2, 48, 1, 16), (-48, 3, 96, 1, 48, 0, 0)]}
         wanted = {"caller": "and 2 more: 22 bytes, 11 blocks, 33 heads",
                   "holder": "and 2 more, none holds more than 1.00 kB: 40 B in 5 own blocks",
@@ -90,7 +96,8 @@ class Frames(unittest.TestCase):
     def test_the_parts_of_a_frame(self):
         for text, parts in (("./a.out:(main+0x1c)[0x401136]", ("./a.out", "main+0x1c", 0x401136)),
                             ("a:[0x1]", ("a", "", 1)), ("[0x7f]", ("", "", 0x7f)),
-                            ("a(b)(c)[0x2]", ("a(b)", "c", 2)), ("/x y:\"%s\\:[0x9]", ("/x y:\"%s\\", "", 9)), ("size 24", ("", "", 0)),
+                            ("a(b)(c)[0x2]", ("a(b)", "c", 2)), ("/x y:\"%s\\:[0x9]", ("/x y:\"%s\\", "", 9)),
+                            ("size 24", ("", "", 0)),
                             ("a:[0x]", ("", "", 0)), ("a:[0x1] ", ("", "", 0))):
             self.assertEqual(frames.frame_of(text), frames.Frame(text, *parts))
 
@@ -115,7 +122,8 @@ def names_of(lines, symbols, calls, addresses):
 class Names(unittest.TestCase):
     symbols = ["0000000000001000 0000000000000010 T begin@@V_1", "0000000000001040 0000000000000100 t outer()",
                "0000000000001080 0000000000000008 t inner", "0000000000002000 T sizeless", "                 U malloc",
-               "0000000000003000 0000000000000020 V vtable for shapes::square", "0000000000003020 0000000000000008 D table"]
+               "0000000000003000 0000000000000020 V vtable for shapes::square",
+               "0000000000003020 0000000000000008 D table"]
 
     def place(self, address, function, where="??:0", name=""):
         frame = frames.Frame(f"lib:[{address:#x}]", "lib", name, address)
@@ -142,17 +150,20 @@ class Names(unittest.TestCase):
         self.assertEqual(self.place(0x1011, "of_nothing")[0][0], "lib+0x1011")
 
     def test_an_object_before_is_no_function(self):
-        self.assertEqual([self.place(it, "shapes::square")[0][0] for it in (0x3000, 0x3020, 0x3028)], ["shapes::square", "table", "lib+0x3028"])
+        self.assertEqual([self.place(it, "shapes::square")[0][0] for it in (0x3000, 0x3020, 0x3028)],
+                         ["shapes::square", "table", "lib+0x3028"])
 
     def test_objects_and_classes(self):
-        self.assertEqual([self.place(it, "??")[0][0] for it in (0x3010, 0x3020, 0x3027, 0x3028)], ["shapes::square", "table", "table", "lib+0x3028"])
+        self.assertEqual([self.place(it, "??")[0][0] for it in (0x3010, 0x3020, 0x3027, 0x3028)],
+                         ["shapes::square", "table", "table", "lib+0x3028"])
 
     def test_inlined_functions_come_first(self):
         names = names_of(["0x0000000000000fff", "in", "a.c:1 (discriminator 3)", "out", "a.c:9"], [], [0xfff], [0x1000])
         self.assertEqual(names.places(frames.frame_of("lib:[0x1000]")), [("^ in", "a.c:1"), ("out", "a.c:9")])
 
     def test_a_function_may_be_called_as_an_address(self):
-        answers = tools.read_answers(["0x0000000000000001", "0x0000000000000002", "a:1", "0x0000000000000002", "f", "b:2"], [1, 2])
+        answers = tools.read_answers(["0x0000000000000001", "0x0000000000000002", "a:1", "0x0000000000000002", "f",
+                                      "b:2"], [1, 2])
         self.assertEqual(answers, {1: [("0x0000000000000002", "a:1")], 2: [("f", "b:2")]})
 
     def test_answers_that_break_off(self):
@@ -162,21 +173,25 @@ class Names(unittest.TestCase):
 
 class Problems(unittest.TestCase):
     def test_a_row_says_when_its_file_is_not_there_or_no_program(self):
-        for path, problem in (("/no/such/file", "file not found"), ("/dev/zero", "file not found"), (os.path.abspath(__file__), "no ELF file")):
+        for path, problem in (("/no/such/file", "file not found"), ("/dev/zero", "file not found"),
+                              (os.path.abspath(__file__), "no ELF file")):
             text = f"{path}:[0x1]"
             names = frames.Names([frames.frame_of(text)])
-            self.assertEqual(names.places(frames.frame_of(text)), [(f"{os.path.basename(path)}+0x1", f"{text} ({problem})")])
+            self.assertEqual(names.places(frames.frame_of(text)),
+                             [(f"{os.path.basename(path)}+0x1", f"{text} ({problem})")])
 
 
 class Command(unittest.TestCase):
     def test_words(self):
-        for words, result in (([], (None, None)), (["r"], (None, "r")), (["-"], (None, None)), (["-n", "20"], (20, None)),
+        for words, result in (([], (None, None)), (["r"], (None, "r")), (["-"], (None, None)),
+                              (["-n", "20"], (20, None)),
                               (["-n20", "r"], (20, "r")), (["-n", "3", "--", "-n"], (3, "-n"))):
             asked = options.read(words)
             self.assertEqual((asked.most, asked.path), result)
 
     def test_what_is_refused(self):
-        for words in (["-n"], ["-n", "0"], ["-n", "-1"], ["-n", "x"], ["-n", "\u0662"], ["-n", "1_0"], ["-n", " 1"], ["-n", "9" * 19],
+        for words in (["-n"], ["-n", "0"], ["-n", "-1"], ["-n", "x"], ["-n", "\u0662"], ["-n", "1_0"], ["-n", " 1"],
+                      ["-n", "9" * 19],
                       ["-x"], ["--help"], ["a", "b"]):
             with self.assertRaises(options.Refused):
                 options.read(words)

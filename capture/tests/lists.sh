@@ -20,7 +20,8 @@ verdict 'those that live come first, then all by number' "$process live, dead, d
     "$(list | awk 'NR > 1 { printf "%s%s, ", $2 == "live" ? $1 " " : "", $2 }')"
 ln -s "$work/table.$process" table.1
 verdict 'a link to one that lives' 1 "$(list | grep -c live)"
-verdict 'it is not removed by its link' "$process live" "$("$kit/leak_trace" --remove > /dev/null; list | awk 'NR > 1 { print $1, $2 }')"
+verdict 'it is not removed by its link' "$process live" \
+    "$("$kit/leak_trace" --remove > /dev/null; list | awk 'NR > 1 { print $1, $2 }')"
 stop $process
 rm -f table.*
 cat > renamed.sh << END
@@ -37,19 +38,23 @@ rm -f table.*
 
 section tables of other users
 if [ "$(id -u)" = 0 ]; then
-    chmod 1777 . && cp -r "$kit/leak_trace" "$kit/leak_trace.so" "$kit/leak_tables" "$kit/scripts" . && chmod 755 plain ends
+    chmod 1777 . && cp -r "$kit/leak_trace" "$kit/leak_trace.so" "$kit/leak_tables" "$kit/scripts" . &&
+        chmod 755 plain ends
     nobody='setpriv --reuid=65534 --regid=65534 --clear-groups'
     { limited 60 $nobody ./leak_trace ./ends signal; } 2> /dev/null
-    verdict 'a dead one of another is not shown' '1 1 more are of other users, and no process is known to live: --all shows them' \
+    verdict 'a dead one of another is not shown' \
+        '1 1 more are of other users, and no process is known to live: --all shows them' \
         "$(list | wc -l | awk '{ print $1 - 1 }') $(list | tail -n 1)"
     verdict 'with --all it is' 'dead' "$(list --all | awk 'NR == 2 { print $2 }')"
     verdict 'to itself it is its own' 'dead' "$($nobody ./leak_trace --list | awk 'NR == 2 { print $2 }')"
-    verdict 'it takes over a megabyte, and does not count for others' '' "$(limited 60 "$kit/leak_trace" -m 1 true 2>&1)"
+    verdict 'it takes over a megabyte, and does not count for others' '' \
+        "$(limited 60 "$kit/leak_trace" -m 1 true 2>&1)"
     verdict 'it counts for its owner' 1 "$(limited 60 $nobody ./leak_trace -m 1 true 2>&1 | grep -c 'at their limit')"
     "$kit/leak_trace" --remove > /dev/null
     verdict 'root removes it' 0 "$(ls table.* 2> /dev/null | wc -l)"
     verdict 'its owner can not cut it short' 'Permission denied' \
-        "$({ limited 60 $nobody ./leak_trace -k true; } 2> /dev/null; $nobody sh -c ': > '"$(echo table.*)" 2>&1 | sed 's/.*: //')"
+        "$({ limited 60 $nobody ./leak_trace -k true; } 2> /dev/null; $nobody sh -c ': > '"$(echo table.*)" 2>&1 |
+        sed 's/.*: //')"
     rm -f table.* leak_trace leak_trace.so leak_tables
     rm -rf scripts
     chmod 755 .
@@ -69,7 +74,8 @@ if [ "$(id -u)" = 0 ] && (apart true) 2> /dev/null; then
     second=$!
     started[$second]=1
     until_true 20 eval 'list | grep -c live | grep -qx 2'
-    verdict 'two have the number 1: each has a table' '2 live' "$(list | awk 'NR > 1 { print $2 }' | sort | uniq -c | awk '{ print $1, $2 }')"
+    verdict 'two have the number 1: each has a table' '2 live' \
+        "$(list | awk 'NR > 1 { print $2 }' | sort | uniq -c | awk '{ print $1, $2 }')"
     verdict 'they are told by their numbers here' "$(pgrep -P $first,$second -x plain | sort -n | paste -s)" \
         "$(list | awk 'NR > 1 { print $1 }' | sort -n | paste -s)"
     verdict 'from a third container it is not known whether they live' 'elsewhere elsewhere' \

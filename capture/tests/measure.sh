@@ -8,14 +8,16 @@ gcc -O2 -o bench "$kit/tests/bench.c" -pthread
 gcc -O1 -o blocks "$kit/tests/blocks.c"
 best() {
     for _ in $(seq "${TIMES:-5}"); do "$@" 2>&1; done |
-        awk '/ns\/pair/ { k = $1; if (!(k in m) || $4 < m[k]) m[k] = $4 } END { print "alike", m["pair"], "mixed", m["window"] }'
+        awk '/ns\/pair/ { k = $1; if (!(k in m) || $4 < m[k]) m[k] = $4 } END {
+            print "alike", m["pair"], "mixed", m["window"] }'
 }
 for threads in 1 4; do
     echo "threads $threads"
     echo "  native: $(best ./bench 3000000 $threads)"
     echo "  leak_trace: $(best "$kit/leak_trace" ./bench 3000000 $threads)"
     echo "  leak_trace -d 8: $(best "$kit/leak_trace" -d 8 ./bench 1000000 $threads)"
-    echo "  mtrace, log in memory: $(best env MALLOC_TRACE=/dev/shm/leak_bench.log LD_PRELOAD=libc_malloc_debug.so.0 ./bench 200000 $threads)"
+    echo "  mtrace, log in memory: $(best env MALLOC_TRACE=/dev/shm/leak_bench.log LD_PRELOAD=libc_malloc_debug.so.0 \
+        ./bench 200000 $threads)"
     command -v heaptrack > /dev/null && echo "  heaptrack: $(best heaptrack ./bench 200000 $threads)"
     command -v valgrind > /dev/null && echo "  valgrind: $(best valgrind -q ./bench 50000 $threads)"
 done

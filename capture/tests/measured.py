@@ -1,5 +1,6 @@
-"""measured.py SECONDS MEGABYTES BYTES OUTPUT COMMAND..: runs the command with its output to the file, and prints its status, and `in bounds` if it took no
-more by the clock, in memory and of output; else what it took. Then on standard error the figures themselves."""
+"""measured.py SECONDS MEGABYTES BYTES OUTPUT COMMAND..: runs the command with its output to the file, and prints its
+status, and `in bounds` if it took no more by the clock, in memory and of output; else what it took. Then on standard
+error the figures themselves."""
 import resource
 import subprocess
 import sys

@@ -8,7 +8,8 @@ busy=$process
 strangers() { named "$1" | tr ' ' '\n' | grep -vxE '45|61|77|93|109|125|' | tr '\n' ' '; }
 wrong=0
 for _ in $(seq "$moments"); do
-    dump $busy "$work/threads" && python3 "$kit/tests/slots.py" ./threads threads.core threads.log > slots || { cat slots; wrong=$((wrong + 1)); }
+    dump $busy "$work/threads" && python3 "$kit/tests/slots.py" ./threads threads.core threads.log > slots ||
+        { cat slots; wrong=$((wrong + 1)); }
     search threads
     find_leaks one --skip-freed threads.core threads.log > freed.report 2>&1
     strangers freed.report >> strangers

@@ -15,8 +15,9 @@ both() {
     sleep 1
 }
 
-# compare NAME [EARLIER [STACKS]]: this many blocks may be in the table alone, which were there before mtrace() was called, and so
-# many by mtrace alone: alternate signal stacks, which leak_log leaves out where the core does not tell them.
+# compare NAME [EARLIER [STACKS]]: this many blocks may be in the table alone, which were there before mtrace() was
+# called, and so many by mtrace alone: alternate signal stacks, which leak_log leaves out where the core does not tell
+# them.
 compare() {
     local name=$1 table=$work/table.$process said
     sleep 1
@@ -24,7 +25,9 @@ compare() {
         -ex "shell cp --sparse=always $table $name.table; cp $name.mlog $name.mcopy" -ex detach > "$name.gdb" 2>&1
     "$kit/leak_log" "$name.core" "$name.table" > "$name.log"
     said=$(python3 "$kit/tests/same.py" "$name.log" "$name.mcopy" | head -n 1)
-    verdict "$name" "same, ${2:-0} more" "$(echo "$said" | awk '{ print $NF <= '"${3:-0}"' && $(NF - 4) + 0 <= '"${2:-0}"' ? "same, '"${2:-0}"' more" : $0 }' )"
+    verdict "$name" "same, ${2:-0} more" \
+        "$(echo "$said" |
+        awk '{ print $NF <= '"${3:-0}"' && $(NF - 4) + 0 <= '"${2:-0}"' ? "same, '"${2:-0}"' more" : $0 }' )"
     echo "     $said"
     stop $process
     rm -f "$name.core"

@@ -1,11 +1,17 @@
 """The options that programs, their man pages and their helps name."""
 import os
 import re
+import sys
 
 KIT = os.path.join(os.path.dirname(os.path.realpath(__file__)), "..")
-HELP = os.path.join(KIT, "..", "gate", "help")
-SUBCOMMANDS = ("one", "two", "why", "holders", "grow")
-SOURCES = {"leak_trace": "leak_trace", "leak_dump": "leak_dump", "leak_report": "scripts/report_words.sh", "leak_lines": "lines/options.py",
+sys.path.insert(0, os.path.join(KIT, "..", "setup"))
+import option_help  # noqa: E402
+import option_table  # noqa: E402
+
+TABLE = option_table.read()
+SUBCOMMANDS = tuple(TABLE.names())
+SOURCES = {"leak_trace": "leak_trace", "leak_dump": "leak_dump", "leak_report": "scripts/report_words.sh",
+           "leak_lines": "lines/options.py",
         "leak_log": "log/leak_log.c", "leak_walk": "walk/leak_walk.c", "leak_what": "what/leak_what.c"}
 OPTION = re.compile(r"(?<![\w/-])--?[a-z][a-z-]*")
 LISTED = re.compile(r"^(?:  |[a-z]+ +)(--?[a-z][a-z-]*)(?= )", re.MULTILINE)
@@ -37,8 +43,8 @@ def of_usage(text):
 
 def of_help(subcommand):
     """The options of a subcommand of leak_find, or of the program itself, and those that take a value."""
-    with open(os.path.join(HELP, subcommand + ".txt"), encoding="utf-8") as file:
-        lines = [line for line in file if line.startswith("  ")]
+    text = option_help.help_of_program(TABLE) if subcommand == "program" else option_help.help_of(TABLE, subcommand)
+    lines = [line for line in text.splitlines() if line.startswith("  ")]
     found = [re.match(r" +(?:(-[a-zA-Z]), )?(--[a-z-]+)( <)?", line) for line in lines]
     found = [match for match in found if match]
     return {word for match in found for word in match.groups()[:2] if word}, {match[2] for match in found if match[3]}

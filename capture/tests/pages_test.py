@@ -34,9 +34,11 @@ class Pages(unittest.TestCase):
             version = file.read()
         for name in [*options_of.SOURCES, "leak_core", "leak_tables"]:
             with self.subTest(name):
-                found = subprocess.run([os.path.join(options_of.KIT, name), "--version"], capture_output=True, text=True)
+                found = subprocess.run([os.path.join(options_of.KIT, name), "--version"], capture_output=True,
+                                       text=True)
                 self.assertEqual((found.returncode, found.stdout, found.stderr), (0, f"{name} {version}", ""))
-        with open(os.path.join(options_of.KIT, "..", "crates/leak_request/src/command_line.rt"), encoding="utf-8") as file:
+        with open(os.path.join(options_of.KIT, "..", "crates/leak_request/src/command_line.rt"),
+                  encoding="utf-8") as file:
             self.assertIn(f'const VERSION: &str = "{version.strip()}";', file.read())
 
     def test_the_page_of_leak_find_has_the_options_of_its_help(self):
@@ -44,22 +46,23 @@ class Pages(unittest.TestCase):
         self.assertEqual(options_of.of_page("leak_find"), set().union(*helps))
 
     def test_the_page_of_leak_find_has_the_subcommands_of_its_help(self):
-        with open(os.path.join(options_of.HELP, "program.txt"), encoding="utf-8") as file:
-            helped = re.findall(r"^  ([a-z]+)  ", file.read(), re.MULTILINE)
+        helped = [*options_of.SUBCOMMANDS, "help"]
         text = options_of.text_of("man", "leak_find.1")
         self.assertEqual(re.findall(r"^\.B leak_find ([a-z]+)$", text, re.MULTILINE), helped)
         part = text.split(".SH SUBCOMMANDS")[1].split(".SH ")[0]
         self.assertEqual(re.findall(r"^\.TP\n\\fB([a-z]+)\\fR$", part, re.MULTILINE), helped)
 
     def test_the_options_that_only_some_subcommands_take(self):
-        text = options_of.text_of("man", "leak_find.1")
-        listed = re.findall(r"^\.TP\n\\fB(--[a-z-]+)", text, re.MULTILINE)
-        taken = {name: options_of.of_help(name)[0] - {"-h", "--help"} for name in options_of.SUBCOMMANDS}
-        self.assertEqual(taken["one"], set(listed[:-4]))
-        self.assertEqual(taken["two"], set(listed[:-4]))
-        self.assertEqual(taken["holders"], set(listed) - {"--check"})
-        self.assertEqual(taken["why"], {*listed[:listed.index("--displace") + 1], "--other-heap", "--strict"})
-        self.assertEqual(taken["grow"], {"--strict"})
+        text = options_of.text_of("man", "leak_find.1").split(".SH OPTIONS")[1].split(".SH ")[0]
+        listed = set(re.findall(r"^\.TP\n\\fB(--[a-z-]+)", text, re.MULTILINE))
+        told = {}
+        for names, how, options in re.findall(r"(\\fB[a-z]+\\fR[^.]*?) takes? (all options|only)([^.]*)\.",
+                                              text.replace("\n", " ")):
+            named = set(re.findall(r"--[a-z-]+", options))
+            told.update((name, named if how == "only" else listed - named) for name in re.findall(r"\\fB([a-z]+)",
+                                                                                                  names))
+        self.assertEqual(told, {name: options_of.of_help(name)[0] - {"-h", "--help"}
+                                for name in options_of.SUBCOMMANDS})
 
 
 unittest.main()

@@ -1,4 +1,5 @@
-"""Tests of a report for a person: its sentence, what it warns of, its table, and where it is shown. All values are by hand."""
+"""Tests of a report for a person: its sentence, what it warns of, its table, and where it is shown. All values are by
+hand."""
 import os
 import pty
 import re
@@ -15,8 +16,10 @@ LINES = os.path.join(os.path.dirname(os.path.abspath(__file__)), "..", "leak_lin
 COUNTS = {"blocks": {"blocks": 12, "bytes": 1728}, "leaked": {"blocks": 6, "bytes": 576}}
 NONE_LOST = {**COUNTS, "leaked": {"blocks": 0, "bytes": 0}}
 LIVING = runs.Run(process="4711")
-REPORT = ["blocks 12 bytes 1728", "undumped 0", "unknown 0 displaced 0 torn 0", "marked 8 bytes 1444", "leaked 4 bytes 284", "heads 2",
-          "caller 3 228 2 size 76", "caller 1 56 0 size 56", "leak 0x10 76 1 head size 76", "leak 0x100 76 2 head size 76",
+REPORT = ["blocks 12 bytes 1728", "undumped 0", "unknown 0 displaced 0 torn 0", "marked 8 bytes 1444",
+          "leaked 4 bytes 284", "heads 2",
+          "caller 3 228 2 size 76", "caller 1 56 0 size 56", "leak 0x10 76 1 head size 76",
+          "leak 0x100 76 2 head size 76",
           "leak 0x200 76 3 held size 76", "leak 0x300 56 4 held size 56"]
 FACTS = ['text 0x10 4 "abcd"', "holds 0x100 2 bytes 132", "part 0x200 0x100", "part 0x300 0x100"]
 HOSTILE = "a\x1b[2J\x07b\u202ec\\d\udcff"
@@ -38,7 +41,8 @@ def written(folder, lines=REPORT, facts=FACTS, about=("process 4711",), name=b"l
             file.write("".join(line + "\n" for line in text).encode("utf-8", "surrogateescape"))
     with open(os.path.join(folder, "d.core"), "wb") as file:
         file.write(core_of(name))
-    return ["--plain", os.path.join(folder, "d.about"), "--what", os.path.join(folder, "d.what"), os.path.join(folder, "d.report")]
+    return ["--plain", os.path.join(folder, "d.about"), "--what", os.path.join(folder, "d.what"),
+            os.path.join(folder, "d.report")]
 
 
 def printed(**parts):
@@ -78,7 +82,8 @@ def literals(text, begin):
 def said_by_programs():
     """A sample of each remark in the sources of leak_core, leak_walk, leak_log and leak_dump."""
     kit = os.path.dirname(LINES)
-    folders = (("dump", "", 'fprintf(stderr, '), ("walk", "leak_walk: ", "warn("), ("heaps", "leak_walk: ", "warn("), ("log", "leak_log: ", "warn("))
+    folders = (("dump", "", 'fprintf(stderr, '), ("walk", "leak_walk: ", "warn("), ("heaps", "leak_walk: ", "warn("),
+               ("log", "leak_log: ", "warn("))
     for folder, prefix, begin in folders:
         for name in sorted(os.listdir(os.path.join(kit, folder))):
             with open(os.path.join(kit, folder, name), encoding="utf-8") as file:
@@ -86,9 +91,11 @@ def said_by_programs():
     with open(os.path.join(kit, "common", "undumped.c"), encoding="utf-8") as file:
         yield from ("leak_log: " + it for it in literals(file.read(), "warn("))
     with open(os.path.join(kit, "leak_dump"), encoding="utf-8") as file:
-        yield from ("leak_dump: " + re.sub(r"\$[a-z_.]+", "x", it) for it in re.findall(r'say "([^"]*)"', file.read()) if "$lacks" not in it)
-    yield "leak_dump: the blocks of x.log are by the heap in the core, and their callers by leak_trace's table, which began at 2026-01-01 10:00:00"
-    yield "leak_dump: the blocks of x.log are by the heap in the core, and their callers by leak_trace's table, which missed 7 blocks"
+        yield from ("leak_dump: " + re.sub(r"\$[a-z_.]+", "x", it) for it in re.findall(r'say "([^"]*)"', file.read())
+                    if "$lacks" not in it)
+    by_both = "leak_dump: the blocks of x.log are by the heap in the core, and their callers by leak_trace's table, which "
+    yield by_both + "began at 2026-01-01 10:00:00"
+    yield by_both + "missed 7 blocks"
 
 
 class Sentences(unittest.TestCase):
@@ -98,16 +105,19 @@ class Sentences(unittest.TestCase):
         return "leaky (pid 4711): " + sentences.leaks(counts, tops, run.has_two_moments, effect)
 
     def test_what_is_lost(self):
-        self.assertEqual(self.sentence(), "leaky (pid 4711): 12 blocks, 1.7 KB in use; 6 lost, 576 bytes, in 2 structures")
+        self.assertEqual(self.sentence(),
+                         "leaky (pid 4711): 12 blocks, 1.7 KB in use; 6 lost, 576 bytes, in 2 structures")
 
     def test_one_of_each(self):
         counts = {"blocks": {"blocks": 1, "bytes": 1}, "leaked": {"blocks": 1, "bytes": 1}}
-        self.assertEqual(self.sentence(counts, 1), "leaky (pid 4711): 1 block, 1 byte in use; 1 lost, 1 byte, in 1 structure")
+        self.assertEqual(self.sentence(counts, 1),
+                         "leaky (pid 4711): 1 block, 1 byte in use; 1 lost, 1 byte, in 1 structure")
 
     def test_what_is_not_known_is_left_out(self):
         self.assertNotIn("structure", self.sentence(tops=None))
         text = self.sentence(effect=remarks.LACKS)
-        self.assertEqual(text, "leaky (pid 4711): 6 lost, 576 bytes, in 2 structures (of the blocks that could be searched)")
+        self.assertEqual(text, "leaky (pid 4711): 6 lost, 576 bytes, in 2 structures (of the blocks that could be "
+                               "searched)")
 
     def test_an_incomplete_search_is_no_all_clear(self):
         self.assertIn("; none lost", self.sentence(NONE_LOST))
@@ -125,7 +135,8 @@ class Sentences(unittest.TestCase):
         self.assertEqual(self.sentence(counts), "leaky (pid 4711): no block in use")
 
     def test_sizes(self):
-        for number, text in ((0, "0 bytes"), (999, "999 bytes"), (1000, "1.0 KB"), (1728, "1.7 KB"), (999949, "999.9 KB"),
+        for number, text in ((0, "0 bytes"), (999, "999 bytes"), (1000, "1.0 KB"), (1728, "1.7 KB"),
+                             (999949, "999.9 KB"),
                              (999950, "1.0 MB"), (3400000, "3.4 MB"), (10**21, "1000.0 EB")):
             self.assertEqual(units.plain(number), text)
 
@@ -144,7 +155,8 @@ class Next(unittest.TestCase):
                 ("leak_trace -d 8 PROGRAM", {"process": "7", "kind": logs.Kind(allocators=("jemalloc 5.3",))}),
                 ("leak_report --after DIR 7 ", {"process": "7", "kind": callers}),
                 ("leak_report --after kept 7 ", {"process": "7", "kind": callers, "kept": "kept"}),
-                ("leak_report --after DIR 7 ", {"process": "7", "kind": logs.Kind(allocators=("glibc",), is_static=True)}),
+                ("leak_report --after DIR 7 ",
+                 {"process": "7", "kind": logs.Kind(allocators=("glibc",), is_static=True)}),
                 ("leak_report --list 7 ", {"process": "7", "kind": callers, "way": "after"}),
                 ("leak_report --list c ", {"core": "c", "kind": logs.Kind(allocators=("musl",))}),
                 ("leak_report --attach --for 2h 7.", {"process": "7", "way": "attach"}),
@@ -156,10 +168,13 @@ class Next(unittest.TestCase):
 
     def test_kinds_of_logs(self):
         glibc, heap, table = "= leak_log allocator glibc", "= leak_walk arena 0x10", "= leak_log moment 0x1 table 0x2"
-        for lines, kind in (([glibc, heap], logs.Kind(False, ("glibc",))), ([glibc, table], logs.Kind(True, ("glibc",))),
-                            ([glibc, heap, "= leak_log names since 5 moment 0x1"], logs.Kind(True, ("glibc",))), (["= Start"], logs.Kind(True)),
+        for lines, kind in (([glibc, heap], logs.Kind(False, ("glibc",))),
+                            ([glibc, table], logs.Kind(True, ("glibc",))),
+                            ([glibc, heap, "= leak_log names since 5 moment 0x1"], logs.Kind(True, ("glibc",))),
+                            (["= Start"], logs.Kind(True)),
                             ([glibc, heap, "= leak_log program static"], logs.Kind(False, ("glibc",), True)),
-                            (["= leak_log allocator jemalloc 5.3", "= leak_walk heap 0x9", "= leak_log moment 0x9 table 0x1"],
+                            (["= leak_log allocator jemalloc 5.3", "= leak_walk heap 0x9",
+                              "= leak_log moment 0x9 table 0x1"],
                              logs.Kind(True, ("jemalloc 5.3",)))):
             with tempfile.NamedTemporaryFile("w", suffix=".log") as file:
                 file.write("".join(line + "\n" for line in ["= Start", *lines]))
@@ -173,9 +188,11 @@ class Remarks(unittest.TestCase):
     def test_what_is_said_of_every_run_is_left_out(self):
         lines = ["leak_dump: there is no table by leak_trace: the blocks of dump.log are by the heap in the core",
                  "leak_walk: 12 blocks of 1728 bytes in use; 1 arenas; 3 free chunks of 135520 bytes",
-                 "leak_what: 0 of 12 blocks have a type, by the debug information of 3 files", "leak_core: process 9 stood still for 15 ms",
-                 "leak_report: leak_find one --skip-freed --skip-links --all-memory", "leak_dump: the blocks of d.log are by leak_trace's table",
-                 "leak_attach: process 9 stood still for 2 ms, and its blocks have callers from now on"]
+                 "leak_what: 0 of 12 blocks have a type, by the debug information of 3 files",
+                 "leak_core: process 9 was stopped for 15 ms",
+                 "leak_report: leak_find one --skip-freed --skip-links --all-memory",
+                 "leak_dump: the blocks of d.log are by leak_trace's table",
+                 "leak_attach: process 9 was stopped for 2 ms, and its blocks have callers from now on"]
         self.assertEqual(remarks.read(lines, {"undumped": 0, "torn": 0}), remarks.Remarks([], remarks.NOTE, [15, 2]))
 
     def test_each_once_in_plain_words(self):
@@ -188,7 +205,8 @@ class Remarks(unittest.TestCase):
         found = remarks.read([], {"undumped": 4096, "unknown": 2, "displaced": 1, "torn": 1, "misfits": 3})
         self.assertEqual([re.sub("[^0-9]", "", it) for it in found.warnings], ["4096", "2", "1", "", "3"])
         self.assertEqual(found.effect, remarks.HIDES)
-        line = "leak_find: warning: input 1: 3 of 12 live blocks have no chunk of their size in use in the core: the log is of another moment, or of another process"
+        line = ("leak_find: warning: input 1: 3 of 12 live blocks have no chunk of their size in use in the core: the log "
+                "is of another moment, or of another process")
         self.assertEqual(len(remarks.read([line], {"misfits": 3}).warnings), 1)
 
     def test_what_nobody_knows_is_a_warning(self):
@@ -203,13 +221,16 @@ class Remarks(unittest.TestCase):
 
     def test_what_makes_a_search_incomplete(self):
         for line in ("leak_walk: jemalloc 5.3: 2 things are as while a thread changes them, or damaged, the first: x",
-                     "leak_walk: /x/libjemalloc.so.2: its blocks are not in the log", "leak_walk: the blocks of x are not in the log: y",
-                     "leak_walk: 3 free chunks have no size behind them, the first at 0x10: stopped inside malloc, or damaged",
+                     "leak_walk: /x/libjemalloc.so.2: its blocks are not in the log",
+                     "leak_walk: the blocks of x are not in the log: y",
+                     "leak_walk: 3 free chunks have no size behind them, the first at 0x10: stopped inside malloc, or "
+                     "damaged",
                      "leak_log: 5 blocks found no place in the table (it is full): leaks among them are not named"):
             self.assertEqual(remarks.read([line], {}).effect, remarks.LACKS, line)
 
     def test_warnings_are_before_notes(self):
-        lines = ["leak_report: this leak_find was compiled without its proofs (x)", "leak_walk: the blocks of x are not in the log: y"]
+        lines = ["leak_report: this leak_find was compiled without its proofs (x)",
+                 "leak_walk: the blocks of x are not in the log: y"]
         self.assertEqual([it.split(":")[0] for it in remarks.read(lines, {}).warnings], ["Warning", "Note"])
 
 
@@ -218,12 +239,14 @@ class Tables(unittest.TestCase):
 
     def test_rows_are_of_structures(self):
         groups = lost.groups_of(report.read(REPORT), what.read(FACTS, "x"))
-        self.assertEqual([(lost.bytes_of(it), len(it.blocks), len(it.heads)) for it in groups], [(208, 3, 1), (76, 1, 1)])
+        self.assertEqual([(lost.bytes_of(it), len(it.blocks), len(it.heads)) for it in groups],
+                         [(208, 3, 1), (76, 1, 1)])
         self.assertEqual([lost.about_sizes(it) for it in groups], ["2 of 76 and 1 of 56 bytes", "1 block of 76 bytes"])
 
     def test_without_structures_rows_are_of_callers(self):
         groups = lost.groups_of(report.read(REPORT), None)
-        self.assertEqual([(it.text, len(it.blocks), it.heads) for it in groups], [("size 76", 3, None), ("size 56", 1, None)])
+        self.assertEqual([(it.text, len(it.blocks), it.heads) for it in groups],
+                         [("size 76", 3, None), ("size 56", 1, None)])
 
     def test_the_whole(self):
         self.assertEqual(printed().split("\n"), [
@@ -232,8 +255,9 @@ class Tables(unittest.TestCase):
             "208 bytes       3           1  2 of 76 and 1 of 56 bytes",
             " 76 bytes       1           1  begins \"abcd\"",
             "                               1 block of 76 bytes", "",
-            "Next: compare two moments: leak_report --keep DIR 4711, and some minutes later leak_report --after DIR 4711 shows what is still "
-            "lost then.", ""])
+            "Next: compare with a second dump: leak_report --keep DIR 4711, and some minutes later leak_report "
+            "--after DIR "
+            "4711 shows what is still lost.", ""])
 
     def test_the_list(self):
         text = printed(about=["process 4711", "list"])
@@ -241,7 +265,8 @@ class Tables(unittest.TestCase):
                          ["0x10  76 bytes", "0x100  76 bytes", "  0x200  76 bytes", "  0x300  56 bytes"])
 
     def test_start_of_a_program_is_left_out(self):
-        frames = [f"/x/app:({name}+1)[0x{i}]" for i, name in enumerate(("f", "main", "__libc_start_call_main", "__libc_start_main", "_start"), 1)]
+        frames = [f"/x/app:({name}+1)[0x{i}]" for i,
+                  name in enumerate(("f", "main", "__libc_start_call_main", "__libc_start_main", "_start"), 1)]
         rows = [f"caller 1 76 1 {' < '.join(frames)}", f"leak 0x10 76 1 head {' < '.join(frames)}"]
         text = printed(lines=REPORT[:4] + ["leaked 1 bytes 76", "heads 1"] + rows, facts=[])
         self.assertEqual(re.findall(r"(\w+)\+1", text), ["f", "f", "main", "main"])
@@ -257,13 +282,17 @@ class Places(unittest.TestCase):
 
     def test_hostile_names(self):
         frame = f"/x/{HOSTILE}:({HOSTILE}+1)[0x1]"
-        lines = REPORT[:4] + ["leaked 1 bytes 76", "heads 1", f"caller 1 76 1 {frame}", f"leak 0x10 76 1 head {frame}", f"misfit 0x10 76 1 {frame}"]
-        text = printed(lines=lines, facts=[f'text 0x10 4 "{HOSTILE}"', f"word 0x10 +0x8 {HOSTILE}"], name=b"\x1b[2J\n\xff\\x",
-                       about=["process 4711", "list", f"said leak_walk: undumped: 5 bytes of {HOSTILE}: why", f"said odd {HOSTILE}"])
+        lines = REPORT[:4] + ["leaked 1 bytes 76", "heads 1", f"caller 1 76 1 {frame}", f"leak 0x10 76 1 head {frame}",
+                              f"misfit 0x10 76 1 {frame}"]
+        text = printed(lines=lines, facts=[f'text 0x10 4 "{HOSTILE}"', f"word 0x10 +0x8 {HOSTILE}"],
+                       name=b"\x1b[2J\n\xff\\x",
+                       about=["process 4711", "list", f"said leak_walk: undumped: 5 bytes of {HOSTILE}: why",
+                              f"said odd {HOSTILE}"])
         self.assertEqual({it for it in text if not it.isprintable()}, {"\n"})
         self.assertIn("\\x1b[2J\\n\\xff\\\\x (pid 4711)", text)
         with tempfile.TemporaryDirectory() as folder:
-            words = written(folder, lines=lines, name=b"</script>\x1b\xff", about=["core </script>", "said odd </script>" + HOSTILE])
+            words = written(folder, lines=lines, name=b"</script>\x1b\xff",
+                            about=["core </script>", "said odd </script>" + HOSTILE])
             page = os.path.join(folder, "page")
             subprocess.run([LINES, "--html", page, *words], check=True, stdout=subprocess.DEVNULL)
             with open(page, encoding="utf-8") as file:
@@ -287,13 +316,15 @@ class Places(unittest.TestCase):
 
     def test_elsewhere_nothing_is_cut(self):
         long = "/x/" + "d" * 300 + "/app:(" + "f" * 300 + "+1)[0x1]"
-        text = printed(lines=REPORT[:4] + ["leaked 1 bytes 76", "heads 1", f"caller 1 76 1 {long}", f"leak 0x10 76 1 head {long}"])
+        text = printed(lines=REPORT[:4] + ["leaked 1 bytes 76", "heads 1", f"caller 1 76 1 {long}",
+                                           f"leak 0x10 76 1 head {long}"])
         self.assertIn("f" * 300, text)
         self.assertIn("d" * 300, text)
 
     def test_wide_letters(self):
         self.assertEqual([paper.columns(it) for it in ("ab", "\u4e2d\u6587", "e\u0301")], [2, 4, 1])
-        self.assertEqual((paper.cut("\u4e2d\u6587\u4e2d", 5), paper.cut_before("/a/b/c.c:12", 8)), ("\u4e2d..", "..c.c:12"))
+        self.assertEqual((paper.cut("\u4e2d\u6587\u4e2d", 5), paper.cut_before("/a/b/c.c:12", 8)),
+                         ("\u4e2d..", "..c.c:12"))
         self.assertEqual(paper.Paper(10).wrapped("one two three four"), ["one two", "  three", "  four"])
 
     def test_how_many_share_a_fact_is_never_cut(self):
@@ -307,10 +338,12 @@ class Places(unittest.TestCase):
         with tempfile.TemporaryDirectory() as folder:
             words = written(folder, lines=["leaked 0 bytes 0"])
             done = subprocess.run([LINES, *words], capture_output=True, text=True)
-            self.assertEqual((done.returncode, done.stdout, done.stderr), (2, "", "leak_lines: this is no report of leaks\n"))
+            self.assertEqual((done.returncode, done.stdout, done.stderr),
+                             (2, "", "leak_lines: this is no report of leaks\n"))
 
     def test_words(self):
-        for words in (["--plain", "a"], ["--plain", "a", "--json", "r"], ["--plain", "a", "--exit-code", "r"], ["--plain", "a", "--since", "o", "r"]):
+        for words in (["--plain", "a"], ["--plain", "a", "--json", "r"], ["--plain", "a", "--exit-code", "r"],
+                      ["--plain", "a", "--since", "o", "r"]):
             done = subprocess.run([LINES, *words], capture_output=True, text=True, stdin=subprocess.DEVNULL)
             self.assertEqual((done.returncode, done.stdout, done.stderr[:6]), (2, "", "usage:"), words)
 

@@ -1,5 +1,5 @@
-# Servers of Debian, with glibc's malloc, that are made to lose lists: each list must be named whole. Those not installed
-# are left out.
+# Servers of Debian, with glibc's malloc, that are made to lose lists: each list must be named whole. Those not
+# installed are left out.
 section lists that servers lose
 gcc -O1 -shared -fPIC "$kit/tests/planted.c" -o planted.so
 mkdir -p www && head -c 20000 /dev/zero > www/x

@@ -1,6 +1,7 @@
 #!/bin/bash
-# What searches with and without each option find in Debian's own programs, into which plant.c plants leaks: the table of docs/STUDIES.md.
-# Programs that are not installed are left out; as root vsftpd, dovecot and exim are taken too. Not part of `make check`.
+# What searches with and without each option find in Debian's own programs, into which plant.c plants leaks: the table
+# of docs/STUDIES.md. Programs that are not installed are left out; as root vsftpd, dovecot and exim are taken too. Not
+# part of `make check`.
 . "$(dirname "$0")/common.sh"
 mkdir -m 777 planted
 gcc -O1 -g -shared -fPIC -DFOLDER="\"$work/planted\"" -o plant.so "$kit/tests/plant.c" || exit 1
@@ -18,7 +19,8 @@ traced() {
 # named_by OPTION..: found and others of what a search names.
 named_by() {
     find_leaks one "$@" program.core program.log > program.report 2> warned
-    awk 'NR == FNR { planted[$1]; next } $1 == "leak" { if ($2 in planted) found++; else others++ } END { print found + 0 "+" others + 0 }' "$lost" program.report
+    awk 'NR == FNR { planted[$1]; next } $1 == "leak" { if ($2 in planted) found++; else others++ } END {
+        print found + 0 "+" others + 0 }' "$lost" program.report
 }
 
 # measure NAME PID: a row of the table.
@@ -30,11 +32,13 @@ measure() {
     row="$1 | $(awk '$1 == "@" { n++ } END { print n + 0 }' program.log) | $(wc -l < "$lost")"
     heap=''
     grep '^= leak_log allocator' program.log | grep -qv 'glibc$' && heap=--other-heap
-    for options in '' --skip-freed --skip-links '--skip-freed --skip-links' '--skip-freed --skip-links --skip-slack' --skip-ends '--skip-freed --skip-ends'; do
+    for options in '' --skip-freed --skip-links '--skip-freed --skip-links' '--skip-freed --skip-links --skip-slack' \
+        --skip-ends '--skip-freed --skip-ends'; do
         row="$row | $(named_by $heap $options)"
     done
     echo "| $row |"
-    [ ! "${KEEP-}" ] || for file in "$lost" program.*; do cp "$file" "$KEEP/$1.$(basename "$file" | sed 's/^[0-9]*$/lost/')"; done
+    [ ! "${KEEP-}" ] || for file in "$lost" program.*; do
+        cp "$file" "$KEEP/$1.$(basename "$file" | sed 's/^[0-9]*$/lost/')"; done
 }
 echo '| Program | blocks | planted | no option | --skip-freed | --skip-links | both | both, --skip-slack | --skip-ends | --skip-freed --skip-ends |'
 
@@ -88,13 +92,16 @@ with_input() {
 have sqlite3 && {
     { echo 'create table t(a integer primary key, b text); create index i on t(b);'
       seq 500 | sed "s/.*/insert into t values(&, 'text &');/"
-      for i in 1 2 3 4 5 6; do echo "attach 'x$i.db' as x$i; create table x$i.y(z); detach x$i; select count(*) from t where b like '%$i%';"; done; } > in
+      for i in 1 2 3 4 5 6; do
+          echo "attach 'x$i.db' as x$i; create table x$i.y(z); detach x$i; select count(*) from t where b like '%$i%';"; done; } > in
     with_input sqlite3 main.db
 }
 have gawk && {
     seq 2000 > numbers
     for i in 1 2 3 4 5 6; do echo numbers; done > in
-    with_input gawk '{ while ((getline line < $1) > 0) n[line % 99] = n[line % 99] line % 7; close($1); print length(n) > "/dev/stdout" }'
+    with_input gawk \
+        '{ while ((getline line < $1) > 0) n[line % 99] = n[line % 99] line % 7; close($1);
+            print length(n) > "/dev/stdout" }'
 }
 have xmllint && {
     { echo '<a>'; seq 300 | sed 's|.*|<b c="&">text &</b>|'; echo '</a>'; } > a.xml
@@ -120,7 +127,8 @@ time.sleep(9)' & client=$!
     stop $process
 }
 [ "$(id -u)" = 0 ] && have dovecot && {
-    mkdir -p run && printf 'base_dir = %s/run\nstate_dir = %s/run\nlog_path = %s/dovecot.log\nprotocols =\nssl = no\nlisten = 127.0.0.1\npassdb {\n  driver = static\n  args = password=x\n}\nuserdb {\n  driver = static\n  args = uid=nobody gid=nogroup home=/tmp\n}\nservice auth {\n  process_min_avail = 1\n}\n' "$work" "$work" "$work" > dovecot.conf
+    mkdir -p run &&
+        printf 'base_dir = %s/run\nstate_dir = %s/run\nlog_path = %s/dovecot.log\nprotocols =\nssl = no\nlisten = 127.0.0.1\npassdb {\n  driver = static\n  args = password=x\n}\nuserdb {\n  driver = static\n  args = uid=nobody gid=nogroup home=/tmp\n}\nservice auth {\n  process_min_avail = 1\n}\n' "$work" "$work" "$work" > dovecot.conf
     touch dovecot.log; chmod 777 . dovecot.log
     traced -e dovecot -F -c "$work/dovecot.conf"
     for _ in 1 2 3 4 5 6; do limited 20 doveadm -c dovecot.conf auth test bob x; done > /dev/null 2>&1

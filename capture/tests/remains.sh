@@ -15,8 +15,8 @@ below() {
     for child in $(pgrep -P "$1"); do echo "$child"; below "$child"; done
 }
 
-# ended_by SIGNAL COMMAND..: starts the command, whose leak_core waits once it has made a file, sends the signal to the command alone,
-# and sets `status` and `children`. (The shell has its background ignore SIGINT.)
+# ended_by SIGNAL COMMAND..: starts the command, whose leak_core waits once it has made a file, sends the signal to the
+# command alone, and sets `status` and `children`. (The shell has its background ignore SIGINT.)
 ended_by() {
     local signal=$1 asked
     shift
@@ -35,10 +35,12 @@ gone() { kill -0 $children 2> /dev/null && echo 'one goes on' || echo gone; }
 if [ "$attaches" ]; then
     unprepared ./plain
     made=1
-    until LEAK_CORE_FAIL=$made limited 20 ./faulty $process none.core 2>&1 | grep -q 'a file is made' || [ $made = 50 ]; do made=$((made + 1)); done
+    until LEAK_CORE_FAIL=$made limited 20 ./faulty $process none.core 2>&1 | grep -q 'a file is made' ||
+        [ $made = 50 ]; do made=$((made + 1)); done
     for signal in TERM INT HUP; do
         ended_by $signal remains_tools/leak_dump $process remains/d1
-        verdict "leak_dump and SIG$signal: the status, the processes, the files" '2 gone ' "$status $(gone) $(ls remains)"
+        verdict "leak_dump and SIG$signal: the status, the processes, the files" '2 gone ' \
+            "$status $(gone) $(ls remains)"
     done
     ended_by KILL remains_tools/leak_dump $process remains/d1
     verdict 'leak_dump and SIGKILL: leak_core ends too' 'gone ' "$(gone) $(ls remains)"
@@ -47,12 +49,15 @@ if [ "$attaches" ]; then
     TMPDIR=$work/remains ended_by KILL remains_tools/leak_report $process
     kill $children 2> /dev/null # leak_core waits half a minute for a signal
     verdict 'leak_report and SIGKILL: the folder goes once all has ended' 'gone ' \
-        "$(until_true 60 eval '! ls remains | grep -q .'; until_true 20 eval '! kill -0 $children 2> /dev/null'; gone) $(ls remains)"
+        "$(until_true 60 eval '! ls remains | grep -q .'; until_true 20 eval \
+        '! kill -0 $children 2> /dev/null'; gone) $(ls remains)"
     ended_by TERM remains_tools/leak_report --keep remains/kept $process
     verdict 'with --keep' '2 gone ' "$status $(gone) $(ls remains)"
-    verdict 'the process goes on' 'yes S' "$(kill -0 $process && echo yes) $(awk '$1 == "State:" { print $2 }' /proc/$process/status)"
+    verdict 'the process goes on' 'yes S' \
+        "$(kill -0 $process && echo yes) $(awk '$1 == "State:" { print $2 }' /proc/$process/status)"
 
-    printf '#!/bin/sh\n[ "$2" = /dev/null ] || { echo > remains/searches; exec sleep 1000; }\n' > sleeps && chmod +x sleeps
+    printf '#!/bin/sh\n[ "$2" = /dev/null ] || { echo > remains/searches; exec sleep 1000; }\n' > sleeps &&
+        chmod +x sleeps
     TMPDIR=$work/remains LEAK_FIND=$PWD/sleeps "$kit/leak_report" $process > held.out 2> held.said < /dev/null &
     asked=$!
     until_true 60 test -e remains/searches
@@ -66,7 +71,7 @@ if [ "$attaches" ]; then
         TMPDIR=$work/remains limited 60 remains_tools/leak_$command > held.out 2> held.said
         status=$?
         verdict "leak_${command%% *} --hold: the status, what is said, the files" \
-            '2 leak_core: the process stood still for 1 s (--hold) and was resumed ' \
+            '2 leak_core: the process was stopped for 1 s (--hold) and resumed ' \
             "$status $(grep '^leak_core' held.said | sed 's/ resumed: .*/ resumed/') $(ls remains)"
     done
     unset LEAK_CORE_HANG
@@ -88,22 +93,28 @@ if [ "$attaches" ]; then
     echo precious > remains/other
     for kind in core log table; do ln -s other remains/d1.$kind; done
     (umask 022; limited 120 "$kit/leak_dump" $process remains/d1 2> said)
-    verdict 'no link is followed' 'precious d1.core d1.log d1.table other ' "$(cat remains/other) $(ls remains | tr '\n' ' ')"
+    verdict 'no link is followed' 'precious d1.core d1.log d1.table other ' \
+        "$(cat remains/other) $(ls remains | tr '\n' ' ')"
     verdict 'all are for their owner alone' '600 600 600 ' "$(stat -c %a remains/d1.* | tr '\n' ' ')"
     (umask 022; limited 120 "$kit/leak_report" --keep remains/kept $process > said 2>&1)
     verdict 'those of leak_report too' '700 600' "$(stat -c %a remains/kept) $(stat -c %a remains/kept/* | sort -u)"
     if [ "$(id -u)" = 0 ]; then
         chmod 777 remains
-        verdict 'a folder that others may write' '2 leak_dump: others may write in remains, which has no sticky bit: as root take another folder' \
+        verdict 'a folder that others may write' \
+            '2 leak_dump: others may write in remains, which has no sticky bit: as root take another folder' \
             "$(said=$("$kit/leak_dump" $process remains/d2 2>&1); echo "$? $said")"
         limited 120 "$kit/leak_report" --keep remains $process > /dev/null 2> said
-        verdict 'leak_report refuses it too' "2 leak_report: others may write in remains, which has no sticky bit: as root take another folder" "$? $(cat said)"
+        verdict 'leak_report refuses it too' \
+            "2 leak_report: others may write in remains, which has no sticky bit: as root take another folder" \
+            "$? $(cat said)"
         chmod 1777 remains
         limited 120 "$kit/leak_dump" $process remains/d2 2> said
         verdict 'with the sticky bit' '0 d2.core d2.log d2.table' "$? $(cd remains && echo d2.*)"
     fi
-    verdict 'the earlier dump is not written over' '2 leak_dump: remains/d1 is the earlier dump, and would be overwritten yes' \
-        "$(said=$("$kit/leak_dump" --after remains/d1 $process remains/d1 2>&1); echo "$? $said") $([ -s remains/d1.log ] && echo yes)"
+    verdict 'the earlier dump is not written over' \
+        '2 leak_dump: remains/d1 is the earlier dump, and would be overwritten yes' \
+        "$(said=$("$kit/leak_dump" --after remains/d1 $process remains/d1 2>&1);
+        echo "$? $said") $([ -s remains/d1.log ] && echo yes)"
     stop $process
 fi
 rm -rf remains remains_tools

@@ -16,7 +16,8 @@ for name in $chosen_parts; do
     grep -q "^ *part $name\b" "$kit/tests/run.sh" || { echo "run.sh: no part $name" >&2; exit 2; }
 done
 
-# part NAME [DUMPS]: runs NAME.sh, if it is wanted and the dumps can be had that it needs. All parts need what the first builds.
+# part NAME [DUMPS]: runs NAME.sh, if it is wanted and the dumps can be had that it needs. All parts need what the first
+# builds.
 part() {
     if [ "$chosen_parts" ] && [[ " built $chosen_parts " != *" $1 "* ]]; then
         return

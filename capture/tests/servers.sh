@@ -36,22 +36,26 @@ if command -v memcached > /dev/null; then
     daemon memcached "$(cat memcached.pid)"
 fi
 if command -v redis-server > /dev/null; then
-    limited 60 "$kit/leak_trace" redis-server --port 28183 --bind 127.0.0.1 --daemonize yes --dir "$work" --pidfile "$work/redis.pid" > /dev/null
+    limited 60 "$kit/leak_trace" redis-server --port 28183 --bind 127.0.0.1 --daemonize yes --dir "$work" \
+        --pidfile "$work/redis.pid" > /dev/null
     sleep 1
     started[$(cat redis.pid)]=1
     limited 120 redis-benchmark -p 28183 -n 20000 -r 20000 -q -t set > /dev/null
     limited 60 redis-cli -p 28183 bgsave > /dev/null
     sleep 2
-    verdict 'redis: a child of fork saves' ok "$(redis-cli -p 28183 info persistence | tr -d '\r' | sed -n 's/^rdb_last_bgsave_status://p')"
+    verdict 'redis: a child of fork saves' ok \
+        "$(redis-cli -p 28183 info persistence | tr -d '\r' | sed -n 's/^rdb_last_bgsave_status://p')"
     daemon redis "$(cat redis.pid)"
 
     section a server under load
     gcc -shared -fPIC -O1 -o leaker.so "$kit/tests/leaker.c" -pthread
-    LD_PRELOAD=$work/leaker.so "$kit/leak_trace" redis-server --port 28184 --bind 127.0.0.1 --save '' --appendonly no > loaded.out 2>&1 &
+    LD_PRELOAD=$work/leaker.so "$kit/leak_trace" redis-server --port 28184 --bind 127.0.0.1 --save '' \
+        --appendonly no > loaded.out 2>&1 &
     process=$!
     started[$process]=1
     sleep 1
-    redis-benchmark -p 28184 -n 100000000 -r 20000 -d 100 -P 4 -q -t set,get,lpush,lpop,sadd,hset,spop,zadd,zpopmin > /dev/null 2>&1 &
+    redis-benchmark -p 28184 -n 100000000 -r 20000 -d 100 -P 4 -q -t set,get,lpush,lpop,sadd,hset,spop,zadd,zpopmin \
+        > /dev/null 2>&1 &
     load=$!
     started[$load]=1
     sleep 3

@@ -41,6 +41,9 @@ elif [ "$dumps" ]; then
     types known
     verdict 'status, and only texts are changed' '0 yes' "$? $(texts_alone known)"
     verdict 'each block has its type, or none' "$(wanted_types types.c)" "$(typed known)"
+    cp types_known libc-known && heap_dump library libc-known
+    types library
+    verdict 'variables of the C library give no type' '' "$(typed library)"
     cp known.typed twice.log && ln -s known.core twice.core && types twice
     verdict 'of a log with types' "$(cat known.typed)" "$(cat twice.typed)"
     heap_dump cxx types_cxx
@@ -64,7 +67,8 @@ elif [ "$dumps" ]; then
         sed -E -i "s/(\\.byte\t)0x[0-9a-f]+(\t# DW_AT_language)/\\1$1\\2/" language.s
         gcc -shared language.s -o language.so && timeout 60 "$kit/leak_types" < language.so | head -n 1
     }
-    verdict 'an array begins with element 0, in Fortran with 1' 'array 3 2, array 2 2' "$(array_of 0xc), $(array_of 0x8)"
+    verdict 'an array begins with element 0, in Fortran with 1' 'array 3 2, array 2 2' \
+        "$(array_of 0xc), $(array_of 0x8)"
 
     section what is shown of types
     find_leaks one --skip-freed --skip-links known.core known.typed > known.report
@@ -102,7 +106,8 @@ elif [ "$dumps" ]; then
     for folder in "$work" "$work/.debug" "/usr/lib/debug$work"; do
         mkdir -p "root$folder" && cp types_named "root$work/types_known" && mv named.debug "root$folder"
         types known --root root
-        verdict "a debug file that the file names, in ${folder/$work/ITS_FOLDER}" "$(wanted_types types.c)" "$(typed known)"
+        verdict "a debug file that the file names, in ${folder/$work/ITS_FOLDER}" "$(wanted_types types.c)" \
+            "$(typed known)"
         mv "root$folder/named.debug" .
     done
     rm named.debug && gcc -O1 -g -DOTHER "${known[@]}" -Wl,--build-id=0x1234 -o "root$work/named.debug"
@@ -132,7 +137,8 @@ elif [ "$dumps" ]; then
     verdict 'leak_types runs' '0 yes soon' "$(made RIGHTS)"
     wanted=user_$(id -u)_groups_$(id -G | wc -w)
     [ "$(id -u)" != 0 ] || wanted=user_65534_groups_0
-    verdict 'without rights and with limits' "40 struct ${wanted}_news_1_memory_1_seconds_30_file_ELF_open_0" "$(typed known)"
+    verdict 'without rights and with limits' "40 struct ${wanted}_news_1_memory_1_seconds_30_file_ELF_open_0" \
+        "$(typed known)"
     while read -r case count why; do
         verdict "$why" "0 yes soon $count" "$(made $case) $(typed known | wc -l)"
     done << 'END'
@@ -158,6 +164,7 @@ END
     gcc -std=gnu11 -O1 -DALL_SECONDS=4 -DVERSION='"brief"' "$kit"/what/*.c "$kit"/common/*.c -o "$tells" || exit 1
     start=$SECONDS
     verdict 'all together take no more time than is allowed' '0 yes soon' "$(made SLOW many)"
-    verdict 'of which two take half each' yes "$([ $((SECONDS - start)) -lt 15 ] && echo yes || echo $((SECONDS - start)))"
+    verdict 'of which two take half each' yes \
+        "$([ $((SECONDS - start)) -lt 15 ] && echo yes || echo $((SECONDS - start)))"
     verdict 'a reader that said all and goes on' '0 yes soon 0' "$(made LINGERS) $(typed known | wc -l)"
 fi

@@ -9,9 +9,11 @@ free_memory() { grep '^[-+] 0x' "$1"; }
 # text LOG START: of the last line that begins a block there.
 text() { sed -n "s/^@ \(.*\) + $2 0x[0-9a-f]*\$/\1/p" "$1" | tail -n 1; }
 # asked_by LOG START: the function of the caller.
-asked_by() { text "$1" "$2" | sed -n 's/^[^ ]*union:\[\(0x[0-9a-f]*\)\].*/\1/p' | addr2line -f -e union | sed -n '1s/?*//p'; }
+asked_by() { text "$1" "$2" | sed -n 's/^[^ ]*union:\[\(0x[0-9a-f]*\)\].*/\1/p' | addr2line -f -e union |
+    sed -n '1s/?*//p'; }
 at() { sed -n "s/.*$1 \(0x[0-9a-f]*\).*/\1/p" union.out | tail -n 1; }
-# differ UNION TABLE: the blocks of a union whose callers are not those that a log of the whole table tells of that start.
+# differ UNION TABLE: the blocks of a union whose callers are not those that a log of the whole table tells of that
+# start.
 differ() {
     awk '!/^@ / { next } { at = $(NF - 1); sub(/ \+ 0x[0-9a-f]+ 0x[0-9a-f]+$/, "") }
         NR == FNR { text[at] = $0; next }
@@ -31,14 +33,18 @@ traced_union() {
 # A table that has no room for all blocks.
 traced_union LEAK_TRACE_BLOCKS=1
 limited 120 "$kit/leak_dump" $process "$work/union" 2> union.said
-verdict 'a log by both' 1 "$(grep -c "by the heap in the core, and their callers by leak_trace's table, which missed [0-9]* blocks" union.said)"
+verdict 'a log by both' 1 \
+    "$(grep -c "by the heap in the core, and their callers by leak_trace's table, which missed [0-9]* blocks" \
+    union.said)"
 verdict 'it says so' 1 "$(grep -cE '^= leak_log names since 0 moment 0x[0-9a-f]+$' union.log)"
 "$kit/leak_walk" --quiet union.core > union.walk
 verdict "the blocks are the heap's" "$(blocks union.walk | md5sum)" "$(blocks union.log | md5sum)"
 verdict "free memory is the heap's" "$(free_memory union.walk | md5sum)" "$(free_memory union.log | md5sum)"
 "$kit/leak_log" union.core union.table > union.alone 2> alone.said
 verdict "callers are the table's" 0 "$(differ union.log union.alone)"
-verdict 'most blocks of the table have them' yes "$(awk '/^@ / { all++; named += !/^@ size / } END { print (named > 25000 && named < all - 5000) ? "yes" : named " of " all }' union.log)"
+verdict 'most blocks of the table have them' yes \
+    "$(awk '/^@ / { all++; named += !/^@ size / } END {
+        print (named > 25000 && named < all - 5000) ? "yes" : named " of " all }' union.log)"
 verdict 'a caller' early "$(asked_by union.log "$(at one)")"
 verdict 'a block has the start of another' 1 "$(sed -n 's/^other .* same //p' union.out)"
 verdict 'which has another size: nobody is told' 'size 504' "$(text union.log "$(at other)")"
@@ -58,15 +64,19 @@ if [ "$attaches" ]; then
     verdict 'lost at both moments' '88 ' "$(named two.report)"
     verdict 'the pair is taken' 'unknown 0 displaced 0 torn 0' "$(grep '^unknown' two.report)"
     "$kit/leak_walk" --quiet --names later.table --after union.walk later.core 2> alone.said > alone.log
-    verdict 'an earlier log by the heap alone' '2 leak_walk: union.walk: the earlier log is by the heap alone: make both of them with --names, or none' "$? $(cat alone.said)"
+    verdict 'an earlier log by the heap alone' \
+        '2 leak_walk: union.walk: the earlier log is by the heap alone: make both of them with --names, or none' \
+        "$? $(cat alone.said)"
     mkdir -p alone && ln -f union.core alone/dump.core && cp union.walk alone/dump.log
     limited 120 "$kit/leak_dump" --after "$work/alone/dump" $process "$work/alone/later" 2> alone.said
-    verdict 'leak_dump makes another such log of it' '0 0' "$(grep -c '^= leak_log names' alone/later.log) $(grep -c 'union:\[' alone/later.log)"
+    verdict 'leak_dump makes another such log of it' '0 0' \
+        "$(grep -c '^= leak_log names' alone/later.log) $(grep -c 'union:\[' alone/later.log)"
     rm -f later.core alone/*.core
 fi
 stop $process
 
-# changed TABLE KIND: a table that says it began late, or that has two entries of one start, those of the first and the second early block.
+# changed TABLE KIND: a table that says it began late, or that has two entries of one start, those of the first and the
+# second early block.
 cat > changed.py << 'END'
 import struct, sys
 table, kind, at = bytearray(open(sys.argv[1], "rb").read()), sys.argv[2], int(sys.argv[3])
@@ -86,14 +96,17 @@ changed() { python3 changed.py "$1" "$2" "$(./began)" "$3"; }
 section a table that began late
 traced_union LEAK_TRACE_BLOCKS=100000
 dump $process "$work/whole" 2> whole.said
-verdict 'a table that lacks nothing' '0 0' "$("$kit/leak_tables" --lacks whole.table | wc -c) $(grep -c '^= leak_walk' whole.log)"
+verdict 'a table that lacks nothing' '0 0' \
+    "$("$kit/leak_tables" --lacks whole.table | wc -c) $(grep -c '^= leak_walk' whole.log)"
 stop $process
 changed whole.table late late.table
 verdict 'it says when' 'began at 2009-02-13 23:31:30' "$(TZ=UTC "$kit/leak_tables" --lacks late.table)"
 "$kit/leak_log" whole.core late.table > late.log 2> late.said
-verdict 'leak_log refuses it' '2 leak_log: late.table: the table began when the process was running: it lacks the blocks from before, which leak_walk --names has' "$? $(cat late.said)"
+verdict 'leak_log refuses it' \
+    '2 leak_log: late.table: the table began when the process was running: it lacks the blocks from before, which leak_walk --names has' "$? $(cat late.said)"
 limited 120 "$kit/leak_dump" --core whole.core late.table late 2> late.said
-verdict 'leak_dump takes both' '0 1' "$? $(grep -c "by the heap in the core, and their callers by leak_trace's table, which began at " late.said)"
+verdict 'leak_dump takes both' '0 1' \
+    "$? $(grep -c "by the heap in the core, and their callers by leak_trace's table, which began at " late.said)"
 verdict 'the log has the moment' 1 "$(grep -cE '^= leak_log names since 1234567890 moment 0x[0-9a-f]+$' late.log)"
 verdict 'its callers' 0 "$(differ late.log whole.log)"
 limited 120 "$kit/leak_report" --raw whole.core late.table > late.out 2> late.said
@@ -105,7 +118,8 @@ verdict 'two entries of one start: nobody is told' size "$(text twice.log "$twic
 verdict 'one entry of it: its caller' 1 "$(text late.log "$twice" | grep -c '^/')"
 
 section what a heap says beside a table
-verdict 'of a table that does not agree nothing' 'leak_walk: twice.table: table and heap do not agree' "$("$kit/leak_walk" --unused twice.table whole.core 2>&1)"
+verdict 'of a table that does not agree nothing' 'leak_walk: twice.table: table and heap do not agree' \
+    "$("$kit/leak_walk" --unused twice.table whole.core 2>&1)"
 [ -x freed ] || build freed.c
 start ./freed
 dump $process "$work/beside"

@@ -17,15 +17,19 @@ untraced 'no descriptors later' "$kit/leak_trace" bash -c 'ulimit -n 3; (echo he
 runs 'few blocks' env LEAK_TRACE_BLOCKS=1000 "$kit/leak_trace" ./hello
 runs 'forks untraced' env LEAK_TRACE_FORK=0 "$kit/leak_trace" ./hello
 runs 'depth 99' "$kit/leak_trace" -d 99 ./hello
-gcc -static "$kit/tests/hello.c" -o hello_static 2> hello.cc && untraced 'a static program' "$kit/leak_trace" ./hello_static
+gcc -static "$kit/tests/hello.c" -o hello_static 2> hello.cc && untraced 'a static program' "$kit/leak_trace" \
+    ./hello_static
 if [ "$(id -u)" = 0 ]; then
-    chmod 755 . && cp -r "$kit/leak_trace" "$kit/leak_trace.so" "$kit/scripts" . && cp hello hello_setuid && chmod u+s hello_setuid
+    chmod 755 . && cp -r "$kit/leak_trace" "$kit/leak_trace.so" "$kit/scripts" . && cp hello hello_setuid &&
+        chmod u+s hello_setuid
     untraced 'a setuid program' setpriv --reuid=65534 --regid=65534 --clear-groups ./leak_trace ./hello_setuid
 else
     leave_out 'a setuid program of another user: only root may run one'
 fi
-verdict 'no such program' '127 leak_trace: ./nonexistent: no such program' "$(said=$("$kit/leak_trace" ./nonexistent 2>&1); echo "$? $said")"
-verdict 'a depth that is no number' "2 leak_trace: -d takes a number, and 'x' is none" "$(said=$("$kit/leak_trace" -d x ./hello 2>&1); echo "$? $said")"
+verdict 'no such program' '127 leak_trace: ./nonexistent: no such program' \
+    "$(said=$("$kit/leak_trace" ./nonexistent 2>&1); echo "$? $said")"
+verdict 'a depth that is no number' "2 leak_trace: -d takes a number, and 'x' is none" \
+    "$(said=$("$kit/leak_trace" -d x ./hello 2>&1); echo "$? $said")"
 if mkdir small && mount -t tmpfs -o size=512k tmpfs small 2> /dev/null; then
     untraced 'full disk' "$kit/leak_trace" -o "$work/small/t.%p" ./hello
     dd if=/dev/zero of=small/fill bs=4k 2> /dev/null

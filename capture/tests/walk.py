@@ -1,6 +1,7 @@
-"""walk.py TABLE_LOG WALK_LOG [MORE]: the live blocks of a log by leak_log against those of leak_walk, of one moment. Prints how many are in
-both, in one alone, and have a size that malloc doesn't give for what was asked. Ends with 1 where a block of the table is missing, a size is
-wrong, freed memory lies over a block, or more than MORE blocks (none) are in the walk alone."""
+"""walk.py TABLE_LOG WALK_LOG [MORE]: the live blocks of a log by leak_log against those of leak_walk, of one moment.
+Prints how many are in both, in one alone, and have a size that malloc doesn't give for what was asked. Ends with 1
+where a block of the table is missing, a size is wrong, freed memory lies over a block, or more than MORE blocks (none)
+are in the walk alone."""
 import bisect, re, sys
 
 PAGE, CHUNK_HEAD, LEAST_USABLE, MOST_ALIGNMENT, LAST = 4096, 8, 24, 1 << 16, 8
@@ -26,15 +27,17 @@ def read(path):
     return live, freed
 
 def is_usable(start, usable, asked):
-    """What malloc_usable_size may say: a remainder too small for a chunk stays at the block; pvalloc gives whole pages; a block with a mapping of
-    its own goes up to the last word of a page, and an aligned one may have begun as much later as its alignment."""
+    """What malloc_usable_size may say: a remainder too small for a chunk stays at the block; pvalloc gives whole pages;
+    a block with a mapping of its own goes up to the last word of a page, and an aligned one may have begun as much
+    later as its alignment."""
     exact = max(LEAST_USABLE, (asked + CHUNK_HEAD + 15) // 16 * 16 - CHUNK_HEAD)
     if start % PAGE == 0:
         exact_pages = (asked + PAGE - 1) // PAGE * PAGE + CHUNK_HEAD
         if exact_pages <= usable <= exact_pages + 32:
             return True
     alignment = min(start & -start, MOST_ALIGNMENT)
-    return exact <= usable <= exact + 32 or (asked <= usable < asked + PAGE + max(PAGE, alignment + 1) and (start + usable + LAST) % PAGE == 0)
+    return exact <= usable <= exact + 32 or (asked <= usable < asked + PAGE + max(PAGE, alignment + 1) and
+                                             (start + usable + LAST) % PAGE == 0)
 
 def over(freed, live):
     starts = sorted(live)
@@ -50,7 +53,8 @@ missing = sorted(set(table) - set(walk))
 extra = sorted(set(walk) - set(table))
 odd = [a for a in table if a in walk and not is_usable(a, walk[a], table[a])]
 lost = list(over(walk_freed, {**table, **walk}))
-print(f"both {len(table) - len(missing)}, only in the table {len(missing)}, only in the walk {len(extra)}, odd sizes {len(odd)}, freed over live {len(lost)}")
+print(f"both {len(table) - len(missing)}, only in the table {len(missing)}, only in the walk {len(extra)}, odd sizes "
+      f"{len(odd)}, freed over live {len(lost)}")
 for a in missing[:5]:
     print("  only in the table", hex(a), table[a])
 for a in extra[:5]:

@@ -1,6 +1,6 @@
-"""walk_damage.py CORE LOG COPY WHERE: copies a core with the size word of one block in use of the LOG damaged, so that it leads nowhere: of the
-main heap, or of a thread's; or with `bit`, so that it says that the block before is free, as a string does that is too long by its end. Prints where
-that block's chunk begins."""
+"""walk_damage.py CORE LOG COPY WHERE: copies a core with the size word of one block in use of the LOG damaged, so that
+it leads nowhere: of the main heap, or of a thread's; or with `bit`, so that it says that the block before is free, as a
+string does that is too long by its end. Prints where that block's chunk begins."""
 import re, struct, sys
 core, log, copy, where = sys.argv[1:]
 data = bytearray(open(core, "rb").read())

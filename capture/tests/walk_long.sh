@@ -1,7 +1,8 @@
 #!/bin/bash
-# What of leak_walk takes too long for the gate: many real programs, fifty killed storms, 1,000 mutations under sanitizers, ten million blocks, and
-# programs with another allocator. Programs that are not installed are left out. LEAK_FIND names leak_find, as for run.sh. REDIS_LIBC names a
-# redis-server that was built by `make MALLOC=libc`: Debian's has jemalloc.
+# What of leak_walk takes too long for the gate: many real programs, fifty killed storms, 1,000 mutations under
+# sanitizers, ten million blocks, and programs with another allocator. Programs that are not installed are left out.
+# LEAK_FIND names leak_find, as for run.sh. REDIS_LIBC names a redis-server that was built by `make MALLOC=libc`:
+# Debian's has jemalloc.
 . "$(dirname "$0")/common.sh"
 STORMS=${STORMS:-50}
 HEAPS=${HEAPS:-24}
@@ -9,9 +10,12 @@ HEAPS=${HEAPS:-24}
 
 section more real programs
 if [ "$dumps" ]; then
-    traced sqlite3 sqlite3 :memory: "create table t(a,b); with recursive c(x) as (select 1 union all select x+1 from c where x<9999) insert into t select x, hex(x) from c; select count(*) from t;" '.read /dev/stdin'
-    traced php php -r '$a = []; for ($i = 0; $i < 20000; $i++) $a["k$i"] = [$i, str_repeat("x", $i % 99)]; ini_set("memory_limit", -1); fgets(STDIN);'
-    USE_ZEND_ALLOC=0 traced php_malloc php -r '$a = []; for ($i = 0; $i < 20000; $i++) $a["k$i"] = [$i, str_repeat("x", $i % 99)]; fgets(STDIN);'
+    traced sqlite3 sqlite3 :memory: \
+        "create table t(a,b); with recursive c(x) as (select 1 union all select x+1 from c where x<9999) insert into t select x, hex(x) from c; select count(*) from t;" '.read /dev/stdin'
+    traced php php \
+        -r '$a = []; for ($i = 0; $i < 20000; $i++) $a["k$i"] = [$i, str_repeat("x", $i % 99)]; ini_set("memory_limit", -1); fgets(STDIN);'
+    USE_ZEND_ALLOC=0 traced php_malloc php \
+        -r '$a = []; for ($i = 0; $i < 20000; $i++) $a["k$i"] = [$i, str_repeat("x", $i % 99)]; fgets(STDIN);'
     traced ruby ruby -e 'h = {}; 9999.times { |i| h["k#{i}"] = [i] * 5 }; STDIN.gets'
     traced lua lua5.4 -e 't = {} for i = 1, 9999 do t[i] = { tostring(i), i } end io.read()'
     traced tclsh tclsh
@@ -43,7 +47,8 @@ if [ "$dumps" ]; then
     fi
     if command -v mariadbd > /dev/null; then
         mkdir maria && chown nobody maria
-        limited 120 mariadb-install-db --no-defaults --datadir="$work/maria" --user=nobody --auth-root-authentication-method=normal > maria.out 2>&1
+        limited 120 mariadb-install-db --no-defaults --datadir="$work/maria" --user=nobody \
+            --auth-root-authentication-method=normal > maria.out 2>&1
         traced mariadbd mariadbd --no-defaults --bootstrap --datadir="$work/maria" --user=nobody
     else
         leave_out mariadbd
@@ -56,20 +61,26 @@ ask() { limited 60 python3 -c 'import sys, urllib.request
 for _ in range(int(sys.argv[1])):
     urllib.request.urlopen("http://127.0.0.1:28187/x", timeout=5).read()' "$1" 2> /dev/null; }
 
-# named_of WORD..: of a search: lists and blocks of requests before the first moment, lists and blocks of those between, and other blocks.
+# named_of WORD..: of a search: lists and blocks of requests before the first moment, lists and blocks of those between,
+# and other blocks.
 named_of() {
     find_leaks "$@" > requests.report 2>&1
     # one of the three may have a rest of 16 bytes
-    awk 'FNR == NR { for (i = 1; i < NF; i++) if ($i == "+") live[$(i + 1)]; else if ($i == "-") delete live[$(i + 1)]; next }
-        $1 == "leak" { of = $3 != 1016 && $3 != 1032 ? "other" : $2 in live ? "before" : "between"; blocks[of]++; heads[of] += $5 == "head" }
+    awk 'FNR == NR { for (i = 1; i < NF; i++) if ($i == "+") live[$(i + 1)]; else if ($i == "-") delete live[$(i + 1)];
+        next }
+        $1 == "leak" { of = $3 != 1016 && $3 != 1032 ? "other" : $2 in live ? "before" : "between"; blocks[of]++;
+        heads[of] += $5 == "head" }
         END { print heads["before"] + 0, blocks["before"] + 0, heads["between"] + 0, blocks["between"] + 0, blocks["other"] + 0 }' before.log requests.report
 }
 
 # at_least NUMBERS NUMBERS: yes, if no number is below that of the first list in its place; else the second list.
-at_least() { awk -v least="$1" -v found="$2" 'BEGIN { n = split(least, a); split(found, b); for (i = 1; i <= n; i++) if (b[i] < a[i]) { print found; exit } print "yes" }'; }
+at_least() { awk -v least="$1" -v found="$2" \
+    'BEGIN { n = split(least, a); split(found, b); for (i = 1; i <= n; i++) if (b[i] < a[i]) { print found; exit }
+        print "yes" }'; }
 
-# lists_of NAME BEFORE LEAST LEAST_BY_ZERO LEAST_OF_PAIR PROGRAM..: a server with one worker loses a list of three for each request: of one and
-# BEFORE more, and then, between both moments, of 30. So many are named at least, in the order of named_of, and nothing else is.
+# lists_of NAME BEFORE LEAST LEAST_BY_ZERO LEAST_OF_PAIR PROGRAM..: a server with one worker loses a list of three for
+# each request: of one and BEFORE more, and then, between both moments, of 30. So many are named at least, in the order
+# of named_of, and nothing else is.
 lists_of() {
     local name="$1, $(($2 + 1)) and 30" found
     LD_PRELOAD=$work/request_leaks.so "${@:6}" > served.out 2>&1 &
@@ -100,7 +111,8 @@ if [ "$attaches" ]; then
     gcc -shared -fPIC -O1 -o request_leaks.so "$kit/tests/request_leaks.c"
     if command -v nginx > /dev/null; then
         printf 'pid %s/nginx.pid; error_log %s/e.log; worker_processes 1; daemon off;\nevents {}\nhttp { access_log off; server { listen 127.0.0.1:28187; root %s/www; } }\n' "$work" "$work" "$work" > n.conf
-        # it keeps addresses in memory that it gave back once it had read its configuration, where the first lists then are
+        # it keeps addresses in memory that it gave back once it had read its configuration, where the first lists then
+        # are
         lists_of nginx 2 '2 2 28 80' '2 2 28 80' '2 2' nginx -c "$work/n.conf"
         lists_of nginx 30 '30 80 30 90' '30 80 30 90' '30 80' nginx -c "$work/n.conf"
     else

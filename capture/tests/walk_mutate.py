@@ -1,12 +1,14 @@
-"""walk_mutate.py COUNT WALK SANITIZED MEMORY CORE..: so many times takes one of the cores, damages it or cuts it off at random, and runs leak_walk and its
-build with -fsanitize=address,undefined over it. Each must end within 10 seconds, with 0, 1 or 2, with no finding, without output where it is 2. What
-leak_walk allocates, which the preloaded library MEMORY counts, and the mapped core must be twice the core's size at most. The first damage is by the seed
-SEED of the environment, or 1."""
+"""walk_mutate.py COUNT WALK SANITIZED MEMORY CORE..: so many times takes one of the cores, damages it or cuts it off at
+random, and runs leak_walk and its build with -fsanitize=address,undefined over it. Each must end within 10 seconds,
+with 0, 1 or 2, with no finding, without output where it is 2. What leak_walk allocates, which the preloaded library
+MEMORY counts, and the mapped core must be twice the core's size at most. The first damage is by the seed SEED of the
+environment, or 1."""
 import os, random, struct, subprocess, sys, tempfile
 
-count, walk, sanitized, memory, cores = int(sys.argv[1]), sys.argv[2], sys.argv[3], os.path.abspath(sys.argv[4]), sys.argv[5:]
+count, walk, sanitized, memory, cores = int(sys.argv[1]), *sys.argv[2:4], os.path.abspath(sys.argv[4]), sys.argv[5:]
 SECONDS, FOUND = 10, 99
-environment = dict(os.environ, ASAN_OPTIONS=f"exitcode={FOUND}:detect_leaks=0", UBSAN_OPTIONS=f"halt_on_error=1:exitcode={FOUND}")
+environment = dict(os.environ, ASAN_OPTIONS=f"exitcode={FOUND}:detect_leaks=0",
+                   UBSAN_OPTIONS=f"halt_on_error=1:exitcode={FOUND}")
 
 def writable(data):
     """The places in the file of the writable segments."""
@@ -17,7 +19,8 @@ def writable(data):
             yield offset, size
 
 def some_word(data, chance, values):
-    """A place of 8 bytes in writable memory, chosen near what looks like malloc's: of some tries the first whose word is small or an address."""
+    """A place of 8 bytes in writable memory, chosen near what looks like malloc's: of some tries the first whose word
+    is small or an address."""
     offset, size = chance.choice(values)
     at = offset + chance.randrange(max(size // 8, 1)) * 8
     for _ in range(50):
@@ -35,7 +38,8 @@ def mutate(data, chance):
             continue
         word = struct.unpack_from("<Q", data, at)[0]
         other = struct.unpack_from("<Q", data, some_word(data, chance, values) & ~7)[0]
-        new = (word + 16 * chance.randrange(-9, 9), word ^ 1 << chance.randrange(64), other, chance.randrange(1 << 64), 0, 17)[chance.randrange(6)]
+        new = (word + 16 * chance.randrange(-9, 9), word ^ 1 << chance.randrange(64), other, chance.randrange(1 << 64),
+               0, 17)[chance.randrange(6)]
         if kind < 4:
             struct.pack_into("<Q", data, at, new & (1 << 64) - 1)
         else:
@@ -46,7 +50,8 @@ def run(program, path, options, more):
     """What was wrong, or nothing."""
     with open(path + ".out", "wb") as out, open(path + ".said", "wb") as said:
         try:
-            status = subprocess.run([program, *options, path], stdout=out, stderr=said, env={**environment, **more}, timeout=SECONDS).returncode
+            status = subprocess.run([program, *options, path], stdout=out, stderr=said, env={**environment, **more},
+                                    timeout=SECONDS).returncode
         except subprocess.TimeoutExpired:
             return f"more than {SECONDS} s"
     text = open(path + ".said", "rb").read()
@@ -80,5 +85,6 @@ with tempfile.TemporaryDirectory() as folder:
         if wrong:
             bad += 1
             print(f"mutation {i} of {core}: {wrong}", flush=True)
-print(f"{count} mutations, {bad} wrong; statuses of both builds {dict(sorted(statuses.items()))}; at most {most:.4f} of the core's size allocated")
+print(f"{count} mutations, {bad} wrong; statuses of both builds {dict(sorted(statuses.items()))}; at most {most:.4f} "
+      f"of the core's size allocated")
 sys.exit(bad != 0)

@@ -32,6 +32,7 @@
  * what 632 word +0x38 on_read
  * what 632 word +0x50 on_read
  * what 648 word +0x8 on_read
+ * what 664 word +0x10 on_read
  */
 #include <stdio.h>
 #include "lose.h"
@@ -47,7 +48,7 @@ enum { BUFFER = 600 };
 static long table[8];
 static struct node *conns, *texts, *numbers, *thin, *small, *smaller, *others, *stale, *emptied;
 static struct node *volatile named[2], *volatile typed[2];
-static void *volatile arrays[2], *volatile structures[2];
+static void *volatile arrays[2], *volatile structures[2], *volatile lettered[2];
 static void *buffer;
 __attribute__((noinline)) static void on_done(void) { table[0]++; }
 __attribute__((noinline)) static void on_read(void) { table[1]++; }
@@ -139,6 +140,14 @@ static struct node *with_stale_start(size_t size)
     made->next = (struct node *)0x7123456789abcdef;
     return made;
 }
+/* It begins with letters, and is no text: a text may have been there before. */
+static void *with_letters(size_t size)
+{
+    void **made = cleared(size);
+    memcpy(made, "letters.", 8);
+    made[1] = (void *)1, made[2] = (void *)on_read, made[3] = buffer;
+    return made;
+}
 /* Half of what held ones have is null here. */
 static struct node *half_empty(size_t size)
 {
@@ -171,6 +180,7 @@ __attribute__((noinline)) static void hold_all(void)
     named[0] = with_name(536), named[1] = with_name(536);
     arrays[0] = pointers(584), arrays[1] = pointers(584);
     structures[0] = structures_of(632), structures[1] = structures_of(632);
+    lettered[0] = with_letters(664), lettered[1] = with_letters(664);
     typed[0] = with_type(568), typed[1] = with_type(568);
     on_exit(nothing, node(456, NULL, 1));
 }
@@ -196,6 +206,7 @@ __attribute__((noinline)) static void lose_all(void)
     LOSE(structures_of(632));
     LOSE(with_stale_start(616));
     LOSE(half_empty(648));
+    LOSE(with_letters(664));
     LOSE(number_for_pointer(424));
     LOSE(node(440, NULL, 7));
     LOSE(node(456, NULL, 7));

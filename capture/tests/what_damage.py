@@ -1,4 +1,5 @@
-"""what_damage.py LEAK_WHAT CORE LOG REPORT: damages each of the files in many ways, and says which statuses came of it."""
+"""what_damage.py LEAK_WHAT CORE LOG REPORT: damages each of the files in many ways, and says which statuses came of
+it."""
 import random
 import subprocess
 import sys
@@ -26,7 +27,8 @@ def damaged(data, chance):
 
 
 def damaged_head(data, chance):
-    """The bytes of a core with some changed among its first ones and its program headers, which leak_core writes last."""
+    """The bytes of a core with some changed among its first ones and its program headers, which leak_core writes
+    last."""
     data = bytearray(data)
     for _ in range(chance.randrange(1, 5)):
         place = chance.choice((chance.randrange(min(len(data), 4096)), max(0, len(data) - 1 - chance.randrange(4096))))
@@ -45,7 +47,8 @@ def main(program, *paths):
         words[which] = f"damaged.{which}"
         with open(words[which], "wb") as file:
             file.write((damaged_head if which == 0 and number % 2 else damaged)(data, chance))
-        run = subprocess.run([program, *words], stdout=subprocess.DEVNULL, stderr=subprocess.PIPE, timeout=300, check=False)
+        run = subprocess.run([program, *words], stdout=subprocess.DEVNULL, stderr=subprocess.PIPE, timeout=300,
+                             check=False)
         statuses.add(run.returncode)
         if run.returncode not in (0, 2):
             print(number, run.returncode, run.stderr)

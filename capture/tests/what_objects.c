@@ -25,6 +25,7 @@ static struct type thing = { 1, &PyType_Type, 0, "Thing", 192, 0, { 0 }, 0 };
 static struct type collected = { 1, &PyType_Type, 0, "collected", 200 - 8, 0, { 0 }, 0 };
 static struct type members = { 1, &PyType_Type, 0, "members", 232 - 8 - 32, 0, { 0 }, 0 };
 static struct type items = { 1, &PyType_Type, 0, "items", 24, 8, { 0 }, 0 };
+static struct type wraps = { 1, &PyType_Type, 0, "its size wraps", 1024, 8, { 0 }, 0 };
 static struct type of_types = { 1, &PyType_Type, 0, "of types", 400, 0, { 0 }, 1L << 31 };
 static struct type by_other = { 1, &of_types, 0, "by another type of types", 272, 0, { 0 }, 0 };
 static struct type text = { 1, &PyType_Type, 0, "str", 288, 0, { 0 }, 0 };
@@ -72,6 +73,7 @@ int main(void)
     LOSE(block(328, 0, 1, &thing, 0));
     LOSE(block(344, 0, 1L << 40, &thing, 0));
     LOSE(block(360, 0, 1, &items, 9999));
+    LOSE(block(392, 0, 1, &wraps, (1L << 61) - (1024 - 392) / 8));
     LOSE(block(376, 1, 1, &thing, 0));
     rest();
 }

@@ -5,7 +5,7 @@
 #include "types.h"
 
 const char program[] = "leak_types", usage[] = "usage: leak_types < FILE\n", help[] =
-    "Writes to standard output the variables of a program or library and their types, by its debug information, for\n"
+    "Writes to standard output the variables of a program or library and their types, from its debug information, for\n"
     "leak_what --types.\n\n"
     "status: 0; 2 if there is no answer, with a line on standard error\n";
 

@@ -12,13 +12,13 @@ const char program[] = "leak_what",
     "Writes to standard output what the leaked blocks of a report are, a line for each fact: the text that a block\n"
     "begins with, its pointers to functions and variables, the reachable block that it looks like, and what was\n"
     "lost with it.\n\n"
-    "  CORE     a core of the process: by leak_core, gcore or the kernel\n"
-    "  LOG      its live blocks: by leak_walk, or by leak_log\n"
+    "  CORE     a core of the process, written by leak_core, gcore or the kernel\n"
+    "  LOG      its live blocks, by leak_walk or leak_log\n"
     "  REPORT   leak_find's report of them\n"
     "  ADDRESS  describes only the blocks at these addresses, leaked or reachable\n"
-    "  --types  copies the log with the types of blocks in place of their sizes, by the debug information of files\n"
-    "  --place  prints which symbol, file or stack has each address\n"
-    "  --root   looks for the files that the process had mapped below DIR first, as a process with that root would\n"
+    "  --types  copies the log, with types of blocks in place of their sizes, from the files' debug information\n"
+    "  --place  prints the symbol, file or stack in which each address lies\n"
+    "  --root   looks for the process's mapped files below DIR first, as a process with that root would\n"
     "  --version  prints the version\n\n"
     "status: 0; 2 if there is no answer, with a line on standard error\n";
 

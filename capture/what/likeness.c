@@ -166,6 +166,12 @@ static int is_array(const uint32_t *codes, size_t count)
     return pointers >= LEAST && pointers == some;
 }
 
+/* Whether a block begins with what freed memory leaves behind, or with letters, as a text that was written over. */
+static int begins_doubtfully(uint32_t code)
+{
+    return code >> KIND_AT == OTHER || code >> KIND_AT == TEXT;
+}
+
 /* The held block that a lost one is like. Equal lost blocks get the same answer: numbers in them don't count for that.
  * */
 struct likeness like_of(struct what *what, struct classes *c, long block)
@@ -178,7 +184,7 @@ struct likeness like_of(struct what *what, struct classes *c, long block)
     if (!size)
         return (struct likeness){ NONE, NONE, 0 };
     count = read_codes(what, what->blocks.list + block, codes);
-    if (*codes >> KIND_AT == OTHER || is_array(codes, count) || is_periodic(codes, count))
+    if (begins_doubtfully(*codes) || is_array(codes, count) || is_periodic(codes, count))
         return (struct likeness){ NONE, NONE, 0 };
     for (size_t i = 0; i < count; i++)
         hash = mixed(hash, codes[i] >> KIND_AT == SMALL ? (uint32_t)SMALL << KIND_AT : codes[i]);

@@ -14,6 +14,15 @@ static int is_libc(const char *name)
         || begins(name, end, "ld-");
 }
 
+/* Whether the name is that of Python or Ruby, or of its library. */
+static int is_interpreter(const char *name)
+{
+    const char *end = name + strlen(name);
+
+    return begins(name, end, "python") || begins(name, end, "libpython") || begins(name, end, "ruby")
+        || begins(name, end, "libruby");
+}
+
 /* The build-id in these notes (binutils, ld --build-id; elf(5), Notes). */
 static void take_id(struct module *module, const uint8_t *at, const uint8_t *end)
 {
@@ -94,6 +103,7 @@ static size_t add_module(struct core *core, struct modules *modules, const struc
     measure(core, &module);
     find_id(core, &module);
     module.is_libc = is_libc(module.name);
+    module.is_interpreter = is_interpreter(module.name);
     modules->list = grown(modules->list, modules->count, sizeof *modules->list);
     modules->list[modules->count++] = module;
     return count;
@@ -125,4 +135,13 @@ long module_of(const struct modules *modules, uint64_t address)
             high = middle;
     }
     return low && address < modules->list[low - 1].end ? (long)low - 1 : NONE;
+}
+
+/* The number of the first file whose name begins so, or NONE. */
+long library_of(const struct modules *modules, const char *name)
+{
+    for (size_t i = 0; i < modules->count; i++)
+        if (!strncmp(modules->list[i].name, name, strlen(name)))
+            return i;
+    return NONE;
 }

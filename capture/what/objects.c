@@ -1,5 +1,5 @@
-/* Blocks that have a name of themselves: of Samba's talloc, and objects of Python by their type. Each must have the
- * size that it says. */
+/* Blocks that have a name of themselves: of Samba's talloc, and objects of Python and GLib by their type. Each must have
+ * the size that it says. */
 #include "what.h"
 
 enum { NAME_AT = 0x38, SIZE_AT = 0x40, HEAD = 0x60 };   /* talloc 2, struct talloc_chunk */
@@ -10,7 +10,7 @@ static const uint64_t of_types = 1u << 31;              /* Py_TPFLAGS_TYPE_SUBCL
 enum { MOST_NAME = 200, MOST_SIZE = 1 << 30, MOST_BEFORE = 4 * WORD };
 
 /* The text at an address up to its 0: in memory or, since a core may lack constants, in a file. Gives its length. */
-static uint64_t name_at(struct what *what, uint64_t address, const uint8_t **bytes)
+uint64_t name_at(struct what *what, uint64_t address, const uint8_t **bytes)
 {
     long module = module_of(&what->modules, address);
     const struct section *section = module == NONE ? NULL : section_at(&what->modules, module, address);
@@ -24,14 +24,6 @@ static uint64_t name_at(struct what *what, uint64_t address, const uint8_t **byt
     return *bytes && length < size && !(*bytes)[length] ? length : 0;
 }
 
-static int has_library(const struct what *what, const char *name)
-{
-    for (size_t i = 0; i < what->modules.count; i++)
-        if (!strncmp(what->modules.list[i].name, name, strlen(name)))
-            return 1;
-    return 0;
-}
-
 /* The name of a block of talloc, which says how many bytes were asked for. */
 static uint64_t talloc_name(struct what *what, const struct block *block, const uint8_t **bytes)
 {
@@ -39,7 +31,7 @@ static uint64_t talloc_name(struct what *what, const struct block *block, const 
 
     if (block->size < HEAD || !word_at(&what->core, block->start + SIZE_AT, &size) || size > MOST_SIZE
         || !fits_block(HEAD + size, block->size) || !word_at(&what->core, block->start + NAME_AT, &name)
-        || !has_library(what, "libtalloc.so"))
+        || library_of(&what->modules, "libtalloc.so") == NONE)
         return 0;
     return name_at(what, name, bytes);
 }
@@ -77,11 +69,11 @@ static int has_size(const struct block *block, uint64_t before, const uint64_t *
 {
     uint64_t count = (int64_t)items < 0 ? -items : items, size = type[BASIC_SIZE], more;
 
-    if (type[BASIC_SIZE] > MOST_SIZE || type[ITEM_SIZE] > MOST_SIZE || size < 2 * WORD)
+    if (size < 2 * WORD || size > MOST_SIZE || type[ITEM_SIZE] > MOST_SIZE)
         return 0;
-    if (type[ITEM_SIZE] && __builtin_mul_overflow(count, type[ITEM_SIZE], &more))
+    if (__builtin_mul_overflow(count, type[ITEM_SIZE], &more) || more > MOST_SIZE)
         return 0;
-    size += type[ITEM_SIZE] ? more : 0;
+    size += more;
     return size < MOST_SIZE && fits_block(before + ((size + WORD - 1) & -(uint64_t)WORD), block->size);
 }
 
@@ -121,5 +113,8 @@ int is_object(struct what *what, const struct block *block, struct object *objec
     if (object->length)
         return 1;
     object->of = "python";
-    return is_python(what, block, object);
+    if (is_python(what, block, object))
+        return 1;
+    object->of = "glib";
+    return is_gobject(what, block, object);
 }

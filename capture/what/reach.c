@@ -148,17 +148,22 @@ static void take_root(struct reach *reach, uint64_t place, uint64_t word, enum o
     if (origin != BY_REGISTER && (block_of(blocks, place) != NONE || is_freed(blocks, place)))
         return;
     role.size = blocks->list[to].size;
-    role.place = origin == BY_VARIABLE || origin == BY_LIBC ? variable_of(reach, place) : 0;
+    role.place = origin <= BY_LIBC ? variable_of(reach, place) : 0;
     take(reach, to, number_of(&reach->roles, role));
 }
 
 static enum origin origin_of(const struct reach *reach, const struct segment *s)
 {
-    long module = module_of(&reach->what->modules, s->start);
+    const struct modules *modules = &reach->what->modules;
+    long module = module_of(modules, s->start);
 
     if (s->is_stack)
         return BY_STACK;
-    return module == NONE ? BY_MEMORY : reach->what->modules.list[module].is_libc ? BY_LIBC : BY_VARIABLE;
+    if (module == NONE)
+        return BY_MEMORY;
+    if (modules->list[module].is_interpreter)
+        return BY_INTERPRETER;
+    return modules->list[module].is_libc ? BY_LIBC : BY_VARIABLE;
 }
 
 /* Where the part of a segment begins that counts: of a stack what is below all stack pointers in it doesn't. */
@@ -215,7 +220,7 @@ struct roles find_roles(struct what *what)
     reach.queue = room_for(count, sizeof *reach.queue);
     for (size_t i = 0; i < count; i++)
         reach.roles.of_block[i] = NONE;
-    for (int origin = BY_VARIABLE; origin <= BY_STACK; origin++)
+    for (int origin = BY_INTERPRETER; origin <= BY_STACK; origin++)
         take_segments(&reach, origin);
     take_registers(&reach);
     free(reach.queue);

@@ -166,7 +166,8 @@ int write_typed_log(const char *core, const char *log, char **roots, size_t root
     typed.what.blocks = read_blocks(log, NULL);
     typed.what.modules = find_modules(&typed.what.core, roots, root_count);
     for (size_t i = 0; i < typed.what.modules.count; i++)
-        read_module(&typed, typed.what.modules.list + i);
+        if (!typed.what.modules.list[i].is_libc) /* it leaves pointers in a FILE as they were */
+            read_module(&typed, typed.what.modules.list + i);
     typed.labels = typed.types.count ? find_labels(&typed.what, &typed.types)
                                      : calloc(typed.what.blocks.count, sizeof *typed.labels);
     if (!typed.labels)

@@ -80,6 +80,7 @@ struct module {
     const char *path, *name;
     uint64_t start, end, bias;
     uint8_t is_libc;            /* the C library or its loader */
+    uint8_t is_interpreter;
     uint8_t is_read;            /* whether symbols and sections were looked for */
     uint8_t id[MOST_ID];        /* the build-id that the process has in memory */
     uint32_t id_size;           /* 0 if it has none */
@@ -98,10 +99,18 @@ struct modules {
     uint64_t room;              /* how many bytes of tables may still be read */
 };
 
+/* GLib's table of names by number. */
+struct type_names {
+    int is_looked_for, is_doubtful;
+    uint64_t table;             /* 0 if there is none */
+    uint64_t scanned;           /* bytes of variables, in which it was looked for */
+};
+
 struct what {
     struct core core;
     struct blocks blocks;
     struct modules modules;
+    struct type_names type_names;
 };
 
 /* core.c */
@@ -123,6 +132,7 @@ int fits_block(uint64_t size, uint64_t usable);
 /* modules.c */
 struct modules find_modules(struct core *core, char **roots, size_t root_count);
 long module_of(const struct modules *modules, uint64_t address);
+long library_of(const struct modules *modules, const char *name);
 
 /* files.c */
 enum { MOST_TABLE = 64 << 20, MOST_NAMES = 1 << 16 };
@@ -163,7 +173,7 @@ void put_type_name(const char *name);
 void put_place(struct what *what, uint64_t address);
 
 /* reach.c: how held blocks are reached */
-enum origin { BY_VARIABLE, BY_LIBC, BY_MEMORY, BY_STACK, BY_REGISTER };
+enum origin { BY_INTERPRETER, BY_VARIABLE, BY_LIBC, BY_MEMORY, BY_STACK, BY_REGISTER };
 
 struct role {
     int32_t parent;             /* how the block is reached that leads here; NONE: this is a root */
@@ -220,7 +230,11 @@ struct object {
     uint64_t length;            /* 0: its name is not told */
 };
 
+uint64_t name_at(struct what *what, uint64_t address, const uint8_t **bytes);
 int is_object(struct what *what, const struct block *block, struct object *object);
+
+/* gobjects.c */
+int is_gobject(struct what *what, const struct block *block, struct object *object);
 
 /* containers.c */
 enum container_kind { TREE_NODE, HASH_NODE, HASH_BUCKETS, STRING_TEXT };

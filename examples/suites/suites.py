@@ -1,12 +1,12 @@
 #!/usr/bin/python3
-"""suites.py [--optimize LEVEL] [--compiler CC] [--only TEXT] [--without WAY] [--jobs N] [--reasons] FOLDER: the tests of
-other leak finders.
+"""suites.py [--optimize LEVEL] [--compiler CC] [--only TEXT] [--without WAY] [--jobs N] [--reasons] FOLDER: the tests
+of other leak finders.
 
-FOLDER gets the sources of Debian's packages valgrind, llvm-toolchain-14, libgc and google-perftools by `apt-get source`,
-150 MB, and the programs. Each test of cases.txt is built with a stop in place of its own check (stop/). At the stop it is
-searched four ways: by leak_dump and leak_find, traced by leak_trace and not, by gcc's LeakSanitizer, and by valgrind. What
-they name is compared with what the authors expect. Prints a table of Markdown, and lines that count; with --reasons on
-standard error also why a lost block isn't named (reasons.py).
+FOLDER gets the sources of Debian's packages valgrind, llvm-toolchain-14, libgc and google-perftools by
+`apt-get source`, 150 MB, and the programs. Each test of cases.txt is built with a stop in place of its own check
+(stop/). At the stop it is searched four ways: by leak_dump and leak_find, traced by leak_trace and not, by gcc's
+LeakSanitizer, and by valgrind. What they name is compared with what the authors expect. Prints a table of Markdown, and
+lines that count; with --reasons on standard error also why a lost block isn't named (reasons.py).
 
 Needs gcc, g++, valgrind, capture built, leak_find (LEAK_FIND or in PATH), and processes that may be traced."""
 import argparse
@@ -59,7 +59,8 @@ def fetch(folder):
         archive = next(name for name in os.listdir(lists) if name.startswith(package + '_') and '.orig.tar' in name)
         to = os.path.join(folder, suite)
         os.makedirs(to, exist_ok=True)
-        subprocess.run(['tar', 'xf', os.path.join(lists, archive), '-C', to, '--strip-components=1', '--wildcards'] + wanted,
+        subprocess.run(['tar', 'xf', os.path.join(lists, archive), '-C', to, '--strip-components=1',
+                        '--wildcards'] + wanted,
                        check=True)
 
 
@@ -105,11 +106,13 @@ class Builder:
         compiler = self.settings.compiler
         if is_cxx:
             compiler = {'gcc': 'g++', 'clang': 'clang++'}[compiler]
-        includes = ['-I' + HERE + '/stop', '-I' + self.folder + '/lsan/compiler-rt/test', '-I' + self.folder + '/valgrind',
+        includes = ['-I' + HERE + '/stop', '-I' + self.folder + '/lsan/compiler-rt/test',
+                    '-I' + self.folder + '/valgrind',
                     '-I' + self.folder]
         level = [] if any(option.startswith('-O') for option in case.options) else ['-O' + self.settings.optimize]
         words = [compiler, '-g', '-w', '-DVGP_amd64_linux', '-DVGA_amd64'] + level + case.options + includes
-        said = run(*words, os.path.join(tests, case.source), self.stop, '-o', program, *([sanitizer] if sanitizer else []), '-ldl')
+        said = run(*words, os.path.join(tests, case.source), self.stop, '-o', program,
+                   *([sanitizer] if sanitizer else []), '-ldl')
         if said.returncode:
             sys.exit(f'{case.source}: {said.stderr}')
         if case.source.endswith('dlclose_leak.c'):
@@ -134,7 +137,8 @@ def dump_and_search(program, case, is_traced, tells_reasons):
     environment['LEAK_STOP_FILE'] = name + '.stop'
     environment['LEAK_TRACE'] = name + '.tables.%p'
     tracer = [CAPTURE + '/leak_trace'] if is_traced else []
-    process = subprocess.Popen(tracer + [program] + words, env=environment, stdin=subprocess.DEVNULL, stdout=subprocess.DEVNULL,
+    process = subprocess.Popen(tracer + [program] + words, env=environment, stdin=subprocess.DEVNULL,
+                               stdout=subprocess.DEVNULL,
                                stderr=subprocess.DEVNULL, cwd=os.path.dirname(program), start_new_session=True)
     try:
         stopped = wait_for(name + '.stop', 60)
@@ -197,7 +201,8 @@ def totals_by_valgrind(program, case):
 
 
 def usable(asked, size):
-    """Whether glibc gives a block of this usable size to who asks for so many bytes: a rest too small for a chunk stays."""
+    """Whether glibc gives a block of this usable size to who asks for so many bytes: a rest too small for a chunk
+    stays."""
     least = max(24, (asked + 8 + 15) // 16 * 16 - 8)
     return least <= size <= least + 32 or (asked >= 1 << 17 and asked < size < asked + 8192)
 
@@ -253,7 +258,8 @@ def main():
     words.add_argument('--optimize', default='0', metavar='LEVEL', help='of the compiler, for tests that set none [0]')
     words.add_argument('--compiler', default='gcc', choices=['gcc', 'clang'])
     words.add_argument('--only', default='', metavar='TEXT', help='tests whose line has the text')
-    words.add_argument('--without', default=[], action='append', metavar='WAY', choices=WAYS, help='a way that is left out')
+    words.add_argument('--without', default=[], action='append', metavar='WAY', choices=WAYS,
+                       help='a way that is left out')
     words.add_argument('--jobs', default=1, type=int, metavar='N', help='how many tests run at a time [1]')
     words.add_argument('--reasons', action='store_true', help="tells why lost blocks aren't named, on standard error")
     words.add_argument('folder')
@@ -276,7 +282,8 @@ def main():
                 counts[way, 'false'] += false
     print(f'\n{len(cases)} runs, {leaky} with leaks.')
     for way in (way for way in WAYS if way not in settings.without):
-        print(f'{way}: {counts[way, "whole"]} of {leaky} found whole, {counts[way, "false"]} blocks named that are not lost.')
+        print(f'{way}: {counts[way, "whole"]} of {leaky} found whole, {counts[way, "false"]} blocks named that are '
+              f'not lost.')
 
 
 main()

@@ -1,4 +1,5 @@
-"""all_lost.py LOG: a report which says that all live blocks of a log by leak_walk are lost, so that leak_what tells of them all."""
+"""all_lost.py LOG: a report which says that all live blocks of a log by leak_walk are lost, so that leak_what tells of
+them all."""
 import sys
 
 

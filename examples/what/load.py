@@ -19,7 +19,8 @@ def ask(port, request):
 def http(number):
     """A request that differs from the others."""
     path = ("/", "/a.txt", f"/missing{number}", "/dir/", f"/b.html?x={number}")[number % 5]
-    lines = [f"GET {path} HTTP/1.1", f"Host: example{number % 5}.org", f"User-Agent: load/{number}", f"Cookie: id={number}"]
+    lines = [f"GET {path} HTTP/1.1", f"Host: example{number % 5}.org", f"User-Agent: load/{number}",
+             f"Cookie: id={number}"]
     lines += ["Range: bytes=0-9"] if number % 4 == 0 else []
     return "".join(line + "\r\n" for line in lines + ([] if number % 3 else ["Connection: close"]) + [""]).encode()
 

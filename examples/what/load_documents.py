@@ -1,4 +1,5 @@
-"""load_documents.py [TYPES]: parsed sources, letters and documents, of which some are kept, by classes, generators and threads."""
+"""load_documents.py [TYPES]: parsed sources, letters and documents, of which some are kept, by classes, generators and
+threads."""
 import ast
 import email
 import glob
@@ -33,8 +34,10 @@ def fill(kept):
     for number in range(1500):
         slots = Slots()
         slots.first, slots.second = number, Decimal(number) / 7
-        made = [Entry(f"entry{number}", [number] * 3), Point(number, str(number)), slots, Fraction(number + 1, 7), OrderedDict(a=number),
-                {number, -number}, (it for it in range(number)), bytearray(number % 50), memoryview(b"abc"), lambda at=number: at]
+        made = [Entry(f"entry{number}", [number] * 3), Point(number, str(number)), slots, Fraction(number + 1, 7),
+                OrderedDict(a=number),
+                {number, -number}, (it for it in range(number)), bytearray(number % 50), memoryview(b"abc"),
+                lambda at=number: at]
         kept.append(made[:number % 3 * 5])
 
 

@@ -1,11 +1,13 @@
 #!/bin/bash
-# How often leak_what is right: runs programs of which each some-teenth free() is dropped, with the callers of their blocks by leak_trace,
-# searches each by its heap alone, and compares what leak_what says of the lost blocks with their callers (score.py). The table of
-# docs/LIMITS.md. Programs that are not installed are left out. measure.sh [NAME..] takes those of these names alone.
+# How often leak_what is right: runs programs of which each some-teenth free() is dropped, with the callers of their
+# blocks by leak_trace, searches each by its heap alone, and compares what leak_what says of the lost blocks with their
+# callers (score.py). The table of docs/LIMITS.md. Programs that are not installed are left out. measure.sh [NAME..]
+# takes those of these names alone.
 #
-# BUILT=FOLDER measure.sh [NAME..]: with programs of that folder, which were built with debug information from sources below it, and
-# how often the types of held blocks are right too (score_types.py), and of ninja and cppcheck the containers of C++
-# (score_containers.py), of the lost blocks and of all as if all were lost.
+# BUILT=FOLDER measure.sh [NAME..]: with programs of that folder, which were built with debug information from sources
+# below it, and how often the types of held blocks are right too (score_types.py), and of ninja and cppcheck the
+# containers of C++ (score_containers.py), of the lost blocks and of all as if all were lost. KEEP=FOLDER measure.sh ..:
+# what was compared is kept in FOLDER/NAME, which is large.
 here=$(dirname "$(readlink -f "$0")")
 kit=$here/../../capture
 finder=${LEAK_FIND:-leak_find}
@@ -26,7 +28,8 @@ score_containers() {
     python3 -B "$here/all_lost.py" run.walk > run.all && "$kit/leak_what" run.core run.walk run.all > run.all.what &&
         python3 -B "$here/score_containers.py" "$1, all" run.all.what run.log run.all >> containers.rows
 }
-# run NAME EVERY AFTER INPUT SECONDS LOAD PROGRAM..: a row of the table. The program reads INPUT, and LOAD runs beside it.
+# run NAME EVERY AFTER INPUT SECONDS LOAD PROGRAM..: a row of the table. The program reads INPUT, and LOAD runs beside
+# it.
 run() {
     local name=$1 every=$2 after=$3 input=$4 seconds=$5 load=$6 process
     shift 6
@@ -42,7 +45,8 @@ run() {
     sleep "$seconds"
     "$kit/leak_dump" "$process" run 2> said && "$kit/leak_walk" --quiet run.core > run.walk &&
         "$finder" one --skip-freed --skip-links run.core run.walk > run.report
-    "$kit/leak_what" run.core run.walk run.report > run.what && python3 -B "$here/score.py" "$name" run.what run.report run.log
+    "$kit/leak_what" run.core run.walk run.report > run.what && python3 -B "$here/score.py" "$name" run.what \
+        run.report run.log
     { kill -9 "$process" && wait "$process"; } 2> /dev/null
     [ ! -s run.types ] || score_objects "$name"
     case ${BUILT:+$name} in ninja | cppcheck) score_containers "$name" ;; esac
@@ -51,6 +55,7 @@ run() {
         "$kit/leak_what" run.core run.typed run.report > run.what
         python3 -B "$here/score_types.py" "$name" run.typed run.log run.what "$BUILT" >> types.rows
     fi
+    [ ! "${KEEP-}" ] || { mkdir -p "$KEEP/$name" && mv run.* "$KEEP/$name"; }
     rm -f run.* table.*
     exec 3>&-
 }
@@ -84,11 +89,12 @@ for i in $(seq 1500); do
     printf '  flags = -DFLAG_%s\n  long_variable_%s = a value that is longer than sixteen\n' "$i" $((i % 30))
     touch "input_of_the_build_$i.c" "header_$((i % 40)).h"
 done | { printf 'rule copy\n  command = sleep 60\n  depfile = $out.d\n'; cat; } > build.ninja
-printf '%s\n' 'break main' 'info functions new' 'info types .' 'info line main' 'ptype struct connection' 'print sizeof(struct timer)' > many.gdb
+printf '%s\n' 'break main' 'info functions new' 'info types .' 'info line main' 'ptype struct connection' \
+    'print sizeof(struct timer)' > many.gdb
 
 names=$*
-echo '| Program | lost | text | words | FILE | likeness right | wrong | silent | right, % | by the size alone |'
-echo '|---|---|---|---|---|---|---|---|---|---|'
+echo '| Program | lost | text | words | FILE | likeness right | wrong | silent | right, % | right by type | wrong | right, % | by the size alone |'
+echo '|---|---|---|---|---|---|---|---|---|---|---|---|---|'
 run server 0 0 /dev/null 1 true ./server
 run nginx 12 500 /dev/null 0 "(python3 $here/load.py http 21481 & sleep 6)" nginx -c "$work/nginx.conf"
 run lighttpd 12 500 /dev/null 0 "(python3 $here/load.py http 21480 & sleep 6)" lighttpd -D -f "$work/lighttpd.conf"
@@ -97,24 +103,28 @@ run bash 25 500 /dev/null 8 true bash "$here/load.bash"
 run sqlite3 25 500 many.sql 4 true sqlite3
 run perl 25 1000 /dev/null 6 true perl "$here/load.pl"
 run lua 25 1000 /dev/null 5 true lua5.4 "$here/load.lua"
-run gawk 25 500 /dev/null 4 true gawk 'BEGIN { for (i = 0; i < 20000; i++) { a[i % 700][i] = i "x"; b = b i; if (i % 50 == 0) delete a[i % 300];
+run gawk 25 500 /dev/null 4 true gawk \
+    'BEGIN { for (i = 0; i < 20000; i++) { a[i % 700][i] = i "x"; b = b i; if (i % 50 == 0) delete a[i % 300];
     if (i % 500 == 0) b = ""; c = gensub(/x(.)/, "\\1", "g", a[i % 700][i]); split(c b, parts, i % 9) } getline }'
-# No rule was chosen on these.
+# No rule was chosen on gdb and xmllint.
 run gdb 60 2000 many.gdb 8 true gdb -nx -q ./server
 run tmux 12 500 /dev/null 2 "bash $here/load_tmux.bash" tmux -D -L measure -f /dev/null
 PYTHONMALLOC=malloc run python3 200 5000 /dev/null 12 true /usr/bin/python3 -B "$here/load_objects.py" run.types
 PYTHONMALLOC=malloc run documents 200 5000 /dev/null 25 true /usr/bin/python3 -B "$here/load_documents.py" run.types
 run xmllint 25 500 many.xpath 5 true xmllint --shell many.xml
+if [ "${BUILT-}" ]; then # Debian's redis has jemalloc; no rule was chosen on cppcheck
+    run redis 60 2000 /dev/null 0 "bash $here/load_redis.bash" redis-server --port 21579 --save ''
+    run ninja 20 500 /dev/null 2 true ninja -j 4
+    run cppcheck 200 5000 /dev/null 12 true cppcheck --enable=all "$here/../../capture"
+fi
 printf '\n%s\n%s\n' '| Program | objects | right | wrong | none of them |' '|---|---|---|---|---|'
 cat objects.rows 2> /dev/null
-[ ! "${BUILT-}" ] || run ninja 20 500 /dev/null 2 true ninja -j 4
-# No rule was chosen on cppcheck either.
-[ ! "${BUILT-}" ] || run cppcheck 200 5000 /dev/null 12 true cppcheck --enable=all "$here/../../capture"
-if [ "${BUILT-}" ]; then # Debian's redis has jemalloc
-    run redis 60 2000 /dev/null 0 "bash $here/load_redis.bash" redis-server --port 21579 --save ''
-    printf '\n%s\n%s\n' '| Program | blocks | with a type | right | wrong | not judged | arrays right | wrong | not judged | lost right | wrong | not judged |' \
+if [ "${BUILT-}" ]; then
+    printf '\n%s\n%s\n' \
+        '| Program | blocks | with a type | right | wrong | not judged | arrays right | wrong | not judged | lost right | wrong | not judged |' \
         '|---|---|---|---|---|---|---|---|---|---|---|---|'
     cat types.rows
-    printf '\n%s\n%s\n' '| Program | blocks | tree: right / wrong / silent | hash | buckets | string |' '|---|---|---|---|---|---|'
+    printf '\n%s\n%s\n' '| Program | blocks | tree: right / wrong / silent | hash | buckets | string |' \
+        '|---|---|---|---|---|---|'
     cat containers.rows
 fi

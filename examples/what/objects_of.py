@@ -12,6 +12,7 @@ def write_types(path):
             seen[id(found)] = type(found).__name__
             rest.extend(gc.get_referents(found))
             if isinstance(found, CodeType):  # the collector does not know what these lead to
-                rest.extend((found.co_consts, found.co_names, found.co_linetable, found.co_exceptiontable, *found.co_consts))
+                rest.extend((found.co_consts, found.co_names, found.co_linetable, found.co_exceptiontable,
+                             *found.co_consts))
     with open(path, "w", encoding="utf-8") as file:
         file.writelines(f"{address:x} {name}\n" for address, name in seen.items())

@@ -1,6 +1,6 @@
-"""score_containers.py NAME WHAT LOG REPORT: which containers of C++ leak_what tells, against the functions that asked for the blocks. WHAT is what
-it says of the lost blocks of REPORT, LOG leak_trace's of the same process, with callers; the program was built with debug information, of which
-addr2line tells the inlined allocators of libstdc++.
+"""score_containers.py NAME WHAT LOG REPORT: which containers of C++ leak_what tells, against the functions that asked
+for the blocks. WHAT is what it says of the lost blocks of REPORT, LOG leak_trace's of the same process, with callers;
+the program was built with debug information, of which addr2line tells the inlined allocators of libstdc++.
 
 Prints a row: name, then of each kind of container how many blocks are right, wrong and silent.
 """
@@ -17,7 +17,8 @@ STRING = re.compile(r"basic_string<.*_M_(create|construct|mutate|assign|append|r
 
 
 def kind_of(names):
-    """The kind of container whose functions these are, the innermost first; "other" if it is one that is not told, "" if none."""
+    """The kind of container whose functions these are, the innermost first; "other" if it is one that is not told, ""
+    if none."""
     for name in names:
         match = ALLOCATOR.search(name)
         if match:

@@ -1,8 +1,8 @@
-"""score_objects.py NAME WHAT TYPES: the types that leak_what tells of Python's objects, against what the interpreter said of them
-(objects_of.py). WHAT is what leak_what says of all live blocks, as if all were lost.
+"""score_objects.py NAME WHAT TYPES: the types that leak_what tells of Python's objects, against what the interpreter
+said of them (objects_of.py). WHAT is what leak_what says of all live blocks, as if all were lost.
 
-Prints a row: name, objects that the interpreter told, and of the blocks that leak_what tells how many are right, wrong and none of those
-objects.
+Prints a row: name, objects that the interpreter told, and of the blocks that leak_what tells how many are right, wrong
+and none of those objects.
 """
 import sys
 from collections import Counter
@@ -23,7 +23,8 @@ def main(name, what, types):
         told = [line.split(" ", 3) for line in file if line.startswith("object ")]
     for _, address, _, quoted in told:
         found = {known[int(address, 16) + head] for head in HEADS if int(address, 16) + head in known}
-        counts["other" if not found else "right" if quoted.strip().strip('"').rpartition(".")[2] in found else "wrong"] += 1
+        counts["other" if not found else "right" if quoted.strip().strip('"').rpartition(".")[2] in found
+               else "wrong"] += 1
         if found and quoted.strip().strip('"').rpartition(".")[2] not in found:
             print("wrong", address, quoted.strip(), found, file=sys.stderr)
     print(f"| {name} | {len(known)} | {counts['right']} | {counts['wrong']} | {counts['other']} |")

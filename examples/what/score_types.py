@@ -1,10 +1,11 @@
-"""score_types.py NAME TYPED LOG WHAT FOLDER [SITES]: the types that `leak_what --types` gives blocks, against the source lines that asked
-for them. TYPED is its log, LOG leak_trace's of the same process, with callers, and WHAT what leak_what says of the blocks that are lost
-by TYPED; the program was built with debug information, in FOLDER.
+"""score_types.py NAME TYPED LOG WHAT FOLDER [SITES]: the types that `leak_what --types` gives blocks, against the
+source lines that asked for them. TYPED is its log, LOG leak_trace's of the same process, with callers, and WHAT what
+leak_what says of the blocks that are lost by TYPED; the program was built with debug information, in FOLDER.
 
-Prints a row: name, live blocks, those with a type, how many of them are right, wrong and unjudged; the same of those told as `or array`;
-and of lost blocks that look like one of a type. The line tells the type by `sizeof (T)` or `sizeof *v`, or by the variable that it assigns to, as the function declares it; a
-copy of a text tells that it is none. SITES lists what is not right.
+Prints a row: name, live blocks, those with a type, how many of them are right, wrong and unjudged; the same of those
+told as `or array`; and of lost blocks that look like one of a type. The line tells the type by `sizeof (T)` or
+`sizeof *v`, or by the variable that it assigns to, as the function declares it; a copy of a text tells that it is none.
+SITES lists what is not right.
 """
 import os
 import re
@@ -32,7 +33,8 @@ def read_typedefs(folder):
                     text = file.read()
                 for tag, alias in re.findall(r"typedef\s+struct\s+(\w+)\s*\*?\s*(\w+)\s*;", text):
                     found[alias] = tag
-                for tag, alias in re.findall(r"typedef\s+struct\s+(\w+)\s*\{[^}]*(?:\{[^}]*\}[^}]*)*\}\s*(\w+)\s*;", text):
+                for tag, alias in re.findall(r"typedef\s+struct\s+(\w+)\s*\{[^}]*(?:\{[^}]*\}[^}]*)*\}\s*(\w+)\s*;",
+                                             text):
                     found[alias] = tag
     return found
 
@@ -102,7 +104,8 @@ def read_lost(path):
 
 
 def after_wrappers(frames, site):
-    """The place that asked for a block, and its caller: if the first line tells no type, the place is a wrapper still."""
+    """The place that asked for a block, and its caller: if the first line tells no type, the place is a wrapper
+    still."""
     at = frames.index(site) if site in frames else 0
     return frames[at:at + 2]
 
@@ -124,7 +127,8 @@ def main(name, typed, log, what, folder, listed=""):
         counts[right, "lost" if address in lost else label.endswith(" or array")] += 1
         if right is not True:
             told[right, label, str(where)] += 1
-    print(f"| {name} | {len(blocks)} | {len(labels)} | {counts[True, False]} | {counts[False, False]} | {counts[None, False]} | "
+    print(f"| {name} | {len(blocks)} | {len(labels)} | {counts[True, False]} | {counts[False, False]} | "
+          f"{counts[None, False]} | "
           f"{counts[True, True]} | {counts[False, True]} | {counts[None, True]} | "
           f"{counts[True, 'lost']} | {counts[False, 'lost']} | {counts[None, 'lost']} |")
     for (right, label, where), count in told.most_common(40) if listed else ():

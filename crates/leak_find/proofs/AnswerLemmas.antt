@@ -6,11 +6,11 @@ use Rattle.leak_holders.specs.declared.question.Question.{Question}
 use Rattle.leak_report.specs.declared.signs.Signs.{Signs}
 use Rattle.leak_request.specs.declared.options.Options.{Options}
 use Rattle.leak_request.specs.Requests.{file_count}
-use Rattle.leak_input.specs.Signs.{AreSigns}
-use Rattle.leak_input.specs.declared.rules.Rules.{Rules}
-use Rattle.leak_search.specs.Holding.{TellsWhy}
-use Rattle.leak_search.specs.declared.holding.Why.{Why as Chain}
-use Rattle.leak_holding.specs.declared.finding.Holding.{Holding}
+use Rattle.leak_search.specs.Signs.{AreSigns}
+use Rattle.leak_search.specs.declared.rules.Rules.{Rules}
+use Rattle.leak_search.specs.Why.{TellsWhy}
+use Rattle.leak_search.specs.declared.why.Why.{Why as Chain}
+use Rattle.leak_holder_search.specs.declared.search.Holding.{Holding}
 use Rattle.leak_growth.specs.Growth.{FindsGrowth}
 use Rattle.leak_growth.specs.declared.growth.Grown.{Grown}
 use Rattle.leak_find.specs.Answers.{Holds, TellsChain, TellsGrowth, TellsHolding, leaked_if_not}

@@ -3,20 +3,20 @@ use Rattle.std.specs.Prelude.{◌≡◌, ◌≢◌, ℕ, Bool, true, false, List
 use Rattle.leak_index.specs.Readings.{distances_of}
 use Rattle.leak_holders.specs.declared.question.Question.{Question}
 use Rattle.leak_request.specs.declared.options.Options.{Options}
-use Rattle.leak_input.specs.Inputs.{IsFaultOfOne, IsFaultOfTwo}
-use Rattle.leak_input.specs.Signs.{AreSigns}
-use Rattle.leak_input.specs.declared.error.FindError.{FindError}
-use Rattle.leak_input.specs.declared.error.FindError.TheVariants.{NoMemory}
-use Rattle.leak_input.specs.declared.found.Found.{Found}
-use Rattle.leak_search.specs.Holding.{IsWhyFault, TellsWhy}
+use Rattle.leak_search.specs.Inputs.{IsFaultOfOne, IsFaultOfTwo}
+use Rattle.leak_search.specs.Signs.{AreSigns}
+use Rattle.leak_search.specs.declared.error.FindError.{FindError}
+use Rattle.leak_search.specs.declared.error.FindError.TheVariants.{NoMemory}
+use Rattle.leak_search.specs.declared.found.Found.{Found}
+use Rattle.leak_search.specs.Why.{IsWhyFault, TellsWhy}
 use Rattle.leak_search.specs.Search.{FindsOne}
 use Rattle.leak_search.specs.SearchTwo.{FindsTwo}
-use Rattle.leak_search.specs.declared.holding.Why.{Why as Chain}
-use Rattle.leak_search.specs.declared.holding.WhyError.{WhyError}
-use Rattle.leak_search.specs.declared.holding.WhyError.TheVariants.{Find as Refused, NoBlock as Missing}
-use Rattle.leak_holding.specs.Held.{FindsHeld, IsHeldFault}
-use Rattle.leak_holding.specs.Holders.{FindsHolders, IsFaultOfHolders}
-use Rattle.leak_holding.specs.declared.finding.Holding.{Holding}
+use Rattle.leak_search.specs.declared.why.Why.{Why as Chain}
+use Rattle.leak_search.specs.declared.why.WhyError.{WhyError}
+use Rattle.leak_search.specs.declared.why.WhyError.TheVariants.{Find as Refused, NoBlock as Missing}
+use Rattle.leak_holder_search.specs.Held.{FindsHeld, IsHeldFault}
+use Rattle.leak_holder_search.specs.Holders.{FindsHolders, IsFaultOfHolders}
+use Rattle.leak_holder_search.specs.declared.search.Holding.{Holding}
 use Rattle.leak_growth.specs.Growth.{FindsGrowth, IsFaultOfGrowth}
 use Rattle.leak_growth.specs.declared.growth.Grown.{Grown}
 use Rattle.leak_find.specs.declared.answer.Answer.{Answer}

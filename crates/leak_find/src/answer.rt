@@ -2,11 +2,11 @@
 
 ghost use Rattle.std.specs.Prelude.{◌≡◌, ◌≢◌, [], ◌∷◌, IfOk, IfErr, length};
 ghost use Rattle.leak_request.specs.Requests.{file_count};
-ghost use Rattle.leak_search.specs.declared.holding.WhyError.TheVariants.{Find as Refused};
-ghost use Rattle.leak_input.specs.declared.error.FindError.TheVariants.{NoMemory};
-ghost use Rattle.leak_input.specs.Signs.{AreSigns};
+ghost use Rattle.leak_search.specs.declared.why.WhyError.TheVariants.{Find as Refused};
+ghost use Rattle.leak_search.specs.declared.error.FindError.TheVariants.{NoMemory};
+ghost use Rattle.leak_search.specs.Signs.{AreSigns};
 ghost use Rattle.leak_find.specs.Answers.{Finds, Holds, IsFaultOf, IsNotHeld, IsUntold, Tells, TellsGrowth, at_why, leaked_if_not};
-ghost use Rattle.leak_holding.specs.Since.{earlier};
+ghost use Rattle.leak_holder_search.specs.Since.{earlier};
 ghost use Rattle.leak_request.specs.declared.options.GrowOptions.{GrowOptions};
 ghost use Rattle.leak_find.specs.Inputs.{bytes_of, input_at};
 ghost use Rattle.leak_find.specs.Tasks.{TakesInputs};
@@ -17,8 +17,8 @@ use crate::reading::{input, input_if_any};
 use crate::rules::rules_of;
 use crate::task::Task;
 use leak_growth::find_growth;
+use leak_holder_search::{Files, Holding, Progress, Silent, find_held, find_holders};
 use leak_holders::Question;
-use leak_holding::{Files, Holding, Progress, Silent, find_held, find_holders};
 use leak_pool::Open;
 use leak_report::Signs;
 use leak_request::Options;

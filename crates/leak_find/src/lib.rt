@@ -14,7 +14,7 @@
 //! - [`Task::Holders`] who holds the memory, by [`find_holders`], or what some blocks hold, by [`find_held`];
 //! - [`Task::Grow`] what grew between two logs, by [`find_growth`].
 //!
-//! The searches are in `leak_search`, which also says what a leak, a root and a chain are, in `leak_holding` and in `leak_growth`.
+//! The searches are in `leak_search`, which also says what a leak, a root and a chain are, in `leak_holder_search` and in `leak_growth`.
 //!
 //! [`run`] is for libraries and tests: it calls [`run_sized`] without sizes. So are [`find_alone`], which searches one core on the
 //! caller's thread under the promise of [`find_one`], and [`read_all`].
@@ -53,8 +53,8 @@ pub use answer::Context;
 pub use fault::RunFault;
 pub use laws::runs_tell;
 pub use leak_growth::{Grown, find_growth};
+pub use leak_holder_search::{Files, Holding, Progress, Silent, find_held, find_holders};
 pub use leak_holders::{Question, Side};
-pub use leak_holding::{Files, Holding, Progress, Silent, find_held, find_holders};
 pub use leak_index::{Reading, ReadingError};
 pub use leak_pool::{Gate, Open, Plan, PlanError};
 pub use leak_report::{Signs, warnings};

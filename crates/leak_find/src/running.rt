@@ -10,7 +10,7 @@ use crate::answer::{Answer, Context, answer_for};
 use crate::fault::RunFault;
 use crate::reading::read_inputs;
 use crate::task::{Task, is_strict};
-use leak_holding::Progress;
+use leak_holder_search::Progress;
 use leak_report::warnings;
 use leak_search::FindError;
 use leak_streams::{ReadCalls, WriteCalls, WriteFault, write};

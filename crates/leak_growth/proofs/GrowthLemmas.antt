@@ -4,6 +4,7 @@ use Rattle.std.specs.List.{AllByRecursion, AllZip, count_by}
 use Rattle.std.proofs.lemmas.Bool.{lt-ltb}
 use Rattle.std.proofs.lemmas.List.{length-take-le}
 use Rattle.std.proofs.lemmas.List.Splits.{length-slice_split}
+use Rattle.leak_blocks.proofs.StepLemmas.{replayed as blocks_are}
 use Rattle.leak_mtrace.specs.declared.line.Line.{Line}
 use Rattle.leak_mtrace.specs.Log.{IsLog, IsGoodLine, with_places, whole_lines, pieces, torn_of, is_continued_by}
 use Rattle.leak_mtrace.proofs.SameLogLemmas.{logs_continue}
@@ -16,9 +17,8 @@ use Rattle.leak_blocks.proofs.LineLemmas.{live_of_lines}
 use Rattle.leak_report.specs.declared.signs.Signs.{Signs}
 use Rattle.leak_report.specs.Totals.{HaveCallersIn}
 use Rattle.leak_report.proofs.Callers.{have_callers}
-use Rattle.leak_report.proofs.Members.{each_implied}
-use Rattle.leak_input.proofs.InputLemmas.{blocks_are}
-use Rattle.leak_input.specs.declared.error.FindError.TheVariants.{NotPrefix, TooMany}
+use Rattle.leak_lemmas.proofs.Members.{each_implied}
+use Rattle.leak_search.specs.declared.error.FindError.TheVariants.{NotPrefix, TooMany}
 use Rattle.leak_growth.specs.declared.growth.Grown.{Grown}
 use Rattle.leak_growth.specs.Rows.{new_of}
 use Rattle.leak_growth.specs.Report.{report_of}

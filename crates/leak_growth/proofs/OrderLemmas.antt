@@ -13,8 +13,8 @@ use Rattle.std.proofs.lemmas.List.Sorted.{ranks_by, ties_stay_sorted, IsPermutat
 use Rattle.std.proofs.lemmas.Map.Keys.{IsDistinct-from_sorted, IsDistinct-IsPermutation, apart_from_distinct, Less-from_sorted, sorted_from_all_adjacent}
 use Rattle.std.proofs.lemmas.Map.Lookups.{exact_bytes}
 use denote.Ref.{Bor}
-use Rattle.leak_report.proofs.Members.{Has, each_has, each_from_All, each_implied, each_mapped, each_filtered, each_itself, each_moved, Has-map, Has-filter, Has-moved, same_elements}
-use Rattle.leak_texts.specs.Numbered.{AreNumbered, bytes_each, text_with}
+use Rattle.leak_lemmas.proofs.Members.{Has, each_has, each_from_All, each_implied, each_mapped, each_filtered, each_itself, each_moved, Has-map, Has-filter, Has-moved, same_elements, Has-get as Has_at}
+use Rattle.leak_report.specs.Numbered.{AreNumbered, bytes_each, text_with}
 use Rattle.leak_growth.specs.declared.rows.Row.{Row}
 use Rattle.leak_growth.specs.declared.summing.Sizes.{Sizes}
 use Rattle.leak_growth.specs.Rows.{Growth, plain, rank, ranked, raised, raised_growth, has_changed, is_changed, rows_with, AreRanked}
@@ -120,11 +120,6 @@ sorted_rows given rows up are =
     ap (λ (g : Growth). rank g (get_or (map plain rows) (k + 1) (plain nothing))) (get_or-map plain rows k nothing (plain nothing) (omega (arith, h, long)))
     ∙ ap (λ (g : Growth). rank (plain (get_or rows k nothing)) g) (get_or-map plain rows (k + 1) nothing (plain nothing) (omega (arith, h, long)))
     ∙ at)
-
-Has_at : {X : Type 0} (xs : List X) (k : ℕ) (d : X) → k < length xs → Has xs (get_or xs k d)
-Has_at [] k d h = absurd (omega arith)
-Has_at (x ∷ xs) zero d h = inl refl
-Has_at (x ∷ xs) (suc k) d h = inr (Has_at xs k d (omega arith))
 
 each_has_place : {X : Type 0} (xs ys : List X) → All (Contains xs) ys → AllByRecursion (Has xs) ys
 each_has_place xs ys all =

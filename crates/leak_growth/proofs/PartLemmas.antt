@@ -5,7 +5,7 @@ use Rattle.std.proofs.lemmas.List.{take-map, drop-map, take_at, drop_at, length-
 use Rattle.std.proofs.lemmas.List.Elements.{All-take, All-drop}
 use Rattle.leak_blocks.specs.declared.block.Block.{Block}
 use Rattle.leak_report.specs.Totals.{text_at}
-use Rattle.leak_texts.specs.Numbered.{AreNumbered, bytes_each, text_with, texts_of}
+use Rattle.leak_report.specs.Numbered.{AreNumbered, bytes_each, text_with, texts_of}
 use Rattle.leak_growth.specs.Rows.{AreTextsOf}
 
 pub first_part : (log : List ℕ) (blocks : List Block) (rest texts : List (List ℕ)) (numbers : List ℕ) → AreNumbered (texts_of log blocks ++ rest) texts numbers

@@ -7,7 +7,7 @@ use Rattle.std.specs.declared.cmp.Ordering.{Ordering}
 use Rattle.std.specs.declared.cmp.Ordering.TheVariants.{Less, Equal, Greater}
 use Rattle.std.specs.Ordering.{ordering_reverse}
 use Rattle.std.proofs.lemmas.Cmp.{tied_itself}
-use Rattle.leak_report.proofs.Members.{Has, each_implied}
+use Rattle.leak_lemmas.proofs.Members.{Has, each_implied}
 use Rattle.leak_growth.specs.Rows.{placed, ranked}
 
 -- what `placed` gives, by how the element compares with the first

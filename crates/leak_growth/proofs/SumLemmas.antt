@@ -16,7 +16,7 @@ use denote.Ref.{Bor}
 use Rattle.leak_blocks.specs.declared.block.Block.{Block}
 use Rattle.leak_report.specs.Totals.{text_at, bytes_of}
 use Rattle.leak_report.proofs.Leaks.{filter-push_yes, filter-push_no}
-use Rattle.leak_texts.specs.Numbered.{text_with, texts_of, bytes_each}
+use Rattle.leak_report.specs.Numbered.{text_with, texts_of, bytes_each}
 use Rattle.leak_growth.specs.declared.summing.Sizes.{Sizes}
 use Rattle.leak_growth.specs.Rows.{new_of, with_text, sizes_of, with_block, sums_of, AreTextsOf}
 
@@ -47,7 +47,7 @@ set_sums f g texts n v low here other =
     go k d h (inr ne) = get_or-set_other (map f texts) n k v d ne ∙ get_or-map f texts k [] d h ∙ sym (other k h ne) ∙ sym (get_or-map g texts k [] d h)
 
 -- two places of one text are one
-one_place : (texts : List (List ℕ)) (k n : ℕ) → IsStrictlySortedBy (slice_cmp nat_cmp) texts → k < length texts → n < length texts → text_with texts k ≡ text_with texts n → k ≡ n
+pub one_place : (texts : List (List ℕ)) (k n : ℕ) → IsStrictlySortedBy (slice_cmp nat_cmp) texts → k < length texts → n < length texts → text_with texts k ≡ text_with texts n → k ≡ n
 one_place texts k n up h i e = ⊎_elim below (λ le. ⊎_elim (λ gt. above gt) (λ ge. omega arith) (cases_lt n k)) (cases_lt k n)
   where
     below : k < n → k ≡ n

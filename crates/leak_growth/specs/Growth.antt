@@ -5,9 +5,9 @@ use Rattle.leak_mtrace.specs.Log.{IsLog, IsFirstFault, is_continued_by, torn_of}
 use Rattle.leak_blocks.specs.declared.replaying.Replayed.{Replayed}
 use Rattle.leak_blocks.specs.Live.{live_of, replay_of}
 use Rattle.leak_report.specs.declared.signs.Signs.{Signs}
-use Rattle.leak_input.specs.declared.error.FindError.{FindError}
-use Rattle.leak_input.specs.declared.error.FindError.TheVariants.{Core, Notes, Log, NotPrefix, TooMany, NoMemory}
-use Rattle.leak_input.specs.Inputs.{Continues}
+use Rattle.leak_search.specs.declared.error.FindError.{FindError}
+use Rattle.leak_search.specs.declared.error.FindError.TheVariants.{Core, Notes, Log, NotPrefix, TooMany, NoMemory}
+use Rattle.leak_search.specs.Inputs.{Continues}
 use Rattle.leak_growth.specs.declared.growth.Grown.{Grown}
 use Rattle.leak_growth.specs.Report.{growth_text}
 

@@ -6,7 +6,7 @@ use Rattle.std.specs.Prelude.{length}
 use Rattle.leak_blocks.specs.declared.block.Block.{Block}
 use Rattle.leak_blocks.specs.Live.{Replay, replay_of}
 use Rattle.leak_report.specs.Lines.{blocks_line}
-use Rattle.leak_texts.specs.Numbered.{texts_of}
+use Rattle.leak_report.specs.Numbered.{texts_of}
 use Rattle.leak_growth.specs.Rows.{Growth, new_of, with_text, sizes_of, rank, has_changed, ranked}
 use Rattle.leak_growth.specs.Lines.{counts_line, growth_line}
 

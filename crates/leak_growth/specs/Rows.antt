@@ -8,7 +8,7 @@ use Rattle.std.specs.declared.cmp.Ordering.TheVariants.{Less, Equal, Greater}
 use denote.Ref.{Bor}
 use Rattle.leak_blocks.specs.declared.block.Block.{Block}
 use Rattle.leak_report.specs.Totals.{text_at, bytes_of}
-use Rattle.leak_texts.specs.Numbered.{text_with, texts_of}
+use Rattle.leak_report.specs.Numbered.{text_with, texts_of}
 use Rattle.leak_growth.specs.declared.rows.Row.{Row}
 use Rattle.leak_growth.specs.declared.summing.Sizes.{Sizes}
 

@@ -7,7 +7,7 @@ ghost use Rattle.leak_growth.specs.Report.{growths_of};
 use crate::rows::{Row, ranked_rows};
 use crate::summing::sums;
 use leak_blocks::Block;
-use leak_texts::{number, push_texts};
+use leak_report::{number, push_texts};
 use std::alloc::{AllocError, Global};
 
 /// The rows of two logs, of which the first has this many lines.

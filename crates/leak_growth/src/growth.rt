@@ -1,14 +1,14 @@
 //! From two logs to the report of what grew.
 ghost use Rattle.std.specs.Prelude.{◌≡◌, ◌≢◌, ◌==◌, [], ◌∷◌, count_by, IfOk, IfErr};
 ghost use Rattle.leak_mtrace.specs.Log.{is_continued_by, whole_len_of};
-ghost use Rattle.leak_input.specs.Inputs.{at_log};
+ghost use Rattle.leak_search.specs.Inputs.{at_log};
 ghost use Rattle.leak_growth.specs.Growth.{FindsGrowth, IsFaultOfGrowth, read_signs};
 
 use crate::report::{Logs, text};
 use leak_blocks::{Replayed, replay_bytes};
-use leak_input::FindError;
 use leak_mtrace::LogError;
 use leak_report::Signs;
+use leak_search::FindError;
 use std::alloc::{AllocError, Global};
 
 /// What grew between two logs.

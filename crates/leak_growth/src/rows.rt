@@ -1,6 +1,6 @@
 //! The texts of which blocks grew or shrank, or were allocated anew.
 ghost use Rattle.std.specs.Prelude.{◌≡◌, ◌+◌, ◌-◌, ◌^◌, ◌<◌, length, map, filter, IfOk};
-ghost use Rattle.leak_texts.specs.Numbered.{bytes_each};
+ghost use Rattle.leak_report.specs.Numbered.{bytes_each};
 ghost use Rattle.leak_growth.specs.Rows.{is_changed, raised, rows_with, AreRanked};
 
 use crate::summing::Sizes;

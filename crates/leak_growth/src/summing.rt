@@ -1,7 +1,7 @@
 //! Blocks in sum, by the numbers of their texts.
 ghost use Rattle.std.specs.Prelude.{◌≡◌, ◌+◌, ◌^◌, ◌<◌, IfOk};
 ghost use Rattle.leak_report.specs.Totals.{bytes_of};
-ghost use Rattle.leak_texts.specs.Numbered.{bytes_each};
+ghost use Rattle.leak_report.specs.Numbered.{bytes_each};
 ghost use Rattle.leak_growth.specs.Rows.{new_of, sizes_of, with_block, sums_of, AreTextsOf};
 
 use leak_blocks::Block;

@@ -4,7 +4,6 @@ pub mod Bits
 pub mod Owning
 pub mod Held
 pub mod Within
-pub mod Members
 pub mod Ranks
 pub mod Orders
 pub mod Telling

@@ -12,7 +12,7 @@ use Rattle.leak_holders.specs.declared.part.Part.{Part}
 use Rattle.leak_holders.specs.declared.question.Side.{Side}
 use Rattle.leak_holders.specs.declared.question.Side.TheVariants.{In, Of}
 use Rattle.leak_why.specs.Text.{block_line, numbered_line}
-use Rattle.leak_holding.specs.Held.{held_lines, held_text, part_line, side_word}
+use Rattle.leak_holder_search.specs.Held.{held_lines, held_text, part_line, side_word}
 use Rattle.leak_laws.specs.Reports.{sum_of}
 use Rattle.leak_laws.specs.Told.{Sum}
 use Rattle.leak_laws.specs.ToldAnswers.{AreRowsRead, IsAnswerRead, IsEntryRead, IsPartRead, ToldAnswer, ToldEntry, ToldPart, ToldRows, answer_tells, answer_told, entry_text, part_text, rows_text, told_entry, told_part, told_rows}

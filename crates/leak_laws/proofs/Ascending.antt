@@ -4,7 +4,7 @@ use Rattle.std.specs.Prelude.{⊤}
 use Rattle.std.specs.List.{AllByRecursion}
 use Rattle.leak_blocks.specs.declared.block.Block.{Block}
 use Rattle.leak_blocks.specs.Span.{AreDisjoint, span_end}
-use Rattle.leak_report.proofs.Members.{Has, each_has, each_implied, each_filtered}
+use Rattle.leak_lemmas.proofs.Members.{Has, each_has, each_implied, each_filtered}
 
 abbrev pub Ascend : List Block → Type 0
 Ascend [] = ⊤

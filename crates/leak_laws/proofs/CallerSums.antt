@@ -12,7 +12,7 @@ use Rattle.std.proofs.lemmas.Slice.Eq.{bytes_eq-Decides}
 use Rattle.leak_report.specs.declared.totals.CallerRow.{CallerRow}
 use Rattle.leak_report.specs.Laws.{AreSums, HasRow, SumsUp}
 use Rattle.leak_report.specs.Totals.{Leak, bytes_in, rank, text_at, with_text}
-use Rattle.leak_report.proofs.Members.{Has, each_implied, each_mapped}
+use Rattle.leak_lemmas.proofs.Members.{Has, each_implied, each_mapped}
 use Rattle.leak_laws.specs.Reports.{told_caller}
 use Rattle.leak_laws.specs.Together.{DifferInText, rank_told}
 use Rattle.leak_laws.proofs.TextSums.{AreApart, sum_map, sum_same_of, sum_texts}

@@ -4,6 +4,7 @@ use Rattle.std.specs.Prelude.{if◌then◌else◌}
 use Rattle.std.specs.List.{range_with_len}
 use Rattle.std.proofs.lemmas.Bool.{eq-eqb, eqb-true}
 use Rattle.std.proofs.lemmas.List.FromFn.{get_or-map-range_with_len, length-map-range_with_len}
+use Rattle.leak_growth.proofs.SumLemmas.{one_place}
 use Rattle.leak_blocks.specs.declared.block.Block.{Block}
 use Rattle.leak_later.proofs.WordLemmas.{of_range}
 use Rattle.leak_marks.specs.Lists.{Has}
@@ -11,10 +12,9 @@ use Rattle.leak_marks.proofs.ElementLemmas.{has_filter, of_filter}
 use Rattle.leak_marks.proofs.ListLemmas.{at_head, here, none_has}
 use Rattle.leak_without.specs.Without.{chosen}
 use Rattle.leak_without.proofs.GoingLemmas.{has_range}
-use Rattle.leak_texts.specs.Numbered.{AreTexts, text_with, texts_of}
-use Rattle.leak_holding.specs.Held.{chosen_with}
+use Rattle.leak_report.specs.Numbered.{AreTexts, text_with, texts_of}
+use Rattle.leak_holder_search.specs.Held.{chosen_with}
 use Rattle.leak_laws.specs.PartLines.{chosen_blocks}
-use Rattle.leak_laws.proofs.SameTextNumbers.{one_place}
 use Rattle.leak_laws.proofs.TextBlocks.{a_number_each, has_text, inside_text, number_low, text_is}
 
 module _ (log : List ℕ) (blocks : List Block) (texts : List (List ℕ)) (numbers : List ℕ) (are : AreTexts log blocks texts numbers) (block : ℕ) (inside : block < length blocks) where

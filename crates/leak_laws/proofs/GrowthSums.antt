@@ -12,6 +12,8 @@ use Rattle.std.proofs.lemmas.Cmp.{tied_itself}
 use Rattle.std.proofs.lemmas.List.Filters.{sum_by-filter_both}
 use Rattle.std.proofs.lemmas.Map.Lookups.{exact_bytes}
 use Rattle.std.proofs.lemmas.Slice.Eq.{bytes_eq-Decides}
+use Rattle.leak_lemmas.proofs.Bools.{flipped}
+use Rattle.leak_lemmas.proofs.Orders.{second_tied}
 use Rattle.leak_mtrace.specs.declared.line.Line.{Line}
 use Rattle.leak_mtrace.specs.Log.{IsLog, is_continued_by}
 use Rattle.leak_mtrace.proofs.SameLogLemmas.{logs_continue}
@@ -20,8 +22,8 @@ use Rattle.leak_blocks.specs.Live.{live_of}
 use Rattle.leak_blocks.proofs.DisjointLemmas.{live_disjoint}
 use Rattle.leak_blocks.proofs.LiveLemmas.{were_live}
 use Rattle.leak_report.specs.Totals.{text_at}
-use Rattle.leak_report.proofs.Members.{Has, Has-filter, Has-map, each_filtered, each_has, each_implied, each_itself, each_mapped}
-use Rattle.leak_texts.specs.Numbered.{texts_of}
+use Rattle.leak_lemmas.proofs.Members.{Has, Has-filter, Has-map, each_filtered, each_has, each_implied, each_itself, each_mapped}
+use Rattle.leak_report.specs.Numbered.{texts_of}
 use Rattle.leak_growth.specs.Report.{growth_with, growths_of}
 use Rattle.leak_growth.specs.Rows.{Growth, has_changed, new_of, rank, ranked, with_text}
 use Rattle.leak_growth.proofs.OrderLemmas.{rank_total}
@@ -32,19 +34,10 @@ use Rattle.leak_laws.proofs.SameTexts.{texts_are_same}
 use Rattle.leak_laws.proofs.TextSums.{AreApart, length_sum, sum_map, sum_same_of, sum_texts}
 use Rattle.leak_laws.proofs.ListParts.{all_pass, both_back, both_front, has_in, is_in, none_has}
 
-second_tied : (a b : Ordering) → ordering_then a b ≡ Equal → b ≡ Equal
-second_tied Less b e = cc
-second_tied Equal b e = e
-second_tied Greater b e = cc
-
 both_hold : (a b : Bool) → (not a || not b) ≡ false → (a ≡ true) × (b ≡ true)
 both_hold true true e = (refl, refl)
 both_hold true false e = absurd (cc)
 both_hold false b e = absurd (cc)
-
-flipped : (b : Bool) → not b ≡ true → b ≡ false
-flipped true e = absurd (cc)
-flipped false e = refl
 
 module _ (log1 log2 : List ℕ) (earlier later : List Block) (after : ℕ) where
   abbrev row : List ℕ → Growth

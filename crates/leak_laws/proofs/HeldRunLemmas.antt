@@ -5,14 +5,14 @@ use Rattle.std.specs.Prelude.{slice_get}
 use Rattle.leak_index.specs.Leads.{Distances}
 use Rattle.leak_index.specs.Readings.{distances_of}
 use Rattle.leak_roots.specs.declared.skip.Skip.{Skip}
-use Rattle.leak_input.specs.Signs.{AreSigns}
+use Rattle.leak_search.specs.Signs.{AreSigns}
 use Rattle.leak_holders.specs.declared.question.Question.{Question}
 use Rattle.leak_request.specs.declared.options.GrowOptions.{GrowOptions}
 use Rattle.leak_request.specs.declared.options.Options.{Options}
-use Rattle.leak_search.specs.Holding.{TellsWhy}
-use Rattle.leak_holding.specs.declared.finding.Holding.{Holding}
-use Rattle.leak_holding.specs.Held.{FindsHeld}
-use Rattle.leak_holding.specs.Holders.{FindsHolders}
+use Rattle.leak_search.specs.Why.{TellsWhy}
+use Rattle.leak_holder_search.specs.declared.search.Holding.{Holding}
+use Rattle.leak_holder_search.specs.Held.{FindsHeld}
+use Rattle.leak_holder_search.specs.Holders.{FindsHolders}
 use Rattle.leak_find.specs.Answers.{Holds, TellsChain, TellsGrowth, TellsHolding, leaked_if_not}
 use Rattle.leak_find.specs.Inputs.{input_at}
 use Rattle.leak_find.specs.Run.{Runs}

@@ -14,8 +14,8 @@ use Rattle.leak_index.specs.Leads.{Distances}
 use Rattle.leak_roots.specs.Places.{Places}
 use Rattle.leak_roots.specs.declared.skip.Skip.{Skip}
 use Rattle.leak_report.specs.Totals.{marked_in, text_at}
-use Rattle.leak_report.proofs.Members.{All-from_each, each_filtered, each_from_All, each_implied, each_mapped}
-use Rattle.leak_texts.specs.Numbered.{AreTexts, text_with, texts_of}
+use Rattle.leak_lemmas.proofs.Members.{All-from_each, each_filtered, each_from_All, each_implied, each_mapped, each_append as both_each}
+use Rattle.leak_report.specs.Numbered.{AreTexts, text_with, texts_of}
 use Rattle.leak_holders.specs.declared.holder.Holder.{Holder}
 use Rattle.leak_holders.specs.declared.part.Part.{Part}
 use Rattle.leak_holders.specs.declared.question.Question.{Question}
@@ -29,11 +29,11 @@ use Rattle.leak_growth.specs.Report.{growth_with, growths_of}
 use Rattle.leak_growth.specs.Rows.{has_changed, rank}
 use Rattle.leak_growth.proofs.RankLemmas.{each_ranked}
 use Rattle.leak_search.specs.Search.{index_of}
-use Rattle.leak_search.specs.declared.holding.Why.{Why}
-use Rattle.leak_search.specs.Holding.{TellsWhy}
-use Rattle.leak_holding.specs.declared.finding.Holding.{Holding}
-use Rattle.leak_holding.specs.Held.{FindsHeld, both, chosen_with}
-use Rattle.leak_holding.specs.Holders.{FindsHolders}
+use Rattle.leak_search.specs.declared.why.Why.{Why}
+use Rattle.leak_search.specs.Why.{TellsWhy}
+use Rattle.leak_holder_search.specs.declared.search.Holding.{Holding}
+use Rattle.leak_holder_search.specs.Held.{FindsHeld, both, chosen_with}
+use Rattle.leak_holder_search.specs.Holders.{FindsHolders}
 use Rattle.leak_laws.specs.HeldOneLine.{AreEntriesOfLines, IsAnswerOfLines, IsWhyOfLines, told_by_answer, told_by_why}
 use Rattle.leak_laws.specs.HeldTogether.{told_by_holders}
 use Rattle.leak_laws.specs.Readable.{Lacks}
@@ -44,10 +44,6 @@ use Rattle.leak_laws.specs.ToldWhy.{AreOfBlocks, chain_tells, entry_at, first_by
 use Rattle.leak_laws.proofs.AnswerReading.{answer_is_told}
 use Rattle.leak_laws.proofs.OneLineTexts.{blocks_lack}
 use Rattle.leak_laws.proofs.WhyBytes.{why_is_told}
-
-both_each : {X : Type 0} (P : X → Type 0) (xs ys : List X) → AllByRecursion P xs → AllByRecursion P ys → AllByRecursion P (xs ++ ys)
-both_each P [] ys p q = q
-both_each P (x ∷ xs) ys p q = (p.0, both_each P xs ys p.1 q)
 
 -- ---- what grew
 

@@ -3,6 +3,7 @@ use Rattle.std.proofs.Common.{◌≡◌, ℕ, ◌<◌, ◌^◌, Bool, true, fals
 use Rattle.std.specs.Prelude.{◌↔◌, ◌==◌, count_by, nat_lt, slice_index_or}
 use Rattle.std.proofs.lemmas.List.{length-map}
 use Rattle.std.proofs.lemmas.Option.{get_or_from_slice_get, slice_get-get_or}
+use Rattle.leak_holder_search.proofs.FindLemmas.{counted_each}
 use Rattle.leak_mtrace.specs.declared.line.Line.{Line}
 use Rattle.leak_mtrace.specs.Log.{IsLog}
 use Rattle.leak_mtrace.proofs.FitLemmas.{lines_fit}
@@ -15,15 +16,15 @@ use Rattle.leak_index.specs.Leads.{Distances}
 use Rattle.leak_roots.specs.declared.skip.Skip.{Skip}
 use Rattle.leak_marks.specs.Reach.{Graph, Reach}
 use Rattle.leak_pool.specs.Marking.{IsSet}
-use Rattle.leak_texts.specs.Numbered.{AreTexts}
+use Rattle.leak_report.specs.Numbered.{AreTexts}
 use Rattle.leak_holders.specs.Holders.{AreComplete, AreReached}
 use Rattle.leak_holders.specs.Laws.{AreRowsOf}
 use Rattle.leak_holders.specs.Words.{facts_of}
 use Rattle.leak_search.specs.Search.{graph_of_one}
-use Rattle.leak_holding.specs.declared.finding.Holding.{Holding}
-use Rattle.leak_holding.specs.Holders.{FindsHolders}
-use Rattle.leak_holding.specs.Since.{counted_of}
-use Rattle.leak_holding.proofs.NumberLemmas.{are_numbers}
+use Rattle.leak_holder_search.specs.declared.search.Holding.{Holding}
+use Rattle.leak_holder_search.specs.Holders.{FindsHolders}
+use Rattle.leak_holder_search.specs.Since.{counted_of}
+use Rattle.leak_holder_search.proofs.NumberLemmas.{are_numbers}
 use Rattle.leak_laws.proofs.SameHeld.{one_each}
 use Rattle.leak_laws.proofs.SameRows.{plain_rows}
 
@@ -32,10 +33,6 @@ some_true set i low = (
   λ e. get_or_from_slice_get set i true false e,
   λ e. slice_get-get_or set i false low ∙ ap (λ (b : Bool). Some b) e,
 )
-
-counted_each : (since : Option (List ℕ)) (blocks : List Block) → length (counted_of since blocks) ≡ length blocks
-counted_each None blocks = length-map blocks (λ (b : Block). true)
-counted_each (Some earlier) blocks = length-map blocks (λ (b : Block). nat_lt (count_by (λ c. c == 10) earlier) b.line)
 
 -- what is known of blocks: their texts by number, which are reached, and which are counted
 pub record IsKnown (graph : Graph) (log : List ℕ) (blocks : List Block) (texts : List (List ℕ)) (numbers : List ℕ) (set counted : List Bool) : Type 0 where

@@ -8,9 +8,9 @@ use Rattle.leak_roots.specs.declared.skip.Skip.{Skip}
 use Rattle.leak_holders.specs.declared.holder.Holder.{Holder}
 use Rattle.leak_holders.specs.Holders.{rank, row_of}
 use Rattle.leak_search.specs.Search.{head_of_one}
-use Rattle.leak_holding.specs.declared.finding.Holding.{Holding}
-use Rattle.leak_holding.specs.Holders.{FindsHolders}
-use Rattle.leak_holding.specs.Since.{news_of}
+use Rattle.leak_holder_search.specs.declared.search.Holding.{Holding}
+use Rattle.leak_holder_search.specs.Holders.{FindsHolders}
+use Rattle.leak_holder_search.specs.Since.{news_of}
 use Rattle.leak_laws.specs.HeldTogether.{DifferInHolder, IsHoldersReport, rank_holder, told_by_holders}
 use Rattle.leak_laws.proofs.HolderReading.{holders_are_told}
 use Rattle.leak_laws.proofs.ReportLemmas.{parted_blocks, parted_bytes}

@@ -7,7 +7,7 @@ use Rattle.leak_report.specs.declared.head.Head.{Head}
 use Rattle.leak_report.specs.Lines.{dead_lines, freed_lines, hexadecimal, log_line, undumped_line}
 use Rattle.leak_report.specs.Totals.{leaked_in, marked_in}
 use Rattle.leak_holders.specs.declared.holder.Holder.{Holder}
-use Rattle.leak_holding.specs.Text.{holders_text, new_lines}
+use Rattle.leak_holder_search.specs.Text.{holders_text, new_lines}
 use Rattle.leak_laws.specs.Reports.{sum_of}
 use Rattle.leak_laws.specs.Told.{Sum, sum_line}
 use Rattle.leak_laws.specs.Readable.{IsSumRead}

@@ -3,7 +3,7 @@ use Rattle.leak_blocks.specs.Live.{live_of}
 use Rattle.leak_blocks.proofs.DisjointLemmas.{live_disjoint}
 use Rattle.leak_pool.specs.Marking.{graph_of}
 use Rattle.leak_search.specs.Search.{graph_of_one}
-use Rattle.leak_holding.specs.Since.{counted_of}
+use Rattle.leak_holder_search.specs.Since.{counted_of}
 use Rattle.leak_laws.specs.HolderLines.{AloneAreWithinNone, HoldersHaveLines, LinesAreOfMarked, OutermostHoldMarked}
 use Rattle.leak_laws.specs.HolderMeaning.{LinesAreSaid}
 use Rattle.leak_laws.proofs.HolderFacts.{rows_of_report}

@@ -4,7 +4,7 @@ use Rattle.std.specs.List.{AllByRecursion}
 use Rattle.std.proofs.lemmas.Bool.{and_from, and_parts}
 use Rattle.leak_marks.specs.Reach.{Graph}
 use Rattle.leak_without.specs.Without.{IsHeldBy, members}
-use Rattle.leak_report.proofs.Members.{Has}
+use Rattle.leak_lemmas.proofs.Members.{Has}
 use Rattle.leak_holders.specs.declared.facts.Facts.{Facts}
 use Rattle.leak_holders.specs.declared.holder.Holder.{Holder}
 use Rattle.leak_holders.specs.Holders.{is_counted, row_of}

@@ -8,14 +8,14 @@ use Rattle.leak_blocks.specs.Live.{live_of}
 use Rattle.leak_index.specs.Leads.{Distances}
 use Rattle.leak_roots.specs.declared.skip.Skip.{Skip}
 use Rattle.leak_report.specs.Totals.{bytes_of, marked_in}
-use Rattle.leak_report.proofs.Members.{each_from_All, each_implied, each_mapped}
+use Rattle.leak_lemmas.proofs.Members.{each_from_All, each_implied, each_mapped}
 use Rattle.leak_holders.specs.declared.facts.Facts.{Facts}
 use Rattle.leak_holders.specs.Laws.{IsBounded, reached_of}
 use Rattle.leak_holders.specs.Words.{facts_of}
 use Rattle.leak_holders.proofs.AddedUp.{are_bounded, own_add_up}
 use Rattle.leak_search.specs.Search.{graph_of_one}
-use Rattle.leak_holding.specs.declared.finding.Holding.{Holding}
-use Rattle.leak_holding.specs.Holders.{FindsHolders}
+use Rattle.leak_holder_search.specs.declared.search.Holding.{Holding}
+use Rattle.leak_holder_search.specs.Holders.{FindsHolders}
 use Rattle.leak_laws.specs.HeldTogether.{IsWithin, OwnAreMarked, told_by_holders}
 use Rattle.leak_laws.specs.ToldHolders.{ToldHolder, told_holder}
 use Rattle.leak_laws.proofs.HolderFacts.{rows_of_report}
@@ -77,7 +77,7 @@ and_true : (b : Bool) (c : Bool) → c ≡ true → (b && c) ≡ b
 and_true true c e = e
 and_true false c e = refl
 
-default : (bs : List Block) (i : ℕ) (d e : Block) → i < length bs → get_or bs i d ≡ get_or bs i e
+pub default : (bs : List Block) (i : ℕ) (d e : Block) → i < length bs → get_or bs i d ≡ get_or bs i e
 default [] i d e low = absurd (omega arith)
 default (b ∷ bs) zero d e low = refl
 default (b ∷ bs) (suc i) d e low = default bs i d e (omega arith)

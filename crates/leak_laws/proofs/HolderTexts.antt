@@ -8,11 +8,11 @@ use Rattle.leak_index.specs.Leads.{Distances}
 use Rattle.leak_roots.specs.declared.skip.Skip.{Skip}
 use Rattle.leak_marks.specs.Reach.{Reach}
 use Rattle.leak_report.specs.Totals.{marked_in, text_at}
-use Rattle.leak_texts.specs.Numbered.{text_with, texts_of}
+use Rattle.leak_report.specs.Numbered.{text_with, texts_of}
 use Rattle.leak_without.proofs.HeldLemmas.{own_are_held}
 use Rattle.leak_search.specs.Search.{graph_of_one}
-use Rattle.leak_holding.specs.declared.finding.Holding.{Holding}
-use Rattle.leak_holding.specs.Holders.{FindsHolders}
+use Rattle.leak_holder_search.specs.declared.search.Holding.{Holding}
+use Rattle.leak_holder_search.specs.Holders.{FindsHolders}
 use Rattle.leak_laws.specs.HeldTogether.{HasHolder, told_by_holders}
 use Rattle.leak_laws.specs.HolderLines.{blocks_with_text}
 use Rattle.leak_laws.proofs.HolderReports.{holders_have_lines}

@@ -9,7 +9,7 @@ use Rattle.leak_roots.specs.declared.skip.Skip.{Skip}
 use Rattle.leak_marks.specs.Reach.{Reach}
 use Rattle.leak_pool.specs.Marking.{IsSet}
 use Rattle.leak_report.specs.Totals.{leaked_in}
-use Rattle.leak_input.specs.declared.found.Found.{Found}
+use Rattle.leak_search.specs.declared.found.Found.{Found}
 use Rattle.leak_search.specs.Laws.{LeavesOutNoMore}
 use Rattle.leak_search.specs.Search.{FindsOne, graph_of_one}
 use Rattle.leak_search.specs.SearchTwo.{FindsTwo, IsMarkedEarlier, graph_of_later, kept_blocks, new_blocks}

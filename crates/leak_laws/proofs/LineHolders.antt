@@ -5,12 +5,13 @@ use Rattle.std.specs.List.{AllByRecursion, Contains, list_any}
 use Rattle.std.proofs.lemmas.Bool.{cases_eq, cases_lt}
 use Rattle.std.proofs.lemmas.List.{get_or-map, get_or_past}
 use Rattle.std.proofs.lemmas.Slice.Eq.{bytes_eq-Decides}
+use Rattle.leak_growth.proofs.SumLemmas.{one_place}
 use Rattle.leak_blocks.specs.declared.block.Block.{Block}
 use Rattle.leak_marks.specs.Reach.{Graph}
 use Rattle.leak_without.specs.Without.{AreHeldBy, IsHeldBy, graph_of, members}
 use Rattle.leak_report.specs.Totals.{marked_in, text_at}
-use Rattle.leak_report.proofs.Members.{Has, Has-map, each_implied, each_mapped}
-use Rattle.leak_texts.specs.Numbered.{AreTexts, text_with}
+use Rattle.leak_lemmas.proofs.Members.{Has, Has-map, each_implied, each_mapped, get_Has as contained}
+use Rattle.leak_report.specs.Numbered.{AreTexts, text_with}
 use Rattle.leak_holders.specs.declared.facts.Facts.{Facts}
 use Rattle.leak_holders.specs.declared.holder.Holder.{Holder}
 use Rattle.leak_holders.specs.Holders.{is_within}
@@ -21,7 +22,6 @@ use Rattle.leak_laws.specs.ToldHolders.{ToldHolder, told_holder}
 use Rattle.leak_laws.proofs.HolderRows.{Row as RowOf, holder_rows, row_holds, row_there}
 use Rattle.leak_laws.proofs.OuterTexts.{count_within, held_within, holder_reached, outer, within_held}
 use Rattle.leak_laws.proofs.Ranges.{passes_some, some_passes}
-use Rattle.leak_laws.proofs.SameTextNumbers.{one_place}
 use Rattle.leak_laws.proofs.TextBlocks.{by_number, by_text, holder_text, holds_by_number, holds_by_text, inside_text}
 
 pub any_has : {X : Type 0} (p : X → Bool) (xs : List X) (x : X) → Has xs x → p x ≡ true → list_any p xs ≡ true
@@ -41,11 +41,6 @@ any_of {X} {R} p P (x ∷ xs) all f some = go (p x) refl some (λ rest. any_of p
     go : (t : Bool) → p x ≡ t → (t || list_any p xs) ≡ true → (list_any p xs ≡ true → R) → R
     go true e any later = f x all.0 e
     go false e any later = later any
-
-pub contained : {X : Type 0} (xs : List X) (x : X) → Has xs x → Contains xs x
-contained [] x has = absurd has
-contained (y ∷ ys) x (inl e) = (0, omega arith, e)
-contained (y ∷ ys) x (inr has) = let at = contained ys x has in (suc at.0, omega (arith, at.1), at.2)
 
 any_marked : (p : Block → Bool) (set : List Bool) (blocks : List Block) (i : ℕ) (d : Block) → i < length blocks → get_or set i false ≡ true → p (get_or blocks i d) ≡ true → list_any p (marked_in set blocks) ≡ true
 any_marked p [] blocks i d low is passes = cc

@@ -9,12 +9,13 @@ use Rattle.std.specs.declared.cmp.Ordering.TheVariants.{Less}
 use Rattle.std.proofs.lemmas.Bool.{and_from, and_parts, cases_eq, eq-eqb, eqb-true}
 use Rattle.std.proofs.lemmas.List.{length-map}
 use Rattle.std.proofs.lemmas.Map.Keys.{Less-from_sorted}
+use Rattle.leak_growth.proofs.SumLemmas.{one_place}
 use Rattle.leak_blocks.specs.declared.block.Block.{Block}
 use Rattle.leak_blocks.specs.Span.{AreDisjoint}
 use Rattle.leak_marks.specs.Reach.{Graph}
 use Rattle.leak_without.specs.Without.{AreHeldBy, IsHeldBy, graph_of, members}
-use Rattle.leak_report.proofs.Members.{All-from_each, Has-filter, Has-map, each_filtered, each_implied, each_mapped}
-use Rattle.leak_texts.specs.Numbered.{AreTexts, text_with}
+use Rattle.leak_lemmas.proofs.Members.{All-from_each, Has-filter, Has-map, each_filtered, each_implied, each_mapped, get_Has as contained}
+use Rattle.leak_report.specs.Numbered.{AreTexts, text_with}
 use Rattle.leak_holders.specs.declared.facts.Facts.{Facts}
 use Rattle.leak_holders.specs.declared.holder.Holder.{Holder}
 use Rattle.leak_holders.specs.Holders.{is_counted, is_own, is_reached, is_within, text_of}
@@ -24,12 +25,11 @@ use Rattle.leak_laws.specs.HolderLines.{blocks_with_text}
 use Rattle.leak_laws.specs.HolderMeaning.{IsOwn, IsSaid, Numbers, Texts, block_at}
 use Rattle.leak_laws.specs.ToldHolders.{ToldHolder, told_holder}
 use Rattle.leak_laws.proofs.HolderRows.{Row as RowOf, holder_rows, row_holds}
-use Rattle.leak_laws.proofs.LineHolders.{contained, inside_tests}
+use Rattle.leak_laws.proofs.LineHolders.{inside_tests}
 use Rattle.leak_laws.proofs.OuterTexts.{held_within, holder_reached, within_held}
 use Rattle.leak_laws.proofs.RangeLists.{first_passing, passing, passing_sorted}
 use Rattle.leak_laws.proofs.Ranges.{in_range, range_each}
 use Rattle.leak_laws.proofs.SameHeld.{apart_at}
-use Rattle.leak_laws.proofs.SameTextNumbers.{one_place}
 use Rattle.leak_laws.proofs.ToldOrder.{less_is}
 use Rattle.leak_laws.proofs.TextBlocks.{by_number, by_text, has_text, holder_text, holds_by_number, holds_by_text, inside_text, number_low, text_is}
 

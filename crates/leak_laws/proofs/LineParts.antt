@@ -8,12 +8,13 @@ use Rattle.std.proofs.lemmas.Bool.{and_from, and_parts, ne_eqb}
 use Rattle.std.proofs.lemmas.List.FromFn.{get_or-map-range_with_len, length-map-range_with_len}
 use Rattle.std.proofs.lemmas.List.Kept.{IsStrictlySortedBy-filter}
 use Rattle.std.proofs.lemmas.Slice.Eq.{bytes_eq-Decides}
+use Rattle.leak_growth.proofs.SumLemmas.{one_place}
 use Rattle.leak_blocks.specs.declared.block.Block.{Block}
 use Rattle.leak_marks.specs.Reach.{Graph}
 use Rattle.leak_without.specs.Without.{IsHeldBy, chosen, graph_of}
 use Rattle.leak_without.proofs.HeldLemmas.{larger_hold_as_much}
-use Rattle.leak_report.proofs.Members.{Has, Has-filter, Has-map, each_filtered, each_implied, each_mapped}
-use Rattle.leak_texts.specs.Numbered.{text_with, texts_of}
+use Rattle.leak_lemmas.proofs.Members.{Has, Has-filter, Has-map, each_filtered, each_implied, each_mapped}
+use Rattle.leak_report.specs.Numbered.{text_with, texts_of}
 use Rattle.leak_holders.specs.declared.facts.Facts.{Facts}
 use Rattle.leak_holders.specs.declared.holder.Holder.{Holder}
 use Rattle.leak_holders.specs.declared.part.Part.{Part}
@@ -24,7 +25,7 @@ use Rattle.leak_holders.specs.Words.{facts_of}
 use Rattle.leak_laws.specs.HeldTogether.{DifferInHolder, rank_holder}
 use Rattle.leak_laws.specs.HolderLines.{blocks_with_text}
 use Rattle.leak_laws.specs.PartLines.{AreOrdered, DifferInPart, HasPart, HoldsChosen, IsHeldWith, chosen_blocks, rank_part}
-use Rattle.leak_holding.specs.Held.{chosen_with}
+use Rattle.leak_holder_search.specs.Held.{chosen_with}
 use Rattle.leak_laws.specs.ToldAnswers.{ToldPart, told_part}
 use Rattle.leak_laws.specs.ToldHolders.{told_holder}
 use Rattle.leak_laws.proofs.ChosenBlocks.{chosen_told, of_chosen, to_chosen, told_chosen}
@@ -34,7 +35,6 @@ use Rattle.leak_laws.proofs.LineHolders.{any_has, any_of, inside_tests}
 use Rattle.leak_laws.proofs.OuterTexts.{other_than}
 use Rattle.leak_laws.proofs.PartRows.{in_holds, in_parts, in_row, in_rows, in_there}
 use Rattle.leak_laws.proofs.RowOrder.{IsRow, rows_each, rows_sorted}
-use Rattle.leak_laws.proofs.SameTextNumbers.{one_place}
 use Rattle.leak_laws.proofs.TextBlocks.{holder_text, holds_by_number, holds_by_text, number_low, text_is}
 use Rattle.leak_laws.proofs.ToldOrder.{told_differ, told_sorted}
 

@@ -3,7 +3,7 @@ use Rattle.std.proofs.Common.{◌≡◌, inl, inr, Bool, true, cond, List, [], �
 use Rattle.std.specs.List.{AllByRecursion}
 use Rattle.leak_blocks.specs.declared.block.Block.{Block}
 use Rattle.leak_blocks.specs.Laws.{IsIn}
-use Rattle.leak_report.proofs.Members.{Has}
+use Rattle.leak_lemmas.proofs.Members.{Has}
 
 pub both_front : {X : Type 0} (xs ys : List X) (x : X) → Has xs x → Has (xs ++ ys) x
 both_front [] ys x has = absurd has

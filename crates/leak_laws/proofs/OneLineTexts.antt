@@ -2,6 +2,7 @@
 use Rattle.std.proofs.Common.{◌≡◌, ℕ, zero, suc, ◌+◌, ◌-◌, inl, inr, Bool, true, false, not, ◌==◌, List, [], ◌∷◌, ◌++◌, length, map, filter, Option, None, Some, slice_get, refl, sym, ap, subst}
 use Rattle.std.specs.Prelude.{codes, if◌then◌else◌, nat_lt}
 use Rattle.std.specs.List.{AllByRecursion, AllZip}
+use Rattle.leak_report.proofs.Orders.{each_leak as leaked_each}
 use Rattle.leak_mtrace.specs.declared.line.Line.{Line}
 use Rattle.leak_mtrace.specs.Log.{HasItsPlace, IsLog, in_range, whole_lines, with_places}
 use Rattle.leak_mtrace.proofs.CallerLemmas.{callers_hold_places}
@@ -13,7 +14,7 @@ use Rattle.leak_blocks.proofs.LineLemmas.{live_of_lines}
 use Rattle.leak_report.specs.declared.head.Head.{Head}
 use Rattle.leak_report.specs.Misfits.{misfits_in}
 use Rattle.leak_report.specs.Totals.{Leak, first_of_each, has_same_text, leaks_in, row_of, rows_of, text_at}
-use Rattle.leak_report.proofs.Members.{each_filtered, each_from_All, each_implied, each_mapped}
+use Rattle.leak_lemmas.proofs.Members.{each_filtered, each_from_All, each_implied, each_mapped, each_at}
 use Rattle.leak_report.proofs.Ranks.{each_ranked}
 use Rattle.leak_laws.specs.OneLine.{AreOfOneLine}
 use Rattle.leak_laws.specs.Reports.{misfit_rows_told, told_caller, told_leak, told_misfit, told_of}
@@ -61,11 +62,6 @@ callers_lack log lines is =
     subst (AllByRecursion (Lacks 10)) (sym (lines_of_cut log c)) (each_implied HasNoFeed (Lacks 10) (λ t all. each_from_All (λ b. (b == 10) ≡ false) t all) c.texts c.plain) in
     each_zipped (HasItsPlace log) (λ t. Lacks 10 t.1) (λ x. Lacks 10 (text_at log x.caller)) (caller_lacks log) (with_places 0 (whole_lines log)) lines (callers_hold_places log lines is) (placed_lack 0 (whole_lines log) plain)
 
-each_at : {X : Type 0} (P : X → Type 0) (xs : List X) (n : ℕ) (x : X) → AllByRecursion P xs → slice_get xs n ≡ Some x → P x
-each_at P [] n x all e = cc
-each_at P (y ∷ ys) zero x all e = let same : y ≡ x = cc in subst P same all.0
-each_at P (y ∷ ys) (suc n) x all e = each_at P ys n x all.1 e
-
 pub blocks_lack : (log : List ℕ) (lines : List Line) → IsLog log lines → AllByRecursion (λ b. Lacks 10 (text_at log b.caller)) (live_of lines)
 blocks_lack log lines is =
     each_implied (IsOfLine lines) (λ b. Lacks 10 (text_at log b.caller))
@@ -73,13 +69,6 @@ blocks_lack log lines is =
     (live_of lines) (live_of_lines lines)
 
 -- ---- the rows of a report
-
-leaked_each : (P : Block → Type 0) (set heads : List Bool) (blocks : List Block) → AllByRecursion P blocks → AllByRecursion (λ l. P l.block) (leaks_in set heads blocks)
-leaked_each P [] heads blocks all = tt
-leaked_each P (s ∷ set) [] blocks all = tt
-leaked_each P (s ∷ set) (h ∷ heads) [] all = tt
-leaked_each P (true ∷ set) (h ∷ heads) (b ∷ blocks) all = leaked_each P set heads blocks all.1
-leaked_each P (false ∷ set) (h ∷ heads) (b ∷ blocks) all = (all.0, leaked_each P set heads blocks all.1)
 
 misfits_each : (P : Block → Type 0) (fits : List Bool) (blocks : List Block) → AllByRecursion P blocks → AllByRecursion P (misfits_in fits blocks)
 misfits_each P [] blocks all = tt

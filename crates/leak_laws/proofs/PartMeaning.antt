@@ -3,19 +3,20 @@ use Rattle.std.proofs.Common.{◌≡◌, ℕ, ◌<◌, ◌==◌, Bool, false, �
 use Rattle.std.specs.Prelude.{◌↔◌, IsTrue, slice_index, slice_index_or}
 use Rattle.std.specs.List.{AllByRecursion}
 use Rattle.std.proofs.lemmas.Bool.{and_from, and_parts, eq-eqb, eqb-true}
+use Rattle.leak_growth.proofs.SumLemmas.{one_place}
 use Rattle.leak_blocks.specs.declared.block.Block.{Block}
 use Rattle.leak_marks.specs.Reach.{Graph}
 use Rattle.leak_without.specs.Without.{IsHeldBy, chosen, graph_of}
 use Rattle.leak_without.proofs.HeldLemmas.{larger_hold_as_much}
-use Rattle.leak_report.proofs.Members.{each_implied}
-use Rattle.leak_texts.specs.Numbered.{text_with}
+use Rattle.leak_lemmas.proofs.Members.{each_implied}
+use Rattle.leak_report.specs.Numbered.{text_with}
 use Rattle.leak_holders.specs.declared.facts.Facts.{Facts}
 use Rattle.leak_holders.specs.declared.holder.Holder.{Holder}
 use Rattle.leak_holders.specs.declared.part.Part.{Part}
 use Rattle.leak_holders.specs.Holders.{is_counted}
 use Rattle.leak_holders.specs.Parts.{AreHoldersOf, counted_in, part_of_row, parts_by}
 use Rattle.leak_holders.specs.Words.{facts_of}
-use Rattle.leak_holding.specs.Held.{chosen_with}
+use Rattle.leak_holder_search.specs.Held.{chosen_with}
 use Rattle.leak_laws.specs.PartLines.{chosen_blocks}
 use Rattle.leak_laws.specs.PartMeaning.{IsBy, IsIn, IsSum}
 use Rattle.leak_laws.specs.ToldAnswers.{ToldPart, told_part}
@@ -27,7 +28,6 @@ use Rattle.leak_laws.proofs.LineParts.{by_each, counted_at, in_each, lines_each,
 use Rattle.leak_laws.proofs.PartRows.{in_parts, in_row, in_rows}
 use Rattle.leak_laws.proofs.RangeLists.{passing}
 use Rattle.leak_laws.proofs.RowOrder.{IsRow}
-use Rattle.leak_laws.proofs.SameTextNumbers.{one_place}
 use Rattle.leak_laws.proofs.TextBlocks.{has_text, holds_by_number, holds_by_text, inside_text, number_low, text_is}
 
 module _ (first : List ℕ) (targets : List (List ℕ)) (log : List ℕ) (blocks : List Block) (texts : List (List ℕ)) (numbers : List ℕ) (set counted : List Bool)

@@ -10,16 +10,16 @@ use Rattle.leak_roots.specs.declared.skip.Skip.{Skip}
 use Rattle.leak_marks.specs.Reach.{Graph}
 use Rattle.leak_pool.specs.Marking.{graph_of}
 use Rattle.leak_report.specs.Totals.{marked_in, text_at}
-use Rattle.leak_texts.specs.Numbered.{text_with, texts_of}
+use Rattle.leak_report.specs.Numbered.{text_with, texts_of}
 use Rattle.leak_holders.specs.declared.part.Part.{Part}
 use Rattle.leak_holders.specs.declared.question.Question.{Question}
 use Rattle.leak_holders.specs.declared.question.Side.{Side}
 use Rattle.leak_holders.specs.declared.question.Side.TheVariants.{In, Of}
 use Rattle.leak_holders.specs.Words.{facts_of}
 use Rattle.leak_search.specs.Search.{graph_of_one}
-use Rattle.leak_holding.specs.declared.finding.Holding.{Holding}
-use Rattle.leak_holding.specs.Held.{AreHeld, AreHeldIn, AreHeldOf, FindsHeld, both, chosen_with}
-use Rattle.leak_holding.specs.Since.{counted_of}
+use Rattle.leak_holder_search.specs.declared.search.Holding.{Holding}
+use Rattle.leak_holder_search.specs.Held.{AreHeld, AreHeldIn, AreHeldOf, FindsHeld, both, chosen_with}
+use Rattle.leak_holder_search.specs.Since.{counted_of}
 use Rattle.leak_laws.specs.HeldOneLine.{told_by_answer}
 use Rattle.leak_laws.specs.PartLines.{AreOrdered, ByTextsHaveLines, HasPart, HoldsChosen, InTextsHaveLines, IsHeldWith, PartsAreOrdered, chosen_blocks}
 use Rattle.leak_laws.specs.PartMeaning.{ByLinesAreSums, InLinesAreSums, IsBy, IsIn, IsSum}

@@ -6,6 +6,7 @@ use Rattle.std.specs.Ordering.{is_lt}
 use Rattle.std.proofs.lemmas.Bool.{cases_eq, eq-eqb, ltb-false, ne_eqb}
 use Rattle.std.proofs.lemmas.List.FromFn.{get_or-map-range_with_len, length-map-range_with_len}
 use Rattle.std.proofs.lemmas.List.Sums.{sum_by-cons}
+use Rattle.leak_lemmas.proofs.Sums.{sum_empty, none_is, one_is, sum_none as zeros, sum_same}
 use Rattle.leak_blocks.specs.declared.block.Block.{Block}
 use Rattle.leak_blocks.specs.Live.{live_of}
 use Rattle.leak_index.specs.Leads.{Distances}
@@ -20,18 +21,18 @@ use Rattle.leak_holders.specs.Holders.{is_counted, size_of, text_of}
 use Rattle.leak_holders.specs.Parts.{held_of, part_of, parts_by, parts_with_blocks, placed_part, rank_of_parts, ranked_parts}
 use Rattle.leak_holders.specs.Words.{facts_of}
 use Rattle.leak_search.specs.Search.{graph_of_one}
-use Rattle.leak_holding.specs.declared.finding.Holding.{Holding}
-use Rattle.leak_holding.specs.Held.{AreHeld, FindsHeld, both, chosen_with}
-use Rattle.leak_holding.specs.Since.{counted_of}
-use Rattle.leak_holding.proofs.NumberLemmas.{are_numbers}
+use Rattle.leak_holder_search.specs.declared.search.Holding.{Holding}
+use Rattle.leak_holder_search.specs.Held.{AreHeld, FindsHeld, both, chosen_with}
+use Rattle.leak_holder_search.specs.Since.{counted_of}
+use Rattle.leak_holder_search.proofs.NumberLemmas.{are_numbers}
 use Rattle.leak_laws.specs.HeldOneLine.{told_by_answer}
 use Rattle.leak_laws.specs.InSums.{AddUpTo}
 use Rattle.leak_laws.specs.Reports.{sum_of}
 use Rattle.leak_laws.specs.ToldAnswers.{ToldPart, ToldRows, told_part, told_rows}
-use Rattle.leak_laws.proofs.HolderSums.{Tell, as_large, as_many}
+use Rattle.leak_laws.proofs.HolderSums.{Tell, as_large, as_many, default as same_default}
 use Rattle.leak_laws.proofs.SameHeld.{one_each}
 use Rattle.leak_laws.proofs.SameRows.{known_in}
-use Rattle.leak_laws.proofs.TextSums.{length_sum, sum_both, sum_map, sum_same}
+use Rattle.leak_laws.proofs.TextSums.{length_sum, sum_both, sum_map}
 
 -- ---- sums over lines
 
@@ -47,10 +48,6 @@ sum_ranked : (w : Part → ℕ) (rows : List Part) → sum_by w (ranked_parts ro
 sum_ranked w [] = refl
 sum_ranked w (p ∷ rows) = omega (arith, sum_placed w p (ranked_parts rows), sum_ranked w rows, sum_by-cons w p rows)
 
-sum_empty : (w : ℕ → ℕ) (xs : List ℕ) → length xs ≡ 0 → sum_by w xs ≡ 0
-sum_empty w [] e = refl
-sum_empty w (x ∷ xs) e = absurd (omega (arith, e))
-
 -- lines without a block add nothing
 sum_shown : (w : Part → ℕ) (row : ℕ → Part) → ((t : ℕ) → (row t).blocks ≡ 0 → w (row t) ≡ 0) → (ts : List ℕ) → sum_by w (parts_with_blocks (map row ts)) ≡ sum_by (λ t. w (row t)) ts
 sum_shown w row none [] = refl
@@ -60,29 +57,6 @@ sum_shown w row none (t ∷ ts) = go (nat_lt 0 (row t).blocks) refl (sum_shown w
         → sum_by w (cond b (row t ∷ parts_with_blocks (map row ts)) (parts_with_blocks (map row ts))) ≡ sum_by (λ u. w (row u)) (t ∷ ts)
     go true is rest = omega (arith, rest, sum_by-cons w (row t) (parts_with_blocks (map row ts)), sum_by-cons (λ (u : ℕ). w (row u)) t ts)
     go false is rest = let zero_blocks = ltb-false 0 (row t).blocks is in omega (arith, rest, none t (omega arith), sum_by-cons (λ (u : ℕ). w (row u)) t ts)
-
--- one of consecutive numbers is x
-none_is : (x v a n : ℕ) → x < a → sum_by (λ t. cond (x == t) v 0) (range_with_len a n) ≡ 0
-none_is x v a zero h = refl
-none_is x v a (suc n) h =
-    let here : cond (x == a) v 0 ≡ 0 = ap (λ (t : Bool). cond t v 0) (ne_eqb x a (λ e. omega (arith, e))) in
-    omega (arith, sum_by-cons (λ (t : ℕ). cond (x == t) v 0) a (range_with_len (a + 1) n), here, none_is x v (a + 1) n (omega arith))
-
-one_is : (x v a n : ℕ) → a ≤ x → x < a + n → sum_by (λ t. cond (x == t) v 0) (range_with_len a n) ≡ v
-one_is x v a zero l h = absurd (omega arith)
-one_is x v a (suc n) l h = go (cases_eq x a) (λ more. one_is x v (a + 1) n more (omega arith))
-  where
-    go : (x ≡ a) ⊎ (x ≡ a → ⊥) → (a + 1 ≤ x → sum_by (λ t. cond (x == t) v 0) (range_with_len (a + 1) n) ≡ v) → sum_by (λ t. cond (x == t) v 0) (range_with_len a (suc n)) ≡ v
-    go (inl e) later =
-        let here : cond (x == a) v 0 ≡ v = ap (λ (t : Bool). cond t v 0) (eq-eqb x a e) in
-        omega (arith, sum_by-cons (λ (t : ℕ). cond (x == t) v 0) a (range_with_len (a + 1) n), here, none_is x v (a + 1) n (omega (arith, e)))
-    go (inr ne) later =
-        let here : cond (x == a) v 0 ≡ 0 = ap (λ (t : Bool). cond t v 0) (ne_eqb x a ne) in
-        omega (arith, sum_by-cons (λ (t : ℕ). cond (x == t) v 0) a (range_with_len (a + 1) n), here, later (omega (arith, ne)))
-
-zeros : (xs : List ℕ) → sum_by (λ (x : ℕ). 0) xs ≡ 0
-zeros [] = refl
-zeros (x ∷ xs) = omega (arith, sum_by-cons (λ (y : ℕ). 0) x xs, zeros xs)
 
 -- ---- each block is in one line
 
@@ -137,11 +111,6 @@ module _ (f : Facts) (held : ℕ → Bool) (texts : ℕ) (inside : (b : ℕ) →
       sum_ranked (λ p. p.bytes) (parts_with_blocks (map (part_of f held) (range_with_len 0 texts)))
       ∙ sum_shown (λ p. p.bytes) (part_of f held) (λ t e. sum_empty (size_of f) (held_of f held t) e) (range_with_len 0 texts)
       ∙ each_once (size_of f) (text_of f) held (is_counted f) texts 0 (length f.blocks.now) (λ b l h. inside b (omega arith))
-
-same_default : (bs : List Block) (i : ℕ) (d e : Block) → i < length bs → get_or bs i d ≡ get_or bs i e
-same_default [] i d e low = absurd (omega arith)
-same_default (b ∷ bs) zero d e low = refl
-same_default (b ∷ bs) (suc i) d e low = same_default bs i d e (omega arith)
 
 shown : (blocks : List Block) (own told : List Bool) (texts : List (List ℕ)) (parts : List Part) → sum_by (λ p. p.blocks) parts ≡ length (marked_in told blocks) → sum_by (λ p. p.bytes) parts ≡ bytes_of (marked_in told blocks)
     → IfSome (told_rows blocks own told texts parts) AddUpTo

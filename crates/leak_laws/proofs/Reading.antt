@@ -3,6 +3,7 @@ use Rattle.std.proofs.Common.{◌≡◌, ℕ, zero, suc, ◌+◌, ◌-◌, ◌�
 use Rattle.std.specs.Prelude.{if◌then◌else◌, max, nat_le}
 use Rattle.std.specs.Option.{option_map_or}
 use Rattle.std.proofs.lemmas.Bool.{and_from, and_parts, le-leb, ltb-true, or_cases, or_left, or_right}
+use Rattle.leak_search.proofs.EndsLemmas.{flat_fewer, map_fewer}
 use Rattle.leak_elf.specs.Words.{word_of}
 use Rattle.leak_mtrace.specs.declared.line.Line.{Line}
 use Rattle.leak_notes.specs.Threads.{registers_of}
@@ -13,8 +14,8 @@ use Rattle.leak_index.specs.Leads.{Distances, allows, is_up_to_end, leads}
 use Rattle.leak_roots.specs.declared.skip.Skip.{Skip}
 use Rattle.leak_roots.specs.Roots.{root_places}
 use Rattle.leak_roots.specs.Skipped.{spans_of}
-use Rattle.leak_input.specs.Slack.{slack_in}
-use Rattle.leak_input.specs.Dead.{dead_in}
+use Rattle.leak_search.specs.Slack.{slack_in}
+use Rattle.leak_search.specs.Dead.{dead_in}
 use Rattle.leak_chunks.specs.FreeLinks.{is_free_link_past}
 use Rattle.leak_scan.specs.RootWords.{held_by, held_from, targets_without_links}
 use Rattle.leak_scan.specs.Targets.{block_targets, block_words, targets_of as led_by}
@@ -53,16 +54,6 @@ leads_less few many h word b led =
     and_from (nat_le b.start word && is_up_to_end many.skips_ends word b) (allows many.listed (word - b.start))
     (and_from (nat_le b.start word) (is_up_to_end many.skips_ends word b) inner.0 (ends_less few.skips_ends many.skips_ends word b h.ends inner.1))
     (allows_less few.listed many.listed (word - b.start) h.listed outer.1)
-
-flat_fewer : (f g : ℕ → List ℕ) (x : ℕ) → ((w : ℕ) → times x (f w) ≤ times x (g w)) → (ws : List ℕ) → times x (flat_map f ws) ≤ times x (flat_map g ws)
-flat_fewer f g x each [] = omega arith
-flat_fewer f g x each (w ∷ ws) =
-    omega (arith, times-append x (f w) (flat_map f ws), times-append x (g w) (flat_map g ws), each w, flat_fewer f g x each ws)
-
-map_fewer : (f g : Block → List ℕ) (x : ℕ) → ((b : Block) → times x (f b) ≤ times x (g b)) → (bs : List Block) (s : ℕ) → times x (get_or (map f bs) s []) ≤ times x (get_or (map g bs) s [])
-map_fewer f g x each [] s = omega arith
-map_fewer f g x each (b ∷ bs) zero = each b
-map_fewer f g x each (b ∷ bs) (suc s) = map_fewer f g x each bs s
 
 module _ (few many : Distances) (h : LeadsToNoMore few many) where
   -- of the blocks that pass

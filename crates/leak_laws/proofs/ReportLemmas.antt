@@ -8,13 +8,14 @@ use Rattle.std.specs.declared.cmp.Ordering.TheVariants.{Less, Equal, Greater}
 use Rattle.std.proofs.lemmas.Bool.{lt-ltb}
 use Rattle.std.proofs.lemmas.List.{length-map}
 use Rattle.std.proofs.lemmas.List.Sums.{sum_by-cons}
+use Rattle.leak_lemmas.proofs.Orders.{nat_less as compares}
 use Rattle.leak_blocks.specs.declared.block.Block.{Block}
 use Rattle.leak_report.specs.declared.head.Head.{Head}
 use Rattle.leak_report.specs.declared.totals.CallerRow.{CallerRow}
 use Rattle.leak_report.specs.Laws.{AreSums, HasRow}
 use Rattle.leak_report.specs.Misfits.{misfits_in}
 use Rattle.leak_report.specs.Totals.{Leak, bytes_in, bytes_of, heads_in, leaked_in, leaks_in, marked_in, rows_of, text_at, with_text}
-use Rattle.leak_report.proofs.Members.{each_implied, each_mapped}
+use Rattle.leak_lemmas.proofs.Members.{each_implied, each_mapped}
 use Rattle.leak_report.proofs.Sums.{rows_sum_up}
 use Rattle.leak_laws.proofs.CallerSums.{in_sum, in_text, same_rank}
 use Rattle.leak_laws.specs.Reports.{misfit_rows_told, misfits_told, told_caller, told_leak, told_misfit, told_of}
@@ -57,9 +58,6 @@ leaked_above a (s ∷ set) [] blocks up = tt
 leaked_above a (s ∷ set) (h ∷ heads) [] up = tt
 leaked_above a (true ∷ set) (h ∷ heads) (b ∷ blocks) up = leaked_above a set heads blocks up.1
 leaked_above a (false ∷ set) (h ∷ heads) (b ∷ blocks) up = (up.0, leaked_above a set heads blocks up.1)
-
-compares : (m n : ℕ) → m < n → nat_cmp m n ≡ Less
-compares m n lt = ap (λ (b : Bool). cond b Less (cond (m == n) Equal Greater)) (lt-ltb m n lt)
 
 leaks_up : (log : List ℕ) (set heads : List Bool) (blocks : List Block) → Ascend blocks → IsStrictlySortedBy (λ k l. nat_cmp k.start l.start) (map (told_leak log) (leaks_in set heads blocks))
 unfolding IsStrictlySortedBy

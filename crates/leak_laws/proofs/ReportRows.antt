@@ -55,8 +55,8 @@ leak_read x y r s p q e =
       rest = text.rest;
     }
 
-pub leak_rows : IsRowText leak_text 108 IsLeakRead
-leak_rows = record { begins = λ l. (_, refl); reads = leak_read }
+pub leak_examples : IsRowText leak_text 108 IsLeakRead
+leak_examples = record { begins = λ l. (_, refl); reads = leak_read }
 
 flat_misfit : (m : ToldMisfit) (r : List ℕ) → misfit_text m ++ r ≡ codes "misfit " ++ (hexadecimal m.start ++ (32 ∷ (decimal m.size ++ (32 ∷ (decimal m.line ++ (32 ∷ (m.text ++ (10 ∷ r))))))))
 flat_misfit m r = simp append_assoc

@@ -7,16 +7,12 @@ use Rattle.std.specs.Ordering.{nat_cmp, ordering_then}
 use Rattle.std.specs.declared.cmp.Ordering.{Ordering}
 use Rattle.std.specs.declared.cmp.Ordering.TheVariants.{Less, Equal, Greater}
 use Rattle.std.proofs.lemmas.Bool.{lt-ltb, ltb-true}
-use Rattle.leak_report.proofs.Members.{Has, Has-filter, Has-map, each_filtered, each_implied, each_mapped}
+use Rattle.leak_lemmas.proofs.Orders.{second_tied}
+use Rattle.leak_lemmas.proofs.Members.{Has, Has-filter, Has-map, each_filtered, each_implied, each_mapped}
 use Rattle.leak_holders.specs.declared.holder.Holder.{Holder}
 use Rattle.leak_holders.specs.Holders.{rank, ranked, with_blocks}
 use Rattle.leak_holders.proofs.Ranks.{AllDiffer, Differ, Has-ranked, each_ranked, sorted_ranked}
 use Rattle.leak_laws.proofs.Ranges.{in_range, range_each}
-
-second_tied : (a b : Ordering) → ordering_then a b ≡ Equal → b ≡ Equal
-second_tied Less b e = cc
-second_tied Equal b e = e
-second_tied Greater b e = cc
 
 -- numbers that are tied are the same
 tied_numbers : (m n : ℕ) → nat_cmp m n ≡ Equal → m < n → ⊥

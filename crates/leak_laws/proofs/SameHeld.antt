@@ -13,19 +13,19 @@ use Rattle.leak_index.specs.Leads.{Distances}
 use Rattle.leak_roots.specs.declared.skip.Skip.{Skip}
 use Rattle.leak_marks.specs.Reach.{Reach}
 use Rattle.leak_pool.specs.Marking.{IsSet, graph_of}
-use Rattle.leak_report.proofs.Members.{All-from_each}
-use Rattle.leak_texts.specs.Numbered.{AreTexts, texts_of}
+use Rattle.leak_lemmas.proofs.Members.{All-from_each}
+use Rattle.leak_report.specs.Numbered.{AreTexts, texts_of}
 use Rattle.leak_holders.specs.declared.holder.Holder.{Holder}
 use Rattle.leak_holders.specs.declared.part.Part.{Part}
 use Rattle.leak_holders.specs.declared.question.Question.{Question}
 use Rattle.leak_why.specs.Asked.{IsAsked, IsOf}
 use Rattle.leak_search.specs.Search.{graph_of_one, head_of_one}
-use Rattle.leak_holding.specs.declared.finding.Holding.{Holding}
-use Rattle.leak_holding.specs.Held.{AreHeld, FindsHeld, both, chosen_with, held_text}
-use Rattle.leak_holding.specs.Holders.{FindsHolders}
-use Rattle.leak_holding.specs.Rows.{AreKnown, AreRows}
-use Rattle.leak_holding.specs.Since.{counted_of, news_of}
-use Rattle.leak_holding.specs.Text.{holders_text}
+use Rattle.leak_holder_search.specs.declared.search.Holding.{Holding}
+use Rattle.leak_holder_search.specs.Held.{AreHeld, FindsHeld, both, chosen_with, held_text}
+use Rattle.leak_holder_search.specs.Holders.{FindsHolders}
+use Rattle.leak_holder_search.specs.Rows.{AreKnown, AreRows}
+use Rattle.leak_holder_search.specs.Since.{counted_of, news_of}
+use Rattle.leak_holder_search.specs.Text.{holders_text}
 use Rattle.leak_laws.proofs.SameLemmas.{sets_are_one}
 use Rattle.leak_laws.proofs.SameRows.{held_are_one, rows_are_one}
 use Rattle.leak_laws.proofs.SameTextNumbers.{numbers_are_one, texts_are_one}

@@ -13,8 +13,8 @@ use Rattle.leak_later.specs.Differing.{AreDiffering}
 use Rattle.leak_report.specs.declared.signs.Signs.{Signs}
 use Rattle.leak_report.specs.Totals.{leaked_in}
 use Rattle.leak_report.specs.Report.{text_of}
-use Rattle.leak_input.specs.declared.found.Found.{Found}
-use Rattle.leak_input.specs.Signs.{AreSigns, fits_told, signs_of}
+use Rattle.leak_search.specs.declared.found.Found.{Found}
+use Rattle.leak_search.specs.Signs.{AreSigns, fits_told, signs_of}
 use Rattle.leak_search.specs.Search.{FindsOne, graph_of_one, head_of_one, index_of}
 use Rattle.leak_search.specs.SearchTwo.{FindsLater, FindsTwo, IsMarkedEarlier, kept_blocks, new_blocks}
 use Rattle.leak_laws.specs.Same.{IsSameReport}

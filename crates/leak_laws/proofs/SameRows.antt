@@ -13,8 +13,8 @@ use Rattle.leak_holders.specs.Holders.{AreHolders, Held, below, blocks_with, byt
 use Rattle.leak_holders.specs.Parts.{counted_in, parts_but, parts_by}
 use Rattle.leak_holders.specs.Words.{facts_of}
 use Rattle.leak_holders.proofs.Numbers.{filter_same}
-use Rattle.leak_holding.specs.Held.{AreHeld, AreHeldIn, AreHeldOf, both}
-use Rattle.leak_holding.specs.Rows.{AreKnown, AreRows}
+use Rattle.leak_holder_search.specs.Held.{AreHeld, AreHeldIn, AreHeldOf, both}
+use Rattle.leak_holder_search.specs.Rows.{AreKnown, AreRows}
 
 pub bool_same : (x y : Bool) {P : Type 0} → (IsTrue x ↔ P) → (IsTrue y ↔ P) → x ≡ y
 bool_same true true p q = refl

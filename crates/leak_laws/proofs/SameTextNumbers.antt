@@ -9,8 +9,9 @@ use Rattle.std.proofs.lemmas.Bool.{cases_order}
 use Rattle.std.proofs.lemmas.Cmp.{nat_list_cmp_total, tied_itself}
 use Rattle.std.proofs.lemmas.List.{get_or-map, length-map}
 use Rattle.std.proofs.lemmas.Map.Keys.{Less-from_sorted}
-use Rattle.leak_report.proofs.Members.{Has, each_from_All, each_implied, same_elements}
-use Rattle.leak_texts.specs.Numbered.{AreNumbered, text_with}
+use Rattle.leak_growth.proofs.SumLemmas.{one_place}
+use Rattle.leak_lemmas.proofs.Members.{Has, each_from_All, each_implied, same_elements}
+use Rattle.leak_report.specs.Numbered.{AreNumbered, text_with}
 
 has_at : {X : Type 0} (xs : List X) (n : ℕ) (d : X) → n < length xs → Has xs (get_or xs n d)
 has_at [] n d low = absurd (omega arith)
@@ -31,21 +32,6 @@ within given texts others numbers more p q = each_implied (Contains given) (Has 
 pub texts_are_one : (given texts others : List (List ℕ)) (numbers more : List ℕ) → AreNumbered given texts numbers → AreNumbered given others more → texts ≡ others
 texts_are_one given texts others numbers more p q =
     same_elements (slice_cmp nat_cmp) nat_list_cmp_total texts others p.ascending q.ascending (within given texts others numbers more p q) (within given others texts more numbers q p)
-
-pub one_place : (texts : List (List ℕ)) (k n : ℕ) → IsStrictlySortedBy (slice_cmp nat_cmp) texts → k < length texts → n < length texts → text_with texts k ≡ text_with texts n → k ≡ n
-one_place texts k n up h i e = ⊎_elim (λ (same : k ≡ n). same) (λ (other : (k < n) ⊎ (n < k)). ⊎_elim below above other) (cases_order k n)
-  where
-    below : k < n → k ≡ n
-    below lt =
-        let less : slice_cmp nat_cmp (text_with texts k) (text_with texts n) ≡ Less = Less-from_sorted (slice_cmp nat_cmp) texts k n [] up lt i in
-        let tied : slice_cmp nat_cmp (text_with texts k) (text_with texts n) ≡ Equal = ap (λ (t : List ℕ). slice_cmp nat_cmp t (text_with texts n)) e ∙ tied_itself nat_list_cmp_total (text_with texts n) in
-        absurd (cc)
-
-    above : n < k → k ≡ n
-    above lt =
-        let less : slice_cmp nat_cmp (text_with texts n) (text_with texts k) ≡ Less = Less-from_sorted (slice_cmp nat_cmp) texts n k [] up lt h in
-        let tied : slice_cmp nat_cmp (text_with texts n) (text_with texts k) ≡ Equal = ap (λ (t : List ℕ). slice_cmp nat_cmp (text_with texts n) t) e ∙ tied_itself nat_list_cmp_total (text_with texts n) in
-        absurd (cc)
 
 numbers_same : (texts : List (List ℕ)) (xs ys : List ℕ) → IsStrictlySortedBy (slice_cmp nat_cmp) texts → AllByRecursion (λ n. n < length texts) xs → AllByRecursion (λ n. n < length texts) ys
     → map (text_with texts) xs ≡ map (text_with texts) ys → xs ≡ ys

@@ -14,7 +14,7 @@ use Rattle.leak_blocks.specs.Live.{live_of}
 use Rattle.leak_blocks.proofs.LineLemmas.{live_of_lines}
 use Rattle.leak_report.specs.Totals.{HaveCallersIn, IsIn, text_at}
 use Rattle.leak_report.proofs.Callers.{have_callers}
-use Rattle.leak_report.proofs.Members.{each_implied}
+use Rattle.leak_lemmas.proofs.Members.{each_implied}
 
 -- the text of a range of the front
 text_of_front : (front rest : List ℕ) (caller : ℕ × ℕ) → IsIn front caller → text_at (front ++ rest) caller ≡ text_at front caller

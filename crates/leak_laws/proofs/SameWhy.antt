@@ -15,8 +15,8 @@ use Rattle.leak_roots.specs.declared.skip.Skip.{Skip}
 use Rattle.leak_roots.specs.Places.{Places, memory_places}
 use Rattle.leak_roots.specs.Roots.{root_places}
 use Rattle.leak_roots.specs.Skipped.{spans_of}
-use Rattle.leak_input.specs.Slack.{slack_in}
-use Rattle.leak_input.specs.Dead.{dead_in}
+use Rattle.leak_search.specs.Slack.{slack_in}
+use Rattle.leak_search.specs.Dead.{dead_in}
 use Rattle.leak_marks.specs.Lists.{Has}
 use Rattle.leak_marks.specs.Reach.{Reach}
 use Rattle.leak_why.specs.declared.chain.Chain.{Chain}
@@ -28,8 +28,8 @@ use Rattle.leak_why.specs.Asked.{IsAsked}
 use Rattle.leak_why.specs.Chains.{IsChain, IsWhy, StandsAt, led_at}
 use Rattle.leak_why.specs.Leading.{led_by}
 use Rattle.leak_why.specs.Text.{text_of}
-use Rattle.leak_search.specs.declared.holding.Why.{Why}
-use Rattle.leak_search.specs.Holding.{TellsWhy}
+use Rattle.leak_search.specs.declared.why.Why.{Why}
+use Rattle.leak_search.specs.Why.{TellsWhy}
 use Rattle.leak_search.specs.Search.{graph_of_one, index_of}
 use Rattle.leak_laws.specs.Held.{AreAsLong}
 use Rattle.leak_laws.proofs.SameRows.{bool_same}

@@ -13,8 +13,8 @@ use Rattle.leak_marks.specs.Reach.{Reach}
 use Rattle.leak_pool.specs.Marking.{IsSet}
 use Rattle.leak_report.specs.declared.head.Head.{Head}
 use Rattle.leak_report.specs.Report.{text_of}
-use Rattle.leak_input.specs.declared.found.Found.{Found}
-use Rattle.leak_input.specs.Signs.{fits_told}
+use Rattle.leak_search.specs.declared.found.Found.{Found}
+use Rattle.leak_search.specs.Signs.{fits_told}
 use Rattle.leak_search.specs.Search.{FindsOne, graph_of_one, head_of_one, index_of}
 use Rattle.leak_search.specs.SearchTwo.{FindsTwo, head_of_two, kept_blocks, new_blocks, numbers_of_two}
 use Rattle.leak_laws.specs.OneLine.{AreOfOneLine}

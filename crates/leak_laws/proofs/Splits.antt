@@ -15,7 +15,7 @@ pub record AreSame {X : Type 0} (a b : X) (r s : List ℕ) : Type 0 where
   pub part : a ≡ b
   pub rest : r ≡ s
 
-is_itself : (n : ℕ) → (n == n) ≡ false → ⊥
+pub is_itself : (n : ℕ) → (n == n) ≡ false → ⊥
 is_itself n e = let t : (n == n) ≡ true = eq-eqb n n refl in cc
 
 -- two lists up to the first such byte

@@ -3,6 +3,7 @@ use Rattle.std.proofs.Common.{◌≡◌, ℕ, ◌<◌, List, [], length, get_or,
 use Rattle.std.specs.List.{range_with_len}
 use Rattle.std.proofs.lemmas.List.{get_or-map, length-map}
 use Rattle.std.proofs.lemmas.Slice.Eq.{bytes_eq-Decides}
+use Rattle.leak_growth.proofs.SumLemmas.{one_place}
 use Rattle.leak_blocks.specs.declared.block.Block.{Block}
 use Rattle.leak_later.proofs.WordLemmas.{of_range}
 use Rattle.leak_marks.specs.Lists.{Has, Within}
@@ -12,10 +13,9 @@ use Rattle.leak_without.specs.Without.{IsHeldBy, graph_of, members}
 use Rattle.leak_without.proofs.GoingLemmas.{has_range, of_members, to_members}
 use Rattle.leak_without.proofs.HeldLemmas.{larger_hold_as_much}
 use Rattle.leak_report.specs.Totals.{text_at}
-use Rattle.leak_texts.specs.Numbered.{AreTexts, text_with, texts_of}
+use Rattle.leak_report.specs.Numbered.{AreTexts, text_with, texts_of}
 use Rattle.leak_laws.specs.HolderLines.{blocks_with_text}
 use Rattle.leak_laws.proofs.OuterTexts.{holder_reached}
-use Rattle.leak_laws.proofs.SameTextNumbers.{one_place}
 
 module _ (log : List ℕ) (blocks : List Block) (texts : List (List ℕ)) (numbers : List ℕ) (are : AreTexts log blocks texts numbers) where
   pub a_number_each : length numbers ≡ length blocks

@@ -5,16 +5,13 @@ use Rattle.std.specs.List.{AllByRecursion}
 use Rattle.std.proofs.lemmas.Bool.{false_from_ne_true}
 use Rattle.std.proofs.lemmas.List.Sums.{sum_by-cons}
 use Rattle.std.proofs.lemmas.Slice.Eq.{bytes_eq-Decides}
-use Rattle.leak_report.proofs.Members.{Has, each_has, each_implied}
+use Rattle.leak_lemmas.proofs.Sums.{sum_same}
+use Rattle.leak_lemmas.proofs.Members.{Has, each_has, each_implied}
 
 -- the texts differ from one another
 abbrev pub AreApart : List (List ℕ) → Type 0
 AreApart [] = ⊤
 AreApart (t ∷ ts) = AllByRecursion (λ u. bytes_eq t u ≡ false) ts × AreApart ts
-
-pub sum_same : {X : Type 0} (f g : X → ℕ) → ((x : X) → f x ≡ g x) → (xs : List X) → sum_by f xs ≡ sum_by g xs
-sum_same f g same [] = refl
-sum_same f g same (x ∷ xs) = omega (arith, sum_by-cons f x xs, sum_by-cons g x xs, same x, sum_same f g same xs)
 
 -- the same of elements of which something is known
 pub sum_same_of : {X : Type 0} (P : X → Type 0) (f g : X → ℕ) → ((x : X) → P x → f x ≡ g x) → (xs : List X) → AllByRecursion P xs → sum_by f xs ≡ sum_by g xs

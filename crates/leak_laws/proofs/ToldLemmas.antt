@@ -7,7 +7,7 @@ use Rattle.leak_report.specs.Lines.{dead_lines, freed_lines, heads_line, log_lin
 use Rattle.leak_laws.specs.Told.{Sum, Told, ToldCaller, ToldLeak, ToldMisfit, caller_text, leak_text, misfit_text, number_lines, sum_line, told_text}
 use Rattle.leak_laws.specs.Readable.{AreTwoRead, IsNumber, IsRead}
 use Rattle.leak_laws.proofs.RowReading.{NotFirst, counts_read, dead_first, dead_read, freed_read, number_read, others_first, rows_read, sum_read}
-use Rattle.leak_laws.proofs.ReportRows.{caller_rows, leak_rows, misfit_rows}
+use Rattle.leak_laws.proofs.ReportRows.{caller_rows, leak_examples, misfit_rows}
 use Rattle.leak_laws.proofs.Splits.{AreSame}
 
 -- ---- lines that may be missing
@@ -91,7 +91,7 @@ misfits_first c differ [] rest e = let n : 0 ≡ c = ap (λ (u : List ℕ). get_
 misfits_first c differ (m ∷ ms) rest e = differ (ap (λ (u : List ℕ). get_or u 0 0) e)
 
 leaks_first : (ls : List ToldLeak) (ms : List ToldMisfit) → NotFirst 99 (flat_map leak_text ls ++ flat_map misfit_text ms)
-leaks_first ls ms = others_first leak_text 108 _ leak_rows 99 (λ e. omega (arith, e)) ls (flat_map misfit_text ms) (misfits_first 99 (λ e. omega (arith, e)) ms)
+leaks_first ls ms = others_first leak_text 108 _ leak_examples 99 (λ e. omega (arith, e)) ls (flat_map misfit_text ms) (misfits_first 99 (λ e. omega (arith, e)) ms)
 
 same_told : (a b : Told) → a.all ≡ b.all → a.head ≡ b.head → a.marked ≡ b.marked → a.leaked ≡ b.leaked → a.heads ≡ b.heads → a.misfits ≡ b.misfits → a.callers ≡ b.callers → a.leaks ≡ b.leaks → a.misfit_rows ≡ b.misfit_rows → a ≡ b
 same_told a b c d e f g h i j k =
@@ -119,7 +119,7 @@ read_back a b p q e =
     let heads = number_read (codes "heads ") a.heads b.heads _ _ p.heads q.heads leaked.rest in
     let misfits = misfits_read a.misfits b.misfits _ _ p.misfits q.misfits (no_number a.callers a.leaks a.misfit_rows) (no_number b.callers b.leaks b.misfit_rows) heads.rest in
     let callers = rows_read caller_text 99 _ caller_rows a.callers b.callers _ _ p.callers q.callers (leaks_first a.leaks a.misfit_rows) (leaks_first b.leaks b.misfit_rows) misfits.rest in
-    let leaks = rows_read leak_text 108 _ leak_rows a.leaks b.leaks _ _ p.leaks q.leaks (misfits_first 108 (λ e. omega (arith, e)) a.misfit_rows) (misfits_first 108 (λ e. omega (arith, e)) b.misfit_rows) callers.rest in
+    let leaks = rows_read leak_text 108 _ leak_examples a.leaks b.leaks _ _ p.leaks q.leaks (misfits_first 108 (λ e. omega (arith, e)) a.misfit_rows) (misfits_first 108 (λ e. omega (arith, e)) b.misfit_rows) callers.rest in
     let last : flat_map misfit_text a.misfit_rows ++ [] ≡ flat_map misfit_text b.misfit_rows ++ [] = append-nil (flat_map misfit_text a.misfit_rows) ∙ leaks.rest ∙ sym (append-nil (flat_map misfit_text b.misfit_rows)) in
     let rows = rows_read misfit_text 109 _ misfit_rows a.misfit_rows b.misfit_rows [] [] p.misfit_rows q.misfit_rows (λ r f. let n : 0 ≡ 109 = ap (λ (u : List ℕ). get_or u 0 0) f in omega (arith, n)) (λ r f. let n : 0 ≡ 109 = ap (λ (u : List ℕ). get_or u 0 0) f in omega (arith, n)) last in
     let head : a.head ≡ b.head = same_head a.head b.head undumped.part counts.unknown counts.displaced counts.torn freed.part dead.part two.part in

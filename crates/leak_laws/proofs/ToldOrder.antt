@@ -11,16 +11,16 @@ use Rattle.std.proofs.lemmas.Bool.{false_from_ne_true, ltb-true}
 use Rattle.std.proofs.lemmas.Cmp.{tied_itself}
 use Rattle.std.proofs.lemmas.Map.Keys.{Less-from_sorted}
 use Rattle.std.proofs.lemmas.Slice.Eq.{bytes_eq-Decides}
+use Rattle.leak_growth.proofs.SumLemmas.{one_place}
 use Rattle.leak_blocks.specs.declared.block.Block.{Block}
-use Rattle.leak_report.proofs.Members.{each_mapped}
-use Rattle.leak_texts.specs.Numbered.{text_with}
+use Rattle.leak_lemmas.proofs.Members.{each_mapped}
+use Rattle.leak_report.specs.Numbered.{text_with}
 use Rattle.leak_holders.specs.declared.holder.Holder.{Holder}
 use Rattle.leak_holders.specs.Holders.{rank}
 use Rattle.leak_holders.proofs.Ranks.{rank_total}
 use Rattle.leak_laws.specs.HeldTogether.{DifferInHolder, rank_holder}
 use Rattle.leak_laws.specs.ToldHolders.{told_holder}
 use Rattle.leak_laws.proofs.RowOrder.{IsRow}
-use Rattle.leak_laws.proofs.SameTextNumbers.{one_place}
 
 then_less : (o x y : Ordering) → ordering_then o x ≡ Less → (x ≡ Less → y ≡ Less) → ordering_then o y ≡ Less
 then_less Less x y e h = refl

@@ -14,12 +14,9 @@ use Rattle.leak_laws.specs.ToldWhy.{IsChainRead, IsStepRead, IsWhyRead, ToldChai
 use Rattle.leak_laws.proofs.AnswerReading.{entry_read}
 use Rattle.leak_laws.proofs.GrowthReading.{last_rows}
 use Rattle.leak_laws.proofs.RowReading.{IsRowText, space_ends_address}
-use Rattle.leak_laws.proofs.Splits.{AreSame, lacks_digits, split_address, split_at}
+use Rattle.leak_laws.proofs.Splits.{AreSame, lacks_digits, split_address, split_at, is_itself}
 
 -- ---- a text up to its last space
-
-is_itself : (n : ℕ) → (n == n) ≡ false → ⊥
-is_itself n e = let t = eq-eqb n n refl in cc
 
 holds_byte : (c : ℕ) (xs ys : List ℕ) → Lacks c (xs ++ c ∷ ys) → ⊥
 holds_byte c [] ys all = is_itself c all.0

@@ -3,7 +3,7 @@ use Rattle.std.specs.Prelude.{◌≡◌, ℕ, ◌++◌, List, [], ◌∷◌, cod
 use Rattle.leak_mtrace.specs.declared.line.Kind.TheVariants.{Alloc, Free}
 use Rattle.leak_mtrace.specs.declared.line.Line.{Line}
 use Rattle.leak_mtrace.specs.Log.{IsLog, is_continued_by}
-use Rattle.leak_input.specs.declared.error.FindError.TheVariants.{NotPrefix}
+use Rattle.leak_search.specs.declared.error.FindError.TheVariants.{NotPrefix}
 use Rattle.leak_growth.specs.Growth.{IsFaultOfGrowth}
 use Rattle.leak_growth.specs.Report.{growth_text}
 

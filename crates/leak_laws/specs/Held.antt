@@ -3,11 +3,11 @@ use Rattle.std.specs.Prelude.{◌≡◌, ℕ, false, List, length, Option, optio
 use Rattle.leak_index.specs.Leads.{Distances}
 use Rattle.leak_roots.specs.declared.skip.Skip.{Skip}
 use Rattle.leak_holders.specs.declared.question.Question.{Question}
-use Rattle.leak_search.specs.declared.holding.Why.{Why}
-use Rattle.leak_search.specs.Holding.{TellsWhy}
-use Rattle.leak_holding.specs.declared.finding.Holding.{Holding}
-use Rattle.leak_holding.specs.Held.{FindsHeld}
-use Rattle.leak_holding.specs.Holders.{FindsHolders}
+use Rattle.leak_search.specs.declared.why.Why.{Why}
+use Rattle.leak_search.specs.Why.{TellsWhy}
+use Rattle.leak_holder_search.specs.declared.search.Holding.{Holding}
+use Rattle.leak_holder_search.specs.Held.{FindsHeld}
+use Rattle.leak_holder_search.specs.Holders.{FindsHolders}
 
 -- two reports of who holds the memory
 abbrev pub ReportsOfHoldersAreOne : Type 0

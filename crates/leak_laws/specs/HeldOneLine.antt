@@ -10,11 +10,11 @@ use Rattle.leak_holders.specs.declared.question.Question.{Question}
 use Rattle.leak_growth.specs.declared.growth.Grown.{Grown}
 use Rattle.leak_growth.specs.Growth.{FindsGrowth}
 use Rattle.leak_growth.specs.Report.{growths_of}
-use Rattle.leak_search.specs.declared.holding.Why.{Why}
-use Rattle.leak_search.specs.Holding.{TellsWhy}
-use Rattle.leak_holding.specs.declared.finding.Holding.{Holding}
-use Rattle.leak_holding.specs.Held.{FindsHeld, both, chosen_with}
-use Rattle.leak_holding.specs.Holders.{FindsHolders}
+use Rattle.leak_search.specs.declared.why.Why.{Why}
+use Rattle.leak_search.specs.Why.{TellsWhy}
+use Rattle.leak_holder_search.specs.declared.search.Holding.{Holding}
+use Rattle.leak_holder_search.specs.Held.{FindsHeld, both, chosen_with}
+use Rattle.leak_holder_search.specs.Holders.{FindsHolders}
 use Rattle.leak_laws.specs.HeldTogether.{told_by_holders}
 use Rattle.leak_laws.specs.Readable.{Lacks}
 use Rattle.leak_laws.specs.ToldAnswers.{ToldAnswer, answer_tells, answer_told}

@@ -11,9 +11,9 @@ use Rattle.leak_report.specs.Totals.{marked_in, text_at}
 use Rattle.leak_index.specs.Leads.{Distances}
 use Rattle.leak_roots.specs.declared.skip.Skip.{Skip}
 use Rattle.leak_search.specs.Search.{head_of_one}
-use Rattle.leak_holding.specs.declared.finding.Holding.{Holding}
-use Rattle.leak_holding.specs.Holders.{FindsHolders}
-use Rattle.leak_holding.specs.Since.{news_of}
+use Rattle.leak_holder_search.specs.declared.search.Holding.{Holding}
+use Rattle.leak_holder_search.specs.Holders.{FindsHolders}
+use Rattle.leak_holder_search.specs.Since.{news_of}
 use Rattle.leak_laws.specs.ToldHolders.{ToldHolder, ToldHolders, holders_tell, holders_told}
 
 -- more bytes first, ties by the ascending bytes of the text

@@ -8,11 +8,11 @@ use Rattle.leak_roots.specs.declared.skip.Skip.{Skip}
 use Rattle.leak_marks.specs.Reach.{Graph}
 use Rattle.leak_without.specs.Without.{AreHeldBy, IsHeldBy}
 use Rattle.leak_report.specs.Totals.{marked_in, text_at}
-use Rattle.leak_texts.specs.Numbered.{text_with, texts_of}
+use Rattle.leak_report.specs.Numbered.{text_with, texts_of}
 use Rattle.leak_search.specs.Search.{graph_of_one}
-use Rattle.leak_holding.specs.declared.finding.Holding.{Holding}
-use Rattle.leak_holding.specs.Holders.{FindsHolders}
-use Rattle.leak_holding.specs.Since.{counted_of}
+use Rattle.leak_holder_search.specs.declared.search.Holding.{Holding}
+use Rattle.leak_holder_search.specs.Holders.{FindsHolders}
+use Rattle.leak_holder_search.specs.Since.{counted_of}
 use Rattle.leak_laws.specs.HeldTogether.{told_by_holders}
 use Rattle.leak_laws.specs.ToldHolders.{ToldHolder}
 

@@ -4,8 +4,8 @@ use Rattle.leak_index.specs.Leads.{Distances}
 use Rattle.leak_roots.specs.declared.skip.Skip.{Skip}
 use Rattle.leak_holders.specs.declared.question.Question.{Question}
 use Rattle.leak_holders.specs.declared.question.Side.TheVariants.{In}
-use Rattle.leak_holding.specs.declared.finding.Holding.{Holding}
-use Rattle.leak_holding.specs.Held.{FindsHeld}
+use Rattle.leak_holder_search.specs.declared.search.Holding.{Holding}
+use Rattle.leak_holder_search.specs.Held.{FindsHeld}
 use Rattle.leak_laws.specs.HeldOneLine.{told_by_answer}
 use Rattle.leak_laws.specs.ToldAnswers.{ToldRows}
 

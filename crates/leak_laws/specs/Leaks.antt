@@ -6,7 +6,7 @@ use Rattle.leak_index.specs.Leads.{Distances}
 use Rattle.leak_roots.specs.declared.skip.Skip.{Skip}
 use Rattle.leak_marks.specs.Lists.{Has}
 use Rattle.leak_report.specs.Totals.{leaked_in}
-use Rattle.leak_input.specs.declared.found.Found.{Found}
+use Rattle.leak_search.specs.declared.found.Found.{Found}
 use Rattle.leak_search.specs.Laws.{LeavesOutNoMore}
 use Rattle.leak_search.specs.Search.{FindsOne}
 use Rattle.leak_search.specs.SearchTwo.{FindsTwo}

@@ -7,7 +7,7 @@ use Rattle.leak_blocks.specs.Live.{live_of}
 use Rattle.leak_index.specs.Leads.{Distances}
 use Rattle.leak_roots.specs.declared.skip.Skip.{Skip}
 use Rattle.leak_report.specs.Totals.{text_at}
-use Rattle.leak_input.specs.declared.found.Found.{Found}
+use Rattle.leak_search.specs.declared.found.Found.{Found}
 use Rattle.leak_search.specs.Search.{FindsOne}
 use Rattle.leak_search.specs.SearchTwo.{FindsTwo}
 use Rattle.leak_laws.specs.Reports.{told_by_one, told_by_two}

@@ -12,13 +12,13 @@ use Rattle.leak_roots.specs.declared.skip.Skip.{Skip}
 use Rattle.leak_marks.specs.Lists.{Has}
 use Rattle.leak_marks.specs.Reach.{Graph}
 use Rattle.leak_without.specs.Without.{IsHeldBy}
-use Rattle.leak_texts.specs.Numbered.{text_with, texts_of}
+use Rattle.leak_report.specs.Numbered.{text_with, texts_of}
 use Rattle.leak_holders.specs.declared.question.Question.{Question}
 use Rattle.leak_holders.specs.declared.question.Side.TheVariants.{In, Of}
 use Rattle.leak_search.specs.Search.{graph_of_one}
-use Rattle.leak_holding.specs.declared.finding.Holding.{Holding}
-use Rattle.leak_holding.specs.Held.{FindsHeld}
-use Rattle.leak_holding.specs.Since.{counted_of}
+use Rattle.leak_holder_search.specs.declared.search.Holding.{Holding}
+use Rattle.leak_holder_search.specs.Held.{FindsHeld}
+use Rattle.leak_holder_search.specs.Since.{counted_of}
 use Rattle.leak_laws.specs.HeldOneLine.{told_by_answer}
 use Rattle.leak_laws.specs.HolderLines.{blocks_with_text}
 use Rattle.leak_laws.specs.ToldAnswers.{ToldPart}

@@ -11,8 +11,8 @@ use Rattle.leak_report.specs.declared.totals.CallerRow.{CallerRow}
 use Rattle.leak_report.specs.Misfits.{misfits_in}
 use Rattle.leak_report.specs.Report.{text_of}
 use Rattle.leak_report.specs.Totals.{Leak, bytes_of, heads_in, leaked_in, leaks_in, marked_in, rows_of, text_at}
-use Rattle.leak_input.specs.declared.found.Found.{Found}
-use Rattle.leak_input.specs.Signs.{fits_told}
+use Rattle.leak_search.specs.declared.found.Found.{Found}
+use Rattle.leak_search.specs.Signs.{fits_told}
 use Rattle.leak_search.specs.Search.{FindsOne, head_of_one, index_of}
 use Rattle.leak_search.specs.SearchTwo.{FindsTwo, head_of_two, kept_blocks, new_blocks, numbers_of_two}
 use Rattle.leak_laws.specs.Together.{BelongTogether}

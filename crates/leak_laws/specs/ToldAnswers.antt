@@ -4,11 +4,11 @@ use Rattle.std.specs.List.{AllByRecursion, list_any}
 use Rattle.leak_blocks.specs.declared.block.Block.{Block}
 use Rattle.leak_report.specs.Lines.{newline}
 use Rattle.leak_report.specs.Totals.{marked_in, text_at}
-use Rattle.leak_texts.specs.Numbered.{text_with}
+use Rattle.leak_report.specs.Numbered.{text_with}
 use Rattle.leak_holders.specs.declared.part.Part.{Part}
 use Rattle.leak_holders.specs.declared.question.Side.{Side}
 use Rattle.leak_why.specs.Text.{block_front}
-use Rattle.leak_holding.specs.Held.{held_text, part_front}
+use Rattle.leak_holder_search.specs.Held.{held_text, part_front}
 use Rattle.leak_laws.specs.Reports.{sum_of}
 use Rattle.leak_laws.specs.Told.{Sum, sum_line}
 use Rattle.leak_laws.specs.Readable.{IsNumber, IsSumRead, Lacks}

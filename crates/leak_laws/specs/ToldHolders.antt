@@ -5,9 +5,9 @@ use Rattle.leak_blocks.specs.declared.block.Block.{Block}
 use Rattle.leak_report.specs.declared.head.Head.{Head}
 use Rattle.leak_report.specs.Lines.{dead_lines, freed_lines, log_line, undumped_line}
 use Rattle.leak_report.specs.Totals.{leaked_in, marked_in}
-use Rattle.leak_texts.specs.Numbered.{text_with}
+use Rattle.leak_report.specs.Numbered.{text_with}
 use Rattle.leak_holders.specs.declared.holder.Holder.{Holder}
-use Rattle.leak_holding.specs.Text.{holder_line, holders_text, start_of}
+use Rattle.leak_holder_search.specs.Text.{holder_line, holders_text, start_of}
 use Rattle.leak_laws.specs.Reports.{sum_of}
 use Rattle.leak_laws.specs.Told.{Sum, sum_line}
 use Rattle.leak_laws.specs.Readable.{IsNumber, IsSumRead, Lacks}

@@ -6,8 +6,8 @@ use Rattle.leak_notes.specs.declared.error.NoteError.{NoteError}
 use Rattle.leak_notes.specs.declared.error.NoteError.TheVariants as note
 use Rattle.leak_mtrace.specs.declared.error.LogError.{LogError}
 use Rattle.leak_mtrace.specs.declared.error.LogError.TheVariants as log
-use Rattle.leak_input.specs.declared.error.FindError.{FindError}
-use Rattle.leak_input.specs.declared.error.FindError.TheVariants as find
+use Rattle.leak_search.specs.declared.error.FindError.{FindError}
+use Rattle.leak_search.specs.declared.error.FindError.TheVariants as find
 use Rattle.leak_streams.specs.declared.fault.ReadFault.{ReadFault}
 use Rattle.leak_streams.specs.declared.fault.ReadFault.TheVariants as read
 use Rattle.leak_streams.specs.declared.fault.WriteFault.{WriteFault}

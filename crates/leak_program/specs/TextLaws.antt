@@ -1,5 +1,5 @@
 -- No text that the program prints about a refusal forges a line.
-use Rattle.leak_input.specs.declared.error.FindError.{FindError}
+use Rattle.leak_search.specs.declared.error.FindError.{FindError}
 use Rattle.leak_program.specs.declared.open_fault.Reason.{Reason}
 use Rattle.leak_streams.specs.declared.fault.ReadFault.{ReadFault}
 use Rattle.leak_streams.specs.declared.fault.WriteFault.{WriteFault}

@@ -53,18 +53,25 @@ pub fn answer<
     if words.len() < 2 {
         return search_sample(rt, writer, warner);
     }
-    let alloc = rt.alloc();
-    let request = request(alloc, words)?;
+    let request = request(rt.alloc(), words)?;
     match asked_of(&request) {
         Asked::Files(paths, task) => {
-            let context = Context {
-                rt,
-                alloc,
-                progress,
-            };
+            let context = context_of(rt, progress);
             answer_files(&context, opener, paths, &task, writer, warner)
         }
         Asked::Text(text) => show(text, writer),
+    }
+}
+
+/// The context of a run, which takes the memory that the runtime gives.
+fn context_of<'a, R: AllocGlobal + Threads + Sync, P: Progress>(
+    rt: &'a R,
+    progress: &'a P,
+) -> Context<'a, R, P> {
+    Context {
+        rt,
+        alloc: rt.alloc(),
+        progress,
     }
 }
 

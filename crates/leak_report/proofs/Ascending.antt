@@ -8,6 +8,7 @@ use Rattle.std.specs.Ordering.{is_eq, eq_by_cmp}
 use Rattle.std.specs.declared.cmp.Ordering.TheVariants.{Less, Equal}
 use Rattle.std.proofs.lemmas.Cmp.{eq_by_cmp_equiv}
 use Rattle.std.proofs.lemmas.List.{map_push}
+use Rattle.leak_lemmas.proofs.Members.{each_push as all_push}
 use Rattle.leak_blocks.specs.declared.block.Block.{Block}
 use Rattle.leak_report.specs.declared.totals.CallerRow.{CallerRow}
 use Rattle.leak_report.specs.Places.{place_of}
@@ -16,7 +17,7 @@ use Rattle.leak_report.specs.Groups.{Key, HasRoom, with_leak, order_of_keys, row
 use Rattle.leak_report.specs.declared.grouping.PlacedLeak.{PlacedLeak}
 use Rattle.leak_report.specs.Listing.{AreByPlace, AreByText, block_of, leak_of, order_after}
 use Rattle.leak_report.proofs.Joins.{AreEntries-push, row_at}
-use Rattle.leak_report.proofs.Listed.{all_push, sorted_fits, sorted_none}
+use Rattle.leak_report.proofs.Listed.{sorted_fits, sorted_none}
 use Rattle.leak_report.proofs.Orders.{order_of_keys_total}
 
 abbrev KeyedRow : Type 0

@@ -8,12 +8,7 @@ use Rattle.leak_blocks.specs.declared.block.Block.{Block}
 use Rattle.leak_blocks.specs.Laws.{IsOfLine, LiveAreOfLines}
 use Rattle.leak_blocks.specs.Live.{live_of}
 use Rattle.leak_report.specs.Totals.{IsIn, HaveCallersIn}
-use Rattle.leak_report.proofs.Members.{each_implied}
-
-each_at : {X : Type 0} (P : X → Type 0) (xs : List X) (n : ℕ) (x : X) → AllByRecursion P xs → slice_get xs n ≡ Some x → P x
-each_at P [] n x all e = cc
-each_at P (y ∷ ys) zero x all e = let same : y ≡ x = cc in subst P same all.0
-each_at P (y ∷ ys) (suc n) x all e = each_at P ys n x all.1 e
+use Rattle.leak_lemmas.proofs.Members.{each_implied, each_at}
 
 pub have_callers : LiveAreOfLines → (bytes : List ℕ) (lines : List Line) → CallersAreIn bytes lines → HaveCallersIn bytes (live_of lines)
 have_callers of bytes lines all =

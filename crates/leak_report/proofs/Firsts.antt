@@ -10,7 +10,7 @@ use Rattle.std.proofs.lemmas.Map.Lookups.{exact_bytes}
 use Rattle.leak_report.specs.declared.totals.CallerRow.{CallerRow}
 use Rattle.leak_report.specs.Totals.{Leak, bytes_in, heads_in, text_at, with_text, has_same_text, first_of_each, row_of, rank}
 use Rattle.leak_report.specs.Groups.{row_from, row_with}
-use Rattle.leak_report.proofs.Members.{Has, each_implied, each_mapped, each_filtered, Has-map, Has-filter}
+use Rattle.leak_lemmas.proofs.Members.{Has, each_implied, each_mapped, each_filtered, Has-map, Has-filter}
 use Rattle.leak_report.proofs.Ranks.{Differ, AllDiffer}
 
 -- the row is that of the blocks with its text

@@ -2,13 +2,15 @@
 pub mod Leaks
 pub mod Joins
 pub mod Listed
-pub mod Members
 pub mod Ranks
 pub mod Firsts
 pub mod Orders
 pub mod Ascending
-pub mod Texts
+pub mod TextLemmas
 pub mod Sums
 pub mod Callers
 pub mod MisfitLemmas
 pub mod PlaceLemmas
+pub mod MeetingLemmas
+pub mod SortLemmas
+pub mod NumberLemmas

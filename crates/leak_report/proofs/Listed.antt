@@ -9,6 +9,7 @@ use Rattle.std.proofs.lemmas.List.Sums.{sum_by_push, sum_by-take-le, sum_by-cons
 use Rattle.std.proofs.lemmas.List.Filters.{length-filter_both, sum_by-filter_both}
 use Rattle.std.proofs.lemmas.List.Sorted.{All-permutation, sum_by-IsPermutation, length_permutation}
 use Rattle.std.proofs.lemmas.Slice.Eq.{bytes_eq-Decides}
+use Rattle.leak_lemmas.proofs.Members.{each_push as all_push, All-from_each as all_at}
 use Rattle.leak_blocks.specs.declared.block.Block.{Block}
 use Rattle.leak_report.specs.declared.totals.CallerRow.{CallerRow}
 use Rattle.leak_report.specs.declared.grouping.PlacedLeak.{PlacedLeak}
@@ -20,15 +21,6 @@ use Rattle.leak_report.proofs.Leaks.{leaks_push, leaks_stay, bytes_in-leaks, len
 use Rattle.leak_report.proofs.Joins.{row_from-fits}
 
 -- ---- listing
-
-pub all_push : {X : Type 0} (P : X → Type 0) (xs : List X) (x : X) → AllByRecursion P xs → P x → AllByRecursion P (xs ++ x ∷ [])
-all_push P [] x all here = (here, tt)
-all_push P (y ∷ xs) x all here = (all.0, all_push P xs x all.1 here)
-
-all_at : {X : Type 0} (P : X → Type 0) (xs : List X) → AllByRecursion P xs → All P xs
-all_at P [] all k d h = absurd (omega arith)
-all_at P (x ∷ xs) all zero d h = all.0
-all_at P (x ∷ xs) all (suc k) d h = all_at P xs all.1 k d (omega arith)
 
 -- those among the first blocks
 pub record AreFirst (prefix log : List ℕ) (set : List Bool) (blocks : List Block) (i : ℕ) (placed : List PlacedLeak) : Type 0 where

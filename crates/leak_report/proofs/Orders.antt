@@ -21,7 +21,7 @@ use Rattle.leak_report.specs.Groups.{Key, row_from, row_with, order_of_keys, fou
 use Rattle.leak_report.specs.Listing.{AreByText}
 use Rattle.leak_report.proofs.Joins.{row_at}
 use Rattle.leak_report.proofs.PlaceLemmas.{AreBytes, place_tells, bytes_of_text}
-use Rattle.leak_report.proofs.Members.{Has, each_implied, each_mapped, each_filtered, each_moved, Has-moved, same_elements}
+use Rattle.leak_lemmas.proofs.Members.{Has, each_implied, each_mapped, each_filtered, each_moved, Has-moved, same_elements}
 use Rattle.leak_report.proofs.Ranks.{rank_total, each_ranked, Has-ranked, sorted_ranked}
 use Rattle.leak_report.proofs.Firsts.{IsRow, each_is_row, with_text-head, Has-row, all_differ}
 
@@ -189,7 +189,7 @@ first_of_each-in P log (b ∷ leaks) all = (
       (each_filtered (λ c. not (has_same_text log b c)) P (first_of_each log leaks) (first_of_each-in P log leaks all.1)),
 )
 
-each_leak : (P : Block → Type 0) (set heads : List Bool) (blocks : List Block) → AllByRecursion P blocks → AllByRecursion (λ l. P l.block) (leaks_in set heads blocks)
+pub each_leak : (P : Block → Type 0) (set heads : List Bool) (blocks : List Block) → AllByRecursion P blocks → AllByRecursion (λ l. P l.block) (leaks_in set heads blocks)
 each_leak P [] heads blocks all = tt
 each_leak P (s ∷ set) [] blocks all = tt
 each_leak P (s ∷ set) (h ∷ heads) [] all = tt

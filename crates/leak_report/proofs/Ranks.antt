@@ -7,9 +7,10 @@ use Rattle.std.specs.declared.cmp.Ordering.{Ordering}
 use Rattle.std.specs.declared.cmp.Ordering.TheVariants.{Less, Equal, Greater}
 use Rattle.std.specs.Ordering.{is_lt, ordering_reverse}
 use Rattle.std.proofs.lemmas.Cmp.{then_total, on_total, back_total, nat_cmp_total, nat_list_cmp_total}
+use Rattle.leak_lemmas.proofs.Orders.{first, not_first}
 use Rattle.leak_report.specs.declared.totals.CallerRow.{CallerRow}
 use Rattle.leak_report.specs.Totals.{text_at, rank, placed, ranked}
-use Rattle.leak_report.proofs.Members.{Has, each_implied}
+use Rattle.leak_lemmas.proofs.Members.{Has, each_implied}
 
 pub rank_total : (log : List ℕ) → IsTotalOrder (rank log)
 rank_total log = then_total (back_total (on_total (λ (r : CallerRow). r.bytes) nat_cmp_total)) (on_total (λ (r : CallerRow). text_at log r.caller) nat_list_cmp_total)
@@ -48,16 +49,6 @@ Differ log r s = rank log r s ≡ Equal → ⊥
 abbrev pub AllDiffer : List ℕ → List CallerRow → Type 0
 AllDiffer log [] = Unit {0}
 AllDiffer log (r ∷ rows) = AllByRecursion (Differ log r) rows × AllDiffer log rows
-
-not_first : (o : Ordering) → is_lt o ≡ false → (o ≡ Equal → ⊥) → o ≡ Greater
-not_first Less e ne = cc
-not_first Equal e ne = absurd (ne refl)
-not_first Greater e ne = refl
-
-first : (o : Ordering) → is_lt o ≡ true → o ≡ Less
-first Less e = refl
-first Equal e = cc
-first Greater e = cc
 
 sorted_placed : (log : List ℕ) (r : CallerRow) (rows : List CallerRow) → IsStrictlySortedBy (rank log) rows → AllByRecursion (Differ log r) rows
     → IsStrictlySortedBy (rank log) (placed log r rows)

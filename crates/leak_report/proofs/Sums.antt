@@ -7,7 +7,7 @@ use Rattle.leak_report.specs.declared.totals.CallerRow.{CallerRow}
 use Rattle.leak_report.specs.Totals.{Leak, bytes_in, heads_in, text_at, with_text, first_of_each, row_of, rank, ranked, rows_of}
 use Rattle.leak_report.specs.Groups.{row_from, row_with}
 use Rattle.leak_report.specs.Laws.{SumsUp, HasRow, AreSums}
-use Rattle.leak_report.proofs.Members.{Has, Has-filter, each_has, each_implied, each_itself, same_elements}
+use Rattle.leak_lemmas.proofs.Members.{Has, Has-filter, each_has, each_implied, each_itself, same_elements}
 use Rattle.leak_report.proofs.Ranks.{rank_total, each_ranked, Has-ranked, sorted_ranked}
 use Rattle.leak_report.proofs.Firsts.{IsRow, each_is_row, with_text-head, Has-row, all_differ}
 

@@ -10,3 +10,6 @@ pub mod Report
 pub mod Warnings
 pub mod Examples
 pub mod WarningExamples
+pub mod Numbered
+pub mod Meeting
+pub mod TextExamples

@@ -1,7 +1,8 @@
-//! Laws of the definitions, worked reports and worked warnings.
+//! Laws of the definitions, and worked reports, warnings and texts.
 ghost use Rattle.leak_report.specs.Examples.{AreWorkedReports};
 ghost use Rattle.leak_report.specs.WarningExamples.{AreWorkedWarnings};
-ghost use Rattle.leak_report.specs.Laws.{RowsAreSums, LiveHaveCallers};
+ghost use Rattle.leak_report.specs.TextExamples.{AreWorkedTexts};
+ghost use Rattle.leak_report.specs.Laws.{RowsAreSums, LiveHaveCallers, NumbersTell};
 
 use leak_blocks::live_are_of_lines;
 
@@ -28,3 +29,13 @@ pub fn live_have_callers()
     // (a law, for the proof: each live block is of a line)
     live_are_of_lines();
 }
+
+/// Numbers compare as their texts do: equal ones are of equal texts, and the lesser is of the text that comes first.
+pub fn numbers_tell()
+    ensures { NumbersTell }
+{}
+
+/// The texts and the numbers of the blocks of a log.
+pub fn worked_texts()
+    ensures { AreWorkedTexts }
+{}

@@ -13,8 +13,8 @@ use Rattle.leak_index.proofs.EndsLemmas.{leads_more}
 use Rattle.leak_roots.specs.declared.skip.Skip.{Skip}
 use Rattle.leak_roots.specs.Roots.{root_places}
 use Rattle.leak_roots.specs.Skipped.{spans_of}
-use Rattle.leak_input.specs.Slack.{slack_in}
-use Rattle.leak_input.specs.Dead.{dead_in}
+use Rattle.leak_search.specs.Slack.{slack_in}
+use Rattle.leak_search.specs.Dead.{dead_in}
 use Rattle.leak_chunks.specs.FreeLinks.{is_free_link_past}
 use Rattle.leak_scan.specs.RootWords.{held_by, held_from, targets_without_links}
 use Rattle.leak_scan.specs.Targets.{block_targets, block_words, targets_of as led_by}
@@ -74,12 +74,12 @@ fewer_from n listed (b ∷ blocks) w x = go (leads (inner listed) w b) (leads (w
 
 -- ---- so do words
 
-flat_fewer : (f g : ℕ → List ℕ) (x : ℕ) → ((w : ℕ) → times x (f w) ≤ times x (g w)) → (ws : List ℕ) → times x (flat_map f ws) ≤ times x (flat_map g ws)
+pub flat_fewer : (f g : ℕ → List ℕ) (x : ℕ) → ((w : ℕ) → times x (f w) ≤ times x (g w)) → (ws : List ℕ) → times x (flat_map f ws) ≤ times x (flat_map g ws)
 flat_fewer f g x each [] = omega arith
 flat_fewer f g x each (w ∷ ws) =
     omega (arith, times-append x (f w) (flat_map f ws), times-append x (g w) (flat_map g ws), each w, flat_fewer f g x each ws)
 
-map_fewer : (f g : Block → List ℕ) (x : ℕ) → ((b : Block) → times x (f b) ≤ times x (g b)) → (bs : List Block) (s : ℕ) → times x (get_or (map f bs) s []) ≤ times x (get_or (map g bs) s [])
+pub map_fewer : (f g : Block → List ℕ) (x : ℕ) → ((b : Block) → times x (f b) ≤ times x (g b)) → (bs : List Block) (s : ℕ) → times x (get_or (map f bs) s []) ≤ times x (get_or (map g bs) s [])
 map_fewer f g x each [] s = omega arith
 map_fewer f g x each (b ∷ bs) zero = each b
 map_fewer f g x each (b ∷ bs) (suc s) = map_fewer f g x each bs s

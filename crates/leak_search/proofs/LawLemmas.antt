@@ -20,8 +20,8 @@ use Rattle.leak_roots.specs.declared.skip.Skip.{Skip}
 use Rattle.leak_roots.specs.Roots.{has_roots, is_inside, kept_places, outside_places, outside_places_in, root_places}
 use Rattle.leak_roots.specs.Skipped.{spans_of}
 use Rattle.leak_stacks.specs.Dead.{dead_spans_of}
-use Rattle.leak_input.specs.Slack.{slack_in}
-use Rattle.leak_input.specs.Dead.{dead_in}
+use Rattle.leak_search.specs.Slack.{slack_in}
+use Rattle.leak_search.specs.Dead.{dead_in}
 use Rattle.leak_roots.proofs.LeftOut.{no_spans_inside}
 use Rattle.leak_chunks.specs.FreeLinks.{is_free_link_past}
 use Rattle.leak_chunks.specs.Slack.{slack_spans_of}

@@ -1,8 +1,10 @@
 -- The lemmas of this crate, by subject.
+pub mod InputLemmas
+pub mod PairLemmas
 pub mod SearchLemmas
 pub mod SizeLemmas
 pub mod TwoLemmas
-pub mod HoldingLemmas
+pub mod WhyLemmas
 pub mod LawLemmas
 pub mod SignLemmas
 pub mod EndsLemmas

@@ -19,8 +19,8 @@ use Rattle.leak_roots.specs.Places.{Places}
 use Rattle.leak_roots.specs.Roots.{AreRootsOf, dead_places, freed_places, root_places}
 use Rattle.leak_roots.specs.Skipped.{spans_of, freed_of}
 use Rattle.leak_stacks.specs.Dead.{dead_spans_of}
-use Rattle.leak_input.specs.Slack.{slack_in}
-use Rattle.leak_input.specs.Dead.{dead_in, dead_told}
+use Rattle.leak_search.specs.Slack.{slack_in}
+use Rattle.leak_search.specs.Dead.{dead_in, dead_told}
 use Rattle.leak_roots.specs.declared.skip.Skip.{Skip}
 use Rattle.leak_marks.specs.Reach.{Graph, Reach}
 use Rattle.leak_marks.specs.Partition.{Partitions}
@@ -29,17 +29,17 @@ use Rattle.leak_pool.specs.Marking.{IsSet, MarksFromRoots, graph_of, led_by_root
 use Rattle.leak_report.specs.declared.head.Head.{Head}
 use Rattle.leak_report.specs.Totals.{leaked_in}
 use Rattle.leak_report.specs.Report.{text_of}
-use Rattle.leak_input.specs.declared.error.FindError.{FindError}
-use Rattle.leak_input.specs.declared.error.FindError.TheVariants.{TooMany, NoMemory}
+use Rattle.leak_search.specs.declared.error.FindError.{FindError}
+use Rattle.leak_search.specs.declared.error.FindError.TheVariants.{TooMany, NoMemory}
 use Rattle.leak_pool.specs.declared.error.PoolError.{PoolError}
 use Rattle.leak_pool.specs.declared.error.PoolError.TheVariants.{TooMany as TooManyForPool, NoMemory as NoMemoryForPool}
-use Rattle.leak_input.specs.declared.found.Found.{Found}
-use Rattle.leak_input.specs.declared.inputs.Input.{Input}
-use Rattle.leak_input.specs.Inputs.{AreRootsFor, IsReadOf, IsRead, at_marking, IsFaultOfOne}
-use Rattle.leak_input.specs.Report.{head_with, text_with}
-use Rattle.leak_input.proofs.InputLemmas.{fits_are, input_blocks}
+use Rattle.leak_search.specs.declared.found.Found.{Found}
+use Rattle.leak_search.specs.declared.inputs.Input.{Input}
+use Rattle.leak_search.specs.Inputs.{AreRootsFor, IsReadOf, IsRead, at_marking, IsFaultOfOne}
+use Rattle.leak_search.specs.Report.{head_with, text_with}
+use Rattle.leak_search.proofs.InputLemmas.{fits_are, input_blocks}
 use Rattle.leak_search.specs.Search.{FindsOne, graph_of_one, index_of}
-use Rattle.leak_input.specs.Signs.{fits_told, fits_with}
+use Rattle.leak_search.specs.Signs.{fits_told, fits_with}
 
 -- too many blocks is a fault of an input that was read
 pub too_many : (core log : List ℕ) (input : Input) → IsRead core log input → 2 ^ 32 - 1 < length input.live.blocks → IsFaultOfOne core log TooMany

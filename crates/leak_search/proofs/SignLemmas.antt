@@ -1,10 +1,10 @@
 -- The signs of inputs that were read.
 use Rattle.std.proofs.Common.{◌≡◌, ℕ, Bool, List, [], ◌∷◌, refl, sym, subst}
+use Rattle.leak_blocks.proofs.StepLemmas.{replayed as blocks_are}
 use Rattle.leak_report.specs.declared.signs.Signs.{Signs}
-use Rattle.leak_input.specs.declared.inputs.Input.{Input}
-use Rattle.leak_input.specs.Inputs.{IsRead}
-use Rattle.leak_input.specs.Signs.{AreSigns, signs_of, signs_with}
-use Rattle.leak_input.proofs.InputLemmas.{blocks_are}
+use Rattle.leak_search.specs.declared.inputs.Input.{Input}
+use Rattle.leak_search.specs.Inputs.{IsRead}
+use Rattle.leak_search.specs.Signs.{AreSigns, signs_of, signs_with}
 
 signs_are : (heap : Bool) (core log : List ℕ) (input : Input) → (read : IsRead core log input) → signs_with heap input ≡ signs_of heap core log read.0
 signs_are heap core log input read = rw (read.1.image, read.1.live, read.1.torn, blocks_are read.0) refl

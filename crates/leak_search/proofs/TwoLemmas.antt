@@ -11,8 +11,8 @@ use Rattle.leak_scan.specs.Heads.{heads_of}
 use Rattle.leak_roots.specs.Places.{Places}
 use Rattle.leak_roots.specs.Roots.{AreRootsOf}
 use Rattle.leak_roots.specs.Skipped.{spans_of}
-use Rattle.leak_input.specs.Slack.{slack_in}
-use Rattle.leak_input.specs.Dead.{dead_in}
+use Rattle.leak_search.specs.Slack.{slack_in}
+use Rattle.leak_search.specs.Dead.{dead_in}
 use Rattle.leak_roots.specs.declared.skip.Skip.{Skip}
 use Rattle.leak_marks.specs.Lists.{Has}
 use Rattle.leak_marks.specs.Reach.{Graph, Reach}
@@ -31,19 +31,19 @@ use Rattle.leak_later.specs.Retrace.{IsRetrace, OthersLeadWithin, SameWordsLeadW
 use Rattle.leak_report.specs.declared.head.Head.{Head}
 use Rattle.leak_report.specs.Totals.{leaked_in}
 use Rattle.leak_report.specs.Report.{text_of}
-use Rattle.leak_input.specs.declared.error.FindError.{FindError}
-use Rattle.leak_input.specs.declared.error.FindError.TheVariants.{NoMemory}
-use Rattle.leak_input.specs.declared.found.Found.{Found}
-use Rattle.leak_input.specs.declared.inputs.Input.{Input}
+use Rattle.leak_search.specs.declared.error.FindError.{FindError}
+use Rattle.leak_search.specs.declared.error.FindError.TheVariants.{NoMemory}
+use Rattle.leak_search.specs.declared.found.Found.{Found}
+use Rattle.leak_search.specs.declared.inputs.Input.{Input}
 use Rattle.leak_search.specs.declared.two_cores.Between.{Between}
-use Rattle.leak_input.specs.declared.pairs.Inputs.{Inputs}
-use Rattle.leak_input.specs.Inputs.{AreRootsFor, IsReadOf, IsInput, at_marking, Continues, AreReadTwo}
-use Rattle.leak_input.specs.Report.{head_with, text_with}
+use Rattle.leak_search.specs.declared.pairs.Inputs.{Inputs}
+use Rattle.leak_search.specs.Inputs.{AreRootsFor, IsReadOf, IsInput, at_marking, Continues, AreReadTwo}
+use Rattle.leak_search.specs.Report.{head_with, text_with}
 use Rattle.leak_search.specs.Search.{first_of, graph_of_one, index_of}
 use Rattle.leak_search.specs.SearchTwo.{IsMarkedEarlier, IsBetweenCores, FindsLater, FindsTwo, graph_of_later, head_of_two, kept_blocks, new_blocks, numbers_of_two, size_of}
-use Rattle.leak_input.specs.Signs.{fits_with}
-use Rattle.leak_input.proofs.PairLemmas.{faultless, paired}
-use Rattle.leak_input.proofs.InputLemmas.{fits_are, input_blocks}
+use Rattle.leak_search.specs.Signs.{fits_with}
+use Rattle.leak_search.proofs.PairLemmas.{faultless, paired}
+use Rattle.leak_search.proofs.InputLemmas.{fits_are, input_blocks}
 use Rattle.leak_search.proofs.SearchLemmas.{found_first, head_is, index_is, marked_graph}
 
 -- ---- refusals

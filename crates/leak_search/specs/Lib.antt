@@ -1,5 +1,10 @@
 -- The definitions of this crate, by subject.
-pub mod Holding
+pub mod Slack
+pub mod Dead
+pub mod Inputs
+pub mod Report
+pub mod Signs
+pub mod Why
 pub mod Search
 pub mod SearchTwo
 pub mod Laws

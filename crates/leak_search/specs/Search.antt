@@ -11,8 +11,8 @@ use Rattle.leak_roots.specs.declared.skip.Skip.{Skip}
 use Rattle.leak_notes.specs.Threads.{registers_of}
 use Rattle.leak_roots.specs.Roots.{root_places}
 use Rattle.leak_roots.specs.Skipped.{spans_of, freed_of}
-use Rattle.leak_input.specs.Slack.{slack_in}
-use Rattle.leak_input.specs.Dead.{dead_in, dead_told}
+use Rattle.leak_search.specs.Slack.{slack_in}
+use Rattle.leak_search.specs.Dead.{dead_in, dead_told}
 use Rattle.leak_scan.specs.Heads.{heads_of}
 use Rattle.leak_marks.specs.Reach.{Graph, Reach}
 use Rattle.leak_marks.specs.Partition.{Partitions}
@@ -20,9 +20,9 @@ use Rattle.leak_pool.specs.Marking.{IsSet, graph_of, led_from}
 use Rattle.leak_report.specs.declared.head.Head.{Head}
 use Rattle.leak_report.specs.Totals.{leaked_in}
 use Rattle.leak_report.specs.Report.{text_of}
-use Rattle.leak_input.specs.declared.found.Found.{Found}
-use Rattle.leak_input.specs.Inputs.{IsCore}
-use Rattle.leak_input.specs.Signs.{fits_told}
+use Rattle.leak_search.specs.declared.found.Found.{Found}
+use Rattle.leak_search.specs.Inputs.{IsCore}
+use Rattle.leak_search.specs.Signs.{fits_told}
 
 -- the live blocks of the lines, and the reading
 abbrev pub index_of : Distances → List Line → Index

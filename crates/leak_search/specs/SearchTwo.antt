@@ -12,7 +12,7 @@ use Rattle.leak_blocks.specs.Live.{live_of, replay_of}
 use Rattle.leak_index.specs.Leads.{Distances}
 use Rattle.leak_roots.specs.declared.skip.Skip.{Skip}
 use Rattle.leak_roots.specs.Skipped.{freed_of}
-use Rattle.leak_input.specs.Dead.{dead_told}
+use Rattle.leak_search.specs.Dead.{dead_told}
 use Rattle.leak_scan.specs.Heads.{heads_of}
 use Rattle.leak_marks.specs.Lists.{Has}
 use Rattle.leak_marks.specs.Reach.{Graph, Reach}
@@ -25,10 +25,10 @@ use Rattle.leak_report.specs.declared.head.Head.{Head}
 use Rattle.leak_report.specs.declared.head.Two.{Two}
 use Rattle.leak_report.specs.Totals.{leaked_in}
 use Rattle.leak_report.specs.Report.{text_of}
-use Rattle.leak_input.specs.declared.found.Found.{Found}
+use Rattle.leak_search.specs.declared.found.Found.{Found}
 use Rattle.leak_search.specs.declared.two_cores.Between.{Between}
-use Rattle.leak_input.specs.Inputs.{IsFaultless}
-use Rattle.leak_input.specs.Signs.{fits_told}
+use Rattle.leak_search.specs.Inputs.{IsFaultless}
+use Rattle.leak_search.specs.Signs.{fits_told}
 use Rattle.leak_search.specs.Search.{first_of, index_of, graph_of_one, claims_of}
 
 -- the blocks that chains of the earlier core reach, as tests for the live blocks of its log

@@ -2,14 +2,14 @@
 
 ghost use Rattle.std.specs.Prelude.{◌≢◌, [], ◌∷◌, IfOk, IfErr};
 ghost use Rattle.leak_index.specs.Readings.{distances_of};
-ghost use Rattle.leak_input.specs.Inputs.{IsFaultOfOne};
+ghost use Rattle.leak_search.specs.Inputs.{IsFaultOfOne};
 ghost use Rattle.leak_search.specs.Search.{FindsOne};
-ghost use Rattle.leak_input.specs.Signs.{AreSigns};
+ghost use Rattle.leak_search.specs.Signs.{AreSigns};
 
-use leak_index::Sorted;
-use leak_input::{
-    Aside, FindError, Found, Rules, find_roots, head_of, oddities_of_one, read_input, report_of,
+use crate::{
+    Aside, FindError, Found, Rules, consistency_of_one, find_roots, head_of, read_input, report_of,
 };
+use leak_index::Sorted;
 use leak_pool::mark_alone;
 use std::alloc::Global;
 
@@ -32,11 +32,11 @@ pub fn find_alone(
         → IsFaultOfOne core.now log.now e) }
 {
     let input = read_input(alloc, 1, rules.skip, core, log)?;
-    let oddities = oddities_of_one(alloc, &input, lists_misfits, rules.other_heap)?;
+    let consistency = consistency_of_one(alloc, &input, lists_misfits, rules.other_heap)?;
     let roots = find_roots(alloc, &input)?;
     let lookup = Sorted::new(&input.live, rules.reading);
     let marked = mark_alone(alloc, &input.image, &lookup, &roots, &input.live)?;
     let head = head_of(&input, &roots, None);
-    let aside = Aside { head, oddities };
+    let aside = Aside { head, consistency };
     report_of(alloc, &input, &lookup, log, marked, aside)
 }

@@ -10,6 +10,12 @@
 //! [`find_alone`], which searches one core on the caller's thread, under the promise of [`find_one`], is for libraries and
 //! tests. `specs/Search.antt` says what a leak, a root and a chain are and, for two cores, `specs/SearchTwo.antt`.
 //!
+//! An input is a core and the log of its allocations. [`read_input`] reads it or gives its first fault, and [`read_two`]
+//! reads two of one process; `specs/Inputs.antt` says what an accepted input is, and which of its faults comes first.
+//! [`consistency_of_one`] and [`consistency_of_two`] say what is odd about inputs. [`ground_of`] finds the root words, by
+//! [`find_roots`], and makes the lookup, and [`mark_input`] marks blocks over them by workers. [`head_of`] gives the
+//! numbers of a report's first lines, and [`report_of`] makes the report of what is marked.
+//!
 //! An allocation of 32 bytes, and a core in which no word leads to it:
 //!
 //! ```text
@@ -27,14 +33,29 @@
 #![tactic(auto)]
 
 mod alone;
-mod holding;
+mod error;
+mod found;
+mod inputs;
 mod laws;
+mod marking;
 mod one_core;
+mod pairs;
+mod reporting;
+mod rules;
+mod signing;
 mod two_cores;
+mod why;
 
 pub use alone::find_alone;
-pub use holding::{Why, WhyError, find_why};
+pub use error::FindError;
+pub use found::Found;
+pub use inputs::{Input, find_roots, read_input};
 pub use laws::{leaked_stay_leaked, leaked_stay_leaked_without_ends};
-pub use leak_input::{FindError, Found, Rules, Workers};
+pub use marking::{Ground, Workers, ground_of, mark_input};
 pub use one_core::find_one;
+pub use pairs::{Inputs, read_two};
+pub use reporting::{Aside, head_of, report_of};
+pub use rules::Rules;
+pub use signing::{Consistency, consistency_of_one, consistency_of_two};
 pub use two_cores::find_two;
+pub use why::{Why, WhyError, find_why};

@@ -2,12 +2,12 @@
 
 ghost use Rattle.std.specs.Prelude.{◌≢◌, [], ◌∷◌, IfOk, IfErr};
 ghost use Rattle.leak_index.specs.Readings.{distances_of};
-ghost use Rattle.leak_input.specs.Inputs.{IsFaultOfOne};
+ghost use Rattle.leak_search.specs.Inputs.{IsFaultOfOne};
 ghost use Rattle.leak_search.specs.Search.{FindsOne};
-ghost use Rattle.leak_input.specs.Signs.{AreSigns};
+ghost use Rattle.leak_search.specs.Signs.{AreSigns};
 
-use leak_input::{
-    Aside, FindError, Found, Rules, Workers, ground_of, head_of, mark_input, oddities_of_one,
+use crate::{
+    Aside, FindError, Found, Rules, Workers, consistency_of_one, ground_of, head_of, mark_input,
     read_input, report_of,
 };
 use leak_pool::Gate;
@@ -40,10 +40,10 @@ pub fn find_one<R: std::thread::Threads + Sync, G: Gate + Sync>(
         → IsFaultOfOne core.now log.now e) }
 {
     let input = read_input(alloc, 1, rules.skip, core, log)?;
-    let oddities = oddities_of_one(alloc, &input, lists_misfits, rules.other_heap)?;
+    let consistency = consistency_of_one(alloc, &input, lists_misfits, rules.other_heap)?;
     let ground = ground_of(alloc, &input, rules.reading)?;
     let marked = mark_input(workers, alloc, &input, &ground)?;
     let head = head_of(&input, &ground.roots, None);
-    let aside = Aside { head, oddities };
+    let aside = Aside { head, consistency };
     report_of(alloc, &input, &ground.lookup, log, marked, aside)
 }

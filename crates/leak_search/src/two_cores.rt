@@ -10,16 +10,16 @@ ghost use Rattle.leak_elf.specs.Words.{word_of};
 ghost use Rattle.leak_index.specs.Readings.{distances_of};
 ghost use Rattle.leak_later.specs.Kept.{IsCarry};
 ghost use Rattle.leak_later.specs.Retrace.{IsRetrace};
-ghost use Rattle.leak_input.specs.Inputs.{IsInput, ArePaired, AreReadTwo, IsFaultOfTwo};
-ghost use Rattle.leak_input.specs.Signs.{AreSigns};
+ghost use Rattle.leak_search.specs.Inputs.{IsInput, ArePaired, AreReadTwo, IsFaultOfTwo};
+ghost use Rattle.leak_search.specs.Signs.{AreSigns};
 ghost use Rattle.leak_search.specs.SearchTwo.{IsMarkedEarlier, IsBetweenCores, FindsTwo, size_of};
 
+use crate::{
+    Aside, FindError, Found, Ground, Input, Inputs, Rules, Workers, consistency_of_two, ground_of,
+    head_of, mark_input, read_two, report_of,
+};
 use leak_blocks::Block;
 use leak_index::Reading;
-use leak_input::{
-    Aside, FindError, Found, Ground, Input, Inputs, Rules, Workers, ground_of, head_of, mark_input,
-    oddities_of_two, read_two, report_of,
-};
 use leak_later::{
     Carry, Retraced, absent_are_fresh, carry, differing, retrace, same_words_lead_within,
 };
@@ -179,13 +179,13 @@ pub fn find_two<R: Threads + Sync, G: Gate + Sync>(
     let inputs = read_two(alloc, rules.skip, core1, log1, core2, log2)?;
     let between = compare(workers, alloc, &inputs, rules.reading)?;
     let (earlier, later) = (&inputs.first, &inputs.second);
-    let oddities = oddities_of_two(alloc, earlier, later, lists_misfits, rules.other_heap)?;
+    let consistency = consistency_of_two(alloc, earlier, later, lists_misfits, rules.other_heap)?;
     let Inputs { first, second } = inputs;
     drop(first); // no more is asked of it
     let ground = ground_of(alloc, &second, rules.reading)?;
     let retraced = mark_later(workers, alloc, &second, &ground, &between)?;
     let two = numbers_of(&second, &between.carry, retraced.reread);
     let head = head_of(&second, &ground.roots, Some(two));
-    let aside = Aside { head, oddities };
+    let aside = Aside { head, consistency };
     report_of(alloc, &second, &ground.lookup, log2, retraced.marked, aside)
 }

@@ -2,8 +2,8 @@
 
 use crate::comparisons::same;
 use leak_elf::core_k;
-use leak_input::{find_roots, head_of, read_input};
 use leak_roots::Skip;
+use leak_search::{find_roots, head_of, read_input};
 use std::test::Fail;
 
 #[test]

@@ -1,4 +1,4 @@
-//! Tests of the crates that mark blocks by workers, crate by crate.
+//! Tests of the crates that mark blocks, by workers and without sets of blocks, crate by crate.
 //!
 //! They are in a crate of their own, so that those crates are proved once, without their tests.
 #![tactic(auto)]
@@ -34,3 +34,15 @@ mod later_retracing;
 // Kept and new blocks that are scanned again at the same time.
 #[cfg(test)]
 mod later_at_once;
+
+// Blocks that lead to blocks, as lists.
+#[cfg(test)]
+mod lists;
+
+// Which numbers hold each block.
+#[cfg(test)]
+mod holding;
+
+// The same as one plain marking for each number.
+#[cfg(test)]
+mod plain;

@@ -23,17 +23,17 @@ fn agrees(rt: &impl Abort, alloc: Global, text: &str, found: &Replayed) -> Resul
     let log = Log::read(alloc, text.as_bytes())?;
     let live = replay(alloc, &log)?;
     let counts = counts_of(&found.live, found.torn);
-    same_in(rt, text, live.blocks(), found.live.blocks());
-    same_in(rt, text, counts_of(&live, log.torn()), counts);
-    same_in(rt, text, log.whole_len(), found.whole_len);
+    same_in(rt, &text, live.blocks(), found.live.blocks());
+    same_in(rt, &text, counts_of(&live, log.torn()), counts);
+    same_in(rt, &text, log.whole_len(), found.whole_len);
     Ok(())
 }
 
 /// Ends the test if these are other blocks.
 fn are(rt: &impl Abort, text: &str, blocks: &[Block], wanted: &[(u64, u64, usize)]) {
-    same_in(rt, text, blocks.len(), wanted.len());
+    same_in(rt, &text, blocks.len(), wanted.len());
     for (block, row) in blocks.iter().zip(wanted) {
-        same_in(rt, text, (block.start, block.size, block.line), *row);
+        same_in(rt, &text, (block.start, block.size, block.line), *row);
     }
 }
 
@@ -42,7 +42,7 @@ fn comes_to(rt: &impl Abort, alloc: Global, case: &Case) -> Result<(), Fail> {
     let (text, blocks, counts) = *case;
     let found = replay_bytes(alloc, text.as_bytes())?;
     are(rt, text, found.live.blocks(), blocks);
-    same_in(rt, text, counts_of(&found.live, found.torn), counts);
+    same_in(rt, &text, counts_of(&found.live, found.torn), counts);
     agrees(rt, alloc, text, &found)
 }
 
@@ -139,7 +139,7 @@ fn refusals(alloc: Global, text: &str) -> [Option<LogError>; 2] {
 fn logs_that_are_refused(rt: HostRuntime) {
     for &(text, wanted) in &REFUSED {
         let found = refusals(rt.alloc(), text);
-        same_in(&rt, text, found, [Some(wanted), Some(wanted)]);
+        same_in(&rt, &text, found, [Some(wanted), Some(wanted)]);
     }
 }
 
@@ -158,7 +158,7 @@ fn lives(alloc: Global, text: &str) -> Result<Live, Fail> {
 fn have_callers(rt: &impl Abort, blocks: &[Block]) {
     for (block, caller) in blocks.iter().zip(&CALLERS) {
         let found = TWO.get(block.caller.0..block.caller.1);
-        same_in(rt, block.start, found, Some(*caller));
+        same_in(rt, &block.start, found, Some(*caller));
     }
 }
 
@@ -167,7 +167,7 @@ fn sizes_and_callers(rt: HostRuntime) -> Result<(), Fail> {
     let live = lives(rt.alloc(), TWO)?;
     same_in(
         &rt,
-        TWO,
+        &TWO,
         (live.bytes(), counts_of(&live, 0)),
         (48, (0, 0, 0)),
     );
@@ -212,7 +212,7 @@ pub(crate) fn has_counts(
         found.live.blocks().len(),
         counts_of(&found.live, found.torn),
     );
-    same_in(rt, "long log", has, (blocks, counts));
+    same_in(rt, &"long log", has, (blocks, counts));
     agrees(rt, alloc, text, &found)
 }
 

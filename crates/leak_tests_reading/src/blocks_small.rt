@@ -9,9 +9,9 @@ use std::test::Fail;
 
 /// Ends the test if these are other ranges.
 fn are_ranges(rt: &impl Abort, text: &str, ranges: &[Span], wanted: &[(u64, u64)]) {
-    same_in(rt, text, ranges.len(), wanted.len());
+    same_in(rt, &text, ranges.len(), wanted.len());
     for (range, row) in ranges.iter().zip(wanted) {
-        same_in(rt, text, (range.first, range.last), *row);
+        same_in(rt, &text, (range.first, range.last), *row);
     }
 }
 
@@ -30,7 +30,7 @@ fn have_ranges_by_lines(rt: &impl Abort, alloc: Global, case: &Ranges) -> Result
 fn have_ranges_by_bytes(rt: &impl Abort, alloc: Global, case: &Ranges) -> Result<(), Fail> {
     let (replayed, spans) = replay_with_spans(alloc, case.0.as_bytes())?;
     are_ranges(rt, case.0, spans.ranges(), case.1);
-    same_in(rt, case.0, replayed.whole_len, case.0.len());
+    same_in(rt, &case.0, replayed.whole_len, case.0.len());
     Ok(())
 }
 

@@ -12,14 +12,14 @@ pub fn same<T: Copy + PartialEq + Debug>(rt: &impl Abort, found: T, wanted: T) {
     assert_eq!(rt; found, wanted);
 }
 
-/// Ends the test if the two differ, and prints the case beside each.
-pub fn same_in<C: Copy + PartialEq + Debug, T: Copy + PartialEq + Debug>(
+/// Ends the test if the two differ, and names the case.
+pub fn same_in<C: Debug, T: Copy + PartialEq + Debug>(
     rt: &impl Abort,
-    case: C,
+    case: &C,
     found: T,
     wanted: T,
 ) {
-    same(rt, (case, found), (case, wanted));
+    assert_eq!(rt; found, wanted, "{case:?}");
 }
 
 /// Ends the test if one of the values prints another text than the one beside it.

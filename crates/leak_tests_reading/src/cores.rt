@@ -100,7 +100,7 @@ fn refusal_of(alloc: Global, row: &Refusal) -> Result<Option<ElfError>, Fail> {
 /// Ends the test if one of the cores is refused for another reason, and prints its number.
 pub fn are_refused(rt: &impl Abort, alloc: Global, rows: &[Refusal]) -> Result<(), Fail> {
     for (i, row) in rows.iter().enumerate() {
-        same_in(rt, i, refusal_of(alloc, row)?, row.4);
+        same_in(rt, &i, refusal_of(alloc, row)?, row.4);
     }
     Ok(())
 }

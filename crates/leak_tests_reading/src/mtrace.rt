@@ -18,7 +18,7 @@ fn are_lines(rt: &impl Abort, rows: &[Row]) {
             size: *size,
             caller: *caller,
         };
-        same_in(rt, *text, parse_line(text.as_bytes()), Some(line));
+        same_in(rt, text, parse_line(text.as_bytes()), Some(line));
     }
 }
 
@@ -133,7 +133,7 @@ static REFUSED: [&str; 18] = [
 #[test]
 fn lines_that_mtrace_does_not_write(rt: HostRuntime) {
     for text in &REFUSED {
-        same_in(&rt, *text, parse_line(text.as_bytes()), None);
+        same_in(&rt, text, parse_line(text.as_bytes()), None);
     }
 }
 
@@ -199,7 +199,7 @@ static LOGS: [(&str, Outcome); 14] = [
 #[test]
 fn logs_and_refusals(rt: HostRuntime) {
     for &(text, wanted) in &LOGS {
-        same_in(&rt, text, outcome(rt.alloc(), text), wanted);
+        same_in(&rt, &text, outcome(rt.alloc(), text), wanted);
     }
 }
 

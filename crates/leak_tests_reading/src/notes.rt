@@ -29,7 +29,7 @@ fn refusal_of(alloc: Global, row: &Refusal) -> Result<Option<NoteError>, Fail> {
 /// Ends the test if the notes of one of the cores are refused for another reason, and prints its number.
 pub(crate) fn are_refused(rt: &impl Abort, alloc: Global, rows: &[Refusal]) -> Result<(), Fail> {
     for (i, row) in rows.iter().enumerate() {
-        same_in(rt, i, refusal_of(alloc, row)?, row.2);
+        same_in(rt, &i, refusal_of(alloc, row)?, row.2);
     }
     Ok(())
 }

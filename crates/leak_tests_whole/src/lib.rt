@@ -58,7 +58,7 @@ mod lists;
 
 // Runs that ask what holds a block.
 #[cfg(test)]
-mod asking;
+mod why;
 
 // Schedules that a gate forces on the workers.
 #[cfg(test)]

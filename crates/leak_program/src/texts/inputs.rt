@@ -4,9 +4,9 @@ ghost use Rattle.std.specs.Prelude.{◌≡◌, ◌++◌, OnOk, string_bytes};
 ghost use Rattle.leak_program.specs.InputTexts.{core_text, find_text, header_text, input_text, log_text, notes_text};
 
 use leak_elf::ElfError;
-use leak_input::FindError;
 use leak_mtrace::LogError;
 use leak_notes::NoteError;
+use leak_search::FindError;
 use std::alloc::AllocError;
 
 /// Appends the text of what refuses an input.

@@ -28,14 +28,14 @@ pub(crate) type Answers<'a> = &'a [(u64, Option<u64>)];
 /// Ends the test if the words at addresses are others.
 fn has_words(rt: &impl Abort, image: &Image, words: Answers) {
     for (addr, word) in words {
-        same_in(rt, *addr, image.word(*addr), *word);
+        same_in(rt, addr, image.word(*addr), *word);
     }
 }
 
 /// Ends the test if the first addresses of words from addresses on are others.
 pub(crate) fn has_nexts(rt: &impl Abort, image: &Image, nexts: Answers) {
     for (from, next) in nexts {
-        same_in(rt, *from, image.next(*from), *next);
+        same_in(rt, from, image.next(*from), *next);
     }
 }
 

@@ -84,7 +84,7 @@ const ROUNDS: usize = 32;
 fn skips_the_row(rt: &impl Abort, image: &Image) {
     for _ in 0..ROUNDS {
         for i in 0..0xfffe_u64 {
-            same_in(rt, i, image.next(4096 * i), Some(LAST));
+            same_in(rt, &i, image.next(4096 * i), Some(LAST));
         }
     }
     let found = (image.word(LAST), image.next(LAST + 1));

@@ -4,7 +4,7 @@ use Rattle.std.proofs.lemmas.List.{length-map}
 use denote.Ref.{Bor}
 use Rattle.leak_blocks.specs.declared.block.Block.{Block}
 use Rattle.leak_report.specs.Totals.{text_at}
-use Rattle.leak_texts.specs.Numbered.{AreNumbered, bytes_each, texts_of}
+use Rattle.leak_report.specs.Numbered.{AreNumbered, bytes_each, texts_of}
 use Rattle.leak_growth.specs.declared.rows.Row.{Row}
 use Rattle.leak_growth.specs.declared.summing.Sizes.{Sizes}
 use Rattle.leak_growth.specs.Rows.{AreTextsOf, AreRanked, is_changed, rows_with, sums_of, sizes_of, with_text, new_of}

@@ -1,6 +1,6 @@
 -- From the lemmas of PairLemmas and GrowthLemmas.
 use Rattle.std.proofs.Common.{ℕ, ◌+◌, ◌<◌, ◌≤◌, ◌^◌, length, ap, arith}
-use Rattle.leak_input.proofs.PairLemmas.{is_true}
+use Rattle.leak_search.proofs.PairLemmas.{is_true}
 use Rattle.leak_growth.proofs.GrowthLemmas.{callers_in, all_numbered, finds, too_many}
 use Rattle.leak_growth.proofs.growth.find_growth.Goals as goal
 

@@ -3,7 +3,7 @@ use Rattle.std.proofs.Common.{◌≡◌, ℕ, ◌<◌, ◌^◌, ◌+◌, List, [
 use Rattle.std.proofs.lemmas.Bool.{lt-ltb, le-ltb}
 use Rattle.std.proofs.lemmas.List.{take_all}
 use Rattle.leak_blocks.specs.declared.block.Block.{Block}
-use Rattle.leak_texts.specs.Numbered.{bytes_each}
+use Rattle.leak_report.specs.Numbered.{bytes_each}
 use Rattle.leak_growth.specs.declared.summing.Sizes.{Sizes}
 use Rattle.leak_growth.specs.Rows.{sums_of, with_block}
 use Rattle.leak_growth.proofs.SumLemmas.{no_sums, number_fits, sums_more, sums_stay, has_room}

@@ -1,6 +1,6 @@
 -- The sums of the blocks so far.
 use Rattle.std.proofs.Common.{◌≡◌, take}
-use Rattle.leak_texts.specs.Numbered.{bytes_each}
+use Rattle.leak_report.specs.Numbered.{bytes_each}
 use Rattle.leak_growth.specs.Rows.{sums_of}
 use Rattle.leak_growth.proofs.summing.sums.Given as goal
 

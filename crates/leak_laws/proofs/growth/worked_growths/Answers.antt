@@ -1,6 +1,7 @@
 -- Each report is computed; the lines go by their cases.
 use Rattle.std.proofs.Common.{◌≡◌, ℕ, inl, inr, refl, codes, List, [], ◌∷◌, arith}
 use Rattle.std.specs.Fmt.{digits}
+use Rattle.leak_lemmas.proofs.Lists.{no_cons}
 use Rattle.leak_mtrace.specs.Line.{IsLine}
 use Rattle.leak_mtrace.specs.Log.{IsGoodLine, IsLog, placed}
 use Rattle.leak_mtrace.specs.Number.{IsAddress, IsSize}
@@ -8,9 +9,6 @@ use Rattle.leak_blocks.specs.Live.{live_of, replay_of}
 use Rattle.leak_growth.specs.Report.{growths_of, report_of}
 use Rattle.leak_laws.specs.GrowthRows.{allocated, freed, nothing, one, cut, two, gone, again, odd, others, empty_one, no_caller, no_callers, given_back}
 use Rattle.leak_laws.proofs.growth.worked_growths.Goals as goal
-
-no_cons : {x : ℕ} {xs : List ℕ} → x ∷ xs ≡ [] → ⊥
-no_cons e = cc
 
 at_10100 : IsAddress (codes "0x10100") 0x10100
 at_10100 = inr (codes "10100", refl, omega arith, omega arith, refl, refl)

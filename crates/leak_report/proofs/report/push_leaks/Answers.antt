@@ -2,7 +2,7 @@
 use Rattle.std.proofs.Common.{false, get_or, ap, ◌++◌, ◌∙◌, arith}
 use Rattle.leak_blocks.specs.declared.block.Block.{Block}
 use Rattle.leak_report.specs.Lines.{leak_line}
-use Rattle.leak_report.proofs.Texts.{leaked_line, no_line}
+use Rattle.leak_report.proofs.TextLemmas.{leaked_line, no_line}
 use Rattle.leak_report.proofs.report.push_leaks.Goals as goal
 use Rattle.leak_report.proofs.report.push_leaks.Goals.{then-not-set-i+in_ok-push_leak, else-not-set-i}
 

@@ -7,7 +7,7 @@ use Rattle.leak_report.specs.Misfits.{misfit_sums, misfit_lines}
 use Rattle.leak_report.specs.Report.{text_of, sums_of}
 use Rattle.leak_report.proofs.Leaks.{length-leaked, bytes_of-leaked}
 use Rattle.leak_report.proofs.Orders.{rows_of-in}
-use Rattle.leak_report.proofs.Texts.{sums_are}
+use Rattle.leak_report.proofs.TextLemmas.{sums_are}
 use Rattle.leak_report.proofs.report.text.Goals as goal
 
 pub sums-requires-clause-few : goal.sums-requires-clause-few

@@ -1,13 +1,13 @@
 -- From the lemmas.
 use Rattle.std.proofs.Common.{◌≡◌, ◌∙◌, ap, [], ◌∷◌, Some, refl}
 use Rattle.leak_report.specs.declared.head.Two.{Two}
-use Rattle.leak_input.specs.Report.{head_with}
-use Rattle.leak_input.proofs.InputLemmas.{as_input, fits_each, input_callers}
+use Rattle.leak_search.specs.Report.{head_with}
+use Rattle.leak_search.proofs.InputLemmas.{as_input, fits_each, input_callers}
 use Rattle.leak_search.proofs.SearchLemmas.{at_ok, ok_by}
-use Rattle.leak_input.specs.declared.found.Found.{Found}
-use Rattle.leak_input.specs.Signs.{AreSigns}
+use Rattle.leak_search.specs.declared.found.Found.{Found}
+use Rattle.leak_search.specs.Signs.{AreSigns}
 use Rattle.leak_search.proofs.SignLemmas.{are_of_two}
-use Rattle.leak_input.proofs.PairLemmas.{paired}
+use Rattle.leak_search.proofs.PairLemmas.{paired}
 use Rattle.leak_search.proofs.TwoLemmas.{carried, finds_two, for_memory}
 use Rattle.leak_search.proofs.two_cores.find_two.Goals as goal
 
@@ -24,7 +24,7 @@ pub report_of-requires-clause-in_log : goal.report_of-requires-clause-in_log
 report_of-requires-clause-in_log g c = input_callers _ _ _ (c.in_ok-inputs.ensures.read.now, c.in_ok-inputs.ensures.read.second)
 
 pub report_of-requires-clause-a_fit_each : goal.report_of-requires-clause-a_fit_each
-report_of-requires-clause-a_fit_each g c = fits_each c.in_ok-oddities.oddities.fits c.args.lists_misfits c.in_ok-inputs.inputs.second c.in_ok-oddities.ensures.fits
+report_of-requires-clause-a_fit_each g c = fits_each c.in_ok-consistency.consistency.fits c.args.lists_misfits c.in_ok-inputs.inputs.second c.in_ok-consistency.ensures.fits
 
 pub returns-clause-refused : goal.returns-clause-refused
 returns-clause-refused g c = for_memory _ _ c.report_of.ensures.memory
@@ -34,11 +34,11 @@ returns-clause-ok g c = ok_by _ _ (λ found is.
     finds_two _ _ _ _ _ _ _ _ c.in_ok-inputs.inputs _ _ _ _ c.in_ok-between.between c.in_ok-retraced.retraced _ _ found c.in_ok-inputs.ensures.read c.same_words_lead_within.ensures
     (c.in_ok-between.ensures.between _ _ (paired _ _ _ _ _ c.in_ok-inputs.ensures.read)) c.in_ok-inputs.ensures.skip c.in_ok-ground.ensures.lookup (c.in_ok-ground.ensures.roots _ (as_input _ _ _ _ c.in_ok-inputs.ensures.read.second)) c.in_ok-retraced.ensures.traced refl refl
     (c.head_of-head.ensures ∙ ap (λ (t : Two). head_with c.in_ok-inputs.inputs.second c.in_ok-ground.ground.roots (Some t)) c.numbers_of-two.ensures)
-    c.in_ok-oddities.ensures.fits (at_ok _ _ found is c.report_of.ensures.report) (at_ok _ _ found is c.report_of.ensures.leaked) (at_ok _ _ found is c.report_of.ensures.claims))
+    c.in_ok-consistency.ensures.fits (at_ok _ _ found is c.report_of.ensures.report) (at_ok _ _ found is c.report_of.ensures.leaked) (at_ok _ _ found is c.report_of.ensures.claims))
 
 pub returns-clause-signs : goal.returns-clause-signs
 returns-clause-signs g c = ok_by
     (λ (found : Found). AreSigns c.args.rules.other_heap (c.args.core1.now ∷ c.args.log1.now ∷ c.args.core2.now ∷ c.args.log2.now ∷ []) found.signs.items) c.report_of.result (λ found is.
     are_of_two c.args.rules.other_heap c.args.core1.now c.args.log1.now c.args.core2.now c.args.log2.now c.in_ok-inputs.inputs.first c.in_ok-inputs.inputs.second found.signs.items
     (c.in_ok-inputs.ensures.read.before, c.in_ok-inputs.ensures.read.first) (c.in_ok-inputs.ensures.read.now, c.in_ok-inputs.ensures.read.second)
-    (at_ok (λ (f : Found). f.signs.items ≡ c.in_ok-oddities.oddities.signs.items) c.report_of.result found is c.report_of.ensures.signs ∙ c.in_ok-oddities.ensures.signs))
+    (at_ok (λ (f : Found). f.signs.items ≡ c.in_ok-consistency.consistency.signs.items) c.report_of.result found is c.report_of.ensures.signs ∙ c.in_ok-consistency.ensures.signs))

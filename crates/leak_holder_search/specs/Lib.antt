@@ -1,0 +1,9 @@
+-- The definitions of this crate, by subject.
+pub mod Since
+pub mod Edges
+pub mod Analyses
+pub mod Text
+pub mod Rows
+pub mod Holders
+pub mod Held
+pub mod Answers

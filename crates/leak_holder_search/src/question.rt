@@ -1,0 +1,103 @@
+//! What one caller or one block holds, and who holds it.
+
+ghost use Rattle.std.specs.Prelude.{◌≡◌, ◌≢◌, ◌<◌, [], ◌∷◌, length, IfOk, IfErr};
+ghost use Rattle.leak_index.specs.Readings.{distances_of};
+ghost use Rattle.leak_search.specs.declared.error.FindError.TheVariants.{NoMemory};
+ghost use Rattle.leak_search.specs.Signs.{AreSigns};
+ghost use Rattle.leak_search.specs.declared.why.WhyError.TheVariants.{Find};
+ghost use Rattle.leak_holder_search.specs.Held.{FindsHeld, IsHeldFault};
+ghost use Rattle.leak_holder_search.specs.Answers.{IsAnswerOf, IsKnown};
+ghost use Rattle.leak_holder_search.specs.Since.{earlier};
+
+use crate::analysis::{Analysis, analysis_of, facts_of};
+use crate::choosing::{chosen, in_both};
+use crate::files::Files;
+use crate::held::held_of;
+use crate::held_report::held_text_of;
+use crate::search::Holding;
+use crate::since::is_continued;
+use leak_holders::{Crew, Progress, Question};
+use leak_pool::Plan;
+use leak_search::{FindError, Input, Rules, WhyError, consistency_of_one, ground_of, read_input};
+use leak_why::block_at;
+use std::alloc::Global;
+use std::thread::Threads;
+
+/// Searches a core and its log by the rules, and answers a question about the live block of an address, or about all blocks of its text.
+///
+/// What these hold are the blocks that no chain of words reaches without passing one of them, by the texts of their callers. Who holds them
+/// are the other texts without whose blocks no chain reaches one of them. The answer doesn't depend on the plan, on the progress, or on how
+/// the workers meet.
+///
+/// # Errors
+///
+/// As [`find_holders`](crate::find_holders), and then `NoBlock` if no live block has a byte at the address, or begins there.
+pub fn find_held<R: Threads + Sync, P: Progress>(
+    rt: &R,
+    alloc: Global,
+    files: &Files,
+    question: Question,
+    rules: Rules,
+    plan: Plan,
+    progress: &P,
+) -> Result<Holding, WhyError>
+    ensures ok { IfOk result (FindsHeld files.now.core.now files.now.log.now
+        (earlier files.now.since) (distances_of rules.reading) rules.skip question) }
+    ensures signs { IfOk result (λ found. AreSigns rules.other_heap
+        (files.now.core.now ∷ files.now.log.now ∷ []) found.signs.items) }
+    ensures refused { IfErr result (λ e. e ≢ Find NoMemory → IsHeldFault files.now.core.now
+        files.now.log.now (earlier files.now.since) question.address e) }
+{
+    let input = read_input(alloc, 1, rules.skip, files.core, files.log)?;
+    if !is_continued(files) {
+        return Err(WhyError::Find(FindError::NotPrefix));
+    }
+    let consistency = consistency_of_one(alloc, &input, false, rules.other_heap)?;
+    let ground = ground_of(alloc, &input, rules.reading)?;
+    let crew = Crew::new(rt, plan.workers(), progress);
+    let analysis = analysis_of(rt, alloc, &input, &ground, files, crew.workers)?;
+    let Some(block) = block_at(&input.live, question.address) else {
+        return Err(WhyError::NoBlock(question.address));
+    };
+    let report = answer(&crew, alloc, &input, &analysis, files.log, question, block)?;
+    Ok(Holding {
+        report,
+        signs: consistency.signs,
+    })
+}
+
+/// The answer about the block with the number, or about all blocks of its text.
+fn answer<R: Threads + Sync, P: Progress>(
+    crew: &Crew<'_, R, P>,
+    alloc: Global,
+    input: &Input,
+    analysis: &Analysis,
+    log: &[u8],
+    question: Question,
+    block: usize,
+) -> Result<Vec<u8>, FindError>
+    requires known { IsKnown log.now input.now analysis.now }
+    requires one { block < length input.now.live.blocks }
+    ensures memory { IfErr result (λ e. e ≡ FindError.NoMemory) }
+    ensures answer { IfOk result (λ out. IsAnswerOf log.now input.now analysis.now question block out.items) }
+{
+    let (live, texts) = (&input.live, analysis.texts.texts.as_slice());
+    let facts = facts_of(&*input, &*analysis);
+    let chosen = chosen(alloc, facts.numbers, block, question.alone)?;
+    let own = in_both(alloc, chosen.as_slice(), facts.reached)?;
+    let held = held_of(
+        crew,
+        alloc,
+        input,
+        analysis.ground,
+        &analysis.edges,
+        &facts,
+        texts.len() as u32,
+        question.side,
+        chosen.as_slice(),
+        facts.numbers[block],
+    )?;
+    let own = own.as_slice();
+    let report = held_text_of(alloc, live, log, block, question.side, own, &held, texts)?;
+    Ok(report)
+}

@@ -1,0 +1,73 @@
+//! Who holds the memory of one core.
+
+ghost use Rattle.std.specs.Prelude.{◌≡◌, ◌≢◌, [], ◌∷◌, IfOk, IfErr};
+ghost use Rattle.leak_index.specs.Readings.{distances_of};
+ghost use Rattle.leak_search.specs.Signs.{AreSigns};
+ghost use Rattle.leak_holder_search.specs.Holders.{FindsHolders, IsFaultOfHolders};
+ghost use Rattle.leak_holder_search.specs.Since.{earlier};
+
+use crate::analysis::{analysis_of, facts_of};
+use crate::files::Files;
+use crate::ranking::rows_of;
+use crate::report::text;
+use crate::since::{is_continued, new};
+use leak_holders::{Crew, Progress};
+use leak_pool::Plan;
+use leak_report::Signs;
+use leak_search::{FindError, Rules, consistency_of_one, ground_of, head_of, read_input};
+use std::alloc::Global;
+use std::thread::Threads;
+
+/// Who holds the memory.
+#[derive(Drop)]
+pub struct Holding {
+    /// The lines of the report, each with its line feed.
+    pub report: Vec<u8>,
+    /// What is odd about the core and its log.
+    pub signs: Vec<Signs>,
+}
+
+/// Searches a core and its log by the rules, and tells which texts of callers hold the blocks that chains of words reach.
+///
+/// What each block leads to is listed once, and then marked over: once for all blocks, and once for each 64 texts. The progress is told of
+/// these. The report doesn't depend on the plan, on the progress, or on how the workers meet.
+///
+/// # Errors
+///
+/// `Core`, `Notes`, `Log`, with input number 1; then `NotPrefix` if the earlier log's complete lines don't begin the log; then `TooMany`.
+/// `NoMemory` can come at any time. Threads that can't be had are no error: the caller does their share.
+pub fn find_holders<R: Threads + Sync, P: Progress>(
+    rt: &R,
+    alloc: Global,
+    files: &Files,
+    rules: Rules,
+    plan: Plan,
+    progress: &P,
+) -> Result<Holding, FindError>
+    ensures ok { IfOk result (FindsHolders files.now.core.now files.now.log.now
+        (earlier files.now.since) (distances_of rules.reading) rules.skip) }
+    ensures signs { IfOk result (λ found. AreSigns rules.other_heap
+        (files.now.core.now ∷ files.now.log.now ∷ []) found.signs.items) }
+    ensures refused { IfErr result (λ e. e ≢ FindError.NoMemory
+        → IsFaultOfHolders files.now.core.now files.now.log.now (earlier files.now.since) e) }
+{
+    let input = read_input(alloc, 1, rules.skip, files.core, files.log)?;
+    if !is_continued(files) {
+        return Err(FindError::NotPrefix);
+    }
+    let consistency = consistency_of_one(alloc, &input, false, rules.other_heap)?;
+    let ground = ground_of(alloc, &input, rules.reading)?;
+    let crew = Crew::new(rt, plan.workers(), progress);
+    let analysis = analysis_of(rt, alloc, &input, &ground, files, crew.workers)?;
+    let (ground, edges) = (analysis.ground, &analysis.edges);
+    let (facts, texts) = (facts_of(&input, &analysis), analysis.texts.texts.as_slice());
+    let rows = rows_of(&crew, alloc, &input, ground, edges, &facts, texts.len())?;
+    let head = head_of(&input, &ground.roots, None);
+    let new = new(files.since, facts.counted);
+    let rows = rows.as_slice();
+    let report = text(alloc, &head, &input.live, &facts, new, texts, rows)?;
+    Ok(Holding {
+        report,
+        signs: consistency.signs,
+    })
+}

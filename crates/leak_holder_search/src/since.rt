@@ -1,0 +1,76 @@
+//! Which blocks are counted.
+
+ghost use Rattle.std.specs.Prelude.{◌≡◌, ◌==◌, map, count_by, nat_lt, option_map, IfOk, true};
+ghost use Rattle.leak_mtrace.specs.Log.{whole_len_of};
+ghost use Rattle.leak_holder_search.specs.Since.{counted_of, earlier, is_continued_from};
+
+use crate::files::Files;
+use leak_blocks::Block;
+use std::alloc::{AllocError, Global};
+
+/// How many bytes of a log its complete lines take.
+fn whole_len(log: &[u8]) -> usize
+    ensures { result ≡ whole_len_of log.now }
+{
+    let mut len = log.len();
+    while len > 0 && log[len - 1] != b'\n' {
+        len -= 1;
+    }
+    len
+}
+
+/// How many lines of the log are complete.
+fn count_lines(log: &[u8]) -> usize
+    ensures { result ≡ count_by (λ b. b == 10) log.now }
+{
+    log.iter().filter(|b| **b == b'\n').count()
+}
+
+/// Whether the complete lines of the earlier log, if there is one, begin the log.
+pub(crate) fn is_continued(files: &Files) -> bool
+    ensures { result ≡ is_continued_from (earlier files.now.since) files.now.log.now }
+{
+    match files.since {
+        Some(log) => files.log.starts_with(&log[..whole_len(log)]),
+        None => true,
+    }
+}
+
+/// For each block, whether it is counted: if there is an earlier log, those of lines after its complete ones.
+pub(crate) fn counted(
+    alloc: Global,
+    since: Option<&[u8]>,
+    blocks: &[Block],
+) -> Result<Vec<bool>, AllocError>
+    ensures { IfOk result (λ counted. counted.items ≡ counted_of (earlier since.entry) blocks.now) }
+{
+    match since {
+        Some(log) => later(alloc, blocks, count_lines(log)),
+        None => all(alloc, blocks),
+    }
+}
+
+/// Which blocks are counted, if there is an earlier log.
+pub(crate) fn new<'a>(since: Option<&[u8]>, counted: &'a [bool]) -> Option<&'a [bool]>
+    ensures { option_map (λ s. s.now) result
+        ≡ option_map (λ _. counted.now) (earlier since.entry) }
+{
+    match since {
+        Some(_) => Some(counted),
+        None => None,
+    }
+}
+
+/// For each block, whether its line comes after this many.
+fn later(alloc: Global, blocks: &[Block], lines: usize) -> Result<Vec<bool>, AllocError>
+    ensures { IfOk result (λ later. later.items ≡ map (λ b. nat_lt lines b.line) blocks.now) }
+{
+    blocks.iter().map(|block| lines < block.line).collect(alloc)
+}
+
+/// That each block is counted.
+fn all(alloc: Global, blocks: &[Block]) -> Result<Vec<bool>, AllocError>
+    ensures { IfOk result (λ all. all.items ≡ map (λ b. true) blocks.now) }
+{
+    blocks.iter().map(|_| true).collect(alloc)
+}

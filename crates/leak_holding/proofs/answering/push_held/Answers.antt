@@ -1,6 +1,0 @@
--- From the lemmas of SumLemmas.
-use Rattle.leak_blocks.proofs.SumLemmas.{sum_fits}
-use Rattle.leak_holding.proofs.answering.push_held.Goals as goal
-
-pub marked_sizes-blocks-requires-clause-fits : goal.marked_sizes-blocks-requires-clause-fits
-marked_sizes-blocks-requires-clause-fits c = sum_fits c.blocks-2.result.now c.blocks-2.ensures.addressed c.blocks-2.ensures.disjoint

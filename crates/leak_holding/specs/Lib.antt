@@ -1,9 +1,0 @@
--- The definitions of this crate, by subject.
-pub mod Since
-pub mod Edges
-pub mod Scenes
-pub mod Text
-pub mod Rows
-pub mod Holders
-pub mod Held
-pub mod Answers

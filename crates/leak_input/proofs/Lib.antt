@@ -1,3 +1,0 @@
--- The lemmas of this crate, by subject.
-pub mod InputLemmas
-pub mod PairLemmas

@@ -1,6 +1,0 @@
--- The definitions of this crate, by subject.
-pub mod Slack
-pub mod Dead
-pub mod Inputs
-pub mod Report
-pub mod Signs

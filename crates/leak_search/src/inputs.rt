@@ -1,0 +1,140 @@
+//! An input: a core, and the log of its allocations.
+
+ghost use Rattle.std.specs.Prelude.{◌≡◌, ◌≢◌, List, [], IfOk, IfErr};
+ghost use Rattle.leak_blocks.specs.declared.small.Span.{Span};
+ghost use Rattle.leak_mtrace.specs.declared.line.Line.{Line};
+ghost use Rattle.leak_mtrace.specs.Log.{IsFirstFault};
+ghost use Rattle.leak_pool.specs.Room.{room_of};
+ghost use Rattle.leak_roots.specs.Roots.{AreRootsOf};
+ghost use Rattle.leak_search.specs.Inputs.{AreRootsFor, IsInput, IsInputFault, IsRead, IsReadLog};
+ghost use Rattle.leak_search.specs.Slack.{slack_in};
+ghost use Rattle.leak_search.specs.Dead.{dead_in};
+
+use crate::error::{FindError, at_core, at_log, at_notes};
+use leak_blocks::{Live, Replayed, SmallSpans, replay_bytes, replay_with_spans};
+use leak_chunks::slack_spans;
+use leak_elf::Image;
+use leak_mtrace::LogError;
+use leak_notes::Threads;
+use leak_pool::EdgeRoom;
+use leak_roots::{Roots, Skip};
+use leak_stacks::dead_spans;
+use std::alloc::{AllocError, Global};
+
+/// A core and its log, read: nothing is marked yet. Of the log's lines only the live blocks are kept.
+#[derive(Drop)]
+pub struct Input<'a> {
+    pub image: Image<'a>,
+    /// The room that the core gives to edges.
+    pub edges: EdgeRoom,
+    pub threads: Threads,
+    pub live: Live,
+    /// What a search leaves out of the root words.
+    pub skip: Skip,
+    /// The spans of the log whose freed places are left out.
+    pub small: SmallSpans,
+    /// How many of the log's lines are torn.
+    pub torn: u64,
+    /// How many bytes of the log its complete lines take.
+    pub whole_len: usize,
+}
+
+/// Reads a log and finds its live blocks, and the spans whose freed places are left out.
+fn read_log(alloc: Global, skip: Skip, log: &[u8]) -> Result<(Replayed, SmallSpans), LogError>
+    ensures ok { IfOk result (IsReadLog skip log.now) }
+    ensures refused { IfErr result (λ e. e ≢ LogError.NoMemory → IsFirstFault log.now e) }
+{
+    if skip.freed {
+        replay_with_spans(alloc, log)
+    } else {
+        Ok((replay_bytes(alloc, log)?, SmallSpans::none(alloc)))
+    }
+}
+
+/// Reads the input with the number, from 1, or gives its first fault: the core's, then its notes', then the log's.
+///
+/// # Errors
+///
+/// `Core`, `Notes`, `Log`, in this order, with the number. `NoMemory` can come at any time.
+pub fn read_input<'a>(
+    alloc: Global,
+    number: u8,
+    skip: Skip,
+    core: &'a [u8],
+    log: &[u8],
+) -> Result<Input<'a>, FindError>
+    ensures ok { IfOk result (IsRead core.now log.now) }
+    ensures skip { IfOk result (λ input. input.skip ≡ skip) }
+    ensures edges { IfOk result (λ input. input.edges ≡ room_of core.now) }
+    ensures refused { IfErr result (λ e. e ≢ FindError.NoMemory
+        → IsInputFault number core.now log.now e) }
+{
+    let image = match Image::read(alloc, core) {
+        Ok(image) => image,
+        Err(error) => return Err(at_core(number, error)),
+    };
+    let threads = match Threads::read(alloc, &image) {
+        Ok(threads) => threads,
+        Err(error) => return Err(at_notes(number, error)),
+    };
+    let (replayed, small) = match read_log(alloc, skip, log) {
+        Ok(read) => read,
+        Err(error) => return Err(at_log(number, error)),
+    };
+    Ok(Input {
+        image,
+        edges: EdgeRoom::of_core(core),
+        threads,
+        live: replayed.live,
+        skip,
+        small,
+        torn: replayed.torn,
+        whole_len: replayed.whole_len,
+    })
+}
+
+/// The root words of an input without those in slack, if its search leaves these out.
+fn without_slack(alloc: Global, input: &Input, roots: Roots) -> Result<Roots, AllocError>
+    ensures { (spans : List Span) → let input = input.now in let skip = input.skip in
+        AreRootsOf skip.unwritable input.image input.live.blocks spans [] [] roots
+        → IfOk result (AreRootsOf skip.unwritable input.image input.live.blocks spans
+        (slack_in skip input.image input.live.blocks) []) }
+{
+    if !input.skip.slack {
+        return Ok(roots);
+    }
+    let slack = slack_spans(alloc, &input.image, &input.live)?;
+    roots.skip_slack(alloc, slack.ranges())
+}
+
+/// The root words of an input without those in dead stack, if its search leaves these out.
+fn without_dead(alloc: Global, input: &Input, roots: Roots) -> Result<Roots, AllocError>
+    ensures { (spans slack : List Span) → let input = input.now in let skip = input.skip in
+        AreRootsOf skip.unwritable input.image input.live.blocks spans slack [] roots
+        → IfOk result (AreRootsOf skip.unwritable input.image input.live.blocks spans slack
+        (dead_in skip input.image)) }
+{
+    if !input.skip.dead {
+        return Ok(roots);
+    }
+    let dead = dead_spans(alloc, &input.image)?;
+    roots.skip_dead(alloc, dead.ranges())
+}
+
+/// The root words of an input, without what its search leaves out.
+pub fn find_roots(alloc: Global, input: &Input) -> Result<Roots, AllocError>
+    ensures { (lines : List Line) → IsInput lines input.now
+        → IfOk result (AreRootsFor lines input.now) }
+{
+    let roots = Roots::find(
+        alloc,
+        &input.image,
+        &input.threads,
+        &input.live,
+        &input.small,
+        input.skip.unwritable,
+    )?;
+    let roots = without_slack(alloc, input, roots)?;
+    let kept = without_dead(alloc, input, roots)?;
+    Ok(kept.skip_links(input.skip.links))
+}

@@ -1,6 +1,0 @@
--- The first seat is of the table.
-use Rattle.std.proofs.Common.{◌≡◌}
-use Rattle.leak_tests_roots.proofs.marks.splits_32_times.Given as goal
-
-abbrev pub invariant-loop : goal.invariant-loop
-invariant-loop g l = l.first.table ≡ l.marks.table

@@ -1,6 +1,0 @@
--- From the lemmas of NumberLemmas.
-use Rattle.leak_texts.proofs.NumberLemmas.{numbers_tell}
-use Rattle.leak_texts.proofs.laws.numbers_tell.Goals as goal
-
-pub returns : goal.returns
-returns c = numbers_tell

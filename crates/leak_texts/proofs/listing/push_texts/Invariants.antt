@@ -1,7 +1,0 @@
--- The texts of the blocks so far.
-use Rattle.std.proofs.Common.{◌≡◌, ◌++◌, take}
-use Rattle.leak_texts.specs.Numbered.{bytes_each, texts_of}
-use Rattle.leak_texts.proofs.listing.push_texts.Given as goal
-
-abbrev pub invariant-loop-block : goal.invariant-loop-block
-invariant-loop-block l = bytes_each l.out.items ≡ bytes_each l.initial.out.items ++ texts_of l.log (take l.block-index l.blocks)

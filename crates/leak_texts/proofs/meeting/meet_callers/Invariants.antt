@@ -1,9 +1,0 @@
--- The texts of those so far.
-use Rattle.std.proofs.Common.{take}
-use Rattle.leak_texts.specs.Numbered.{bytes_each, texts_of}
-use Rattle.leak_texts.specs.Meeting.{AreMet}
-use Rattle.leak_texts.proofs.MeetingLemmas.{AreSoFar}
-use Rattle.leak_texts.proofs.meeting.meet_callers.Given as goal
-
-abbrev pub invariant-loop-block : goal.invariant-loop-block
-invariant-loop-block l = AreMet l.found (bytes_each l.texts.items) × AreSoFar (texts_of l.log (take l.block-index l.blocks)) (bytes_each l.texts.items) l.numbers.items
