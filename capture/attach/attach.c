@@ -1,6 +1,7 @@
 /* --attach: makes the island and the jumps, and waits until the process has loaded the library. Until the state says ARMED, all
  * jumps lead by; so whenever this program is killed the process goes on as it was. */
 #define _GNU_SOURCE
+#include <errno.h>
 #include <stdio.h>
 #include <stdlib.h>
 #include <string.h>
@@ -11,7 +12,7 @@
 
 #include "attach.h"
 
-enum { MOST_TRIES = 50, WAIT_NS = 2000000, LOOK_NS = 1000000, PIECE = 256 << 10, MOST_FOREIGN = 256 << 10,
+enum { MOST_TRIES = 50, MOST_UNREAD = 20, WAIT_NS = 2000000, LOOK_NS = 1000000, PIECE = 256 << 10, MOST_FOREIGN = 256 << 10,
        MOST_OWN = 64 << 20 };
 
 static void nap(long nanoseconds)
@@ -83,13 +84,16 @@ static int64_t call_or_fail(struct target *target, struct request_of_call reques
     return result;
 }
 
-/* Has the process map memory, fills it, and has its code made executable. */
-static void make_island(struct target *target)
+/* Has the process map memory, fills it, and has its code made executable. Gives false if the process has just mapped something
+ * there itself. */
+static bool make_island(struct target *target)
 {
     uint64_t bytes = target->island.stack_end - target->base;
     int64_t result = call_or_fail(target, (struct request_of_call){ SYS_mmap,
         { target->base, bytes, PROT_READ | PROT_WRITE, MAP_PRIVATE | MAP_ANONYMOUS | MAP_FIXED_NOREPLACE, (uint64_t)-1, 0 } });
 
+    if (result == -EEXIST)
+        return false;
     if (result != (int64_t)target->base)
         fail("process %d gets no memory: %s", target->process.id, result < 0 ? strerror(-result) : "not where it is wanted");
     target->is_new = true;
@@ -102,6 +106,7 @@ static void make_island(struct target *target)
     if (result)
         fail("process %d may not make memory executable: %s", target->process.id, strerror(-result));
     call_step();
+    return true;
 }
 
 /* What was mapped for nothing. */
@@ -161,6 +166,18 @@ static void arm(struct target *target, const struct settings *settings)
     call_step();
 }
 
+/* The process's maps and files while it goes on: what it just maps or unmaps can't be read. */
+static void read_steady(struct target *target)
+{
+    read_target(target);
+    for (int tries = 0; *target->unread; tries++) {
+        if (tries == MOST_UNREAD)
+            fail("process %d: %s", target->process.id, target->unread);
+        nap(WAIT_NS * (1 + tries % 4));
+        read_target(target);
+    }
+}
+
 /* Looks for an island, before the process is stopped, and plans one if there is none. Gives whether one is to be made. */
 static bool survey(struct target *target)
 {
@@ -168,7 +185,7 @@ static bool survey(struct target *target)
         [ISLAND_ON] = "is attached already", [ISLAND_LEAVING] = "was not detached to the end: detach it first", [ISLAND_FAILED] = NULL };
 
     target->process.witness = target->process.id;
-    read_target(target);
+    read_steady(target);
     refuse_threads(target->process.id);
     find_island(target);
     const char *refusal = target->base && target->island.state < ISLAND_STATES ? refusals[target->island.state] : NULL;
@@ -186,18 +203,40 @@ static bool survey(struct target *target)
     return true;
 }
 
-/* Stops the process and arms it, unless a thread is where nothing may be changed: then it goes on, and it is tried again. */
+/* Whether something may be changed now: no thread is at the first instructions, nor just maps or unmaps a file. */
+static bool is_steady(const struct target *target)
+{
+    for (size_t i = 0; i < target->process.count; i++)
+        if (is_at_entry(target, target->process.threads[i].id))
+            return false;
+    return !*target->unread;
+}
+
+/* Has the process get an island, unless it has one. */
+static void need_island(struct target *target)
+{
+    for (int tries = 0;; tries++) {
+        limit_search(true);
+        bool is_wanted = survey(target);
+        limit_search(false);
+        if (!is_wanted || make_island(target))
+            return;
+        if (tries == MOST_TRIES)
+            fail("process %d gets no memory: it always maps its own where it is wanted: try again", target->process.id);
+    }
+}
+
+/* Stops the process and arms it, unless nothing may be changed now: then it goes on, and it is tried again. */
 static bool try_arm(struct target *target, const struct settings *settings)
 {
     look(target);
     refuse_threads(target->process.id);
     refuse_sharers(&target->process);
     check_functions(target);
-    for (size_t i = 0; i < target->process.count; i++)
-        if (is_at_entry(target, target->process.threads[i].id)) {
-            let_go(&target->process);
-            return false;
-        }
+    if (!is_steady(target)) {
+        let_go(&target->process);
+        return false;
+    }
     arm(target, settings);
     target->is_new = false;
     return true;
@@ -228,12 +267,10 @@ int attach(struct target *target, const struct settings *settings)
     refuse_untraceable(target->process.id);
     target->code = find_code(target->process.id);
     target->refuses_others = true;
-    limit_search(true);
-    bool is_wanted = survey(target);
-    limit_search(false);
-    if (is_wanted)
-        make_island(target);
+    need_island(target);
     for (int tries = 0; !try_arm(target, settings); tries++) {
+        if (tries >= MOST_UNREAD && *target->unread)
+            fail("process %d: %s", target->process.id, target->unread);
         if (tries == MOST_TRIES)
             fail("process %d: at each of %d times a thread was at the first instructions of malloc or its kin: try again",
                  target->process.id, MOST_TRIES);

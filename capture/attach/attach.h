@@ -28,6 +28,7 @@ struct target {
     struct module libc, loader;
     uint64_t files;             /* a sum of the mapped files: as long as it is the same, so are these */
     uint64_t symbol_bytes;      /* of these that were read */
+    char unread[1024];          /* why a file besides libc and ld.so could not be read, or empty */
     bool refuses_others;        /* of a process with another malloc */
     struct entry {              /* of a function that is to jump, or 0 */
         uint64_t at, size;
@@ -47,10 +48,14 @@ struct moved {
     uint8_t code[64];
 };
 
+/* symbols.c */
+bool get_or_note(struct target *target, uint64_t address, void *to, size_t size);
+bool read_tables(struct target *target, struct module *module, const Elf64_Phdr *header);
+uint64_t find_symbol(const struct module *module, const char *name, uint64_t *size);
+
 /* modules.c */
 void find_modules(struct target *target);
 void read_files(struct target *target);
-uint64_t find_symbol(const struct module *module, const char *name, uint64_t *size);
 bool try_get(const struct target *target, uint64_t address, void *to, size_t size);
 void get(const struct target *target, uint64_t address, void *to, size_t size);
 

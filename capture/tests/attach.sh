@@ -7,7 +7,7 @@ export LEAK_FIND=$finder
 . "$kit/tests/attach_common.sh"
 # As leak_attach is built, but it kills itself at the step that LEAK_CORE_DIE says.
 gcc -std=gnu11 -O1 \
-    -g -pthread -DFAULT "$kit"/attach/{leak_attach,attach,plan,detach,island,modules,decode,moved,refuse}.c \
+    -g -pthread -DFAULT "$kit"/attach/{leak_attach,attach,plan,detach,island,modules,symbols,decode,moved,refuse}.c \
     "$kit"/objects/attach/{gate,library}.o \
     "$kit"/dump/{fault,ending,stop,refuse,text,memory,maps,served,calls,callable,code,frame,front,apart}.c \
     -o dying 2> cc || { cat cc >&2; exit 1; }
@@ -59,6 +59,17 @@ rounds 'four threads' 4 100000
 rounds 'signals and children' 3 80000 signals children
 LEAK_TRACE_FORK=1 rounds 'children that are traced' 2 80000 children
 rounds 'programs by vfork, and files that come and go' 3 60000 spawns modules
+
+# A file that is gone when its tables are read is looked at again, and so is the island's place if it is taken meanwhile.
+section files that are gone when they are read
+build vanishing.c
+be_ready vanishing ./vanishing "$(ldd /bin/sh | awk '$1 == "libc.so.6" { sub("libc.so", "libm.so", $3); print $3 }')"
+wrong=0
+for _ in {1..40}; do
+    { attach $process && detach $process; } || { cat attach.said; wrong=$((wrong + 1)); }
+done
+verdict 'attached and detached 40 times' 0 $wrong
+stop $process
 
 section what is lost after
 rm -f in && mkfifo in

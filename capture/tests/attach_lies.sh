@@ -21,7 +21,7 @@ lies() {
 }
 # A leak_attach that ends at the first access out of bounds.
 gcc -std=gnu11 -O1 -g -pthread -fsanitize=address,undefined -fno-sanitize-recover=all \
-    "$kit"/attach/{leak_attach,attach,plan,detach,island,modules,decode,moved,refuse}.c \
+    "$kit"/attach/{leak_attach,attach,plan,detach,island,modules,symbols,decode,moved,refuse}.c \
     "$kit"/objects/attach/{gate,library}.o \
     "$kit"/dump/{ending,stop,refuse,text,memory,maps,served,calls,callable,code,frame,front,apart}.c -o checked 2> cc ||
     { cat cc >&2; exit 1; }
