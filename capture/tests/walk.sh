@@ -171,10 +171,10 @@ if [ "$dumps" ]; then
     stop $process
     "$walk" --quiet static.core > static.log
     verdict 'a static program: walked' 0 $?
-    find_leaks one --check --skip-freed --skip-links static.core static.log > static.report 2>&1
-    # libc holds a block of its own, of 40 bytes, by memory alone that is read-only by then
+    # (libc holds blocks of its own by memory alone that is read-only by then)
+    find_leaks one --check --all-memory --skip-freed --skip-links static.core static.log > static.report 2>&1
     verdict 'a static program: named' "$(expected "$kit/tests/walk_leaks.c")" \
-        "$(awk '$1 == "leak" && $3 != 40 { print $3 }' static.report | in_steps)"
+        "$(awk '$1 == "leak" { print $3 }' static.report | in_steps)"
     rm -f static.core types.core
 fi
 
