@@ -5,22 +5,29 @@
  * found by a word that leads to a leaf, whose first extent says where in the root that word is. All extents are in the
  * tree, and those with small regions have a map of the free ones. */
 #include <stdlib.h>
+#include <string.h>
 
 #include "jemalloc.h"
 
 enum { HUGE = 2 << 20 };
 
-/* SC_LG_TINY_MIN 3, SC_LG_NGROUP 2: four classes for each doubling. */
-static void set_sizes(struct jemalloc *je)
-{
-    size_t n = 0;
+static const uint64_t MOST_SIZE = (uint64_t)7 << 60; /* SC_LARGE_MAXCLASS */
 
-    je->size_of[n++] = 8;
-    for (uint64_t k = 1; k <= 4; k++)
-        je->size_of[n++] = 16 * k;
-    for (; n < SIZE_CLASSES; n++) {
-        uint64_t group = (n - 5) / 4, k = (n - 5) % 4 + 1;
-        je->size_of[n] = ((uint64_t)64 << group) + (k << (group + 4));
+/* sc.h, by LG_QUANTUM: 8 and four multiples of the quantum, then four sizes for each doubling. Small ones are below four
+ * pages. */
+static void set_sizes(struct jemalloc *je, uint64_t quantum)
+{
+    uint64_t step = quantum;
+
+    je->classes = 0;
+    if (quantum > 8)
+        je->size_of[je->classes++] = 8;
+    for (uint64_t size = quantum; size <= MOST_SIZE; size += step) {
+        je->size_of[je->classes++] = size;
+        if (size < 4 * PAGE)
+            je->bins = je->classes;
+        if (size >= 8 * step)
+            step *= 2;
     }
 }
 
@@ -127,8 +134,29 @@ static void forget(struct jemalloc *je)
 {
     je->slab_count = je->large_count = je->heap->unused.count = 0;
     je->is_padded = je->is_bare = 0;
+    memset(je->regions_of, 0, sizeof je->regions_of);
     je->heap->odd = 0;
     je->refused = NULL;
+}
+
+/* Takes the extents by the sizes of a quantum. Gives how many things are odd. */
+static uint64_t take_by(struct jemalloc *je, uint64_t quantum)
+{
+    forget(je);
+    set_sizes(je, quantum);
+    take_extents(je);
+    return je->heap->odd;
+}
+
+/* By the quantum by which most of them fit: redis brings its own jemalloc, whose sizes are multiples of 8. */
+static uint64_t take_best(struct jemalloc *je)
+{
+    enum { USUAL = 16, LEAST = 8 };
+    uint64_t odd = take_by(je, USUAL);
+
+    if (!odd || take_by(je, LEAST) < odd)
+        return je->heap->odd;
+    return take_by(je, USUAL);
 }
 
 /* Takes the extents by the layout by which most of them fit. Says whether there is one. */
@@ -140,11 +168,9 @@ static int find_layout(struct jemalloc *je)
         je->layout = layouts + i;
         if (!find_root(je))
             continue;
-        forget(je);
-        take_extents(je);
-        if (je->heap->odd <= je->slab_count + je->large_count)
+        odd = take_best(je);
+        if (odd <= je->slab_count + je->large_count)
             return 1;
-        odd = je->heap->odd;
     }
     if (odd)
         refuse(je->heap, "%llu of its records are not as those of jemalloc 5.3 or 5.2.1, so it is another version", (unsigned long long)odd);
@@ -158,7 +184,6 @@ static enum finding walk_bases(struct jemalloc *je)
 {
     if (!are_chained(je))
         return refuse(je->heap, "the base block at 0x%llx, or one after it, leads to none", (unsigned long long)je->bases[0].start);
-    set_sizes(je);
     if (!find_layout(je))
         return NOT_RIGHT;
     je->heap->name = je->layout->name;

@@ -4,7 +4,7 @@
 
 #include "heaps.h"
 
-enum { EDATA_BYTES = 128, SIZE_CLASSES = 232, BINS = 36, MAP_WORDS = 8, MOST_REGIONS = 512 };
+enum { EDATA_BYTES = 128, MOST_CLASSES = 235, MAP_WORDS = 8, MOST_REGIONS = 512 };
 
 /* The tree of extents (rtree.h): how many levels, how many bits of an address each takes, and how many bytes a page
  * has in a leaf. */
@@ -65,7 +65,7 @@ struct cache {
     uint64_t block;             /* the stack's, of 5.2.1 */
     uint64_t small, large;
     unsigned count;
-    struct bin bins[SIZE_CLASSES];
+    struct bin bins[MOST_CLASSES];
 };
 
 /* A word of a register, or of the top of a stack, and where it is. */
@@ -80,7 +80,9 @@ struct jemalloc {
     const struct layout *layout;
     const struct shape *shape;
     uint64_t root;
-    uint64_t size_of[SIZE_CLASSES];
+    unsigned bins, classes;     /* how many small sizes, and how many in all */
+    uint64_t size_of[MOST_CLASSES];
+    uint64_t regions_of[MOST_CLASSES]; /* of a slab of the class, or 0 if there is none */
     struct slab *slabs;         /* by ascending start, once sorted */
     size_t slab_count;
     struct large *larges;
@@ -90,7 +92,7 @@ struct jemalloc {
     size_t stack_count;
     struct hand *hands;         /* words of threads that are inside, by value */
     size_t hand_count;
-    uint8_t is_held[SIZE_CLASSES];  /* a register of one has a block of the class */
+    uint8_t is_held[MOST_CLASSES];  /* a register of one has a block of the class */
     const char *refused;        /* what is not known */
 };
 
@@ -115,7 +117,7 @@ void take_extents(struct jemalloc *je);
 struct slab *slab_at(const struct jemalloc *je, uint64_t address);
 struct slab *region_at(const struct jemalloc *je, uint64_t address, uint64_t *number);
 struct large *large_at(const struct jemalloc *je, uint64_t start);
-uint64_t place_of_bin(const struct cache *cache, unsigned class);
+uint64_t place_of_bin(const struct jemalloc *je, const struct cache *cache, unsigned class);
 int set_own(struct jemalloc *je, uint64_t block);
 int has_items(const struct cache *cache);
 void take_items(struct jemalloc *je, const struct cache *cache);

@@ -32,7 +32,7 @@ static int read_bin(struct jemalloc *je, uint64_t at, struct bin *bin)
 static void read_cache(struct jemalloc *je, uint64_t at, struct cache *cache)
 {
     cache->at = cache->small = cache->end = at;
-    cache->large = at + BIN_BYTES * BINS;
+    cache->large = at + BIN_BYTES * je->bins;
     cache->count = 0;
     for (struct bin bin; cache->count < MOST_BINS && read_bin(je, at, &bin); at += BIN_BYTES, cache->end = at) {
         if (cache->count && bin.start != cache->bins[cache->count - 1].end)
@@ -115,7 +115,7 @@ static void look_in(struct jemalloc *je, const struct segment *s)
         if (value < LEAST_ADDRESS || value % 8 || value >> ADDRESS_BITS)
             continue;
         read_cache(je, at, &cache);
-        if (cache.count < BINS)
+        if (cache.count < je->bins)
             continue;
         take_cache(je, &cache);
         at += BIN_BYTES * cache.count - 8;

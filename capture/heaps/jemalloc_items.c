@@ -71,16 +71,16 @@ static uint64_t odd_item(struct jemalloc *je, const struct bin *bin, uint64_t at
     return at;
 }
 
-uint64_t place_of_bin(const struct cache *cache, unsigned class)
+uint64_t place_of_bin(const struct jemalloc *je, const struct cache *cache, unsigned class)
 {
-    return class < BINS ? cache->small + BIN_BYTES * class : cache->large + BIN_BYTES * (class - BINS);
+    return class < je->bins ? cache->small + BIN_BYTES * class : cache->large + BIN_BYTES * (class - je->bins);
 }
 
 /* Whether a thread is filling or flushing the bin: then its items may be another thread's by now. */
 static int is_at_work(const struct jemalloc *je, const struct cache *cache, unsigned class)
 {
     const struct bin *bin = cache->bins + class;
-    uint64_t place = place_of_bin(cache, class);
+    uint64_t place = place_of_bin(je, cache, class);
     struct range words = { .start = bin->start, .end = bin->end + 1 }, own = { .start = cache->at, .end = cache->end };
     struct range head = { .start = place, .end = place + 1 };
 

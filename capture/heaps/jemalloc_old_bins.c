@@ -2,7 +2,7 @@
  * gave itself. Each bin says where its part of it ends, and how many items it has there. */
 #include "jemalloc_old.h"
 
-/* A bin for large blocks has room for 20 items, others for 20 to 200 (tcache_types.h). */
+/* tcache_types.h, TCACHE_NSLOTS_SMALL_MIN and .._LARGE, TCACHE_NSLOTS_SMALL_MAX. */
 enum { LEAST_ITEMS = 20, MOST_ITEMS = 200 };
 
 /* Reads a bin: the least count of items since the last collection, the count, and where its part of the stack ends. */
@@ -48,12 +48,23 @@ static uint64_t block_with(const struct jemalloc *je, uint64_t address, uint64_t
     return low && address < *end ? start : 0;
 }
 
-/* Whether there is room for as many items as a bin of the class may have, and it has no more. */
-static int has_room(const struct bin *bin, unsigned class)
+/* How many items a bin has room for: twice the regions of a slab, within limits (tcache.c, tcache_boot). Of a class that
+ * has no slab, the usual one is the least of whole pages that leave no rest. */
+static uint64_t room_of(const struct jemalloc *je, unsigned class)
 {
-    uint64_t room = (bin->end - bin->start) / 8;
+    uint64_t regions = je->regions_of[class], size = je->size_of[class], slab = PAGE;
 
-    return bin->start < bin->end && room >= LEAST_ITEMS && room <= (class < BINS ? MOST_ITEMS : LEAST_ITEMS) && bin->head >= bin->start;
+    if (class >= je->bins)
+        return LEAST_ITEMS;
+    while (!regions && slab % size)
+        slab += PAGE;
+    regions = regions ? regions : slab / size;
+    return 2 * regions < LEAST_ITEMS ? LEAST_ITEMS : 2 * regions > MOST_ITEMS ? MOST_ITEMS : 2 * regions;
+}
+
+static int has_room(const struct jemalloc *je, const struct bin *bin, unsigned class)
+{
+    return bin->start < bin->end && bin->end - bin->start == 8 * room_of(je, class) && bin->head >= bin->start;
 }
 
 /* The block of the stack must be in use, and as large as the bins need. That of a cache that the program made has the
@@ -68,31 +79,32 @@ static int has_stack(struct jemalloc *je, struct cache *cache)
     if (!start || (!s && !l))
         return 0;
     cache->block = start;
-    cache->bins[0].start = start == cache->at ? cache->at + CACHE_BYTES : start;
+    cache->bins[0].start = start == cache->at ? cache->at + cache_bytes(je) : start;
     needed = (cache->bins[cache->count - 1].end - start + CACHE_LINE - 1) & -(uint64_t)CACHE_LINE;
     return needed <= je->size_of[class] && (!class || needed > je->size_of[class - 1]);
 }
 
-static int is_unused(struct jemalloc *je, uint64_t bin)
+static int are_zero(struct jemalloc *je, uint64_t at, uint64_t end)
 {
     uint64_t value;
 
-    return !next_word(je->heap, &bin, bin + BIN_BYTES, &value);
+    return !next_word(je->heap, &at, end, &value);
 }
 
-/* Reads the bins up to the first that is not used: the part of each begins where that of the one before ends. */
+/* Reads the bins up to the first that is not used, behind which none is: the part of each begins where that of the one
+ * before ends. */
 static int read_bins(struct jemalloc *je, struct cache *cache)
 {
-    for (cache->count = 0; cache->count < SIZE_CLASSES; cache->count++) {
+    for (cache->count = 0; cache->count < je->classes; cache->count++) {
         struct bin *bin = cache->bins + cache->count;
-        uint64_t place = place_of_bin(cache, cache->count);
-        if (cache->count >= BINS && is_unused(je, place))
-            return 1;
+        uint64_t place = place_of_bin(je, cache, cache->count);
+        if (cache->count >= je->bins && are_zero(je, place, place + BIN_BYTES))
+            return are_zero(je, place, cache->end);
         if (!read_bin(je, place, bin))
             return 0;
         if (cache->count)
             bin->start = bin[-1].end;
-        if (cache->count && !has_room(bin, cache->count))
+        if (cache->count && !has_room(je, bin, cache->count))
             return 0;
     }
     return 1;
@@ -101,7 +113,7 @@ static int read_bins(struct jemalloc *je, struct cache *cache)
 /* Reads the cache that may be there, and says whether it is one. */
 int read_old_cache(struct jemalloc *je, uint64_t at, struct cache *cache)
 {
-    cache->at = at, cache->end = at + CACHE_BYTES;
-    cache->small = at + TO_SMALL, cache->large = at + TO_LARGE;
-    return read_bins(je, cache) && has_stack(je, cache) && has_room(cache->bins, 0);
+    cache->at = at, cache->end = at + cache_bytes(je);
+    cache->small = at + TO_SMALL, cache->large = at + to_large(je);
+    return read_bins(je, cache) && has_stack(je, cache) && has_room(je, cache->bins, 0);
 }

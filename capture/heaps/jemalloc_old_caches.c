@@ -24,9 +24,10 @@ static struct old_cache *cache_at(const struct old_caches *all, uint64_t at)
 /* That of a thread that has ended is of no arena. */
 static void add_cache(struct old_caches *all, uint64_t at)
 {
+    const struct jemalloc *je = all->je;
     struct old_cache cache = { .at = at };
 
-    if (!read_word(all->je->heap, at + TO_ARENA, &cache.arena) || !cache.arena)
+    if (!read_word(je->heap, at + to_arena(je), &cache.arena) || !cache.arena)
         return;
     all->list = grown(all->list, all->count, sizeof *all->list);
     all->list[all->count++] = cache;
@@ -35,31 +36,34 @@ static void add_cache(struct old_caches *all, uint64_t at)
 /* Whether two words in a row may be those of an arena: its first cache, and the second ring's word there. */
 static int is_list(const struct jemalloc *je, uint64_t at, uint64_t value)
 {
-    return value && value % 8 == 0 && is_word(je->heap->core, at + 8, value + TO_DESCRIPTOR) && !is_in_base(je, value, 1);
+    return value && value % 8 == 0 && is_word(je->heap->core, at + 8, value + to_descriptor(je)) && !is_in_base(je, value, 1);
 }
 
 /* Finds caches by two words of each that have its own address. */
 static void find_caches(struct old_caches *all, const struct segment *s)
 {
-    struct other_heap *heap = all->je->heap;
-    uint64_t value;
+    const struct jemalloc *je = all->je;
+    uint64_t value, cache;
 
-    for (uint64_t at = (s->start + 7) & -(uint64_t)8; next_word(heap, &at, s->start + s->size, &value); at += 8)
-        if (value == at - TO_SMALL_BINS + TO_SMALL && is_word(heap->core, at + 8, at - TO_SMALL_BINS + TO_LARGE))
-            add_cache(all, at - TO_SMALL_BINS);
+    for (uint64_t at = (s->start + 7) & -(uint64_t)8; next_word(je->heap, &at, s->start + s->size, &value); at += 8) {
+        cache = at - to_small_bins(je);
+        if (value == cache + TO_SMALL && is_word(je->heap->core, at + 8, cache + to_large(je)))
+            add_cache(all, cache);
+    }
 }
 
 /* The next one in both rings, from where both lead back; or NULL. */
 static struct old_cache *next_of(const struct old_caches *all, const struct old_cache *cache)
 {
-    struct core *core = all->je->heap->core;
+    struct jemalloc *je = all->je;
+    struct core *core = je->heap->core;
     uint64_t at;
     struct old_cache *next;
 
-    if (!read_word(all->je->heap, cache->at + TO_RING, &at) || !(next = cache_at(all, at)) || next->arena != cache->arena)
+    if (!read_word(je->heap, cache->at + to_ring(je), &at) || !(next = cache_at(all, at)) || next->arena != cache->arena)
         return NULL;
-    return is_word(core, at + TO_RING + 8, cache->at) && is_word(core, cache->at + TO_DESCRIPTOR, at + TO_DESCRIPTOR)
-        && is_word(core, at + TO_DESCRIPTOR + 8, cache->at + TO_DESCRIPTOR) ? next : NULL;
+    return is_word(core, at + to_ring(je) + 8, cache->at) && is_word(core, cache->at + to_descriptor(je), at + to_descriptor(je))
+        && is_word(core, at + to_descriptor(je) + 8, cache->at + to_descriptor(je)) ? next : NULL;
 }
 
 /* Follows the rings from an arena's list. */

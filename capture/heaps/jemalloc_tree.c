@@ -26,9 +26,9 @@ static int read_edata(struct jemalloc *je, uint64_t word, struct edata *e)
     e->last = e->first + e->size - PAGE;
     e->state = e->bits >> l->state_at & l->state_mask;
     e->class = e->bits >> l->class_at & 255;
-    e->is_slab = e->class != SIZE_CLASSES && (e->bits >> 12 & 1); /* of what is free by now, it is left as it was */
+    e->is_slab = e->class != je->classes && (e->bits >> 12 & 1); /* of what is free by now, it is left as it was */
     e->free = e->bits >> l->free_at & 1023;
-    return e->size && e->last >= e->first && !(e->bits & l->none) && e->class <= SIZE_CLASSES;
+    return e->size && e->last >= e->first && !(e->bits & l->none) && e->class <= je->classes;
 }
 
 /* What jemalloc does only if it is told to. */
@@ -38,7 +38,7 @@ static const char *unknown_kind(const struct jemalloc *je, const struct edata *e
         return "huge pages of its own (hpa)";
     if (je->layout->has_state && (e->bits >> 16 & 1))
         return "guarded extents";
-    return e->state == ACTIVE && !e->is_slab && e->class < BINS ? "a profile (prof)" : NULL;
+    return e->state == ACTIVE && !e->is_slab && e->class < je->bins ? "a profile (prof)" : NULL;
 }
 
 /* Whether each page's word leads to the edata too: of a slab all, of others the last one. */
@@ -55,7 +55,7 @@ static int has_pages(struct jemalloc *je, const struct edata *e)
 
 static int can_be_slab(const struct jemalloc *je, const struct edata *e)
 {
-    return e->class < BINS && e->address == e->first && e->size % je->size_of[e->class] == 0 && e->size / je->size_of[e->class] <= MOST_REGIONS;
+    return e->class < je->bins && e->address == e->first && e->size % je->size_of[e->class] == 0 && e->size / je->size_of[e->class] <= MOST_REGIONS;
 }
 
 /* Whether its class is that of blocks of this size. From 5.3.1 on a block may have less than the size of its class. */
@@ -77,7 +77,7 @@ static int may_be_bare(const struct jemalloc *je, const struct edata *e)
 
 static int can_be_large(const struct jemalloc *je, const struct edata *e)
 {
-    return e->class >= BINS && e->class < SIZE_CLASSES && (e->address - e->first) % 64 == 0
+    return e->class >= je->bins && e->class < je->classes && (e->address - e->first) % 64 == 0
         && (may_be_padded(je, e) || may_be_bare(je, e));
 }
 
@@ -95,6 +95,7 @@ static void add_slab(struct jemalloc *je, const struct edata *e)
     }
     if (count != e->free || beyond)
         tell_odd(je->heap, "the slab at 0x%llx has %llu free regions, and says %u", (unsigned long long)e->first, (unsigned long long)(count + beyond), e->free);
+    je->regions_of[e->class] = regions;
     je->slabs = grown(je->slabs, je->slab_count, sizeof *je->slabs);
     je->slabs[je->slab_count++] = s;
 }
@@ -124,7 +125,7 @@ static int take_extent(struct jemalloc *je, const struct edata *e, uint64_t word
     if (!has_pages(je, e))
         return 0;
     if (e->state != ACTIVE) {
-        if (e->state > LAST_AT_REST || e->class != SIZE_CLASSES || e->is_slab || e->address != e->first)
+        if (e->state > LAST_AT_REST || e->class != je->classes || e->is_slab || e->address != e->first)
             return 0;
         add_unused(je->heap, e->first, e->first + e->size);
     } else if (e->is_slab && is_as_word && can_be_slab(je, e))
@@ -139,7 +140,7 @@ static int take_extent(struct jemalloc *je, const struct edata *e, uint64_t word
 /* A page's word. */
 static void take_page(struct jemalloc *je, uint64_t page, uint64_t word)
 {
-    static const uint64_t cleared = (uint64_t)SIZE_CLASSES << 48;
+    const uint64_t cleared = (uint64_t)je->classes << 48;
     const char *unknown;
     struct edata e;
     uint64_t other;

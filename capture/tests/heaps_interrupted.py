@@ -21,7 +21,7 @@ def bins_of():
         for place in range(at, at + 24 * count, 24):
             head, _, low = core.words(place, 3)
             yield place, head, core.words(head, ((low >> 32) - head) % 2**16 // 8)
-    for _, bins in old_caches(core):
+    for _, _, bins in old_caches(core):
         for place in bins:
             counts, _, end = core.words(place, 3)
             yield place, end - 8 * (counts >> 32), core.words(end - 8 * (counts >> 32), counts >> 32)

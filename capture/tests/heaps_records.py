@@ -40,21 +40,24 @@ def jemalloc_old(core, blocks, anchor):
     arenas to them (jemalloc 5.2.1, include/jemalloc/internal/{extent,tcache,arena}_structs*.h)."""
     found = tree(core, anchor, (1 << 48) - 2, 18)
     found.update({"counts": [], "rings": [], "lists": []})
-    for cache, bins in old_caches(core):
+    for cache, ring, bins in old_caches(core):
         found["bins"] += [at + 16 for at in bins]
         found["counts"] += [at for at in bins] + [at + 8 for at in bins]
-        found["rings"] += [cache + at for at in (880, 888, 920, 928, 936, 944, 952)]
-        found["lists"] += [core.word(cache + 952) + 10184, core.word(cache + 952) + 10192]
+        found["rings"] += [ring + at for at in (0, 8, 40, 48, 56, 64, 72)]
+        arena = core.word(ring + 72)
+        found["lists"] += [arena + 10184, arena + 10192]
     return found
 
 
 def old_caches(core):
-    """Where each cache is, and its bins."""
+    """Where each cache is, its ring, which comes after the bins of 36 or 39 small sizes, and its bins."""
     for start, size in core.writable():
         for i, value in enumerate(core.words(start, size // 8)):
-            cache = start + 8 * i - 936
-            if value == cache + 16 and core.word(cache + 944) == cache + 1000 and core.word(cache + 952):
-                yield cache, [cache + at + 24 * i for at, count in ((16, 36), (1000, 5)) for i in range(count)]
+            for small in (36, 39):
+                ring = start + 8 * i - 56
+                cache, large = ring - 24 * small - 16, (ring + 84 + small + 7) & -8
+                if value == cache + 16 and core.word(ring + 64) == large and core.word(ring + 72):
+                    yield cache, ring, [at + 24 * k for at, count in ((cache + 16, small), (large, 5)) for k in range(count)]
 
 
 def tree(core, anchor, mask, class_at):
