@@ -70,6 +70,12 @@ elif [ "$dumps" ]; then
     verdict 'an array begins with element 0, in Fortran with 1' 'array 3 2, array 2 2' \
         "$(array_of 0xc), $(array_of 0x8)"
 
+    for i in {1..12000}; do
+        echo "struct s$i { long first; char rest[$((i % 5 * 8 + 8))]; } v$i;"
+    done | gcc -g -shared -x c - -o alike.so || exit 1
+    verdict '12,000 structures that begin alike' 12000 \
+        "$(timeout 60 "$kit/leak_types" < alike.so 2> said | grep -c '^struct ')"
+
     section what is shown of types
     find_leaks one --skip-freed --skip-links known.core known.typed > known.report
     "$tells" known.core known.typed known.report > known.what

@@ -75,18 +75,27 @@ static int by_key(const void *a, const void *b)
     return (x->of->size > y->of->size) - (x->of->size < y->of->size);
 }
 
+/* Of each key each size once: thousands of C++ structures begin with the same member. */
 void find_beginnings(struct debug *debug)
 {
+    struct beginning *list;
+    size_t kept = 0;
+
     for (size_t i = 0; i < debug->count; i++)
         key_of_members(debug, debug->list + i, debug->list + i, 0);
+    list = debug->beginnings;
     if (debug->beginning_count)
-        qsort(debug->beginnings, debug->beginning_count, sizeof *debug->beginnings, by_key);
+        qsort(list, debug->beginning_count, sizeof *list, by_key);
+    for (size_t i = 0; i < debug->beginning_count; i++)
+        if (!list[i].is_whole && (!kept || by_key(list + kept - 1, list + i)))
+            list[kept++] = list[i];
+    debug->beginning_count = kept;
 }
 
 /* Writes how large the other structures are that begin with this one, each size once. */
 void write_beginnings(struct debug *debug, const struct definition *structure)
 {
-    uint64_t key = key_of_members(debug, structure, NULL, 0), last = 0;
+    uint64_t key = key_of_members(debug, structure, NULL, 0);
     size_t low = 0, high = debug->beginning_count;
 
     while (low < high) {
@@ -98,11 +107,8 @@ void write_beginnings(struct debug *debug, const struct definition *structure)
     }
     for (; key && low < debug->beginning_count && debug->beginnings[low].key == key; low++) {
         count_step();
-        if (debug->beginnings[low].is_whole || debug->beginnings[low].of->size == last)
-            continue;
-        last = debug->beginnings[low].of->size;
         put_text("begins ");
-        put_number(last);
+        put_number(debug->beginnings[low].of->size);
         put_text("\n");
     }
 }
