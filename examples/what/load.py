@@ -1,4 +1,6 @@
-"""load.py http|memcached PORT: asks a server many things, and holds some connections for ten seconds more."""
+"""load.py http|memcached PORT PROCESS: asks a server many things, says so, and holds some connections until the process
+is gone."""
+import os
 import socket
 import sys
 import time
@@ -39,4 +41,6 @@ for each in range(400):
         opened.close()
     else:
         kept.append(opened)
-time.sleep(10)
+print("asked", flush=True)
+while os.path.exists(f"/proc/{sys.argv[3]}"):
+    time.sleep(0.2)

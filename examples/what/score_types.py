@@ -5,6 +5,7 @@ leak_what says of the blocks that are lost by TYPED; the program was built with 
 Prints a row: name, live blocks, those with a type, how many of them are right, wrong and unjudged; the same of those
 told as `or array`; and of lost blocks that look like one of a type. The line tells the type by `sizeof (T)` or
 `sizeof *v`, or by the variable that it assigns to, as the function declares it; a copy of a text tells that it is none.
+In C++ an inlined allocator tells it.
 SITES lists what is not right.
 """
 import os
@@ -13,7 +14,7 @@ import sys
 from collections import Counter
 
 from lines_of import lines_of_frames
-from score import sites_of, read_callers
+from score import ALLOCATOR, read_callers, sites_of
 
 TYPED = re.compile(r"@ (.*) \+ 0x([0-9a-f]+) 0x[0-9a-f]+$")
 SIZEOF = re.compile(r"\bsizeof\s*\(?\s*(?:(?:const\s+)?(?:struct\s+)?(\w+)(\s*\*)?\s*\)|\*\s*\(?([\w>.-]+)\)?)")
@@ -33,7 +34,7 @@ def read_typedefs(folder):
                     text = file.read()
                 for tag, alias in re.findall(r"typedef\s+struct\s+(\w+)\s*\*?\s*(\w+)\s*;", text):
                     found[alias] = tag
-                for tag, alias in re.findall(r"typedef\s+struct\s+(\w+)\s*\{[^}]*(?:\{[^}]*\}[^}]*)*\}\s*(\w+)\s*;",
+                for tag, alias in re.findall(r"typedef\s+struct\s+(\w+)\s*\{[^{}]*(?:\{[^{}]*\}[^{}]*)*\}\s*(\w+)\s*;",
                                              text):
                     found[alias] = tag
     return found
@@ -43,7 +44,7 @@ def declared(variable, lines):
     """The type that the lines declare the variable with, the last one."""
     name = re.split(r"->|\.", variable)[-1]
     for line in reversed(lines):
-        match = re.search(rf"\b(\w+)\s*\*+\s*(?:\w+\s*(?:=[^,;]*)?,\s*\*?\s*)*{re.escape(name)}\b", line)
+        match = re.search(rf"\b(\w+)\s*\*+\s*(?:const\s+)?(?:\w+\s*(?:=[^,;]*)?,\s*\*?\s*)*{re.escape(name)}\b", line)
         if match and match[1] not in ("return", "sizeof"):
             return match[1]
     return None
@@ -75,12 +76,17 @@ def type_at(where, kept):
 
 
 def judge(label, site, typedefs, kept):
-    """Whether the label is what the site's lines tell, or None."""
+    """Whether the label is what the site's inlined allocator or its lines tell, or None."""
+    plain = re.sub(r"^(struct|class) | or array$", "", label)
+    for function, _ in site:
+        match = ALLOCATOR.match(function)
+        if match:
+            return plain.replace(" ", "") == (match[1] or match[2]).replace(" ", "")
     told = [type_at(where, kept) for _, where in site]
     wanted = next((it for it in told if it is not None), None)
     if wanted is None:
         return None
-    name = re.sub(r"^(struct|class) | or array$| \*", "", label)
+    name = plain.replace(" *", "")
     return name in (wanted, typedefs.get(wanted, wanted))
 
 
@@ -120,7 +126,7 @@ def main(name, typed, log, what, folder, listed=""):
     lost = {at: it for at, it in read_lost(what).items() if at in sites and at not in labels}
     own = of_libc(log)
     places = {it: after_wrappers(callers[it][1], sites[it]) for it in (*labels, *lost)}
-    lines = lines_of_frames({it for frames in places.values() for it in frames})
+    lines = lines_of_frames({it for frames in places.values() for it in frames}, "-C")
     for address, label in (*labels.items(), *lost.items()):
         where = [it for frame in places[address] for it in lines.get(frame, [])]
         right = None if address in own else judge(label, where, typedefs, kept)
