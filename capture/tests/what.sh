@@ -167,6 +167,11 @@ if [ "$dumps" ]; then
     stop $process
     verdict 'without the library that lays them out so nothing is told' '' "$(contained containers)"
     rm containers.core
+    build what_vtables.cc
+    unprepared_dump vtables ./what_vtables
+    stop $process
+    verdict 'of a word into the table of a class only what an object can have' "$(wanted_of what_vtables.cc)" \
+        "$(told vtables)"
 fi
 
 section blocks that have a name of themselves

@@ -48,13 +48,29 @@ static uint64_t literal_at(struct what *what, long module, uint64_t address, con
     return length >= LEAST_LITERAL && !(*bytes)[length] ? length : 0;
 }
 
+/* Whether an object of C++ can have this word: it leads behind the two words that begin each part of a class's table, of
+ * which the second is the same in all, and the first, in all but the first, is below 0 (Itanium C++ ABI, 2.5.2). */
+static int may_be_vtable(struct what *what, uint64_t word, uint64_t table)
+{
+    uint64_t type, same, top;
+
+    if (word == table + 2 * WORD)
+        return 1;
+    return word > table + 2 * WORD && word % WORD == 0 && word_at(&what->core, table + WORD, &type) && type
+        && word_at(&what->core, word - WORD, &same) && same == type && word_at(&what->core, word - 2 * WORD, &top)
+        && (int64_t)top < 0;
+}
+
 /* Whether a word into a file tells something: it has a symbol or a text there. Of an address that may as well be a
  * small number, since the program isn't position independent, a symbol must begin there. */
 static int tells(struct what *what, uint64_t word, long module)
 {
     const struct symbol *symbol = symbol_at(&what->modules, module, word);
+    const struct module *in = what->modules.list + module;
     const uint8_t *bytes;
 
+    if (symbol && !strncmp(in->names + symbol->name, "_ZTV", 4) && !may_be_vtable(what, word, in->bias + symbol->at))
+        return 0;
     if (!(word >> LOW))
         return symbol && symbol->at == word - what->modules.list[module].bias;
     return symbol || literal_at(what, module, word, &bytes);
