@@ -4,12 +4,12 @@ use Rattle.std.specs.Prelude.{slice_index, slice_index_or, if◌then◌else◌, 
 use Rattle.std.specs.List.{range_with_len}
 use Rattle.std.proofs.lemmas.List.{length-map}
 use Rattle.std.proofs.lemmas.List.FromFn.{length-range_with_len}
-use Rattle.leak_marks.specs.Reach.{Graph}
-use Rattle.leak_holders.specs.declared.facts.Facts.{Facts}
-use Rattle.leak_holders.specs.declared.part.Part.{Part}
-use Rattle.leak_holders.specs.declared.question.Side.{Side}
-use Rattle.leak_holders.specs.declared.question.Side.TheVariants.{In, Of}
-use Rattle.leak_holder_search.specs.Held.{AreHeld, both, chosen_with}
+use Rattle.leak_holder_search.specs.declared.analysis.Analysis.{Analysis}
+use Rattle.leak_holder_search.specs.declared.choosing.Choice.{Choice}
+use Rattle.leak_holder_search.specs.Analyses.{IsAnalysis, blocks_in}
+use Rattle.leak_holder_search.specs.Answers.{IsChoice}
+use Rattle.leak_holder_search.specs.Held.{both, chosen_with}
+use Rattle.leak_holder_search.proofs.FindLemmas.{numbers_are}
 
 pub both_each : (xs ys : List Bool) → length (both xs ys) ≡ length xs
 both_each xs ys =
@@ -20,8 +20,5 @@ chosen_each numbers block alone =
     length-map (range_with_len 0 (length numbers)) (λ (b : ℕ). if alone then b == block else slice_index numbers b == slice_index numbers block)
     ∙ length-range_with_len 0 (length numbers)
 
-pub told_each : (side : Side) (graph : Graph) (f : Facts) (texts : ℕ) (set : List Bool) (but : ℕ) (told : List Bool) (parts : List Part) (n : ℕ)
-    → length graph.targets ≡ n → length set ≡ n → AreHeld side graph f texts set but told parts → length told ≡ n
-told_each In graph f texts set but told parts n targets each are = ap length are.told_are ∙ both_each are.held f.counted.now ∙ are.len ∙ targets
-told_each Of graph f texts set but told parts n targets each are =
-    ap length are.told_are ∙ both_each (both set f.reached.now) f.counted.now ∙ both_each set f.reached.now ∙ each
+pub set_each : (a : Analysis) (s : IsAnalysis a) (choice : Choice) → IsChoice a choice → length choice.set.items ≡ length (blocks_in a)
+set_each a s choice chosen = ap length chosen.set ∙ chosen_each a.texts.numbers.items choice.block choice.question.alone ∙ (numbers_are a s).one_each

@@ -1,189 +1,164 @@
 -- From what was read, marked and listed to who holds the memory.
-use Rattle.std.proofs.Common.{◌≡◌, ℕ, ◌^◌, ◌<◌, ◌≤◌, Bool, true, List, [], length, Option, None, Some, option_map, ap, sym, subst, ◌∙◌, inr, arith}
-use Rattle.std.specs.Prelude.{IsTrue, IfSome, count_by, nat_lt, slice_index, ◌==◌}
+use Rattle.std.proofs.Common.{◌≡◌, ◌≢◌, ◌↔◌, ℕ, ◌-◌, ◌^◌, ◌<◌, ◌≤◌, Bool, true, Err, List, length, Option, None, Some, option_map, ap, sym, subst, ◌∙◌, inr, refl, arith}
+use Rattle.std.specs.Prelude.{IsTrue, count_by, nat_lt, slice_index, ◌==◌}
+use Rattle.std.specs.Result.{IsErrOf}
 use Rattle.std.proofs.lemmas.List.{length-map}
-use denote.Ref.{Bor}
 use Rattle.leak_elf.specs.Words.{word_of}
 use Rattle.leak_blocks.specs.declared.block.Block.{Block}
 use Rattle.leak_blocks.specs.Live.{live_of}
-use Rattle.leak_index.specs.Hits.{Index}
 use Rattle.leak_index.specs.Leads.{Distances}
-use Rattle.leak_scan.specs.Targets.{block_targets}
 use Rattle.leak_roots.specs.Roots.{AreRootsOf}
 use Rattle.leak_roots.specs.Skipped.{spans_of}
 use Rattle.leak_roots.specs.declared.skip.Skip.{Skip}
 use Rattle.leak_marks.specs.Reach.{Graph, Reach}
-use Rattle.leak_pool.specs.Marking.{IsSet, graph_of, led_by_roots}
+use Rattle.leak_pool.specs.Marking.{IsSet, graph_of_roots}
 use Rattle.leak_report.specs.declared.head.Head.{Head}
 use Rattle.leak_report.specs.Totals.{bytes_of}
-use Rattle.leak_report.specs.Numbered.{AreTexts, bytes_each}
+use Rattle.leak_report.specs.Numbered.{AreTexts}
 use Rattle.leak_holders.specs.declared.facts.Facts.{Facts}
 use Rattle.leak_holders.specs.declared.holder.Holder.{Holder}
 use Rattle.leak_holders.specs.Holders.{AreComplete, AreHolders}
-use Rattle.leak_search.specs.declared.error.FindError.{FindError}
+use Rattle.leak_pool.specs.declared.error.PoolError.{PoolError}
+use Rattle.leak_pool.specs.declared.error.PoolError.TheVariants.{NoMemory as NoMemoryForPool, TooMany as TooManyForPool}
+use Rattle.leak_search.specs.declared.error.FindError.TheVariants.{NoMemory}
 use Rattle.leak_search.specs.declared.inputs.Input.{Input}
-use Rattle.leak_search.specs.Inputs.{IsRead}
+use Rattle.leak_search.specs.Inputs.{AreRootsFor, IsRead, at_marking}
 use Rattle.leak_search.specs.Report.{head_with}
 use Rattle.leak_search.specs.Slack.{slack_in}
 use Rattle.leak_search.specs.Dead.{dead_in}
-use Rattle.leak_search.proofs.InputLemmas.{as_input, input_blocks}
 use Rattle.leak_search.specs.Search.{graph_of_one, head_of_one}
+use Rattle.leak_search.proofs.InputLemmas.{as_input, input_blocks}
 use Rattle.leak_search.proofs.SearchLemmas.{head_is, marked_graph}
 use Rattle.leak_holder_search.specs.declared.search.Holding.{Holding}
 use Rattle.leak_holder_search.specs.declared.analysis.Analysis.{Analysis}
+use Rattle.leak_holder_search.specs.declared.files.Files.{Files}
 use Rattle.leak_holder_search.specs.Holders.{FindsHolders, IsFaultOfHolders}
-use Rattle.leak_holder_search.specs.Rows.{AreKnown}
-use Rattle.leak_holder_search.specs.Analyses.{AreFactsOf, IsMany, IsAnalysisOf, graph_with}
-use Rattle.leak_holder_search.specs.Since.{counted_of, is_continued_from, news_of}
+use Rattle.leak_holder_search.specs.Rows.{AreKnown, AreNumbers}
+use Rattle.leak_holder_search.specs.Analyses.{AreFactsOf, AreRowsIn, IsAnalysis, IsAnalysisOf, blocks_in, graph_in, texts_in}
+use Rattle.leak_holder_search.specs.Since.{counted_of, earlier, is_continued_from, news_of}
 use Rattle.leak_holder_search.specs.Text.{holders_text}
 use Rattle.leak_holder_search.proofs.NumberLemmas.{are_numbers}
-
-some_inj : {A : Type 0} {x y : A} → Some x ≡ Some y → x ≡ y
-some_inj e = cc
-
-each_new : (since : Option (List ℕ)) (t counted : List Bool) (n : ℕ) → Some t ≡ option_map (λ _. counted) since → length counted ≡ n → length t ≡ n
-each_new None t counted n is long = cc
-each_new (Some log) t counted n is long = ap length (some_inj is) ∙ long
 
 pub counted_each : (since : Option (List ℕ)) (blocks : List Block) → length (counted_of since blocks) ≡ length blocks
 counted_each None blocks = length-map blocks (λ (b : Block). true)
 counted_each (Some log) blocks = length-map blocks (λ (b : Block). nat_lt (count_by (λ c. c == 10) log) b.line)
 
--- many blocks are too many
-pub many_refused : (core log : List ℕ) (since : Option (List ℕ)) (input : Input) → IsRead core log input → (e : FindError)
-    → IsTrue (is_continued_from since log) → IsMany (length input.live.blocks) e → IsFaultOfHolders core log since e
-many_refused core log since input read e continued many =
+-- too many blocks are a fault, and refused memory is none
+pub edges_refused : {A : Type 0} (core log : List ℕ) (since : Option (List ℕ)) (input : Input) (e : PoolError) → IsRead core log input → IsTrue (is_continued_from since log)
+    → IsErrOf {T = A} {E = PoolError} (Err e) TooManyForPool ↔ (2 ^ 32 - 1 < length input.live.blocks) → at_marking e ≢ NoMemory → IsFaultOfHolders core log since (at_marking e)
+edges_refused core log since input TooManyForPool read continued many other =
+    let more : 2 ^ 32 - 1 < length input.live.blocks = many.0 refl in
     inr (inr (
       (record { core_is = read.1.accepted; lines = read.0; log_is = read.1.is_log }),
-      many.0,
+      refl,
       continued,
-      (read.0, read.1.is_log, subst (λ (bs : List Block). 2 ^ 32 ≤ length bs) (input_blocks core log read.0 input read.1) many.1),
+      (read.0, read.1.is_log, subst (λ (bs : List Block). 2 ^ 32 ≤ length bs) (input_blocks core log read.0 input read.1) (omega (arith, more))),
     ))
+edges_refused core log since input NoMemoryForPool read continued many other = absurd (other refl)
 
-module _ (core log : List ℕ) (since : Option (List ℕ)) (reading : Distances) (input : Input) (analysis : Analysis)
-    (read : IsRead core log input) (s : IsAnalysisOf log since reading input analysis) where
-  pub blocks_are : input.live.blocks ≡ live_of read.0
-  blocks_are = input_blocks core log read.0 input read.1
+module _ (a : Analysis) (s : IsAnalysis a) where
+  pub blocks_are : blocks_in a ≡ live_of s.read.0
+  blocks_are = input_blocks a.files.core.now a.files.log.now s.read.0 a.input.now s.read.1
 
-  roots_are : AreRootsOf input.skip.unwritable core input.live.blocks (spans_of input.skip read.0) (slack_in input.skip core input.live.blocks) (dead_in input.skip core) analysis.ground.now.roots
+  roots_for : AreRootsFor s.read.0 a.input.now a.ground.now.roots
+  roots_for = s.of.roots s.read.0 (as_input a.files.core.now a.files.log.now s.read.0 a.input.now s.read.1)
+
+  roots_are : AreRootsOf a.input.now.skip.unwritable a.files.core.now (blocks_in a) (spans_of a.input.now.skip s.read.0) (slack_in a.input.now.skip a.files.core.now (blocks_in a)) (dead_in a.input.now.skip a.files.core.now) a.ground.now.roots
   roots_are =
-      subst (λ (f : List ℕ). AreRootsOf input.skip.unwritable f input.live.blocks (spans_of input.skip read.0) (slack_in input.skip f input.live.blocks) (dead_in input.skip f) analysis.ground.now.roots)
-      read.1.image (s.of.roots read.0 (as_input core log read.0 input read.1)).roots
+      subst (λ (f : List ℕ). AreRootsOf a.input.now.skip.unwritable f (blocks_in a) (spans_of a.input.now.skip s.read.0) (slack_in a.input.now.skip f (blocks_in a)) (dead_in a.input.now.skip f) a.ground.now.roots)
+      s.read.1.image roots_for.roots
 
   -- what leads to what is what a search of the files goes by
-  pub graph_is : graph_with input analysis.ground.now.lookup analysis.ground.now.roots ≡ graph_of_one core reading input.skip read.0
+  pub graph_is : graph_in a ≡ graph_of_one a.files.core.now a.ground.now.lookup.reading a.input.now.skip s.read.0
   graph_is =
-      ap (λ (f : List ℕ). graph_of (word_of f) analysis.ground.now.lookup (led_by_roots (word_of f) analysis.ground.now.lookup analysis.ground.now.roots) []) read.1.image
-      ∙ marked_graph core reading input.skip read.0 input.live.blocks analysis.ground.now.lookup analysis.ground.now.roots blocks_are s.of.lookup roots_are
-      (s.of.roots read.0 (as_input core log read.0 input read.1)).links
+      ap (λ (f : List ℕ). graph_of_roots (word_of f) a.ground.now.lookup a.ground.now.roots) s.read.1.image
+      ∙ marked_graph a.files.core.now a.ground.now.lookup.reading a.input.now.skip s.read.0 (blocks_in a) a.ground.now.lookup a.ground.now.roots blocks_are
+      (ap (λ (bs : List Block). record { blocks = bs; reading = a.ground.now.lookup.reading }) s.of.lookup) roots_are roots_for.links
 
-  pub marked_is : IsSet analysis.set.items (length (live_of read.0)) (Reach (graph_of_one core reading input.skip read.0))
+  pub marked_is : IsSet a.set.items (length (live_of s.read.0)) (Reach (graph_of_one a.files.core.now a.ground.now.lookup.reading a.input.now.skip s.read.0))
   marked_is =
-      subst (λ (bs : List Block). IsSet analysis.set.items (length bs) (Reach (graph_of_one core reading input.skip read.0))) blocks_are
-      (subst (λ (h : Graph). IsSet analysis.set.items (length input.live.blocks) (Reach h)) graph_is s.marked)
+      subst (λ (bs : List Block). IsSet a.set.items (length bs) (Reach (graph_of_one a.files.core.now a.ground.now.lookup.reading a.input.now.skip s.read.0))) blocks_are
+      (subst (λ (h : Graph). IsSet a.set.items (length (blocks_in a)) (Reach h)) graph_is s.marked)
 
-  pub few_are : length (live_of read.0) < 2 ^ 32
+  pub few_are : length (live_of s.read.0) < 2 ^ 32
   few_are = subst (λ (bs : List Block). length bs < 2 ^ 32) blocks_are s.few
 
-  pub numbers_are : AreTexts log (live_of read.0) (bytes_each analysis.texts.texts.items) analysis.texts.numbers.items
-  numbers_are = subst (λ (bs : List Block). AreTexts log bs (bytes_each analysis.texts.texts.items) analysis.texts.numbers.items) blocks_are s.numbered
+  pub texts_are : AreTexts a.files.log.now (live_of s.read.0) (texts_in a) a.texts.numbers.items
+  texts_are = subst (λ (bs : List Block). AreTexts a.files.log.now bs (texts_in a) a.texts.numbers.items) blocks_are s.numbered
 
-  pub counted_are : analysis.counted.items ≡ counted_of since (live_of read.0)
-  counted_are = s.counted ∙ ap (counted_of since) blocks_are
-
-  -- so the facts are those of the log's live blocks
-  pub known_are : (facts : Facts) → AreFactsOf input analysis facts
-      → AreKnown (live_of read.0) analysis.texts.numbers.items analysis.set.items (counted_of since (live_of read.0)) facts
+  -- the facts are those of the log's live blocks
+  pub known_are : (facts : Facts) → AreFactsOf a facts → AreKnown (live_of s.read.0) a.texts.numbers.items a.set.items (counted_of (earlier a.files.since) (live_of s.read.0)) facts
   known_are facts k = record {
     of_blocks = k.of_blocks ∙ blocks_are;
     of_texts = k.of_texts;
     reached = k.reached;
-    counts = k.counted ∙ counted_are;
+    counts = k.counts ∙ s.counted ∙ ap (counted_of (earlier a.files.since)) blocks_are;
   }
 
-  pub targets_are : length (graph_with input analysis.ground.now.lookup analysis.ground.now.roots).targets ≡ length input.live.blocks
-  unfolding graph_of
-  targets_are =
-      length-map analysis.ground.now.lookup.blocks (block_targets (word_of input.image) analysis.ground.now.lookup) ∙ ap (λ (i : Index). length i.blocks) s.of.lookup
+  pub numbers_are : AreNumbers (length (blocks_in a)) (length (texts_in a)) a.texts.numbers.items
+  numbers_are = are_numbers a.files.log.now (blocks_in a) (texts_in a) a.texts.numbers.items s.numbered s.few
 
-  -- and each block has its entries
-  pub complete : (facts : Facts) (texts : ℕ) → AreFactsOf input analysis facts → bytes_of facts.blocks.now < 2 ^ 64 → texts ≡ length (bytes_each analysis.texts.texts.items)
-      → AreComplete texts facts × (texts < 2 ^ 32)
-  complete facts texts k fits is =
-      let n = are_numbers log input.live.blocks (bytes_each analysis.texts.texts.items) analysis.texts.numbers.items s.numbered s.few in
-      let long : length facts.blocks.now ≡ length input.live.blocks = ap length k.of_blocks in (
-        record {
-          numbered = ap length k.of_texts ∙ n.one_each ∙ sym long;
-          of_texts = λ b h.
-              let inside : b < length input.live.blocks = omega (arith, h, ap length k.of_texts, n.one_each) in
-              let below : slice_index analysis.texts.numbers.items b < length (bytes_each analysis.texts.texts.items) = n.of_texts b inside in
-              subst (λ (m : ℕ). slice_index facts.numbers.now b < m) (sym is) (subst (λ (ns : List ℕ). slice_index ns b < length (bytes_each analysis.texts.texts.items)) (sym k.of_texts) below);
-          reached = ap length k.reached ∙ s.marked.len ∙ sym long;
-          counted = ap length k.counted ∙ ap length s.counted ∙ counted_each since input.live.blocks ∙ sym long;
-          few = subst (λ (m : ℕ). m < 2 ^ 32) (sym long) s.few;
-          fits = fits;
-        },
-        subst (λ (m : ℕ). m < 2 ^ 32) (sym is) n.few,
-      )
+  -- there is an entry for each block
+  pub counts_each : length a.counted.items ≡ length (blocks_in a)
+  counts_each = ap length s.counted ∙ counted_each (earlier a.files.since) (blocks_in a)
 
-  -- a list for each block, if these alone are counted
-  pub news_each : (facts : Facts) (new : Option (Bor (List Bool))) → AreFactsOf input analysis facts
-      → option_map (λ t. t.now) new ≡ option_map (λ _. facts.counted.now) since → IfSome new (λ t. length t.now ≡ length input.live.blocks)
-  news_each facts None k is = tt
-  news_each facts (Some t) k is =
-      each_new since t.now facts.counted.now (length input.live.blocks) is (ap length k.counted ∙ ap length s.counted ∙ counted_each since input.live.blocks)
+  pub complete : (facts : Facts) → AreFactsOf a facts → bytes_of facts.blocks.now < 2 ^ 64 → AreComplete (length (texts_in a)) facts
+  complete facts k fits =
+      let long : length facts.blocks.now ≡ length (blocks_in a) = ap length k.of_blocks in
+      let numbers : length facts.numbers.now ≡ length (blocks_in a) = ap length k.of_texts ∙ numbers_are.one_each in
+      record {
+        numbered = numbers ∙ sym long;
+        of_texts = λ b h. subst (λ (ns : List ℕ). slice_index ns b < length (texts_in a)) (sym k.of_texts) (numbers_are.of_texts b (omega (arith, h, numbers)));
+        reached = ap length k.reached ∙ s.marked.len ∙ sym long;
+        counted = ap length k.counts ∙ counts_each ∙ sym long;
+        few = subst (λ (m : ℕ). m < 2 ^ 32) (sym long) s.few;
+        fits = fits;
+      }
 
-  -- the texts that are shown
-  pub texts_long : (texts : List (Bor (List ℕ))) → texts ≡ analysis.texts.texts.items → length texts ≡ length (bytes_each analysis.texts.texts.items)
-  texts_long texts same = ap length same ∙ sym (length-map analysis.texts.texts.items (λ (t : Bor (List ℕ)). t.now))
+  -- what is new, if that alone is counted
+  pub news_are : option_map (λ _. a.counted.items) (earlier a.files.since) ≡ news_of (earlier a.files.since) (blocks_in a)
+  news_are = ap (λ (ts : List Bool). option_map (λ _. ts) (earlier a.files.since)) s.counted
 
-  heads_are : (head : Head) → head ≡ head_with input analysis.ground.now.roots None → head ≡ head_of_one core log input.skip read.0
-  heads_are head is = is ∙ head_is core log read.0 input analysis.ground.now.roots None read.1 roots_are
-
-  finds_with : (head : Head) (facts : Facts) (news : Option (List Bool)) (rows : List Holder) (found : Holding)
-      → IsTrue (is_continued_from since log) → AreFactsOf input analysis facts
-      → AreHolders (graph_with input analysis.ground.now.lookup analysis.ground.now.roots) facts (length (bytes_each analysis.texts.texts.items)) rows
-      → head ≡ head_with input analysis.ground.now.roots None → news ≡ option_map (λ _. facts.counted.now) since
-      → found.report.items ≡ holders_text head input.live.blocks news facts.reached.now (bytes_each analysis.texts.texts.items) rows
-      → FindsHolders core log since reading input.skip found
-  finds_with head facts news rows found continued k holders head_at new report = record {
-    accepted = read.1.accepted;
-    continued = continued;
-    lines = read.0;
-    is_log = read.1.is_log;
+  finds_with : (rows : List Holder) (found : Holding) → AreRowsIn a rows
+      → found.report.items ≡ holders_text (head_with a.input.now a.ground.now.roots None) (blocks_in a) (news_of (earlier a.files.since) (blocks_in a)) a.set.items (texts_in a) rows
+      → FindsHolders a.files.core.now a.files.log.now (earlier a.files.since) a.ground.now.lookup.reading a.input.now.skip found
+  finds_with rows found are report = record {
+    accepted = s.read.1.accepted;
+    continued = s.continued;
+    lines = s.read.0;
+    is_log = s.read.1.is_log;
     few = few_are;
-    set = analysis.set.items;
+    set = a.set.items;
     marked = marked_is;
-    texts = bytes_each analysis.texts.texts.items;
-    numbers = analysis.texts.numbers.items;
-    numbered = numbers_are;
+    texts = texts_in a;
+    numbers = a.texts.numbers.items;
+    numbered = texts_are;
     rows = rows;
     are = record {
-      facts = facts;
-      known = known_are facts k;
-      holders = subst (λ (h : Graph). AreHolders h facts (length (bytes_each analysis.texts.texts.items)) rows) graph_is holders;
+      facts = are.facts;
+      known = known_are are.facts are.known;
+      holders = subst (λ (h : Graph). AreHolders h are.facts (length (texts_in a)) rows) graph_is are.holders;
     };
     report =
         report
-        ∙ ap (λ (h : Head). holders_text h input.live.blocks news facts.reached.now (bytes_each analysis.texts.texts.items) rows) (heads_are head head_at)
-        ∙ ap (λ (bs : List Block). holders_text (head_of_one core log input.skip read.0) bs news facts.reached.now (bytes_each analysis.texts.texts.items) rows) blocks_are
-        ∙ ap (λ (ns : Option (List Bool)). holders_text (head_of_one core log input.skip read.0) (live_of read.0) ns facts.reached.now (bytes_each analysis.texts.texts.items) rows)
-        (new ∙ ap (λ (ts : List Bool). option_map (λ _. ts) since) (k.counted ∙ counted_are))
-        ∙ ap (λ (set : List Bool). holders_text (head_of_one core log input.skip read.0) (live_of read.0) (news_of since (live_of read.0)) set (bytes_each analysis.texts.texts.items) rows)
-        k.reached;
+        ∙ ap (λ (h : Head). holders_text h (blocks_in a) (news_of (earlier a.files.since) (blocks_in a)) a.set.items (texts_in a) rows)
+        (head_is a.files.core.now a.files.log.now s.read.0 a.input.now a.ground.now.roots None s.read.1 roots_are)
+        ∙ ap (λ (bs : List Block). holders_text (head_of_one a.files.core.now a.files.log.now a.input.now.skip s.read.0) bs (news_of (earlier a.files.since) bs) a.set.items (texts_in a) rows) blocks_are;
   }
 
-  -- the same of what is shown of texts and rows
-  pub finds_holders : (skip : Skip) (head : Head) (facts : Facts) (news : Option (List Bool)) (texts : List (Bor (List ℕ))) (rows shown : List Holder) (found : Holding)
-      → input.skip ≡ skip → IsTrue (is_continued_from since log) → AreFactsOf input analysis facts → texts ≡ analysis.texts.texts.items → shown ≡ rows
-      → AreHolders (graph_with input analysis.ground.now.lookup analysis.ground.now.roots) facts (length texts) rows
-      → head ≡ head_with input analysis.ground.now.roots None → news ≡ option_map (λ _. facts.counted.now) since
-      → found.report.items ≡ holders_text head input.live.blocks news facts.reached.now (bytes_each texts) shown
-      → FindsHolders core log since reading skip found
-  finds_holders skip head facts news texts rows shown found skips continued k same is holders head_at new report =
-      let n : length texts ≡ length (bytes_each analysis.texts.texts.items) = texts_long texts same in
-      subst (λ (s : Skip). FindsHolders core log since reading s found) skips
-      (finds_with head facts news rows found continued k
-      (subst (λ (m : ℕ). AreHolders (graph_with input analysis.ground.now.lookup analysis.ground.now.roots) facts m rows) n holders) head_at new
-      (report ∙ ap (λ (ts : List (Bor (List ℕ))). holders_text head input.live.blocks news facts.reached.now (bytes_each ts) shown) same
-      ∙ ap (λ (rs : List Holder). holders_text head input.live.blocks news facts.reached.now (bytes_each analysis.texts.texts.items) rs) is))
+-- the same reading, and the same that is skipped
+pub by_rules : {files : Files} {r reading : Distances} {k skip : Skip} {a : Analysis} → IsAnalysisOf files r k a → r ≡ reading → k ≡ skip → IsAnalysisOf files reading skip a
+by_rules s read skipped = record { is = s.is; files_are = s.files_are; reading_is = s.reading_is ∙ read; skip_is = s.skip_is ∙ skipped }
+
+-- so what holds of an analysis holds of the files
+pub of_files : (P : Files → Distances → Skip → Type 0) (files : Files) (reading : Distances) (skip : Skip) (a : Analysis) → IsAnalysisOf files reading skip a
+    → P a.files a.ground.now.lookup.reading a.input.now.skip → P files reading skip
+of_files P files reading skip a s is =
+    subst (λ (f : Files). P f reading skip) s.files_are
+    (subst (λ (r : Distances). P a.files r skip) s.reading_is (subst (λ (k : Skip). P a.files a.ground.now.lookup.reading k) s.skip_is is))
+
+pub finds_holders : (files : Files) (reading : Distances) (skip : Skip) (a : Analysis) → IsAnalysisOf files reading skip a → (rows : List Holder) (found : Holding) → AreRowsIn a rows
+    → found.report.items ≡ holders_text (head_with a.input.now a.ground.now.roots None) (blocks_in a) (news_of (earlier a.files.since) (blocks_in a)) a.set.items (texts_in a) rows
+    → FindsHolders files.core.now files.log.now (earlier files.since) reading skip found
+finds_holders files reading skip a s rows found are report =
+    of_files (λ f r k. FindsHolders f.core.now f.log.now (earlier f.since) r k found) files reading skip a s (finds_with a s.is rows found are report)

@@ -1,74 +1,72 @@
 -- From an answer about a block of an input to what is found of the files.
-use Rattle.std.proofs.Common.{◌≡◌, ℕ, Bool, List, length, Option, refl, ap, subst, ◌∙◌}
-use Rattle.std.specs.Prelude.{IsTrue, slice_index}
+use Rattle.std.proofs.Common.{◌≡◌, ℕ, Bool, List, length, refl, ap, subst, ◌∙◌}
+use Rattle.std.specs.Prelude.{slice_index}
 use Rattle.leak_blocks.specs.declared.block.Block.{Block}
 use Rattle.leak_blocks.specs.Live.{live_of}
 use Rattle.leak_index.specs.Leads.{Distances}
 use Rattle.leak_roots.specs.declared.skip.Skip.{Skip}
 use Rattle.leak_marks.specs.Reach.{Graph}
-use Rattle.leak_report.specs.Numbered.{bytes_each}
 use Rattle.leak_holders.specs.declared.question.Question.{Question}
-use Rattle.leak_search.specs.declared.inputs.Input.{Input}
-use Rattle.leak_search.specs.Inputs.{IsRead}
-use Rattle.leak_why.specs.Asked.{IsAsked, AreNotAsked}
+use Rattle.leak_why.specs.Asked.{AreNotAsked, IsAsked}
 use Rattle.leak_search.specs.Search.{graph_of_one}
 use Rattle.leak_search.specs.declared.why.WhyError.TheVariants.{NoBlock}
 use Rattle.leak_holder_search.specs.declared.search.Holding.{Holding}
 use Rattle.leak_holder_search.specs.declared.analysis.Analysis.{Analysis}
-use Rattle.leak_holder_search.specs.Answers.{IsAnswerOf}
-use Rattle.leak_holder_search.specs.Held.{AreHeld, FindsHeld, IsHeldFault, both, chosen_with, held_text}
-use Rattle.leak_holder_search.specs.Analyses.{IsAnalysisOf}
-use Rattle.leak_holder_search.specs.Since.{is_continued_from}
-use Rattle.leak_holder_search.proofs.FindLemmas.{blocks_are, few_are, graph_is, known_are, marked_is, numbers_are}
+use Rattle.leak_holder_search.specs.declared.choosing.Choice.{Choice}
+use Rattle.leak_holder_search.specs.declared.files.Files.{Files}
+use Rattle.leak_holder_search.specs.declared.held.Held.{Held}
+use Rattle.leak_holder_search.specs.Answers.{IsChoice, IsHeld}
+use Rattle.leak_holder_search.specs.Held.{AreHeld, FindsHeld, IsHeldFault, both, held_text}
+use Rattle.leak_holder_search.specs.Analyses.{IsAnalysis, IsAnalysisOf, blocks_in, texts_in}
+use Rattle.leak_holder_search.specs.Since.{earlier}
+use Rattle.leak_holder_search.proofs.FindLemmas.{blocks_are, few_are, graph_is, known_are, marked_is, of_files, texts_are}
 
-module _ (core log : List ℕ) (since : Option (List ℕ)) (reading : Distances) (input : Input) (analysis : Analysis)
-    (read : IsRead core log input) (s : IsAnalysisOf log since reading input analysis) where
-  finds_with : (question : Question) (block : ℕ) (text : List ℕ) (found : Holding) → IsTrue (is_continued_from since log)
-      → IsAsked input.live.blocks question.address block → IsAnswerOf log input analysis question block text → found.report.items ≡ text
-      → FindsHeld core log since reading input.skip question found
-  finds_with question block text found continued asked a is =
-      let texts : List (List ℕ) = bytes_each analysis.texts.texts.items in
-      let numbers : List ℕ = analysis.texts.numbers.items in
-      let blocks = blocks_are core log since reading input analysis read s in
-      record {
-        accepted = read.1.accepted;
-        continued = continued;
-        lines = read.0;
-        is_log = read.1.is_log;
-        few = few_are core log since reading input analysis read s;
-        block = block;
-        asked = subst (λ (bs : List Block). IsAsked bs question.address block) blocks asked;
-        set = analysis.set.items;
-        marked = marked_is core log since reading input analysis read s;
-        texts = texts;
-        numbers = numbers;
-        numbered = numbers_are core log since reading input analysis read s;
-        facts = a.facts;
-        known = known_are core log since reading input analysis read s a.facts a.of;
-        told = a.told;
-        parts = a.parts;
-        are =
-            subst (λ (ns : List ℕ). AreHeld question.side (graph_of_one core reading input.skip read.0) a.facts (length texts) (chosen_with ns block question.alone) (slice_index ns block) a.told a.parts) a.of.of_texts
-            (subst (λ (h : Graph). AreHeld question.side h a.facts (length texts) (chosen_with a.facts.numbers.now block question.alone) (slice_index a.facts.numbers.now block) a.told a.parts)
-            (graph_is core log since reading input analysis read s) a.held);
-        report =
-            is ∙ a.is
-            ∙ ap (λ (bs : List Block). held_text log bs block question.side (both (chosen_with a.facts.numbers.now block question.alone) a.facts.reached.now) a.told texts a.parts) blocks
-            ∙ ap (λ (ns : List ℕ). held_text log (live_of read.0) block question.side (both (chosen_with ns block question.alone) a.facts.reached.now) a.told texts a.parts) a.of.of_texts
-            ∙ ap (λ (set : List Bool). held_text log (live_of read.0) block question.side (both (chosen_with numbers block question.alone) set) a.told texts a.parts) a.of.reached;
-      }
+finds_with : (a : Analysis) (s : IsAnalysis a) (choice : Choice) (held : Held) (found : Holding) → IsChoice a choice → IsHeld a choice choice.question.side held
+    → found.report.items ≡ held_text a.files.log.now (blocks_in a) choice.block choice.question.side choice.own.items held.told.items (texts_in a) held.parts.items
+    → FindsHeld a.files.core.now a.files.log.now (earlier a.files.since) a.ground.now.lookup.reading a.input.now.skip choice.question found
+finds_with a s choice held found chosen is report =
+    let numbers : List ℕ = a.texts.numbers.items in
+    let blocks = blocks_are a s in
+    record {
+      accepted = s.read.1.accepted;
+      continued = s.continued;
+      lines = s.read.0;
+      is_log = s.read.1.is_log;
+      few = few_are a s;
+      block = choice.block;
+      asked = subst (λ (bs : List Block). IsAsked bs choice.question.address choice.block) blocks chosen.asked;
+      set = a.set.items;
+      marked = marked_is a s;
+      texts = texts_in a;
+      numbers = numbers;
+      numbered = texts_are a s;
+      facts = is.facts;
+      known = known_are a s is.facts is.of;
+      told = held.told.items;
+      parts = held.parts.items;
+      are =
+          subst (λ (set : List Bool). AreHeld choice.question.side (graph_of_one a.files.core.now a.ground.now.lookup.reading a.input.now.skip s.read.0) is.facts (length (texts_in a)) set (slice_index numbers choice.block) held.told.items held.parts.items) chosen.set
+          (subst (λ (h : Graph). AreHeld choice.question.side h is.facts (length (texts_in a)) choice.set.items (slice_index numbers choice.block) held.told.items held.parts.items) (graph_is a s) is.are);
+      report =
+          report
+          ∙ ap (λ (bs : List Block). held_text a.files.log.now bs choice.block choice.question.side choice.own.items held.told.items (texts_in a) held.parts.items) blocks
+          ∙ ap (λ (own : List Bool). held_text a.files.log.now (live_of s.read.0) choice.block choice.question.side own held.told.items (texts_in a) held.parts.items)
+          (chosen.own ∙ ap (λ (set : List Bool). both set a.set.items) chosen.set);
+    }
 
-  pub finds_held : (skip : Skip) (question : Question) (block : ℕ) (text : List ℕ) (found : Holding) → input.skip ≡ skip → IsTrue (is_continued_from since log)
-      → IsAsked input.live.blocks question.address block → IsAnswerOf log input analysis question block text → found.report.items ≡ text
-      → FindsHeld core log since reading skip question found
-  finds_held skip question block text found skips continued asked a is =
-      subst (λ (s : Skip). FindsHeld core log since reading s question found) skips (finds_with question block text found continued asked a is)
+module _ (files : Files) (reading : Distances) (skip : Skip) (a : Analysis) (s : IsAnalysisOf files reading skip a) where
+  pub finds_held : (question : Question) (choice : Choice) (held : Held) (found : Holding) → choice.question ≡ question → IsChoice a choice → IsHeld a choice choice.question.side held
+      → found.report.items ≡ held_text a.files.log.now (blocks_in a) choice.block choice.question.side choice.own.items held.told.items (texts_in a) held.parts.items
+      → FindsHeld files.core.now files.log.now (earlier files.since) reading skip question found
+  finds_held question choice held found same chosen is report =
+      subst (λ (q : Question). FindsHeld files.core.now files.log.now (earlier files.since) reading skip q found) same
+      (of_files (λ f r k. FindsHeld f.core.now f.log.now (earlier f.since) r k choice.question found) files reading skip a s (finds_with a s.is choice held found chosen is report))
 
-  pub none_asked : (address : ℕ) → IsTrue (is_continued_from since log) → AreNotAsked input.live.blocks address (length input.live.blocks)
-      → IsHeldFault core log since address (NoBlock address)
-  none_asked address continued none = (
-    refl,
-    read.1.accepted,
-    continued,
-    (read.0, read.1.is_log, subst (λ (bs : List Block). AreNotAsked bs address (length bs)) (blocks_are core log since reading input analysis read s) none),
-  )
+  pub none_asked : (address : ℕ) → AreNotAsked (blocks_in a) address (length (blocks_in a)) → IsHeldFault files.core.now files.log.now (earlier files.since) address (NoBlock address)
+  none_asked address none =
+      of_files (λ f r k. IsHeldFault f.core.now f.log.now (earlier f.since) address (NoBlock address)) files reading skip a s (
+        refl,
+        s.is.read.1.accepted,
+        s.is.continued,
+        (s.is.read.0, s.is.read.1.is_log, subst (λ (bs : List Block). AreNotAsked bs address (length bs)) (blocks_are a s.is) none),
+      )

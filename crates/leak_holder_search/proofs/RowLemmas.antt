@@ -46,7 +46,6 @@ rows_inside graph f texts rows are =
     (each_implied (λ r. IsInside f texts r × (nat_lt 0 r.blocks ≡ true)) (IsRowOf (length f.blocks.now) texts) (λ r h. h.0 h.1) (with_blocks all)
     (each_filtered (λ r. nat_lt 0 r.blocks) (IsInside f texts) all each)))
 
-pub shown_inside : (graph : Graph) (facts : Facts) (blocks : ℕ) (texts : ℕ) (rows shown : List Holder) → AreHolders graph facts texts rows
-    → length facts.blocks.now ≡ blocks → shown ≡ rows → AreRowsOf blocks texts shown
-shown_inside graph facts blocks texts rows shown are long is =
-    subst (AreRowsOf blocks texts) (sym is) (subst (λ (n : ℕ). AreRowsOf n texts rows) long (rows_inside graph facts texts rows are))
+-- the same of the number of blocks
+pub inside_of : (graph : Graph) (f : Facts) (texts n : ℕ) (rows : List Holder) → AreHolders graph f texts rows → length f.blocks.now ≡ n → AreRowsOf n texts rows
+inside_of graph f texts n rows are long = subst (λ (m : ℕ). AreRowsOf m texts rows) long (rows_inside graph f texts rows are)

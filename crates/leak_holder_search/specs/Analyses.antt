@@ -1,47 +1,60 @@
 -- What a question knows of an input: what is marked, the texts of callers, and which blocks are counted.
-use Rattle.std.specs.Prelude.{◌≡◌, ℕ, ◌^◌, ◌<◌, ◌≤◌, List, [], length, Option}
-use Rattle.leak_elf.specs.Words.{word_of}
+use Rattle.std.specs.Prelude.{◌≡◌, ℕ, ◌^◌, ◌<◌, List, length, IsTrue}
 use Rattle.leak_mtrace.specs.declared.line.Line.{Line}
-use Rattle.leak_index.specs.Hits.{Index}
+use Rattle.leak_blocks.specs.declared.block.Block.{Block}
 use Rattle.leak_index.specs.Leads.{Distances}
-use Rattle.leak_roots.specs.Places.{Places}
+use Rattle.leak_roots.specs.declared.skip.Skip.{Skip}
 use Rattle.leak_marks.specs.Reach.{Graph, Reach}
-use Rattle.leak_pool.specs.Marking.{IsSet, graph_of, led_by_roots}
+use Rattle.leak_pool.specs.Marking.{IsSet}
 use Rattle.leak_report.specs.Numbered.{AreTexts, bytes_each}
 use Rattle.leak_holders.specs.declared.facts.Facts.{Facts}
-use Rattle.leak_search.specs.declared.error.FindError.{FindError}
-use Rattle.leak_search.specs.declared.error.FindError.TheVariants.{TooMany}
+use Rattle.leak_holders.specs.declared.holder.Holder.{Holder}
 use Rattle.leak_search.specs.declared.inputs.Input.{Input}
 use Rattle.leak_search.specs.declared.marking.Ground.{Ground}
-use Rattle.leak_search.specs.Inputs.{AreRootsFor, IsInput}
+use Rattle.leak_search.specs.Inputs.{AreRootsFor, IsInput, IsRead}
 use Rattle.leak_holder_search.specs.declared.analysis.Analysis.{Analysis}
-use Rattle.leak_holder_search.specs.Edges.{AreEdgesOf}
-use Rattle.leak_holder_search.specs.Since.{counted_of}
-
--- what leads to what in the input
-abbrev pub graph_with : Input → Index → Places → Graph
-graph_with input index places = graph_of (word_of input.image) index (led_by_roots (word_of input.image) index places) []
-
--- more blocks than there are numbers for them
-abbrev pub IsMany : ℕ → FindError → Type 0
-IsMany blocks e = (e ≡ TooMany) × (2 ^ 32 ≤ blocks)
+use Rattle.leak_holder_search.specs.declared.files.Files.{Files}
+use Rattle.leak_holder_search.specs.Edges.{AreEdgesOf, graph_with}
+use Rattle.leak_holder_search.specs.Rows.{AreKnown, AreRows}
+use Rattle.leak_holder_search.specs.Since.{counted_of, earlier, is_continued_from}
 
 -- root words and lookup are those of the input
-pub record IsGroundOf (reading : Distances) (input : Input) (ground : Ground) : Type 0 where
-  pub lookup : ground.lookup ≡ record { blocks = input.live.blocks; reading = reading }
-  pub roots : (lines : List Line) → IsInput lines input → AreRootsFor lines input ground.roots
+pub record IsGroundOf (input : Input) (places : Ground) : Type 0 where
+  pub lookup : places.lookup.blocks ≡ input.live.blocks
+  pub roots : (lines : List Line) → IsInput lines input → AreRootsFor lines input places.roots
 
-pub record IsAnalysisOf (log : List ℕ) (since : Option (List ℕ)) (reading : Distances) (input : Input) (analysis : Analysis) : Type 0 where
-  pub of : IsGroundOf reading input analysis.ground.now
-  pub listed : AreEdgesOf input analysis.ground.now analysis.edges
-  pub few : length input.live.blocks < 2 ^ 32
-  pub marked : IsSet analysis.set.items (length input.live.blocks) (Reach (graph_with input analysis.ground.now.lookup analysis.ground.now.roots))
-  pub numbered : AreTexts log input.live.blocks (bytes_each analysis.texts.texts.items) analysis.texts.numbers.items
-  pub counted : analysis.counted.items ≡ counted_of since input.live.blocks
+-- its live blocks, what leads to what among them, and the texts of their callers
+abbrev pub blocks_in : Analysis → List Block
+blocks_in a = a.input.now.live.blocks
+
+abbrev pub graph_in : Analysis → Graph
+graph_in a = graph_with a.input.now a.ground.now
+
+abbrev pub texts_in : Analysis → List (List ℕ)
+texts_in a = bytes_each a.texts.texts.items
+
+-- the input was read from the files, and all else is what it says of that input
+pub record IsAnalysis (a : Analysis) : Type 0 where
+  pub read : IsRead a.files.core.now a.files.log.now a.input.now
+  pub continued : IsTrue (is_continued_from (earlier a.files.since) a.files.log.now)
+  pub of : IsGroundOf a.input.now a.ground.now
+  pub listed : AreEdgesOf a.input.now a.ground.now a.edges
+  pub few : length (blocks_in a) < 2 ^ 32
+  pub marked : IsSet a.set.items (length (blocks_in a)) (Reach (graph_in a))
+  pub numbered : AreTexts a.files.log.now (blocks_in a) (texts_in a) a.texts.numbers.items
+  pub counted : a.counted.items ≡ counted_of (earlier a.files.since) (blocks_in a)
+
+-- it is that of these files, by this reading, without what is skipped
+pub record IsAnalysisOf (files : Files) (reading : Distances) (skip : Skip) (a : Analysis) : Type 0 where
+  pub is : IsAnalysis a
+  pub files_are : a.files ≡ files
+  pub reading_is : a.ground.now.lookup.reading ≡ reading
+  pub skip_is : a.input.now.skip ≡ skip
 
 -- these are the facts of its blocks
-pub record AreFactsOf (input : Input) (analysis : Analysis) (facts : Facts) : Type 0 where
-  pub of_blocks : facts.blocks.now ≡ input.live.blocks
-  pub of_texts : facts.numbers.now ≡ analysis.texts.numbers.items
-  pub reached : facts.reached.now ≡ analysis.set.items
-  pub counted : facts.counted.now ≡ analysis.counted.items
+abbrev pub AreFactsOf : Analysis → Facts → Type 0
+AreFactsOf a facts = AreKnown (blocks_in a) a.texts.numbers.items a.set.items a.counted.items facts
+
+-- these are the rows of its texts
+abbrev pub AreRowsIn : Analysis → List Holder → Type 0
+AreRowsIn a rows = AreRows (graph_in a) (blocks_in a) a.texts.numbers.items a.set.items a.counted.items (length (texts_in a)) rows

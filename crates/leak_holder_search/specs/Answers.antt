@@ -1,30 +1,24 @@
--- The answer about a block of an input, by what is known of it.
-use Rattle.std.specs.Prelude.{◌≡◌, ℕ, List, Bool, length, slice_index, Option}
-use Rattle.leak_index.specs.Leads.{Distances}
+-- The answer about chosen blocks, by what is known of an input.
+use Rattle.std.specs.Prelude.{◌≡◌, length, slice_index}
 use Rattle.leak_holders.specs.declared.facts.Facts.{Facts}
-use Rattle.leak_holders.specs.declared.part.Part.{Part}
-use Rattle.leak_holders.specs.declared.question.Question.{Question}
-use Rattle.leak_report.specs.Numbered.{bytes_each}
-use Rattle.leak_search.specs.declared.inputs.Input.{Input}
-use Rattle.leak_search.specs.Inputs.{IsRead}
+use Rattle.leak_holders.specs.declared.question.Side.{Side}
+use Rattle.leak_why.specs.Asked.{IsAsked}
 use Rattle.leak_holder_search.specs.declared.analysis.Analysis.{Analysis}
-use Rattle.leak_holder_search.specs.Held.{AreHeld, both, chosen_with, held_text}
-use Rattle.leak_holder_search.specs.Analyses.{AreFactsOf, IsAnalysisOf, graph_with}
+use Rattle.leak_holder_search.specs.declared.choosing.Choice.{Choice}
+use Rattle.leak_holder_search.specs.declared.held.Held.{Held}
+use Rattle.leak_holder_search.specs.Held.{AreHeld, both, chosen_with}
+use Rattle.leak_holder_search.specs.Analyses.{AreFactsOf, blocks_in, graph_in, texts_in}
 
--- the input was read from some core and from the log, and marked
-pub record IsKnown (log : List ℕ) (input : Input) (analysis : Analysis) : Type 0 where
-  pub core : List ℕ
-  pub since : Option (List ℕ)
-  pub reading : Distances
-  pub read : IsRead core log input
-  pub is_analysis : IsAnalysisOf log since reading input analysis
+-- the address of the question asks for the block, and the blocks are those that the question is about
+pub record IsChoice (a : Analysis) (choice : Choice) : Type 0 where
+  pub asked : IsAsked (blocks_in a) choice.question.address choice.block
+  pub set : choice.set.items ≡ chosen_with a.texts.numbers.items choice.block choice.question.alone
+  pub own : choice.own.items ≡ both choice.set.items a.set.items
 
-pub record IsAnswerOf (log : List ℕ) (input : Input) (analysis : Analysis) (question : Question) (block : ℕ) (text : List ℕ) : Type 0 where
+-- this is what they hold, or who holds them
+pub record IsHeld (a : Analysis) (choice : Choice) (side : Side) (held : Held) : Type 0 where
   pub facts : Facts
-  pub of : AreFactsOf input analysis facts
-  pub told : List Bool
-  pub parts : List Part
-  pub held : AreHeld question.side (graph_with input analysis.ground.now.lookup analysis.ground.now.roots) facts (length (bytes_each analysis.texts.texts.items))
-      (chosen_with facts.numbers.now block question.alone) (slice_index facts.numbers.now block) told parts
-  pub is : text ≡ held_text log input.live.blocks block question.side (both (chosen_with facts.numbers.now block question.alone) facts.reached.now)
-      told (bytes_each analysis.texts.texts.items) parts
+  pub of : AreFactsOf a facts
+  pub each : length held.told.items ≡ length (blocks_in a)
+  pub are : AreHeld side (graph_in a) facts (length (texts_in a)) choice.set.items
+      (slice_index a.texts.numbers.items choice.block) held.told.items held.parts.items

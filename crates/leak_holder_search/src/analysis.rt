@@ -1,24 +1,27 @@
 //! What is marked, and which blocks are counted.
 
-ghost use Rattle.std.specs.Prelude.{◌≡◌, ◌≢◌, ◌<◌, ◌^◌, length, IfOk, IfErr};
-ghost use Rattle.leak_index.specs.Leads.{Distances};
-ghost use Rattle.leak_report.specs.Totals.{bytes_of};
+ghost use Rattle.std.specs.Prelude.{◌≡◌, ◌≢◌, ◌<◌, ◌^◌, length, IfOk, IfErr, IsTrue};
+ghost use Rattle.leak_holders.specs.Holders.{AreComplete};
 ghost use Rattle.leak_search.specs.Inputs.{IsRead};
-ghost use Rattle.leak_holder_search.specs.Analyses.{AreFactsOf, IsGroundOf, IsMany, IsAnalysisOf};
-ghost use Rattle.leak_holder_search.specs.Since.{earlier};
+ghost use Rattle.leak_holder_search.specs.Analyses.{AreFactsOf, IsAnalysis, IsAnalysisOf, IsGroundOf, texts_in};
+ghost use Rattle.leak_holder_search.specs.Holders.{IsFaultOfHolders};
+ghost use Rattle.leak_holder_search.specs.Since.{earlier, is_continued_from};
 
-use crate::edges::{InputEdges, edges_of, mark};
+use crate::edges::{InputEdges, edges_of};
 use crate::files::Files;
 use crate::since::counted;
-use leak_holders::Facts;
+use leak_holders::{Facts, reached_blocks};
 use leak_report::{Texts, number_texts};
 use leak_search::{FindError, Ground, Input};
 use std::alloc::Global;
 use std::thread::Threads;
 
-/// What a question needs to know of an input besides its words.
+/// What a question needs to know of an input.
 #[derive(Drop)]
 pub(crate) struct Analysis<'a, 'b> {
+    /// What the input was read from.
+    pub(crate) files: Files<'b>,
+    pub(crate) input: &'a Input<'a>,
     pub(crate) ground: &'a Ground<'a>,
     pub(crate) edges: InputEdges<'a>,
     /// For each block, whether a chain reaches it.
@@ -44,18 +47,20 @@ pub(crate) fn analysis_of<'a, 'b, R: Threads + Sync>(
     workers: u32,
 ) -> Result<Analysis<'a, 'b>, FindError>
     requires read { IsRead files.now.core.now files.now.log.now input.now }
+    requires continued { IsTrue (is_continued_from (earlier files.now.since) files.now.log.now) }
+    requires of { IsGroundOf input.now ground.now }
     requires some { 0 < workers }
-    requires same_blocks { ground.now.lookup.blocks ≡ input.now.live.blocks }
-    ensures ok { IfOk result (λ analysis. (reading : Distances) → IsGroundOf reading input.now ground.now
-        → IsAnalysisOf files.now.log.now (earlier files.now.since) reading input.now analysis) }
+    ensures ok { IfOk result (IsAnalysisOf files.now ground.now.lookup.reading input.now.skip) }
     ensures refused { IfErr result (λ e. e ≢ FindError.NoMemory
-        → IsMany (length input.now.live.blocks) e) }
+        → IsFaultOfHolders files.now.core.now files.now.log.now (earlier files.now.since) e) }
 {
     let edges = edges_of(rt, alloc, input, ground, workers)?;
-    let set = mark(alloc, input, ground, &edges)?;
+    let set = reached_blocks(alloc, &edges.listed, edges.first.as_slice())?;
     let texts = number_texts(alloc, input.live.blocks(), files.log)?;
     let counted = counted(alloc, files.since, input.live.blocks())?;
     Ok(Analysis {
+        files: *files,
+        input,
         ground,
         edges,
         set,
@@ -65,14 +70,23 @@ pub(crate) fn analysis_of<'a, 'b, R: Threads + Sync>(
 }
 
 /// What is known of the blocks of an input.
-pub(crate) fn facts_of<'a>(input: &'a Input<'_>, analysis: &'a Analysis<'_, '_>) -> Facts<'a>
-    ensures of { AreFactsOf input.now analysis.now result }
-    ensures fits { bytes_of result.blocks.now < 2 ^ 64 }
+pub(crate) fn facts_of<'a>(analysis: &'a Analysis<'_, '_>) -> Facts<'a>
+    requires { IsAnalysis analysis.now }
+    ensures of { AreFactsOf analysis.now result }
+    ensures complete { AreComplete (length (texts_in analysis.now)) result }
 {
     Facts {
-        blocks: input.live.blocks(),
+        blocks: analysis.input.live.blocks(),
         numbers: analysis.texts.numbers.as_slice(),
         reached: analysis.set.as_slice(),
         counted: analysis.counted.as_slice(),
     }
+}
+
+/// How many texts of callers there are.
+pub(crate) fn count_texts(analysis: &Analysis) -> u32
+    requires { IsAnalysis analysis.now }
+    ensures { result ≡ length (texts_in analysis.now) }
+{
+    analysis.texts.texts.len() as u32
 }

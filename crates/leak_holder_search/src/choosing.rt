@@ -1,12 +1,52 @@
 //! Sets of blocks, block by block.
 
 ghost use Rattle.std.specs.Prelude.{◌≡◌, ◌==◌, ◌<◌, length, slice_index, if◌then◌else◌, IfOk};
+ghost use Rattle.leak_why.specs.Asked.{IsAsked};
+ghost use Rattle.leak_holder_search.specs.Analyses.{IsAnalysis, blocks_in};
+ghost use Rattle.leak_holder_search.specs.Answers.{IsChoice};
 ghost use Rattle.leak_holder_search.specs.Held.{both, chosen_with};
 
+use crate::analysis::{Analysis, facts_of};
+use leak_holders::Question;
 use std::alloc::{AllocError, Global};
 
+/// The blocks that a question is about.
+#[derive(Drop)]
+pub(crate) struct Choice {
+    pub(crate) question: Question,
+    /// The number of the block that its address asks for.
+    pub(crate) block: usize,
+    /// For each block, whether it is chosen.
+    pub(crate) set: Vec<bool>,
+    /// For each block, whether it is chosen and a chain reaches it.
+    pub(crate) own: Vec<bool>,
+}
+
+/// Chooses the blocks of a question, of which the address asks for the block with the number.
+pub(crate) fn choice_of(
+    alloc: Global,
+    analysis: &Analysis,
+    question: Question,
+    block: usize,
+) -> Result<Choice, AllocError>
+    requires known { IsAnalysis analysis.now }
+    requires asked { IsAsked (blocks_in analysis.now) question.address block }
+    ensures are { IfOk result (IsChoice analysis.now) }
+    ensures of { IfOk result (λ choice. choice.question ≡ question) }
+{
+    let facts = facts_of(analysis);
+    let set = chosen(alloc, facts.numbers, block, question.alone)?;
+    let own = in_both(alloc, set.as_slice(), facts.reached)?;
+    Ok(Choice {
+        question,
+        block,
+        set,
+        own,
+    })
+}
+
 /// For each block, by the numbers of texts, whether it is the one with the number, alone, or has its text.
-pub(crate) fn chosen(
+fn chosen(
     alloc: Global,
     numbers: &[u32],
     block: usize,

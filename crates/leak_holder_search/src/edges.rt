@@ -1,17 +1,13 @@
 //! What the words of an input lead to, listed once: all questions about it are marked over these lists.
 
-ghost use Rattle.std.specs.Prelude.{◌≡◌, ◌↔◌, ◌<◌, ◌-◌, ◌^◌, [], length, IfOk, IsErrOf};
-ghost use Rattle.leak_elf.specs.Words.{word_of};
-ghost use Rattle.leak_marks.specs.Reach.{Reach};
-ghost use Rattle.leak_pool.specs.Marking.{IsSet, graph_of, led_by_roots};
+ghost use Rattle.std.specs.Prelude.{◌≡◌, ◌↔◌, ◌<◌, ◌-◌, ◌^◌, length, IfOk, IsErrOf};
 ghost use Rattle.leak_holder_search.specs.Edges.{AreEdgesOf};
 
 use leak_elf::Image;
-use leak_holders::reached_blocks;
 use leak_index::Paged;
 use leak_pool::{Listed, PoolError, first_blocks, list_edges};
 use leak_search::{Ground, Input};
-use std::alloc::{AllocError, Global};
+use std::alloc::Global;
 use std::thread::Threads;
 
 /// What the words of an input lead to.
@@ -44,23 +40,4 @@ pub(crate) fn edges_of<'a, R: Threads + Sync>(
     let listed = list_edges(rt, alloc, image, lookup, live, workers)?;
     let first = first_blocks(alloc, image, lookup, &ground.roots, live)?;
     Ok(InputEdges { listed, first })
-}
-
-/// Marks the blocks of an input that chains of its words reach, over its edges.
-///
-/// The only error is refused memory.
-pub(crate) fn mark(
-    alloc: Global,
-    input: &Input,
-    ground: &Ground,
-    edges: &InputEdges,
-) -> Result<Vec<bool>, AllocError>
-    requires same_blocks { ground.now.lookup.blocks ≡ input.now.live.blocks }
-    requires listed { AreEdgesOf input.now ground.now edges.now }
-    ensures { let word_at = word_of input.now.image in
-        let first = led_by_roots word_at ground.now.lookup ground.now.roots in
-        IfOk result (λ set. IsSet set.items (length input.now.live.blocks)
-        (Reach (graph_of word_at ground.now.lookup first []))) }
-{
-    reached_blocks(alloc, &edges.listed, edges.first.as_slice())
 }

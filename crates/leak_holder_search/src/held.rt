@@ -1,17 +1,12 @@
 //! What chosen blocks hold, or who holds them.
 
-ghost use Rattle.std.specs.Prelude.{◌≡◌, [], length, IfOk};
-ghost use Rattle.leak_elf.specs.Words.{word_of};
-ghost use Rattle.leak_marks.specs.Reach.{Reach};
-ghost use Rattle.leak_pool.specs.Marking.{IsSet, graph_of, led_by_roots};
-ghost use Rattle.leak_holders.specs.Holders.{AreComplete};
-ghost use Rattle.leak_holder_search.specs.Held.{AreHeld, AreHeldIn, AreHeldOf};
-ghost use Rattle.leak_holder_search.specs.Edges.{AreEdgesOf};
+ghost use Rattle.std.specs.Prelude.{◌≡◌, IfOk};
+ghost use Rattle.leak_holder_search.specs.Analyses.{IsAnalysis};
+ghost use Rattle.leak_holder_search.specs.Answers.{IsChoice, IsHeld};
 
-use crate::choosing::in_both;
-use crate::edges::InputEdges;
-use leak_holders::{Crew, Facts, Part, Progress, Side, held_blocks, holders_of, parts_of};
-use leak_search::{Ground, Input};
+use crate::analysis::{Analysis, count_texts, facts_of};
+use crate::choosing::{Choice, in_both};
+use leak_holders::{Crew, Part, Progress, Side, held_blocks, holders_of, parts_of};
 use std::alloc::{AllocError, Global};
 use std::thread::Threads;
 
@@ -24,96 +19,55 @@ pub(crate) struct Held {
     pub(crate) parts: Vec<Part>,
 }
 
-/// What the chosen blocks hold, or which other texts than the one with the number hold them.
+/// What the chosen blocks hold, or which other texts than that of the asked block hold them.
 ///
 /// The only error is refused memory.
 pub(crate) fn held_of<R: Threads + Sync, P: Progress>(
     crew: &Crew<'_, R, P>,
     alloc: Global,
-    input: &Input,
-    ground: &Ground,
-    edges: &InputEdges,
-    facts: &Facts,
-    texts: u32,
-    side: Side,
-    chosen: &[bool],
-    but: u32,
+    analysis: &Analysis,
+    choice: &Choice,
 ) -> Result<Held, AllocError>
-    requires same_blocks { ground.now.lookup.blocks ≡ input.now.live.blocks }
-    requires listed { AreEdgesOf input.now ground.now edges.now }
-    requires known { facts.now.blocks.now ≡ input.now.live.blocks }
-    requires complete { AreComplete texts facts.now }
-    requires chosen { length chosen.now ≡ length input.now.live.blocks }
-    requires marked { let word_at = word_of input.now.image in
-        let first = led_by_roots word_at ground.now.lookup ground.now.roots in
-        IsSet facts.now.reached.now (length input.now.live.blocks)
-        (Reach (graph_of word_at ground.now.lookup first [])) }
-    ensures { let word_at = word_of input.now.image in
-        let first = led_by_roots word_at ground.now.lookup ground.now.roots in
-        IfOk result (λ held. AreHeld side (graph_of word_at ground.now.lookup first [])
-        facts.now texts chosen.now but held.told.items held.parts.items) }
+    requires known { IsAnalysis analysis.now }
+    requires choice { IsChoice analysis.now choice.now }
+    ensures { IfOk result (IsHeld analysis.now choice.now choice.now.question.side) }
 {
-    match side {
-        Side::In => held_in(alloc, input, ground, edges, facts, texts, chosen),
-        Side::Of => held_by(crew, alloc, input, ground, edges, facts, texts, chosen, but),
+    match choice.question.side {
+        Side::In => held_in(alloc, analysis, choice),
+        Side::Of => held_by(crew, alloc, analysis, choice),
     }
 }
 
 /// What the chosen blocks hold.
-fn held_in(
-    alloc: Global,
-    input: &Input,
-    ground: &Ground,
-    edges: &InputEdges,
-    facts: &Facts,
-    texts: u32,
-    chosen: &[bool],
-) -> Result<Held, AllocError>
-    requires same_blocks { ground.now.lookup.blocks ≡ input.now.live.blocks }
-    requires listed { AreEdgesOf input.now ground.now edges.now }
-    requires known { facts.now.blocks.now ≡ input.now.live.blocks }
-    requires complete { AreComplete texts facts.now }
-    requires chosen { length chosen.now ≡ length input.now.live.blocks }
-    ensures { let word_at = word_of input.now.image in
-        let first = led_by_roots word_at ground.now.lookup ground.now.roots in
-        IfOk result (λ held. AreHeldIn (graph_of word_at ground.now.lookup first [])
-        facts.now texts chosen.now held.told.items held.parts.items) }
+fn held_in(alloc: Global, analysis: &Analysis, choice: &Choice) -> Result<Held, AllocError>
+    requires known { IsAnalysis analysis.now }
+    requires choice { IsChoice analysis.now choice.now }
+    ensures { IfOk result (IsHeld analysis.now choice.now Side.In) }
 {
-    let held = held_blocks(alloc, &edges.listed, edges.first.as_slice(), chosen)?;
-    let parts = parts_of(alloc, facts, texts, held.as_slice())?;
-    let told = in_both(alloc, held.as_slice(), facts.counted)?;
+    let (edges, facts) = (&analysis.edges, facts_of(analysis));
+    let (first, set) = (edges.first.as_slice(), choice.set.as_slice());
+    let held = held_blocks(alloc, &edges.listed, first, set)?;
+    let held = held.as_slice();
+    let parts = parts_of(alloc, &facts, count_texts(analysis), held)?;
+    let told = in_both(alloc, held, facts.counted)?;
     Ok(Held { told, parts })
 }
 
-/// Which other texts than the one with the number hold the chosen blocks.
+/// Which other texts than that of the asked block hold the chosen blocks.
 fn held_by<R: Threads + Sync, P: Progress>(
     crew: &Crew<'_, R, P>,
     alloc: Global,
-    input: &Input,
-    ground: &Ground,
-    edges: &InputEdges,
-    facts: &Facts,
-    texts: u32,
-    chosen: &[bool],
-    but: u32,
+    analysis: &Analysis,
+    choice: &Choice,
 ) -> Result<Held, AllocError>
-    requires same_blocks { ground.now.lookup.blocks ≡ input.now.live.blocks }
-    requires listed { AreEdgesOf input.now ground.now edges.now }
-    requires known { facts.now.blocks.now ≡ input.now.live.blocks }
-    requires complete { AreComplete texts facts.now }
-    requires chosen { length chosen.now ≡ length input.now.live.blocks }
-    requires marked { let word_at = word_of input.now.image in
-        let first = led_by_roots word_at ground.now.lookup ground.now.roots in
-        IsSet facts.now.reached.now (length input.now.live.blocks)
-        (Reach (graph_of word_at ground.now.lookup first [])) }
-    ensures { let word_at = word_of input.now.image in
-        let first = led_by_roots word_at ground.now.lookup ground.now.roots in
-        IfOk result (λ held. AreHeldOf (graph_of word_at ground.now.lookup first [])
-        facts.now texts chosen.now but held.told.items held.parts.items) }
+    requires known { IsAnalysis analysis.now }
+    requires choice { IsChoice analysis.now choice.now }
+    ensures { IfOk result (IsHeld analysis.now choice.now Side.Of) }
 {
-    let (listed, first) = (&edges.listed, edges.first.as_slice());
-    let parts = holders_of(crew, alloc, listed, first, facts, texts, chosen, but)?;
-    let own = in_both(alloc, chosen, facts.reached)?;
-    let told = in_both(alloc, own.as_slice(), facts.counted)?;
+    let (edges, facts) = (&analysis.edges, facts_of(analysis));
+    let (first, set) = (edges.first.as_slice(), choice.set.as_slice());
+    let (texts, but) = (count_texts(analysis), facts.numbers[choice.block]);
+    let parts = holders_of(crew, alloc, &edges.listed, first, &facts, texts, set, but)?;
+    let told = in_both(alloc, choice.own.as_slice(), facts.counted)?;
     Ok(Held { told, parts })
 }

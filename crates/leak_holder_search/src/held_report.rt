@@ -3,10 +3,13 @@
 ghost use Rattle.std.specs.Prelude.{◌≡◌, ◌++◌, codes, length, flat_map, string_bytes, IfOk, OnOk};
 ghost use Rattle.std.specs.List.{list_any};
 ghost use Rattle.leak_report.specs.Lines.{blocks_line, newline};
-ghost use Rattle.leak_report.specs.Totals.{HaveCallersIn, marked_in};
+ghost use Rattle.leak_report.specs.Totals.{marked_in};
 ghost use Rattle.leak_report.specs.Numbered.{bytes_each, text_with};
+ghost use Rattle.leak_holder_search.specs.Analyses.{IsAnalysis, blocks_in, texts_in};
 ghost use Rattle.leak_holder_search.specs.Held.{held_lines, held_text, part_front, part_line, side_word};
 
+use crate::analysis::Analysis;
+use crate::choosing::Choice;
 use crate::held::Held;
 use leak_blocks::Live;
 use leak_holders::{Part, Side};
@@ -14,26 +17,31 @@ use leak_report::{marked_sizes, push_line, push_sizes};
 use leak_why::push_numbered;
 use std::alloc::{AllocError, Global};
 
-/// Makes the answer: its lines, each with its line feed. `own` says which chosen blocks are reached.
+/// Makes the answer: its lines, each with its line feed.
 pub(crate) fn held_text_of(
     alloc: Global,
-    live: &Live,
-    log: &[u8],
-    block: usize,
-    side: Side,
-    own: &[bool],
+    analysis: &Analysis,
+    choice: &Choice,
     held: &Held,
-    texts: &[&[u8]],
 ) -> Result<Vec<u8>, AllocError>
-    requires in_log { HaveCallersIn log.now live.now.blocks }
-    requires told { length held.now.told.items ≡ length live.now.blocks }
-    ensures { IfOk result (λ out. out.items ≡ held_text log.now live.now.blocks block side
-        own.now held.now.told.items (bytes_each texts.now) held.now.parts.items) }
+    requires known { IsAnalysis analysis.now }
+    requires told { length held.now.told.items ≡ length (blocks_in analysis.now) }
+    ensures { IfOk result (λ out. out.items ≡ held_text analysis.now.files.log.now
+        (blocks_in analysis.now) choice.now.block choice.now.question.side choice.now.own.items
+        held.now.told.items (texts_in analysis.now) held.now.parts.items) }
 {
+    let (live, log) = (&analysis.input.live, analysis.files.log);
     let mut out = Vec::new(alloc);
     let mut buffer = String::new(alloc);
-    push_numbered(&mut out, &mut buffer, "asked", live.blocks(), block, log)?;
-    push_answer(&mut out, &mut buffer, live, side, own, held, texts)?;
+    push_numbered(
+        &mut out,
+        &mut buffer,
+        "asked",
+        live.blocks(),
+        choice.block,
+        log,
+    )?;
+    push_answer(&mut out, &mut buffer, analysis, choice, held)?;
     Ok(out)
 }
 
@@ -41,21 +49,21 @@ pub(crate) fn held_text_of(
 fn push_answer(
     out: &mut Vec<u8>,
     buffer: &mut String,
-    live: &Live,
-    side: Side,
-    own: &[bool],
+    analysis: &Analysis,
+    choice: &Choice,
     held: &Held,
-    texts: &[&[u8]],
 ) -> Result<(), AllocError>
-    requires { length held.now.told.items ≡ length live.now.blocks }
-    ensures { OnOk result (out.new.items ≡ out.old.items ++ held_lines side live.now.blocks
-        own.now held.now.told.items (bytes_each texts.now) held.now.parts.items) }
+    requires { length held.now.told.items ≡ length (blocks_in analysis.now) }
+    ensures { OnOk result (out.new.items ≡ out.old.items ++ held_lines choice.now.question.side
+        (blocks_in analysis.now) choice.now.own.items held.now.told.items
+        (texts_in analysis.now) held.now.parts.items) }
 {
-    if !is_any(own) {
+    if !is_any(choice.own.as_slice()) {
         out.extend_from_slice(b"leaked\n")?;
         return Ok(());
     }
-    push_held(out, buffer, live, held.told.as_slice())?;
+    push_held(out, buffer, &analysis.input.live, held.told.as_slice())?;
+    let (side, texts) = (choice.question.side, analysis.texts.texts.as_slice());
     push_parts(out, buffer, side, texts, held.parts.as_slice())
 }
 

@@ -1,16 +1,15 @@
 //! What one caller or one block holds, and who holds it.
 
-ghost use Rattle.std.specs.Prelude.{◌≡◌, ◌≢◌, ◌<◌, [], ◌∷◌, length, IfOk, IfErr};
+ghost use Rattle.std.specs.Prelude.{◌≢◌, [], ◌∷◌, IfOk, IfErr};
 ghost use Rattle.leak_index.specs.Readings.{distances_of};
 ghost use Rattle.leak_search.specs.declared.error.FindError.TheVariants.{NoMemory};
 ghost use Rattle.leak_search.specs.Signs.{AreSigns};
 ghost use Rattle.leak_search.specs.declared.why.WhyError.TheVariants.{Find};
 ghost use Rattle.leak_holder_search.specs.Held.{FindsHeld, IsHeldFault};
-ghost use Rattle.leak_holder_search.specs.Answers.{IsAnswerOf, IsKnown};
 ghost use Rattle.leak_holder_search.specs.Since.{earlier};
 
-use crate::analysis::{Analysis, analysis_of, facts_of};
-use crate::choosing::{chosen, in_both};
+use crate::analysis::analysis_of;
+use crate::choosing::choice_of;
 use crate::files::Files;
 use crate::held::held_of;
 use crate::held_report::held_text_of;
@@ -18,7 +17,7 @@ use crate::search::Holding;
 use crate::since::is_continued;
 use leak_holders::{Crew, Progress, Question};
 use leak_pool::Plan;
-use leak_search::{FindError, Input, Rules, WhyError, consistency_of_one, ground_of, read_input};
+use leak_search::{FindError, Rules, WhyError, consistency_of_one, ground_of, read_input};
 use leak_why::block_at;
 use std::alloc::Global;
 use std::thread::Threads;
@@ -56,48 +55,14 @@ pub fn find_held<R: Threads + Sync, P: Progress>(
     let ground = ground_of(alloc, &input, rules.reading)?;
     let crew = Crew::new(rt, plan.workers(), progress);
     let analysis = analysis_of(rt, alloc, &input, &ground, files, crew.workers)?;
-    let Some(block) = block_at(&input.live, question.address) else {
+    let Some(block) = block_at(&analysis.input.live, question.address) else {
         return Err(WhyError::NoBlock(question.address));
     };
-    let report = answer(&crew, alloc, &input, &analysis, files.log, question, block)?;
+    let choice = choice_of(alloc, &analysis, question, block)?;
+    let held = held_of(&crew, alloc, &analysis, &choice)?;
+    let report = held_text_of(alloc, &analysis, &choice, &held)?;
     Ok(Holding {
         report,
         signs: consistency.signs,
     })
-}
-
-/// The answer about the block with the number, or about all blocks of its text.
-fn answer<R: Threads + Sync, P: Progress>(
-    crew: &Crew<'_, R, P>,
-    alloc: Global,
-    input: &Input,
-    analysis: &Analysis,
-    log: &[u8],
-    question: Question,
-    block: usize,
-) -> Result<Vec<u8>, FindError>
-    requires known { IsKnown log.now input.now analysis.now }
-    requires one { block < length input.now.live.blocks }
-    ensures memory { IfErr result (λ e. e ≡ FindError.NoMemory) }
-    ensures answer { IfOk result (λ out. IsAnswerOf log.now input.now analysis.now question block out.items) }
-{
-    let (live, texts) = (&input.live, analysis.texts.texts.as_slice());
-    let facts = facts_of(&*input, &*analysis);
-    let chosen = chosen(alloc, facts.numbers, block, question.alone)?;
-    let own = in_both(alloc, chosen.as_slice(), facts.reached)?;
-    let held = held_of(
-        crew,
-        alloc,
-        input,
-        analysis.ground,
-        &analysis.edges,
-        &facts,
-        texts.len() as u32,
-        question.side,
-        chosen.as_slice(),
-        facts.numbers[block],
-    )?;
-    let own = own.as_slice();
-    let report = held_text_of(alloc, live, log, block, question.side, own, &held, texts)?;
-    Ok(report)
 }

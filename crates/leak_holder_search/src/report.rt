@@ -1,62 +1,57 @@
 //! The report, told.
-ghost use Rattle.std.specs.Prelude.{◌≡◌, ◌++◌, ◌-◌, ◌≤◌, length, flat_map, option_map, codes, string_bytes, IfOk, IfSome, OnOk};
-ghost use Rattle.leak_report.specs.Lines.{sizes_line, undumped_line, log_line, freed_lines, dead_lines};
+ghost use Rattle.std.specs.Prelude.{◌≡◌, ◌++◌, length, flat_map, option_map, string_bytes, IfOk, IfSome, OnOk};
 ghost use Rattle.leak_report.specs.Numbered.{bytes_each};
-ghost use Rattle.leak_holder_search.specs.Text.{AreRowsOf, holder_front, holder_line, holders_text, line_of, new_lines};
+ghost use Rattle.leak_search.specs.Report.{head_with};
+ghost use Rattle.leak_holder_search.specs.Analyses.{IsAnalysis, blocks_in, texts_in};
+ghost use Rattle.leak_holder_search.specs.Since.{earlier, news_of};
+ghost use Rattle.leak_holder_search.specs.Text.{AreRowsOf, holder_front, holder_line, holders_text, line_of, new_lines, sums_of};
 
+use crate::analysis::Analysis;
+use crate::since::new;
 use leak_blocks::{Block, Live};
-use leak_holders::{Facts, Holder};
+use leak_holders::Holder;
 use leak_report::{Head, marked_sizes, push_dead, push_freed, push_head, push_line, push_sizes};
+use leak_search::head_of;
 use std::alloc::{AllocError, Global};
 
-/// Makes the report: its lines, each with its line feed.
-///
-/// The facts are those of the live blocks. `new` says which are new, if these alone are counted. The rows name blocks and texts by their
-/// places.
+/// Makes the report: its lines, each with its line feed. The rows name blocks and texts by their places.
 pub(crate) fn text(
     alloc: Global,
-    head: &Head,
-    live: &Live,
-    facts: &Facts,
-    new: Option<&[bool]>,
-    texts: &[&[u8]],
+    analysis: &Analysis,
     rows: &[Holder],
 ) -> Result<Vec<u8>, AllocError>
-    requires one_each { length facts.now.reached.now ≡ length live.now.blocks }
-    requires new { IfSome new (λ s. length s.now ≡ length live.now.blocks) }
-    requires inside { AreRowsOf (length live.now.blocks) (length texts.now) rows.now }
-    ensures { IfOk result (λ out. out.items ≡ holders_text head.now live.now.blocks
-        (option_map (λ s. s.now) new.entry) facts.now.reached.now (bytes_each texts.now) rows.now) }
+    requires known { IsAnalysis analysis.now }
+    requires inside { AreRowsOf (length (blocks_in analysis.now)) (length (texts_in analysis.now))
+        rows.now }
+    ensures { let a = analysis.now in
+        IfOk result (λ out. out.items ≡ holders_text (head_with a.input.now a.ground.now.roots None)
+        (blocks_in a) (news_of (earlier a.files.since) (blocks_in a)) a.set.items (texts_in a)
+        rows.now) }
 {
-    let bytes = live.bytes();
-    let (marked, marked_bytes) = marked_sizes(live.blocks(), facts.reached);
-    let first = sums(alloc, head, live, bytes, new, marked, marked_bytes)?;
+    let (input, texts) = (analysis.input, analysis.texts.texts.as_slice());
+    let head = head_of(input, &analysis.ground.roots, None);
+    let new = new(analysis.files.since, analysis.counted.as_slice());
+    let first = sums(alloc, &head, &input.live, new, analysis.set.as_slice())?;
     let mut out = first.into_bytes();
-    push_holders(alloc, &mut out, live.blocks(), texts, rows)?;
+    push_holders(alloc, &mut out, input.live.blocks(), texts, rows)?;
     Ok(out)
 }
 
-/// The lines before those of the holders, of the bytes of all blocks, the new ones, and the number and the bytes of the marked ones.
+/// The lines before those of the holders. `new` says which blocks are new, if these alone are counted, and `set` which are marked.
 fn sums(
     alloc: Global,
     head: &Head,
     live: &Live,
-    bytes: u64,
     new: Option<&[bool]>,
-    marked: u64,
-    marked_bytes: u64,
+    set: &[bool],
 ) -> Result<String, AllocError>
-    requires few { marked ≤ length live.now.blocks }
-    requires small { marked_bytes ≤ bytes }
     requires new { IfSome new (λ s. length s.now ≡ length live.now.blocks) }
-    ensures { IfOk result (λ out. string_bytes out ≡
-        sizes_line (codes "blocks") (length live.now.blocks) bytes
-        ++ undumped_line head.now ++ log_line head.now ++ freed_lines head.now.freed
-        ++ dead_lines head.now.dead ++ new_lines (option_map (λ s. s.now) new.entry) live.now.blocks
-        ++ sizes_line (codes "marked") marked marked_bytes
-        ++ sizes_line (codes "leaked") (length live.now.blocks - marked) (bytes - marked_bytes)) }
+    requires one_each { length set.now ≡ length live.now.blocks }
+    ensures { IfOk result (λ out. string_bytes out ≡ sums_of head.now live.now.blocks
+        (option_map (λ s. s.now) new.entry) set.now) }
 {
-    let blocks = live.blocks().len() as u64;
+    let (blocks, bytes) = (live.blocks().len() as u64, live.bytes());
+    let (marked, marked_bytes) = marked_sizes(live.blocks(), set);
     let mut out = String::new(alloc);
     push_sizes(&mut out, "blocks", blocks, bytes)?;
     push_head(&mut out, head)?;

@@ -1,20 +1,20 @@
 //! Who holds the memory of one core.
 
-ghost use Rattle.std.specs.Prelude.{◌≡◌, ◌≢◌, [], ◌∷◌, IfOk, IfErr};
+ghost use Rattle.std.specs.Prelude.{◌≢◌, [], ◌∷◌, IfOk, IfErr};
 ghost use Rattle.leak_index.specs.Readings.{distances_of};
 ghost use Rattle.leak_search.specs.Signs.{AreSigns};
 ghost use Rattle.leak_holder_search.specs.Holders.{FindsHolders, IsFaultOfHolders};
 ghost use Rattle.leak_holder_search.specs.Since.{earlier};
 
-use crate::analysis::{analysis_of, facts_of};
+use crate::analysis::analysis_of;
 use crate::files::Files;
 use crate::ranking::rows_of;
 use crate::report::text;
-use crate::since::{is_continued, new};
+use crate::since::is_continued;
 use leak_holders::{Crew, Progress};
 use leak_pool::Plan;
 use leak_report::Signs;
-use leak_search::{FindError, Rules, consistency_of_one, ground_of, head_of, read_input};
+use leak_search::{FindError, Rules, consistency_of_one, ground_of, read_input};
 use std::alloc::Global;
 use std::thread::Threads;
 
@@ -59,13 +59,8 @@ pub fn find_holders<R: Threads + Sync, P: Progress>(
     let ground = ground_of(alloc, &input, rules.reading)?;
     let crew = Crew::new(rt, plan.workers(), progress);
     let analysis = analysis_of(rt, alloc, &input, &ground, files, crew.workers)?;
-    let (ground, edges) = (analysis.ground, &analysis.edges);
-    let (facts, texts) = (facts_of(&input, &analysis), analysis.texts.texts.as_slice());
-    let rows = rows_of(&crew, alloc, &input, ground, edges, &facts, texts.len())?;
-    let head = head_of(&input, &ground.roots, None);
-    let new = new(files.since, facts.counted);
-    let rows = rows.as_slice();
-    let report = text(alloc, &head, &input.live, &facts, new, texts, rows)?;
+    let rows = rows_of(&crew, alloc, &analysis)?;
+    let report = text(alloc, &analysis, rows.as_slice())?;
     Ok(Holding {
         report,
         signs: consistency.signs,

@@ -1,25 +1,48 @@
--- From the lemmas of GraphLemmas.
+-- From the lemmas of GraphLemmas and BothLemmas.
 use Rattle.std.proofs.Common.{◌↔◌, ◌<◌, ℕ, Bool, false, List, length, sym, ap, subst, ◌∙◌}
 use Rattle.std.specs.Prelude.{IsTrue, slice_index_or}
 use Rattle.leak_elf.specs.Words.{word_of}
-use Rattle.leak_marks.specs.Reach.{Graph}
-use Rattle.leak_without.specs.Without.{IsHeldBy, chosen}
-use Rattle.leak_pool.specs.Marking.{led_by_roots}
+use Rattle.leak_pool.specs.Scopes.{all_targets}
+use Rattle.leak_without.specs.Without.{IsHeldBy, chosen, graph_of}
 use Rattle.leak_holders.specs.Parts.{parts_by}
 use Rattle.leak_holder_search.specs.Held.{both}
-use Rattle.leak_holder_search.proofs.GraphLemmas.{same_held_each, same_listed, targets_each}
+use Rattle.leak_holder_search.proofs.GraphLemmas.{alike, listed_in, same_held_each, targets_in}
+use Rattle.leak_holder_search.proofs.BothLemmas.{both_each, set_each}
 use Rattle.leak_holder_search.proofs.held.held_in.Goals as goal
+
+pub held_blocks-requires-clause-told : goal.held_blocks-requires-clause-told
+held_blocks-requires-clause-told c =
+    ap length c.as_slice-set.ensures.value ∙ set_each _ c.requires.known _ c.requires.choice ∙ sym (listed_in _ c.requires.known)
+
+pub parts_of-requires-clause-told : goal.parts_of-requires-clause-told
+parts_of-requires-clause-told c =
+    ap length c.as_slice-held.ensures.value ∙ c.in_ok-held.ensures.len ∙ ap length c.as_slice-set.ensures.value ∙ set_each _ c.requires.known _ c.requires.choice
+    ∙ ap length (sym c.facts_of-facts.ensures.of.of_blocks)
+
+pub in_both-requires : goal.in_both-requires
+in_both-requires c =
+    c.facts_of-facts.ensures.complete.counted ∙ ap length c.facts_of-facts.ensures.of.of_blocks ∙ sym (set_each _ c.requires.known _ c.requires.choice)
+    ∙ sym (ap length c.as_slice-held.ensures.value ∙ c.in_ok-held.ensures.len ∙ ap length c.as_slice-set.ensures.value)
 
 pub returns : goal.returns
 returns c =
-    let led : List ℕ = led_by_roots (word_of c.args.input.now.image) c.args.ground.now.lookup c.args.ground.now.roots in
+    let a = c.args.analysis.now in
+    let long = c.in_ok-held.ensures.len ∙ ap length c.as_slice-set.ensures.value ∙ set_each a c.requires.known _ c.requires.choice in
     record {
-      held = c.in_ok-held.held.items;
-      len = c.in_ok-held.ensures.len ∙ c.requires.chosen ∙ ap length (sym c.requires.same_blocks) ∙ sym (targets_each (word_of c.args.input.now.image) c.args.ground.now.lookup c.args.edges.now.first.items led c.requires.listed.led);
-      holds =
-          same_held_each (word_of c.args.input.now.image) c.args.ground.now.lookup c.args.edges.now.first.items led c.requires.listed.led (chosen c.args.chosen.now) c.in_ok-held.held.items
-          (subst (λ (h : Graph). (b : ℕ) → b < length h.targets → IsTrue (slice_index_or c.in_ok-held.held.items b false) ↔ IsHeldBy h (chosen c.args.chosen.now) b)
-          (same_listed _ _ _ _ _ _ c.as_slice.ensures.value c.requires.listed.words c.requires.listed.lookup) c.in_ok-held.ensures.each);
-      told_are = c.in_ok-told.ensures ∙ ap (λ (hs : List Bool). both hs c.args.facts.now.counted.now) c.as_slice-3.ensures.value;
-      rows = c.in_ok-parts.ensures ∙ ap (λ (hs : List Bool). parts_by c.args.facts.now (λ b. slice_index_or hs b false) c.args.texts) c.as_slice-2.ensures.value;
+      facts = c.facts_of-facts.result;
+      of = c.facts_of-facts.ensures.of;
+      each = ap length c.in_ok-told.ensures ∙ both_each _ _ ∙ ap length c.as_slice-held.ensures.value ∙ long;
+      are = record {
+        held = c.in_ok-held.held.items;
+        len = long ∙ sym (targets_in a c.requires.known);
+        holds =
+            same_held_each _ _ (alike a c.requires.known _ c.as_slice-first.ensures.value) (chosen c.args.choice.now.set.items) c.in_ok-held.held.items
+            (subst (λ (set : List Bool). (b : ℕ) → b < length (all_targets (word_of a.edges.listed.words.now) a.edges.listed.lookup.now)
+            → IsTrue (slice_index_or c.in_ok-held.held.items b false) ↔ IsHeldBy (graph_of c.as_slice-first.result.now (all_targets (word_of a.edges.listed.words.now) a.edges.listed.lookup.now)) (chosen set) b)
+            c.as_slice-set.ensures.value c.in_ok-held.ensures.each);
+        told_are = c.in_ok-told.ensures ∙ ap (λ (hs : List Bool). both hs c.facts_of-facts.result.counted.now) c.as_slice-held.ensures.value;
+        rows =
+            c.in_ok-parts.ensures ∙ ap (λ (hs : List Bool). parts_by c.facts_of-facts.result (λ b. slice_index_or hs b false) c.count_texts.result) c.as_slice-held.ensures.value
+            ∙ ap (parts_by c.facts_of-facts.result (λ b. slice_index_or c.in_ok-held.held.items b false)) c.count_texts.ensures;
+      };
     }

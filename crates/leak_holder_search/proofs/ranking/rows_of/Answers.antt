@@ -1,31 +1,35 @@
--- From the lemmas of GraphLemmas.
-use Rattle.std.proofs.Common.{[], length, sym, ap, subst}
+-- From the lemmas of GraphLemmas and RowLemmas.
+use Rattle.std.proofs.Common.{ℕ, length, ap, subst}
 use Rattle.std.proofs.lemmas.Result.{IfOk-weaker}
 use Rattle.leak_elf.specs.Words.{word_of}
-use Rattle.leak_marks.specs.Reach.{Graph}
-use Rattle.leak_pool.specs.Marking.{graph_of, led_by_roots}
 use Rattle.leak_pool.specs.Scopes.{all_targets}
-use Rattle.leak_without.specs.Without.{graph_of as graph_by}
-use Rattle.leak_holders.specs.Holders.{AreHolders, AreReached}
-use Rattle.leak_holder_search.proofs.GraphLemmas.{same_holders, same_listed, same_marked}
+use Rattle.leak_without.specs.Without.{graph_of}
+use Rattle.leak_holders.specs.Holders.{AreHolders}
+use Rattle.leak_holder_search.specs.Analyses.{AreRowsIn, blocks_in, graph_in, texts_in}
+use Rattle.leak_holder_search.specs.Text.{AreRowsOf}
+use Rattle.leak_holder_search.proofs.GraphLemmas.{alike, reached_in, same_holders}
+use Rattle.leak_holder_search.proofs.RowLemmas.{inside_of}
 use Rattle.leak_holder_search.proofs.ranking.rows_of.Goals as goal
 
 pub holders-requires-clause-reached : goal.holders-requires-clause-reached
-holders-requires-clause-reached g c κs lives =
-    subst (λ (h : Graph). AreReached h c.args.facts.now.reached.now)
-    (sym (same_listed _ _ _ _ _ _ c.as_slice-first.ensures.value c.requires.listed.words c.requires.listed.lookup))
-    (same_marked (word_of c.args.input.now.image) c.args.ground.now.lookup c.args.edges.now.first.items
-    (led_by_roots (word_of c.args.input.now.image) c.args.ground.now.lookup c.args.ground.now.roots) c.requires.listed.led
-    c.args.facts.now.reached.now (length c.args.input.now.live.blocks) (ap length (sym c.requires.same_blocks)) c.requires.marked)
+holders-requires-clause-reached g c κs within = reached_in _ c.requires _ _ c.as_slice-first.ensures.value c.facts_of-facts.ensures.of.reached
 
-pub returns : goal.returns
-returns g c =
-    let words = word_of c.args.input.now.image in
-    let led = led_by_roots words c.args.ground.now.lookup c.args.ground.now.roots in
-    IfOk-weaker c.holders.result
-    (λ v. AreHolders (graph_by c.as_slice-first.result.now (all_targets (word_of c.args.edges.now.listed.words.now) c.args.edges.now.listed.lookup.now)) c.args.facts.now c.args.texts v.items)
-    (λ v. AreHolders (graph_of words c.args.ground.now.lookup led []) c.args.facts.now c.args.texts v.items)
-    (λ v is. same_holders words c.args.ground.now.lookup c.args.edges.now.first.items led c.requires.listed.led c.args.facts.now c.args.texts v.items
-    (subst (λ (h : Graph). AreHolders h c.args.facts.now c.args.texts v.items)
-    (same_listed _ _ _ _ _ _ c.as_slice-first.ensures.value c.requires.listed.words c.requires.listed.lookup) is))
-    c.holders.ensures
+pub returns-clause-are : goal.returns-clause-are
+returns-clause-are g c =
+    let a = c.args.analysis.now in
+    let listed = graph_of c.as_slice-first.result.now (all_targets (word_of a.edges.listed.words.now) a.edges.listed.lookup.now) in
+    IfOk-weaker c.holders.result (λ v. AreHolders listed c.facts_of-facts.result c.count_texts.result v.items) (λ v. AreRowsIn a v.items)
+    (λ v is. record {
+      facts = c.facts_of-facts.result;
+      known = c.facts_of-facts.ensures.of;
+      holders = subst (λ (n : ℕ). AreHolders (graph_in a) c.facts_of-facts.result n v.items) c.count_texts.ensures (same_holders _ _ (alike a c.requires _ c.as_slice-first.ensures.value) _ _ _ is);
+    }) c.holders.ensures
+
+pub returns-clause-inside : goal.returns-clause-inside
+returns-clause-inside g c =
+    let a = c.args.analysis.now in
+    let listed = graph_of c.as_slice-first.result.now (all_targets (word_of a.edges.listed.words.now) a.edges.listed.lookup.now) in
+    IfOk-weaker c.holders.result (λ v. AreHolders listed c.facts_of-facts.result c.count_texts.result v.items)
+    (λ v. AreRowsOf (length (blocks_in a)) (length (texts_in a)) v.items)
+    (λ v is. subst (λ (n : ℕ). AreRowsOf (length (blocks_in a)) n v.items) c.count_texts.ensures
+    (inside_of listed c.facts_of-facts.result c.count_texts.result _ v.items is (ap length c.facts_of-facts.ensures.of.of_blocks))) c.holders.ensures

@@ -1,28 +1,26 @@
--- From the lemmas of Leaks and TextLemmas.
-use Rattle.std.proofs.Common.{◌≡◌, ◌++◌, ◌∙◌, ap, Bool, List, Option, option_map, string_bytes, flat_map, arith}
-use Rattle.leak_report.specs.Totals.{bytes_of}
-use Rattle.leak_report.proofs.Leaks.{length-marked, bytes_of-marked}
+-- From the lemmas of FindLemmas.
+use Rattle.std.proofs.Common.{◌≡◌, ◌++◌, ◌∙◌, Bool, List, None, Option, ap, flat_map, option_map, string_bytes}
+use Rattle.leak_report.specs.declared.head.Head.{Head}
 use Rattle.leak_report.specs.Numbered.{bytes_each}
+use Rattle.leak_search.specs.Report.{head_with}
+use Rattle.leak_holder_search.specs.Analyses.{blocks_in, texts_in}
+use Rattle.leak_holder_search.specs.Since.{earlier, news_of}
 use Rattle.leak_holder_search.specs.Text.{holders_text, line_of, sums_of}
-use Rattle.leak_holder_search.proofs.TextLemmas.{told}
+use Rattle.leak_holder_search.proofs.FindLemmas.{news_are}
 use Rattle.leak_holder_search.proofs.report.text.Goals as goal
-
-pub sums-requires-clause-few : goal.sums-requires-clause-few
-sums-requires-clause-few c =
-    rw (← c.blocks-2.ensures.value) (omega (arith, c.marked_sizes-marked.ensures.number, length-marked c.args.facts.now.reached.now c.blocks-2.result.now))
-
-pub sums-requires-clause-small : goal.sums-requires-clause-small
-sums-requires-clause-small c =
-    omega (arith, c.marked_sizes-marked.ensures.bytes, bytes_of-marked c.args.facts.now.reached.now c.blocks-2.result.now, c.bytes-bytes.ensures, ap bytes_of c.blocks-2.ensures.value)
 
 pub returns : goal.returns
 unfolding holders_text
 returns c =
-    let news : Option (List Bool) = option_map (λ s. s.now) c.args.new in
-    let set : List Bool = c.args.facts.now.reached.now in
-    let sums : string_bytes c.in_ok-first.first ≡ sums_of c.args.head.now c.args.live.now.blocks news set =
-    told c.args.head.now c.args.live.now.blocks news set c.blocks-2.result.now c.bytes-bytes.result c.marked_sizes-marked.result.0 c.marked_sizes-marked.result.1 (string_bytes c.in_ok-first.first)
-    c.requires.one_each c.blocks-2.ensures.value c.bytes-bytes.ensures c.marked_sizes-marked.ensures.number c.marked_sizes-marked.ensures.bytes c.in_ok-first.ensures in
+    let a = c.args.analysis.now in
+    let news : Option (List Bool) = news_of (earlier a.files.since) (blocks_in a) in
+    let sums : string_bytes c.in_ok-first.first ≡ sums_of (head_with a.input.now a.ground.now.roots None) (blocks_in a) news a.set.items =
+    c.in_ok-first.ensures
+    ∙ ap (λ (h : Head). sums_of h (blocks_in a) (option_map (λ s. s.now) c.new-new.result) c.as_slice-2.result.now) c.head_of-head.ensures
+    ∙ ap (λ (ns : Option (List Bool)). sums_of (head_with a.input.now a.ground.now.roots None) (blocks_in a) ns c.as_slice-2.result.now)
+    (c.new-new.ensures ∙ ap (λ (ts : List Bool). option_map (λ _. ts) (earlier a.files.since)) c.as_slice.ensures.value ∙ news_are a c.requires.known)
+    ∙ ap (sums_of (head_with a.input.now a.ground.now.roots None) (blocks_in a) news) c.as_slice-2.ensures.value in
     c.in_ok-push_holders.ensures
-    ∙ ap (λ bs. c.into_bytes-out.result.items ++ flat_map (line_of bs (bytes_each c.args.texts.now)) c.args.rows.now) c.blocks-3.ensures.value
-    ∙ ap (λ t. t ++ flat_map (line_of c.args.live.now.blocks (bytes_each c.args.texts.now)) c.args.rows.now) (ap (λ v. v.items) c.into_bytes-out.ensures.value ∙ sums)
+    ∙ ap (λ bs. c.into_bytes-out.result.items ++ flat_map (line_of bs (bytes_each c.as_slice-texts.result.now)) c.args.rows.now) c.blocks-2.ensures.value
+    ∙ ap (λ ts. c.into_bytes-out.result.items ++ flat_map (line_of (blocks_in a) (bytes_each ts)) c.args.rows.now) c.as_slice-texts.ensures.value
+    ∙ ap (λ t. t ++ flat_map (line_of (blocks_in a) (texts_in a)) c.args.rows.now) (ap (λ v. v.items) c.into_bytes-out.ensures.value ∙ sums)
