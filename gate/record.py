@@ -5,9 +5,6 @@ checksum of all that decides whether they are wrong: the kit, the crate's line o
 bodies; and of the crates of the repository below it the public types, heads and clauses, as `rt ci` left them in out/, and the
 definitions that these or the crate name, directly or not. When any of these changes, the line no longer speaks of the crate.
 
-A line of an earlier judge counts as long as JUDGES_BEFORE has it: refusing more than before, a judge casts doubt on what the earlier
-one took, but whoever changes a crate has its bodies judged anew.
-
 A body that is wrong by a contract stays so whatever becomes of bodies, inner functions and lemmas of the crates below, so these
 count nowhere, nor does a crate that declares nothing, as one of lemmas alone; nor do lines that are comments, but in wrong bodies.
 """
@@ -18,8 +15,6 @@ import subprocess
 
 PARTS = ("src", "specs", "proofs")
 JUDGES = ("edits.py", "judging.py", "wrong_bodies.py")
-# The judge that took an error about a missing name for a refusal if it was worded in two further ways.
-JUDGES_BEFORE = ("911f463c36c17260",)
 FILE = "gate/refused.txt"
 COMMENT = {".rt": "//", ".antt": "--"}
 # A library's definitions that a text names, as 'use Rattle.leak_elf.specs.Words.{word_of}' or '.. as words'; the heads of a function and of a type.
@@ -138,7 +133,7 @@ def read(root):
 
 def speaks_of(row, count, checksum):
     """Returns whether a row of the record speaks of a crate that has so many wrong bodies and this checksum."""
-    return row is not None and (row[0], row[2]) == (count, checksum) and row[1] in (judge(), *JUDGES_BEFORE)
+    return row == (count, judge(), checksum)
 
 
 def write(root, record):

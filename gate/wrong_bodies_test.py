@@ -175,19 +175,19 @@ def facts_of_record():
     """Returns what a record of three crates leaves to try."""
     crates = [types.SimpleNamespace(name=it, sum=f"sum of {it}", edits=[Edit(it, str(n), f"f{n // 2}", [], False) for n in range(6)]) for it in "abc"]
     whole = {it.name: (6, record.judge(), it.sum) for it in crates}
-    before = {it.name: (6, who, it.sum) for it, who in zip(crates, (record.JUDGES_BEFORE[0], "another", record.judge()))}
+    others = {it.name: (6, who, it.sum) for it, who in zip(crates, (record.judge(), "another", record.judge()))}
     with contextlib.redirect_stdout(io.StringIO()):
         fresh = wrong_bodies.left_to_try(copy.deepcopy(crates), {}, 7)
         same = wrong_bodies.left_to_try(copy.deepcopy(crates), whole, 7)
         other = wrong_bodies.left_to_try(copy.deepcopy(crates), whole, 8)
         changed_since = {"b": (6, record.judge(), "another"), "c": (5, record.judge(), "sum of c")}
         moved = wrong_bodies.left_to_try(copy.deepcopy(crates), whole | changed_since, 7)
-        judged = wrong_bodies.left_to_try(copy.deepcopy(crates), before, 7)
+        judged = wrong_bodies.left_to_try(copy.deepcopy(crates), others, 7)
     found = {"without a record all are tried": [len(it.edits) for it in fresh] == [6, 6, 6]}
     found["of recorded crates two are tried, a batch of each"] = [len(it.edits) for it in same] == [3, 3]
     found["the commit chooses which"] = [it.name for it in same] != [it.name for it in other]
     found["a crate that changed is tried whole"] = [(it.name, len(it.edits)) for it in moved] == [("a", 3), ("b", 6), ("c", 6)]
-    found["so is one of an unknown judge, and none of the judge before"] = [(it.name, len(it.edits)) for it in judged] == [("a", 3), ("b", 6), ("c", 3)]
+    found["so is one of another judge"] = [(it.name, len(it.edits)) for it in judged] == [("a", 3), ("b", 6), ("c", 3)]
     return found
 
 
