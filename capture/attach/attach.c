@@ -12,8 +12,8 @@
 
 #include "attach.h"
 
-enum { MOST_TRIES = 50, MOST_UNREAD = 20, WAIT_NS = 2000000, LOOK_NS = 1000000, PIECE = 256 << 10, MOST_FOREIGN = 256 << 10,
-       MOST_OWN = 64 << 20 };
+enum { MOST_TRIES = 50, MOST_UNREAD = 20, WAIT_NS = 2000000, LOOK_NS = 1000000, PIECE = 256 << 10,
+       MOST_FOREIGN = 256 << 10, MOST_OWN = 64 << 20 };
 
 static void nap(long nanoseconds)
 {
@@ -84,8 +84,8 @@ static int64_t call_or_fail(struct target *target, struct request_of_call reques
     return result;
 }
 
-/* Has the process map memory, fills it, and has its code made executable. Gives false if the process has just mapped something
- * there itself. */
+/* Has the process map memory, fills it, and has its code made executable. Gives false if the process has just mapped
+ * something there itself. */
 static bool make_island(struct target *target)
 {
     uint64_t bytes = target->island.stack_end - target->base;

@@ -1,5 +1,5 @@
-/* The dynamic symbols of a mapped file, as the process has them in its memory, which may be hostile: sizes are bounded. While
- * the process goes on it may map and unmap files, so what can't be read is noted, and may be read the next time. */
+/* The dynamic symbols of a mapped file, as the process has them in its memory, which may be hostile: sizes are bounded.
+ * While the process goes on it may map and unmap files, so what can't be read is noted, and may be read the next time. */
 #include <stdio.h>
 #include <stdlib.h>
 #include <string.h>

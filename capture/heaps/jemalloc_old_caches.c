@@ -36,7 +36,8 @@ static void add_cache(struct old_caches *all, uint64_t at)
 /* Whether two words in a row may be those of an arena: its first cache, and the second ring's word there. */
 static int is_list(const struct jemalloc *je, uint64_t at, uint64_t value)
 {
-    return value && value % 8 == 0 && is_word(je->heap->core, at + 8, value + to_descriptor(je)) && !is_in_base(je, value, 1);
+    return value && value % 8 == 0 && !is_in_base(je, value, 1)
+        && is_word(je->heap->core, at + 8, value + to_descriptor(je));
 }
 
 /* Finds caches by two words of each that have its own address. */
@@ -57,13 +58,13 @@ static struct old_cache *next_of(const struct old_caches *all, const struct old_
 {
     struct jemalloc *je = all->je;
     struct core *core = je->heap->core;
-    uint64_t at;
+    uint64_t ring = to_ring(je), descriptor = to_descriptor(je), at;
     struct old_cache *next;
 
-    if (!read_word(je->heap, cache->at + to_ring(je), &at) || !(next = cache_at(all, at)) || next->arena != cache->arena)
+    if (!read_word(je->heap, cache->at + ring, &at) || !(next = cache_at(all, at)) || next->arena != cache->arena)
         return NULL;
-    return is_word(core, at + to_ring(je) + 8, cache->at) && is_word(core, cache->at + to_descriptor(je), at + to_descriptor(je))
-        && is_word(core, at + to_descriptor(je) + 8, cache->at + to_descriptor(je)) ? next : NULL;
+    return is_word(core, at + ring + 8, cache->at) && is_word(core, cache->at + descriptor, at + descriptor)
+        && is_word(core, at + descriptor + 8, cache->at + descriptor) ? next : NULL;
 }
 
 /* Follows the rings from an arena's list. */

@@ -60,7 +60,8 @@ rounds 'signals and children' 3 80000 signals children
 LEAK_TRACE_FORK=1 rounds 'children that are traced' 2 80000 children
 rounds 'programs by vfork, and files that come and go' 3 60000 spawns modules
 
-# A file that is gone when its tables are read is looked at again, and so is the island's place if it is taken meanwhile.
+# A file that is gone when its tables are read is looked at again, and so is the island's place if it is taken
+# meanwhile.
 section files that are gone when they are read
 build vanishing.c
 be_ready vanishing ./vanishing "$(ldd /bin/sh | awk '$1 == "libc.so.6" { sub("libc.so", "libm.so", $3); print $3 }')"

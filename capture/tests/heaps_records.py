@@ -57,7 +57,8 @@ def old_caches(core):
                 ring = start + 8 * i - 56
                 cache, large = ring - 24 * small - 16, (ring + 84 + small + 7) & -8
                 if value == cache + 16 and core.word(ring + 64) == large and core.word(ring + 72):
-                    yield cache, ring, [at + 24 * k for at, count in ((cache + 16, small), (large, 5)) for k in range(count)]
+                    bins = [at + 24 * k for at, count in ((cache + 16, small), (large, 5)) for k in range(count)]
+                    yield cache, ring, bins
 
 
 def tree(core, anchor, mask, class_at):

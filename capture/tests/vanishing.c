@@ -1,5 +1,5 @@
-/* Maps a library's segments as ld.so does, and unmaps them, thousands of times a second: `vanishing FILE`. Who looks at its
- * files while it runs finds one that is gone before its tables are read. */
+/* Maps a library's segments as ld.so does, and unmaps them, thousands of times a second: `vanishing FILE`. Who looks at
+ * its files while it runs finds one that is gone before its tables are read. */
 #include <elf.h>
 #include <fcntl.h>
 #include <stdio.h>
@@ -22,7 +22,8 @@ static void map_segment(int file, char *base, const Elf64_Phdr *p)
 {
     size_t below = p->p_vaddr % PAGE;
     int protection = PROT_READ | (p->p_flags & PF_X ? PROT_EXEC : 0);
-    mmap(base + p->p_vaddr - below, p->p_filesz + below, protection, MAP_PRIVATE | MAP_FIXED, file, p->p_offset - below);
+    mmap(base + p->p_vaddr - below, p->p_filesz + below, protection, MAP_PRIVATE | MAP_FIXED, file,
+         p->p_offset - below);
 }
 
 int main(int count, char **words)

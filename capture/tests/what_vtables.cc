@@ -1,5 +1,5 @@
-/* Loses blocks with words that lead into the tables of a class: to where an object's word leads, and to elsewhere, which
- * is nobody's word. What leak_what must say of each is in the lines that begin `what`; of another block nothing.
+/* Loses blocks with words that lead into the tables of a class: to where an object's word leads, and to elsewhere,
+ * which is nobody's word. What leak_what must say of each is in the lines that begin `what`; of another block nothing.
  *
  * what 72 word +0x8 _ZTV4Both+0x10
  * what 88 word +0x8 _ZTV4Both+0x38
