@@ -4,6 +4,7 @@ use Rattle.std.proofs.lemmas.List.{take-append-drop, take-map, drop-map, length-
 use Rattle.std.proofs.lemmas.Option.{slice_get_within}
 use Rattle.leak_blocks.specs.declared.block.Block.{Block}
 use Rattle.leak_blocks.specs.Numbers.{AreNumbersOf, AreNumbered, CountUp}
+use Rattle.leak_blocks.proofs.NumberedLemmas.{same_length}
 
 -- the blocks that are gathered, and those whose numbers are left
 pub record AreGathered (allocated blocks gathered : List Block) (numbers : List ℕ) : Type 0 where
@@ -109,12 +110,6 @@ halves allocated blocks numbers n a = record {
     listed = ap (drop n) a.listed ∙ drop-map (λ (b : Block). b.line) n a.numbered;
   };
 }
-
-same_length : (allocated bs cs : List Block) → AreNumbersOf allocated bs cs → length bs ≡ length cs
-same_length allocated [] [] h = refl
-same_length allocated [] (c ∷ cs) h = elim h [ ]
-same_length allocated (b ∷ bs) [] h = elim h [ ]
-same_length allocated (b ∷ bs) (c ∷ cs) h = ap (λ (n : ℕ). suc n) (same_length allocated bs cs h.1)
 
 pub as_many : (allocated blocks : List Block) (numbers : List ℕ) → AreNumbered allocated numbers blocks → length numbers ≡ length blocks
 as_many allocated blocks numbers a = ap length a.listed ∙ map_length a.numbered ∙ same_length allocated a.numbered blocks a.stand

@@ -1,5 +1,5 @@
 -- Live blocks of a log and of a longer one.
-use Rattle.std.proofs.Common.{◌≡◌, ℕ, zero, suc, ◌+◌, ◌<◌, ◌≤◌, Bool, true, false, not, ◌&&◌, ◌||◌, ◌⊎◌, inl, inr, refl, sym, subst, ap, ◌∙◌, List, [], ◌∷◌, ◌++◌, length, Option, Some, None, slice_get, arith, length-append, nat_lt, if◌then◌else◌}
+use Rattle.std.proofs.Common.{◌≡◌, ℕ, zero, suc, ◌+◌, ◌<◌, ◌≤◌, Bool, true, false, not, ◌&&◌, ◌||◌, ◌⊎◌, inl, inr, sym, subst, ap, ◌∙◌, List, [], ◌∷◌, ◌++◌, length, Option, Some, None, slice_get, arith, length-append, nat_lt, if◌then◌else◌}
 use Rattle.std.specs.List.{list_any, cons_option}
 use Rattle.std.proofs.lemmas.List.Folds.{list_any-append}
 use Rattle.leak_mtrace.specs.declared.line.Line.{Line}
@@ -110,10 +110,6 @@ one_of_line p (x ∷ xs) b c h k e =
     go (inr s) (inr t) rest = rest s t
 
 -- what is live in a longer log was live in the shorter one
-not_or : (x y : Bool) → not (x || y) ≡ true → not x ≡ true
-not_or true y h = h
-not_or false y h = refl
-
 shorter_test : (s x y : Bool) (c b : Block) → (if s && not (x || y) then Some c else None) ≡ Some b → (if s && not x then Some c else None) ≡ Some b
 shorter_test true true y c b e = e
 shorter_test true false true c b e = absurd (not_some b e)

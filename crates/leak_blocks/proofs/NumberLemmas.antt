@@ -4,6 +4,7 @@ use Rattle.std.specs.List.{list_any, AllByRecursion}
 use Rattle.std.specs.Ordering.{nat_cmp, is_lt}
 use Rattle.std.proofs.lemmas.Bool.Decides.{nat_tests}
 use Rattle.std.proofs.lemmas.Option.{slice_get_within}
+use Rattle.std.proofs.Math.Bool.{and-false}
 use Rattle.leak_mtrace.specs.declared.line.Line.{Line}
 use Rattle.leak_blocks.specs.declared.block.Block.{Block}
 use Rattle.leak_blocks.specs.Span.{AreDisjoint, span_end}
@@ -39,7 +40,7 @@ kept_by last b es fs h e = subst (λ (t : Bool). cond t (entry_of b ∷ es) es �
 dropped_by : (last : ℕ) (b : Block) (es fs : List (ℕ × ℕ)) → is_by last (entry_of b) ≡ false → cond (is_by last (entry_of b)) (entry_of b ∷ es) es ≡ fs → es ≡ fs
 dropped_by last b es fs h e = subst (λ (t : Bool). cond t (entry_of b ∷ es) es ≡ fs) h e
 
-not_empty : (e : ℕ × ℕ) (es : List (ℕ × ℕ)) → e ∷ es ≡ [] → ⊥
+pub not_empty : (e : ℕ × ℕ) (es : List (ℕ × ℕ)) → e ∷ es ≡ [] → ⊥
 not_empty e es h = cc
 
 pub none_by : (last : ℕ) (bs : List Block) → filter (is_by last) (entries_of bs) ≡ [] → AllByRecursion (λ c. last < c.start) bs
@@ -81,16 +82,12 @@ last_by last (b ∷ bs) t e d h = elim (by_or_not last b) [
 
 -- ---- which blocks an allocation meets
 
-and_false : (t : Bool) → (t && false) ≡ false
-and_false true = refl
-and_false false = refl
-
 pub none_met : (x : Line) (last : ℕ) → last + 1 ≡ x.addr + max x.size 1 → (bs : List Block) → AllByRecursion (λ c. (last < c.start) ⊎ (span_end c ≤ x.addr)) bs → list_any (meets x) bs ≡ false
 none_met x last e [] h = refl
 none_met x last e (b ∷ bs) h = ap (λ (t : Bool). t || list_any (meets x) bs) (this h.0) ∙ none_met x last e bs h.1
   where
     this : (last < b.start) ⊎ (span_end b ≤ x.addr) → meets x b ≡ false
-    this (inl l) = ap (λ (t : Bool). nat_lt x.addr (span_end b) && t) (is_not_less b.start (x.addr + max x.size 1) (omega arith)) ∙ and_false (nat_lt x.addr (span_end b))
+    this (inl l) = ap (λ (t : Bool). nat_lt x.addr (span_end b) && t) (is_not_less b.start (x.addr + max x.size 1) (omega arith)) ∙ and-false (nat_lt x.addr (span_end b))
     this (inr l) = ap (λ (t : Bool). t && nat_lt b.start (x.addr + max x.size 1)) (is_not_less x.addr (span_end b) l)
 
 pub met_by : (x : Line) (last : ℕ) (b : Block) → last + 1 ≡ x.addr + max x.size 1 → b.start ≤ last → x.addr - b.start < max b.size 1 → meets x b ≡ true

@@ -31,11 +31,11 @@ all_numbered allocated [] cs h = tt
 all_numbered allocated (b ∷ bs) [] h = elim h [ ]
 all_numbered allocated (b ∷ bs) (c ∷ cs) h = ((c, h.0), all_numbered allocated bs cs h.1)
 
-stand_length : (allocated bs cs : List Block) → AreNumbersOf allocated bs cs → length bs ≡ length cs
-stand_length allocated [] [] h = refl
-stand_length allocated [] (c ∷ cs) h = elim h [ ]
-stand_length allocated (b ∷ bs) [] h = elim h [ ]
-stand_length allocated (b ∷ bs) (c ∷ cs) h = ap (λ (n : ℕ). suc n) (stand_length allocated bs cs h.1)
+pub same_length : (allocated bs cs : List Block) → AreNumbersOf allocated bs cs → length bs ≡ length cs
+same_length allocated [] [] h = refl
+same_length allocated [] (c ∷ cs) h = elim h [ ]
+same_length allocated (b ∷ bs) [] h = elim h [ ]
+same_length allocated (b ∷ bs) (c ∷ cs) h = ap (λ (n : ℕ). suc n) (same_length allocated bs cs h.1)
 
 -- ---- a test of the place alone
 
@@ -55,7 +55,7 @@ stand_filter allocated p same (b ∷ bs) (c ∷ cs) h = go (p b) (p c) (same b c
     go false true e rest = absurd (true≢false (sym e))
 
 pub stand_count : (allocated : List Block) (p : Block → Bool) → IsOfPlace p → (bs cs : List Block) → AreNumbersOf allocated bs cs → count_by p bs ≡ count_by p cs
-stand_count allocated p same bs cs h = sym (length-filter p bs) ∙ stand_length allocated (filter p bs) (filter p cs) (stand_filter allocated p same bs cs h) ∙ length-filter p cs
+stand_count allocated p same bs cs h = sym (length-filter p bs) ∙ same_length allocated (filter p bs) (filter p cs) (stand_filter allocated p same bs cs h) ∙ length-filter p cs
 
 pub stand_any : (allocated : List Block) (p : Block → Bool) → IsOfPlace p → (bs cs : List Block) → AreNumbersOf allocated bs cs → list_any p bs ≡ list_any p cs
 stand_any allocated p same [] [] h = refl

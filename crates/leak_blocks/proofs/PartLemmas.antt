@@ -9,7 +9,7 @@ use Rattle.leak_blocks.specs.Span.{AreDisjoint, span_end}
 use Rattle.leak_blocks.specs.Numbers.{IsNumbered, IsAllocationAt, entry_of, entries_of}
 use Rattle.leak_blocks.specs.Runs.{AreBetween}
 use Rattle.leak_blocks.proofs.OrderLemmas.{less_of, not_less_of}
-use Rattle.leak_blocks.proofs.NumberLemmas.{all_weaker}
+use Rattle.leak_blocks.proofs.NumberLemmas.{all_weaker, not_empty}
 use Rattle.leak_blocks.proofs.RunLemmas.{all_back, disjoint_back, ends_before}
 
 -- ---- the first block that begins at an address or above it
@@ -24,9 +24,6 @@ from_or_not last b = go (nat_lt b.start last) refl
     go : (t : Bool) → nat_lt b.start last ≡ t → ((is_from last (entry_of b) ≡ true) × (last ≤ b.start)) ⊎ ((is_from last (entry_of b) ≡ false) × (b.start < last))
     go true e = inr (grind (arith, nat_tests, e), less_of _ _ e)
     go false e = inl (grind (arith, nat_tests, e), not_less_of _ _ e)
-
-not_empty : (e : ℕ × ℕ) (es : List (ℕ × ℕ)) → e ∷ es ≡ [] → ⊥
-not_empty e es h = cc
 
 pub none_from : (last limit : ℕ) (bs : List Block) → filter (is_from last) (entries_of bs) ≡ [] → AllByRecursion (λ b. (b.start < last) ⊎ (limit ≤ b.start)) bs
 none_from last limit [] e = tt

@@ -1,5 +1,5 @@
 -- Spans of allocations, and their addresses as ranges that are apart.
-use Rattle.std.proofs.Common.{◌≡◌, ℕ, ◌+◌, ◌<◌, ◌≤◌, max, leb, Bool, true, false, cond, ◌&&◌, ◌||◌, List, [], ◌∷◌, ◌++◌, length, map, filter, take, get_or, slice_get, Some, zero, suc, inl, inr, refl, sym, ap, subst, ◌∙◌, append-nil, arith}
+use Rattle.std.proofs.Common.{◌≡◌, ℕ, ◌+◌, ◌<◌, ◌≤◌, max, leb, Bool, true, false, cond, ◌||◌, List, [], ◌∷◌, ◌++◌, length, map, filter, take, get_or, slice_get, Some, zero, suc, inl, inr, refl, sym, ap, subst, ◌∙◌, append-nil, arith}
 use Rattle.std.specs.List.{AllByRecursion, list_any}
 use Rattle.std.specs.List.Sorted.{IsPermutation, IsNonDecreasingBy}
 use Rattle.std.proofs.lemmas.Bool.{le-leb, lt-leb, cases_lt}
@@ -7,6 +7,8 @@ use Rattle.std.proofs.lemmas.List.{map-append, take_all}
 use Rattle.std.proofs.lemmas.List.Elements.{filter_more}
 use Rattle.std.proofs.lemmas.List.Folds.{list_any-append, list_any_more}
 use Rattle.std.proofs.lemmas.List.Sorted.{list_any-IsPermutation}
+use Rattle.std.proofs.Math.Bool.{and-false, or_assoc, or-false}
+use Rattle.leak_lemmas.proofs.Lists.{any_default}
 use Rattle.leak_blocks.specs.declared.small.Span.{Span}
 use Rattle.leak_blocks.specs.Small.{holds, is_covered, CoverSame, AreSpans, AreApart}
 
@@ -24,24 +26,12 @@ in_span a s l m = rw (le-leb s.first a l, le-leb a s.last m) refl
 before_span : (a : ℕ) (s : Span) → a < s.first → holds a s ≡ false
 before_span a s l = rw (lt-leb s.first a l) refl
 
-and_false : (x : Bool) → (x && false) ≡ false
-and_false true = refl
-and_false false = refl
-
 behind_span : (a : ℕ) (s : Span) → s.last < a → holds a s ≡ false
-behind_span a s l = rw (lt-leb a s.last l) (and_false (leb s.first a))
+behind_span a s l = rw (lt-leb a s.last l) (and-false (leb s.first a))
 
 or_true : (x : Bool) → (x || true) ≡ true
 or_true true = refl
 or_true false = refl
-
-or_false : (x : Bool) → (x || false) ≡ x
-or_false true = refl
-or_false false = refl
-
-or_assoc : (x y z : Bool) → ((x || y) || z) ≡ (x || (y || z))
-or_assoc true y z = refl
-or_assoc false y z = refl
 
 or_twice : (x y : Bool) → (x || (x || y)) ≡ (x || y)
 or_twice true y = refl
@@ -64,7 +54,7 @@ joined a s t u l m f g =
 -- one span more
 covered_push : (spans : List Span) (s : Span) (a : ℕ) → is_covered (spans ++ s ∷ []) a ≡ (is_covered spans a || holds a s)
 unfolding is_covered
-covered_push spans s a = list_any-append (holds a) spans (s ∷ []) ∙ ap (λ (b : Bool). list_any (holds a) spans || b) (or_false (holds a s))
+covered_push spans s a = list_any-append (holds a) spans (s ∷ []) ∙ ap (λ (b : Bool). list_any (holds a) spans || b) (or-false (holds a s))
 
 covered_more : (spans : List Span) (i : ℕ) (d : Span) (a : ℕ) → i < length spans → is_covered (take (i + 1) spans) a ≡ (is_covered (take i spans) a || holds a (get_or spans i d))
 unfolding is_covered
@@ -98,11 +88,6 @@ apart_push (x ∷ spans) s t h o l =
     let before = last_of (λ (u : Span). x.last + 1 < u.first) spans s h.1 in
     let fits = last_is_span spans s h.2 in
     (h.0, all_push (λ (u : Span). x.last + 1 < u.first) (spans ++ s ∷ []) t h.1 (omega arith), apart_push spans s t h.2 o l)
-
-any_default : (spans : List Span) (k : ℕ) (d e : Span) → k < length spans → get_or spans k d ≡ get_or spans k e
-any_default [] k d e h = absurd (omega arith)
-any_default (s ∷ spans) zero d e h = refl
-any_default (s ∷ spans) (suc k) d e h = any_default spans k d e (omega arith)
 
 -- the ranges and the open one have the addresses of the first span and of the spans so far
 pub record AreMerged (spans : List Span) (first : Span) (i : ℕ) (ranges : List Span) (open' : Span) : Type 0 where

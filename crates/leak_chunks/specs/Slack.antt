@@ -1,8 +1,7 @@
 -- Slack: what glibc's malloc gives a block beyond the bytes that were asked for, up to the end of its chunk (malloc.c,
 -- `struct malloc_chunk`). No block has these bytes, and they keep what was there before. Own rule: a program uses no more of
 -- a block than it asked for.
-use Rattle.std.specs.Prelude.{ℕ, ◌+◌, ◌-◌, ◌^◌, ◌≤◌, ◌&&◌, nat_lt, if◌then◌else◌, List, filter_map, Option, Some, None}
-use Rattle.std.specs.List.{AllByRecursion}
+use Rattle.std.specs.Prelude.{ℕ, ◌+◌, ◌-◌, ◌^◌, ◌&&◌, nat_lt, if◌then◌else◌, List, filter_map, Option, Some, None}
 use Rattle.std.specs.Option.{option_map_or}
 use Rattle.leak_blocks.specs.declared.block.Block.{Block}
 use Rattle.leak_blocks.specs.declared.small.Span.{Span}
@@ -26,7 +25,3 @@ slack_of word_at b = if fits_core word_at b then option_map_or (slack_by b) (wor
 -- the slack of the blocks
 unfoldable pub slack_spans_of : (ℕ → Option ℕ) → List Block → List Span
 slack_spans_of word_at blocks = filter_map (slack_of word_at) blocks
-
--- spans that begin at the address or before it
-abbrev pub BeginBy : ℕ → List Span → Type 0
-BeginBy addr spans = AllByRecursion (λ s. s.first ≤ addr) spans

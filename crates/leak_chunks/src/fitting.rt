@@ -1,5 +1,5 @@
 //! Which live blocks the heap of a core has.
-ghost use Rattle.std.specs.Prelude.{◌≡◌, ◌+◌, ◌<◌, ◌≤◌, not, count_by, IfOk};
+ghost use Rattle.std.specs.Prelude.{◌≡◌, ◌+◌, ◌<◌, ◌≤◌, IfOk};
 ghost use Rattle.leak_chunks.specs.Fit.{follows_one_in_use, fits_word, fits_core, fits_of};
 
 use crate::chunk::{SizeWord, is_heap_chunk_for, is_mapping_for};
@@ -23,13 +23,6 @@ pub fn fits<W: Words>(alloc: Global, words: &W, live: &Live) -> Result<Vec<bool>
         fits.push(fits_core(&near, block))?;
     }
     Ok(fits)
-}
-
-/// The number of the blocks that do not fit.
-pub fn count_misfits(fits: &[bool]) -> u64
-    ensures { result ≡ count_by not fits.now }
-{
-    fits.iter().filter(|fit| !**fit).count() as u64
 }
 
 /// Whether the memory has a chunk in use of the block's size.

@@ -1,46 +1,20 @@
 //! Slack: what malloc gives a block beyond the bytes that were asked for.
-ghost use Rattle.std.specs.Prelude.{◌≡◌, ◌+◌, ◌<◌, ◌≤◌, ◌^◌, ◌||◌, ℕ, IfOk, OnOk, List};
-ghost use Rattle.leak_blocks.specs.declared.small.Span.{Span};
-ghost use Rattle.leak_blocks.specs.Small.{AreApart, CoverSame, holds, is_covered};
+ghost use Rattle.std.specs.Prelude.{◌≡◌, IfOk};
+ghost use Rattle.leak_blocks.specs.Small.{CoverSame};
 ghost use Rattle.leak_blocks.specs.Span.{IsAddressed};
-ghost use Rattle.leak_chunks.specs.Slack.{BeginBy, slack_by, slack_of, slack_spans_of};
+ghost use Rattle.leak_chunks.specs.Slack.{slack_by, slack_of, slack_spans_of};
 
 use crate::chunk::SizeWord;
 use crate::fitting::fits_word;
 use crate::near::Near;
-use leak_blocks::{Block, Live, Span};
+use leak_blocks::{Block, Live, SmallSpans, Span, joined};
 use leak_elf::Words;
 use std::alloc::{AllocError, Global};
-use std::marker::Model;
 
 /// How many bytes before its block a mapping begins. So it ends this many bytes before the block's start plus the chunk's size.
 const BEFORE_BLOCK: u64 = 16;
 /// The same in a heap, where a block also has the first word of the next chunk's header.
 const BEFORE_BLOCK_IN_HEAP: u64 = 8;
-
-/// The addresses of slack, as ranges.
-#[derive(Drop)]
-pub struct SlackSpans {
-    ranges: Vec<Span>,
-}
-
-impl Model for SlackSpans {
-    ghost Value = { List Span };
-
-    ghost view = { λ spans. spans.ranges.items };
-
-    ghost invariant = { λ spans. AreApart spans.ranges.items };
-}
-
-impl SlackSpans {
-    /// The addresses as ranges, by ascending address. Between two of them is an address that is in none.
-    pub fn ranges(&self) -> &[Span]
-        ensures value { result.now ≡ self.now }
-        ensures apart { AreApart result.now }
-    {
-        self.ranges.as_slice()
-    }
-}
 
 /// The slack of a block whose chunk has the size word, if there is any.
 fn slack_by(block: &Block, word: SizeWord) -> Option<Span>
@@ -84,52 +58,26 @@ fn slack_of<W: Words>(words: &W, block: &Block) -> Option<Span>
     slack_by(block, SizeWord(word))
 }
 
-/// Adds a span that begins where the others do, or later. If it meets the last of them, that one is lengthened.
-fn add(spans: &mut Vec<Span>, span: Span) -> Result<(), AllocError>
-    requires apart { AreApart spans.old.items }
-    requires later { BeginBy span.first spans.old.items }
-    requires one { span.first ≤ span.last }
-    ensures apart { OnOk result (AreApart spans.new.items) }
-    ensures later { OnOk result (BeginBy span.first spans.new.items) }
-    ensures same { OnOk result ((a : ℕ) → is_covered spans.new.items a
-        ≡ (is_covered spans.old.items a || holds a span)) }
-{
-    let Some(last) = spans.pop() else {
-        spans.push(span)?;
-        return Ok(());
-    };
-    if span.first <= last.last.saturating_add(1) {
-        let longer = last.last.max(span.last);
-        spans.push(Span {
-            last: longer,
-            ..last
-        })?;
-        return Ok(());
-    }
-    spans.push(last)?;
-    spans.push(span)?;
-    Ok(())
-}
-
 /// The slack of the live blocks that fit the memory.
 ///
-/// It reads at most two words for each block.
+/// It reads at most two words for each block. It takes 16 bytes for each block with slack, and as much again while these
+/// are joined.
 pub fn slack_spans<W: Words>(
     alloc: Global,
     words: &W,
     live: &Live,
-) -> Result<SlackSpans, AllocError>
+) -> Result<SmallSpans, AllocError>
     ensures { IfOk result (λ spans.
         CoverSame spans (slack_spans_of (W.word_at words.now) live.now.blocks)) }
 {
     let blocks = live.blocks();
-    let mut ranges = Vec::new(alloc);
+    let mut spans = Vec::new(alloc);
     let mut near = Near::new(words);
     for block in blocks {
         near.go_to(block.start.saturating_sub(8));
         if let Some(span) = slack_of(&near, block) {
-            add(&mut ranges, span)?;
+            spans.push(span)?;
         }
     }
-    Ok(SlackSpans { ranges })
+    joined(alloc, spans)
 }

@@ -2,7 +2,7 @@
 use Rattle.std.proofs.Common.{◌≡◌, ℕ, zero, suc, ◌+◌, ◌-◌, ◌^◌, ◌<◌, ◌≤◌, max, min, Bool, true, false, ltb, ◌&&◌, ◌||◌, List, [], ◌∷◌, ◌++◌, length, get_or, map, filter, Option, Some, None, refl, sym, ap, ◌∙◌, ◌⊎◌, inl, inr, arith, subst}
 use Rattle.std.specs.List.{insert, list_any}
 use Rattle.std.specs.Option.{option_or}
-use Rattle.std.proofs.lemmas.Bool.{lt-ltb, ltb-false, ltb-true, cases_lt, and_parts, or_parts}
+use Rattle.std.proofs.lemmas.Bool.{lt-ltb, ltb-false, ltb-true, cases_lt, and_parts, or_parts, or_right}
 use Rattle.std.proofs.lemmas.List.Folds.{list_any-append}
 use Rattle.std.proofs.lemmas.List.Edits.{length-insert}
 use Rattle.leak_elf.specs.declared.header.Header.{Header}
@@ -201,10 +201,6 @@ accepted file hs e =
     (λ h m any k d l. absurd (omega arith)) e
 
 -- the parts of notes
-or_right : (x y : Bool) → y ≡ true → (x || y) ≡ true
-or_right true y e = refl
-or_right false y e = e
-
 part_in : (file : List ℕ) (before : List Header) (i : ℕ) (h : Header) → is_note h ≡ true → header_fault file before i h ≡ None → 0 < h.filesz → h.offset + h.filesz ≤ length file
 unfolding header_fault
 part_in file before i h l e p =

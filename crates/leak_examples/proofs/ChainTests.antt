@@ -4,7 +4,7 @@ use Rattle.std.specs.Prelude.{◌==◌, nat_le, codes}
 use Rattle.std.specs.Option.{option_map_or}
 use Rattle.std.proofs.lemmas.Bool.{leb-true, eqb-true}
 use Rattle.std.proofs.lemmas.List.{length-map}
-use Rattle.leak_mtrace.proofs.SplitLemmas.{and_left, and_right}
+use Rattle.leak_lemmas.proofs.Bools.{and_right, and_left}
 use Rattle.leak_blocks.specs.declared.block.Block.{Block}
 use Rattle.leak_index.specs.Hits.{Index, hits_of}
 use Rattle.leak_notes.specs.declared.sets.RegisterSet.{RegisterSet}

@@ -4,8 +4,8 @@ use Rattle.std.specs.Prelude.{nat_le}
 use Rattle.std.specs.List.{concat, list_all, list_any, range_with_len}
 use Rattle.std.proofs.lemmas.Bool.{eqb-true, leb-true}
 use Rattle.std.proofs.lemmas.List.FromFn.{length-map-range_with_len}
-use Rattle.leak_lemmas.proofs.Bools.{not_true}
-use Rattle.leak_mtrace.proofs.SplitLemmas.{and_left, and_right}
+use Rattle.std.proofs.lemmas.Option.{same_Some}
+use Rattle.leak_lemmas.proofs.Bools.{not_true, and_right, and_left}
 use Rattle.leak_marks.specs.Lists.{Has, has, times}
 use Rattle.leak_marks.specs.Partition.{Partitions}
 use Rattle.leak_marks.specs.Reach.{Graph, IsChain, Reach, targets_of}
@@ -137,16 +137,13 @@ test_at f zero from i k h e = absurd (omega arith)
 test_at f (suc n) from zero k h e = ap (λ (j : ℕ). Some (f j)) (let s : from ≡ k = omega arith in s)
 test_at f (suc n) from (suc i) k h e = test_at f n (from + 1) i k (omega arith) (omega arith)
 
-some_true : (a b : Bool) → Some a ≡ Some b → a ≡ b
-some_true a b e = cc
-
 pub tests_are : (g : Graph) (blocks : List ℕ) (n : ℕ) → is_reached g blocks ≡ true → IsSet (tests_of blocks n) n (Reach g)
 tests_are g blocks n t = record {
   len = length-map-range_with_len (has blocks) 0 n;
   each = λ i h.
       let at : slice_get (tests_of blocks n) i ≡ Some (has blocks i) = test_at (has blocks) n 0 i i h (omega arith) in
       let is : Reach g i ↔ (has blocks i ≡ true) = reach_is g blocks i t in
-      ((λ s. is.1 (some_true (has blocks i) true (sym at ∙ s))), (λ r. at ∙ ap Some (is.0 r)));
+      ((λ s. is.1 (same_Some (has blocks i) true (sym at ∙ s))), (λ r. at ∙ ap Some (is.0 r)));
 }
 
 same_bool : (x y : Bool) → (x ≡ true → y ≡ true) → (y ≡ true → x ≡ true) → x ≡ y
@@ -166,7 +163,7 @@ same_tests P s t n a b = go s t (a.len ∙ sym b.len)
     go [] (y ∷ ys) e there back = absurd (omega arith)
     go (x ∷ xs) [] e there back = absurd (omega arith)
     go (x ∷ xs) (y ∷ ys) e there back =
-        ap (λ (z : Bool). z ∷ xs) (same_bool x y (λ h. some_true y true (there 0 (omega arith) (ap Some h))) (λ h. some_true x true (back 0 (omega arith) (ap Some h))))
+        ap (λ (z : Bool). z ∷ xs) (same_bool x y (λ h. same_Some y true (there 0 (omega arith) (ap Some h))) (λ h. same_Some x true (back 0 (omega arith) (ap Some h))))
         ∙ ap (λ (zs : List Bool). y ∷ zs) (go xs ys (omega arith) (λ i h k. there (suc i) (omega arith) k) (λ i h k. back (suc i) (omega arith) k))
 
 -- one list of claims, which has each of the blocks once, is all claims

@@ -4,10 +4,9 @@ use Rattle.std.specs.Prelude.{nat_lt, slice_index, slice_index_or, IsTrue}
 use Rattle.std.specs.List.{range_with_len}
 use Rattle.std.proofs.lemmas.Bool.{ltb-true}
 use Rattle.std.proofs.lemmas.List.FromFn.{get_or-map-range_with_len, length-map-range_with_len}
-use Rattle.leak_lemmas.proofs.Bools.{not_true as not_has}
+use Rattle.leak_lemmas.proofs.Bools.{not_true as not_has, and_right, and_left}
 use Rattle.leak_mtrace.specs.declared.line.Line.{Line}
 use Rattle.leak_mtrace.specs.Log.{IsLog}
-use Rattle.leak_mtrace.proofs.SplitLemmas.{and_left, and_right}
 use Rattle.leak_blocks.specs.declared.block.Block.{Block}
 use Rattle.leak_blocks.specs.Live.{live_of}
 use Rattle.leak_marks.specs.Lists.{has}
@@ -17,7 +16,7 @@ use Rattle.leak_report.specs.Numbered.{AreTexts}
 use Rattle.leak_holders.specs.Examples.{lent}
 use Rattle.leak_holders.specs.Holders.{AreHolders, Held, rows_of}
 use Rattle.leak_holders.specs.Parts.{counted_in, parts_but, parts_by}
-use Rattle.leak_holders.specs.declared.facts.Facts.{Facts}
+use Rattle.leak_holders.specs.declared.block_table.BlockTable.{BlockTable}
 use Rattle.leak_holders.specs.declared.holder.Holder.{Holder}
 use Rattle.leak_holders.specs.declared.question.Side.TheVariants.{In, Of}
 use Rattle.leak_search.specs.Inputs.{IsCore}
@@ -27,7 +26,8 @@ use Rattle.leak_holder_search.specs.Held.{both, chosen_with, held_text}
 use Rattle.leak_holder_search.specs.Since.{counted_of, is_continued_from, news_of}
 use Rattle.leak_holder_search.specs.Text.{holders_text}
 use Rattle.leak_examples.specs.Holding.{AreHoldersOf, IsHeldAs}
-use Rattle.leak_examples.specs.Searches.{interior, usual}
+use Rattle.leak_roots.specs.Skipped.{usual_skip}
+use Rattle.leak_examples.specs.Searches.{interior}
 use Rattle.leak_examples.proofs.GraphTests.{is_reached, reach_is, tests_are, tests_of}
 
 -- of the marked blocks, those that are not reached without the set
@@ -68,10 +68,10 @@ abbrev pub held_with : List ℕ → List (List ℕ) → Held
 held_with marked outside text b = is_held marked (slice_index_or outside text []) b
 
 -- what is known of the blocks
-abbrev pub facts_with : List Block → List ℕ → List Bool → List Bool → Facts
-facts_with blocks numbers reached counted = record { blocks = lent blocks; numbers = lent numbers; reached = lent reached; counted = lent counted }
+abbrev pub table_with : List Block → List ℕ → List Bool → List Bool → BlockTable
+table_with blocks numbers reached counted = record { blocks = lent blocks; numbers = lent numbers; reached = lent reached; counted = lent counted }
 
-are_holders : (g : Graph) (f : Facts) (marked : List ℕ) (outside : List (List ℕ)) (texts : ℕ) (rows : List Holder) → is_reached g marked ≡ true → are_outside g f.numbers.now 0 outside ≡ true → texts ≡ length outside
+are_holders : (g : Graph) (f : BlockTable) (marked : List ℕ) (outside : List (List ℕ)) (texts : ℕ) (rows : List Holder) → is_reached g marked ≡ true → are_outside g f.numbers.now 0 outside ≡ true → texts ≡ length outside
     → rows ≡ rows_of f (held_with marked outside) texts → AreHolders g f texts rows
 are_holders g f marked outside texts rows reached each many are = record {
   held = held_with marked outside;
@@ -85,19 +85,19 @@ pub record IsInput (core log : List ℕ) (since : Option (List ℕ)) (lines : Li
   pub is_log : IsLog log lines
   pub continued : is_continued_from since log ≡ true
   pub few : nat_lt (length (live_of lines)) (2 ^ 32) ≡ true
-  pub reached : is_reached (graph_of_one core interior usual lines) marked ≡ true
+  pub reached : is_reached (graph_of_one core interior usual_skip lines) marked ≡ true
   pub numbered : AreTexts log (live_of lines) texts numbers
-  pub each : are_outside (graph_of_one core interior usual lines) numbers 0 outside ≡ true
+  pub each : are_outside (graph_of_one core interior usual_skip lines) numbers 0 outside ≡ true
   pub many : length texts ≡ length outside
 
--- the facts of an input
-abbrev pub facts_of : List Line → Option (List ℕ) → List ℕ → List ℕ → Facts
-facts_of lines since marked numbers = facts_with (live_of lines) numbers (tests_of marked (length (live_of lines))) (counted_of since (live_of lines))
+-- the table of an input
+abbrev pub table_of : List Line → Option (List ℕ) → List ℕ → List ℕ → BlockTable
+table_of lines since marked numbers = table_with (live_of lines) numbers (tests_of marked (length (live_of lines))) (counted_of since (live_of lines))
 
 pub finds_holders : (core log : List ℕ) (since : Option (List ℕ)) (lines : List Line) (marked : List ℕ) (texts : List (List ℕ)) (numbers : List ℕ) (outside : List (List ℕ)) (report : List ℕ)
     → IsInput core log since lines marked texts numbers outside
-    → holders_text (head_of_one core log usual lines) (live_of lines) (news_of since (live_of lines)) (tests_of marked (length (live_of lines))) texts
-    (rows_of (facts_of lines since marked numbers) (held_with marked outside) (length texts)) ≡ report
+    → holders_text (head_of_one core log usual_skip lines) (live_of lines) (news_of since (live_of lines)) (tests_of marked (length (live_of lines))) texts
+    (rows_of (table_of lines since marked numbers) (held_with marked outside) (length texts)) ≡ report
     → AreHoldersOf core log since report
 finds_holders core log since lines marked texts numbers outside report h told = λ found is. record {
   accepted = h.accepted;
@@ -106,15 +106,15 @@ finds_holders core log since lines marked texts numbers outside report h told = 
   is_log = h.is_log;
   few = ltb-true (length (live_of lines)) (2 ^ 32) h.few;
   set = tests_of marked (length (live_of lines));
-  marked = tests_are (graph_of_one core interior usual lines) marked (length (live_of lines)) h.reached;
+  marked = tests_are (graph_of_one core interior usual_skip lines) marked (length (live_of lines)) h.reached;
   texts = texts;
   numbers = numbers;
   numbered = h.numbered;
-  rows = rows_of (facts_of lines since marked numbers) (held_with marked outside) (length texts);
+  rows = rows_of (table_of lines since marked numbers) (held_with marked outside) (length texts);
   are = record {
-    facts = facts_of lines since marked numbers;
+    table = table_of lines since marked numbers;
     known = record { of_blocks = refl; of_texts = refl; reached = refl; counts = refl };
-    holders = are_holders (graph_of_one core interior usual lines) (facts_of lines since marked numbers) marked outside (length texts) _ h.reached h.each h.many refl;
+    holders = are_holders (graph_of_one core interior usual_skip lines) (table_of lines since marked numbers) marked outside (length texts) _ h.reached h.each h.many refl;
   };
   report = is ∙ sym told;
 }
@@ -122,11 +122,11 @@ finds_holders core log since lines marked texts numbers outside report h told = 
 -- what chosen blocks hold
 pub finds_held : (core log : List ℕ) (lines : List Line) (marked : List ℕ) (texts : List (List ℕ)) (numbers : List ℕ) (outside : List (List ℕ)) (address block : ℕ) (alone : Bool) (left : List ℕ) (report : List ℕ)
     → IsInput core log None lines marked texts numbers outside → IsAsked (live_of lines) address block
-    → is_reached (without (graph_of_one core interior usual lines) (chosen (chosen_with numbers block alone))) left ≡ true
+    → is_reached (without (graph_of_one core interior usual_skip lines) (chosen (chosen_with numbers block alone))) left ≡ true
     → held_text log (live_of lines) block In (both (chosen_with numbers block alone) (tests_of marked (length (live_of lines))))
     (both (map (is_held marked left) (range_with_len 0 (length (live_of lines)))) (counted_of None (live_of lines))) texts
-    (parts_by (facts_of lines None marked numbers) (λ b. slice_index_or (map (is_held marked left) (range_with_len 0 (length (live_of lines)))) b false) (length texts)) ≡ report
-    → length (graph_of_one core interior usual lines).targets ≡ length (live_of lines)
+    (parts_by (table_of lines None marked numbers) (λ b. slice_index_or (map (is_held marked left) (range_with_len 0 (length (live_of lines)))) b false) (length texts)) ≡ report
+    → length (graph_of_one core interior usual_skip lines).targets ≡ length (live_of lines)
     → IsHeldAs core log (record { address = address; side = In; alone = alone }) report
 finds_held core log lines marked texts numbers outside address block alone left report h asked without_them told all = λ found is. record {
   accepted = h.accepted;
@@ -137,20 +137,20 @@ finds_held core log lines marked texts numbers outside address block alone left 
   block = block;
   asked = asked;
   set = tests_of marked (length (live_of lines));
-  marked = tests_are (graph_of_one core interior usual lines) marked (length (live_of lines)) h.reached;
+  marked = tests_are (graph_of_one core interior usual_skip lines) marked (length (live_of lines)) h.reached;
   texts = texts;
   numbers = numbers;
   numbered = h.numbered;
-  facts = facts_of lines None marked numbers;
+  table = table_of lines None marked numbers;
   known = record { of_blocks = refl; of_texts = refl; reached = refl; counts = refl };
   told = both held (counted_of None (live_of lines));
-  parts = parts_by (facts_of lines None marked numbers) (λ b. slice_index_or held b false) (length texts);
+  parts = parts_by (table_of lines None marked numbers) (λ b. slice_index_or held b false) (length texts);
   are = record {
     held = held;
     len = length-map-range_with_len (is_held marked left) 0 (length (live_of lines)) ∙ sym all;
-    holds = λ b inside. subst (λ (t : Bool). IsTrue t ↔ IsHeldBy (graph_of_one core interior usual lines) (chosen (chosen_with numbers block alone)) b)
+    holds = λ b inside. subst (λ (t : Bool). IsTrue t ↔ IsHeldBy (graph_of_one core interior usual_skip lines) (chosen (chosen_with numbers block alone)) b)
         (sym (get_or-map-range_with_len (is_held marked left) 0 (length (live_of lines)) b b false (omega (arith, inside, all)) (omega arith)))
-        (held_is (graph_of_one core interior usual lines) (chosen (chosen_with numbers block alone)) marked left b h.reached without_them);
+        (held_is (graph_of_one core interior usual_skip lines) (chosen (chosen_with numbers block alone)) marked left b h.reached without_them);
     told_are = refl;
     rows = refl;
   };
@@ -165,7 +165,7 @@ pub finds_holding : (core log : List ℕ) (lines : List Line) (marked : List ℕ
     → IsInput core log None lines marked texts numbers outside → IsAsked (live_of lines) address block
     → held_text log (live_of lines) block Of (both (chosen_with numbers block alone) (tests_of marked (length (live_of lines))))
     (both (both (chosen_with numbers block alone) (tests_of marked (length (live_of lines)))) (counted_of None (live_of lines))) texts
-    (parts_but (slice_index numbers block) (rows_of (counted_in (facts_of lines None marked numbers) (chosen_with numbers block alone)) (held_with marked outside) (length texts))) ≡ report
+    (parts_but (slice_index numbers block) (rows_of (counted_in (table_of lines None marked numbers) (chosen_with numbers block alone)) (held_with marked outside) (length texts))) ≡ report
     → IsHeldAs core log (record { address = address; side = Of; alone = alone }) report
 finds_holding core log lines marked texts numbers outside address block alone report h asked told = λ found is. record {
   accepted = h.accepted;
@@ -176,19 +176,19 @@ finds_holding core log lines marked texts numbers outside address block alone re
   block = block;
   asked = asked;
   set = tests_of marked (length (live_of lines));
-  marked = tests_are (graph_of_one core interior usual lines) marked (length (live_of lines)) h.reached;
+  marked = tests_are (graph_of_one core interior usual_skip lines) marked (length (live_of lines)) h.reached;
   texts = texts;
   numbers = numbers;
   numbered = h.numbered;
-  facts = facts_of lines None marked numbers;
+  table = table_of lines None marked numbers;
   known = record { of_blocks = refl; of_texts = refl; reached = refl; counts = refl };
   told = both (both (chosen_with numbers block alone) (tests_of marked (length (live_of lines)))) (counted_of None (live_of lines));
-  parts = parts_but (slice_index numbers block) (rows_of (counted_in (facts_of lines None marked numbers) (chosen_with numbers block alone)) (held_with marked outside) (length texts));
+  parts = parts_but (slice_index numbers block) (rows_of (counted_in (table_of lines None marked numbers) (chosen_with numbers block alone)) (held_with marked outside) (length texts));
   are = record {
     told_are = refl;
     rows = record {
-      holders = rows_of (counted_in (facts_of lines None marked numbers) (chosen_with numbers block alone)) (held_with marked outside) (length texts);
-      hold = are_holders (graph_of_one core interior usual lines) (counted_in (facts_of lines None marked numbers) (chosen_with numbers block alone)) marked outside (length texts) _ h.reached h.each h.many refl;
+      holders = rows_of (counted_in (table_of lines None marked numbers) (chosen_with numbers block alone)) (held_with marked outside) (length texts);
+      hold = are_holders (graph_of_one core interior usual_skip lines) (counted_in (table_of lines None marked numbers) (chosen_with numbers block alone)) marked outside (length texts) _ h.reached h.each h.many refl;
       are = refl;
     };
   };

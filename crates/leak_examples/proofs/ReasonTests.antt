@@ -11,6 +11,7 @@ use Rattle.leak_mtrace.proofs.SameLogLemmas.{logs_are_one}
 use Rattle.leak_blocks.specs.declared.block.Block.{Block}
 use Rattle.leak_blocks.specs.Live.{live_of}
 use Rattle.leak_roots.specs.Places.{Places}
+use Rattle.leak_roots.specs.LeftOut.{usual_left_out}
 use Rattle.leak_roots.specs.Roots.{AreRootsOf}
 use Rattle.leak_marks.specs.Lists.{has}
 use Rattle.leak_marks.specs.Reach.{Reach}
@@ -25,7 +26,8 @@ use Rattle.leak_search.specs.Why.{TellsWhy}
 use Rattle.leak_search.specs.Search.{graph_of_one, index_of}
 use Rattle.leak_search.specs.declared.why.Why.{Why}
 use Rattle.leak_examples.specs.Reasons.{TellsHeld, TellsLost}
-use Rattle.leak_examples.specs.Searches.{interior, usual}
+use Rattle.leak_roots.specs.Skipped.{usual_skip}
+use Rattle.leak_examples.specs.Searches.{interior}
 use Rattle.leak_examples.proofs.GraphTests.{is_reached, reach_is}
 
 -- the address is of the block, as a test
@@ -47,7 +49,7 @@ pub record IsQuestion (core log : List ℕ) (address : ℕ) (lines : List Line) 
   pub blocks : live_of lines ≡ b ∷ c ∷ []
   pub one : (i : ℕ) → IsAsked (b ∷ c ∷ []) address i → i ≡ block
   pub asked : IsAsked (live_of lines) address block
-  pub reached : is_reached (graph_of_one core interior usual lines) marked ≡ true
+  pub reached : is_reached (graph_of_one core interior usual_skip lines) marked ≡ true
 
 pub first_asked : (b c : Block) (address : ℕ) → is_of c address ≡ false → (i : ℕ) → IsAsked (b ∷ c ∷ []) address i → i ≡ 0
 first_asked b c address other zero a = refl
@@ -74,14 +76,14 @@ same_block core log address lines b c block marked q ls i is asked =
     q.one i (subst (λ (bs : List Block). IsAsked bs address i) (ap live_of (logs_are_one log ls lines is q.is_log) ∙ q.blocks) asked)
 
 -- the answer tells whether the block is marked
-held_is : (core log : List ℕ) (address : ℕ) (lines : List Line) (b c : Block) (block : ℕ) (marked : List ℕ) (q : IsQuestion core log address lines b c block marked) (found : Why) (f : TellsWhy core log interior usual address found)
+held_is : (core log : List ℕ) (address : ℕ) (lines : List Line) (b c : Block) (block : ℕ) (marked : List ℕ) (q : IsQuestion core log address lines b c block marked) (found : Why) (f : TellsWhy core log interior usual_skip address found)
     → IsSome f.chain ↔ (has marked block ≡ true)
 held_is core log address lines b c block marked q found f =
     let e : f.lines ≡ lines = logs_are_one log f.lines lines f.is_log q.is_log in
     let i : f.block ≡ block = same_block core log address lines b c block marked q f.lines f.block f.is_log f.asked in
-    let r = reach_is (graph_of_one core interior usual lines) marked block q.reached in (
-      (λ s. r.0 (subst (λ (n : ℕ). Reach (graph_of_one core interior usual lines) n) i (subst (λ (ls : List Line). Reach (graph_of_one core interior usual ls) f.block) e (f.reached.0 s)))),
-      (λ h. f.reached.1 (subst (λ (ls : List Line). Reach (graph_of_one core interior usual ls) f.block) (sym e) (subst (λ (n : ℕ). Reach (graph_of_one core interior usual lines) n) (sym i) (r.1 h)))),
+    let r = reach_is (graph_of_one core interior usual_skip lines) marked block q.reached in (
+      (λ s. r.0 (subst (λ (n : ℕ). Reach (graph_of_one core interior usual_skip lines) n) i (subst (λ (ls : List Line). Reach (graph_of_one core interior usual_skip ls) f.block) e (f.reached.0 s)))),
+      (λ h. f.reached.1 (subst (λ (ls : List Line). Reach (graph_of_one core interior usual_skip ls) f.block) (sym e) (subst (λ (n : ℕ). Reach (graph_of_one core interior usual_skip lines) n) (sym i) (r.1 h)))),
     )
 
 some_is : (o : Option Chain) → IsSome o → is_some o ≡ true
@@ -93,7 +95,7 @@ none_is None h = refl
 none_is (Some chain) h = absurd (h refl)
 
 pub tells_held : (core log : List ℕ) (address : ℕ) (lines : List Line) (b c : Block) (block : ℕ) (marked : List ℕ) (places : Places) (root : RootWord) (links : List Link) (text : List ℕ) → IsQuestion core log address lines b c block marked
-    → has marked block ≡ true → AreRootsOf true core (live_of lines) [] [] [] places → places.skips_links ≡ false
+    → has marked block ≡ true → AreRootsOf usual_left_out core (live_of lines) places → places.skips_links ≡ false
     → ((chain : Chain) → chain.root ≡ root → chain.links.items ≡ links → IsWhy (word_of core) (index_of interior lines) places block (Some chain))
     → ((chain : Chain) → chain.root ≡ root → chain.links.items ≡ links → text_of log (live_of lines) (sets_of (entries core)) block (Some chain) ≡ text)
     → TellsHeld core log address root links text
@@ -110,14 +112,14 @@ tells_held core log address lines b c block marked places root links text q h ro
     links = no_links;
     chain = Some chain;
     why = why chain same_root same_links;
-    reached = ((λ s. (reach_is (graph_of_one core interior usual lines) marked block q.reached).1 h), (λ r. refl));
+    reached = ((λ s. (reach_is (graph_of_one core interior usual_skip lines) marked block q.reached).1 h), (λ r. refl));
     text = text_is ∙ sym (told chain same_root same_links);
     held = held;
   };
 }
 
 pub tells_lost : (core log : List ℕ) (address : ℕ) (lines : List Line) (b c : Block) (block : ℕ) (marked : List ℕ) (places : Places) (text : List ℕ) → IsQuestion core log address lines b c block marked
-    → has marked block ≡ false → AreRootsOf true core (live_of lines) [] [] [] places → places.skips_links ≡ false
+    → has marked block ≡ false → AreRootsOf usual_left_out core (live_of lines) places → places.skips_links ≡ false
     → IsWhy (word_of core) (index_of interior lines) places block None
     → text_of log (live_of lines) (sets_of (entries core)) block None ≡ text → TellsLost core log address text
 tells_lost core log address lines b c block marked places text q h roots no_links why told = record {
@@ -136,7 +138,7 @@ tells_lost core log address lines b c block marked places text q h roots no_link
     links = no_links;
     chain = None;
     why = why;
-    reached = ((λ s. absurd (let x : false ≡ true = s in cc)), (λ r. absurd (not_marked ((reach_is (graph_of_one core interior usual lines) marked block q.reached).0 r))));
+    reached = ((λ s. absurd (let x : false ≡ true = s in cc)), (λ r. absurd (not_marked ((reach_is (graph_of_one core interior usual_skip lines) marked block q.reached).0 r))));
     text = text_is ∙ sym told;
     held = held;
   };
@@ -145,5 +147,5 @@ tells_lost core log address lines b c block marked places text q h roots no_link
     not_marked : has marked block ≡ true → ⊥
     not_marked e = let x : true ≡ false = sym e ∙ h in cc
 
-    none : (found : Why) (f : TellsWhy core log interior usual address found) → f.chain ≡ None
+    none : (found : Why) (f : TellsWhy core log interior usual_skip address found) → f.chain ≡ None
     none found f = none_is f.chain (λ s. not_marked ((held_is core log address lines b c block marked q found f).0 s))

@@ -7,7 +7,7 @@ use Rattle.std.specs.Ordering.{nat_cmp}
 use Rattle.std.proofs.lemmas.Bool.{cases_lt, eqb-true, lt-leb, ltb-true}
 use Rattle.std.proofs.lemmas.Cmp.{nat_cmp_total}
 use Rattle.std.proofs.lemmas.Map.Keys.{sorted_from_strictly_increasing}
-use Rattle.leak_lemmas.proofs.Bools.{not_true}
+use Rattle.leak_lemmas.proofs.Bools.{not_true, and_right, and_left}
 use Rattle.leak_elf.specs.Fields.{number_at}
 use Rattle.leak_elf.specs.Segments.{segments_of}
 use Rattle.leak_elf.specs.Words.{holds_word, word_in, word_of}
@@ -15,7 +15,6 @@ use Rattle.leak_elf.specs.declared.segment.Segment.{Segment}
 use Rattle.leak_mtrace.specs.declared.line.Line.{Line}
 use Rattle.leak_mtrace.specs.Log.{IsLog, is_continued_by}
 use Rattle.leak_mtrace.proofs.SameLogLemmas.{logs_are_one}
-use Rattle.leak_mtrace.proofs.SplitLemmas.{and_left, and_right}
 use Rattle.leak_blocks.specs.Live.{live_of}
 use Rattle.leak_scan.specs.Heads.{heads_of}
 use Rattle.leak_marks.specs.Lists.{Has, has, times}
@@ -33,7 +32,8 @@ use Rattle.leak_search.specs.Signs.{fits_told}
 use Rattle.leak_search.specs.Search.{claims_of, graph_of_one, index_of}
 use Rattle.leak_search.specs.SearchTwo.{FindsTwo, graph_of_later, head_of_two, kept_blocks, new_blocks, numbers_of_two}
 use Rattle.leak_search.proofs.TwoLemmas.{reached_later}
-use Rattle.leak_examples.specs.Searches.{interior, usual}
+use Rattle.leak_roots.specs.Skipped.{usual_skip}
+use Rattle.leak_examples.specs.Searches.{interior}
 use Rattle.leak_examples.specs.TwoSearches.{FindsLater, Pair}
 use Rattle.leak_examples.proofs.GraphTests.{each_passes, is_reached, reach_is, same_tests, tests_are, tests_of}
 
@@ -137,11 +137,11 @@ abbrev pub kept_with : List Line → List ℕ → List Line → List ℕ
 kept_with before earlier now = kept_blocks before (tests_before before earlier) now
 
 abbrev pub graph_with : Pair → List Line → List ℕ → List Line → Graph
-graph_with p before earlier now = graph_of_later p.core2 interior usual (kept_with before earlier now) (new_blocks before now) now
+graph_with p before earlier now = graph_of_later p.core2 interior usual_skip (kept_with before earlier now) (new_blocks before now) now
 
 abbrev pub report_with : Pair → List Line → List Line → List ℕ → List ℕ → List Bool → List ℕ
 report_with p before now pages kept set =
-    text_of (head_of_two p.core2 p.log2 usual now (numbers_of_two p.core2 pages (live_of now) kept (new_blocks before now))) (live_of now) set
+    text_of (head_of_two p.core2 p.log2 usual_skip now (numbers_of_two p.core2 pages (live_of now) kept (new_blocks before now))) (live_of now) set
     (heads_of (word_of p.core2) (index_of interior now) set) (fits_told false p.core2 now) p.log2
 
 -- what is known of two inputs: which blocks were marked, and are
@@ -153,7 +153,7 @@ pub record IsPair (p : Pair) (before now : List Line) (earlier pages marked clai
   pub continued : is_continued_by p.log1 p.log2 ≡ true
   pub few_before : nat_lt (length (live_of before)) (2 ^ 32) ≡ true
   pub few_now : nat_lt (length (live_of now)) (2 ^ 32) ≡ true
-  pub was : is_reached (graph_of_one p.core1 interior usual before) earlier ≡ true
+  pub was : is_reached (graph_of_one p.core1 interior usual_skip before) earlier ≡ true
   pub differing : AreDiffering (word_of p.core1) (word_of p.core2) pages
   pub is : is_reached (graph_with p before earlier now) marked ≡ true
   pub once : list_all (λ b. times b claimed == 1) claimed ≡ true
@@ -184,7 +184,7 @@ finds_later p before now earlier pages marked claimed leaked report h told count
     finds = record {
       set = tests_of marked (length (live_of now));
       marked = are;
-      reached = reached_later p.core2 interior usual now kept fresh (tests_of marked (length (live_of now))) are;
+      reached = reached_later p.core2 interior usual_skip now kept fresh (tests_of marked (length (live_of now))) are;
       report = report_is ∙ sym told;
       leaked = leaked_is ∙ sym count;
       lists = ap (λ (l : List (List ℕ)). length l) claims_are;
@@ -202,8 +202,8 @@ finds_later p before now earlier pages marked claimed leaked report h told count
     graph : Graph
     graph = graph_with p before earlier now
 
-    were : IsSet (tests_before before earlier) (length (live_of before)) (Reach (graph_of_one p.core1 interior usual before))
-    were = tests_are (graph_of_one p.core1 interior usual before) earlier (length (live_of before)) h.was
+    were : IsSet (tests_before before earlier) (length (live_of before)) (Reach (graph_of_one p.core1 interior usual_skip before))
+    were = tests_are (graph_of_one p.core1 interior usual_skip before) earlier (length (live_of before)) h.was
 
     are : IsSet (tests_of marked (length (live_of now))) (length (live_of now)) (Reach graph)
     are = tests_are graph marked (length (live_of now)) h.is
@@ -226,19 +226,19 @@ finds_later p before now earlier pages marked claimed leaked report h told count
           );
     }
 
-    first_lines : {workers : ℕ} {found : Found} (f : FindsTwo p.core1 p.log1 p.core2 p.log2 interior usual false workers found) → before ≡ f.first.lines
+    first_lines : {workers : ℕ} {found : Found} (f : FindsTwo p.core1 p.log1 p.core2 p.log2 interior usual_skip false workers found) → before ≡ f.first.lines
     first_lines f = logs_are_one p.log1 before f.first.lines h.log1 f.first.log_is
 
-    second_lines : {workers : ℕ} {found : Found} (f : FindsTwo p.core1 p.log1 p.core2 p.log2 interior usual false workers found) → now ≡ f.second.lines
+    second_lines : {workers : ℕ} {found : Found} (f : FindsTwo p.core1 p.log1 p.core2 p.log2 interior usual_skip false workers found) → now ≡ f.second.lines
     second_lines f = logs_are_one p.log2 now f.second.lines h.log2 f.second.log_is
 
-    same_earlier : (ls : List Line) (set : List Bool) → before ≡ ls → IsSet set (length (live_of ls)) (Reach (graph_of_one p.core1 interior usual ls)) → set ≡ tests_before before earlier
-    same_earlier ls set e is = same_tests (Reach (graph_of_one p.core1 interior usual before)) set (tests_before before earlier) (length (live_of before))
-        (subst (λ (l : List Line). IsSet set (length (live_of l)) (Reach (graph_of_one p.core1 interior usual l))) (sym e) is) were
+    same_earlier : (ls : List Line) (set : List Bool) → before ≡ ls → IsSet set (length (live_of ls)) (Reach (graph_of_one p.core1 interior usual_skip ls)) → set ≡ tests_before before earlier
+    same_earlier ls set e is = same_tests (Reach (graph_of_one p.core1 interior usual_skip before)) set (tests_before before earlier) (length (live_of before))
+        (subst (λ (l : List Line). IsSet set (length (live_of l)) (Reach (graph_of_one p.core1 interior usual_skip l))) (sym e) is) were
 
     -- what the definition speaks of, by its lines, and the tests of blocks that were marked
     later : List Line → List Line → List Bool → Graph
-    later b n set = graph_of_later p.core2 interior usual (kept_blocks b set n) (new_blocks b n) n
+    later b n set = graph_of_later p.core2 interior usual_skip (kept_blocks b set n) (new_blocks b n) n
 
     same_set : (b n : List Line) (early set : List Bool) → before ≡ b → now ≡ n → early ≡ tests_before before earlier → IsSet set (length (live_of n)) (Reach (later b n early)) → set ≡ tests_of marked (length (live_of now))
     same_set b n early set e g s is = same_tests (Reach graph) set (tests_of marked (length (live_of now))) (length (live_of now))
@@ -246,14 +246,14 @@ finds_later p before now earlier pages marked claimed leaked report h told count
         (subst (λ (l : List Line). IsSet set (length (live_of n)) (Reach (later l n (tests_before before earlier)))) (sym e)
         (subst (λ (t : List Bool). IsSet set (length (live_of n)) (Reach (later b n t))) s is))) are
 
-    set_of : {workers : ℕ} {found : Found} (f : FindsTwo p.core1 p.log1 p.core2 p.log2 interior usual false workers found) → f.finds.set ≡ tests_of marked (length (live_of now))
+    set_of : {workers : ℕ} {found : Found} (f : FindsTwo p.core1 p.log1 p.core2 p.log2 interior usual_skip false workers found) → f.finds.set ≡ tests_of marked (length (live_of now))
     set_of f = same_set f.first.lines f.second.lines f.earlier f.finds.set (first_lines f) (second_lines f) (same_earlier f.first.lines f.earlier (first_lines f) f.marked) f.finds.marked
 
-    counted : {workers : ℕ} {found : Found} (f : FindsTwo p.core1 p.log1 p.core2 p.log2 interior usual false workers found)
+    counted : {workers : ℕ} {found : Found} (f : FindsTwo p.core1 p.log1 p.core2 p.log2 interior usual_skip false workers found)
         → length (leaked_in f.finds.set (live_of f.second.lines)) ≡ length (leaked_in (tests_of marked (length (live_of now))) (live_of now))
     counted f = ap (λ (t : List Bool). length (leaked_in t (live_of f.second.lines))) (set_of f) ∙ ap (λ (l : List Line). length (leaked_in (tests_of marked (length (live_of now))) (live_of l))) (sym (second_lines f))
 
-    reported : {workers : ℕ} {found : Found} (f : FindsTwo p.core1 p.log1 p.core2 p.log2 interior usual false workers found)
+    reported : {workers : ℕ} {found : Found} (f : FindsTwo p.core1 p.log1 p.core2 p.log2 interior usual_skip false workers found)
         → report_with p f.first.lines f.second.lines f.pages (kept_blocks f.first.lines f.earlier f.second.lines) f.finds.set ≡ report_with p before now pages kept (tests_of marked (length (live_of now)))
     reported f =
         ap (λ (t : List Bool). report_with p f.first.lines f.second.lines f.pages (kept_blocks f.first.lines f.earlier f.second.lines) t) (set_of f)

@@ -42,22 +42,22 @@ abbrev pub link : ℕ → ℕ → ℕ → Link
 link holder address word = record { holder = holder; address = address; word = word }
 
 -- some words that are set in the memory, some live blocks, and the places of root words
-pub record Scene : Type 0 where
+pub record Sample : Type 0 where
   pub words : List (ℕ × ℕ)
   pub index : Index
   pub places : Places
 
 -- blocks that each distance leads to, with their ends
-abbrev pub scene : List (ℕ × ℕ) → List Block → Places → Scene
-scene words blocks places = record { words = words; index = index_by false None blocks; places = places }
+abbrev pub sample : List (ℕ × ℕ) → List Block → Places → Sample
+sample words blocks places = record { words = words; index = index_by false None blocks; places = places }
 
 -- a chain with the root word and the links may be told of the block
-abbrev pub IsHeldBy : Scene → ℕ → RootWord → List Link → Type 0
+abbrev pub IsHeldBy : Sample → ℕ → RootWord → List Link → Type 0
 IsHeldBy s block root links =
     (chain : Chain) → chain.root ≡ root → chain.links.items ≡ links → IsWhy (word_there s.words) s.index s.places block (Some chain)
 
 -- the block is told to be leaked
-abbrev pub IsLost : Scene → ℕ → Type 0
+abbrev pub IsLost : Sample → ℕ → Type 0
 IsLost s block = IsWhy (word_there s.words) s.index s.places block None
 
 -- one block of 32 bytes, and the root words around it
@@ -91,20 +91,20 @@ abbrev pub free_list : List (ℕ × ℕ)
 free_list = (0x100f8, 0x31) ∷ (0x10008, 0x10120) ∷ (0x10138, 0xfff8) ∷ []
 
 pub record AreWorkedChains : Type 0 where
-  pub by_memory : IsHeldBy (scene ((0x10008, 0x10100) ∷ []) one_block (places around_one zero_registers)) 0 (at 0x10008 0x10100) []
-  pub past_the_end : IsHeldBy (scene ((0x10008, 0x10120) ∷ []) one_block (places around_one zero_registers)) 0 (at 0x10008 0x10120) []
-  pub further : IsLost (scene ((0x10008, 0x10121) ∷ []) one_block (places around_one zero_registers)) 0
-  pub by_a_register : IsHeldBy (scene [] one_block (places around_one (in_rbx 0x10100))) 0 (in_register 5 0x10100) []
-  pub by_nothing : IsLost (scene [] one_block (places around_one zero_registers)) 0
-  pub ring : IsLost (scene ((0x10100, 0x10200) ∷ (0x10200, 0x10100) ∷ []) two_blocks (places around_two zero_registers)) 1
-  pub by_a_block : IsHeldBy (scene ((0x10008, 0x10100) ∷ (0x10118, 0x10200) ∷ []) two_blocks (places around_two zero_registers)) 1
+  pub by_memory : IsHeldBy (sample ((0x10008, 0x10100) ∷ []) one_block (places around_one zero_registers)) 0 (at 0x10008 0x10100) []
+  pub past_the_end : IsHeldBy (sample ((0x10008, 0x10120) ∷ []) one_block (places around_one zero_registers)) 0 (at 0x10008 0x10120) []
+  pub further : IsLost (sample ((0x10008, 0x10121) ∷ []) one_block (places around_one zero_registers)) 0
+  pub by_a_register : IsHeldBy (sample [] one_block (places around_one (in_rbx 0x10100))) 0 (in_register 5 0x10100) []
+  pub by_nothing : IsLost (sample [] one_block (places around_one zero_registers)) 0
+  pub ring : IsLost (sample ((0x10100, 0x10200) ∷ (0x10200, 0x10100) ∷ []) two_blocks (places around_two zero_registers)) 1
+  pub by_a_block : IsHeldBy (sample ((0x10008, 0x10100) ∷ (0x10118, 0x10200) ∷ []) two_blocks (places around_two zero_registers)) 1
       (at 0x10008 0x10100) (link 0 0x10118 0x10200 ∷ [])
-  pub directly_and_by_a_block : IsHeldBy (scene ((0x10008, 0x10200) ∷ (0x10010, 0x10100) ∷ (0x10100, 0x10200) ∷ []) two_blocks (places around_two zero_registers)) 1
+  pub directly_and_by_a_block : IsHeldBy (sample ((0x10008, 0x10200) ∷ (0x10010, 0x10100) ∷ (0x10100, 0x10200) ∷ []) two_blocks (places around_two zero_registers)) 1
       (at 0x10008 0x10200) []
-  pub half_word : IsLost (scene ((0x10008, 0x10100) ∷ (0x10108, 0x10200) ∷ []) half_blocks before_all) 1
-  pub ends_of_neighbors : IsHeldBy (scene ((0x10008, 0x10120) ∷ []) (neighbors 0x10) before_all) 0
+  pub half_word : IsLost (sample ((0x10008, 0x10100) ∷ (0x10108, 0x10200) ∷ []) half_blocks before_all) 1
+  pub ends_of_neighbors : IsHeldBy (sample ((0x10008, 0x10120) ∷ []) (neighbors 0x10) before_all) 0
       (at 0x10008 0x10120) []
-  pub empty : IsHeldBy (scene ((0x10008, 0x10200) ∷ []) (block 0x10200 0 1 ∷ []) before_all) 0 (at 0x10008 0x10200) []
-  pub free_chunk : IsHeldBy (scene free_list one_block (places around_one zero_registers)) 0 (at 0x10008 0x10120) []
-  pub free_chunk_left_out : IsLost (scene free_list one_block (without_links around_one zero_registers)) 0
-  pub free_chunk_in_a_register : IsHeldBy (scene free_list one_block (without_links around_one (in_rbx 0x10120))) 0 (in_register 5 0x10120) []
+  pub empty : IsHeldBy (sample ((0x10008, 0x10200) ∷ []) (block 0x10200 0 1 ∷ []) before_all) 0 (at 0x10008 0x10200) []
+  pub free_chunk : IsHeldBy (sample free_list one_block (places around_one zero_registers)) 0 (at 0x10008 0x10120) []
+  pub free_chunk_left_out : IsLost (sample free_list one_block (without_links around_one zero_registers)) 0
+  pub free_chunk_in_a_register : IsHeldBy (sample free_list one_block (without_links around_one (in_rbx 0x10120))) 0 (in_register 5 0x10120) []

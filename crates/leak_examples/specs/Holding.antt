@@ -6,15 +6,18 @@ use Rattle.leak_holder_search.specs.declared.search.Holding.{Holding}
 use Rattle.leak_holder_search.specs.Held.{FindsHeld}
 use Rattle.leak_holder_search.specs.Holders.{FindsHolders}
 use Rattle.leak_examples.specs.Reasons.{rbx_core}
-use Rattle.leak_examples.specs.Searches.{interior, two_core, usual}
+use Rattle.leak_roots.specs.Skipped.{usual_skip}
+use Rattle.leak_examples.specs.Searches.{interior, two_core}
 
 -- the definition allows the report
 abbrev pub AreHoldersOf : List ℕ → List ℕ → Option (List ℕ) → List ℕ → Type 0
-AreHoldersOf core log since report = (found : Holding) → found.report.items ≡ report → FindsHolders core log since interior usual found
+AreHoldersOf core log since report =
+    (found : Holding) → found.report.items ≡ report → FindsHolders core log since interior usual_skip found
 
 -- the definition allows the answer
 abbrev pub IsHeldAs : List ℕ → List ℕ → Question → List ℕ → Type 0
-IsHeldAs core log question report = (found : Holding) → found.report.items ≡ report → FindsHeld core log None interior usual question found
+IsHeldAs core log question report =
+    (found : Holding) → found.report.items ≡ report → FindsHeld core log None interior usual_skip question found
 
 -- a block of the caller a at 0x10010 and one of b at 0x10020, of 8 bytes each
 abbrev pub earlier_log : List ℕ

@@ -9,19 +9,21 @@ use Rattle.leak_search.specs.Why.{IsWhyFault, TellsWhy}
 use Rattle.leak_search.specs.declared.why.Why.{Why}
 use Rattle.leak_search.specs.declared.why.WhyError.TheVariants.{NoBlock}
 use Rattle.leak_examples.specs.Chains.{at, in_register, link}
-use Rattle.leak_examples.specs.Searches.{interior, two_core, two_log, usual}
+use Rattle.leak_roots.specs.Skipped.{usual_skip}
+use Rattle.leak_examples.specs.Searches.{interior, two_core, two_log}
 
 -- the definition says that the block is held, and allows this chain and its text
 pub record TellsHeld (core log : List ℕ) (address : ℕ) (root : RootWord) (links : List Link) (text : List ℕ) : Type 0 where
-  pub held : (found : Why) → TellsWhy core log interior usual address found → found.held ≡ true
+  pub held : (found : Why) → TellsWhy core log interior usual_skip address found → found.held ≡ true
   pub allowed : (chain : Chain) (found : Why) → chain.root ≡ root → chain.links.items ≡ links → found.text.items ≡ text → found.held ≡ true
-      → TellsWhy core log interior usual address found
+      → TellsWhy core log interior usual_skip address found
 
 -- the definition says that the block leaked, and allows this text alone
 pub record TellsLost (core log : List ℕ) (address : ℕ) (text : List ℕ) : Type 0 where
-  pub held : (found : Why) → TellsWhy core log interior usual address found → found.held ≡ false
-  pub text_is : (found : Why) → TellsWhy core log interior usual address found → found.text.items ≡ text
-  pub allowed : (found : Why) → found.text.items ≡ text → found.held ≡ false → TellsWhy core log interior usual address found
+  pub held : (found : Why) → TellsWhy core log interior usual_skip address found → found.held ≡ false
+  pub text_is : (found : Why) → TellsWhy core log interior usual_skip address found → found.text.items ≡ text
+  pub allowed : (found : Why) → found.text.items ≡ text → found.held ≡ false
+      → TellsWhy core log interior usual_skip address found
 
 -- the core with these words at 0x10008 and at 0x10010, and a word in rbx
 abbrev pub rbx_core : ℕ → ℕ → ℕ → List ℕ

@@ -5,6 +5,7 @@ use Rattle.std.specs.Int.{w64, to_le_bytes}
 use Rattle.leak_elf.specs.Sample.{file_header, note_entry, program_header}
 use Rattle.leak_index.specs.Leads.{Distances}
 use Rattle.leak_roots.specs.declared.skip.Skip.{Skip}
+use Rattle.leak_roots.specs.Skipped.{usual_skip}
 use Rattle.leak_search.specs.declared.found.Found.{Found}
 use Rattle.leak_search.specs.Search.{FindsOne, claims_of}
 
@@ -18,13 +19,9 @@ core_of words =
 abbrev pub interior : Distances
 interior = record { listed = None; skips_ends = false }
 
--- nothing is left out of the root words except memory that can't be written
-abbrev pub usual : Skip
-usual = record { freed = false; links = false; slack = false; dead = false; unwritable = true }
-
--- freed memory is left out too
+-- freed memory is left out as well as what is left out unless more is asked for
 abbrev pub without_freed : Skip
-without_freed = record { freed = true; links = false; slack = false; dead = false; unwritable = true }
+without_freed = record usual_skip { freed = true }
 
 -- what is searched, and how
 pub record Search : Type 0 where
@@ -52,7 +49,7 @@ two_core root word = core_of (0 ∷ root ∷ word ∷ 0 ∷ 0 ∷ [])
 
 -- the usual search for them
 abbrev pub search : List ℕ → Search
-search core = record { core = core; log = two_log; reading = interior; skip = usual; check = false }
+search core = record { core = core; log = two_log; reading = interior; skip = usual_skip; check = false }
 
 -- a block was freed at 0x10000
 abbrev pub freed_log : List ℕ
@@ -75,7 +72,7 @@ pub record AreWorkedSearches : Type 0 where
       (codes "blocks 2 bytes 16\nundumped 0\nunknown 0 displaced 0 torn 0\nmarked 0 bytes 0\nleaked 2 bytes 16\nheads 1\ncaller 1 8 0 ?\ncaller 1 8 1 a:[0x1]\nleak 0x10010 8 1 head a:[0x1]\nleak 0x10020 8 2 held ?\n")
   pub second : Finds (search (two_core 0x10028 0)) (1 ∷ []) 1
       (codes "blocks 2 bytes 16\nundumped 0\nunknown 0 displaced 0 torn 0\nmarked 1 bytes 8\nleaked 1 bytes 8\nheads 1\ncaller 1 8 1 a:[0x1]\nleak 0x10010 8 1 head a:[0x1]\n")
-  pub freed : Finds (freed_search usual) (0 ∷ []) 0
+  pub freed : Finds (freed_search usual_skip) (0 ∷ []) 0
       (codes "blocks 1 bytes 8\nundumped 0\nunknown 0 displaced 0 torn 0\nmarked 1 bytes 8\nleaked 0 bytes 0\nheads 0\n")
   pub freed_left_out : Finds (freed_search without_freed) [] 1
       (codes "blocks 1 bytes 8\nundumped 0\nunknown 0 displaced 0 torn 0\nfreed 2\nmarked 0 bytes 0\nleaked 1 bytes 8\nheads 1\ncaller 1 8 1 ?\nleak 0x10010 8 1 head ?\n")

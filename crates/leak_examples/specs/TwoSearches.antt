@@ -4,7 +4,8 @@ use Rattle.leak_search.specs.declared.found.Found.{Found}
 use Rattle.leak_search.specs.Search.{claims_of}
 use Rattle.leak_search.specs.SearchTwo.{FindsTwo}
 use Rattle.leak_examples.specs.Holding.{caller_log, earlier_log}
-use Rattle.leak_examples.specs.Searches.{interior, two_core, usual}
+use Rattle.leak_roots.specs.Skipped.{usual_skip}
+use Rattle.leak_examples.specs.Searches.{interior, two_core}
 
 -- two cores with their logs
 pub record Pair : Type 0 where
@@ -15,10 +16,12 @@ pub record Pair : Type 0 where
 
 -- The definition allows just this report, with this many leaked blocks; and it allows it if one worker claims these blocks.
 pub record FindsLater (p : Pair) (claimed : List ℕ) (leaked : ℕ) (report : List ℕ) : Type 0 where
-  pub report_is : (workers : ℕ) (found : Found) → FindsTwo p.core1 p.log1 p.core2 p.log2 interior usual false workers found → found.report.items ≡ report
-  pub leaked_is : (workers : ℕ) (found : Found) → FindsTwo p.core1 p.log1 p.core2 p.log2 interior usual false workers found → found.leaked ≡ leaked
+  pub report_is : (workers : ℕ) (found : Found)
+      → FindsTwo p.core1 p.log1 p.core2 p.log2 interior usual_skip false workers found → found.report.items ≡ report
+  pub leaked_is : (workers : ℕ) (found : Found)
+      → FindsTwo p.core1 p.log1 p.core2 p.log2 interior usual_skip false workers found → found.leaked ≡ leaked
   pub allowed : (found : Found) → found.report.items ≡ report → found.leaked ≡ leaked → claims_of found ≡ claimed ∷ []
-      → FindsTwo p.core1 p.log1 p.core2 p.log2 interior usual false 1 found
+      → FindsTwo p.core1 p.log1 p.core2 p.log2 interior usual_skip false 1 found
 
 -- a root word led to the first block, and doesn't any more; the second block is allocated meanwhile
 abbrev pub kept_and_new : Pair

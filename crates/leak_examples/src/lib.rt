@@ -23,7 +23,7 @@
 
 mod growth;
 mod heap;
-mod holding;
+mod holders;
 mod reasons;
 mod searches;
 mod stacks;
@@ -32,7 +32,7 @@ mod why;
 
 pub use growth::worked_growths;
 pub use heap::{blocks_fit_if_in_use, live_heaps_fit, worked_heap};
-pub use holding::worked_holders;
+pub use holders::worked_holders;
 pub use reasons::worked_reasons;
 pub use searches::{worked_bounds, worked_pairs, worked_searches};
 pub use stacks::worked_stacks;

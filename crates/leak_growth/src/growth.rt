@@ -1,6 +1,5 @@
 //! From two logs to the report of what grew.
-ghost use Rattle.std.specs.Prelude.{◌≡◌, ◌≢◌, ◌==◌, [], ◌∷◌, count_by, IfOk, IfErr};
-ghost use Rattle.leak_mtrace.specs.Log.{is_continued_by, whole_len_of};
+ghost use Rattle.std.specs.Prelude.{◌≡◌, ◌≢◌, [], ◌∷◌, IfOk, IfErr};
 ghost use Rattle.leak_search.specs.Inputs.{at_log};
 ghost use Rattle.leak_growth.specs.Growth.{FindsGrowth, IsFaultOfGrowth, read_signs};
 
@@ -8,7 +7,7 @@ use crate::report::{Logs, text};
 use leak_blocks::{Replayed, replay_bytes};
 use leak_mtrace::LogError;
 use leak_report::Signs;
-use leak_search::FindError;
+use leak_search::{FindError, count_lines, is_continued};
 use std::alloc::{AllocError, Global};
 
 /// What grew between two logs.
@@ -28,21 +27,6 @@ fn at_log(number: u8, error: LogError) -> FindError
         LogError::NoMemory => FindError::NoMemory,
         _ => FindError::Log(number, error),
     }
-}
-
-/// Whether the log's complete lines, which take `whole_len` of its bytes, begin the later log.
-fn is_continued(log: &[u8], whole_len: usize, later: &[u8]) -> bool
-    requires { whole_len ≡ whole_len_of log.now }
-    ensures { result ≡ is_continued_by log.now later.now }
-{
-    later.starts_with(&log[..whole_len])
-}
-
-/// How many lines of the log are complete.
-fn count_lines(log: &[u8]) -> usize
-    ensures { result ≡ count_by (λ b. b == 10) log.now }
-{
-    log.iter().filter(|b| **b == b'\n').count()
 }
 
 /// What is odd about a log.
@@ -88,7 +72,7 @@ pub fn find_growth(alloc: Global, log1: &[u8], log2: &[u8]) -> Result<Grown, Fin
         Ok(second) => second,
         Err(error) => return Err(at_log(2, error)),
     };
-    if !is_continued(log1, first.whole_len, log2) {
+    if !is_continued(log1, log2) {
         return Err(FindError::NotPrefix);
     }
     if first.live.blocks().len() + second.live.blocks().len() > u32::MAX as usize {

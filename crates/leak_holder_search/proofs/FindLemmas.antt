@@ -8,14 +8,13 @@ use Rattle.leak_blocks.specs.declared.block.Block.{Block}
 use Rattle.leak_blocks.specs.Live.{live_of}
 use Rattle.leak_index.specs.Leads.{Distances}
 use Rattle.leak_roots.specs.Roots.{AreRootsOf}
-use Rattle.leak_roots.specs.Skipped.{spans_of}
 use Rattle.leak_roots.specs.declared.skip.Skip.{Skip}
 use Rattle.leak_marks.specs.Reach.{Graph, Reach}
 use Rattle.leak_pool.specs.Marking.{IsSet, graph_of_roots}
 use Rattle.leak_report.specs.declared.head.Head.{Head}
 use Rattle.leak_report.specs.Totals.{bytes_of}
 use Rattle.leak_report.specs.Numbered.{AreTexts}
-use Rattle.leak_holders.specs.declared.facts.Facts.{Facts}
+use Rattle.leak_holders.specs.declared.block_table.BlockTable.{BlockTable}
 use Rattle.leak_holders.specs.declared.holder.Holder.{Holder}
 use Rattle.leak_holders.specs.Holders.{AreComplete, AreHolders}
 use Rattle.leak_pool.specs.declared.error.PoolError.{PoolError}
@@ -24,8 +23,7 @@ use Rattle.leak_search.specs.declared.error.FindError.TheVariants.{NoMemory}
 use Rattle.leak_search.specs.declared.inputs.Input.{Input}
 use Rattle.leak_search.specs.Inputs.{AreRootsFor, IsRead, at_marking}
 use Rattle.leak_search.specs.Report.{head_with}
-use Rattle.leak_search.specs.Slack.{slack_in}
-use Rattle.leak_search.specs.Dead.{dead_in}
+use Rattle.leak_search.specs.LeftOut.{left_out}
 use Rattle.leak_search.specs.Search.{graph_of_one, head_of_one}
 use Rattle.leak_search.proofs.InputLemmas.{as_input, input_blocks}
 use Rattle.leak_search.proofs.SearchLemmas.{head_is, marked_graph}
@@ -34,7 +32,7 @@ use Rattle.leak_holder_search.specs.declared.analysis.Analysis.{Analysis}
 use Rattle.leak_holder_search.specs.declared.files.Files.{Files}
 use Rattle.leak_holder_search.specs.Holders.{FindsHolders, IsFaultOfHolders}
 use Rattle.leak_holder_search.specs.Rows.{AreKnown, AreNumbers}
-use Rattle.leak_holder_search.specs.Analyses.{AreFactsOf, AreRowsIn, IsAnalysis, IsAnalysisOf, blocks_in, graph_in, texts_in}
+use Rattle.leak_holder_search.specs.Analyses.{IsTableOf, AreRowsIn, IsAnalysis, IsAnalysisOf, blocks_in, graph_in, texts_in}
 use Rattle.leak_holder_search.specs.Since.{counted_of, earlier, is_continued_from, news_of}
 use Rattle.leak_holder_search.specs.Text.{holders_text}
 use Rattle.leak_holder_search.proofs.NumberLemmas.{are_numbers}
@@ -60,24 +58,24 @@ module _ (a : Analysis) (s : IsAnalysis a) where
   pub blocks_are : blocks_in a ≡ live_of s.read.0
   blocks_are = input_blocks a.files.core.now a.files.log.now s.read.0 a.input.now s.read.1
 
-  roots_for : AreRootsFor s.read.0 a.input.now a.ground.now.roots
+  roots_for : AreRootsFor s.read.0 a.input.now a.indexed.now.roots
   roots_for = s.of.roots s.read.0 (as_input a.files.core.now a.files.log.now s.read.0 a.input.now s.read.1)
 
-  roots_are : AreRootsOf a.input.now.skip.unwritable a.files.core.now (blocks_in a) (spans_of a.input.now.skip s.read.0) (slack_in a.input.now.skip a.files.core.now (blocks_in a)) (dead_in a.input.now.skip a.files.core.now) a.ground.now.roots
+  roots_are : AreRootsOf (left_out a.input.now.skip a.files.core.now (blocks_in a) s.read.0) a.files.core.now (blocks_in a) a.indexed.now.roots
   roots_are =
-      subst (λ (f : List ℕ). AreRootsOf a.input.now.skip.unwritable f (blocks_in a) (spans_of a.input.now.skip s.read.0) (slack_in a.input.now.skip f (blocks_in a)) (dead_in a.input.now.skip f) a.ground.now.roots)
+      subst (λ (f : List ℕ). AreRootsOf (left_out a.input.now.skip f (blocks_in a) s.read.0) f (blocks_in a) a.indexed.now.roots)
       s.read.1.image roots_for.roots
 
   -- what leads to what is what a search of the files goes by
-  pub graph_is : graph_in a ≡ graph_of_one a.files.core.now a.ground.now.lookup.reading a.input.now.skip s.read.0
+  pub graph_is : graph_in a ≡ graph_of_one a.files.core.now a.indexed.now.lookup.reading a.input.now.skip s.read.0
   graph_is =
-      ap (λ (f : List ℕ). graph_of_roots (word_of f) a.ground.now.lookup a.ground.now.roots) s.read.1.image
-      ∙ marked_graph a.files.core.now a.ground.now.lookup.reading a.input.now.skip s.read.0 (blocks_in a) a.ground.now.lookup a.ground.now.roots blocks_are
-      (ap (λ (bs : List Block). record { blocks = bs; reading = a.ground.now.lookup.reading }) s.of.lookup) roots_are roots_for.links
+      ap (λ (f : List ℕ). graph_of_roots (word_of f) a.indexed.now.lookup a.indexed.now.roots) s.read.1.image
+      ∙ marked_graph a.files.core.now a.indexed.now.lookup.reading a.input.now.skip s.read.0 (blocks_in a) a.indexed.now.lookup a.indexed.now.roots blocks_are
+      (ap (λ (bs : List Block). record { blocks = bs; reading = a.indexed.now.lookup.reading }) s.of.lookup) roots_are roots_for.links
 
-  pub marked_is : IsSet a.set.items (length (live_of s.read.0)) (Reach (graph_of_one a.files.core.now a.ground.now.lookup.reading a.input.now.skip s.read.0))
+  pub marked_is : IsSet a.set.items (length (live_of s.read.0)) (Reach (graph_of_one a.files.core.now a.indexed.now.lookup.reading a.input.now.skip s.read.0))
   marked_is =
-      subst (λ (bs : List Block). IsSet a.set.items (length bs) (Reach (graph_of_one a.files.core.now a.ground.now.lookup.reading a.input.now.skip s.read.0))) blocks_are
+      subst (λ (bs : List Block). IsSet a.set.items (length bs) (Reach (graph_of_one a.files.core.now a.indexed.now.lookup.reading a.input.now.skip s.read.0))) blocks_are
       (subst (λ (h : Graph). IsSet a.set.items (length (blocks_in a)) (Reach h)) graph_is s.marked)
 
   pub few_are : length (live_of s.read.0) < 2 ^ 32
@@ -86,9 +84,9 @@ module _ (a : Analysis) (s : IsAnalysis a) where
   pub texts_are : AreTexts a.files.log.now (live_of s.read.0) (texts_in a) a.texts.numbers.items
   texts_are = subst (λ (bs : List Block). AreTexts a.files.log.now bs (texts_in a) a.texts.numbers.items) blocks_are s.numbered
 
-  -- the facts are those of the log's live blocks
-  pub known_are : (facts : Facts) → AreFactsOf a facts → AreKnown (live_of s.read.0) a.texts.numbers.items a.set.items (counted_of (earlier a.files.since) (live_of s.read.0)) facts
-  known_are facts k = record {
+  -- the table has the entries of the log's live blocks
+  pub known_are : (table : BlockTable) → IsTableOf a table → AreKnown (live_of s.read.0) a.texts.numbers.items a.set.items (counted_of (earlier a.files.since) (live_of s.read.0)) table
+  known_are table k = record {
     of_blocks = k.of_blocks ∙ blocks_are;
     of_texts = k.of_texts;
     reached = k.reached;
@@ -102,10 +100,10 @@ module _ (a : Analysis) (s : IsAnalysis a) where
   pub counts_each : length a.counted.items ≡ length (blocks_in a)
   counts_each = ap length s.counted ∙ counted_each (earlier a.files.since) (blocks_in a)
 
-  pub complete : (facts : Facts) → AreFactsOf a facts → bytes_of facts.blocks.now < 2 ^ 64 → AreComplete (length (texts_in a)) facts
-  complete facts k fits =
-      let long : length facts.blocks.now ≡ length (blocks_in a) = ap length k.of_blocks in
-      let numbers : length facts.numbers.now ≡ length (blocks_in a) = ap length k.of_texts ∙ numbers_are.one_each in
+  pub complete : (table : BlockTable) → IsTableOf a table → bytes_of table.blocks.now < 2 ^ 64 → AreComplete (length (texts_in a)) table
+  complete table k fits =
+      let long : length table.blocks.now ≡ length (blocks_in a) = ap length k.of_blocks in
+      let numbers : length table.numbers.now ≡ length (blocks_in a) = ap length k.of_texts ∙ numbers_are.one_each in
       record {
         numbered = numbers ∙ sym long;
         of_texts = λ b h. subst (λ (ns : List ℕ). slice_index ns b < length (texts_in a)) (sym k.of_texts) (numbers_are.of_texts b (omega (arith, h, numbers)));
@@ -120,8 +118,8 @@ module _ (a : Analysis) (s : IsAnalysis a) where
   news_are = ap (λ (ts : List Bool). option_map (λ _. ts) (earlier a.files.since)) s.counted
 
   finds_with : (rows : List Holder) (found : Holding) → AreRowsIn a rows
-      → found.report.items ≡ holders_text (head_with a.input.now a.ground.now.roots None) (blocks_in a) (news_of (earlier a.files.since) (blocks_in a)) a.set.items (texts_in a) rows
-      → FindsHolders a.files.core.now a.files.log.now (earlier a.files.since) a.ground.now.lookup.reading a.input.now.skip found
+      → found.report.items ≡ holders_text (head_with a.input.now a.indexed.now.roots None) (blocks_in a) (news_of (earlier a.files.since) (blocks_in a)) a.set.items (texts_in a) rows
+      → FindsHolders a.files.core.now a.files.log.now (earlier a.files.since) a.indexed.now.lookup.reading a.input.now.skip found
   finds_with rows found are report = record {
     accepted = s.read.1.accepted;
     continued = s.continued;
@@ -135,14 +133,14 @@ module _ (a : Analysis) (s : IsAnalysis a) where
     numbered = texts_are;
     rows = rows;
     are = record {
-      facts = are.facts;
-      known = known_are are.facts are.known;
-      holders = subst (λ (h : Graph). AreHolders h are.facts (length (texts_in a)) rows) graph_is are.holders;
+      table = are.table;
+      known = known_are are.table are.known;
+      holders = subst (λ (h : Graph). AreHolders h are.table (length (texts_in a)) rows) graph_is are.holders;
     };
     report =
         report
         ∙ ap (λ (h : Head). holders_text h (blocks_in a) (news_of (earlier a.files.since) (blocks_in a)) a.set.items (texts_in a) rows)
-        (head_is a.files.core.now a.files.log.now s.read.0 a.input.now a.ground.now.roots None s.read.1 roots_are)
+        (head_is a.files.core.now a.files.log.now s.read.0 a.input.now a.indexed.now.roots None s.read.1 roots_are)
         ∙ ap (λ (bs : List Block). holders_text (head_of_one a.files.core.now a.files.log.now a.input.now.skip s.read.0) bs (news_of (earlier a.files.since) bs) a.set.items (texts_in a) rows) blocks_are;
   }
 
@@ -152,13 +150,13 @@ by_rules s read skipped = record { is = s.is; files_are = s.files_are; reading_i
 
 -- so what holds of an analysis holds of the files
 pub of_files : (P : Files → Distances → Skip → Type 0) (files : Files) (reading : Distances) (skip : Skip) (a : Analysis) → IsAnalysisOf files reading skip a
-    → P a.files a.ground.now.lookup.reading a.input.now.skip → P files reading skip
+    → P a.files a.indexed.now.lookup.reading a.input.now.skip → P files reading skip
 of_files P files reading skip a s is =
     subst (λ (f : Files). P f reading skip) s.files_are
-    (subst (λ (r : Distances). P a.files r skip) s.reading_is (subst (λ (k : Skip). P a.files a.ground.now.lookup.reading k) s.skip_is is))
+    (subst (λ (r : Distances). P a.files r skip) s.reading_is (subst (λ (k : Skip). P a.files a.indexed.now.lookup.reading k) s.skip_is is))
 
 pub finds_holders : (files : Files) (reading : Distances) (skip : Skip) (a : Analysis) → IsAnalysisOf files reading skip a → (rows : List Holder) (found : Holding) → AreRowsIn a rows
-    → found.report.items ≡ holders_text (head_with a.input.now a.ground.now.roots None) (blocks_in a) (news_of (earlier a.files.since) (blocks_in a)) a.set.items (texts_in a) rows
+    → found.report.items ≡ holders_text (head_with a.input.now a.indexed.now.roots None) (blocks_in a) (news_of (earlier a.files.since) (blocks_in a)) a.set.items (texts_in a) rows
     → FindsHolders files.core.now files.log.now (earlier files.since) reading skip found
 finds_holders files reading skip a s rows found are report =
     of_files (λ f r k. FindsHolders f.core.now f.log.now (earlier f.since) r k found) files reading skip a s (finds_with a s.is rows found are report)

@@ -11,13 +11,13 @@ use Rattle.leak_marks.proofs.ReachLemmas.{reach_same}
 use Rattle.leak_without.specs.Without.{IsHeldBy, graph_of as graph_by, without}
 use Rattle.leak_pool.specs.Marking.{IsSet, graph_of, led_by_roots}
 use Rattle.leak_pool.specs.Scopes.{all_targets}
-use Rattle.leak_holders.specs.declared.facts.Facts.{Facts}
+use Rattle.leak_holders.specs.declared.block_table.BlockTable.{BlockTable}
 use Rattle.leak_holders.specs.declared.holder.Holder.{Holder}
-use Rattle.leak_holders.specs.declared.part.Part.{Part}
+use Rattle.leak_holders.specs.declared.caller_share.CallerShare.{CallerShare}
 use Rattle.leak_holders.specs.Holders.{AreHolders, AreReached}
 use Rattle.leak_holders.specs.Parts.{AreHoldersOf, counted_in}
 use Rattle.leak_search.specs.declared.inputs.Input.{Input}
-use Rattle.leak_search.specs.declared.marking.Ground.{Ground}
+use Rattle.leak_search.specs.declared.marking.RootsAndIndex.{RootsAndIndex}
 use Rattle.leak_holder_search.specs.declared.edges.InputEdges.{InputEdges}
 use Rattle.leak_holder_search.specs.declared.analysis.Analysis.{Analysis}
 use Rattle.leak_holder_search.specs.Edges.{AreEdgesOf, graph_with}
@@ -29,7 +29,7 @@ pub record AreAlike (g h : Graph) : Type 0 where
   pub targets : g.targets ≡ h.targets
 
 -- what was listed of an input, and what leads to what in it
-module _ (input : Input) (places : Ground) (edges : InputEdges) (is : AreEdgesOf input places edges) where
+module _ (input : Input) (places : RootsAndIndex) (edges : InputEdges) (is : AreEdgesOf input places edges) where
   pub listed : (first : List ℕ) → first ≡ edges.first.items
       → AreAlike (graph_by first (all_targets (word_of edges.listed.words.now) edges.listed.lookup.now)) (graph_with input places)
   unfolding graph_of
@@ -39,7 +39,7 @@ module _ (input : Input) (places : Ground) (edges : InputEdges) (is : AreEdgesOf
     targets = rw (is.words, is.lookup) refl;
   }
 
-pub targets_each : (input : Input) (places : Ground) → length (graph_with input places).targets ≡ length places.lookup.blocks
+pub targets_each : (input : Input) (places : RootsAndIndex) → length (graph_with input places).targets ≡ length places.lookup.blocks
 unfolding graph_of
 targets_each input places = length-map places.lookup.blocks (block_targets (word_of input.image) places.lookup)
 
@@ -58,7 +58,7 @@ module _ (g h : Graph) (alike : AreAlike g h) where
   below b inside = subst (λ (ts : List (List ℕ)). b < length ts) (sym alike.targets) inside
 
   -- so the rows are the same
-  pub same_holders : (f : Facts) (texts : ℕ) (rows : List Holder) → AreHolders g f texts rows → AreHolders h f texts rows
+  pub same_holders : (f : BlockTable) (texts : ℕ) (rows : List Holder) → AreHolders g f texts rows → AreHolders h f texts rows
   same_holders f texts rows x = record {
     held = x.held;
     holds = λ text b t inside. (
@@ -68,7 +68,7 @@ module _ (g h : Graph) (alike : AreAlike g h) where
     are = x.are;
   }
 
-  pub same_holders_of : (f : Facts) (texts : ℕ) (set : List Bool) (but : ℕ) (rows : List Part) → AreHoldersOf g f texts set but rows
+  pub same_holders_of : (f : BlockTable) (texts : ℕ) (set : List Bool) (but : ℕ) (rows : List CallerShare) → AreHoldersOf g f texts set but rows
       → AreHoldersOf h f texts set but rows
   same_holders_of f texts set but rows x = record { holders = x.holders; hold = same_holders (counted_in f set) texts x.holders x.hold; are = x.are }
 
@@ -108,10 +108,10 @@ module _ (g h : Graph) (alike : AreAlike g h) where
 module _ (a : Analysis) (s : IsAnalysis a) where
   pub alike : (first : List ℕ) → first ≡ a.edges.first.items
       → AreAlike (graph_by first (all_targets (word_of a.edges.listed.words.now) a.edges.listed.lookup.now)) (graph_in a)
-  alike first same = listed a.input.now a.ground.now a.edges s.listed first same
+  alike first same = listed a.input.now a.indexed.now a.edges s.listed first same
 
   pub targets_in : length (graph_in a).targets ≡ length (blocks_in a)
-  targets_in = targets_each a.input.now a.ground.now ∙ ap length s.of.lookup
+  targets_in = targets_each a.input.now a.indexed.now ∙ ap length s.of.lookup
 
   pub listed_in : length (all_targets (word_of a.edges.listed.words.now) a.edges.listed.lookup.now) ≡ length (blocks_in a)
   listed_in = ap length (alike a.edges.first.items refl).targets ∙ targets_in

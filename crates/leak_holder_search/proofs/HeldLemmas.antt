@@ -23,7 +23,7 @@ use Rattle.leak_holder_search.proofs.FindLemmas.{blocks_are, few_are, graph_is, 
 
 finds_with : (a : Analysis) (s : IsAnalysis a) (choice : Choice) (held : Held) (found : Holding) → IsChoice a choice → IsHeld a choice choice.question.side held
     → found.report.items ≡ held_text a.files.log.now (blocks_in a) choice.block choice.question.side choice.own.items held.told.items (texts_in a) held.parts.items
-    → FindsHeld a.files.core.now a.files.log.now (earlier a.files.since) a.ground.now.lookup.reading a.input.now.skip choice.question found
+    → FindsHeld a.files.core.now a.files.log.now (earlier a.files.since) a.indexed.now.lookup.reading a.input.now.skip choice.question found
 finds_with a s choice held found chosen is report =
     let numbers : List ℕ = a.texts.numbers.items in
     let blocks = blocks_are a s in
@@ -40,13 +40,13 @@ finds_with a s choice held found chosen is report =
       texts = texts_in a;
       numbers = numbers;
       numbered = texts_are a s;
-      facts = is.facts;
-      known = known_are a s is.facts is.of;
+      table = is.table;
+      known = known_are a s is.table is.of;
       told = held.told.items;
       parts = held.parts.items;
       are =
-          subst (λ (set : List Bool). AreHeld choice.question.side (graph_of_one a.files.core.now a.ground.now.lookup.reading a.input.now.skip s.read.0) is.facts (length (texts_in a)) set (slice_index numbers choice.block) held.told.items held.parts.items) chosen.set
-          (subst (λ (h : Graph). AreHeld choice.question.side h is.facts (length (texts_in a)) choice.set.items (slice_index numbers choice.block) held.told.items held.parts.items) (graph_is a s) is.are);
+          subst (λ (set : List Bool). AreHeld choice.question.side (graph_of_one a.files.core.now a.indexed.now.lookup.reading a.input.now.skip s.read.0) is.table (length (texts_in a)) set (slice_index numbers choice.block) held.told.items held.parts.items) chosen.set
+          (subst (λ (h : Graph). AreHeld choice.question.side h is.table (length (texts_in a)) choice.set.items (slice_index numbers choice.block) held.told.items held.parts.items) (graph_is a s) is.are);
       report =
           report
           ∙ ap (λ (bs : List Block). held_text a.files.log.now bs choice.block choice.question.side choice.own.items held.told.items (texts_in a) held.parts.items) blocks

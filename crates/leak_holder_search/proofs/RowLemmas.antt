@@ -4,7 +4,7 @@ use Rattle.std.specs.Prelude.{nat_lt, ◌&&◌}
 use Rattle.std.specs.List.{AllByRecursion, range_with_len}
 use Rattle.std.proofs.lemmas.Bool.{ltb-true}
 use Rattle.leak_marks.specs.Reach.{Graph}
-use Rattle.leak_holders.specs.declared.facts.Facts.{Facts}
+use Rattle.leak_holders.specs.declared.block_table.BlockTable.{BlockTable}
 use Rattle.leak_holders.specs.declared.holder.Holder.{Holder}
 use Rattle.leak_holders.specs.Holders.{AreHolders, Held, row_of, with_blocks, is_own, is_counted}
 use Rattle.leak_lemmas.proofs.Members.{each_filtered, each_implied, each_mapped}
@@ -21,10 +21,10 @@ head_below m p [] all some = some
 head_below m p (x ∷ xs) all some = all.0.0
 
 -- a row that has a block is of the blocks
-abbrev IsInside : Facts → ℕ → Holder → Type 0
+abbrev IsInside : BlockTable → ℕ → Holder → Type 0
 IsInside f texts r = nat_lt 0 r.blocks ≡ true → IsRowOf (length f.blocks.now) texts r
 
-row_inside : (f : Facts) (held : Held) (texts text : ℕ) → text < texts → IsInside f texts (row_of f held texts text)
+row_inside : (f : BlockTable) (held : Held) (texts text : ℕ) → text < texts → IsInside f texts (row_of f held texts text)
 row_inside f held texts text h some =
     let more : 0 < (row_of f held texts text).blocks = ltb-true _ _ some in
     let few = length-filter-le (λ b. held text b && is_counted f b) 0 (length f.blocks.now) in
@@ -36,7 +36,7 @@ row_inside f held texts text h some =
       text = h;
     }
 
-rows_inside : (graph : Graph) (f : Facts) (texts : ℕ) (rows : List Holder) → AreHolders graph f texts rows → AreRowsOf (length f.blocks.now) texts rows
+rows_inside : (graph : Graph) (f : BlockTable) (texts : ℕ) (rows : List Holder) → AreHolders graph f texts rows → AreRowsOf (length f.blocks.now) texts rows
 rows_inside graph f texts rows are =
     let all : List Holder = map (row_of f are.held texts) (range_with_len 0 texts) in
     let each = each_mapped (row_of f are.held texts) (IsInside f texts) (range_with_len 0 texts)
@@ -47,5 +47,5 @@ rows_inside graph f texts rows are =
     (each_filtered (λ r. nat_lt 0 r.blocks) (IsInside f texts) all each)))
 
 -- the same of the number of blocks
-pub inside_of : (graph : Graph) (f : Facts) (texts n : ℕ) (rows : List Holder) → AreHolders graph f texts rows → length f.blocks.now ≡ n → AreRowsOf n texts rows
+pub inside_of : (graph : Graph) (f : BlockTable) (texts n : ℕ) (rows : List Holder) → AreHolders graph f texts rows → length f.blocks.now ≡ n → AreRowsOf n texts rows
 inside_of graph f texts n rows are long = subst (λ (m : ℕ). AreRowsOf m texts rows) long (rows_inside graph f texts rows are)

@@ -7,10 +7,10 @@ use Rattle.leak_roots.specs.declared.skip.Skip.{Skip}
 use Rattle.leak_marks.specs.Reach.{Graph, Reach}
 use Rattle.leak_pool.specs.Marking.{IsSet}
 use Rattle.leak_report.specs.Numbered.{AreTexts, bytes_each}
-use Rattle.leak_holders.specs.declared.facts.Facts.{Facts}
+use Rattle.leak_holders.specs.declared.block_table.BlockTable.{BlockTable}
 use Rattle.leak_holders.specs.declared.holder.Holder.{Holder}
 use Rattle.leak_search.specs.declared.inputs.Input.{Input}
-use Rattle.leak_search.specs.declared.marking.Ground.{Ground}
+use Rattle.leak_search.specs.declared.marking.RootsAndIndex.{RootsAndIndex}
 use Rattle.leak_search.specs.Inputs.{AreRootsFor, IsInput, IsRead}
 use Rattle.leak_holder_search.specs.declared.analysis.Analysis.{Analysis}
 use Rattle.leak_holder_search.specs.declared.files.Files.{Files}
@@ -19,7 +19,7 @@ use Rattle.leak_holder_search.specs.Rows.{AreKnown, AreRows}
 use Rattle.leak_holder_search.specs.Since.{counted_of, earlier, is_continued_from}
 
 -- root words and lookup are those of the input
-pub record IsGroundOf (input : Input) (places : Ground) : Type 0 where
+pub record AreRootsAndIndexOf (input : Input) (places : RootsAndIndex) : Type 0 where
   pub lookup : places.lookup.blocks ≡ input.live.blocks
   pub roots : (lines : List Line) → IsInput lines input → AreRootsFor lines input places.roots
 
@@ -28,7 +28,7 @@ abbrev pub blocks_in : Analysis → List Block
 blocks_in a = a.input.now.live.blocks
 
 abbrev pub graph_in : Analysis → Graph
-graph_in a = graph_with a.input.now a.ground.now
+graph_in a = graph_with a.input.now a.indexed.now
 
 abbrev pub texts_in : Analysis → List (List ℕ)
 texts_in a = bytes_each a.texts.texts.items
@@ -37,8 +37,8 @@ texts_in a = bytes_each a.texts.texts.items
 pub record IsAnalysis (a : Analysis) : Type 0 where
   pub read : IsRead a.files.core.now a.files.log.now a.input.now
   pub continued : IsTrue (is_continued_from (earlier a.files.since) a.files.log.now)
-  pub of : IsGroundOf a.input.now a.ground.now
-  pub listed : AreEdgesOf a.input.now a.ground.now a.edges
+  pub of : AreRootsAndIndexOf a.input.now a.indexed.now
+  pub listed : AreEdgesOf a.input.now a.indexed.now a.edges
   pub few : length (blocks_in a) < 2 ^ 32
   pub marked : IsSet a.set.items (length (blocks_in a)) (Reach (graph_in a))
   pub numbered : AreTexts a.files.log.now (blocks_in a) (texts_in a) a.texts.numbers.items
@@ -48,12 +48,12 @@ pub record IsAnalysis (a : Analysis) : Type 0 where
 pub record IsAnalysisOf (files : Files) (reading : Distances) (skip : Skip) (a : Analysis) : Type 0 where
   pub is : IsAnalysis a
   pub files_are : a.files ≡ files
-  pub reading_is : a.ground.now.lookup.reading ≡ reading
+  pub reading_is : a.indexed.now.lookup.reading ≡ reading
   pub skip_is : a.input.now.skip ≡ skip
 
--- these are the facts of its blocks
-abbrev pub AreFactsOf : Analysis → Facts → Type 0
-AreFactsOf a facts = AreKnown (blocks_in a) a.texts.numbers.items a.set.items a.counted.items facts
+-- this is the table of its blocks
+abbrev pub IsTableOf : Analysis → BlockTable → Type 0
+IsTableOf a table = AreKnown (blocks_in a) a.texts.numbers.items a.set.items a.counted.items table
 
 -- these are the rows of its texts
 abbrev pub AreRowsIn : Analysis → List Holder → Type 0

@@ -13,8 +13,8 @@ use Rattle.leak_pool.specs.Marking.{IsSet}
 use Rattle.leak_report.specs.Totals.{marked_in}
 use Rattle.leak_report.specs.Lines.{blocks_line, newline}
 use Rattle.leak_report.specs.Numbered.{AreTexts, text_with}
-use Rattle.leak_holders.specs.declared.facts.Facts.{Facts}
-use Rattle.leak_holders.specs.declared.part.Part.{Part}
+use Rattle.leak_holders.specs.declared.block_table.BlockTable.{BlockTable}
+use Rattle.leak_holders.specs.declared.caller_share.CallerShare.{CallerShare}
 use Rattle.leak_holders.specs.declared.question.Question.{Question}
 use Rattle.leak_holders.specs.declared.question.Side.{Side}
 use Rattle.leak_holders.specs.declared.question.Side.TheVariants.{In, Of}
@@ -40,7 +40,7 @@ chosen_with numbers block alone =
     map (λ b. if alone then b == block else slice_index numbers b == slice_index numbers block) (range_with_len 0 (length numbers))
 
 -- What the chosen blocks hold: `told` are the counted ones of it, and the rows are those of their texts.
-pub record AreHeldIn (graph : Graph) (f : Facts) (texts : ℕ) (set told : List Bool) (parts : List Part) : Type 0 where
+pub record AreHeldIn (graph : Graph) (f : BlockTable) (texts : ℕ) (set told : List Bool) (parts : List CallerShare) : Type 0 where
   pub held : List Bool
   pub len : length held ≡ length graph.targets
   pub holds : (b : ℕ) → b < length graph.targets → (IsTrue (slice_index_or held b false) ↔ IsHeldBy graph (chosen set) b)
@@ -48,11 +48,11 @@ pub record AreHeldIn (graph : Graph) (f : Facts) (texts : ℕ) (set told : List 
   pub rows : parts ≡ parts_by f (λ b. slice_index_or held b false) texts
 
 -- Who holds the chosen blocks: `told` are the counted and reached ones, and the rows are those of the texts, except one, that hold some.
-pub record AreHeldOf (graph : Graph) (f : Facts) (texts : ℕ) (set : List Bool) (but : ℕ) (told : List Bool) (parts : List Part) : Type 0 where
+pub record AreHeldOf (graph : Graph) (f : BlockTable) (texts : ℕ) (set : List Bool) (but : ℕ) (told : List Bool) (parts : List CallerShare) : Type 0 where
   pub told_are : told ≡ both (both set f.reached.now) f.counted.now
   pub rows : AreHoldersOf graph f texts set but parts
 
-abbrev pub AreHeld : Side → Graph → Facts → ℕ → List Bool → ℕ → List Bool → List Part → Type 0
+abbrev pub AreHeld : Side → Graph → BlockTable → ℕ → List Bool → ℕ → List Bool → List CallerShare → Type 0
 AreHeld In graph f texts set but told parts = AreHeldIn graph f texts set told parts
 AreHeld Of graph f texts set but told parts = AreHeldOf graph f texts set but told parts
 
@@ -62,18 +62,18 @@ side_word In = codes "in"
 side_word Of = codes "by"
 
 -- a row up to its text
-abbrev pub part_front : Side → Part → List ℕ
+abbrev pub part_front : Side → CallerShare → List ℕ
 part_front side part = side_word side ++ (codes " " ++ (decimal part.blocks ++ (codes " " ++ (decimal part.bytes ++ codes " "))))
 
-abbrev pub part_line : Side → List (List ℕ) → Part → List ℕ
+abbrev pub part_line : Side → List (List ℕ) → CallerShare → List ℕ
 part_line side texts part = part_front side part ++ text_with texts part.text ++ newline
 
 -- the lines after that of the asked block: own are the chosen blocks that are reached
-abbrev pub held_lines : Side → List Block → List Bool → List Bool → List (List ℕ) → List Part → List ℕ
+abbrev pub held_lines : Side → List Block → List Bool → List Bool → List (List ℕ) → List CallerShare → List ℕ
 held_lines side blocks own told texts parts =
     if list_any (λ x. x) own then blocks_line (codes "held") (marked_in told blocks) ++ flat_map (part_line side texts) parts else codes "leaked" ++ newline
 
-unfoldable pub held_text : List ℕ → List Block → ℕ → Side → List Bool → List Bool → List (List ℕ) → List Part → List ℕ
+unfoldable pub held_text : List ℕ → List Block → ℕ → Side → List Bool → List Bool → List (List ℕ) → List CallerShare → List ℕ
 held_text log blocks block side own told texts parts =
     numbered_line (codes "asked") log blocks block ++ held_lines side blocks own told texts parts
 
@@ -92,11 +92,11 @@ pub record FindsHeld (core log : List ℕ) (since : Option (List ℕ)) (reading 
   pub texts : List (List ℕ)
   pub numbers : List ℕ
   pub numbered : AreTexts log (live_of lines) texts numbers
-  pub facts : Facts
-  pub known : AreKnown (live_of lines) numbers set (counted_of since (live_of lines)) facts
+  pub table : BlockTable
+  pub known : AreKnown (live_of lines) numbers set (counted_of since (live_of lines)) table
   pub told : List Bool
-  pub parts : List Part
-  pub are : AreHeld question.side (graph_of_one core reading skip lines) facts (length texts) (chosen_with numbers block question.alone)
+  pub parts : List CallerShare
+  pub are : AreHeld question.side (graph_of_one core reading skip lines) table (length texts) (chosen_with numbers block question.alone)
       (slice_index numbers block) told parts
   pub report : found.report.items
       ≡ held_text log (live_of lines) block question.side (both (chosen_with numbers block question.alone) set) told texts parts

@@ -2,7 +2,7 @@
 use Rattle.std.specs.Prelude.{◌≡◌, ℕ, ◌^◌, ◌<◌, Bool, List, length, slice_index}
 use Rattle.leak_blocks.specs.declared.block.Block.{Block}
 use Rattle.leak_marks.specs.Reach.{Graph}
-use Rattle.leak_holders.specs.declared.facts.Facts.{Facts}
+use Rattle.leak_holders.specs.declared.block_table.BlockTable.{BlockTable}
 use Rattle.leak_holders.specs.declared.holder.Holder.{Holder}
 use Rattle.leak_holders.specs.Holders.{AreHolders}
 
@@ -13,15 +13,15 @@ pub record AreNumbers (blocks texts : ℕ) (numbers : List ℕ) : Type 0 where
   pub few : texts < 2 ^ 32
 
 -- this is known of the blocks: the number of each one's text, whether a chain reaches it, and whether it is counted
-pub record AreKnown (blocks : List Block) (numbers : List ℕ) (set counted : List Bool) (facts : Facts) : Type 0 where
-  pub of_blocks : facts.blocks.now ≡ blocks
-  pub of_texts : facts.numbers.now ≡ numbers
-  pub reached : facts.reached.now ≡ set
-  pub counts : facts.counted.now ≡ counted
+pub record AreKnown (blocks : List Block) (numbers : List ℕ) (set counted : List Bool) (table : BlockTable) : Type 0 where
+  pub of_blocks : table.blocks.now ≡ blocks
+  pub of_texts : table.numbers.now ≡ numbers
+  pub reached : table.reached.now ≡ set
+  pub counts : table.counted.now ≡ counted
 
 -- the rows are those of this many texts, by what each holds in the graph
 pub record AreRows (graph : Graph) (blocks : List Block) (numbers : List ℕ) (set counted : List Bool)
     (texts : ℕ) (rows : List Holder) : Type 0 where
-  pub facts : Facts
-  pub known : AreKnown blocks numbers set counted facts
-  pub holders : AreHolders graph facts texts rows
+  pub table : BlockTable
+  pub known : AreKnown blocks numbers set counted table
+  pub holders : AreHolders graph table texts rows

@@ -3,16 +3,16 @@
 ghost use Rattle.std.specs.Prelude.{◌≡◌, ◌≢◌, ◌<◌, ◌^◌, length, IfOk, IfErr, IsTrue};
 ghost use Rattle.leak_holders.specs.Holders.{AreComplete};
 ghost use Rattle.leak_search.specs.Inputs.{IsRead};
-ghost use Rattle.leak_holder_search.specs.Analyses.{AreFactsOf, IsAnalysis, IsAnalysisOf, IsGroundOf, texts_in};
+ghost use Rattle.leak_holder_search.specs.Analyses.{IsAnalysis, IsAnalysisOf, AreRootsAndIndexOf, IsTableOf, texts_in};
 ghost use Rattle.leak_holder_search.specs.Holders.{IsFaultOfHolders};
 ghost use Rattle.leak_holder_search.specs.Since.{earlier, is_continued_from};
 
 use crate::edges::{InputEdges, edges_of};
 use crate::files::Files;
 use crate::since::counted;
-use leak_holders::{Facts, reached_blocks};
+use leak_holders::{BlockTable, reached_blocks};
 use leak_report::{Texts, number_texts};
-use leak_search::{FindError, Ground, Input};
+use leak_search::{FindError, Input, RootsAndIndex};
 use std::alloc::Global;
 use std::thread::Threads;
 
@@ -22,7 +22,7 @@ pub(crate) struct Analysis<'a, 'b> {
     /// What the input was read from.
     pub(crate) files: Files<'b>,
     pub(crate) input: &'a Input<'a>,
-    pub(crate) ground: &'a Ground<'a>,
+    pub(crate) indexed: &'a RootsAndIndex<'a>,
     pub(crate) edges: InputEdges<'a>,
     /// For each block, whether a chain reaches it.
     pub(crate) set: Vec<bool>,
@@ -42,26 +42,26 @@ pub(crate) fn analysis_of<'a, 'b, R: Threads + Sync>(
     rt: &R,
     alloc: Global,
     input: &'a Input<'a>,
-    ground: &'a Ground<'a>,
+    indexed: &'a RootsAndIndex<'a>,
     files: &Files<'b>,
     workers: u32,
 ) -> Result<Analysis<'a, 'b>, FindError>
     requires read { IsRead files.now.core.now files.now.log.now input.now }
     requires continued { IsTrue (is_continued_from (earlier files.now.since) files.now.log.now) }
-    requires of { IsGroundOf input.now ground.now }
+    requires of { AreRootsAndIndexOf input.now indexed.now }
     requires some { 0 < workers }
-    ensures ok { IfOk result (IsAnalysisOf files.now ground.now.lookup.reading input.now.skip) }
+    ensures ok { IfOk result (IsAnalysisOf files.now indexed.now.lookup.reading input.now.skip) }
     ensures refused { IfErr result (λ e. e ≢ FindError.NoMemory
         → IsFaultOfHolders files.now.core.now files.now.log.now (earlier files.now.since) e) }
 {
-    let edges = edges_of(rt, alloc, input, ground, workers)?;
+    let edges = edges_of(rt, alloc, input, indexed, workers)?;
     let set = reached_blocks(alloc, &edges.listed, edges.first.as_slice())?;
     let texts = number_texts(alloc, input.live.blocks(), files.log)?;
     let counted = counted(alloc, files.since, input.live.blocks())?;
     Ok(Analysis {
         files: *files,
         input,
-        ground,
+        indexed,
         edges,
         set,
         texts,
@@ -70,12 +70,12 @@ pub(crate) fn analysis_of<'a, 'b, R: Threads + Sync>(
 }
 
 /// What is known of the blocks of an input.
-pub(crate) fn facts_of<'a>(analysis: &'a Analysis<'_, '_>) -> Facts<'a>
+pub(crate) fn table_of<'a>(analysis: &'a Analysis<'_, '_>) -> BlockTable<'a>
     requires { IsAnalysis analysis.now }
-    ensures of { AreFactsOf analysis.now result }
+    ensures of { IsTableOf analysis.now result }
     ensures complete { AreComplete (length (texts_in analysis.now)) result }
 {
-    Facts {
+    BlockTable {
         blocks: analysis.input.live.blocks(),
         numbers: analysis.texts.numbers.as_slice(),
         reached: analysis.set.as_slice(),

@@ -6,7 +6,7 @@ ghost use Rattle.leak_holder_search.specs.Analyses.{IsAnalysis, blocks_in};
 ghost use Rattle.leak_holder_search.specs.Answers.{IsChoice};
 ghost use Rattle.leak_holder_search.specs.Held.{both, chosen_with};
 
-use crate::analysis::{Analysis, facts_of};
+use crate::analysis::{Analysis, table_of};
 use leak_holders::Question;
 use std::alloc::{AllocError, Global};
 
@@ -34,9 +34,9 @@ pub(crate) fn choice_of(
     ensures are { IfOk result (IsChoice analysis.now) }
     ensures of { IfOk result (λ choice. choice.question ≡ question) }
 {
-    let facts = facts_of(analysis);
-    let set = chosen(alloc, facts.numbers, block, question.alone)?;
-    let own = in_both(alloc, set.as_slice(), facts.reached)?;
+    let table = table_of(analysis);
+    let set = chosen(alloc, table.numbers, block, question.alone)?;
+    let own = in_both(alloc, set.as_slice(), table.reached)?;
     Ok(Choice {
         question,
         block,

@@ -6,7 +6,7 @@ ghost use Rattle.leak_holder_search.specs.Edges.{AreEdgesOf};
 use leak_elf::Image;
 use leak_index::Paged;
 use leak_pool::{Listed, PoolError, first_blocks, list_edges};
-use leak_search::{Ground, Input};
+use leak_search::{Input, RootsAndIndex};
 use std::alloc::Global;
 use std::thread::Threads;
 
@@ -28,16 +28,16 @@ pub(crate) fn edges_of<'a, R: Threads + Sync>(
     rt: &R,
     alloc: Global,
     input: &'a Input<'a>,
-    ground: &'a Ground<'a>,
+    indexed: &'a RootsAndIndex<'a>,
     workers: u32,
 ) -> Result<InputEdges<'a>, PoolError>
     requires some { 0 < workers }
-    requires same_blocks { ground.now.lookup.blocks ≡ input.now.live.blocks }
+    requires same_blocks { indexed.now.lookup.blocks ≡ input.now.live.blocks }
     ensures many { IsErrOf result PoolError.TooMany ↔ (2 ^ 32 - 1 < length input.now.live.blocks) }
-    ensures listed { IfOk result (AreEdgesOf input.now ground.now) }
+    ensures listed { IfOk result (AreEdgesOf input.now indexed.now) }
 {
-    let (image, live, lookup) = (&input.image, &input.live, &ground.lookup);
+    let (image, live, lookup) = (&input.image, &input.live, &indexed.lookup);
     let listed = list_edges(rt, alloc, image, lookup, live, workers)?;
-    let first = first_blocks(alloc, image, lookup, &ground.roots, live)?;
+    let first = first_blocks(alloc, image, lookup, &indexed.roots, live)?;
     Ok(InputEdges { listed, first })
 }

@@ -4,9 +4,11 @@ ghost use Rattle.std.specs.Prelude.{◌≡◌, IfOk};
 ghost use Rattle.leak_holder_search.specs.Analyses.{IsAnalysis};
 ghost use Rattle.leak_holder_search.specs.Answers.{IsChoice, IsHeld};
 
-use crate::analysis::{Analysis, count_texts, facts_of};
+use crate::analysis::{Analysis, count_texts, table_of};
 use crate::choosing::{Choice, in_both};
-use leak_holders::{Crew, Part, Progress, Side, held_blocks, holders_of, parts_of};
+use leak_holders::{
+    BlockGraph, CallerShare, Progress, Side, Workers, held_blocks, holders_of, parts_of,
+};
 use std::alloc::{AllocError, Global};
 use std::thread::Threads;
 
@@ -16,14 +18,14 @@ pub(crate) struct Held {
     /// For each block, whether it is told: counted and held by the chosen ones, or counted, reached and chosen.
     pub(crate) told: Vec<bool>,
     /// A row for each text.
-    pub(crate) parts: Vec<Part>,
+    pub(crate) parts: Vec<CallerShare>,
 }
 
 /// What the chosen blocks hold, or which other texts than that of the asked block hold them.
 ///
 /// The only error is refused memory.
 pub(crate) fn held_of<R: Threads + Sync, P: Progress>(
-    crew: &Crew<'_, R, P>,
+    workers: &Workers<'_, R, P>,
     alloc: Global,
     analysis: &Analysis,
     choice: &Choice,
@@ -34,7 +36,7 @@ pub(crate) fn held_of<R: Threads + Sync, P: Progress>(
 {
     match choice.question.side {
         Side::In => held_in(alloc, analysis, choice),
-        Side::Of => held_by(crew, alloc, analysis, choice),
+        Side::Of => held_by(workers, alloc, analysis, choice),
     }
 }
 
@@ -44,18 +46,18 @@ fn held_in(alloc: Global, analysis: &Analysis, choice: &Choice) -> Result<Held, 
     requires choice { IsChoice analysis.now choice.now }
     ensures { IfOk result (IsHeld analysis.now choice.now Side.In) }
 {
-    let (edges, facts) = (&analysis.edges, facts_of(analysis));
+    let (edges, table) = (&analysis.edges, table_of(analysis));
     let (first, set) = (edges.first.as_slice(), choice.set.as_slice());
     let held = held_blocks(alloc, &edges.listed, first, set)?;
     let held = held.as_slice();
-    let parts = parts_of(alloc, &facts, count_texts(analysis), held)?;
-    let told = in_both(alloc, held, facts.counted)?;
+    let parts = parts_of(alloc, &table, count_texts(analysis), held)?;
+    let told = in_both(alloc, held, table.counted)?;
     Ok(Held { told, parts })
 }
 
 /// Which other texts than that of the asked block hold the chosen blocks.
 fn held_by<R: Threads + Sync, P: Progress>(
-    crew: &Crew<'_, R, P>,
+    workers: &Workers<'_, R, P>,
     alloc: Global,
     analysis: &Analysis,
     choice: &Choice,
@@ -64,10 +66,15 @@ fn held_by<R: Threads + Sync, P: Progress>(
     requires choice { IsChoice analysis.now choice.now }
     ensures { IfOk result (IsHeld analysis.now choice.now Side.Of) }
 {
-    let (edges, facts) = (&analysis.edges, facts_of(analysis));
+    let (edges, table) = (&analysis.edges, table_of(analysis));
     let (first, set) = (edges.first.as_slice(), choice.set.as_slice());
-    let (texts, but) = (count_texts(analysis), facts.numbers[choice.block]);
-    let parts = holders_of(crew, alloc, &edges.listed, first, &facts, texts, set, but)?;
-    let told = in_both(alloc, choice.own.as_slice(), facts.counted)?;
+    let (texts, but) = (count_texts(analysis), table.numbers[choice.block]);
+    let graph = BlockGraph {
+        edges: &edges.listed,
+        first,
+        table,
+    };
+    let parts = holders_of(workers, alloc, &graph, texts, set, but)?;
+    let told = in_both(alloc, choice.own.as_slice(), table.counted)?;
     Ok(Held { told, parts })
 }

@@ -12,7 +12,7 @@ use crate::analysis::Analysis;
 use crate::choosing::Choice;
 use crate::held::Held;
 use leak_blocks::Live;
-use leak_holders::{Part, Side};
+use leak_holders::{CallerShare, Side};
 use leak_report::{marked_sizes, push_line, push_sizes};
 use leak_why::push_numbered;
 use std::alloc::{AllocError, Global};
@@ -98,7 +98,7 @@ fn push_parts(
     buffer: &mut String,
     side: Side,
     texts: &[&[u8]],
-    parts: &[Part],
+    parts: &[CallerShare],
 ) -> Result<(), AllocError>
     ensures { OnOk result (out.new.items ≡ out.old.items
         ++ flat_map (part_line side (bytes_each texts.now)) parts.now) }
@@ -124,7 +124,7 @@ fn push_part(
     out: &mut Vec<u8>,
     buffer: &mut String,
     side: Side,
-    part: &Part,
+    part: &CallerShare,
     text: &[u8],
 ) -> Result<(), AllocError>
     ensures { OnOk result (out.new.items
@@ -136,10 +136,10 @@ fn push_part(
 }
 
 /// Appends a row's line up to its text.
-fn push_front(out: &mut String, side: Side, part: &Part) -> Result<(), AllocError>
+fn push_front(out: &mut String, side: Side, part: &CallerShare) -> Result<(), AllocError>
     ensures { OnOk result (string_bytes out.new ≡ string_bytes out.old ++ part_front side part.now) }
 {
-    let (word, Part { blocks, bytes, .. }) = (word_of_side(side), *part);
+    let (word, CallerShare { blocks, bytes, .. }) = (word_of_side(side), *part);
     write!(out, "{word} {blocks} {bytes} ")
 }
 

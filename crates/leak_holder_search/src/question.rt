@@ -15,9 +15,11 @@ use crate::held::held_of;
 use crate::held_report::held_text_of;
 use crate::search::Holding;
 use crate::since::is_continued;
-use leak_holders::{Crew, Progress, Question};
+use leak_holders::{Progress, Question, Workers};
 use leak_pool::Plan;
-use leak_search::{FindError, Rules, WhyError, consistency_of_one, ground_of, read_input};
+use leak_search::{
+    FindError, Rules, WhyError, consistency_of_one, find_roots_and_index, read_input,
+};
 use leak_why::block_at;
 use std::alloc::Global;
 use std::thread::Threads;
@@ -52,14 +54,14 @@ pub fn find_held<R: Threads + Sync, P: Progress>(
         return Err(WhyError::Find(FindError::NotPrefix));
     }
     let consistency = consistency_of_one(alloc, &input, false, rules.other_heap)?;
-    let ground = ground_of(alloc, &input, rules.reading)?;
-    let crew = Crew::new(rt, plan.workers(), progress);
-    let analysis = analysis_of(rt, alloc, &input, &ground, files, crew.workers)?;
+    let indexed = find_roots_and_index(alloc, &input, rules.reading)?;
+    let workers = Workers::new(rt, plan.workers(), progress);
+    let analysis = analysis_of(rt, alloc, &input, &indexed, files, workers.count)?;
     let Some(block) = block_at(&analysis.input.live, question.address) else {
         return Err(WhyError::NoBlock(question.address));
     };
     let choice = choice_of(alloc, &analysis, question, block)?;
-    let held = held_of(&crew, alloc, &analysis, &choice)?;
+    let held = held_of(&workers, alloc, &analysis, &choice)?;
     let report = held_text_of(alloc, &analysis, &choice, &held)?;
     Ok(Holding {
         report,

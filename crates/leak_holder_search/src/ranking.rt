@@ -4,8 +4,8 @@ ghost use Rattle.std.specs.Prelude.{length, IfOk};
 ghost use Rattle.leak_holder_search.specs.Analyses.{AreRowsIn, IsAnalysis, blocks_in, texts_in};
 ghost use Rattle.leak_holder_search.specs.Text.{AreRowsOf};
 
-use crate::analysis::{Analysis, count_texts, facts_of};
-use leak_holders::{Crew, Holder, Progress, holders};
+use crate::analysis::{Analysis, count_texts, table_of};
+use leak_holders::{BlockGraph, Holder, Progress, Workers, holders};
 use std::alloc::{AllocError, Global};
 use std::thread::Threads;
 
@@ -13,7 +13,7 @@ use std::thread::Threads;
 ///
 /// The only error is refused memory.
 pub(crate) fn rows_of<R: Threads + Sync, P: Progress>(
-    crew: &Crew<'_, R, P>,
+    workers: &Workers<'_, R, P>,
     alloc: Global,
     analysis: &Analysis,
 ) -> Result<Vec<Holder>, AllocError>
@@ -22,7 +22,12 @@ pub(crate) fn rows_of<R: Threads + Sync, P: Progress>(
     ensures inside { IfOk result (λ rows. AreRowsOf (length (blocks_in analysis.now))
         (length (texts_in analysis.now)) rows.items) }
 {
-    let (edges, facts) = (&analysis.edges, facts_of(analysis));
-    let (listed, first) = (&edges.listed, edges.first.as_slice());
-    holders(crew, alloc, listed, first, &facts, count_texts(analysis))
+    let (edges, table) = (&analysis.edges, table_of(analysis));
+    let (edges, first) = (&edges.listed, edges.first.as_slice());
+    let graph = BlockGraph {
+        edges,
+        first,
+        table,
+    };
+    holders(workers, alloc, &graph, count_texts(analysis))
 }

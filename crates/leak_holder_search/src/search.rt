@@ -11,10 +11,10 @@ use crate::files::Files;
 use crate::ranking::rows_of;
 use crate::report::text;
 use crate::since::is_continued;
-use leak_holders::{Crew, Progress};
+use leak_holders::{Progress, Workers};
 use leak_pool::Plan;
 use leak_report::Signs;
-use leak_search::{FindError, Rules, consistency_of_one, ground_of, read_input};
+use leak_search::{FindError, Rules, consistency_of_one, find_roots_and_index, read_input};
 use std::alloc::Global;
 use std::thread::Threads;
 
@@ -56,10 +56,10 @@ pub fn find_holders<R: Threads + Sync, P: Progress>(
         return Err(FindError::NotPrefix);
     }
     let consistency = consistency_of_one(alloc, &input, false, rules.other_heap)?;
-    let ground = ground_of(alloc, &input, rules.reading)?;
-    let crew = Crew::new(rt, plan.workers(), progress);
-    let analysis = analysis_of(rt, alloc, &input, &ground, files, crew.workers)?;
-    let rows = rows_of(&crew, alloc, &analysis)?;
+    let indexed = find_roots_and_index(alloc, &input, rules.reading)?;
+    let workers = Workers::new(rt, plan.workers(), progress);
+    let analysis = analysis_of(rt, alloc, &input, &indexed, files, workers.count)?;
+    let rows = rows_of(&workers, alloc, &analysis)?;
     let report = text(alloc, &analysis, rows.as_slice())?;
     Ok(Holding {
         report,

@@ -1,37 +1,19 @@
 //! Which blocks are counted.
 
-ghost use Rattle.std.specs.Prelude.{◌≡◌, ◌==◌, map, count_by, nat_lt, option_map, IfOk, true};
-ghost use Rattle.leak_mtrace.specs.Log.{whole_len_of};
+ghost use Rattle.std.specs.Prelude.{◌≡◌, map, nat_lt, option_map, IfOk, true};
 ghost use Rattle.leak_holder_search.specs.Since.{counted_of, earlier, is_continued_from};
 
 use crate::files::Files;
 use leak_blocks::Block;
+use leak_search::count_lines;
 use std::alloc::{AllocError, Global};
-
-/// How many bytes of a log its complete lines take.
-fn whole_len(log: &[u8]) -> usize
-    ensures { result ≡ whole_len_of log.now }
-{
-    let mut len = log.len();
-    while len > 0 && log[len - 1] != b'\n' {
-        len -= 1;
-    }
-    len
-}
-
-/// How many lines of the log are complete.
-fn count_lines(log: &[u8]) -> usize
-    ensures { result ≡ count_by (λ b. b == 10) log.now }
-{
-    log.iter().filter(|b| **b == b'\n').count()
-}
 
 /// Whether the complete lines of the earlier log, if there is one, begin the log.
 pub(crate) fn is_continued(files: &Files) -> bool
     ensures { result ≡ is_continued_from (earlier files.now.since) files.now.log.now }
 {
     match files.since {
-        Some(log) => files.log.starts_with(&log[..whole_len(log)]),
+        Some(log) => leak_search::is_continued(log, files.log),
         None => true,
     }
 }

@@ -27,20 +27,20 @@ impl Progress for Silent {
 
 /// The threads of a call, how many may work at once, and who is told of the work.
 #[derive(Drop)]
-pub struct Crew<'a, R: Threads + Sync, P: Progress> {
+pub struct Workers<'a, R: Threads + Sync, P: Progress> {
     pub rt: &'a R,
-    pub workers: u32,
+    pub count: u32,
     pub progress: &'a P,
 }
 
-impl<'a, R: Threads + Sync, P: Progress> Crew<'a, R, P> {
-    /// A crew of this many workers.
-    pub fn new(rt: &'a R, workers: u32, progress: &'a P) -> Crew<'a, R, P>
-        ensures { result.workers ≡ workers }
+impl<'a, R: Threads + Sync, P: Progress> Workers<'a, R, P> {
+    /// This many workers.
+    pub fn new(rt: &'a R, count: u32, progress: &'a P) -> Workers<'a, R, P>
+        ensures { result.count ≡ count }
     {
-        Crew {
+        Workers {
             rt,
-            workers,
+            count,
             progress,
         }
     }

@@ -3,11 +3,12 @@ use Rattle.std.proofs.Common.{◌≡◌, ℕ, ◌+◌, ◌-◌, ◌<◌, ◌≤�
 use Rattle.std.proofs.lemmas.Bool.{le-leb}
 use Rattle.std.proofs.lemmas.List.Elements.{Contains-append_left, Contains-append_right, Contains-append_cases}
 use Rattle.std.specs.List.{Contains}
+use Rattle.leak_lemmas.proofs.Bools.{and_right}
 use Rattle.leak_blocks.specs.declared.block.Block.{Block}
 use Rattle.leak_blocks.specs.Span.{AreDisjoint, span_end}
 use Rattle.leak_index.specs.Hits.{hits_from}
 use Rattle.leak_index.specs.Leads.{Distances, leads, allows, is_up_to_end}
-use Rattle.leak_index.proofs.Few.{and_right, before_end, ended, from_start, hit_or, none_above}
+use Rattle.leak_index.proofs.Few.{before_end, ended, from_start, hit_or, none_above}
 
 abbrev pub by : Bool → Option (List ℕ) → Distances
 by skips_ends listed = record { listed = listed; skips_ends = skips_ends }

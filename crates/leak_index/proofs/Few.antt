@@ -2,21 +2,11 @@
 use Rattle.std.proofs.Common.{◌≡◌, ℕ, suc, ◌+◌, ◌-◌, ◌<◌, ◌≤◌, Bool, true, false, ◌&&◌, refl, List, [], ◌∷◌, length, arith, nat_le, leb→le, ltb→lt, if◌then◌else◌}
 use Rattle.std.specs.Bool.{passes}
 use Rattle.std.specs.List.{AllByRecursion}
+use Rattle.leak_lemmas.proofs.Bools.{and_right, and_left}
 use Rattle.leak_blocks.specs.declared.block.Block.{Block}
 use Rattle.leak_blocks.specs.Span.{AreDisjoint, span_end}
 use Rattle.leak_index.specs.Hits.{hits_from}
 use Rattle.leak_index.specs.Leads.{Distances, leads, allows, is_up_to_end}
-
-pub and_left : (x y : Bool) → (x && y) ≡ true → x ≡ true
-and_left true y h = refl
-and_left false y h = h
-
-pub and_right : (x y : Bool) → (x && y) ≡ true → y ≡ true
-and_right true y h = h
-and_right false y h = elim (true≢false' h) [ ]
-  where
-    true≢false' : false ≡ true → ⊥
-    true≢false' e = cc
 
 pub led_part : (r : Distances) (w : ℕ) (b : Block) → leads r w b ≡ true → (nat_le b.start w && is_up_to_end r.skips_ends w b) ≡ true
 led_part r w b h = and_left (nat_le b.start w && is_up_to_end r.skips_ends w b) (allows r.listed (w - b.start)) h

@@ -1,23 +1,18 @@
 -- Bytes of pages and their words.
-use Rattle.std.proofs.Common.{◌≡◌, ◌≢◌, Fits, ℕ, zero, suc, ◌+◌, ◌-◌, ◌*◌, ◌<◌, ◌≤◌, ◌⊎◌, inl, inr, ⊎_elim, refl, sym, subst, ap, ◌∙◌, List, ◌++◌, length, take, drop, get_or, Option, Some, Bool, true, false, not, true≢false, arith}
+use Rattle.std.proofs.Common.{◌≡◌, ◌≢◌, ℕ, zero, suc, ◌+◌, ◌-◌, ◌*◌, ◌<◌, ◌≤◌, ◌⊎◌, inl, inr, ⊎_elim, refl, sym, subst, ap, ◌∙◌, List, ◌++◌, length, take, drop, Option, Some, Bool, true, false, not, true≢false, arith}
 use mathlib.Core.Logic.{dite}
 use native.Mathlib.Decide.{ℕ_discrete}
 use Rattle.std.proofs.Math.Decide.{dec_lt}
 use Rattle.std.proofs.Math.Seq.{take-add}
-use Rattle.std.proofs.lemmas.List.{drop-drop, drop-take, take-take, take_rest, length-drop, length-take-le, get_or-take, get_or-drop, get_or_past}
+use Rattle.std.proofs.lemmas.List.{drop-take, take-take, take_rest, length-drop, length-take-le, get_or-take, get_or-drop, get_or_past}
 use Rattle.std.proofs.lemmas.Nat.{le_bytes_8}
 use Rattle.std.specs.Str.{bytes_eq}
 use Rattle.std.proofs.lemmas.Slice.Eq.{bytes_eq-Decides}
-use Rattle.std.specs.Int.{w8, w64, from_le_bytes}
+use Rattle.std.specs.Int.{w64, from_le_bytes}
+use Rattle.leak_lemmas.proofs.Bytes.{AreBytes}
 use Rattle.leak_elf.specs.Fields.{number_at}
 use Rattle.leak_elf.specs.Words.{IsRun}
-
--- each is a byte
-abbrev pub AreBytes : List ℕ → Type 0
-AreBytes xs = (i : ℕ) → get_or xs i 0 < 256
-
-pub are_bytes : (xs : List ℕ) → ((i : ℕ) → Fits w8 (get_or xs i 0)) → AreBytes xs
-are_bytes xs h i = let b : Fits w8 (get_or xs i 0) = h i in omega (arith, b)
+use Rattle.leak_scan.proofs.Runs.{number_drop}
 
 -- ---- 8 bytes and their number
 
@@ -93,12 +88,6 @@ module _ (xs ys : List ℕ) (r : Bool) (bytes_x : AreBytes xs) (bytes_y : AreByt
       (alike 512 (λ k. number_at w64 xs (8 * k)) (λ k. number_at w64 ys (8 * k)))
 
 -- ---- the rest of a run
-
-number_drop : (bytes : List ℕ) (m at : ℕ) → number_at w64 (drop m bytes) at ≡ number_at w64 bytes (m + at)
-unfolding number_at
-number_drop bytes m at =
-    let w : at + 8 - at ≡ m + at + 8 - (m + at) = omega arith in
-    ap (from_le_bytes w64) (ap (take {A = ℕ} (at + 8 - at)) (drop-drop at m bytes) ∙ ap (λ (j : ℕ). take j (drop (m + at) bytes)) w)
 
 run_behind : (f : ℕ → Option ℕ) (from m : ℕ) (bytes : List ℕ) → IsRun f from bytes → IsRun f (from + 8 * m) (drop (8 * m) bytes)
 run_behind f from m bytes run k fits =

@@ -1,5 +1,6 @@
 -- Kept and absent blocks.
 use Rattle.std.proofs.Common.{◌≡◌, ℕ, zero, suc, ◌<◌, Bool, true, false, not, ◌||◌, ◌==◌, inl, inr, refl, sym, subst, ap, ◌∙◌, true≢false, List, [], ◌∷◌, Some, slice_get, length, arith, eq-eqb}
+use Rattle.std.proofs.lemmas.Option.{same_Some, none-some}
 use Rattle.std.specs.List.Sorted.{IsStrictlyIncreasing}
 use Rattle.leak_blocks.specs.declared.block.Block.{Block}
 use Rattle.leak_blocks.specs.Laws.{IsIn}
@@ -8,11 +9,11 @@ use Rattle.leak_marks.specs.Lists.{Has}
 use Rattle.leak_marks.proofs.BoolLemmas.{same_number}
 use Rattle.leak_later.specs.declared.kept.Carry.{Carry}
 use Rattle.leak_later.specs.Kept.{numbers_from, has_line, has_marked_line, kept_of, absent_of, IsCarry}
-use Rattle.leak_later.proofs.NumberLemmas.{Numbered, MarkedAt, of_numbers, of_marked, some_same, not_some, inside, numbers_rise, increasing}
+use Rattle.leak_later.proofs.NumberLemmas.{Numbered, MarkedAt, of_numbers, of_marked, inside, numbers_rise, increasing}
 
 pub has_its_line : (blocks : List Block) (n : ℕ) (b : Block) → slice_get blocks n ≡ Some b → has_line blocks b.line ≡ true
-has_its_line [] n b e = absurd (not_some b e)
-has_its_line (c ∷ blocks) zero b e = ap (λ (t : Bool). t || has_line blocks b.line) (ap (λ (x : Block). x.line == b.line) (some_same c b e) ∙ eq-eqb b.line b.line refl)
+has_its_line [] n b e = absurd (none-some b e)
+has_its_line (c ∷ blocks) zero b e = ap (λ (t : Bool). t || has_line blocks b.line) (ap (λ (x : Block). x.line == b.line) (same_Some c b e) ∙ eq-eqb b.line b.line refl)
 has_its_line (c ∷ blocks) (suc n) b e = go (c.line == b.line) (has_its_line blocks n b e)
   where
     go : (t : Bool) → has_line blocks b.line ≡ true → (t || has_line blocks b.line) ≡ true
@@ -35,7 +36,7 @@ numbers_apart p q blocks apart j h k =
     let r : Numbered 0 p blocks j = of_numbers 0 p blocks j h in
     let s : Numbered 0 q blocks j = of_numbers 0 q blocks j k in
     let same : s.0 ≡ r.0 = omega (arith, r.1, s.1) in
-    let one : s.2.block ≡ r.2.block = some_same s.2.block r.2.block (sym s.2.at ∙ ap (slice_get blocks) same ∙ r.2.at) in
+    let one : s.2.block ≡ r.2.block = same_Some s.2.block r.2.block (sym s.2.at ∙ ap (slice_get blocks) same ∙ r.2.at) in
     apart r.2.block r.2.passes (subst (λ (b : Block). q b ≡ true) one s.2.passes)
 
 pub is_carry : (before : List Block) (set : List Bool) (now : List Block) (c : Carry) → c.kept.items ≡ kept_of before set now → c.fresh.items ≡ absent_of before now → IsCarry (length now) c

@@ -8,8 +8,8 @@ use Rattle.leak_elf.specs.Fields.{number_at}
 use Rattle.leak_elf.specs.Words.{IsRun}
 use Rattle.leak_marks.specs.Lists.{Has}
 use Rattle.leak_marks.proofs.ListLemmas.{none_has, here, there, at_head}
+use Rattle.leak_marks.proofs.ElementLemmas.{has_range, of_range}
 use Rattle.leak_later.specs.Differing.{is_changed, differs}
-use Rattle.leak_later.proofs.WordLemmas.{has_range, of_range}
 
 -- ---- some element passes, or none
 

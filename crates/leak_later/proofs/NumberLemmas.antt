@@ -1,5 +1,6 @@
 -- The numbers of the blocks that pass a test.
-use Rattle.std.proofs.Common.{◌≡◌, ℕ, zero, suc, ◌+◌, ◌<◌, ◌≤◌, Bool, true, false, ◌&&◌, inl, inr, refl, sym, subst, ap, ◌∙◌, true≢false, ◌==◌, List, [], ◌∷◌, ◌++◌, Option, Some, None, length, take, get_or, slice_get, slice_index, arith, if◌then◌else◌, eq-eqb, add-one, append-nil}
+use Rattle.std.proofs.Common.{◌≡◌, ℕ, zero, suc, ◌+◌, ◌<◌, ◌≤◌, Bool, true, false, ◌&&◌, inl, inr, refl, sym, subst, ap, ◌∙◌, true≢false, ◌==◌, List, [], ◌∷◌, ◌++◌, Option, Some, length, take, get_or, slice_get, slice_index, arith, if◌then◌else◌, eq-eqb, add-one, append-nil}
+use Rattle.std.proofs.lemmas.Option.{same_Some, none-some}
 use Rattle.std.specs.Prelude.{⊤}
 use Rattle.std.specs.List.Sorted.{IsStrictlyIncreasing}
 use Rattle.leak_blocks.specs.declared.block.Block.{Block}
@@ -10,14 +11,8 @@ use Rattle.leak_marks.proofs.BoolLemmas.{same_number}
 use Rattle.leak_marks.proofs.ListLemmas.{none_has, here, there, at_head}
 use Rattle.leak_later.specs.Kept.{numbers_from, has_marked_line}
 
-pub some_same : {A : Type 0} (x y : A) → Some x ≡ Some y → x ≡ y
-some_same x y e = cc
-
-pub not_some : {A : Type 0} (x : A) → None ≡ Some x → ⊥
-not_some x e = cc
-
 pub inside : {A : Type 0} (xs : List A) (n : ℕ) (x : A) → slice_get xs n ≡ Some x → n < length xs
-inside [] n x e = absurd (not_some x e)
+inside [] n x e = absurd (none-some x e)
 inside (y ∷ xs) zero x e = omega arith
 inside (y ∷ xs) (suc n) x e = let h = inside xs n x e in omega arith
 
@@ -47,9 +42,9 @@ of_numbers n test (b ∷ blocks) j h = go (test b) refl h (λ r. of_numbers (n +
     go false e k rest = later n test b blocks j (rest k)
 
 pub to_numbers : (n : ℕ) (test : Block → Bool) (blocks : List Block) (k j : ℕ) (b : Block) → slice_get blocks k ≡ Some b → test b ≡ true → j ≡ n + k → Has (numbers_from n test blocks) j
-to_numbers n test [] k j b e p s = absurd (not_some b e)
+to_numbers n test [] k j b e p s = absurd (none-some b e)
 to_numbers n test (c ∷ blocks) zero j b e p s =
-    subst (λ (t : Bool). Has (if t then n ∷ numbers_from (n + 1) test blocks else numbers_from (n + 1) test blocks) j) (sym (ap test (some_same c b e) ∙ p))
+    subst (λ (t : Bool). Has (if t then n ∷ numbers_from (n + 1) test blocks else numbers_from (n + 1) test blocks) j) (sym (ap test (same_Some c b e) ∙ p))
     (subst (λ (m : ℕ). Has (n ∷ numbers_from (n + 1) test blocks) m) (let q : n ≡ j = omega arith in q) (here n (numbers_from (n + 1) test blocks)))
 to_numbers n test (c ∷ blocks) (suc k) j b e p s = go (test c) (to_numbers (n + 1) test blocks k j b e p (omega arith))
   where
@@ -103,11 +98,11 @@ of_marked (true ∷ set) (b ∷ blocks) line h = go (b.line == line) refl h (λ 
 of_marked (false ∷ set) (b ∷ blocks) line h = later_marked false set b blocks line (of_marked set blocks line h)
 
 pub to_marked : (set : List Bool) (blocks : List Block) (n : ℕ) (b : Block) → slice_get set n ≡ Some true → slice_get blocks n ≡ Some b → has_marked_line set blocks b.line ≡ true
-to_marked [] blocks n b m e = absurd (not_some true m)
-to_marked (s ∷ set) [] n b m e = absurd (not_some b e)
+to_marked [] blocks n b m e = absurd (none-some true m)
+to_marked (s ∷ set) [] n b m e = absurd (none-some b e)
 to_marked (s ∷ set) (c ∷ blocks) zero b m e =
     subst (λ (t : Bool). (if t then true else has_marked_line set blocks b.line) ≡ true)
-    (sym (ap (λ (t : Bool). t && (c.line == b.line)) (some_same s true m) ∙ ap (λ (x : Block). x.line == b.line) (some_same c b e) ∙ eq-eqb b.line b.line refl)) refl
+    (sym (ap (λ (t : Bool). t && (c.line == b.line)) (same_Some s true m) ∙ ap (λ (x : Block). x.line == b.line) (same_Some c b e) ∙ eq-eqb b.line b.line refl)) refl
 to_marked (s ∷ set) (c ∷ blocks) (suc n) b m e = go (s && (c.line == b.line)) (to_marked set blocks n b m e)
   where
     go : (t : Bool) → has_marked_line set blocks b.line ≡ true → (if t then true else has_marked_line set blocks b.line) ≡ true

@@ -10,11 +10,10 @@ use Rattle.std.proofs.lemmas.List.Elements.{filter-append}
 use Rattle.rayon.specs.Shown.{run-append}
 use Rattle.leak_marks.specs.Lists.{Has}
 use Rattle.leak_marks.proofs.ListLemmas.{none_has, has_front, has_back, of_append}
-use Rattle.leak_marks.proofs.ElementLemmas.{has_filter, of_filter}
+use Rattle.leak_marks.proofs.ElementLemmas.{has_filter, of_filter, has_range}
 use Rattle.leak_later.specs.Differing.{differs, AreDiffering}
 use Rattle.leak_later.specs.Pieces.{IsCover}
 use Rattle.leak_later.proofs.NumberLemmas.{Rises, rises_lower, increasing}
-use Rattle.leak_later.proofs.WordLemmas.{has_range}
 use Rattle.leak_later.proofs.DifferLemmas.{has_word}
 
 -- ---- the pages of a piece that pass

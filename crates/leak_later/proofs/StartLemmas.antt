@@ -14,7 +14,7 @@ use Rattle.leak_marks.specs.Reach.{Reach}
 use Rattle.leak_marks.specs.Retraces.{whole_graph, retrace_graph, AreEnough, RetraceIsWhole}
 use Rattle.leak_marks.specs.Partition.{Partitions}
 use Rattle.leak_marks.proofs.ListLemmas.{none_has, here, there, at_head, has_front, has_back, of_append, has_or_not, to_has, of_has}
-use Rattle.leak_marks.proofs.ElementLemmas.{has_filter, of_filter}
+use Rattle.leak_marks.proofs.ElementLemmas.{has_filter, of_filter, of_range, has_filter_map, of_filter_map, has_flat}
 use Rattle.leak_marks.proofs.ReachLemmas.{reach_same, reach_outside}
 use Rattle.leak_marks.proofs.PartitionLemmas.{partition_same}
 use Rattle.leak_pool.specs.declared.start.Part.{Part}
@@ -24,7 +24,7 @@ use Rattle.leak_pool.specs.Marking.{graph_of, graph_from, led_by_roots, part_wor
 use Rattle.leak_later.specs.declared.kept.Carry.{Carry}
 use Rattle.leak_later.specs.Kept.{IsCarry}
 use Rattle.leak_later.specs.Retrace.{graph_of_two, OthersLeadWithin, IsStartWith}
-use Rattle.leak_later.proofs.WordLemmas.{of_range, has_filter_map, of_filter_map, has_flat, map_at}
+use Rattle.leak_later.proofs.WordLemmas.{map_at}
 
 -- ---- the start's blocks
 

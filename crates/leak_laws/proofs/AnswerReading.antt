@@ -8,7 +8,7 @@ use Rattle.std.proofs.lemmas.Option.{slice_get-get_or}
 use Rattle.leak_blocks.specs.declared.block.Block.{Block}
 use Rattle.leak_report.specs.Lines.{blocks_line, hexadecimal, newline}
 use Rattle.leak_report.specs.Totals.{marked_in}
-use Rattle.leak_holders.specs.declared.part.Part.{Part}
+use Rattle.leak_holders.specs.declared.caller_share.CallerShare.{CallerShare}
 use Rattle.leak_holders.specs.declared.question.Side.{Side}
 use Rattle.leak_holders.specs.declared.question.Side.TheVariants.{In, Of}
 use Rattle.leak_why.specs.Text.{block_line, numbered_line}
@@ -27,11 +27,11 @@ pub entry_is_told : (name log : List ℕ) (blocks : List Block) (i : ℕ) → i 
     → numbered_line name log blocks i ≡ entry_text name (told_entry log (get_or blocks i (record { start = 0; size = 0; line = 0; caller = (0, 0) })))
 entry_is_told name log blocks i low = ap (λ (o : Option Block). option_map_or (block_line name log) o []) (slice_get-get_or blocks i (record { start = 0; size = 0; line = 0; caller = (0, 0) }) low)
 
-parts_are_told : (side : Side) (texts : List (List ℕ)) (parts : List Part) → flat_map (part_line side texts) parts ≡ flat_map (part_text side) (map (told_part texts) parts)
+parts_are_told : (side : Side) (texts : List (List ℕ)) (parts : List CallerShare) → flat_map (part_line side texts) parts ≡ flat_map (part_text side) (map (told_part texts) parts)
 parts_are_told In texts parts = sym (flat_mapped (part_text In) (told_part texts) parts)
 parts_are_told Of texts parts = sym (flat_mapped (part_text Of) (told_part texts) parts)
 
-rows_are_told : (side : Side) (blocks : List Block) (own told : List Bool) (texts : List (List ℕ)) (parts : List Part) → held_lines side blocks own told texts parts ≡ rows_text side (told_rows blocks own told texts parts)
+rows_are_told : (side : Side) (blocks : List Block) (own told : List Bool) (texts : List (List ℕ)) (parts : List CallerShare) → held_lines side blocks own told texts parts ≡ rows_text side (told_rows blocks own told texts parts)
 rows_are_told side blocks own told texts parts = go (list_any (λ x. x) own)
   where
     go : (b : Bool) → (if b then blocks_line (codes "held") (marked_in told blocks) ++ flat_map (part_line side texts) parts else codes "leaked" ++ newline)
@@ -39,7 +39,7 @@ rows_are_told side blocks own told texts parts = go (list_any (λ x. x) own)
     go true = ap (λ (rows : List ℕ). blocks_line (codes "held") (marked_in told blocks) ++ rows) (parts_are_told side texts parts)
     go false = refl
 
-pub answer_is_told : (log : List ℕ) (blocks : List Block) (block : ℕ) (side : Side) (own told : List Bool) (texts : List (List ℕ)) (parts : List Part) → block < length blocks
+pub answer_is_told : (log : List ℕ) (blocks : List Block) (block : ℕ) (side : Side) (own told : List Bool) (texts : List (List ℕ)) (parts : List CallerShare) → block < length blocks
     → held_text log blocks block side own told texts parts ≡ answer_told side (answer_tells log blocks block own told texts parts)
 unfolding held_text
 answer_is_told log blocks block side own told texts parts low =

@@ -6,9 +6,8 @@ use Rattle.std.proofs.lemmas.Bool.{eq-eqb, eqb-true}
 use Rattle.std.proofs.lemmas.List.FromFn.{get_or-map-range_with_len, length-map-range_with_len}
 use Rattle.leak_growth.proofs.SumLemmas.{one_place}
 use Rattle.leak_blocks.specs.declared.block.Block.{Block}
-use Rattle.leak_later.proofs.WordLemmas.{of_range}
 use Rattle.leak_marks.specs.Lists.{Has}
-use Rattle.leak_marks.proofs.ElementLemmas.{has_filter, of_filter}
+use Rattle.leak_marks.proofs.ElementLemmas.{has_filter, of_filter, of_range}
 use Rattle.leak_marks.proofs.ListLemmas.{at_head, here, none_has}
 use Rattle.leak_without.specs.Without.{chosen}
 use Rattle.leak_without.proofs.GoingLemmas.{has_range}

@@ -17,7 +17,7 @@ use Rattle.leak_report.specs.Totals.{marked_in, text_at}
 use Rattle.leak_lemmas.proofs.Members.{All-from_each, each_filtered, each_from_All, each_implied, each_mapped, each_append as both_each}
 use Rattle.leak_report.specs.Numbered.{AreTexts, text_with, texts_of}
 use Rattle.leak_holders.specs.declared.holder.Holder.{Holder}
-use Rattle.leak_holders.specs.declared.part.Part.{Part}
+use Rattle.leak_holders.specs.declared.caller_share.CallerShare.{CallerShare}
 use Rattle.leak_holders.specs.declared.question.Question.{Question}
 use Rattle.leak_why.specs.Chains.{IsChain, IsWhy}
 use Rattle.leak_why.specs.declared.chain.Chain.{Chain}
@@ -91,11 +91,11 @@ entry_lacks log [] i all = (refl, tt)
 entry_lacks log (b ∷ blocks) zero all = all.0
 entry_lacks log (b ∷ blocks) (suc i) all = entry_lacks log blocks i all.1
 
-rows_lack : (blocks : List Block) (own told : List Bool) (texts : List (List ℕ)) (parts : List Part) → AllByRecursion (Lacks 10) texts → IfSome (told_rows blocks own told texts parts) (λ r. AllByRecursion (λ p. Lacks 10 p.text) r.parts)
+rows_lack : (blocks : List Block) (own told : List Bool) (texts : List (List ℕ)) (parts : List CallerShare) → AllByRecursion (Lacks 10) texts → IfSome (told_rows blocks own told texts parts) (λ r. AllByRecursion (λ p. Lacks 10 p.text) r.parts)
 rows_lack blocks own told texts parts all = go (list_any (λ x. x) own)
   where
     each : AllByRecursion (λ p. Lacks 10 p.text) (map (told_part texts) parts)
-    each = each_mapped (told_part texts) (λ p. Lacks 10 p.text) parts (each_row (λ (p : Part). Lacks 10 (text_with texts p.text)) (λ p. lacks_at texts p.text all) parts)
+    each = each_mapped (told_part texts) (λ p. Lacks 10 p.text) parts (each_row (λ (p : CallerShare). Lacks 10 (text_with texts p.text)) (λ p. lacks_at texts p.text all) parts)
 
     go : (b : Bool) → IfSome {T = ToldRows} (if b then Some (record { sum = sum_of (marked_in told blocks); parts = map (told_part texts) parts }) else None) (λ r. AllByRecursion (λ p. Lacks 10 p.text) r.parts)
     go true = each

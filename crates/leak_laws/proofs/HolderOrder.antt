@@ -19,7 +19,7 @@ use Rattle.leak_laws.proofs.ToldOrder.{told_differ, told_sorted}
 
 module _ {core log : List ℕ} {since : Option (List ℕ)} {reading : Distances} {skip : Skip} {found : Holding} (f : FindsHolders core log since reading skip found) where
   abbrev row : ℕ → Holder
-  row t = row_of f.are.facts f.are.holders.held (length f.texts) t
+  row t = row_of f.are.table f.are.holders.held (length f.texts) t
 
   sorted : IsStrictlySortedBy rank f.rows
   sorted = subst (IsStrictlySortedBy rank) (sym f.are.holders.are) (rows_sorted row (λ t. refl) (length f.texts))

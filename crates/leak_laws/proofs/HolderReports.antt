@@ -6,7 +6,7 @@ use Rattle.leak_search.specs.Search.{graph_of_one}
 use Rattle.leak_holder_search.specs.Since.{counted_of}
 use Rattle.leak_laws.specs.HolderLines.{AloneAreWithinNone, HoldersHaveLines, LinesAreOfMarked, OutermostHoldMarked}
 use Rattle.leak_laws.specs.HolderMeaning.{LinesAreSaid}
-use Rattle.leak_laws.proofs.HolderFacts.{rows_of_report}
+use Rattle.leak_laws.proofs.HolderTables.{rows_of_report}
 use Rattle.leak_laws.proofs.LineMeaning.{lines_said}
 use Rattle.leak_laws.proofs.LineHolders.{lines_alone, lines_are, lines_of_marked, outermost_hold}
 

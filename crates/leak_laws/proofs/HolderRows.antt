@@ -5,14 +5,14 @@ use Rattle.std.proofs.lemmas.Bool.{and_from, and_parts}
 use Rattle.leak_marks.specs.Reach.{Graph}
 use Rattle.leak_without.specs.Without.{IsHeldBy, members}
 use Rattle.leak_lemmas.proofs.Members.{Has}
-use Rattle.leak_holders.specs.declared.facts.Facts.{Facts}
+use Rattle.leak_holders.specs.declared.block_table.BlockTable.{BlockTable}
 use Rattle.leak_holders.specs.declared.holder.Holder.{Holder}
 use Rattle.leak_holders.specs.Holders.{is_counted, row_of}
 use Rattle.leak_holders.specs.Laws.{AreRowsOf}
 use Rattle.leak_laws.proofs.Ranges.{passes_some, some_passes}
 use Rattle.leak_laws.proofs.RowOrder.{IsRow, row_in, rows_each}
 
-module _ (graph : Graph) (f : Facts) (texts : ℕ) (rows : List Holder) (of : AreRowsOf graph f texts rows) where
+module _ (graph : Graph) (f : BlockTable) (texts : ℕ) (rows : List Holder) (of : AreRowsOf graph f texts rows) where
   abbrev row_at : ℕ → Holder
   row_at text = row_of f of.hold.held texts text
 

@@ -9,16 +9,16 @@ use Rattle.leak_index.specs.Leads.{Distances}
 use Rattle.leak_roots.specs.declared.skip.Skip.{Skip}
 use Rattle.leak_report.specs.Totals.{bytes_of, marked_in}
 use Rattle.leak_lemmas.proofs.Members.{each_from_All, each_implied, each_mapped}
-use Rattle.leak_holders.specs.declared.facts.Facts.{Facts}
+use Rattle.leak_holders.specs.declared.block_table.BlockTable.{BlockTable}
 use Rattle.leak_holders.specs.Laws.{IsBounded, reached_of}
-use Rattle.leak_holders.specs.Words.{facts_of}
+use Rattle.leak_holders.specs.Words.{table_of}
 use Rattle.leak_holders.proofs.AddedUp.{are_bounded, own_add_up}
 use Rattle.leak_search.specs.Search.{graph_of_one}
 use Rattle.leak_holder_search.specs.declared.search.Holding.{Holding}
 use Rattle.leak_holder_search.specs.Holders.{FindsHolders}
 use Rattle.leak_laws.specs.HeldTogether.{IsWithin, OwnAreMarked, told_by_holders}
 use Rattle.leak_laws.specs.ToldHolders.{ToldHolder, told_holder}
-use Rattle.leak_laws.proofs.HolderFacts.{rows_of_report}
+use Rattle.leak_laws.proofs.HolderTables.{rows_of_report}
 use Rattle.leak_laws.proofs.TextSums.{sum_map}
 
 -- ---- numbers of blocks, and blocks
@@ -84,7 +84,7 @@ default (b ∷ bs) (suc i) d e low = default bs i d e (omega arith)
 
 pub own_are_marked : (core log : List ℕ) (reading : Distances) (skip : Skip) (found : Holding) → (f : FindsHolders core log None reading skip found) → OwnAreMarked (told_by_holders f)
 own_are_marked core log reading skip found f =
-    let known : Facts = facts_of (live_of f.lines) f.numbers f.set (map (λ b. true) (live_of f.lines)) in
+    let known : BlockTable = table_of (live_of f.lines) f.numbers f.set (map (λ b. true) (live_of f.lines)) in
     let of = rows_of_report core log None reading skip found f in
     let sums = own_add_up (graph_of_one core reading skip f.lines) known (length f.texts) f.rows of in
     let bounds = are_bounded (graph_of_one core reading skip f.lines) known (length f.texts) f.rows of in

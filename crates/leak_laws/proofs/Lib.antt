@@ -28,7 +28,7 @@ pub mod AnswerReading
 pub mod WhyReading
 pub mod WhyBytes
 pub mod RunLemmas
-pub mod HolderFacts
+pub mod HolderTables
 pub mod Ranges
 pub mod RowOrder
 pub mod ToldOrder

@@ -12,11 +12,11 @@ use Rattle.leak_without.specs.Without.{AreHeldBy, IsHeldBy, graph_of, members}
 use Rattle.leak_report.specs.Totals.{marked_in, text_at}
 use Rattle.leak_lemmas.proofs.Members.{Has, Has-map, each_implied, each_mapped, get_Has as contained}
 use Rattle.leak_report.specs.Numbered.{AreTexts, text_with}
-use Rattle.leak_holders.specs.declared.facts.Facts.{Facts}
+use Rattle.leak_holders.specs.declared.block_table.BlockTable.{BlockTable}
 use Rattle.leak_holders.specs.declared.holder.Holder.{Holder}
 use Rattle.leak_holders.specs.Holders.{is_within}
 use Rattle.leak_holders.specs.Laws.{AreRowsOf}
-use Rattle.leak_holders.specs.Words.{facts_of}
+use Rattle.leak_holders.specs.Words.{table_of}
 use Rattle.leak_laws.specs.HolderLines.{HasLine, HasOutermost, HoldsCounted, IsAlone, IsOfMarked, blocks_with_text}
 use Rattle.leak_laws.specs.ToldHolders.{ToldHolder, told_holder}
 use Rattle.leak_laws.proofs.HolderRows.{Row as RowOf, holder_rows, row_holds, row_there}
@@ -58,12 +58,12 @@ pub inside_tests : (tests : List Bool) (b : ℕ) → slice_index_or tests b fals
 inside_tests tests b is = ⊎_elim (λ (low : b < length tests). low) (λ (high : length tests ≤ b). let e : get_or tests b false ≡ false = get_or_past tests b false high in absurd (cc)) (cases_lt b (length tests))
 
 module _ (first : List ℕ) (targets : List (List ℕ)) (log : List ℕ) (blocks : List Block) (texts : List (List ℕ)) (numbers : List ℕ) (set counted : List Bool) (rows : List Holder)
-    (of : AreRowsOf (graph_of first targets) (facts_of blocks numbers set counted) (length texts) rows) (are : AreTexts log blocks texts numbers) where
+    (of : AreRowsOf (graph_of first targets) (table_of blocks numbers set counted) (length texts) rows) (are : AreTexts log blocks texts numbers) where
   abbrev graph : Graph
   graph = graph_of first targets
 
-  abbrev known : Facts
-  known = facts_of blocks numbers set counted
+  abbrev known : BlockTable
+  known = table_of blocks numbers set counted
 
   abbrev Row : Holder → Type 0
   Row r = RowOf graph known (length texts) rows of r

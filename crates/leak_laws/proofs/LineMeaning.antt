@@ -16,11 +16,11 @@ use Rattle.leak_marks.specs.Reach.{Graph}
 use Rattle.leak_without.specs.Without.{AreHeldBy, IsHeldBy, graph_of, members}
 use Rattle.leak_lemmas.proofs.Members.{All-from_each, Has-filter, Has-map, each_filtered, each_implied, each_mapped, get_Has as contained}
 use Rattle.leak_report.specs.Numbered.{AreTexts, text_with}
-use Rattle.leak_holders.specs.declared.facts.Facts.{Facts}
+use Rattle.leak_holders.specs.declared.block_table.BlockTable.{BlockTable}
 use Rattle.leak_holders.specs.declared.holder.Holder.{Holder}
 use Rattle.leak_holders.specs.Holders.{is_counted, is_own, is_reached, is_within, text_of}
 use Rattle.leak_holders.specs.Laws.{AreRowsOf}
-use Rattle.leak_holders.specs.Words.{facts_of}
+use Rattle.leak_holders.specs.Words.{table_of}
 use Rattle.leak_laws.specs.HolderLines.{blocks_with_text}
 use Rattle.leak_laws.specs.HolderMeaning.{IsOwn, IsSaid, Numbers, Texts, block_at}
 use Rattle.leak_laws.specs.ToldHolders.{ToldHolder, told_holder}
@@ -51,12 +51,12 @@ texts_up texts (n ∷ ns) up ascending low = (each_mapped (text_with texts) (λ 
     over (m ∷ ms) less inside = (Less-from_sorted (slice_cmp nat_cmp) texts n m [] up (less_is n m less.0) inside.0, over ms less.1 inside.1)
 
 module _ (first : List ℕ) (targets : List (List ℕ)) (log : List ℕ) (blocks : List Block) (texts : List (List ℕ)) (numbers : List ℕ) (set counted : List Bool) (rows : List Holder)
-    (of : AreRowsOf (graph_of first targets) (facts_of blocks numbers set counted) (length texts) rows) (are : AreTexts log blocks texts numbers) (apart : AreDisjoint blocks) where
+    (of : AreRowsOf (graph_of first targets) (table_of blocks numbers set counted) (length texts) rows) (are : AreTexts log blocks texts numbers) (apart : AreDisjoint blocks) where
   abbrev graph : Graph
   graph = graph_of first targets
 
-  abbrev known : Facts
-  known = facts_of blocks numbers set counted
+  abbrev known : BlockTable
+  known = table_of blocks numbers set counted
 
   abbrev Row : Holder → Type 0
   Row r = RowOf graph known (length texts) rows of r

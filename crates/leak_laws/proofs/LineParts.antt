@@ -15,13 +15,13 @@ use Rattle.leak_without.specs.Without.{IsHeldBy, chosen, graph_of}
 use Rattle.leak_without.proofs.HeldLemmas.{larger_hold_as_much}
 use Rattle.leak_lemmas.proofs.Members.{Has, Has-filter, Has-map, each_filtered, each_implied, each_mapped}
 use Rattle.leak_report.specs.Numbered.{text_with, texts_of}
-use Rattle.leak_holders.specs.declared.facts.Facts.{Facts}
+use Rattle.leak_holders.specs.declared.block_table.BlockTable.{BlockTable}
 use Rattle.leak_holders.specs.declared.holder.Holder.{Holder}
-use Rattle.leak_holders.specs.declared.part.Part.{Part}
+use Rattle.leak_holders.specs.declared.caller_share.CallerShare.{CallerShare}
 use Rattle.leak_holders.specs.Holders.{is_counted, rank, row_of}
 use Rattle.leak_holders.specs.Laws.{AreRowsOf}
 use Rattle.leak_holders.specs.Parts.{AreHoldersOf, counted_in, part_of_row, parts_by}
-use Rattle.leak_holders.specs.Words.{facts_of}
+use Rattle.leak_holders.specs.Words.{table_of}
 use Rattle.leak_laws.specs.HeldTogether.{DifferInHolder, rank_holder}
 use Rattle.leak_laws.specs.HolderLines.{blocks_with_text}
 use Rattle.leak_laws.specs.PartLines.{AreOrdered, DifferInPart, HasPart, HoldsChosen, IsHeldWith, chosen_blocks, rank_part}
@@ -29,7 +29,7 @@ use Rattle.leak_holder_search.specs.Held.{chosen_with}
 use Rattle.leak_laws.specs.ToldAnswers.{ToldPart, told_part}
 use Rattle.leak_laws.specs.ToldHolders.{told_holder}
 use Rattle.leak_laws.proofs.ChosenBlocks.{chosen_told, of_chosen, to_chosen, told_chosen}
-use Rattle.leak_laws.proofs.HolderFacts.{IsKnown}
+use Rattle.leak_laws.proofs.HolderTables.{IsKnown}
 use Rattle.leak_laws.proofs.HolderRows.{Row as RowOf, holder_rows, row_holds, row_there}
 use Rattle.leak_laws.proofs.LineHolders.{any_has, any_of, inside_tests}
 use Rattle.leak_laws.proofs.OuterTexts.{other_than}
@@ -78,21 +78,21 @@ module _ (first : List ℕ) (targets : List (List ℕ)) (log : List ℕ) (blocks
   abbrev graph : Graph
   graph = graph_of first targets
 
-  abbrev facts : Facts
-  facts = facts_of blocks numbers set counted
+  abbrev table : BlockTable
+  table = table_of blocks numbers set counted
 
   -- ---- what the chosen blocks hold
 
-  pub in_each : (held : List Bool) → AllByRecursion (λ r. IsRow (in_row facts (length texts) held) (λ t. refl) (length texts) r) (in_rows facts (length texts) held)
-  in_each held = rows_each (in_row facts (length texts) held) (λ t. refl) (length texts)
+  pub in_each : (held : List Bool) → AllByRecursion (λ r. IsRow (in_row table (length texts) held) (λ t. refl) (length texts) r) (in_rows table (length texts) held)
+  in_each held = rows_each (in_row table (length texts) held) (λ t. refl) (length texts)
 
-  pub in_ordered : (held : List Bool) → AreOrdered (map (told_part texts) (parts_by facts (λ b. slice_index_or held b false) (length texts)))
+  pub in_ordered : (held : List Bool) → AreOrdered (map (told_part texts) (parts_by table (λ b. slice_index_or held b false) (length texts)))
   in_ordered held =
-      let sorted = rows_sorted (in_row facts (length texts) held) (λ t. refl) (length texts) in
-      subst (λ (parts : List Part). AreOrdered (map (told_part texts) parts)) (sym (in_parts facts (length texts) held))
+      let sorted = rows_sorted (in_row table (length texts) held) (λ t. refl) (length texts) in
+      subst (λ (parts : List CallerShare). AreOrdered (map (told_part texts) parts)) (sym (in_parts table (length texts) held))
       (record {
-        ranked = parts_up blocks texts (in_rows facts (length texts) held) (told_sorted blocks texts known.numbered.ascending (in_row facts (length texts) held) (λ t. refl) (in_rows facts (length texts) held) (in_each held) sorted);
-        differ = parts_differ blocks texts (in_rows facts (length texts) held) (told_differ blocks texts known.numbered.ascending (in_row facts (length texts) held) (λ t. refl) (in_rows facts (length texts) held) (in_each held) sorted);
+        ranked = parts_up blocks texts (in_rows table (length texts) held) (told_sorted blocks texts known.numbered.ascending (in_row table (length texts) held) (λ t. refl) (in_rows table (length texts) held) (in_each held) sorted);
+        differ = parts_differ blocks texts (in_rows table (length texts) held) (told_differ blocks texts known.numbered.ascending (in_row table (length texts) held) (λ t. refl) (in_rows table (length texts) held) (in_each held) sorted);
       })
 
   module _ (block : ℕ) (alone : Bool) (inside : block < length blocks) where
@@ -100,9 +100,9 @@ module _ (first : List ℕ) (targets : List (List ℕ)) (log : List ℕ) (blocks
     chosen_ones = chosen_blocks log blocks block alone
 
     module _ (held : List Bool) (holds : (b : ℕ) → b < length targets → (IsTrue (slice_index_or held b false) ↔ IsHeldBy (graph_of first targets) (chosen (chosen_with numbers block alone)) b)) where
-      in_all : (r : Holder) → IsRow (in_row facts (length texts) held) (λ t. refl) (length texts) r → IsHeldWith graph log blocks counted chosen_ones (text_with texts r.text)
+      in_all : (r : Holder) → IsRow (in_row table (length texts) held) (λ t. refl) (length texts) r → IsHeldWith graph log blocks counted chosen_ones (text_with texts r.text)
       in_all r row =
-          let one = in_holds facts (length texts) held r row in
+          let one = in_holds table (length texts) held r row in
           record {
             block = one.block;
             counts = one.counts;
@@ -111,31 +111,31 @@ module _ (first : List ℕ) (targets : List (List ℕ)) (log : List ℕ) (blocks
                 ((holds one.block (omega (arith, one.inside, known.one_each))).0 one.is);
           }
 
-      in_back : (text : List ℕ) → IsHeldWith graph log blocks counted chosen_ones text → HasPart (lines_of texts (in_rows facts (length texts) held)) text
+      in_back : (text : List ℕ) → IsHeldWith graph log blocks counted chosen_ones text → HasPart (lines_of texts (in_rows table (length texts) held)) text
       in_back text one =
           let tested = inside_tests counted one.block one.counts in
           let low : one.block < length blocks = omega (arith, tested, known.complete.counted) in
           let is = (holds one.block (omega (arith, low, known.one_each))).1
           (larger_hold_as_much graph chosen_ones (chosen (chosen_with numbers block alone)) (to_chosen log blocks texts numbers known.numbered block inside alone) one.block one.held) in
-          line_in texts (in_rows facts (length texts) held) (in_row facts (length texts) held (get_or numbers one.block 0)) text
-          (in_there facts (length texts) held one.block low (number_low log blocks texts numbers known.numbered one.block low) is one.counts)
+          line_in texts (in_rows table (length texts) held) (in_row table (length texts) held (get_or numbers one.block 0)) text
+          (in_there table (length texts) held one.block low (number_low log blocks texts numbers known.numbered one.block low) is one.counts)
           (sym (text_is log blocks texts numbers known.numbered one.block low) ∙ one.of_text)
 
-      pub in_lines : (text : List ℕ) → HasPart (map (told_part texts) (parts_by facts (λ b. slice_index_or held b false) (length texts))) text ↔ IsHeldWith graph log blocks counted chosen_ones text
+      pub in_lines : (text : List ℕ) → HasPart (map (told_part texts) (parts_by table (λ b. slice_index_or held b false) (length texts))) text ↔ IsHeldWith graph log blocks counted chosen_ones text
       in_lines text =
-          subst (λ (parts : List Part). HasPart (map (told_part texts) parts) text ↔ IsHeldWith graph log blocks counted chosen_ones text) (sym (in_parts facts (length texts) held)) (
-            has_line texts (IsHeldWith graph log blocks counted chosen_ones) (in_rows facts (length texts) held) text
-                (each_implied (IsRow (in_row facts (length texts) held) (λ t. refl) (length texts)) (λ r. IsHeldWith graph log blocks counted chosen_ones (text_with texts r.text)) in_all (in_rows facts (length texts) held) (in_each held)),
+          subst (λ (parts : List CallerShare). HasPart (map (told_part texts) parts) text ↔ IsHeldWith graph log blocks counted chosen_ones text) (sym (in_parts table (length texts) held)) (
+            has_line texts (IsHeldWith graph log blocks counted chosen_ones) (in_rows table (length texts) held) text
+                (each_implied (IsRow (in_row table (length texts) held) (λ t. refl) (length texts)) (λ r. IsHeldWith graph log blocks counted chosen_ones (text_with texts r.text)) in_all (in_rows table (length texts) held) (in_each held)),
             in_back text,
           )
 
   -- ---- who holds the chosen blocks
 
-  module _ (own : List Bool) (but : ℕ) (parts : List Part) (of : AreHoldersOf (graph_of first targets) (facts_of blocks numbers set counted) (length texts) own but parts) where
+  module _ (own : List Bool) (but : ℕ) (parts : List CallerShare) (of : AreHoldersOf (graph_of first targets) (table_of blocks numbers set counted) (length texts) own but parts) where
     abbrev counts_own : ℕ → Bool
     counts_own b = slice_index_or counted b false && slice_index_or own b false
 
-    abbrev pub rows_of_set : AreRowsOf (graph_of first targets) (counted_in facts own) (length texts) of.holders
+    abbrev pub rows_of_set : AreRowsOf (graph_of first targets) (counted_in table own) (length texts) of.holders
     rows_of_set = record {
       one_each = known.one_each;
       complete = record {
@@ -150,33 +150,33 @@ module _ (first : List ℕ) (targets : List (List ℕ)) (log : List ℕ) (blocks
       hold = of.hold;
     }
 
-    pub counted_at : (b : ℕ) → b < length blocks → is_counted (counted_in facts own) b ≡ counts_own b
+    pub counted_at : (b : ℕ) → b < length blocks → is_counted (counted_in table own) b ≡ counts_own b
     counted_at b low = get_or-map-range_with_len (λ c. counts_own c) 0 (length blocks) b b false low (omega arith)
 
     abbrev pub passes : Holder → Bool
     passes r = not (r.text == but)
 
     abbrev Row : Holder → Type 0
-    Row r = RowOf (graph_of first targets) (counted_in facts own) (length texts) of.holders rows_of_set r
+    Row r = RowOf (graph_of first targets) (counted_in table own) (length texts) of.holders rows_of_set r
 
     pub by_each : AllByRecursion (λ r. Row r × (passes r ≡ true)) (filter passes of.holders)
-    by_each = each_filtered passes Row of.holders (holder_rows (graph_of first targets) (counted_in facts own) (length texts) of.holders rows_of_set)
+    by_each = each_filtered passes Row of.holders (holder_rows (graph_of first targets) (counted_in table own) (length texts) of.holders rows_of_set)
 
     pub by_ordered : AreOrdered (map (told_part texts) parts)
     by_ordered =
-        let row : ℕ → Holder = row_of (counted_in facts own) of.hold.held (length texts) in
+        let row : ℕ → Holder = row_of (counted_in table own) of.hold.held (length texts) in
         let all : AllByRecursion Row (filter passes of.holders) = each_implied (λ r. Row r × (passes r ≡ true)) Row (λ r h. h.0) (filter passes of.holders) by_each in
         let sorted : IsStrictlySortedBy rank (filter passes of.holders) = IsStrictlySortedBy-filter rank passes of.holders (subst (IsStrictlySortedBy rank) (sym of.hold.are) (rows_sorted row (λ t. refl) (length texts))) in
-        subst (λ (ps : List Part). AreOrdered (map (told_part texts) ps)) (sym of.are)
+        subst (λ (ps : List CallerShare). AreOrdered (map (told_part texts) ps)) (sym of.are)
         (record {
           ranked = parts_up blocks texts (filter passes of.holders) (told_sorted blocks texts known.numbered.ascending row (λ t. refl) (filter passes of.holders) all sorted);
           differ = parts_differ blocks texts (filter passes of.holders) (told_differ blocks texts known.numbered.ascending row (λ t. refl) (filter passes of.holders) all sorted);
         })
 
-  module _ (block : ℕ) (alone : Bool) (inside : block < length blocks) (parts : List Part)
-      (of : AreHoldersOf (graph_of first targets) (facts_of blocks numbers set counted) (length texts) (chosen_with numbers block alone) (slice_index numbers block) parts) where
-    abbrev own_facts : Facts
-    own_facts = counted_in facts (chosen_with numbers block alone)
+  module _ (block : ℕ) (alone : Bool) (inside : block < length blocks) (parts : List CallerShare)
+      (of : AreHoldersOf (graph_of first targets) (table_of blocks numbers set counted) (length texts) (chosen_with numbers block alone) (slice_index numbers block) parts) where
+    abbrev own_table : BlockTable
+    own_table = counted_in table (chosen_with numbers block alone)
 
     abbrev chosen_here : List ℕ
     chosen_here = chosen_blocks log blocks block alone
@@ -184,12 +184,12 @@ module _ (first : List ℕ) (targets : List (List ℕ)) (log : List ℕ) (blocks
     abbrev Holds : List ℕ → Type 0
     Holds text = (text ≡ text_with (texts_of log blocks) block → ⊥) × HoldsChosen graph log blocks counted chosen_here text
 
-    abbrev of_set : AreRowsOf (graph_of first targets) own_facts (length texts) of.holders
+    abbrev of_set : AreRowsOf (graph_of first targets) own_table (length texts) of.holders
     of_set = rows_of_set (chosen_with numbers block alone) (slice_index numbers block) parts of
 
-    by_all : (r : Holder) → (RowOf graph own_facts (length texts) of.holders of_set r × (not (r.text == slice_index numbers block) ≡ true)) → Holds (text_with texts r.text)
+    by_all : (r : Holder) → (RowOf graph own_table (length texts) of.holders of_set r × (not (r.text == slice_index numbers block) ≡ true)) → Holds (text_with texts r.text)
     by_all r row =
-        let one = row_holds graph own_facts (length texts) of.holders of_set r row.0 in
+        let one = row_holds graph own_table (length texts) of.holders of_set r row.0 in
         let both = and_parts (slice_index_or counted one.block false) (slice_index_or (chosen_with numbers block alone) one.block false)
         (sym (counted_at (chosen_with numbers block alone) (slice_index numbers block) parts of one.block one.inside) ∙ one.counts) in (
           λ e. other_than r.text (slice_index numbers block) row.1
@@ -208,16 +208,16 @@ module _ (first : List ℕ) (targets : List (List ℕ)) (log : List ℕ) (blocks
         let told = chosen_told log blocks texts numbers known.numbered block inside alone one.block one.is_chosen in
         let named = holder_text log blocks texts numbers known.numbered first targets text one.block one.held in
         let held = holds_by_text log blocks texts numbers known.numbered graph named.number named.low one.block (subst (λ (t : List ℕ). IsHeldBy graph (blocks_with_text log blocks t) one.block) named.is one.held) in
-        let counts : is_counted own_facts one.block ≡ true = counted_at (chosen_with numbers block alone) (slice_index numbers block) parts of one.block told.0
+        let counts : is_counted own_table one.block ≡ true = counted_at (chosen_with numbers block alone) (slice_index numbers block) parts of one.block told.0
         ∙ and_from (slice_index_or counted one.block false) (slice_index_or (chosen_with numbers block alone) one.block false) one.counts told.1 in
-        let there = row_there graph own_facts (length texts) of.holders of_set named.number one.block named.low told.0 held counts in
+        let there = row_there graph own_table (length texts) of.holders of_set named.number one.block named.low told.0 held counts in
         let apart : named.number ≡ slice_index numbers block → ⊥ = λ e. h.0 (named.is ∙ ap (text_with texts) e ∙ sym (text_is log blocks texts numbers known.numbered block inside)) in
-        line_in texts (filter (λ r. not (r.text == slice_index numbers block)) of.holders) (row_of own_facts of.hold.held (length texts) named.number) text
-        (Has-filter (λ r. not (r.text == slice_index numbers block)) of.holders (row_of own_facts of.hold.held (length texts) named.number) there (ap not (ne_eqb named.number (slice_index numbers block) apart))) (sym named.is)
+        line_in texts (filter (λ r. not (r.text == slice_index numbers block)) of.holders) (row_of own_table of.hold.held (length texts) named.number) text
+        (Has-filter (λ r. not (r.text == slice_index numbers block)) of.holders (row_of own_table of.hold.held (length texts) named.number) there (ap not (ne_eqb named.number (slice_index numbers block) apart))) (sym named.is)
 
     pub by_lines : (text : List ℕ) → HasPart (map (told_part texts) parts) text ↔ Holds text
     by_lines text =
-        subst (λ (ps : List Part). HasPart (map (told_part texts) ps) text ↔ Holds text) (sym of.are) (
+        subst (λ (ps : List CallerShare). HasPart (map (told_part texts) ps) text ↔ Holds text) (sym of.are) (
           has_line texts Holds (filter (λ r. not (r.text == slice_index numbers block)) of.holders) text
               (each_implied _ (λ r. Holds (text_with texts r.text)) by_all (filter (λ r. not (r.text == slice_index numbers block)) of.holders) (by_each (chosen_with numbers block alone) (slice_index numbers block) parts of)),
           by_back text,

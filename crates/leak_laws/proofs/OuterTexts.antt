@@ -5,13 +5,12 @@ use Rattle.std.specs.List.{list_all, range_with_len}
 use Rattle.std.proofs.lemmas.Bool.{and_from, and_parts, cases_lt, eq-eqb, eqb-true, ne_eqb}
 use Rattle.leak_marks.specs.Lists.{Has}
 use Rattle.leak_marks.specs.Reach.{IsChain, Reach}
-use Rattle.leak_marks.proofs.ElementLemmas.{of_filter}
+use Rattle.leak_marks.proofs.ElementLemmas.{of_filter, of_range}
 use Rattle.leak_marks.proofs.ListLemmas.{at_head, has_or_not, here, none_has}
 use Rattle.leak_without.specs.Without.{AreHeldBy, IsHeldBy, graph_of, members, without}
 use Rattle.leak_without.proofs.GoingLemmas.{of_members, to_members}
 use Rattle.leak_without.proofs.HeldLemmas.{held_in_turn, none_hold_each_other, own_are_held}
-use Rattle.leak_later.proofs.WordLemmas.{of_range}
-use Rattle.leak_holders.specs.declared.facts.Facts.{Facts}
+use Rattle.leak_holders.specs.declared.block_table.BlockTable.{BlockTable}
 use Rattle.leak_holders.specs.declared.holder.Holder.{Holder}
 use Rattle.leak_holders.specs.Holders.{below, blocks_with, is_own, is_reached, is_within, text_of}
 use Rattle.leak_holders.specs.Laws.{AreRowsOf}
@@ -41,7 +40,7 @@ module _ (first : List ℕ) (targets : List (List ℕ)) where
   holder_reached set b held =
       ⊎_elim (λ (h : HasReached set). h) (λ (c : IsChain (without (graph_of first targets) set) (b ∷ held.0.0)). absurd (held.1 (held.0.0, c))) (passes_one set b held.0.0 held.0.1)
 
-module _ (first : List ℕ) (targets : List (List ℕ)) (f : Facts) (texts : ℕ) (rows : List Holder) (of : AreRowsOf (graph_of first targets) f texts rows) where
+module _ (first : List ℕ) (targets : List (List ℕ)) (f : BlockTable) (texts : ℕ) (rows : List Holder) (of : AreRowsOf (graph_of first targets) f texts rows) where
   abbrev blocks_of : ℕ → List ℕ
   blocks_of text = members f.numbers.now text
 

@@ -11,11 +11,11 @@ use Rattle.leak_marks.specs.Reach.{Graph}
 use Rattle.leak_pool.specs.Marking.{graph_of}
 use Rattle.leak_report.specs.Totals.{marked_in, text_at}
 use Rattle.leak_report.specs.Numbered.{text_with, texts_of}
-use Rattle.leak_holders.specs.declared.part.Part.{Part}
+use Rattle.leak_holders.specs.declared.caller_share.CallerShare.{CallerShare}
 use Rattle.leak_holders.specs.declared.question.Question.{Question}
 use Rattle.leak_holders.specs.declared.question.Side.{Side}
 use Rattle.leak_holders.specs.declared.question.Side.TheVariants.{In, Of}
-use Rattle.leak_holders.specs.Words.{facts_of}
+use Rattle.leak_holders.specs.Words.{table_of}
 use Rattle.leak_search.specs.Search.{graph_of_one}
 use Rattle.leak_holder_search.specs.declared.search.Holding.{Holding}
 use Rattle.leak_holder_search.specs.Held.{AreHeld, AreHeldIn, AreHeldOf, FindsHeld, both, chosen_with}
@@ -25,13 +25,13 @@ use Rattle.leak_laws.specs.PartLines.{AreOrdered, ByTextsHaveLines, HasPart, Hol
 use Rattle.leak_laws.specs.PartMeaning.{ByLinesAreSums, InLinesAreSums, IsBy, IsIn, IsSum}
 use Rattle.leak_laws.specs.Reports.{sum_of}
 use Rattle.leak_laws.specs.ToldAnswers.{ToldPart, ToldRows, told_part, told_rows}
-use Rattle.leak_laws.proofs.HolderFacts.{IsKnown, known_blocks}
+use Rattle.leak_laws.proofs.HolderTables.{IsKnown, known_blocks}
 use Rattle.leak_laws.proofs.LineParts.{by_lines, by_ordered, in_lines, in_ordered}
 use Rattle.leak_laws.proofs.PartMeaning.{by_sums, in_sums}
 use Rattle.leak_laws.proofs.SameRows.{known_in, known_of}
 
 -- what holds of the lines holds of those of an answer, if it has lines
-shown : (P : List ToldPart → Type 0) (blocks : List Block) (own told : List Bool) (texts : List (List ℕ)) (parts : List Part) → P (map (told_part texts) parts) → IfSome (told_rows blocks own told texts parts) (λ r. P r.parts)
+shown : (P : List ToldPart → Type 0) (blocks : List Block) (own told : List Bool) (texts : List (List ℕ)) (parts : List CallerShare) → P (map (told_part texts) parts) → IfSome (told_rows blocks own told texts parts) (λ r. P r.parts)
 shown P blocks own told texts parts holds = go (list_any (λ x. x) own)
   where
     go : (b : Bool) → IfSome {T = ToldRows} (if b then Some (record { sum = sum_of (marked_in told blocks); parts = map (told_part texts) parts }) else None) (λ r. P r.parts)
@@ -55,19 +55,19 @@ module _ (core log : List ℕ) (since : Option (List ℕ)) (reading : Distances)
   known = known_blocks core log since reading skip f.lines f.set f.texts f.numbers f.is_log f.few f.marked f.numbered
 
   abbrev Are : Side → Type 0
-  Are side = AreHeld side graph f.facts (length f.texts) own (slice_index f.numbers f.block) f.told f.parts
+  Are side = AreHeld side graph f.table (length f.texts) own (slice_index f.numbers f.block) f.told f.parts
 
-  held_in : Are In → AreHeldIn graph (facts_of blocks f.numbers f.set counted) (length f.texts) own f.told f.parts
-  held_in are = known_in graph blocks f.numbers f.set counted (length f.texts) own f.told f.parts f.facts f.known are
+  held_in : Are In → AreHeldIn graph (table_of blocks f.numbers f.set counted) (length f.texts) own f.told f.parts
+  held_in are = known_in graph blocks f.numbers f.set counted (length f.texts) own f.told f.parts f.table f.known are
 
-  held_of : Are Of → AreHeldOf graph (facts_of blocks f.numbers f.set counted) (length f.texts) own (slice_index f.numbers f.block) f.told f.parts
-  held_of are = known_of graph blocks f.numbers f.set counted (length f.texts) own (slice_index f.numbers f.block) f.told f.parts f.facts f.known are
+  held_of : Are Of → AreHeldOf graph (table_of blocks f.numbers f.set counted) (length f.texts) own (slice_index f.numbers f.block) f.told f.parts
+  held_of are = known_of graph blocks f.numbers f.set counted (length f.texts) own (slice_index f.numbers f.block) f.told f.parts f.table f.known are
 
   ordered_of : (side : Side) → Are side → AreOrdered (map (told_part f.texts) f.parts)
   unfolding graph_of
   ordered_of In are =
       let k = held_in are in
-      subst (λ (parts : List Part). AreOrdered (map (told_part f.texts) parts)) (sym k.rows) (in_ordered graph.first graph.targets log blocks f.texts f.numbers f.set counted known k.held)
+      subst (λ (parts : List CallerShare). AreOrdered (map (told_part f.texts) parts)) (sym k.rows) (in_ordered graph.first graph.targets log blocks f.texts f.numbers f.set counted known k.held)
   ordered_of Of are = by_ordered graph.first graph.targets log blocks f.texts f.numbers f.set counted known own (slice_index f.numbers f.block) f.parts (held_of are).rows
 
   ordered : IfSome (told_by_answer f).rows (λ r. AreOrdered r.parts)
@@ -77,7 +77,7 @@ module _ (core log : List ℕ) (since : Option (List ℕ)) (reading : Distances)
   unfolding graph_of
   in_texts are text =
       let k = held_in are in
-      subst (λ (parts : List Part). HasPart (map (told_part f.texts) parts) text ↔ IsHeldWith graph log blocks counted (chosen_blocks log blocks f.block question.alone) text) (sym k.rows)
+      subst (λ (parts : List CallerShare). HasPart (map (told_part f.texts) parts) text ↔ IsHeldWith graph log blocks counted (chosen_blocks log blocks f.block question.alone) text) (sym k.rows)
       (in_lines graph.first graph.targets log blocks f.texts f.numbers f.set counted known f.block question.alone f.asked.inside k.held k.holds text)
 
   by_texts : Are Of → (text : List ℕ) → HasPart (map (told_part f.texts) f.parts) text
@@ -107,7 +107,7 @@ module _ (core log : List ℕ) (since : Option (List ℕ)) (reading : Distances)
   unfolding graph_of
   in_said are =
       let k = held_in are in
-      subst (λ (parts : List Part). AllByRecursion InSum (map (told_part f.texts) parts)) (sym k.rows)
+      subst (λ (parts : List CallerShare). AllByRecursion InSum (map (told_part f.texts) parts)) (sym k.rows)
       (in_sums graph.first graph.targets log blocks f.texts f.numbers f.set counted known f.block question.alone f.asked.inside k.held k.holds)
 
   by_said : Are Of → AllByRecursion BySum (map (told_part f.texts) f.parts)

@@ -5,7 +5,7 @@ use Rattle.std.specs.List.{range_with_len}
 use Rattle.std.proofs.lemmas.Bool.{and_from, and_parts, eq-eqb, eqb-true}
 use Rattle.std.proofs.lemmas.Simd.{map-map}
 use Rattle.leak_lemmas.proofs.Members.{Has}
-use Rattle.leak_holders.specs.declared.facts.Facts.{Facts}
+use Rattle.leak_holders.specs.declared.block_table.BlockTable.{BlockTable}
 use Rattle.leak_holders.specs.declared.holder.Holder.{Holder}
 use Rattle.leak_holders.specs.Holders.{is_counted, text_of}
 use Rattle.leak_holders.specs.Parts.{part_of_row, parts_by}
@@ -14,8 +14,8 @@ use Rattle.leak_holders.proofs.Parts.{are_parts}
 use Rattle.leak_laws.proofs.Ranges.{passes_some, some_passes}
 use Rattle.leak_laws.proofs.RowOrder.{IsRow, ranked_rows, row_in}
 
-module _ (f : Facts) (texts : ℕ) (held : List Bool) where
-  abbrev known : Facts
+module _ (f : BlockTable) (texts : ℕ) (held : List Bool) where
+  abbrev known : BlockTable
   known = record f { reached = record { ref_ptr = (0, 0); now = held } }
 
   -- the row of the held blocks of a text

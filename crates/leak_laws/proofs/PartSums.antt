@@ -12,14 +12,14 @@ use Rattle.leak_blocks.specs.Live.{live_of}
 use Rattle.leak_index.specs.Leads.{Distances}
 use Rattle.leak_roots.specs.declared.skip.Skip.{Skip}
 use Rattle.leak_report.specs.Totals.{bytes_of, marked_in}
-use Rattle.leak_holders.specs.declared.facts.Facts.{Facts}
-use Rattle.leak_holders.specs.declared.part.Part.{Part}
+use Rattle.leak_holders.specs.declared.block_table.BlockTable.{BlockTable}
+use Rattle.leak_holders.specs.declared.caller_share.CallerShare.{CallerShare}
 use Rattle.leak_holders.specs.declared.question.Question.{Question}
 use Rattle.leak_holders.specs.declared.question.Side.{Side}
 use Rattle.leak_holders.specs.declared.question.Side.TheVariants.{In}
 use Rattle.leak_holders.specs.Holders.{is_counted, size_of, text_of}
 use Rattle.leak_holders.specs.Parts.{held_of, part_of, parts_by, parts_with_blocks, placed_part, rank_of_parts, ranked_parts}
-use Rattle.leak_holders.specs.Words.{facts_of}
+use Rattle.leak_holders.specs.Words.{table_of}
 use Rattle.leak_search.specs.Search.{graph_of_one}
 use Rattle.leak_holder_search.specs.declared.search.Holding.{Holding}
 use Rattle.leak_holder_search.specs.Held.{AreHeld, FindsHeld, both, chosen_with}
@@ -36,7 +36,7 @@ use Rattle.leak_laws.proofs.TextSums.{length_sum, sum_both, sum_map}
 
 -- ---- sums over lines
 
-sum_placed : (w : Part → ℕ) (p : Part) (rows : List Part) → sum_by w (placed_part p rows) ≡ w p + sum_by w rows
+sum_placed : (w : CallerShare → ℕ) (p : CallerShare) (rows : List CallerShare) → sum_by w (placed_part p rows) ≡ w p + sum_by w rows
 sum_placed w p [] = sum_by-cons w p []
 sum_placed w p (q ∷ rows) = go (is_lt (rank_of_parts p q)) (sum_placed w p rows)
   where
@@ -44,12 +44,12 @@ sum_placed w p (q ∷ rows) = go (is_lt (rank_of_parts p q)) (sum_placed w p row
     go true rest = sum_by-cons w p (q ∷ rows)
     go false rest = omega (arith, rest, sum_by-cons w q (placed_part p rows), sum_by-cons w q rows)
 
-sum_ranked : (w : Part → ℕ) (rows : List Part) → sum_by w (ranked_parts rows) ≡ sum_by w rows
+sum_ranked : (w : CallerShare → ℕ) (rows : List CallerShare) → sum_by w (ranked_parts rows) ≡ sum_by w rows
 sum_ranked w [] = refl
 sum_ranked w (p ∷ rows) = omega (arith, sum_placed w p (ranked_parts rows), sum_ranked w rows, sum_by-cons w p rows)
 
 -- lines without a block add nothing
-sum_shown : (w : Part → ℕ) (row : ℕ → Part) → ((t : ℕ) → (row t).blocks ≡ 0 → w (row t) ≡ 0) → (ts : List ℕ) → sum_by w (parts_with_blocks (map row ts)) ≡ sum_by (λ t. w (row t)) ts
+sum_shown : (w : CallerShare → ℕ) (row : ℕ → CallerShare) → ((t : ℕ) → (row t).blocks ≡ 0 → w (row t) ≡ 0) → (ts : List ℕ) → sum_by w (parts_with_blocks (map row ts)) ≡ sum_by (λ t. w (row t)) ts
 sum_shown w row none [] = refl
 sum_shown w row none (t ∷ ts) = go (nat_lt 0 (row t).blocks) refl (sum_shown w row none ts)
   where
@@ -97,7 +97,7 @@ module _ (w text : ℕ → ℕ) (held counted : ℕ → Bool) (texts : ℕ) wher
 
 -- ---- the lines of an answer
 
-module _ (f : Facts) (held : ℕ → Bool) (texts : ℕ) (inside : (b : ℕ) → b < length f.blocks.now → text_of f b < texts) where
+module _ (f : BlockTable) (held : ℕ → Bool) (texts : ℕ) (inside : (b : ℕ) → b < length f.blocks.now → text_of f b < texts) where
   in_blocks : sum_by (λ p. p.blocks) (parts_by f held texts) ≡ length (filter (λ b. held b && is_counted f b) (range_with_len 0 (length f.blocks.now)))
   in_blocks =
       sum_ranked (λ p. p.blocks) (parts_with_blocks (map (part_of f held) (range_with_len 0 texts)))
@@ -112,7 +112,7 @@ module _ (f : Facts) (held : ℕ → Bool) (texts : ℕ) (inside : (b : ℕ) →
       ∙ sum_shown (λ p. p.bytes) (part_of f held) (λ t e. sum_empty (size_of f) (held_of f held t) e) (range_with_len 0 texts)
       ∙ each_once (size_of f) (text_of f) held (is_counted f) texts 0 (length f.blocks.now) (λ b l h. inside b (omega arith))
 
-shown : (blocks : List Block) (own told : List Bool) (texts : List (List ℕ)) (parts : List Part) → sum_by (λ p. p.blocks) parts ≡ length (marked_in told blocks) → sum_by (λ p. p.bytes) parts ≡ bytes_of (marked_in told blocks)
+shown : (blocks : List Block) (own told : List Bool) (texts : List (List ℕ)) (parts : List CallerShare) → sum_by (λ p. p.blocks) parts ≡ length (marked_in told blocks) → sum_by (λ p. p.bytes) parts ≡ bytes_of (marked_in told blocks)
     → IfSome (told_rows blocks own told texts parts) AddUpTo
 shown blocks own told texts parts many large = go (list_any (λ x. x) own)
   where
@@ -123,12 +123,12 @@ shown blocks own told texts parts many large = go (list_any (λ x. x) own)
 pub in_lines_add_up : (core log : List ℕ) (since : Option (List ℕ)) (reading : Distances) (skip : Skip) (question : Question) (found : Holding)
     → (f : FindsHeld core log since reading skip question found) → question.side ≡ In → IfSome (told_by_answer f).rows AddUpTo
 in_lines_add_up core log since reading skip question found f side =
-    let are = subst (λ (s : Side). AreHeld s (graph_of_one core reading skip f.lines) f.facts (length f.texts) (chosen_with f.numbers f.block question.alone) (slice_index f.numbers f.block) f.told f.parts) side f.are in
-    let known = known_in (graph_of_one core reading skip f.lines) (live_of f.lines) f.numbers f.set (counted_of since (live_of f.lines)) (length f.texts) (chosen_with f.numbers f.block question.alone) f.told f.parts f.facts f.known are in
+    let are = subst (λ (s : Side). AreHeld s (graph_of_one core reading skip f.lines) f.table (length f.texts) (chosen_with f.numbers f.block question.alone) (slice_index f.numbers f.block) f.told f.parts) side f.are in
+    let known = known_in (graph_of_one core reading skip f.lines) (live_of f.lines) f.numbers f.set (counted_of since (live_of f.lines)) (length f.texts) (chosen_with f.numbers f.block question.alone) f.told f.parts f.table f.known are in
     let n = are_numbers log (live_of f.lines) f.texts f.numbers f.numbered f.few in
     let long : length known.held ≡ length (live_of f.lines) = known.len ∙ sym (one_each core reading skip f.lines) in
     let held : ℕ → Bool = λ b. slice_index_or known.held b false in
-    let k : Facts = facts_of (live_of f.lines) f.numbers f.set (counted_of since (live_of f.lines)) in
+    let k : BlockTable = table_of (live_of f.lines) f.numbers f.set (counted_of since (live_of f.lines)) in
     let tell : Tell (λ b. slice_index_or known.held b false && is_counted k b) (size_of k) 0 f.told (live_of f.lines) = record {
       tests = λ i low.
           (let e : 0 + i ≡ i = omega arith in

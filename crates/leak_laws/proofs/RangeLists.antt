@@ -7,8 +7,7 @@ use Rattle.std.specs.declared.cmp.Ordering.TheVariants.{Less, Equal, Greater}
 use Rattle.std.proofs.lemmas.Bool.{cases_eq, lt-ltb}
 use Rattle.std.proofs.lemmas.List.Kept.{IsStrictlySortedBy-filter}
 use Rattle.leak_lemmas.proofs.Orders.{nat_less as below_less}
-use Rattle.leak_later.proofs.WordLemmas.{of_range}
-use Rattle.leak_marks.proofs.ElementLemmas.{has_filter, of_filter}
+use Rattle.leak_marks.proofs.ElementLemmas.{has_filter, of_filter, of_range}
 use Rattle.leak_without.proofs.GoingLemmas.{has_range}
 use Rattle.leak_laws.specs.HolderMeaning.{Numbers}
 use Rattle.leak_laws.proofs.Ranges.{range_each}

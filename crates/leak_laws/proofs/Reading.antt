@@ -13,9 +13,7 @@ use Rattle.leak_index.specs.Hits.{hits_from, hits_of}
 use Rattle.leak_index.specs.Leads.{Distances, allows, is_up_to_end, leads}
 use Rattle.leak_roots.specs.declared.skip.Skip.{Skip}
 use Rattle.leak_roots.specs.Roots.{root_places}
-use Rattle.leak_roots.specs.Skipped.{spans_of}
-use Rattle.leak_search.specs.Slack.{slack_in}
-use Rattle.leak_search.specs.Dead.{dead_in}
+use Rattle.leak_search.specs.LeftOut.{left_out}
 use Rattle.leak_chunks.specs.FreeLinks.{is_free_link_past}
 use Rattle.leak_scan.specs.RootWords.{held_by, held_from, targets_without_links}
 use Rattle.leak_scan.specs.Targets.{block_targets, block_words, targets_of as led_by}
@@ -122,7 +120,7 @@ module _ (few many : Distances) (h : LeadsToNoMore few many) where
     memory_fewer true word_at x places = flat_fewer (held_from word_at (index_of few lines)) (held_from word_at (index_of many lines)) x (held_fewer word_at x) places
 
     first_fewer : (core : List ℕ) (skip : Skip) → Within (first_of core (index_of few lines) skip lines) (first_of core (index_of many lines) skip lines)
-    first_fewer core skip x has = go (root_places skip.unwritable core (live_of lines) (spans_of skip lines) (slack_in skip core (live_of lines)) (dead_in skip core)) has
+    first_fewer core skip x has = go (root_places (left_out skip core (live_of lines) lines) core (live_of lines)) has
       where
         go : (places : List ℕ) → Has (led_from skip.links (word_of core) (index_of few lines) (registers_of core) places) x → Has (led_from skip.links (word_of core) (index_of many lines) (registers_of core) places) x
         go places has = omega (

@@ -16,7 +16,7 @@ use Rattle.leak_pool.specs.Marking.{IsSet, graph_of}
 use Rattle.leak_lemmas.proofs.Members.{All-from_each}
 use Rattle.leak_report.specs.Numbered.{AreTexts, texts_of}
 use Rattle.leak_holders.specs.declared.holder.Holder.{Holder}
-use Rattle.leak_holders.specs.declared.part.Part.{Part}
+use Rattle.leak_holders.specs.declared.caller_share.CallerShare.{CallerShare}
 use Rattle.leak_holders.specs.declared.question.Question.{Question}
 use Rattle.leak_why.specs.Asked.{IsAsked, IsOf}
 use Rattle.leak_search.specs.Search.{graph_of_one, head_of_one}
@@ -104,16 +104,16 @@ one_answer core log since reading skip question a b f g =
     let n : f.numbers ≡ g.numbers = numbers_are_one (texts_of log (live_of f.lines)) f.texts f.numbers g.numbers f.numbered numbered_by in
     let asked : IsAsked (live_of f.lines) question.address g.block = subst (λ (ls : List Line). IsAsked (live_of ls) question.address g.block) (sym l) g.asked in
     let k : f.block ≡ g.block = asked_is_one (live_of f.lines) question.address f.block g.block (live_disjoint f.lines) f.asked asked in
-    let known1 = subst (λ (ls : List Line). AreKnown (live_of ls) g.numbers g.set (counted_of since (live_of ls)) g.facts) (sym l) g.known in
-    let known2 = subst (λ (ns : List ℕ). AreKnown (live_of f.lines) ns g.set (counted_of since (live_of f.lines)) g.facts) (sym n) known1 in
-    let known3 = subst (λ (set : List Bool). AreKnown (live_of f.lines) f.numbers set (counted_of since (live_of f.lines)) g.facts) (sym s) known2 in
-    let one = subst (λ (ls : List Line). AreHeld question.side (graph_of_one core reading skip ls) g.facts (length g.texts) (chosen_with g.numbers g.block question.alone) (slice_index g.numbers g.block) g.told g.parts) (sym l) g.are in
-    let two = subst (λ (ns : List ℕ). AreHeld question.side (graph_of_one core reading skip f.lines) g.facts (length g.texts) (chosen_with ns g.block question.alone) (slice_index ns g.block) g.told g.parts) (sym n) one in
-    let three = subst (λ (i : ℕ). AreHeld question.side (graph_of_one core reading skip f.lines) g.facts (length g.texts) (chosen_with f.numbers i question.alone) (slice_index f.numbers i) g.told g.parts) (sym k) two in
-    let four = subst (λ (ts : List (List ℕ)). AreHeld question.side (graph_of_one core reading skip f.lines) g.facts (length ts) (chosen_with f.numbers f.block question.alone) (slice_index f.numbers f.block) g.told g.parts) (sym t) three in
+    let known1 = subst (λ (ls : List Line). AreKnown (live_of ls) g.numbers g.set (counted_of since (live_of ls)) g.table) (sym l) g.known in
+    let known2 = subst (λ (ns : List ℕ). AreKnown (live_of f.lines) ns g.set (counted_of since (live_of f.lines)) g.table) (sym n) known1 in
+    let known3 = subst (λ (set : List Bool). AreKnown (live_of f.lines) f.numbers set (counted_of since (live_of f.lines)) g.table) (sym s) known2 in
+    let one = subst (λ (ls : List Line). AreHeld question.side (graph_of_one core reading skip ls) g.table (length g.texts) (chosen_with g.numbers g.block question.alone) (slice_index g.numbers g.block) g.told g.parts) (sym l) g.are in
+    let two = subst (λ (ns : List ℕ). AreHeld question.side (graph_of_one core reading skip f.lines) g.table (length g.texts) (chosen_with ns g.block question.alone) (slice_index ns g.block) g.told g.parts) (sym n) one in
+    let three = subst (λ (i : ℕ). AreHeld question.side (graph_of_one core reading skip f.lines) g.table (length g.texts) (chosen_with f.numbers i question.alone) (slice_index f.numbers i) g.told g.parts) (sym k) two in
+    let four = subst (λ (ts : List (List ℕ)). AreHeld question.side (graph_of_one core reading skip f.lines) g.table (length ts) (chosen_with f.numbers f.block question.alone) (slice_index f.numbers f.block) g.told g.parts) (sym t) three in
     let same =
     held_are_one question.side (graph_of_one core reading skip f.lines) (live_of f.lines) f.numbers f.set (counted_of since (live_of f.lines)) (length f.texts) (chosen_with f.numbers f.block question.alone)
-    (slice_index f.numbers f.block) f.facts g.facts f.told g.told f.parts g.parts (one_each core reading skip f.lines) f.known known3 f.are four in
+    (slice_index f.numbers f.block) f.table g.table f.told g.told f.parts g.parts (one_each core reading skip f.lines) f.known known3 f.are four in
     f.report
     ∙ ap (λ (ls : List Line). held_text log (live_of ls) f.block question.side (both (chosen_with f.numbers f.block question.alone) f.set) f.told f.texts f.parts) l
     ∙ ap (λ (i : ℕ). held_text log (live_of g.lines) i question.side (both (chosen_with f.numbers i question.alone) f.set) f.told f.texts f.parts) k
@@ -121,5 +121,5 @@ one_answer core log since reading skip question a b f g =
     ∙ ap (λ (set : List Bool). held_text log (live_of g.lines) g.block question.side (both (chosen_with g.numbers g.block question.alone) set) f.told f.texts f.parts) s
     ∙ ap (λ (told : List Bool). held_text log (live_of g.lines) g.block question.side (both (chosen_with g.numbers g.block question.alone) g.set) told f.texts f.parts) same.told_same
     ∙ ap (λ (ts : List (List ℕ)). held_text log (live_of g.lines) g.block question.side (both (chosen_with g.numbers g.block question.alone) g.set) g.told ts f.parts) t
-    ∙ ap (λ (parts : List Part). held_text log (live_of g.lines) g.block question.side (both (chosen_with g.numbers g.block question.alone) g.set) g.told g.texts parts) same.parts_same
+    ∙ ap (λ (parts : List CallerShare). held_text log (live_of g.lines) g.block question.side (both (chosen_with g.numbers g.block question.alone) g.set) g.told g.texts parts) same.parts_same
     ∙ sym g.report

@@ -14,9 +14,7 @@ use Rattle.leak_index.specs.Leads.{Distances}
 use Rattle.leak_roots.specs.declared.skip.Skip.{Skip}
 use Rattle.leak_roots.specs.Places.{Places, memory_places}
 use Rattle.leak_roots.specs.Roots.{root_places}
-use Rattle.leak_roots.specs.Skipped.{spans_of}
-use Rattle.leak_search.specs.Slack.{slack_in}
-use Rattle.leak_search.specs.Dead.{dead_in}
+use Rattle.leak_search.specs.LeftOut.{left_out}
 use Rattle.leak_marks.specs.Lists.{Has}
 use Rattle.leak_marks.specs.Reach.{Reach}
 use Rattle.leak_why.specs.declared.chain.Chain.{Chain}
@@ -85,7 +83,7 @@ as_long core log reading skip address a b f g =
     let reached2 : IsSome g.chain ↔ Reach (graph_of_one core reading skip f.lines) f.block = subst (λ (i : ℕ). IsSome g.chain ↔ Reach (graph_of_one core reading skip f.lines) i) (sym k) reached1 in
     let some : is_some f.chain ≡ is_some g.chain = bool_same (is_some f.chain) (is_some g.chain) f.reached reached2 in
     let memory : memory_places f.places.memory ≡ memory_places g.places.memory =
-    f.are_places.memory ∙ ap (λ (ls : List Line). root_places skip.unwritable core (live_of ls) (spans_of skip ls) (slack_in skip core (live_of ls)) (dead_in skip core)) l ∙ sym g.are_places.memory in
+    f.are_places.memory ∙ ap (λ (ls : List Line). root_places (left_out skip core (live_of ls) ls) core (live_of ls)) l ∙ sym g.are_places.memory in
     let same : AreSamePlaces f.places g.places = record { registers = f.are_places.registers ∙ sym g.are_places.registers; memory = memory; links = f.links ∙ sym g.links } in
     let why1 = subst (λ (ls : List Line). IsWhy (word_of core) (index_of reading ls) g.places g.block g.chain) (sym l) g.why in
     let why2 = subst (λ (i : ℕ). IsWhy (word_of core) (index_of reading f.lines) g.places i g.chain) (sym k) why1 in

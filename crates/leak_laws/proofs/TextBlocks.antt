@@ -5,10 +5,9 @@ use Rattle.std.proofs.lemmas.List.{get_or-map, length-map}
 use Rattle.std.proofs.lemmas.Slice.Eq.{bytes_eq-Decides}
 use Rattle.leak_growth.proofs.SumLemmas.{one_place}
 use Rattle.leak_blocks.specs.declared.block.Block.{Block}
-use Rattle.leak_later.proofs.WordLemmas.{of_range}
 use Rattle.leak_marks.specs.Lists.{Has, Within}
 use Rattle.leak_marks.specs.Reach.{Graph}
-use Rattle.leak_marks.proofs.ElementLemmas.{has_filter, of_filter}
+use Rattle.leak_marks.proofs.ElementLemmas.{has_filter, of_filter, of_range}
 use Rattle.leak_without.specs.Without.{IsHeldBy, graph_of, members}
 use Rattle.leak_without.proofs.GoingLemmas.{has_range, of_members, to_members}
 use Rattle.leak_without.proofs.HeldLemmas.{larger_hold_as_much}

@@ -5,7 +5,7 @@ use Rattle.leak_blocks.specs.declared.block.Block.{Block}
 use Rattle.leak_report.specs.Lines.{newline}
 use Rattle.leak_report.specs.Totals.{marked_in, text_at}
 use Rattle.leak_report.specs.Numbered.{text_with}
-use Rattle.leak_holders.specs.declared.part.Part.{Part}
+use Rattle.leak_holders.specs.declared.caller_share.CallerShare.{CallerShare}
 use Rattle.leak_holders.specs.declared.question.Side.{Side}
 use Rattle.leak_why.specs.Text.{block_front}
 use Rattle.leak_holder_search.specs.Held.{held_text, part_front}
@@ -52,14 +52,14 @@ answer_told side t = entry_text (codes "asked") t.asked ++ rows_text side t.rows
 abbrev pub told_entry : List ℕ → Block → ToldEntry
 told_entry log b = record { start = b.start; size = b.size; line = b.line; text = text_at log b.caller }
 
-abbrev pub told_part : List (List ℕ) → Part → ToldPart
+abbrev pub told_part : List (List ℕ) → CallerShare → ToldPart
 told_part texts p = record { blocks = p.blocks; bytes = p.bytes; text = text_with texts p.text }
 
-abbrev pub told_rows : List Block → List Bool → List Bool → List (List ℕ) → List Part → Option ToldRows
+abbrev pub told_rows : List Block → List Bool → List Bool → List (List ℕ) → List CallerShare → Option ToldRows
 told_rows blocks own told texts parts =
     if list_any (λ x. x) own then Some (record { sum = sum_of (marked_in told blocks); parts = map (told_part texts) parts }) else None
 
-abbrev pub answer_tells : List ℕ → List Block → ℕ → List Bool → List Bool → List (List ℕ) → List Part → ToldAnswer
+abbrev pub answer_tells : List ℕ → List Block → ℕ → List Bool → List Bool → List (List ℕ) → List CallerShare → ToldAnswer
 answer_tells log blocks block own told texts parts = record {
   asked = told_entry log (slice_index_or blocks block (record { start = 0; size = 0; line = 0; caller = (0, 0) }));
   rows = told_rows blocks own told texts parts;
@@ -85,7 +85,7 @@ pub record IsAnswerRead (t : ToldAnswer) : Type 0 where
   pub rows : IfSome t.rows AreRowsRead
 
 abbrev pub AnswersAreTold : Type 0
-AnswersAreTold = (log : List ℕ) (blocks : List Block) (block : ℕ) (side : Side) (own told : List Bool) (texts : List (List ℕ)) (parts : List Part) → block < length blocks
+AnswersAreTold = (log : List ℕ) (blocks : List Block) (block : ℕ) (side : Side) (own told : List Bool) (texts : List (List ℕ)) (parts : List CallerShare) → block < length blocks
     → held_text log blocks block side own told texts parts ≡ answer_told side (answer_tells log blocks block own told texts parts)
 
 abbrev pub AnswersReadBack : Type 0

@@ -9,14 +9,6 @@ pub or_cases : (x y : Bool) → (x || y) ≡ true → (x ≡ true) ⊎ (y ≡ tr
 or_cases true y h = inl refl
 or_cases false y h = inr h
 
-pub or_right : (x y : Bool) → y ≡ true → (x || y) ≡ true
-or_right true y h = refl
-or_right false y h = h
-
-pub or_false : (x : Bool) → (x || false) ≡ x
-or_false true = refl
-or_false false = refl
-
 pub same_number : (m n : ℕ) → (m == n) ≡ true → m ≡ n
 same_number m n h = eqb→eq m n (passes _ h)
 
@@ -32,10 +24,6 @@ other_number m n h e = true≢false (sym (equal_itself m n (sym e)) ∙ h)
 
 pub has-append : (xs ys : List ℕ) (b : ℕ) → has (xs ++ ys) b ≡ (has xs b || has ys b)
 has-append xs ys b = list_any-append (λ c. c == b) xs ys
-
-pub or_assoc : (x y z : Bool) → ((x || y) || z) ≡ (x || (y || z))
-or_assoc true y z = refl
-or_assoc false y z = refl
 
 -- x before y, if z is between
 pub or_between : (x y z : Bool) → ((x || z) || y) ≡ ((x || y) || z)

@@ -8,9 +8,10 @@ use Rattle.std.specs.List.{concat}
 use Rattle.std.proofs.lemmas.List.{get_or-set_same, get_or-set_other, get_or_default}
 use Rattle.std.proofs.lemmas.List.Elements.{All-set}
 use Rattle.std.proofs.lemmas.List.Sums.{sum_by-set, count_by-le-length}
+use Rattle.std.proofs.Math.Bool.{or-false}
+use Rattle.std.proofs.lemmas.Bool.{or_right}
 use Rattle.leak_marks.specs.Lists.{has}
 use Rattle.leak_marks.specs.Claims.{ClaimState, IsClaimed, attempted}
-use Rattle.leak_marks.proofs.BoolLemmas.{or_false, or_right}
 use Rattle.leak_marks.proofs.ListLemmas.{to_has, of_has}
 use Rattle.leak_marks.proofs.RunLemmas.{is_claimed, has_pushed, nothing_claimed}
 
@@ -41,7 +42,7 @@ says_more ms ls w b within inside says x h = dite (ℕ_discrete x b)
     (λ is. subst (λ (y : ℕ). get_or (set ms b true) y false ≡ is_claimed (appended ls w b) y) (sym is)
     (get_or-set_same ms b true false inside ∙ sym (has_pushed ls w b b within ∙ or_right (is_claimed ls b) (b == b) (eq-eqb b b refl))))
     (λ ne. get_or-set_other ms b x true false ne ∙ says x (subst (λ (n : ℕ). x < n) (length-set ms b true) h)
-    ∙ sym (has_pushed ls w b x within ∙ ap (λ (z : Bool). is_claimed ls x || z) (ne_eqb b x (λ e. ne (sym e))) ∙ or_false (is_claimed ls x)))
+    ∙ sym (has_pushed ls w b x within ∙ ap (λ (z : Bool). is_claimed ls x || z) (ne_eqb b x (λ e. ne (sym e))) ∙ or-false (is_claimed ls x)))
 
 -- empty lists and no mark
 none_set : (n b : ℕ) → get_or (replicate n false) b false ≡ false

@@ -3,10 +3,11 @@ use Rattle.std.proofs.Common.{◌≡◌, ℕ, zero, suc, ◌+◌, ◌<◌, Bool,
 use Rattle.std.specs.List.{concat, AllByRecursion}
 use Rattle.std.specs.Option.{option_map_or}
 use Rattle.std.proofs.lemmas.List.{get_or-set_other, get_or-set_same, length-replicate}
+use Rattle.std.proofs.Math.Bool.{or_assoc, or-false}
 use Rattle.leak_marks.specs.Lists.{times, has}
 use Rattle.leak_marks.specs.Claims.{attempted}
 use Rattle.leak_marks.specs.Runs.{Attempt, IsFirstBy, after, targets_in}
-use Rattle.leak_marks.proofs.BoolLemmas.{or_between, or_assoc, or_false, same_number, equal_itself, other_number, has-append, combine}
+use Rattle.leak_marks.proofs.BoolLemmas.{or_between, same_number, equal_itself, other_number, has-append, combine}
 use Rattle.leak_marks.proofs.ListLemmas.{times_set}
 
 -- the block is on some list, and the first attempt at it is the worker's, as tests
@@ -32,7 +33,7 @@ pub has_pushed : (lists : List (List ℕ)) (w x b : ℕ) → w < length lists �
 has_pushed [] w x b h = absurd (omega arith)
 has_pushed (l ∷ ls) zero x b h =
     has-append (l ++ x ∷ []) (concat ls) b
-    ∙ ap (λ t. t || has (concat ls) b) (has-append l (x ∷ []) b ∙ ap (λ t. has l b || t) (or_false (x == b)))
+    ∙ ap (λ t. t || has (concat ls) b) (has-append l (x ∷ []) b ∙ ap (λ t. has l b || t) (or-false (x == b)))
     ∙ or_between (has l b) (has (concat ls) b) (x == b)
     ∙ ap (λ t. t || (x == b)) (sym (has-append l (concat ls) b))
 has_pushed (l ∷ ls) (suc w) x b h =
@@ -91,15 +92,15 @@ list_after : (lists : List (List ℕ)) (v w x b : ℕ) → v < length lists → 
 list_after lists v w x b h = go (is_claimed lists x) (v == w) refl
   where
     go : (c s : Bool) → (v == w) ≡ s → has (get_or (if c then lists else set lists v (get_or lists v [] ++ x ∷ [])) w []) b ≡ (has (get_or lists w []) b || (not c && (s && (x == b))))
-    go true s e = sym (or_false (has (get_or lists w []) b))
+    go true s e = sym (or-false (has (get_or lists w []) b))
     go false true e =
         subst (λ (u : ℕ). has (get_or (set lists v (get_or lists v [] ++ x ∷ [])) u []) b ≡ (has (get_or lists u []) b || (x == b))) (same_number v w e)
         (ap (λ l. has l b) (get_or-set_same lists v (get_or lists v [] ++ x ∷ []) [] h)
         ∙ has-append (get_or lists v []) (x ∷ []) b
-        ∙ ap (λ t. has (get_or lists v []) b || t) (or_false (x == b)))
+        ∙ ap (λ t. has (get_or lists v []) b || t) (or-false (x == b)))
     go false false e =
         ap (λ l. has l b) (get_or-set_other lists v w (get_or lists v [] ++ x ∷ []) [] (other_number v w e))
-        ∙ sym (or_false (has (get_or lists w []) b))
+        ∙ sym (or-false (has (get_or lists w []) b))
 
 -- ---- a run
 
@@ -107,7 +108,7 @@ in_range_after : (lists : List (List ℕ)) (w x : ℕ) (run : List Attempt) → 
 in_range_after lists w x run r = subst (λ (n : ℕ). AllByRecursion (λ a. a.worker < n) run) (sym (length_after lists w x)) r
 
 pub claimed_after_run : (lists : List (List ℕ)) (run : List Attempt) → AllByRecursion (λ a. a.worker < length lists) run → (b : ℕ) → is_claimed (after lists run) b ≡ (is_claimed lists b || has (targets_in run) b)
-claimed_after_run lists [] r b = sym (or_false (is_claimed lists b))
+claimed_after_run lists [] r b = sym (or-false (is_claimed lists b))
 claimed_after_run lists (a ∷ run) r b =
     claimed_after_run (attempted lists a.worker a.target) run (in_range_after lists a.worker a.target run r.1) b
     ∙ ap (λ t. t || has (targets_in run) b) (claimed_after lists a.worker a.target b r.0)

@@ -1,10 +1,11 @@
 -- A call's text has one reading.
-use Rattle.std.proofs.Common.{◌≡◌, ◌≢◌, ℕ, ◌⊎◌, inl, inr, refl, sym, subst, ap, ◌∙◌, List, [], ◌∷◌, ◌++◌, Some, None, slice_get, arith, append_assoc, ◌==◌, if◌then◌else◌}
+use Rattle.std.proofs.Common.{◌≡◌, ◌≢◌, ℕ, ◌⊎◌, inl, inr, refl, sym, subst, ap, ◌∙◌, List, [], ◌∷◌, ◌++◌, Some, slice_get, arith, append_assoc, ◌==◌, if◌then◌else◌}
+use Rattle.std.proofs.lemmas.Option.{same_Some, none-some}
 use Rattle.leak_mtrace.specs.declared.line.Kind.{Kind}
 use Rattle.leak_mtrace.specs.declared.line.Kind.TheVariants.{Alloc, Free, MoveOut, MoveIn, Failed, Remark}
 use Rattle.leak_mtrace.specs.Number.{IsHex, IsAddress, IsSize, value_of}
 use Rattle.leak_mtrace.specs.Line.{IsSized, IsBare, IsCall, sign_of}
-use Rattle.leak_mtrace.proofs.SplitLemmas.{tail, head, no_cons, some_same, HasNoSpace, no_space_in, behind, compared, digits_no_space}
+use Rattle.leak_mtrace.proofs.SplitLemmas.{tail, head, no_cons, HasNoSpace, no_space_in, behind, compared, digits_no_space}
 
 -- ---- numbers
 
@@ -31,12 +32,9 @@ size_begins : (text : List ℕ) (n : ℕ) → IsSize text n → Begins text
 size_begins text n (inl h) = inr (ap (λ t. slice_get t 0) h.0)
 size_begins text n (inr h) = inr (ap (λ t. slice_get t 0) h.1)
 
-none_some : (n : ℕ) → None ≡ Some n → ⊥
-none_some n e = cc
-
 pub begins_append : (text more : List ℕ) → Begins text → Begins (text ++ more)
-begins_append [] more (inl e) = absurd (none_some 40 e)
-begins_append [] more (inr e) = absurd (none_some 48 e)
+begins_append [] more (inl e) = absurd (none-some 40 e)
+begins_append [] more (inr e) = absurd (none-some 48 e)
 begins_append (x ∷ text) more h = h
 
 one_hex : (text : List ℕ) (m n : ℕ) → IsHex text m → IsHex text n → m ≡ n
@@ -107,23 +105,23 @@ first_byte Remark text m n c = elim c [ ]
 
 pub one_kind : (k k' : Kind) (text : List ℕ) (m n m' n' : ℕ) → IsCall k text m n → IsCall k' text m' n' → k ≡ k'
 one_kind k k' text m n m' n' c d =
-    sym (kind_of_sign k) ∙ ap kind_of (some_same (sign_of k) (sign_of k') (sym (first_byte k text m n c) ∙ first_byte k' text m' n' d)) ∙ kind_of_sign k'
+    sym (kind_of_sign k) ∙ ap kind_of (same_Some (sign_of k) (sign_of k') (sym (first_byte k text m n c) ∙ first_byte k' text m' n' d)) ∙ kind_of_sign k'
 
 -- no call begins after a space of a call
 pub begins_no_sign : (k : Kind) (r : List ℕ) (m n : ℕ) → IsCall k r m n → Begins r → ⊥
 begins_no_sign k r m n c b = go k (first_byte k r m n c) c b
   where
     go : (k : Kind) → slice_get r 0 ≡ Some (sign_of k) → IsCall k r m n → Begins r → ⊥
-    go Alloc e c (inl s) = absurd (omega (arith, some_same _ _ (sym e ∙ s)))
-    go Alloc e c (inr s) = absurd (omega (arith, some_same _ _ (sym e ∙ s)))
-    go Free e c (inl s) = absurd (omega (arith, some_same _ _ (sym e ∙ s)))
-    go Free e c (inr s) = absurd (omega (arith, some_same _ _ (sym e ∙ s)))
-    go MoveOut e c (inl s) = absurd (omega (arith, some_same _ _ (sym e ∙ s)))
-    go MoveOut e c (inr s) = absurd (omega (arith, some_same _ _ (sym e ∙ s)))
-    go MoveIn e c (inl s) = absurd (omega (arith, some_same _ _ (sym e ∙ s)))
-    go MoveIn e c (inr s) = absurd (omega (arith, some_same _ _ (sym e ∙ s)))
-    go Failed e c (inl s) = absurd (omega (arith, some_same _ _ (sym e ∙ s)))
-    go Failed e c (inr s) = absurd (omega (arith, some_same _ _ (sym e ∙ s)))
+    go Alloc e c (inl s) = absurd (omega (arith, same_Some _ _ (sym e ∙ s)))
+    go Alloc e c (inr s) = absurd (omega (arith, same_Some _ _ (sym e ∙ s)))
+    go Free e c (inl s) = absurd (omega (arith, same_Some _ _ (sym e ∙ s)))
+    go Free e c (inr s) = absurd (omega (arith, same_Some _ _ (sym e ∙ s)))
+    go MoveOut e c (inl s) = absurd (omega (arith, same_Some _ _ (sym e ∙ s)))
+    go MoveOut e c (inr s) = absurd (omega (arith, same_Some _ _ (sym e ∙ s)))
+    go MoveIn e c (inl s) = absurd (omega (arith, same_Some _ _ (sym e ∙ s)))
+    go MoveIn e c (inr s) = absurd (omega (arith, same_Some _ _ (sym e ∙ s)))
+    go Failed e c (inl s) = absurd (omega (arith, same_Some _ _ (sym e ∙ s)))
+    go Failed e c (inr s) = absurd (omega (arith, same_Some _ _ (sym e ∙ s)))
     go Remark e c s = c
 
 sized_call_spaces : (sign : ℕ) (text : List ℕ) (m n : ℕ) → sign ≢ 32 → IsSized (sign ∷ 32 ∷ []) text m n → (q r : List ℕ) → text ≡ q ++ 32 ∷ r → Begins r

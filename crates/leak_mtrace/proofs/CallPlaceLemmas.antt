@@ -7,12 +7,12 @@ use Rattle.std.proofs.lemmas.List.Folds.{list_any-append, list_any_at, Any-from_
 use Rattle.std.proofs.lemmas.Slice.Eq.{ends_is}
 use Rattle.std.specs.List.{list_all, ends_with, Any}
 use Rattle.memchr.specs.Find.{IsLastByte, is_byte}
+use Rattle.leak_lemmas.proofs.Bools.{and_right, and_left}
 use Rattle.leak_mtrace.specs.declared.line.Kind.{Kind}
 use Rattle.leak_mtrace.specs.declared.line.Kind.TheVariants.{Alloc, Free, MoveOut, MoveIn, Failed, Remark}
 use Rattle.leak_mtrace.specs.Number.{IsHex, IsAddress, IsSize, IsPair, is_digit}
 use Rattle.leak_mtrace.specs.Line.{IsBody, IsCall, IsPlace, sign_of}
 use Rattle.leak_mtrace.specs.CallPlace.{is_sign, is_spot, IsLastSpot, IsPlaceEnd, has_bracket}
-use Rattle.leak_mtrace.proofs.SplitLemmas.{and_left, and_right}
 use Rattle.leak_mtrace.proofs.CallLemmas.{call_spaces}
 use Rattle.std.specs.Option.{MatchOption}
 use Rattle.leak_mtrace.proofs.SpotLemmas.{spot_within}

@@ -1,7 +1,9 @@
 -- A line after its first two bytes.
 use Rattle.std.proofs.Common.{◌≡◌, ◌≢◌, ℕ, ◌+◌, ◌<◌, ◌≤◌, ◌⊎◌, inl, inr, refl, sym, subst, ap, ◌∙◌, ◌==◌, Bool, true, false, true≢false, eqb-true, List, [], ◌∷◌, ◌++◌, Option, Some, None, arith, length, get_or, take, drop, append_assoc, length-append}
 use Rattle.std.proofs.lemmas.List.{drop_at, take-append-drop}
+use Rattle.std.proofs.lemmas.Option.{same_Some}
 use Rattle.std.specs.Cmp.Lexicographic.{pointwise}
+use Rattle.leak_lemmas.proofs.Bools.{and_left}
 use Rattle.leak_mtrace.specs.declared.line.Kind.{Kind}
 use Rattle.leak_mtrace.specs.declared.line.Kind.TheVariants.{Alloc, Free, MoveOut, MoveIn, Failed, Remark}
 use Rattle.leak_mtrace.specs.declared.line.Line.{Line}
@@ -9,7 +11,7 @@ use Rattle.leak_mtrace.specs.declared.call.Call.{Call}
 use Rattle.leak_mtrace.specs.Line.{IsPlace, IsRemark, IsPlain, IsPlaced, IsAfterPlace, IsCall, IsLine, sign_of}
 use Rattle.leak_mtrace.specs.Decided.{Decides}
 use Rattle.leak_mtrace.specs.CallPlace.{IsPlaceEnd}
-use Rattle.leak_mtrace.proofs.SplitLemmas.{tail, some_same, and_left}
+use Rattle.leak_mtrace.proofs.SplitLemmas.{tail}
 use Rattle.leak_mtrace.proofs.CallPlaceLemmas.{place_end_is}
 use Rattle.leak_mtrace.proofs.BodyLemmas.{call_front, call_not_remark}
 
@@ -26,7 +28,7 @@ pub behind_no_end : (text : List ℕ) → IsPlaceEnd text None → (x : Line) �
 behind_no_end text f x h = let e : None ≡ Some (length h.0) = place_end_is text h.0 h.1 None x.kind x.addr x.size f h.2 h.3 h.4 in cc
 
 pub behind_end : (text : List ℕ) (end : ℕ) (x : Line) → IsPlaceEnd text (Some end) → (h : IsAfterPlace text x) → end ≡ length h.0
-behind_end text end x f h = some_same _ _ (place_end_is text h.0 h.1 (Some end) x.kind x.addr x.size f h.2 h.3 h.4)
+behind_end text end x f h = same_Some _ _ (place_end_is text h.0 h.1 (Some end) x.kind x.addr x.size f h.2 h.3 h.4)
 
 -- it is the beginning
 pub behind_end_zero : (text : List ℕ) → IsPlaceEnd text (Some 0) → (x : Line) → IsAfterPlace text x → ⊥
@@ -73,7 +75,7 @@ equals_line (b ∷ text) h e = (inr (ap (λ x. Some x) e), refl)
 
 pub remark_first : (text : List ℕ) (x : Line) → IsRemark text x → (length text ≡ 0) ⊎ (get_or text 0 0 ≡ 61)
 remark_first [] x h = inl refl
-remark_first (b ∷ text) x h = elim h.0 [ inl e ↦ absurd (omega (arith, ap length e)) | inr e ↦ inr (some_same _ _ e) ]
+remark_first (b ∷ text) x h = elim h.0 [ inl e ↦ absurd (omega (arith, ap length e)) | inr e ↦ inr (same_Some _ _ e) ]
 
 pub placed_first : (text : List ℕ) (x : Line) → IsPlaced text x → (2 ≤ length text) × (get_or text 0 0 ≡ 64) × (get_or text 1 0 ≡ 32)
 placed_first text x h =

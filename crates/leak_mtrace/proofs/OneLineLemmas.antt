@@ -1,10 +1,11 @@
 -- A line says one thing at most: by the first byte, and for a call after its place by the space before it.
 use Rattle.std.proofs.Common.{◌≡◌, ℕ, ◌+◌, ◌⊎◌, inl, inr, sym, subst, ap, ◌∙◌, List, [], ◌∷◌, Some, None, slice_get, arith, append_assoc, length}
+use Rattle.std.proofs.lemmas.Option.{same_Some, none-some}
 use Rattle.leak_mtrace.specs.declared.line.Kind.{Kind}
 use Rattle.leak_mtrace.specs.declared.line.Kind.TheVariants.{Alloc, Free, MoveOut, MoveIn, Failed, Remark}
 use Rattle.leak_mtrace.specs.declared.line.Line.{Line}
 use Rattle.leak_mtrace.specs.Line.{sign_of, IsLine, IsRemark, IsPlain, IsPlaced, IsCall}
-use Rattle.leak_mtrace.proofs.SplitLemmas.{tail, some_same, compared}
+use Rattle.leak_mtrace.proofs.SplitLemmas.{tail, compared}
 use Rattle.leak_mtrace.proofs.CallLemmas.{first_byte, one_kind, one_call, no_call_within}
 
 same_line : (x y : Line) → x.kind ≡ y.kind → x.addr ≡ y.addr → x.size ≡ y.size → x.caller ≡ y.caller → x ≡ y
@@ -19,8 +20,8 @@ other_sign k text m n c h = go k (first_byte k text m n c) c h
 
     both : (s : ℕ) → (s ≡ 61 → ⊥) → (s ≡ 64 → ⊥) → slice_get text 0 ≡ Some s → (slice_get text 0 ≡ None) ⊎ ((slice_get text 0 ≡ Some 61) ⊎ (slice_get text 0 ≡ Some 64)) → ⊥
     both s p q e (inl t) = none s (sym t ∙ e)
-    both s p q e (inr (inl t)) = p (some_same s 61 (sym e ∙ t))
-    both s p q e (inr (inr t)) = q (some_same s 64 (sym e ∙ t))
+    both s p q e (inr (inl t)) = p (same_Some s 61 (sym e ∙ t))
+    both s p q e (inr (inr t)) = q (same_Some s 64 (sym e ∙ t))
 
     go : (k : Kind) → slice_get text 0 ≡ Some (sign_of k) → IsCall k text m n → (slice_get text 0 ≡ None) ⊎ ((slice_get text 0 ≡ Some 61) ⊎ (slice_get text 0 ≡ Some 64)) → ⊥
     go Alloc e c h = both 43 (λ s. absurd (omega (arith, s))) (λ s. absurd (omega (arith, s))) e h
@@ -36,13 +37,10 @@ remark_byte text x h = elim h.0 [ inl e ↦ inl (ap (λ t. slice_get t 0) e) | i
 placed_byte : (text : List ℕ) (x : Line) → IsPlaced text x → slice_get text 0 ≡ Some 64
 placed_byte text x h = ap (λ t. slice_get t 0) h.2
 
-none_some : (n : ℕ) → None ≡ Some n → ⊥
-none_some n e = cc
-
 no_remark_placed : (text : List ℕ) (x y : Line) → IsRemark text x → IsPlaced text y → ⊥
 no_remark_placed text x y h k = elim h.0 [
-  | inl e ↦ none_some 64 (sym (ap (λ t. slice_get t 0) e) ∙ placed_byte text y k)
-  | inr e ↦ absurd (omega (arith, some_same 61 64 (sym e ∙ placed_byte text y k)))
+  | inl e ↦ none-some 64 (sym (ap (λ t. slice_get t 0) e) ∙ placed_byte text y k)
+  | inr e ↦ absurd (omega (arith, same_Some 61 64 (sym e ∙ placed_byte text y k)))
 ]
 
 one_plain : (text : List ℕ) (x y : Line) → IsPlain text x → IsPlain text y → x ≡ y

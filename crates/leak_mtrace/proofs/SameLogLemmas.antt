@@ -4,12 +4,12 @@ use Rattle.std.proofs.lemmas.Bool.{cases_lt}
 use Rattle.std.proofs.lemmas.Bool.Decides.{Decides-eqb}
 use Rattle.std.proofs.lemmas.List.{take_all}
 use Rattle.std.proofs.lemmas.Slice.Eq.{starts_is}
+use Rattle.std.proofs.lemmas.Option.{same_Some}
 use Rattle.std.specs.List.{AllZip}
 use Rattle.leak_mtrace.specs.declared.line.Line.{Line}
 use Rattle.leak_mtrace.specs.declared.error.LogError.{LogError}
 use Rattle.leak_mtrace.specs.declared.error.LogError.TheVariants.{BadLine, Extent, NoMemory}
 use Rattle.leak_mtrace.specs.Log.{whole_lines, whole_len_of, with_places, placed, IsGoodLine, IsPastEnd, IsLog, IsFaulty, IsFirstFault, is_continued_by}
-use Rattle.leak_mtrace.proofs.SplitLemmas.{some_same}
 use Rattle.leak_mtrace.proofs.LogLemmas.{length_places}
 use Rattle.leak_mtrace.proofs.OneLineLemmas.{one_line}
 use Rattle.leak_mtrace.proofs.CutLemmas.{joined, Cut, cut_of, lines_of_joined, lines_of_cut, bytes_of_cut}
@@ -103,7 +103,7 @@ first_faults_are_one bytes e f p q =
     let late : length q.0 < length p.0 → ⊥ = λ l. not_before bytes f p.0 (length q.0) (length p.0) p.1 l at' in
     let same : length q.0 ≡ length p.0 = ⊎_elim (λ l. absurd (early l)) (λ g. ⊎_elim (λ l. absurd (late l)) (λ g'. omega arith) (cases_lt (length q.0) (length p.0))) (cases_lt (length p.0) (length q.0)) in
     let there : slice_get ts (length p.0) ≡ Some at'.0 = ap (slice_get ts) (sym same) ∙ at'.1 in
-    let t_same : at'.0 ≡ at.0 = some_same at'.0 at.0 (sym there ∙ at.1) in
+    let t_same : at'.0 ≡ at.0 = same_Some at'.0 at.0 (sym there ∙ at.1) in
     faulty_one e f (length p.0 + 1) at.0 at.2 (subst (λ (n : ℕ). IsFaulty f (n + 1) at.0) same (subst (IsFaulty f (length q.0 + 1)) t_same at'.2))
 
 -- ---- a log that continues another

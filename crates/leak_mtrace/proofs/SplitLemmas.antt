@@ -1,6 +1,7 @@
 -- A text at its spaces.
-use Rattle.std.proofs.Common.{◌≡◌, ◌≢◌, ℕ, Bool, true, false, ◌&&◌, ◌⊎◌, inl, inr, refl, sym, subst, ap, ◌∙◌, true≢false, List, [], ◌∷◌, ◌++◌, Some}
+use Rattle.std.proofs.Common.{◌≡◌, ◌≢◌, ℕ, true, false, ◌⊎◌, inl, inr, refl, sym, subst, ap, ◌∙◌, true≢false, List, [], ◌∷◌, ◌++◌}
 use Rattle.std.specs.List.{AllByRecursion, list_all}
+use Rattle.leak_lemmas.proofs.Bools.{and_right, and_left}
 use Rattle.leak_mtrace.specs.Number.{is_digit}
 
 pub tail : {x y : ℕ} {xs ys : List ℕ} → x ∷ xs ≡ y ∷ ys → xs ≡ ys
@@ -11,9 +12,6 @@ head e = cc
 
 pub no_cons : {x : ℕ} {xs : List ℕ} → [] ≡ x ∷ xs → ⊥
 no_cons e = cc
-
-pub some_same : {A : Type 0} (x y : A) → Some x ≡ Some y → x ≡ y
-some_same x y e = cc
 
 -- the text has no space
 abbrev pub HasNoSpace : List ℕ → Type 0
@@ -40,14 +38,6 @@ compared (x ∷ p) [] r r' e = inr (inr (p, sym (tail e)))
 compared (x ∷ p) (y ∷ p') r r' e = elim (compared p p' r r' (tail e)) [ inl s ↦ inl (ap (λ t. t ∷ p) (head e) ∙ ap (λ t. y ∷ t) s.0, s.1) | inr s ↦ inr s ]
 
 -- ---- digits
-
-pub and_left : (x y : Bool) → (x && y) ≡ true → x ≡ true
-and_left true y h = refl
-and_left false y h = h
-
-pub and_right : (x y : Bool) → (x && y) ≡ true → y ≡ true
-and_right true y h = h
-and_right false y h = absurd (true≢false (sym h))
 
 pub digits_no_space : (digits : List ℕ) → list_all is_digit digits ≡ true → HasNoSpace digits
 digits_no_space [] h = tt

@@ -4,8 +4,8 @@ use Rattle.std.proofs.lemmas.Bool.{cases_lt, cases_eq}
 use Rattle.std.proofs.lemmas.List.{get_or_past}
 use Rattle.memchr.specs.Find.{IsLast}
 use Rattle.memchr.proofs.lemmas.FindLemmas.{Nowhere-more, IsLast-wider}
+use Rattle.leak_lemmas.proofs.Bools.{and_right}
 use Rattle.leak_mtrace.specs.CallPlace.{is_sign, is_spot, IsLastSpot}
-use Rattle.leak_mtrace.proofs.SplitLemmas.{and_right}
 
 pub last_here : (P : ℕ → Type 0) (i : ℕ) → P i → IsLast P 0 (i + 1) (Some i)
 last_here P i p = (record { low = omega arith; high = omega arith; after = λ m l h q. absurd (omega arith) }, p)

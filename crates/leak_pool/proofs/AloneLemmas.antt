@@ -22,17 +22,15 @@ use Rattle.leak_pool.specs.declared.marked.Marked.{Marked}
 use Rattle.leak_pool.proofs.CountLemmas.{has_at, at_has, few_distinct}
 use Rattle.leak_pool.proofs.WordLemmas.{memory-nil, memory-append}
 use Rattle.leak_pool.proofs.GraphLemmas.{graph-first, graph-given, graph-block}
-
-nothing : {A : Type 0} (b : ℕ) → Has [] b → A
-nothing b h = absurd (let z : 0 < 0 = h in omega arith)
+use Rattle.leak_pool.proofs.ScanLemmas.{none_has}
 
 -- ---- marks
 
 pub marks_none : (n : ℕ) (list : List ℕ) → list ≡ [] → AreMarks (replicate n false) list
 marks_none n list none = record {
-  marked = λ b h. nothing b (subst (λ (l : List ℕ). Has l b) none h);
+  marked = λ b h. none_has b (subst (λ (l : List ℕ). Has l b) none h);
   only = λ b m. absurd (true≢false (sym m ∙ unset b));
-  inside = λ b h. nothing b (subst (λ (l : List ℕ). Has l b) none h);
+  inside = λ b h. none_has b (subst (λ (l : List ℕ). Has l b) none h);
   once = λ b. let z : times b list ≡ 0 = ap (λ (l : List ℕ). times b l) none in omega arith;
 }
   where
@@ -61,7 +59,7 @@ marks_more marks list more b inside unset is m = record {
 pub taken_none : (list : List ℕ) → AreTaken [] list list
 taken_none list = record {
   grown = ([], sym (append-nil list));
-  covers = λ b h. nothing b h;
+  covers = λ b h. none_has b h;
   gains = λ b h. inl h;
 }
 
@@ -82,7 +80,7 @@ taken_long t a b p = let e = ap (λ (l : List ℕ). length l) p.grown.1 in let l
 pub taken_old : (t a b : List ℕ) (x : ℕ) → AreTaken t a b → Has b x → AreTaken (t ++ x ∷ []) a b
 taken_old t a b x p old = taken_both t (x ∷ []) a b b p (record {
   grown = ([], sym (append-nil b));
-  covers = λ y h. ⊎_elim (λ e. subst (λ (z : ℕ). Has b z) e old) (λ n. nothing y n) (at_head x [] y h);
+  covers = λ y h. ⊎_elim (λ e. subst (λ (z : ℕ). Has b z) e old) (λ n. none_has y n) (at_head x [] y h);
   gains = λ y h. inl h;
 })
 
@@ -98,7 +96,7 @@ taken_new t a b c x p is = taken_both t (x ∷ []) a b c p (record {
 -- what the root words lead to is claimed
 pub followed_none : (g : Graph) (list : List ℕ) → ((b : ℕ) → ¬ Has g.given b) → AreTaken g.first [] list → IsFollowed g list 0
 followed_none g list free p = record {
-  reached = λ b h. ⊎_elim (λ n. nothing b n) (λ f. ([], (free b, f))) (p.gains b h);
+  reached = λ b h. ⊎_elim (λ n. none_has b n) (λ f. ([], (free b, f))) (p.gains b h);
   first = p.covers;
   followed = λ k b h. absurd (omega arith);
 }
@@ -173,7 +171,7 @@ roots_taken word_at index p n a b h t = subst (λ (l : List (ℕ × ℕ)). AreTa
 -- ---- marking of a log's blocks
 
 pub free : (word_at : ℕ → Option ℕ) (index : Index) (first : List ℕ) (b : ℕ) → ¬ Has (graph_of word_at index first []).given b
-free word_at index first b h = nothing b (subst (λ (l : List ℕ). Has l b) (graph-given word_at index first []) h)
+free word_at index first b h = none_has b (subst (λ (l : List ℕ). Has l b) (graph-given word_at index first []) h)
 
 pub marks_few : (marks : List Bool) (list : List ℕ) → AreMarks marks list → length list ≤ length marks
 marks_few marks list m = few_distinct (length marks) list m.once m.inside

@@ -13,7 +13,7 @@ use Rattle.leak_scan.specs.Targets.{targets_of, block_words, block_targets}
 use Rattle.leak_pool.specs.Items.{targets_of_block}
 use Rattle.leak_pool.specs.Edges.{IsListAt, AreListed, AreEdges, IsRow}
 use Rattle.leak_pool.specs.Scopes.{all_targets}
-use Rattle.leak_pool.specs.declared.edges.Rows.{Rows}
+use Rattle.leak_pool.specs.declared.rows.Rows.{Rows}
 
 -- ---- one list more
 

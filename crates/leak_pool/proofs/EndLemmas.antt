@@ -3,7 +3,7 @@ use Rattle.std.proofs.Common.{◌≡◌, ◌⊎◌, ℕ, zero, suc, ◌+◌, ◌
 use Rattle.std.specs.Prelude.{◌↔◌, slice_get, Some}
 use Rattle.std.specs.List.{concat}
 use Rattle.std.proofs.lemmas.List.{length-replicate, length-append, get_or_append_left, get_or_at}
-use Rattle.std.proofs.lemmas.Option.{slice_get-get_or}
+use Rattle.std.proofs.lemmas.Option.{slice_get-get_or, same_Some}
 use mathlib.Core.Logic.{dite}
 use native.Mathlib.Decide.{ℕ_discrete}
 use Rattle.leak_marks.specs.Lists.{times, Has, Within, mark_of, word_count}
@@ -165,14 +165,11 @@ tests_front xs ys k h = slice_get-get_or (xs ++ ys) k false (let e = length-appe
 test_at : (xs : List Bool) (v : Bool) (k : ℕ) → length xs ≡ k → slice_get (xs ++ v ∷ []) k ≡ Some v
 test_at xs v k h = slice_get-get_or (xs ++ v ∷ []) k false (let e = length-append xs (v ∷ []) in omega arith) ∙ ap (λ (b : Bool). Some b) (get_or_at xs v [] false k h)
 
-same_some : (a b : Bool) → Some a ≡ Some b → a ≡ b
-same_some a b e = cc
-
 pub set_more : (n : ℕ) (P : ℕ → Type 0) (tests more : List Bool) (v : Bool) → IsSet tests n P → more ≡ tests ++ v ∷ [] → IsTrue v ↔ P n → IsSet more (n + 1) P
 set_more n P tests more v s is test = record {
   len = ap (λ (l : List Bool). length l) is ∙ (let e = length-append tests (v ∷ []) in let l = s.len in omega arith);
   each = λ k h. dite (ℕ_discrete k n)
-      (λ e. subst (λ (x : ℕ). (slice_get more x ≡ Some true) ↔ P x) (sym e) ((λ g. test.0 (same_some v true (sym last ∙ g))), (λ p. last ∙ ap (λ (b : Bool). Some b) (test.1 p))))
+      (λ e. subst (λ (x : ℕ). (slice_get more x ≡ Some true) ↔ P x) (sym e) ((λ g. test.0 (same_Some v true (sym last ∙ g))), (λ p. last ∙ ap (λ (b : Bool). Some b) (test.1 p))))
       (λ ne. let old : slice_get more k ≡ slice_get tests k = ap (λ (l : List Bool). slice_get l k) is ∙ tests_front tests (v ∷ []) k (let l = s.len in omega arith) in
       let i = s.each k (omega arith) in ((λ g. i.0 (sym old ∙ g)), (λ p. old ∙ i.1 p)));
 }

@@ -1,5 +1,5 @@
 -- Marking over a core's pieces, parts and blocks is marking of its graph.
-use Rattle.std.proofs.Common.{◌≡◌, ◌⊎◌, ℕ, zero, suc, ◌<◌, List, [], ◌∷◌, ◌++◌, length, map, get_or, Option, Result, Ok, Err, sym, ap, ◌∙◌, subst, inr, ⊎_elim, arith}
+use Rattle.std.proofs.Common.{◌≡◌, ◌⊎◌, ℕ, ◌<◌, List, [], ◌∷◌, ◌++◌, length, map, Option, Result, Ok, Err, sym, ap, ◌∙◌, subst, inr, ⊎_elim, arith}
 use Rattle.std.specs.Prelude.{IfOk}
 use Rattle.std.specs.List.{concat, flat_map, AllByRecursion}
 use Rattle.std.proofs.lemmas.List.{append-nil}
@@ -9,10 +9,10 @@ use Rattle.leak_roots.specs.declared.piece.Piece.{Piece}
 use Rattle.leak_roots.specs.Places.{Places}
 use Rattle.leak_roots.specs.Pieces.{AreCut}
 use Rattle.leak_scan.specs.Targets.{targets_of}
+use Rattle.leak_scan.proofs.Ahead.{targets_none}
 use Rattle.leak_marks.specs.Lists.{Has}
 use Rattle.leak_marks.specs.Reach.{Graph, Reach}
 use Rattle.leak_marks.specs.Partition.{Partitions}
-use Rattle.leak_marks.proofs.ListLemmas.{here, there}
 use Rattle.leak_pool.specs.declared.start.Part.{Part}
 use Rattle.leak_pool.specs.declared.start.Start.{Start}
 use Rattle.leak_pool.specs.declared.marked.Marked.{Marked}
@@ -20,12 +20,7 @@ use Rattle.leak_pool.specs.Marking.{MarksFromRoots, MarksFrom, IsSet, graph_of, 
 use Rattle.leak_pool.specs.Rounds.{IsMarked, graph_over}
 use Rattle.leak_pool.specs.Scopes.{root_targets, all_targets, piece_targets, part_targets, AreParts}
 use Rattle.leak_pool.proofs.ScopeLemmas.{long_all}
-use Rattle.leak_pool.proofs.WordLemmas.{targets-nil, targets-flat_map, led_by_pieces}
-
-pub at_has_any : (xs : List ℕ) (k d : ℕ) → k < length xs → Has xs (get_or xs k d)
-at_has_any [] k d h = absurd (omega arith)
-at_has_any (x ∷ xs) zero d h = here x xs
-at_has_any (x ∷ xs) (suc k) d h = there x xs (get_or xs k d) (at_has_any xs k d (omega arith))
+use Rattle.leak_pool.proofs.WordLemmas.{targets-flat_map, led_by_pieces}
 
 pub parts_inside : (blocks : ℕ) (marked : List ℕ) (rescan : List (ℕ × Part)) → ((b : ℕ) → Has marked b → b < blocks) → AllByRecursion (λ part. Has marked part.0) rescan → AreParts blocks rescan
 parts_inside blocks marked [] inside all = tt
@@ -40,7 +35,7 @@ first_is word_at index places pieces pages rescan n cut =
 
 -- no words after them
 led_alone : (index : Index) (led : List ℕ) → led ++ targets_of index [] ≡ led
-led_alone index led = ap (λ (l : List ℕ). led ++ l) (targets-nil index) ∙ append-nil led
+led_alone index led = ap (λ (l : List ℕ). led ++ l) (targets_none index) ∙ append-nil led
 
 pub graph_is : (word_at : ℕ → Option ℕ) (index : Index) (places : Places) (pieces : List Piece) (pages : List ℕ) (s : Start) (n : ℕ) → AreCut places n pieces
     → graph_over (root_targets word_at index places pieces pages s.rescan.items) (all_targets word_at index) s.marked.items ≡ graph_from word_at index places pages s

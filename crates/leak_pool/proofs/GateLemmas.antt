@@ -8,7 +8,7 @@ use Rattle.leak_pool.specs.Course.{Round, AreLater, AreRounds, HaveGone, sizes_b
 use Rattle.leak_pool.specs.Items.{share, targets_of_block}
 use Rattle.leak_pool.specs.Gates.{share_size, IsNextPassed, ArePassed, sizes_of, AreAllPassed, HavePassed}
 use Rattle.leak_pool.specs.MarkingState.{HasCourse, HasRoundMore, HasCourseThrough, claims_of}
-use Rattle.leak_pool.specs.Scene.{Scene}
+use Rattle.leak_pool.specs.SearchModel.{SearchModel}
 use Rattle.leak_pool.specs.declared.marking_state.MarkingState.{MarkingState}
 use Rattle.leak_pool.specs.Rounds.{AreCounted}
 
@@ -117,25 +117,25 @@ one_size first [] one = absurd (let n : 0 ≡ 1 = one in omega arith)
 one_size first (r ∷ []) one = refl
 one_size first (r ∷ q ∷ rounds) one = absurd (omega arith)
 
-module _ (passed : ℕ → ℕ → Type 0) (scene : Scene) where
-  pub through_one : (p : MarkingState) → HasCourse scene p 1 → HasCourseThrough passed scene p.steps.items p 1
+module _ (passed : ℕ → ℕ → Type 0) (model : SearchModel) where
+  pub through_one : (p : MarkingState) → HasCourse model p 1 → HasCourseThrough passed model p.steps.items p 1
   through_one p course = (
     course,
-    λ was. subst (λ (l : List ℕ). HavePassed passed scene.workers l p.steps.items) (sym (one_size (length scene.roots) course.0 course.1)) was,
+    λ was. subst (λ (l : List ℕ). HavePassed passed model.workers l p.steps.items) (sym (one_size (length model.roots) course.0 course.1)) was,
   )
 
-  pub through_more : (steps : List ℕ) (p after : MarkingState) (count : ℕ) → ((n : ℕ) (course : HasCourse scene p n) → HasRoundMore scene after n course.0)
-      → ((rounds : List ℕ) → HavePassed passed scene.workers rounds p.steps.items → HavePassed passed scene.workers (rounds ++ (length p.waiting.items - 1) ∷ []) after.steps.items)
-      → HasCourseThrough passed scene steps p count → HasCourseThrough passed scene steps after (count + 1)
+  pub through_more : (steps : List ℕ) (p after : MarkingState) (count : ℕ) → ((n : ℕ) (course : HasCourse model p n) → HasRoundMore model after n course.0)
+      → ((rounds : List ℕ) → HavePassed passed model.workers rounds p.steps.items → HavePassed passed model.workers (rounds ++ (length p.waiting.items - 1) ∷ []) after.steps.items)
+      → HasCourseThrough passed model steps p count → HasCourseThrough passed model steps after (count + 1)
   through_more steps p after count more step h =
       let course = h.0 in let next = more count course in
-      let same : sizes_by_round (length scene.roots) next.0.0 ≡ sizes_by_round (length scene.roots) course.0 ++ (length p.waiting.items - 1) ∷ [] =
-      ap (λ (l : List Round). sizes_by_round (length scene.roots) l) next.2
-      ∙ course_sizes scene.roots scene.targets scene.workers scene.stack (length scene.roots) course.0 p.waiting.items next.1 course.2.are in (
+      let same : sizes_by_round (length model.roots) next.0.0 ≡ sizes_by_round (length model.roots) course.0 ++ (length p.waiting.items - 1) ∷ [] =
+      ap (λ (l : List Round). sizes_by_round (length model.roots) l) next.2
+      ∙ course_sizes model.roots model.targets model.workers model.stack (length model.roots) course.0 p.waiting.items next.1 course.2.are in (
         next.0,
-        λ was. subst (λ (l : List ℕ). HavePassed passed scene.workers l after.steps.items) (sym same) (step (sizes_by_round (length scene.roots) course.0) (h.1 was)),
+        λ was. subst (λ (l : List ℕ). HavePassed passed model.workers l after.steps.items) (sym same) (step (sizes_by_round (length model.roots) course.0) (h.1 was)),
       )
 
-  pub gone_through : (steps : List ℕ) (p : MarkingState) (count : ℕ) → HasCourseThrough passed scene steps p count → HavePassed passed scene.workers (length scene.roots ∷ []) steps
-      → HaveGone passed (length scene.roots) scene.roots scene.targets scene.workers scene.stack count (claims_of p) p.waiting.items
+  pub gone_through : (steps : List ℕ) (p : MarkingState) (count : ℕ) → HasCourseThrough passed model steps p count → HavePassed passed model.workers (length model.roots ∷ []) steps
+      → HaveGone passed (length model.roots) model.roots model.targets model.workers model.stack count (claims_of p) p.waiting.items
   gone_through steps p count h was = (h.0.0, h.0.1, h.0.2, (h.1 was).each)

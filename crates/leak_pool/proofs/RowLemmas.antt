@@ -18,7 +18,7 @@ use Rattle.leak_scan.specs.Targets.{targets_of, block_targets}
 use Rattle.leak_pool.specs.Items.{targets_of_block}
 use Rattle.leak_pool.specs.Edges.{AreListed, IsOver, IsRow, IsRowOrOver, kept_count, row_size, share_of, target_count}
 use Rattle.leak_pool.specs.Scopes.{all_targets}
-use Rattle.leak_pool.specs.declared.edges.Rows.{Rows}
+use Rattle.leak_pool.specs.declared.rows.Rows.{Rows}
 use Rattle.leak_pool.proofs.EdgeLemmas.{IsRowAt, as_many, row_from, whole, whole_at}
 
 -- ---- one row

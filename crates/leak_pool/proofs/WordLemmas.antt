@@ -4,15 +4,17 @@ use Rattle.std.specs.List.{concat, cons_option, range_with_len, flat_map, filter
 use Rattle.std.proofs.lemmas.List.Elements.{filter_map-append}
 use Rattle.std.proofs.lemmas.List.{take_all}
 use Rattle.std.proofs.lemmas.Grind.{flat_map-append}
+use Rattle.leak_lemmas.proofs.Ranges.{range-append}
 use Rattle.leak_elf.specs.Words.{words_between}
 use Rattle.leak_roots.specs.Places.{Places, addresses_in, memory_places, IsRange}
 use Rattle.leak_roots.specs.Pieces.{Place, InRegisters, InMemory, places_of, IsPiece, AreCut}
 use Rattle.leak_roots.specs.declared.piece.Piece.{Piece}
 use Rattle.leak_roots.specs.declared.piece.Piece.TheVariants.{Registers, Memory}
-use Rattle.leak_index.specs.Hits.{Index, hits_of}
+use Rattle.leak_index.specs.Hits.{Index}
 use Rattle.leak_scan.specs.Targets.{targets_of}
 use Rattle.leak_scan.specs.RootWords.{targets_without_links, range_without_links}
-use Rattle.leak_scan.proofs.RootRanges.{range_eighths, without_append}
+use Rattle.leak_scan.proofs.RootRanges.{range_eighths, without_append, shifted}
+use Rattle.leak_scan.proofs.Ahead.{targets_append, targets_none}
 use Rattle.leak_pool.specs.Marking.{led_in_memory, led_by_roots}
 use Rattle.leak_pool.specs.Scopes.{piece_targets}
 
@@ -32,28 +34,14 @@ concat-map f (x ∷ xs) = ap (λ (l : List ℕ). f x ++ l) (concat-map f xs)
 
 -- ---- what words lead to
 
-pub targets-append : (index : Index) (xs ys : List ℕ) → targets_of index (xs ++ ys) ≡ targets_of index xs ++ targets_of index ys
-unfolding targets_of
-targets-append index xs ys = flat_map-append (hits_of index) xs ys
-
-pub targets-nil : (index : Index) → targets_of index [] ≡ []
-unfolding targets_of
-targets-nil index = refl
-
 pub targets-flat_map : {A : Type 0} (index : Index) (f : A → List ℕ) (xs : List A) → targets_of index (flat_map f xs) ≡ concat (map (λ x. targets_of index (f x)) xs)
-targets-flat_map index f [] = targets-nil index
-targets-flat_map index f (x ∷ xs) = targets-append index (f x) (flat_map f xs) ∙ ap (λ l. targets_of index (f x) ++ l) (targets-flat_map index f xs)
+targets-flat_map index f [] = targets_none index
+targets-flat_map index f (x ∷ xs) = targets_append index (f x) (flat_map f xs) ∙ ap (λ l. targets_of index (f x) ++ l) (targets-flat_map index f xs)
 
 -- ---- a range of multiples of 8
 
 abbrev pub Aligned : (ℕ → Option ℕ) → Type 0
 Aligned word_at = (addr : ℕ) → IsSome (word_at addr) → addr % 8 ≡ 0
-
-range-append : (a m n : ℕ) → range_with_len a (m + n) ≡ range_with_len a m ++ range_with_len (a + m) n
-range-append a zero n = ap (λ k. range_with_len a k) (let r : 0 + n ≡ n = omega arith in r) ∙ ap (λ k. range_with_len k n) (let r : a ≡ a + 0 = omega arith in r)
-range-append a (suc m) n =
-    ap (λ k. range_with_len a k) (let r : suc m + n ≡ suc (m + n) = omega arith in r)
-    ∙ ap (λ l. a ∷ l) (range-append (a + 1) m n ∙ ap (λ k. range_with_len (a + 1) m ++ range_with_len k n) (let r : (a + 1) + m ≡ a + suc m = omega arith in r))
 
 no_word : (word_at : ℕ → Option ℕ) → Aligned word_at → (x : ℕ) → 0 < x % 8 → word_at x ≡ None
 no_word word_at aligned x h = go (word_at x) refl
@@ -65,11 +53,6 @@ no_word word_at aligned x h = go (word_at x) refl
 no_words : (word_at : ℕ → Option ℕ) → (a n : ℕ) → ((x : ℕ) → a ≤ x → x < a + n → word_at x ≡ None) → filter_map word_at (range_with_len a n) ≡ []
 no_words word_at a zero none = refl
 no_words word_at a (suc n) none = ap (λ (o : Option ℕ). cons_option o (filter_map word_at (range_with_len (a + 1) n))) (none a (omega arith) (omega arith)) ∙ no_words word_at (a + 1) n (λ x low high. none x (omega arith) (omega arith))
-
--- the words of 8 * k + 1 addresses, of which the first is a multiple of 8, are those of k + 1 multiples of 8
-shifted : (a b n : ℕ) → map (λ i. a + 8 * i) (range_with_len (b + 1) n) ≡ map (λ i. a + 8 + 8 * i) (range_with_len b n)
-shifted a b zero = refl
-shifted a b (suc n) = ap (λ (k : ℕ). k ∷ map (λ i. a + 8 * i) (range_with_len (b + 1 + 1) n)) (let r : a + 8 * (b + 1) ≡ a + 8 + 8 * b = omega arith in r) ∙ ap (λ (l : List ℕ). (a + 8 + 8 * b) ∷ l) (shifted a (b + 1) n)
 
 eighths : (word_at : ℕ → Option ℕ) → Aligned word_at → (k a : ℕ) → a % 8 ≡ 0 → filter_map word_at (range_with_len a (8 * k + 1)) ≡ filter_map word_at (map (λ i. a + 8 * i) (range_with_len 0 (k + 1)))
 eighths word_at aligned zero a m = ap (λ (x : ℕ). filter_map word_at (x ∷ [])) (let r : a ≡ a + 8 * 0 = omega arith in r)
@@ -99,12 +82,12 @@ words_of_range word_at aligned from to r =
 
 pub memory-nil : (skips_links : Bool) (word_at : ℕ → Option ℕ) (index : Index) → led_in_memory skips_links word_at index [] ≡ []
 unfolding targets_without_links
-memory-nil false word_at index = targets-nil index
+memory-nil false word_at index = targets_none index
 memory-nil true word_at index = refl
 
 pub memory-append : (skips_links : Bool) (word_at : ℕ → Option ℕ) (index : Index) (xs ys : List ℕ)
     → led_in_memory skips_links word_at index (xs ++ ys) ≡ led_in_memory skips_links word_at index xs ++ led_in_memory skips_links word_at index ys
-memory-append false word_at index xs ys = ap (λ (l : List ℕ). targets_of index l) (filter_map-append word_at xs ys) ∙ targets-append index (filter_map word_at xs) (filter_map word_at ys)
+memory-append false word_at index xs ys = ap (λ (l : List ℕ). targets_of index l) (filter_map-append word_at xs ys) ∙ targets_append index (filter_map word_at xs) (filter_map word_at ys)
 memory-append true word_at index xs ys = without_append word_at index xs ys
 
 -- what a range leads to if links are left out, and if they are not
@@ -130,14 +113,14 @@ led_at word_at index p (InMemory a) = led_in_memory p.skips_links word_at index 
 led_by_registers : (word_at : ℕ → Option ℕ) (index : Index) (p : Places) (n from : ℕ) → from + n ≤ length p.registers
     → flat_map (led_at word_at index p) (map InRegisters (range_with_len from n)) ≡ targets_of index (take n (drop from p.registers))
 unfolding led_at
-led_by_registers word_at index p zero from h = sym (targets-nil index)
+led_by_registers word_at index p zero from h = sym (targets_none index)
 led_by_registers word_at index p (suc n) from h =
     let x : ℕ = get_or p.registers from 0 in
     let here : drop from p.registers ≡ x ∷ drop (suc from) p.registers = drop-cons p.registers from 0 (omega arith) in
     ap (λ (l : List ℕ). targets_of index (take 1 l) ++ flat_map (led_at word_at index p) (map InRegisters (range_with_len (from + 1) n))) here
     ∙ ap (λ (l : List ℕ). targets_of index (x ∷ []) ++ l)
     (led_by_registers word_at index p n (from + 1) (omega arith) ∙ ap (λ k. targets_of index (take n (drop k p.registers))) (add-one from))
-    ∙ sym (targets-append index (x ∷ []) (take n (drop (suc from) p.registers)))
+    ∙ sym (targets_append index (x ∷ []) (take n (drop (suc from) p.registers)))
     ∙ ap (λ (l : List ℕ). targets_of index (take (suc n) l)) (sym here)
 
 led_by_memory : (word_at : ℕ → Option ℕ) (index : Index) (p : Places) (xs : List ℕ) → flat_map (led_at word_at index p) (map InMemory xs) ≡ led_in_memory p.skips_links word_at index xs

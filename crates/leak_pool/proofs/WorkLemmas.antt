@@ -15,7 +15,7 @@ use Rattle.leak_pool.specs.declared.hand.Hand.{Hand}
 use Rattle.leak_pool.specs.declared.target_source.Item.{Item}
 use Rattle.leak_pool.specs.declared.target_source.Item.TheVariants.{Root, Block}
 use Rattle.leak_pool.specs.Promises.{IsPutAway, IsWorking, IsByStack, IsDirect, IsHalf}
-use Rattle.leak_pool.specs.Scene.{Work, blocks_of, items_of}
+use Rattle.leak_pool.specs.SearchModel.{Work, blocks_of, items_of}
 use Rattle.leak_pool.specs.Tops.{IsTopScanned}
 use Rattle.leak_pool.proofs.ScanLemmas.{none_has}
 use Rattle.leak_pool.proofs.PartLemmas.{of_parts, has_part}
@@ -117,7 +117,7 @@ working_few blocks item count before after list stack left w of_item of_block =
 
 -- ---- by the promise of one scan
 
-module _ (w : Work) (count : ℕ) (inside : (i : Item) (b : ℕ) → Has (targets_of_item w.scene.roots w.scene.targets i) b → b < count) (first next : ℕ) (before after : Held) (list stack left : List ℕ)
+module _ (w : Work) (count : ℕ) (inside : (i : Item) (b : ℕ) → Has (targets_of_item w.model.roots w.model.targets i) b → b < count) (first next : ℕ) (before after : Held) (list stack left : List ℕ)
     (working : IsWorking (blocks_of w) (InRange (items_of w) first next) before after list stack left) where
   pub worker_inside : (b : ℕ) → Has list b → b < count
   worker_inside = working_inside (blocks_of w) (InRange (items_of w) first next) count before after list stack left working (λ b r. inside (get_or w.items r.0 (Root 0)) b r.3) (λ s b h. inside (Block s) b h)
@@ -127,7 +127,7 @@ module _ (w : Work) (count : ℕ) (inside : (i : Item) (b : ℕ) → Has (target
 
 pub put_top : (w : Work) (limit first next : ℕ) (before mid after : Held) (hand later : Hand)
     → IsWorking (blocks_of w) (InRange (items_of w) first next) before mid hand.list.items hand.stack.items hand.left.items → after.table ≡ mid.table → after.share ≡ mid.share → IsSound after
-    → IsTopScanned w.scene.targets limit mid after hand later → IsWorking (blocks_of w) (InRange (items_of w) first next) before after later.list.items later.stack.items later.left.items
+    → IsTopScanned w.model.targets limit mid after hand later → IsWorking (blocks_of w) (InRange (items_of w) first next) before after later.list.items later.stack.items later.left.items
 put_top w limit first next before mid after hand later working table share sound p =
     working_top (blocks_of w) (InRange (items_of w) first next) p.top before mid after (limit - length p.rest) hand.list.items p.rest hand.stack.items hand.left.items p.more
     later.list.items later.stack.items later.left.items p.stack_was working table share sound p.claims_are p.kept p.list_is p.stack_is p.left_is

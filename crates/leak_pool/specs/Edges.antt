@@ -4,7 +4,7 @@ use Rattle.std.specs.Fork.{slice_chunk}
 use Rattle.std.specs.Int.{div_ceil}
 use Rattle.std.specs.List.{sum_by}
 use Rattle.leak_pool.specs.Items.{targets_of_block}
-use Rattle.leak_pool.specs.declared.edges.Rows.{Rows}
+use Rattle.leak_pool.specs.declared.rows.Rows.{Rows}
 
 -- the k-th list is among all targets, from where it starts up to where the next one does
 pub record IsListAt (starts targets : List ℕ) (k : ℕ) (list : List ℕ) : Type 0 where

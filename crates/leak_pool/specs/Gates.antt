@@ -2,7 +2,7 @@
 -- over the whole call, modulo 2^64.
 use Rattle.std.specs.Prelude.{◌≡◌, ℕ, ◌+◌, ◌-◌, ◌%◌, ◌^◌, ◌<◌, ◌≤◌, List, [], ◌∷◌, length, slice_index_or}
 use Rattle.leak_pool.specs.Items.{share}
-use Rattle.leak_pool.specs.Scene.{Work}
+use Rattle.leak_pool.specs.SearchModel.{Work}
 
 -- how many of n items the worker k of m has
 abbrev pub share_size : ℕ → ℕ → ℕ → ℕ
@@ -20,11 +20,11 @@ ArePassed passed n workers low high =
 -- in a round the worker was let through to each item of its share
 abbrev pub HasPassedShare : (ℕ → ℕ → Type 0) → Work → ℕ → Type 0
 HasPassedShare passed work worker =
-    ArePassed (IsNextPassed passed work.steps) (length work.items) work.scene.workers worker (worker + 1)
+    ArePassed (IsNextPassed passed work.steps) (length work.items) work.model.workers worker (worker + 1)
 
 -- the worker's step after the round: from this one on, one for each item of its share
 abbrev pub step_after : Work → ℕ → ℕ → ℕ
-step_after work worker step = (step + share_size worker (length work.items) work.scene.workers) % 2 ^ 64
+step_after work worker step = (step + share_size worker (length work.items) work.model.workers) % 2 ^ 64
 
 -- how many items the worker k of m has in rounds of so many items each
 abbrev pub sizes_of : ℕ → ℕ → List ℕ → ℕ

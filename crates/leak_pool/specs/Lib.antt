@@ -1,6 +1,6 @@
 -- The definitions of this crate, by subject.
 pub mod Plan
-pub mod Scene
+pub mod SearchModel
 pub mod Alone
 pub mod Items
 pub mod Gates

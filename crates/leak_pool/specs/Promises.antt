@@ -6,7 +6,7 @@ use Rattle.std.specs.List.{concat}
 use Rattle.leak_marks.specs.Rounds.{AreLed, IsKept, IsKeptInRounds}
 use Rattle.leak_pool.specs.Items.{InRange, share}
 use Rattle.leak_pool.specs.Gates.{ArePassed}
-use Rattle.leak_pool.specs.Scene.{Work, InShares, blocks_of, items_of}
+use Rattle.leak_pool.specs.SearchModel.{Work, InShares, blocks_of, items_of}
 use Rattle.leak_pool.specs.declared.hand.Hand.{Hand}
 use Rattle.leak_pool.specs.declared.task.Gains.{Gains}
 use Rattle.leak_marks.specs.Lists.{Has, Within}
@@ -100,7 +100,7 @@ pub record IsByStack (stack : ℕ) (item : ℕ → Type 0) (list left : List ℕ
 -- what such a worker left at the end of its share
 abbrev pub HasLeft : Work → ℕ → Hand → Type 0
 HasLeft work worker hand =
-    IsByStack work.scene.stack (InShares work worker (worker + 1)) hand.list.items hand.left.items
+    IsByStack work.model.stack (InShares work worker (worker + 1)) hand.list.items hand.left.items
 
 -- The workers from low up to high have scanned their shares of a round's items: one list for each of them, and together
 -- the claims that the seat gained. Of these, the left ones are not scanned.
@@ -127,10 +127,10 @@ as_lists vecs = map (λ v. v.items) vecs
 
 -- The workers from low up to high can share the seat.
 pub record CanScan (work : Work) (low high : ℕ) (seat : Held) : Type 0 where
-  pub table : seat.table ≡ work.scene.table
+  pub table : seat.table ≡ work.model.table
   pub sound : IsSound seat
   pub some : low < high
-  pub workers : high ≤ work.scene.workers
+  pub workers : high ≤ work.model.workers
   pub share : 3 * (high - low) ≤ seat.share + 4
 
 -- They have scanned, unless memory ran out: the seat is of the same table and has its share, there are the lists, and
@@ -141,6 +141,6 @@ pub record HaveScanned (work : Work) (passed : ℕ → ℕ → Type 0) (low high
   pub share : after.share ≡ before.share
   pub sound : IsSound after
   pub done : IfOk gained (λ g.
-      IsHalf (blocks_of work) (items_of work) work.scene.stack (length work.items) work.scene.workers low high
+      IsHalf (blocks_of work) (items_of work) work.model.stack (length work.items) work.model.workers low high
       before after (as_lists g.claims.items) g.left.items)
-  pub gate : IfOk gained (λ _. ArePassed passed (length work.items) work.scene.workers low high)
+  pub gate : IfOk gained (λ _. ArePassed passed (length work.items) work.model.workers low high)

@@ -57,10 +57,10 @@ pub(crate) fn until_none<R: Threads + Sync, S: TargetSource + Sync, G: Gate + Sy
     ensures course { IfOk result (λ r. HasCourse search.now r.0 r.1) }
     ensures ended { IfOk result (λ r. r.0.waiting.items ≡ []) }
     ensures rounds { IfOk result (λ r. r.1 ≤ length search.now.targets + 1) }
-    ensures gate { let scene = search.now in let first = length scene.roots in
+    ensures gate { let model = search.now in let first = length model.roots in
         IfOk result (λ r.
-        HavePassed (G.passed gate.now) scene.workers (first ∷ []) state.steps.items
-        → HaveGone (G.passed gate.now) first scene.roots scene.targets scene.workers scene.stack
+        HavePassed (G.passed gate.now) model.workers (first ∷ []) state.steps.items
+        → HaveGone (G.passed gate.now) first model.roots model.targets model.workers model.stack
         r.1 (claims_of r.0) r.0.waiting.items) }
 {
     let mut rounds = 1u64;

@@ -42,6 +42,7 @@ mod marking_state;
 mod plan;
 mod room;
 mod rounds;
+mod rows;
 mod scope;
 mod search;
 mod start;

@@ -8,8 +8,9 @@ ghost use Rattle.leak_pool.specs.Marking.{led_by_roots};
 ghost use Rattle.leak_pool.specs.Scopes.{all_targets};
 
 use crate::alone::take_roots;
-use crate::edges::{Rows, list_rows, listed_targets, row_size};
+use crate::edges::{listed_targets, row_size};
 use crate::error::PoolError;
+use crate::rows::{Rows, list_rows};
 use leak_blocks::Live;
 use leak_elf::Words;
 use leak_index::Lookup;

@@ -1,6 +1,6 @@
 //! What the rounds of a search share, and what the workers of a round share.
 ghost use Rattle.leak_pool.specs.Items.{items_in};
-ghost use Rattle.leak_pool.specs.Scene.{Scene, IsSearch, Work, IsRound};
+ghost use Rattle.leak_pool.specs.SearchModel.{SearchModel, IsSearch, Work, IsRound};
 
 use crate::gate::Gate;
 use crate::items::Items;
@@ -21,7 +21,7 @@ pub(crate) struct Search<'a, S: TargetSource> {
 }
 
 impl<'a, S: TargetSource> Model for Search<'a, S> {
-    ghost Value = { Scene };
+    ghost Value = { SearchModel };
 
     ghost view = { λ s. record {
       table = s.marks.now.table;
@@ -48,7 +48,7 @@ impl<'a, 'b, S: TargetSource> Model for Round<'a, 'b, S> {
     ghost Value = { Work };
 
     ghost view = { λ r. record {
-      scene = r.search.now;
+      model = r.search.now;
       items = items_in r.items;
       steps = r.steps.now;
     } };

@@ -5,7 +5,7 @@ ghost use Rattle.leak_marks.specs.Seats.{IsSound};
 ghost use Rattle.leak_pool.specs.Gates.{HasPassedShare, step_after};
 ghost use Rattle.leak_pool.specs.Items.{IsItem, share, targets_of_item};
 ghost use Rattle.leak_pool.specs.Promises.{HasLeft, HasWorked, IsEmptyHand, IsHolding, IsPutAway};
-ghost use Rattle.leak_pool.specs.Scene.{IsSeatOf};
+ghost use Rattle.leak_pool.specs.SearchModel.{IsSeatOf};
 ghost use Rattle.leak_pool.specs.Tops.{IsTopScanned};
 
 use crate::door::Door;
@@ -42,14 +42,14 @@ fn scan_one<S: TargetSource>(
     hand: &mut Hand,
     item: Item,
 ) -> Result<(), AllocError>
-    requires seat { IsSeatOf round.now.scene seat.old }
-    requires hand { IsHolding round.now.scene.stack seat.old hand.old }
-    requires item { IsItem round.now.scene.roots round.now.scene.targets item }
+    requires seat { IsSeatOf round.now.model seat.old }
+    requires hand { IsHolding round.now.model.stack seat.old hand.old }
+    requires item { IsItem round.now.model.roots round.now.model.targets item }
     ensures same { (seat.new.table ≡ seat.old.table) × (seat.new.share ≡ seat.old.share) }
     ensures sound { IsSound seat.new }
-    ensures done { let scene = round.now.scene in
-        let targets = targets_of_item scene.roots scene.targets item in
-        IfOk result (λ _. IsPutAway targets scene.stack seat.old seat.new hand.old hand.new) }
+    ensures done { let model = round.now.model in
+        let targets = targets_of_item model.roots model.targets item in
+        IfOk result (λ _. IsPutAway targets model.stack seat.old seat.new hand.old hand.new) }
     ensures room { IfOk result (λ _. vec_capacity hand.new.stack ≡ vec_capacity hand.old.stack) }
 {
     let search = round.search;
@@ -68,14 +68,14 @@ fn scan_top<S: TargetSource>(
     seat: &mut MarkSeat,
     hand: &mut Hand,
 ) -> Result<(), AllocError>
-    requires seat { IsSeatOf round.now.scene seat.old }
-    requires hand { IsHolding round.now.scene.stack seat.old hand.old }
+    requires seat { IsSeatOf round.now.model seat.old }
+    requires hand { IsHolding round.now.model.stack seat.old hand.old }
     requires some { 0 < length hand.old.stack.items }
-    requires inside { (b : ℕ) → Has hand.old.stack.items b → b < length round.now.scene.targets }
+    requires inside { (b : ℕ) → Has hand.old.stack.items b → b < length round.now.model.targets }
     ensures same { (seat.new.table ≡ seat.old.table) × (seat.new.share ≡ seat.old.share) }
     ensures sound { IsSound seat.new }
-    ensures done { let scene = round.now.scene in
-        IfOk result (λ _. IsTopScanned scene.targets scene.stack seat.old seat.new hand.old hand.new) }
+    ensures done { let model = round.now.model in
+        IfOk result (λ _. IsTopScanned model.targets model.stack seat.old seat.new hand.old hand.new) }
     ensures room { IfOk result (λ _. vec_capacity hand.new.stack ≡ vec_capacity hand.old.stack) }
 {
     let search = round.search;
@@ -94,7 +94,7 @@ fn scan_top<S: TargetSource>(
 
 // How many steps the worker has made before the round.
 fn steps_before<S: TargetSource>(round: &Round<'_, '_, S>, worker: u32) -> u64
-    requires { worker < round.now.scene.workers }
+    requires { worker < round.now.model.workers }
     ensures { result ≡ slice_index_or round.now.steps worker 0 }
 {
     round.steps[worker as usize]
@@ -109,10 +109,10 @@ fn work<S: TargetSource, G: Gate>(
     hand: &mut Hand,
     worker: u32,
 ) -> Result<(), AllocError>
-    requires seat { IsSeatOf round.now.scene seat.old }
-    requires worker { worker < round.now.scene.workers }
+    requires seat { IsSeatOf round.now.model seat.old }
+    requires worker { worker < round.now.model.workers }
     requires none { IsEmptyHand hand.old }
-    requires room { round.now.scene.stack ≤ vec_capacity hand.old.stack }
+    requires room { round.now.model.stack ≤ vec_capacity hand.old.stack }
     requires door { (door.old.worker ≡ worker)
         × (door.old.step ≡ slice_index_or round.now.steps worker 0) }
     ensures same { (seat.new.table ≡ seat.old.table) × (seat.new.share ≡ seat.old.share) }

@@ -13,7 +13,7 @@ use Rattle.leak_request.specs.declared.fault.AddressArgument.TheVariants as argu
 use Rattle.leak_request.specs.declared.fault.UsageFault.{UsageFault}
 use Rattle.leak_request.specs.declared.fault.UsageFault.TheVariants as usage
 use Rattle.leak_program.specs.declared.failure.Failure.{Failure}
-use Rattle.leak_program.specs.declared.failure.Failure.TheVariants.{Word, Usage, Open, Read, Run, NoMemory}
+use Rattle.leak_program.specs.declared.failure.Failure.TheVariants.{BadArgument, Usage, Open, Read, Run, NoMemory}
 use Rattle.leak_program.specs.Messages.{IsClapText, IsOfClap, IsOneLine, failure_text, line_of, message_of, reader_text, run_text, usage_message}
 
 reader_shown : (number : ℕ) (f : ReadFault) → AreShown (reader_text number f)
@@ -44,7 +44,7 @@ usage_line (usage.Address argument.Of) own = line (usage_text (usage.Address arg
 usage_line usage.NoMemory own = line (usage_text usage.NoMemory) refl
 
 pub lines : (failure : Failure) → (IsOfClap failure → ⊥) → IsOneLine (message_of failure)
-lines Word own = line (failure_text Word) refl
+lines BadArgument own = line (failure_text BadArgument) refl
 lines (Usage f) own = usage_line f own
 lines (Open path reason) own =
     line (failure_text (Open path reason))

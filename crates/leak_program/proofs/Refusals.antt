@@ -13,7 +13,7 @@ use Rattle.leak_streams.specs.declared.fault.ReadFault.{ReadFault}
 use Rattle.leak_request.specs.declared.options.Request.{Request}
 use Rattle.leak_request.specs.Requests.{IsRequestOf}
 use Rattle.leak_program.specs.declared.failure.Failure.{Failure}
-use Rattle.leak_program.specs.declared.failure.Failure.TheVariants.{Word, Usage, Open, Read, Run, NoMemory}
+use Rattle.leak_program.specs.declared.failure.Failure.TheVariants.{BadArgument, Usage, Open, Read, Run, NoMemory}
 use Rattle.leak_program.specs.Answer.{Answers, AnswersBy, FailsBy, IsFailureOf, IsNotShown}
 use Rattle.leak_program.specs.Asked.{AsksFiles, AsksText, paths_in, task_in, text_in}
 use Rattle.leak_program.specs.Failures.{IsNamedBy, IsOfReader, LacksPath, at_opening}
@@ -44,7 +44,7 @@ refuses : {O F W : Type 0} (opens : Opens O F) (source : Source F) (sink : Sink 
     (held holds : W) (failure : Failure) → IsRequestOf words r
     → IsRefusalOf opens (paths_in r) first last held holds (FailsBy source sink (task_in r) (text_in r) held holds) failure
     → IsFailureOf opens source sink words first last held holds failure
-refuses opens source sink words r first last held holds Word asked fails = absurd fails
+refuses opens source sink words r first last held holds BadArgument asked fails = absurd fails
 refuses opens source sink words r first last held holds (Usage fault) asked fails = absurd fails
 refuses opens source sink words r first last held holds (Open path reason) asked fails = record { request = r; asked = asked; fails = fails }
 refuses opens source sink words r first last held holds (Read n path f) asked fails = record { request = r; asked = asked; fails = fails }
@@ -74,7 +74,7 @@ shown opens source sink warner words r text first held holds heard status asked 
 
 cut : {O F W : Type 0} (opens : Opens O F) (source : Source F) (sink : Sink W) (text : List ℕ) (first : O) (held holds : W) (failure : Failure)
     → IsNotShown sink text held holds failure → IsRefusalOf opens [] first first held holds (FailsBy source sink None text held holds) failure
-cut opens source sink text first held holds Word fails = absurd fails
+cut opens source sink text first held holds BadArgument fails = absurd fails
 cut opens source sink text first held holds (Usage fault) fails = absurd fails
 cut opens source sink text first held holds (Open path reason) fails = absurd fails
 cut opens source sink text first held holds (Read n path f) fails = absurd fails
@@ -113,7 +113,7 @@ module _ {O F W : Type 0} (opens : Opens O F) (paths : List (List ℕ)) (first l
   pub told : (fault : RunFault) (failure : Failure) → IsNamedBy paths fault failure → OfOpened opens paths first last (fails fault)
       → ((n : ℕ) (f : ReadFault) (files : List F) → fails (run.Read n f) files → holds ≡ held)
       → IsRefusalOf opens paths first last held holds fails failure
-  told fault Word named of keeps = absurd named
+  told fault BadArgument named of keeps = absurd named
   told fault (Usage f) named of keeps = absurd named
   told fault (Open path reason) named of keeps = absurd named
   told fault (Read n path f) named of keeps = (subst (λ e. OfOpened opens paths first last (fails e)) named.0 of, named.1)

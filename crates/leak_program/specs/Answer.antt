@@ -8,7 +8,7 @@ use Rattle.leak_program.specs.Opening.{Opens}
 use Rattle.leak_request.specs.declared.options.Request.{Request}
 use Rattle.leak_request.specs.Requests.{IsRequestOf, IsUsageFaultOf}
 use Rattle.leak_program.specs.declared.failure.Failure.{Failure}
-use Rattle.leak_program.specs.declared.failure.Failure.TheVariants.{Word, Usage, Open, Read, Run, NoMemory}
+use Rattle.leak_program.specs.declared.failure.Failure.TheVariants.{BadArgument, Usage, Open, Read, Run, NoMemory}
 use Rattle.leak_program.specs.Asked.{paths_in, task_in, text_in}
 use Rattle.leak_program.specs.Files.{AnswersFiles, FailsFiles, IsRefusalOf, OfOpened}
 
@@ -27,7 +27,7 @@ IsCut sink text held holds (run.Write f) = sink.cut_off text held holds f
 
 -- the same as a failure
 abbrev pub IsNotShown : {W : Type 0} → Sink W → List ℕ → W → W → Failure → Type 0
-IsNotShown sink text held holds Word = ⊥
+IsNotShown sink text held holds BadArgument = ⊥
 IsNotShown sink text held holds (Usage fault) = ⊥
 IsNotShown sink text held holds (Open path reason) = ⊥
 IsNotShown sink text held holds (Read n path f) = ⊥
@@ -61,7 +61,7 @@ pub record FailsRequest {O F W : Type 0} (opens : Opens O F) (source : Source F)
 
 -- why there is no answer: the words are no request, nothing is opened, and no call is made of the writer; or what they ask for has none
 abbrev pub IsFailureOf : {O F W : Type 0} → Opens O F → Source F → Sink W → List (List ℕ) → O → O → W → W → Failure → Type 0
-IsFailureOf opens source sink words first last held holds Word = ⊥
+IsFailureOf opens source sink words first last held holds BadArgument = ⊥
 IsFailureOf opens source sink words first last held holds (Usage fault) = (last ≡ first) × (holds ≡ held) × IsUsageFaultOf words fault
 IsFailureOf opens source sink words first last held holds (Open path reason) =
     FailsRequest opens source sink words first last held holds (Open path reason)

@@ -5,7 +5,7 @@ use Rattle.leak_find.specs.declared.fault.RunFault.TheVariants as run
 use Rattle.leak_program.specs.declared.open_fault.OpenFault.{OpenFault}
 use Rattle.leak_program.specs.declared.open_fault.OpenFault.TheVariants as opening
 use Rattle.leak_program.specs.declared.failure.Failure.{Failure}
-use Rattle.leak_program.specs.declared.failure.Failure.TheVariants.{Word, Usage, Open, Read, Run, NoMemory}
+use Rattle.leak_program.specs.declared.failure.Failure.TheVariants.{BadArgument, Usage, Open, Read, Run, NoMemory}
 
 -- the failure of files that are not opened
 abbrev pub at_opening : OpenFault → Failure
@@ -32,7 +32,7 @@ IsOfReader (run.Write f) = ⊥
 
 -- the failure of a run whose readers are the files of the paths: a fault of a reader is told with its path, unless no memory is left
 abbrev pub IsNamedBy : List (List ℕ) → RunFault → Failure → Type 0
-IsNamedBy paths fault Word = ⊥
+IsNamedBy paths fault BadArgument = ⊥
 IsNamedBy paths fault (Usage f) = ⊥
 IsNamedBy paths fault (Open path reason) = ⊥
 IsNamedBy paths fault (Read n path f) = (fault ≡ run.Read n f) × (path_at paths n ≡ Some (string_bytes path))

@@ -9,7 +9,7 @@ use Rattle.leak_find.specs.Streams.{Sink, Source}
 use Rattle.leak_program.specs.Opening.{AreOpened, IsCutShort, IsRefusedAt, Opens}
 use Rattle.leak_program.specs.Failures.{LacksPath, path_at}
 use Rattle.leak_program.specs.declared.failure.Failure.{Failure}
-use Rattle.leak_program.specs.declared.failure.Failure.TheVariants.{Word, Usage, Open, Read, Run, NoMemory}
+use Rattle.leak_program.specs.declared.failure.Failure.TheVariants.{BadArgument, Usage, Open, Read, Run, NoMemory}
 
 -- each of the paths was opened once, in order, and this is true of their files
 pub record OfOpened {O F : Type 0} (opens : Opens O F) (paths : List (List ℕ)) (first last : O) (Holds : List F → Type 0) : Type 0 where
@@ -31,7 +31,7 @@ FailsFiles {F} source sink task held holds fault files = (after : List F) × IsR
 -- no status, as is said. A reader that was not read to its end is told with the path of its file. If memory is refused, no path was opened
 -- twice, and none out of order.
 abbrev pub IsRefusalOf : {O F W : Type 0} → Opens O F → List (List ℕ) → O → O → W → W → (RunFault → List F → Type 0) → Failure → Type 0
-IsRefusalOf opens paths first last held holds fails Word = ⊥
+IsRefusalOf opens paths first last held holds fails BadArgument = ⊥
 IsRefusalOf opens paths first last held holds fails (Usage fault) = ⊥
 IsRefusalOf opens paths first last held holds fails (Open path reason) =
     (holds ≡ held) × IsRefusedAt opens paths first last (string_bytes path) reason

@@ -11,7 +11,7 @@ use Rattle.leak_program.specs.declared.open_fault.Reason.{Reason}
 use Rattle.leak_request.specs.declared.fault.UsageFault.{UsageFault}
 use Rattle.leak_request.specs.declared.fault.UsageFault.TheVariants as usage
 use Rattle.leak_program.specs.declared.failure.Failure.{Failure}
-use Rattle.leak_program.specs.declared.failure.Failure.TheVariants.{Word, Usage, Open, Read, Run, NoMemory}
+use Rattle.leak_program.specs.declared.failure.Failure.TheVariants.{BadArgument, Usage, Open, Read, Run, NoMemory}
 
 -- a reader with its number, and what stopped it
 abbrev pub reader_text : ℕ → ReadFault → List ℕ
@@ -32,7 +32,7 @@ abbrev pub unread_text : ℕ → List ℕ → ReadFault → List ℕ
 unread_text number path f = (reader_text number f ++ codes ": ") ++ escaped path
 
 abbrev pub failure_text : Failure → List ℕ
-failure_text Word = codes "a word is not UTF-8"
+failure_text BadArgument = codes "a word is not UTF-8"
 failure_text (Usage f) = usage_text f
 failure_text (Open path reason) = unopened_text (string_bytes path) reason
 failure_text (Read number path f) = unread_text number (string_bytes path) f
@@ -53,7 +53,7 @@ usage_message (usage.Address a) = line_of (usage_text (usage.Address a))
 usage_message usage.NoMemory = line_of (usage_text usage.NoMemory)
 
 abbrev pub message_of : Failure → List ℕ
-message_of Word = line_of (failure_text Word)
+message_of BadArgument = line_of (failure_text BadArgument)
 message_of (Usage f) = usage_message f
 message_of (Open path reason) = line_of (failure_text (Open path reason))
 message_of (Read number path f) = line_of (failure_text (Read number path f))
@@ -71,7 +71,7 @@ IsClapText (usage.Address a) = ⊥
 IsClapText usage.NoMemory = ⊥
 
 abbrev pub IsOfClap : Failure → Type 0
-IsOfClap Word = ⊥
+IsOfClap BadArgument = ⊥
 IsOfClap (Usage f) = IsClapText f
 IsOfClap (Open path reason) = ⊥
 IsOfClap (Read number path f) = ⊥

@@ -2,13 +2,14 @@
 use Rattle.std.specs.Prelude.{◌≡◌, ℕ, List, [], ◌∷◌, Option, None, Some, codes, false, true}
 use Rattle.leak_elf.specs.Sample.{sample_with}
 use Rattle.leak_index.specs.Readings.{distances_of}
+use Rattle.leak_roots.specs.Skipped.{usual_skip}
 use Rattle.leak_request.specs.declared.options.Options.{Options}
 use Rattle.leak_find.specs.declared.fault.RunFault.{RunFault}
 use Rattle.leak_find.specs.declared.task.Task.TheVariants.{Search}
 use Rattle.leak_find.specs.Run.{IsRunFault, Runs}
 use Rattle.leak_find.specs.Streams.{Sink, by_bytes_left}
 use Rattle.leak_program.specs.declared.failure.Failure.{Failure}
-use Rattle.leak_program.specs.declared.failure.Failure.TheVariants.{Word, Usage, Open, Read, Run, NoMemory}
+use Rattle.leak_program.specs.declared.failure.Failure.TheVariants.{BadArgument, Usage, Open, Read, Run, NoMemory}
 
 -- the log of one allocation of 32 bytes
 abbrev pub sample_log : List ℕ
@@ -22,7 +23,7 @@ sample_inputs = Some (sample_with ((0x10008, 0x10100) ∷ [])) ∷ Some sample_l
 pub record AreOfSample (options : Options) : Type 0 where
   pub one : options.two ≡ false
   pub interior : distances_of options.reading ≡ record { listed = None; skips_ends = false }
-  pub usual : options.skip ≡ record { freed = false; slack = false; dead = false; links = false; unwritable = true }
+  pub usual : options.skip ≡ usual_skip
   pub no_heap : options.other_heap ≡ true
   pub unchecked : options.check ≡ false
   pub lenient : options.strict ≡ false
@@ -43,7 +44,7 @@ pub record FailsSample {W : Type 0} (sink : Sink W) (held holds : W) (fault : Ru
 
 -- why the sample has no report: its search has none, or no memory is left for its core, and no call is made of the writer
 abbrev pub IsSampleFailure : {W : Type 0} → Sink W → W → W → Failure → Type 0
-IsSampleFailure sink held holds Word = ⊥
+IsSampleFailure sink held holds BadArgument = ⊥
 IsSampleFailure sink held holds (Usage fault) = ⊥
 IsSampleFailure sink held holds (Open path reason) = ⊥
 IsSampleFailure sink held holds (Read n path f) = ⊥

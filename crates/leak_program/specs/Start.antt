@@ -8,7 +8,7 @@ use Rattle.leak_program.specs.Answer.{Answers, IsFailureOf}
 use Rattle.leak_program.specs.Messages.{message_of}
 use Rattle.leak_program.specs.Sample.{IsSampleFailure, SearchesSample}
 use Rattle.leak_program.specs.declared.failure.Failure.{Failure}
-use Rattle.leak_program.specs.declared.failure.Failure.TheVariants.{Word, Usage, Open, Read, Run, NoMemory}
+use Rattle.leak_program.specs.declared.failure.Failure.TheVariants.{BadArgument, Usage, Open, Read, Run, NoMemory}
 
 -- the status: that of the answer, and 2 if there is none
 abbrev pub status_of : Result ℕ Failure → ℕ
@@ -47,7 +47,7 @@ pub record IsAnswered {O F W V : Type 0} (opens : Opens O F) (source : Source F)
 
 -- why words can't be had: one is not UTF-8, or an allocation failed
 abbrev pub IsUnread : Failure → Type 0
-IsUnread Word = Unit {0}
+IsUnread BadArgument = Unit {0}
 IsUnread NoMemory = Unit {0}
 IsUnread (Usage fault) = ⊥
 IsUnread (Open path reason) = ⊥
@@ -57,7 +57,7 @@ IsUnread (Run fault) = ⊥
 -- the reason that the kind of the error tells: only want of memory is told as such
 abbrev pub unread_as : ErrorKind → Failure
 unread_as kind.OutOfMemory = NoMemory
-unread_as _ = Word
+unread_as _ = BadArgument
 
 -- the program's words can't be had, nothing but that is said, and no call is made of the writer
 pub record IsUnstarted {W V : Type 0} (warner : Sink V) (held holds : W) (heard hears : V) (status : ℕ) : Type 0 where

@@ -12,7 +12,7 @@ use std::alloc::{AllocError, AllocFailed};
 #[derive(Debug, Drop)]
 pub enum Failure {
     /// A word of the command line is not UTF-8.
-    Word,
+    BadArgument,
     /// The words are no request.
     Usage(UsageFault),
     /// The file with the path can't be opened, for the reason. No file was read.

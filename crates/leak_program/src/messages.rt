@@ -33,7 +33,7 @@ fn push_failure(alloc: Global, out: &mut Vec<u8>, failure: &Failure) -> Result<(
     ensures { OnOk result (out.new.items ≡ out.old.items ++ failure_text failure.now) }
 {
     match failure {
-        Failure::Word => push_text(out, "a word is not UTF-8"),
+        Failure::BadArgument => push_text(out, "a word is not UTF-8"),
         Failure::Usage(fault) => push_usage_text(alloc, out, fault),
         Failure::Open(path, reason) => push_unopened(alloc, out, path.as_str(), *reason),
         Failure::Read(number, path, fault) => {

@@ -89,7 +89,7 @@ fn unread(error: &io::Error) -> Failure
 {
     match error.kind() {
         io::ErrorKind::OutOfMemory => Failure::NoMemory,
-        _ => Failure::Word,
+        _ => Failure::BadArgument,
     }
 }
 

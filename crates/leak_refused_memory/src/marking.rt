@@ -86,19 +86,19 @@ fn are_all_marked(marked: &Marked, count: usize) -> bool {
 
 /// The core and the log of a sample, read.
 #[derive(Drop)]
-struct Scene<'a> {
+struct MarkingInput<'a> {
     image: Image<'a>,
     live: Live,
     roots: Roots,
 }
 
-fn scene_of<'a>(alloc: Global, core: &'a [u8], log: &str) -> Option<Scene<'a>> {
+fn marking_input<'a>(alloc: Global, core: &'a [u8], log: &str) -> Option<MarkingInput<'a>> {
     let image = Image::read(alloc, core).ok()?;
     let threads = Threads::read(alloc, &image).ok()?;
     let live = live_of(alloc, log)?;
     let small = SmallSpans::none(alloc);
     let roots = Roots::find(alloc, &image, &threads, &live, &small, true).ok()?;
-    Some(Scene { image, live, roots })
+    Some(MarkingInput { image, live, roots })
 }
 
 /// What marking answered, if `count` blocks are to be marked.
@@ -111,9 +111,9 @@ fn answer_of(marked: Result<Marked, PoolError>, count: usize) -> Answer {
 
 /// Marks the sample on the caller's thread.
 fn alone_on(alloc: Global, sample: &Sample, count: usize) -> Option<Answer> {
-    let scene = scene_of(alloc, sample.core.as_slice(), sample.log.as_str())?;
-    let lookup = Sorted::new(&scene.live, Reading::interior());
-    let marked = mark_alone(alloc, &scene.image, &lookup, &scene.roots, &scene.live);
+    let input = marking_input(alloc, sample.core.as_slice(), sample.log.as_str())?;
+    let lookup = Sorted::new(&input.live, Reading::interior());
+    let marked = mark_alone(alloc, &input.image, &lookup, &input.roots, &input.live);
     Some(answer_of(marked, count))
 }
 
@@ -130,16 +130,16 @@ fn by_workers_on<R: AllocGlobal + std::thread::Threads + Sync>(
     count: usize,
 ) -> Option<Answer> {
     let alloc = rt.alloc();
-    let scene = scene_of(alloc, sample.core.as_slice(), sample.log.as_str())?;
-    let lookup = Sorted::new(&scene.live, Reading::interior());
+    let input = marking_input(alloc, sample.core.as_slice(), sample.log.as_str())?;
+    let lookup = Sorted::new(&input.live, Reading::interior());
     let plan = Plan::new(3, 16, 4).ok()?;
     let marked = mark(
         rt,
         alloc,
-        &scene.image,
+        &input.image,
         &lookup,
-        &scene.roots,
-        &scene.live,
+        &input.roots,
+        &input.live,
         plan,
         &Open,
     );
@@ -157,16 +157,16 @@ pub(crate) fn by_workers<R: AllocGlobal + std::thread::Threads + Sync>(rt: &R) -
 pub(crate) fn by_edges<R: AllocGlobal + std::thread::Threads + Sync>(rt: &R) -> Option<Answer> {
     let alloc = rt.alloc();
     let sample = star(alloc)?;
-    let scene = scene_of(alloc, sample.core.as_slice(), sample.log.as_str())?;
-    let lookup = Sorted::new(&scene.live, Reading::interior());
+    let input = marking_input(alloc, sample.core.as_slice(), sample.log.as_str())?;
+    let lookup = Sorted::new(&input.live, Reading::interior());
     let plan = Plan::new(3, 16, 4).ok()?;
     let marked = mark_by_edges(
         rt,
         alloc,
-        &scene.image,
+        &input.image,
         &lookup,
-        &scene.roots,
-        &scene.live,
+        &input.roots,
+        &input.live,
         plan,
         &Open,
         EdgeRoom::of_core(&[0u8; 32_000]),
@@ -178,8 +178,8 @@ pub(crate) fn by_edges<R: AllocGlobal + std::thread::Threads + Sync>(rt: &R) -> 
 pub(crate) fn from_a_start<R: AllocGlobal + std::thread::Threads + Sync>(rt: &R) -> Option<Answer> {
     let alloc = rt.alloc();
     let sample = star(alloc)?;
-    let scene = scene_of(alloc, sample.core.as_slice(), sample.log.as_str())?;
-    let lookup = Sorted::new(&scene.live, Reading::interior());
+    let input = marking_input(alloc, sample.core.as_slice(), sample.log.as_str())?;
+    let lookup = Sorted::new(&input.live, Reading::interior());
     let start = Start {
         marked: Vec::new(alloc),
         rescan: Vec::new(alloc),
@@ -189,10 +189,10 @@ pub(crate) fn from_a_start<R: AllocGlobal + std::thread::Threads + Sync>(rt: &R)
     let marked = mark_from(
         rt,
         alloc,
-        &scene.image,
+        &input.image,
         &lookup,
-        &scene.roots,
-        &scene.live,
+        &input.roots,
+        &input.live,
         plan,
         &Open,
         &start,
@@ -237,23 +237,23 @@ pub(crate) fn carried(alloc: Global) -> Option<Answer> {
 pub(crate) fn retraced<R: AllocGlobal + std::thread::Threads + Sync>(rt: &R) -> Option<Answer> {
     let alloc = rt.alloc();
     let core = core_of(alloc, &[(0x10100, 0x10200)])?;
-    let scene = scene_of(alloc, core.as_slice(), MOVED)?;
+    let input = marking_input(alloc, core.as_slice(), MOVED)?;
     let earlier = live_of(alloc, TWO_BLOCKS)?;
     let marked = vec![in alloc; false; earlier.blocks().len()].ok()?;
-    if scene.live.blocks().len() > u32::MAX as usize {
+    if input.live.blocks().len() > u32::MAX as usize {
         return None;
     }
-    let carried = carry(alloc, &earlier, &marked, &scene.live).ok()?;
+    let carried = carry(alloc, &earlier, &marked, &input.live).ok()?;
     let pages = Pages::new(Vec::new(alloc))?;
-    let lookup = Sorted::new(&scene.live, Reading::interior());
+    let lookup = Sorted::new(&input.live, Reading::interior());
     let plan = Plan::new(3, 16, 4).ok()?;
     let retraced = retrace(
         rt,
         alloc,
-        &scene.image,
+        &input.image,
         &lookup,
-        &scene.roots,
-        &scene.live,
+        &input.roots,
+        &input.live,
         &carried,
         &pages,
         plan,

@@ -20,8 +20,9 @@ use Rattle.leak_report.specs.Places.{place_of}
 use Rattle.leak_report.specs.Groups.{Key, row_from, row_with, order_of_keys, found_in, AreEntries}
 use Rattle.leak_report.specs.Listing.{AreByText}
 use Rattle.leak_report.proofs.Joins.{row_at}
-use Rattle.leak_report.proofs.PlaceLemmas.{AreBytes, place_tells, bytes_of_text}
+use Rattle.leak_report.proofs.PlaceLemmas.{place_tells, bytes_of_text}
 use Rattle.leak_lemmas.proofs.Members.{Has, each_implied, each_mapped, each_filtered, each_moved, Has-moved, same_elements}
+use Rattle.leak_lemmas.proofs.Bytes.{AreBytes}
 use Rattle.leak_report.proofs.Ranks.{rank_total, each_ranked, Has-ranked, sorted_ranked}
 use Rattle.leak_report.proofs.Firsts.{IsRow, each_is_row, with_text-head, Has-row, all_differ}
 

@@ -1,24 +1,16 @@
 -- Texts of bytes are in the same order by their places as by their bytes.
-use Rattle.std.proofs.Common.{◌≡◌, Fits, ℕ, ◌+◌, ◌-◌, ◌*◌, ◌<◌, ◌≤◌, ◌⊎◌, inl, inr, suc, zero, Bool, true, false, cond, List, [], ◌∷◌, length, take, drop, get_or, refl, sym, ap, ◌∙◌, arith}
+use Rattle.std.proofs.Common.{◌≡◌, ℕ, ◌+◌, ◌-◌, ◌*◌, ◌<◌, ◌≤◌, ◌⊎◌, inl, inr, suc, zero, Bool, true, false, cond, List, [], ◌∷◌, length, take, drop, get_or, refl, sym, ap, ◌∙◌, arith}
 use Rattle.std.specs.Prelude.{nat_lt, nat_eq, slice_range}
-use Rattle.std.specs.Int.{w8}
 use Rattle.std.specs.Cmp.Lexicographic.{slice_cmp}
 use Rattle.std.specs.declared.cmp.Ordering.TheVariants.{Less, Equal, Greater}
 use Rattle.std.specs.Ordering.{nat_cmp, ordering_then}
 use Rattle.std.proofs.Math.Nat.{mul-le-mul_right}
-use Rattle.std.proofs.lemmas.List.{drop_more, drop_all, get_or-drop, length-drop, take_all}
+use Rattle.std.proofs.lemmas.List.{drop_more, drop_all, get_or-drop}
 use Rattle.std.proofs.lemmas.Bool.{cases_order, lt-ltb, le-ltb}
 use Rattle.std.proofs.lemmas.Cmp.{tied_itself, nat_cmp_total}
+use Rattle.leak_lemmas.proofs.Bytes.{AreBytes}
 use Rattle.leak_report.specs.Totals.{text_at}
 use Rattle.leak_report.specs.Places.{weight, number_of, place_of}
-
--- what is left of a text, cut at its end
-pub left_whole : (n : ℕ) (text : List ℕ) → take (length text - n) (drop n text) ≡ drop n text
-left_whole n text = take_all _ _ (omega (arith, length-drop n text))
-
--- each is a byte
-abbrev pub AreBytes : List ℕ → Type 0
-AreBytes xs = (i : ℕ) → get_or xs i 0 < 256
 
 behind : (x : ℕ) (xs : List ℕ) → AreBytes (x ∷ xs) → AreBytes xs
 behind x xs bytes i = bytes (suc i)
@@ -161,6 +153,3 @@ bytes_of_text log caller bytes = go (nat_lt caller.0 caller.1)
     go : (t : Bool) → AreBytes (cond t (slice_range log caller.0 caller.1) (63 ∷ []))
     go true = bytes_take (caller.1 - caller.0) (drop caller.0 log) (bytes_drop caller.0 log bytes)
     go false = mark
-
-pub are_bytes : (xs : List ℕ) → ((i : ℕ) → Fits w8 (get_or xs i 0)) → AreBytes xs
-are_bytes xs h i = let b : Fits w8 (get_or xs i 0) = h i in omega (arith, b)

@@ -39,5 +39,5 @@ pub use numbering::number;
 pub use report::text;
 pub use signs::Signs;
 pub use texts::Texts;
-pub use totals::{CallerRow, Totals, marked_sizes};
+pub use totals::{CallerRow, Totals, count_clear, marked_sizes};
 pub use warning::warnings;

@@ -1,9 +1,10 @@
 //! The lines of misfits: live blocks of which the core has no chunk in use.
-ghost use Rattle.std.specs.Prelude.{◌≡◌, ◌++◌, length, not, count_by, flat_map, string_bytes, IfSome, OnOk, option_copied};
+ghost use Rattle.std.specs.Prelude.{◌≡◌, ◌++◌, length, flat_map, string_bytes, IfSome, OnOk, option_copied};
 ghost use Rattle.leak_report.specs.Totals.{HaveCallersIn};
 ghost use Rattle.leak_report.specs.Misfits.{misfits_in, misfit_sums, misfit_line, misfit_lines};
 
 use crate::lines::{push_misfit, push_misfit_number};
+use crate::totals::count_clear;
 use leak_blocks::Block;
 use std::alloc::{AllocError, Global};
 
@@ -18,16 +19,9 @@ pub fn push_number(
         string_bytes out.old ++ misfit_sums (option_copied fits.entry) blocks.now) }
 {
     match fits {
-        Some(fits) => push_misfit_number(out, count_misfits(fits)),
+        Some(fits) => push_misfit_number(out, count_clear(fits)),
         None => Ok(()),
     }
-}
-
-/// The number of the blocks that don't fit.
-fn count_misfits(fits: &[bool]) -> u64
-    ensures { result ≡ count_by not fits.now }
-{
-    fits.iter().filter(|fit| !**fit).count() as u64
 }
 
 /// Appends the lines of the misfits, if it is given which blocks fit.

@@ -1,5 +1,5 @@
 //! The leaked blocks in sum, and by caller.
-ghost use Rattle.std.specs.Prelude.{◌≡◌, ◌^◌, ◌<◌, length, IfOk};
+ghost use Rattle.std.specs.Prelude.{◌≡◌, ◌^◌, ◌<◌, length, not, count_by, IfOk};
 ghost use Rattle.leak_report.specs.Totals.{marked_in, leaked_in, leaks_in, bytes_of, heads_in, rows_of, HaveCallersIn};
 
 use crate::by_text::{Leaked, ranked_rows};
@@ -109,4 +109,11 @@ fn count_heads(blocks: &[Block], set: &[bool], heads: &[bool]) -> u64
         }
     }
     number
+}
+
+/// How many of the marks are not set.
+pub fn count_clear(marks: &[bool]) -> u64
+    ensures { result ≡ count_by not marks.now }
+{
+    marks.iter().filter(|mark| !**mark).count() as u64
 }

@@ -1,6 +1,5 @@
 -- The lemmas of this crate, by subject.
 pub mod Complete
-pub mod Digits
 pub mod Items
 pub mod Lines
 pub mod Listing

@@ -9,7 +9,6 @@ ghost use Rattle.leak_request.specs.Requests.{AreAt, HasFiles, IsGrowRequest, Is
 ghost use Rattle.leak_request.specs.Requests.{IsUsageFaultOf, IsWhyRequest, holders_path_ids};
 
 use crate::address::address;
-use crate::asking::question;
 use crate::command_line::command;
 use crate::fault::{AddressArgument, UsageFault};
 use crate::found_values::{bad_arguments, is_given, optional, paths, plan, reading, skip, value};
@@ -17,6 +16,7 @@ use crate::options::{
     CORE_LIMIT, GrowOptions, GrowRequest, HoldersRequest, LOG_LIMIT, Options, Request,
     SearchRequest, WhyRequest,
 };
+use crate::question::question;
 use crate::unmatched::unmatched;
 use clap::ArgMatches;
 use leak_pool::Plan;

@@ -14,7 +14,6 @@
 
 mod address;
 mod arguments;
-mod asking;
 mod command_line;
 mod displacements;
 mod escaping;
@@ -22,6 +21,7 @@ mod fault;
 mod found_values;
 mod laws;
 mod options;
+mod question;
 mod unmatched;
 
 pub use arguments::request;

@@ -1,18 +1,12 @@
 -- Lists of consecutive numbers, and the multiples of 8 among them.
-use Rattle.std.proofs.Common.{◌≡◌, ℕ, zero, suc, ◌+◌, ◌-◌, ◌*◌, ◌/◌, ◌%◌, ◌<◌, ◌≤◌, Bool, true, false, eqb, ◌⊎◌, inl, inr, List, [], ◌∷◌, ◌++◌, map, filter, refl, sym, ap, ◌∙◌, append-nil, arith}
+use Rattle.std.proofs.Common.{◌≡◌, ℕ, zero, suc, ◌+◌, ◌-◌, ◌*◌, ◌/◌, ◌%◌, ◌<◌, ◌≤◌, true, false, eqb, ◌⊎◌, inl, inr, List, [], ◌∷◌, ◌++◌, map, filter, refl, sym, ap, ◌∙◌, append-nil, arith}
 use Rattle.std.specs.List.{range_with_len}
 use Rattle.std.proofs.lemmas.Bool.{cases_eq, ne_eqb, eq-eqb}
 use Rattle.std.proofs.lemmas.List.{map-append}
 use Rattle.std.proofs.lemmas.List.Elements.{filter-append}
 use Rattle.std.proofs.lemmas.List.FromFn.{map-range_with_len_more}
+use Rattle.leak_lemmas.proofs.Ranges.{range-append}
 use Rattle.leak_roots.specs.Places.{addresses_in, aligned_places}
-
-pub range-append : (a x y : ℕ) → range_with_len a (x + y) ≡ range_with_len a x ++ range_with_len (a + x) y
-range-append a zero y = let e : zero + y ≡ y = omega arith in let f : a + zero ≡ a = omega arith in rw (e, f) refl
-range-append a (suc x) y =
-    let e : suc x + y ≡ suc (x + y) = omega arith in
-    let f : a + suc x ≡ a + 1 + x = omega arith in
-    rw (e, f) (ap (λ (xs : List ℕ). a ∷ xs) (range-append (a + 1) x y))
 
 pub range_more : (a n : ℕ) → range_with_len a (suc n) ≡ range_with_len a n ++ (a + n) ∷ []
 range_more a n = let e : suc n ≡ n + 1 = omega arith in ap (λ (k : ℕ). range_with_len a k) e ∙ range-append a n 1
@@ -21,14 +15,6 @@ range_more a n = let e : suc n ≡ n + 1 = omega arith in ap (λ (k : ℕ). rang
 pub range_same : (a b m n : ℕ) → m ≡ n → (0 < m → a ≡ b) → range_with_len a m ≡ range_with_len b n
 range_same a b zero n e h = rw (← e) refl
 range_same a b (suc m) n e h = let p : a ≡ b = h (omega arith) in ap (λ (k : ℕ). range_with_len k (suc m)) p ∙ ap (λ (k : ℕ). range_with_len b k) e
-
-pub filter_same : (p q : ℕ → Bool) (a n : ℕ) → ((x : ℕ) → a ≤ x → x < a + n → p x ≡ q x) → filter p (range_with_len a n) ≡ filter q (range_with_len a n)
-filter_same p q a zero h = refl
-filter_same p q a (suc n) h = rw (h a (omega arith) (omega arith), filter_same p q (a + 1) n (λ x l m. h x (omega arith) (omega arith))) refl
-
-pub filter_none : (p : ℕ → Bool) (a n : ℕ) → ((x : ℕ) → a ≤ x → x < a + n → p x ≡ false) → filter p (range_with_len a n) ≡ []
-filter_none p a zero h = refl
-filter_none p a (suc n) h = rw (h a (omega arith) (omega arith)) (filter_none p (a + 1) n (λ x l m. h x (omega arith) (omega arith)))
 
 pub map_shift : {X : Type 0} (f g : ℕ → X) (a b n : ℕ) → ((i : ℕ) → f (a + i) ≡ g (b + i)) → map f (range_with_len a n) ≡ map g (range_with_len b n)
 map_shift f g a b zero h = refl

@@ -1,5 +1,5 @@
 -- From pieces to words.
-use Rattle.std.proofs.Common.{◌≡◌, ℕ, zero, suc, ◌+◌, ◌-◌, ◌<◌, ◌≤◌, Bool, List, [], ◌∷◌, ◌++◌, length, get_or, take, drop, map, flat_map, filter_map, Option, Some, refl, sym, ap, ◌∙◌, add-one, arith}
+use Rattle.std.proofs.Common.{◌≡◌, ℕ, zero, suc, ◌+◌, ◌-◌, ◌<◌, ◌≤◌, List, [], ◌∷◌, ◌++◌, length, get_or, take, drop, map, flat_map, filter_map, Option, Some, refl, sym, ap, ◌∙◌, add-one, arith}
 use Rattle.std.specs.Prelude.{slice_get}
 use Rattle.std.specs.List.{AllByRecursion, range_with_len, cons_option}
 use Rattle.std.proofs.Math.Seq.{drop-cons}
@@ -9,12 +9,12 @@ use Rattle.std.proofs.lemmas.Option.{slice_get-get_or}
 use Rattle.std.proofs.lemmas.List.Elements.{filter_map-append}
 use Rattle.leak_elf.specs.Words.{word_of}
 use Rattle.leak_blocks.specs.declared.block.Block.{Block}
-use Rattle.leak_blocks.specs.declared.small.Span.{Span}
 use Rattle.leak_roots.specs.declared.piece.Piece.{Piece}
 use Rattle.leak_roots.specs.declared.piece.Piece.TheVariants.{Registers, Memory}
 use Rattle.leak_roots.specs.Places.{Places, addresses_in, memory_places, words_at}
 use Rattle.leak_roots.specs.Pieces.{Place, AreCut, IsPiece, places_of, all_places, words_of}
 use Rattle.leak_roots.specs.Pieces.Place.{InRegisters, InMemory}
+use Rattle.leak_roots.specs.LeftOut.{LeftOut}
 use Rattle.leak_roots.specs.Roots.{AreRootsOf, root_words}
 
 -- the word at a place
@@ -66,6 +66,6 @@ made_of_pieces f g (x ∷ xs) = ap (λ (ys : List ℕ). flat_map f (g x) ++ ys) 
 pub pieces_made : (f : ℕ → List ℕ) (word_at : ℕ → Option ℕ) (p : Places) (words : ℕ) (pieces : List Piece) → AreCut p words pieces → flat_map (λ piece. flat_map f (words_of word_at p piece)) pieces ≡ flat_map f (words_at word_at p)
 pieces_made f word_at p words pieces cut = made_of_pieces f (words_of word_at p) pieces ∙ ap (flat_map f) (pieces_words word_at p words pieces cut)
 
-pub places_words : (unwritable : Bool) (file : List ℕ) (blocks : List Block) (spans slack dead : List Span) (p : Places) → AreRootsOf unwritable file blocks spans slack dead p → words_at (word_of file) p ≡ root_words unwritable file blocks spans slack dead
+pub places_words : (left : LeftOut) (file : List ℕ) (blocks : List Block) (p : Places) → AreRootsOf left file blocks p → words_at (word_of file) p ≡ root_words left file blocks
 unfolding words_at root_words
-places_words unwritable file blocks spans slack dead p roots = rw (roots.registers, roots.memory) refl
+places_words left file blocks p roots = rw (roots.registers, roots.memory) refl

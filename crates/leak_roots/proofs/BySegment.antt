@@ -5,6 +5,7 @@ use Rattle.std.proofs.lemmas.Bool.{cases_eq, eq-eqb, ne_eqb}
 use Rattle.std.proofs.lemmas.Grind.{flat_map-append}
 use Rattle.std.proofs.lemmas.List.{take_more, take_all, get_or_default}
 use Rattle.std.proofs.lemmas.List.Elements.{filter-append}
+use Rattle.leak_lemmas.proofs.Ranges.{filter_same}
 use Rattle.leak_elf.specs.declared.segment.Segment.{Segment}
 use Rattle.leak_elf.specs.Headers.{headers}
 use Rattle.leak_elf.specs.Refusals.{fault_of, file_fault, faults_from}
@@ -15,7 +16,6 @@ use Rattle.leak_elf.proofs.Held.{word_some, word_odd}
 use Rattle.leak_blocks.specs.declared.block.Block.{Block}
 use Rattle.leak_roots.specs.Places.{AreRanges, EndBy, memory_places}
 use Rattle.leak_roots.specs.Roots.{has_roots, is_apart, is_free, outside_places, outside_places_in}
-use Rattle.leak_roots.proofs.Addresses.{filter_same}
 use Rattle.leak_roots.proofs.Ranges.{end_later}
 
 -- the segments of an accepted file

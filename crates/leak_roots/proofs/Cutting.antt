@@ -4,13 +4,14 @@ use Rattle.std.specs.List.{AllByRecursion, range_with_len}
 use Rattle.std.proofs.lemmas.Grind.{flat_map-append}
 use Rattle.std.proofs.lemmas.List.{map-append, length-map, take_more, take_all}
 use Rattle.std.proofs.lemmas.List.FromFn.{length-range_with_len}
+use Rattle.leak_lemmas.proofs.Ranges.{range-append}
+use Rattle.leak_lemmas.proofs.Members.{each_push}
 use Rattle.leak_roots.specs.declared.piece.Piece.{Piece}
 use Rattle.leak_roots.specs.declared.piece.Piece.TheVariants.{Registers, Memory}
 use Rattle.leak_roots.specs.Places.{Places, IsRange, AreRanges, addresses_in, memory_places}
 use Rattle.leak_roots.specs.Pieces.{Place, IsPiece, IsCutPiece, AreCut, places_of}
 use Rattle.leak_roots.specs.Pieces.Place.{InRegisters, InMemory}
-use Rattle.leak_roots.proofs.Addresses.{range-append, addresses_in-split}
-use Rattle.leak_roots.proofs.Ranges.{all_push}
+use Rattle.leak_roots.proofs.Addresses.{addresses_in-split}
 
 length-registers : (from n : ℕ) → length (map InRegisters (range_with_len from n)) ≡ n
 length-registers from n = length-map (range_with_len from n) (λ (i : ℕ). InRegisters i) ∙ length-range_with_len from n
@@ -53,7 +54,7 @@ registers_more registers words old new more from to some room is cut e = record 
   bound = omega arith;
   places = ap (flat_map places_of) e ∙ places_push new (Registers from to)
       ∙ (rw (cut.places, append_assoc (flat_map places_of old) (map InRegisters (range_with_len 0 from)) (map InRegisters (range_with_len from (to - from)))) (ap (λ (xs : List Place). flat_map places_of old ++ xs) (registers_join from to (omega arith))));
-  each = λ p q h. rw e (all_push (IsCutPiece p words) new (Registers from to) (cut.each p q h) (registers_piece p words from to (omega arith) (omega arith) (omega arith)));
+  each = λ p q h. rw e (each_push (IsCutPiece p words) new (Registers from to) (cut.each p q h) (registers_piece p words from to (omega arith) (omega arith) (omega arith)));
 }
 
 -- the words of a range before an address were cut
@@ -91,7 +92,7 @@ memory_more range words old new more from to is_range some room is cut e =
       multiple = multiple';
       places = ap (flat_map places_of) e ∙ places_push new (Memory from to)
           ∙ (rw (cut.places, append_assoc (flat_map places_of old) (map InMemory (addresses_in (range.0, from))) (map InMemory (addresses_in (from, to)))) (ap (λ (xs : List Place). flat_map places_of old ++ xs) (memory_join range.0 from to s f multiple' l (omega arith))));
-      each = λ p h. rw e (all_push (IsCutPiece p words) new (Memory from to) (cut.each p h) (memory_piece p words from to above f multiple' (omega arith)));
+      each = λ p h. rw e (each_push (IsCutPiece p words) new (Memory from to) (cut.each p h) (memory_piece p words from to above f multiple' (omega arith)));
     }
 
 pub memory_all : (range : ℕ × ℕ) (words : ℕ) (old new : List Piece) (from : ℕ) → range.1 ≤ from → AreMemoryCut range words old new from → flat_map places_of new ≡ flat_map places_of old ++ map InMemory (addresses_in range)

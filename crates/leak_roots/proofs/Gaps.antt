@@ -4,12 +4,15 @@ use Rattle.std.specs.List.{list_all, range_with_len, AllByRecursion}
 use Rattle.std.proofs.lemmas.Bool.{le-ltb, lt-ltb, cases_lt}
 use Rattle.std.proofs.lemmas.List.Elements.{filter-append}
 use Rattle.std.proofs.lemmas.List.Folds.{list_all_at}
+use Rattle.std.proofs.Math.Bool.{and-false}
+use Rattle.leak_lemmas.proofs.Lists.{any_default}
+use Rattle.leak_lemmas.proofs.Ranges.{range-append, filter_same, filter_none}
 use Rattle.leak_elf.specs.Words.{places}
 use Rattle.leak_blocks.specs.declared.block.Block.{Block}
 use Rattle.leak_blocks.specs.Span.{AreAddressed, AreDisjoint, span_end}
 use Rattle.leak_roots.specs.Places.{AreRanges, EndBy, memory_places, aligned_places}
 use Rattle.leak_roots.specs.Roots.{AreOrdered, is_apart, is_free}
-use Rattle.leak_roots.proofs.Addresses.{range-append, range_same, filter_same, filter_none}
+use Rattle.leak_roots.proofs.Addresses.{range_same}
 use Rattle.leak_roots.proofs.Ranges.{end_later}
 
 apart_before : (a : ℕ) (b : Block) → a + 8 ≤ b.start → is_apart a b ≡ true
@@ -32,10 +35,6 @@ and_true : (x : Bool) → (x && true) ≡ x
 and_true true = refl
 and_true false = refl
 
-and_false : (x : Bool) → (x && false) ≡ false
-and_false true = refl
-and_false false = refl
-
 -- the first blocks have no byte at the address or after it
 abbrev pub IsPast : List Block → ℕ → ℕ → Type 0
 IsPast bs i c = (k : ℕ) (d : Block) → k < i → k < length bs → ((get_or bs k d).size ≡ 0) ⊎ ((get_or bs k d).start + (get_or bs k d).size ≤ c)
@@ -52,7 +51,7 @@ between bs i c a d past l before =
 
 -- a word that has a byte of a block
 inside : (bs : List Block) (i a : ℕ) (d : Block) → i < length bs → 0 < (get_or bs i d).size → (get_or bs i d).start < a + 8 → a < (get_or bs i d).start + (get_or bs i d).size → is_free bs a ≡ false
-inside bs i a d h s l m = rw (list_all_at (is_apart a) bs i d h (not_apart a (get_or bs i d) l m s)) (and_false (eqb (a % 8) 0))
+inside bs i a d h s l m = rw (list_all_at (is_apart a) bs i d h (not_apart a (get_or bs i d) l m s)) (and-false (eqb (a % 8) 0))
 
 later_start : (bs : List Block) (i k : ℕ) (d : Block) → AreOrdered bs → i ≤ k → k < length bs → (get_or bs i d).start ≤ (get_or bs k d).start
 later_start bs i k d ordered l h =
@@ -88,11 +87,6 @@ gap_step bs i c to d ordered h past some low =
 pub gap_end : (bs : List Block) (i c to : ℕ) (d : Block) → IsPast bs i c → ((k : ℕ) → i ≤ k → k < length bs → to ≤ (get_or bs k d).start) → filter (is_free bs) (places c to) ≡ aligned_places c to
 gap_end bs i c to d past high =
     filter_same (is_free bs) (λ (a : ℕ). eqb (a % 8) 0) c (to - 7 - c) (λ a l m. between bs i c a d past l (λ k o p. let s = high k o p in omega arith))
-
-any_default : (bs : List Block) (k : ℕ) (d e : Block) → k < length bs → get_or bs k d ≡ get_or bs k e
-any_default [] k d e h = absurd (omega arith)
-any_default (b ∷ bs) zero d e h = refl
-any_default (b ∷ bs) (suc k) d e h = any_default bs k d e (omega arith)
 
 -- one block more
 pub past_more : (bs : List Block) (i c e : ℕ) (d : Block) → i < length bs → IsPast bs i c → c ≤ e → (((get_or bs i d).size ≡ 0) ⊎ ((get_or bs i d).start + (get_or bs i d).size ≤ e)) → IsPast bs (i + 1) e

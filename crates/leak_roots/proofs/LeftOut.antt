@@ -5,14 +5,14 @@ use Rattle.std.proofs.lemmas.Bool.{cases_lt}
 use Rattle.std.proofs.lemmas.List.{take_more, take_all, get_or_default, length-map, length-append}
 use Rattle.std.proofs.lemmas.List.Elements.{filter-append}
 use Rattle.std.proofs.lemmas.List.FromFn.{length-range_with_len}
-use Rattle.leak_blocks.specs.declared.block.Block.{Block}
+use Rattle.leak_lemmas.proofs.Members.{each_push}
 use Rattle.leak_blocks.specs.declared.small.Span.{Span}
 use Rattle.leak_blocks.specs.Small.{AreApart, CoverSame, is_covered}
-use Rattle.leak_roots.specs.Places.{Places, IsRange, AreRanges, EndBy, addresses_in, memory_places}
-use Rattle.leak_roots.specs.Roots.{AreRootsOf, is_inside, outside_places, freed_places, kept_places, dead_places, root_places}
+use Rattle.leak_roots.specs.Places.{IsRange, AreRanges, EndBy, addresses_in, memory_places}
+use Rattle.leak_roots.specs.Roots.{is_inside}
 use Rattle.leak_roots.proofs.Addresses.{addresses_in-split}
 use Rattle.leak_roots.proofs.Cutting.{range_is}
-use Rattle.leak_roots.proofs.Ranges.{end_later, ranges_push, places_push, all_push}
+use Rattle.leak_roots.proofs.Ranges.{end_later, ranges_push, places_push}
 use Rattle.leak_roots.proofs.Spans.{none_inside}
 
 -- ---- places that are all inside spans, or all outside
@@ -74,7 +74,7 @@ kept_more spans range old new more inside cursor end is k some high' multiple' a
       high = high';
       multiple = multiple';
       ranges = rw e (ranges_push new (cursor, end) k.ranges k.ends one);
-      ends = rw e (all_push (λ (r : ℕ × ℕ). r.1 ≤ end) new (cursor, end) (end_later cursor end new (omega arith) k.ends) (omega arith));
+      ends = rw e (each_push (λ (r : ℕ × ℕ). r.1 ≤ end) new (cursor, end) (end_later cursor end new (omega arith) k.ends) (omega arith));
       kept = ap memory_places e ∙ places_push new (cursor, end)
           ∙ ap (λ (xs : List ℕ). xs ++ addresses_in (cursor, end)) k.kept
           ∙ append_assoc (memory_places old) (filter (λ a. not (is_inside spans a)) (addresses_in (range.0, cursor))) (addresses_in (cursor, end))
@@ -191,7 +191,7 @@ all_kept_ahead spans memory (suc i) are apart l ahead =
     all_kept_more spans memory i (take i memory) (take i memory ++ r ∷ []) 0 0 d are (omega arith) before
     (places_push (take i memory) r ∙ ap (λ (xs : List ℕ). memory_places (take i memory) ++ xs) (sym (pass_all (λ a. not (is_inside spans a)) r.0 r.1 one.from_multiple (λ a m n o. rw (out a m n o) refl))))
     (ranges_push (take i memory) r before.ranges end one)
-    (all_push (λ (s : ℕ × ℕ). s.1 ≤ r.1) (take i memory) r (end_later r.0 r.1 (take i memory) (let s = one.some in omega arith) end) (omega arith))
+    (each_push (λ (s : ℕ × ℕ). s.1 ≤ r.1) (take i memory) r (end_later r.0 r.1 (take i memory) (let s = one.some in omega arith) end) (omega arith))
     (sym (ap length (pass_none (is_inside spans) r.0 r.1 one.from_multiple out)))
     (let s = one.some in omega arith) in
     let next : i + 1 ≡ suc i = omega arith in
@@ -219,15 +219,6 @@ pub filter_alike : (p q : ℕ → Bool) (xs : List ℕ) → ((a : ℕ) → p a �
 filter_alike p q [] h = refl
 filter_alike p q (x ∷ xs) h = rw (h x, filter_alike p q xs h) refl
 
-pub root_places_same : (unwritable : Bool) (file : List ℕ) (blocks : List Block) (spans others slack dead : List Span) → CoverSame spans others → root_places unwritable file blocks spans slack dead ≡ root_places unwritable file blocks others slack dead
-unfolding root_places kept_places
-root_places_same unwritable file blocks spans others slack dead same = ap (λ (places : List ℕ). filter (λ a. not (is_inside dead a)) (filter (λ a. not (is_inside slack a)) places))
-    (filter_alike (λ a. not (is_inside spans a)) (λ a. not (is_inside others a)) (outside_places unwritable file blocks) (λ a. ap not (inside_same spans others a same)))
-
-pub freed_places_same : (unwritable : Bool) (file : List ℕ) (blocks : List Block) (spans others : List Span) → CoverSame spans others → freed_places unwritable file blocks spans ≡ freed_places unwritable file blocks others
-unfolding freed_places
-freed_places_same unwritable file blocks spans others same = filter_alike (is_inside spans) (is_inside others) (outside_places unwritable file blocks) (λ a. inside_same spans others a same)
-
 -- ---- no spans
 
 pub no_spans_inside : (spans : List Span) (a : ℕ) → length spans ≡ 0 → is_inside spans a ≡ false
@@ -248,61 +239,3 @@ none_left_out spans places none = sym (filter_whole (λ a. not (is_inside spans 
 
 pub none_counted : (spans : List Span) (places : List ℕ) → length spans ≡ 0 → 0 ≡ length (filter (is_inside spans) places)
 none_counted spans places none = sym (ap length (filter_empty (is_inside spans) places (λ a. no_spans_inside spans a none)))
-
-pub root_places_some : (unwritable : Bool) (file : List ℕ) (blocks : List Block) (spans : List Span) (places : List ℕ) → places ≡ outside_places unwritable file blocks → filter (λ a. not (is_inside spans a)) places ≡ root_places unwritable file blocks spans [] []
-unfolding root_places kept_places
-root_places_some unwritable file blocks spans places e =
-    let unfreed = filter (λ a. not (is_inside spans a)) (outside_places unwritable file blocks) in
-    ap (filter (λ a. not (is_inside spans a))) e ∙ none_left_out [] unfreed refl ∙ none_left_out [] (filter (λ a. not (is_inside [] a)) unfreed) refl
-
-pub freed_places_some : (unwritable : Bool) (file : List ℕ) (blocks : List Block) (spans : List Span) (places : List ℕ) → places ≡ outside_places unwritable file blocks → filter (is_inside spans) places ≡ freed_places unwritable file blocks spans
-unfolding freed_places
-freed_places_some unwritable file blocks spans places e = ap (filter (is_inside spans)) e
-
--- ---- slack
-
--- the root places without slack are those with it that are not inside the slack
-slack_left_out : (unwritable : Bool) (file : List ℕ) (blocks : List Block) (spans slack others : List Span) → CoverSame slack others
-    → filter (λ a. not (is_inside slack a)) (root_places unwritable file blocks spans [] []) ≡ root_places unwritable file blocks spans others []
-unfolding root_places kept_places
-slack_left_out unwritable file blocks spans slack others same =
-    let unfreed = filter (λ a. not (is_inside spans a)) (outside_places unwritable file blocks) in
-    ap (filter (λ a. not (is_inside slack a))) (sym (none_left_out [] unfreed refl ∙ none_left_out [] (filter (λ a. not (is_inside [] a)) unfreed) refl))
-    ∙ filter_alike (λ a. not (is_inside slack a)) (λ a. not (is_inside others a)) unfreed (λ a. ap not (inside_same slack others a same))
-    ∙ none_left_out [] (filter (λ a. not (is_inside others a)) unfreed) refl
-
--- no place is dead if there is no dead stack
-pub none_dead : (unwritable : Bool) (file : List ℕ) (blocks : List Block) (spans slack : List Span) → 0 ≡ length (dead_places unwritable file blocks spans slack [])
-unfolding dead_places
-none_dead unwritable file blocks spans slack = none_counted [] (kept_places unwritable file blocks spans slack) refl
-
-pub roots_without_slack : (unwritable : Bool) (file : List ℕ) (blocks : List Block) (spans slack others : List Span) (all kept : Places) → CoverSame slack others
-    → AreRootsOf unwritable file blocks spans [] [] all → kept.registers ≡ all.registers → memory_places kept.memory ≡ filter (λ a. not (is_inside slack a)) (memory_places all.memory)
-    → AreRanges kept.memory → kept.freed ≡ all.freed → kept.dead ≡ all.dead → AreRootsOf unwritable file blocks spans others [] kept
-roots_without_slack unwritable file blocks spans slack others all kept same roots registers' memory' ranges' freed' dead' = record {
-  registers = registers' ∙ roots.registers;
-  memory = memory' ∙ ap (filter (λ a. not (is_inside slack a))) roots.memory ∙ slack_left_out unwritable file blocks spans slack others same;
-  ranges = ranges';
-  freed = freed' ∙ roots.freed;
-  dead = dead' ∙ roots.dead ∙ sym (none_dead unwritable file blocks spans []) ∙ none_dead unwritable file blocks spans others;
-}
-
--- ---- dead stack
-
--- the root places without dead stack are those with it that are not inside the dead stack, and the dead ones are the others
-pub roots_without_dead : (unwritable : Bool) (file : List ℕ) (blocks : List Block) (spans slack dead others : List Span) (all kept : Places) → CoverSame dead others
-    → AreRootsOf unwritable file blocks spans slack [] all → kept.registers ≡ all.registers → memory_places kept.memory ≡ filter (λ a. not (is_inside dead a)) (memory_places all.memory)
-    → AreRanges kept.memory → kept.freed ≡ all.freed → kept.dead ≡ length (filter (is_inside dead) (memory_places all.memory)) → AreRootsOf unwritable file blocks spans slack others kept
-unfolding root_places dead_places
-roots_without_dead unwritable file blocks spans slack dead others all kept same roots registers' memory' ranges' freed' dead' =
-    let places = kept_places unwritable file blocks spans slack in
-    let left : memory_places all.memory ≡ places = roots.memory ∙ sym (none_left_out [] places refl) in
-    record {
-      registers = registers' ∙ roots.registers;
-      memory = memory' ∙ ap (filter (λ a. not (is_inside dead a))) left
-          ∙ filter_alike (λ a. not (is_inside dead a)) (λ a. not (is_inside others a)) places (λ a. ap not (inside_same dead others a same));
-      ranges = ranges';
-      freed = freed' ∙ roots.freed;
-      dead = dead' ∙ ap (λ (xs : List ℕ). length (filter (is_inside dead) xs)) left
-          ∙ ap length (filter_alike (is_inside dead) (is_inside others) places (λ a. inside_same dead others a same));
-    }

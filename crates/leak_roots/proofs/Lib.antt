@@ -7,6 +7,7 @@ pub mod Cutting
 pub mod Bridges
 pub mod Spans
 pub mod LeftOut
+pub mod RootPlaces
 pub mod Few
 pub mod Numbered
 pub mod Whole

@@ -1,9 +1,11 @@
 -- Spans that are apart, and the places that one of them has.
-use Rattle.std.proofs.Common.{◌≡◌, ℕ, zero, suc, ◌+◌, ◌-◌, ◌<◌, ◌≤◌, leb, Bool, true, false, ◌&&◌, ◌⊎◌, inl, inr, List, [], ◌∷◌, length, get_or, refl, arith}
+use Rattle.std.proofs.Common.{◌≡◌, ℕ, zero, suc, ◌+◌, ◌-◌, ◌<◌, ◌≤◌, leb, Bool, true, false, ◌⊎◌, inl, inr, List, [], ◌∷◌, length, get_or, refl, arith}
 use Rattle.std.specs.List.{AllByRecursion, list_all, range_with_len}
 use Rattle.std.proofs.lemmas.Bool.{leb-true, le-leb, cases_lt}
 use Rattle.std.proofs.lemmas.List.Folds.{list_all_at, list_any_at}
 use Rattle.std.proofs.lemmas.List.FromFn.{get_or-range_with_len, length-range_with_len}
+use Rattle.leak_lemmas.proofs.Bools.{and_right, and_left}
+use Rattle.leak_lemmas.proofs.Lists.{any_default}
 use Rattle.leak_blocks.specs.declared.small.Span.{Span}
 use Rattle.leak_blocks.specs.Small.{AreApart, holds, is_covered}
 use Rattle.leak_roots.specs.Roots.{is_inside}
@@ -46,25 +48,20 @@ pub record ArePast (spans : List Span) (many addr : ℕ) : Type 0 where
   pub bound : many ≤ length spans
   pub within : (k : ℕ) (d : Span) → k < many → (get_or spans k d).last < addr
 
-any_span : (spans : List Span) (k : ℕ) (d e : Span) → k < length spans → get_or spans k d ≡ get_or spans k e
-any_span [] k d e h = absurd (omega arith)
-any_span (s ∷ spans) zero d e h = refl
-any_span (s ∷ spans) (suc k) d e h = any_span spans k d e (omega arith)
-
 -- one more ends before it
 pub past_more : (spans : List Span) (i addr : ℕ) (e : Span) → ArePast spans i addr → i < length spans → (get_or spans i e).last < addr → ArePast spans (i + 1) addr
 past_more spans i addr e past h l = record {
   bound = omega arith;
   within = λ k d m. elim (cases_lt k i) [
     | inl q ↦ past.within k d q
-    | inr q ↦ let same : k ≡ i = omega arith in rw (same, any_span spans i d e h) l
+    | inr q ↦ let same : k ≡ i = omega arith in rw (same, any_default spans i d e h) l
   ];
 }
 
 -- if one doesn't, no later one does
 pub later_last : (spans : List Span) (i addr : ℕ) (e : Span) → AreApart spans → addr ≤ (get_or spans i e).last → (k : ℕ) (d : Span) → i ≤ k → k < length spans → addr ≤ (get_or spans k d).last
 later_last spans i addr e apart l k d m h =
-    let same = any_span spans i e d (omega arith) in
+    let same = any_default spans i e d (omega arith) in
     let f : addr ≤ (get_or spans i d).last = rw (← same) l in
     elim (cases_lt (get_or spans k d).last addr) [
       | inl q ↦ absurd (let a = lasts_ascend spans i k d addr apart m h q in omega arith)
@@ -74,18 +71,10 @@ later_last spans i addr e apart l k d m h =
 -- if the last of this many does, all do
 pub all_past : (spans : List Span) (many addr : ℕ) (e : Span) → AreApart spans → many ≤ length spans → 0 < many → (get_or spans (many - 1) e).last < addr → (k : ℕ) (d : Span) → k < many → (get_or spans k d).last < addr
 all_past spans many addr e apart bound some l k d h =
-    let same = any_span spans (many - 1) e d (omega arith) in
+    let same = any_default spans (many - 1) e d (omega arith) in
     lasts_ascend spans k (many - 1) d addr apart (omega arith) (omega arith) (rw (← same) l)
 
 -- ---- one place
-
-and_first : (x y : Bool) → (x && y) ≡ true → x ≡ true
-and_first true y h = refl
-and_first false y h = absurd cc
-
-and_second : (x y : Bool) → (x && y) ≡ true → y ≡ true
-and_second true y h = h
-and_second false y h = absurd cc
 
 -- a span that has the address
 record IsHeld (spans : List Span) (d : Span) (a : ℕ) : Type 0 where
@@ -95,7 +84,7 @@ record IsHeld (spans : List Span) (d : Span) (a : ℕ) : Type 0 where
   high : a ≤ (get_or spans place d).last
 
 held_more : (spans : List Span) (s d : Span) (a : ℕ) (b : Bool) → holds a s ≡ b → (b ≡ false → IsHeld spans d a) → IsHeld (s ∷ spans) d a
-held_more spans s d a true e h = record { place = 0; within = omega arith; low = leb-true s.first a (and_first (leb s.first a) (leb a s.last) e); high = leb-true a s.last (and_second (leb s.first a) (leb a s.last) e) }
+held_more spans s d a true e h = record { place = 0; within = omega arith; low = leb-true s.first a (and_left (leb s.first a) (leb a s.last) e); high = leb-true a s.last (and_right (leb s.first a) (leb a s.last) e) }
 held_more spans s d a false e h =
     let r = h refl in
     record { place = suc r.place; within = let w = r.within in omega arith; low = r.low; high = r.high }

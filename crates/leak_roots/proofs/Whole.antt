@@ -1,9 +1,10 @@
 -- The pieces by their numbers are a cut.
 use Rattle.std.proofs.Common.{◌≡◌, ℕ, zero, suc, ◌+◌, ◌*◌, ◌<◌, ◌≤◌, min, List, [], ◌∷◌, ◌++◌, length, get_or, take, map, flat_map, refl, sym, ap, ◌∙◌, append-nil, append_assoc, arith}
-use Rattle.std.specs.List.{AllByRecursion, range_with_len}
+use Rattle.std.specs.List.{range_with_len}
 use Rattle.std.proofs.lemmas.Grind.{flat_map-append}
 use Rattle.std.proofs.lemmas.List.{take_more, take_all}
 use Rattle.std.proofs.lemmas.List.FromFn.{map-range_with_len_more}
+use Rattle.leak_lemmas.proofs.Members.{each_append}
 use Rattle.leak_roots.specs.declared.piece.Piece.{Piece}
 use Rattle.leak_roots.specs.declared.piece.Piece.TheVariants.{Registers, Memory}
 use Rattle.leak_roots.specs.Places.{Places, IsRange, AreRanges}
@@ -60,10 +61,6 @@ all_words words range some is =
 
 -- ---- all ranges
 
-all_append : {X : Type 0} (P : X → Type 0) (xs ys : List X) → AllByRecursion P xs → AllByRecursion P ys → AllByRecursion P (xs ++ ys)
-all_append P [] ys h g = g
-all_append P (x ∷ xs) ys h g = (h.0, all_append P xs ys h.1 g)
-
 first_ranges : (words : ℕ) (p : Places) (i : ℕ) → 0 < words → AreRanges p.memory → i ≤ length p.memory → AreFirstCut p words i (register_pieces words (length p.registers) ++ memory_pieces words (take i p.memory))
 first_ranges words p zero some are h =
     let all = all_registers words (length p.registers) some in
@@ -81,7 +78,7 @@ first_ranges words p (suc i) some are h =
     ap (λ (xs : List Piece). register_pieces words (length p.registers) ++ xs) more ∙ sym (append_assoc (register_pieces words (length p.registers)) (memory_pieces words (take i p.memory)) (range_pieces words r)) in
     rw (e, new) (first_more p words i old (old ++ range_pieces words r) (0, 0) (omega arith) first
     (flat_map-append places_of old (range_pieces words r) ∙ ap (λ (xs : List Place). flat_map places_of old ++ xs) (memory_all r words [] (range_pieces words r) r.1 (omega arith) all))
-    (all_append (IsCutPiece p words) old (range_pieces words r) first.each (all.each p tt)))
+    (each_append (IsCutPiece p words) old (range_pieces words r) first.each (all.each p tt)))
 
 pub pieces_cut : (words : ℕ) (p : Places) → 0 < words → AreRanges p.memory → AreCut p words (pieces_of words p)
 unfolding pieces_of

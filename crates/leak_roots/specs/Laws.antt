@@ -1,11 +1,11 @@
 -- What pieces and places say of root words.
-use Rattle.std.specs.Prelude.{◌≡◌, ℕ, Bool, List, Option, flat_map}
+use Rattle.std.specs.Prelude.{◌≡◌, ℕ, List, Option, flat_map}
 use Rattle.leak_elf.specs.Words.{word_of}
 use Rattle.leak_blocks.specs.declared.block.Block.{Block}
-use Rattle.leak_blocks.specs.declared.small.Span.{Span}
 use Rattle.leak_roots.specs.declared.piece.Piece.{Piece}
 use Rattle.leak_roots.specs.Places.{Places, words_at}
 use Rattle.leak_roots.specs.Pieces.{AreCut, words_of}
+use Rattle.leak_roots.specs.LeftOut.{LeftOut}
 use Rattle.leak_roots.specs.Roots.{AreRootsOf, root_words}
 
 -- the words of the pieces, one piece after another, are those at all places
@@ -24,6 +24,5 @@ PiecesGiveAll =
 -- the words at the places of a core's root words are its root words
 abbrev pub PlacesHoldRootWords : Type 0
 PlacesHoldRootWords =
-    (unwritable : Bool) (file : List ℕ) (blocks : List Block) (spans slack dead : List Span) (p : Places)
-    → AreRootsOf unwritable file blocks spans slack dead p
-    → words_at (word_of file) p ≡ root_words unwritable file blocks spans slack dead
+    (left : LeftOut) (file : List ℕ) (blocks : List Block) (p : Places)
+    → AreRootsOf left file blocks p → words_at (word_of file) p ≡ root_words left file blocks

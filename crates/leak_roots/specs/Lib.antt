@@ -1,5 +1,6 @@
 -- The definitions of this crate, by subject.
 pub mod Places
+pub mod LeftOut
 pub mod Roots
 pub mod Skipped
 pub mod Pieces

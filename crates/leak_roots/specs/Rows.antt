@@ -6,6 +6,7 @@ use Rattle.leak_elf.specs.Sample.{sample, file_header, program_header, note_entr
 use Rattle.leak_notes.specs.Rows.{with_vectors}
 use Rattle.leak_blocks.specs.declared.block.Block.{Block}
 use Rattle.leak_blocks.specs.declared.small.Span.{Span}
+use Rattle.leak_roots.specs.LeftOut.{LeftOut, nothing_left_out, usual_left_out}
 use Rattle.leak_roots.specs.Roots.{root_words, dead_places, is_inside}
 
 abbrev pub block : ℕ → ℕ → Block
@@ -24,20 +25,28 @@ with_flags flags =
 -- how many root words it has, and how many of them are the address of the block
 unfoldable pub counts : Bool → ℕ → ℕ × ℕ
 counts unwritable flags =
-    let words = root_words unwritable (with_flags flags) (block 0x10100 0x20 ∷ []) [] [] [] in
+    let left = record nothing_left_out { unwritable = unwritable } in
+    let words = root_words left (with_flags flags) (block 0x10100 0x20 ∷ []) in
     (length words, length (filter (λ w. w == 0x10100) words))
 
+-- the slack behind the block is left out too, and with it part of it as freed memory, or dead stack
+abbrev pub with_slack : LeftOut
+with_slack = record usual_left_out { slack = span 0x10120 0x1012f ∷ [] }
+
+abbrev pub with_slack_and_freed : LeftOut
+with_slack_and_freed = record with_slack { freed = span 0x10120 0x10127 ∷ [] }
+
+abbrev pub with_slack_and_stack : LeftOut
+with_slack_and_stack = record with_slack { dead = span 0x10000 0x107ff ∷ [] }
+
 pub record AreAnswers : Type 0 where
-  pub without_blocks : length (root_words true sample [] [] [] []) ≡ 539
-  pub with_a_block : length (root_words true sample (block 0x10100 0x20 ∷ []) [] [] []) ≡ 535
-  pub with_a_block_and_slack : length (root_words true sample (block 0x10100 0x20 ∷ []) [] (span 0x10120 0x1012f ∷ []) []) ≡ 533
-  pub freed_and_in_slack :
-      length (root_words true sample (block 0x10100 0x20 ∷ []) (span 0x10120 0x10127 ∷ []) (span 0x10120 0x1012f ∷ []) []) ≡ 533
-  pub with_dead_stack :
-      length (root_words true sample (block 0x10100 0x20 ∷ []) [] (span 0x10120 0x1012f ∷ []) (span 0x10000 0x107ff ∷ [])) ≡ 283
-  pub dead_outside_blocks_and_slack :
-      length (dead_places true sample (block 0x10100 0x20 ∷ []) [] (span 0x10120 0x1012f ∷ []) (span 0x10000 0x107ff ∷ [])) ≡ 250
-  pub with_vector_registers : length (root_words true with_vectors [] [] [] []) ≡ 587
+  pub without_blocks : length (root_words usual_left_out sample []) ≡ 539
+  pub with_a_block : length (root_words usual_left_out sample (block 0x10100 0x20 ∷ [])) ≡ 535
+  pub with_a_block_and_slack : length (root_words with_slack sample (block 0x10100 0x20 ∷ [])) ≡ 533
+  pub freed_and_in_slack : length (root_words with_slack_and_freed sample (block 0x10100 0x20 ∷ [])) ≡ 533
+  pub with_dead_stack : length (root_words with_slack_and_stack sample (block 0x10100 0x20 ∷ [])) ≡ 283
+  pub dead_outside_blocks_and_slack : length (dead_places with_slack_and_stack sample (block 0x10100 0x20 ∷ [])) ≡ 250
+  pub with_vector_registers : length (root_words usual_left_out with_vectors []) ≡ 587
   pub writable : counts true 6 ≡ (29, 1)
   pub writable_with_all : counts false 6 ≡ (29, 1)
   pub read_only : counts true 4 ≡ (27, 0)

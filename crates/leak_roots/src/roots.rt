@@ -1,12 +1,13 @@
 //! The root words of a core.
 
-ghost use Rattle.std.specs.Prelude.{◌≡◌, ◌↔◌, ◌+◌, ◌≤◌, ℕ, IfOk, Err, Bool, List, [], length, filter, not, false};
+ghost use Rattle.std.specs.Prelude.{◌≡◌, ◌↔◌, ◌+◌, ◌≤◌, ℕ, IfOk, Err, List, [], length, filter, not, false};
 ghost use Rattle.leak_elf.specs.Segments.{segments_of};
 ghost use Rattle.leak_notes.specs.Threads.{threads_of};
 ghost use Rattle.leak_blocks.specs.declared.block.Block.{Block};
 ghost use Rattle.leak_blocks.specs.declared.small.Span.{Span};
 ghost use Rattle.leak_blocks.specs.Small.{AreApart, CoverSame};
 ghost use Rattle.leak_roots.specs.Places.{Places, AreRanges, memory_places};
+ghost use Rattle.leak_roots.specs.LeftOut.{LeftOut, freed_left_out};
 ghost use Rattle.leak_roots.specs.Roots.{AreRootsOf, freed_places, has_roots, is_inside, root_places};
 ghost use Rattle.leak_roots.specs.Pieces.{AreCut};
 ghost use Rattle.leak_roots.specs.Cut.{pieces_of};
@@ -65,14 +66,14 @@ impl Roots {
     ) -> Result<Roots, AllocError>
         ensures registers { IfOk result (λ roots. roots.registers ≡ threads.now.registers) }
         ensures memory { IfOk result (λ roots. memory_places roots.memory
-            ≡ root_places unwritable image.now live.now.blocks small.now [] []) }
-        ensures freed { IfOk result (λ roots.
-            roots.freed ≡ length (freed_places unwritable image.now live.now.blocks small.now)) }
+            ≡ root_places (freed_left_out unwritable small.now) image.now live.now.blocks) }
+        ensures freed { let left = freed_left_out unwritable small.now in
+            IfOk result (λ roots. roots.freed ≡ length (freed_places left image.now live.now.blocks)) }
         ensures dead { IfOk result (λ roots. roots.dead ≡ 0) }
         ensures links { IfOk result (λ roots. roots.skips_links ≡ false) }
         ensures of_core { (spans : List Span) → CoverSame small.now spans
             → threads.now ≡ threads_of image.now
-            → IfOk result (AreRootsOf unwritable image.now live.now.blocks spans [] []) }
+            → IfOk result (AreRootsOf (freed_left_out unwritable spans) image.now live.now.blocks) }
         // each block, and each span, cuts at most one range in two
         ensures few { let segments = filter (has_roots unwritable) (segments_of image.now) in
             IfOk result (λ roots. length roots.memory
@@ -130,10 +131,10 @@ impl Roots {
         ensures freed { IfOk result (λ roots. roots.freed ≡ self.freed) }
         ensures dead { IfOk result (λ roots. roots.dead ≡ self.dead) }
         ensures links { IfOk result (λ roots. roots.skips_links ≡ self.skips_links) }
-        ensures of_core { (unwritable : Bool) (file : List ℕ) (blocks : List Block)
-            (spans others : List Span) → CoverSame slack.now others
-            → AreRootsOf unwritable file blocks spans [] [] self
-            → IfOk result (AreRootsOf unwritable file blocks spans others []) }
+        ensures of_core { (left : LeftOut) (file : List ℕ) (blocks : List Block)
+            (others : List Span) → CoverSame slack.now others
+            → AreRootsOf (record left { slack = []; dead = [] }) file blocks self
+            → IfOk result (AreRootsOf (record left { slack = others; dead = [] }) file blocks) }
         ensures few { IfOk result (λ roots.
             length roots.memory ≤ length self.memory + length slack.now) }
     {
@@ -165,10 +166,10 @@ impl Roots {
         ensures dead { IfOk result (λ roots.
             roots.dead ≡ length (filter (is_inside dead.now) (memory_places self.memory))) }
         ensures links { IfOk result (λ roots. roots.skips_links ≡ self.skips_links) }
-        ensures of_core { (unwritable : Bool) (file : List ℕ) (blocks : List Block)
-            (spans slack others : List Span) → CoverSame dead.now others
-            → AreRootsOf unwritable file blocks spans slack [] self
-            → IfOk result (AreRootsOf unwritable file blocks spans slack others) }
+        ensures of_core { (left : LeftOut) (file : List ℕ) (blocks : List Block)
+            (others : List Span) → CoverSame dead.now others
+            → AreRootsOf (record left { dead = [] }) file blocks self
+            → IfOk result (AreRootsOf (record left { dead = others }) file blocks) }
         ensures few { IfOk result (λ roots.
             length roots.memory ≤ length self.memory + length dead.now) }
     {

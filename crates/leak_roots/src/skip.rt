@@ -1,8 +1,8 @@
 //! What a search leaves out of the root words.
 
-ghost use Rattle.std.specs.Prelude.{◌≡◌, IfOk, false, true};
+ghost use Rattle.std.specs.Prelude.{◌≡◌, IfOk};
 ghost use Rattle.leak_blocks.specs.Small.{CoverSame};
-ghost use Rattle.leak_roots.specs.Skipped.{spans_of};
+ghost use Rattle.leak_roots.specs.Skipped.{spans_of, usual_skip};
 
 use leak_blocks::{SmallSpans, small_spans};
 use leak_mtrace::Log;
@@ -27,7 +27,7 @@ pub struct Skip {
 impl Skip {
     /// What a search leaves out unless it is asked to leave out more: the words of memory that can't be written.
     pub fn usual() -> Skip
-        ensures { result ≡ record { freed = false; slack = false; dead = false; links = false; unwritable = true } }
+        ensures { result ≡ usual_skip }
     {
         Skip {
             freed: false,

@@ -1,6 +1,6 @@
 -- One step of a scan over addresses.
-use Rattle.std.proofs.Common.{◌≡◌, ℕ, ◌+◌, ◌-◌, ◌<◌, ◌≤◌, Bool, true, false, refl, ap, sym, ◌∙◌, List, [], ◌∷◌, ◌++◌, Option, Some, None, IsSome, ◌⊎◌, inl, inr, if◌then◌else◌, nat_lt, ltb→lt, nltb→le, arith, filter_map, filter, cond}
-use Rattle.std.specs.Bool.{passes, fails}
+use Rattle.std.proofs.Common.{◌≡◌, ℕ, ◌+◌, ◌-◌, ◌<◌, ◌≤◌, Bool, true, false, refl, ap, sym, ◌∙◌, List, [], ◌∷◌, ◌++◌, Option, Some, None, IsSome, ◌⊎◌, inl, inr, if◌then◌else◌, arith, filter_map, filter, cond}
+use Rattle.std.proofs.lemmas.Bool.{cases_lt}
 use Rattle.std.specs.List.{cons_option}
 use Rattle.leak_scan.specs.declared.reading.ReadWords.{ReadWords}
 use Rattle.leak_scan.specs.Positions.{is_in, listed_word, words_from, words_found, IsRead, IsFirstWindowAt}
@@ -23,20 +23,13 @@ word_cases : (x : Option ℕ) → (x ≡ None) ⊎ IsSome x
 word_cases None = inl refl
 word_cases (Some v) = inr refl
 
-lt_cases : (a b : ℕ) → (a < b) ⊎ (b ≤ a)
-lt_cases a b = go (nat_lt a b) refl
-  where
-    go : (t : Bool) → nat_lt a b ≡ t → (a < b) ⊎ (b ≤ a)
-    go true e = inl (ltb→lt _ _ (passes _ e))
-    go false e = inr (nltb→le _ _ (fails _ e))
-
 -- no address may be read
 pub advance_none : (word_at : ℕ → Option ℕ) (pages : Option (List ℕ)) (from count : ℕ) → ((a : ℕ) → from ≤ a → a < from + count → is_in pages a ≡ false) → words_from (listed_word word_at pages) from count ≡ []
 advance_none word_at pages from count h = nothing_in _ from count (λ a l u. off_pages word_at pages a (h a l u))
 
 -- none that may has a word
 pub advance_end : (word_at : ℕ → Option ℕ) (pages : Option (List ℕ)) (from count start window : ℕ) → IsFirstWindowAt pages from count start window → ((a : ℕ) → start ≤ a → word_at a ≡ None) → words_from (listed_word word_at pages) from count ≡ []
-advance_end word_at pages from count start window first ended = nothing_in _ from count (λ a l u. at a l (lt_cases a start))
+advance_end word_at pages from count start window first ended = nothing_in _ from count (λ a l u. at a l (cases_lt a start))
   where
     at : (a : ℕ) → from ≤ a → (a < start) ⊎ (start ≤ a) → listed_word word_at pages a ≡ None
     at a l (inl h) = off_pages word_at pages a (first.none a l h)

@@ -1,6 +1,6 @@
 -- Listed pages.
 use Rattle.std.proofs.Common.{◌≡◌, ℕ, zero, suc, ◌+◌, ◌-◌, ◌*◌, ◌/◌, ◌<◌, ◌≤◌, Bool, true, false, ◌||◌, refl, ap, sym, ◌∙◌, List, [], ◌∷◌, length, slice_index_or, slice_index, ◌==◌, eqb→eq, true≢false, nat_lt, ltb→lt, nltb→le, ◌⊎◌, inl, inr, max, min, ◌%◌, ◌^◌, arith}
-use Rattle.std.proofs.lemmas.Bool.{eq-eqb, ne_eqb}
+use Rattle.std.proofs.lemmas.Bool.{eq-eqb, ne_eqb, cases_lt}
 use Rattle.std.proofs.lemmas.List.Sorted.{IsNonDecreasingBy-from_all_adjacent}
 use Rattle.std.specs.Bool.{passes, fails}
 use Rattle.std.specs.List.Sorted.{IsStrictlyIncreasing, IsNonDecreasingBy}
@@ -60,22 +60,15 @@ listed_here numbers page count d up below h = cases (slice_index_or numbers coun
 pub listed_nowhere : (numbers : List ℕ) (page count : ℕ) → IsCountBelow numbers page count → length numbers ≤ count → (other : ℕ) → page ≤ other → is_listed numbers other ≡ false
 listed_nowhere numbers page count up h other l = not_listed numbers other (λ k d z e. let low : slice_index_or numbers k d < page = up.below k d (omega arith) in omega arith)
 
-lt_cases : (a b : ℕ) → (a < b) ⊎ (b ≤ a)
-lt_cases a b = go (nat_lt a b) refl
-  where
-    go : (t : Bool) → nat_lt a b ≡ t → (a < b) ⊎ (b ≤ a)
-    go true e = inl (ltb→lt _ _ (passes _ e))
-    go false e = inr (nltb→le _ _ (fails _ e))
-
 -- the page of the first number that is not below the page of an address
 pub window_at : (numbers : List ℕ) (from count d start : ℕ) → IsStrictlyIncreasing numbers → IsCountBelow numbers (from / 4096) count → count < length numbers →
     start ≡ max from (min (slice_index_or numbers count d * 4096) 18446744073709551615) → from < 2 ^ 64 → IsWindowAt numbers from start (4096 - start % 4096)
 window_at numbers from count d start up below h e high = record {
   behind = omega arith;
-  here = begins (lt_cases (slice_index_or numbers count d * 4096) (2 ^ 64));
-  none = λ a l u. not_listed numbers (a / 4096) (λ k b z same. before a l u k b z same (lt_cases k count));
+  here = begins (cases_lt (slice_index_or numbers count d * 4096) (2 ^ 64));
+  none = λ a l u. not_listed numbers (a / 4096) (λ k b z same. before a l u k b z same (cases_lt k count));
   some = omega arith;
-  all = λ a l u z. listed_at numbers count (a / 4096) d h (here a l u z (lt_cases (slice_index_or numbers count d * 4096) (2 ^ 64)));
+  all = λ a l u z. listed_at numbers count (a / 4096) d h (here a l u z (cases_lt (slice_index_or numbers count d * 4096) (2 ^ 64)));
 }
   where
     first : from / 4096 ≤ slice_index_or numbers count d

@@ -114,7 +114,7 @@ run_rest f from bytes run h k l =
 
 -- ---- multiples of 8
 
-shifted : (a b n : ℕ) → map (λ i. a + 8 * i) (range_with_len (b + 1) n) ≡ map (λ i. a + 8 + 8 * i) (range_with_len b n)
+pub shifted : (a b n : ℕ) → map (λ i. a + 8 * i) (range_with_len (b + 1) n) ≡ map (λ i. a + 8 + 8 * i) (range_with_len b n)
 shifted a b zero = refl
 shifted a b (suc n) =
     ap (λ (k : ℕ). k ∷ map (λ i. a + 8 * i) (range_with_len (b + 1 + 1) n)) (let r : a + 8 * (b + 1) ≡ a + 8 + 8 * b = omega arith in r)

@@ -18,7 +18,7 @@
 
 mod block_runs;
 mod first;
-mod holding;
+mod head_blocks;
 mod laws;
 mod pages;
 mod position;
@@ -29,7 +29,7 @@ mod scan;
 mod targets;
 
 pub use block_runs::BlockRuns;
-pub use holding::heads;
+pub use head_blocks::heads;
 pub use laws::{ranges_lead_less, targets_are_blocks, worked_heads, worked_targets};
 pub use pages::Pages;
 pub use run_targets::list_run;

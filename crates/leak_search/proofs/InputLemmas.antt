@@ -14,9 +14,7 @@ use Rattle.leak_notes.specs.Threads.{threads_of}
 use Rattle.leak_chunks.specs.Fit.{fits_core, fits_of}
 use Rattle.leak_roots.specs.Places.{Places}
 use Rattle.leak_roots.specs.Roots.{AreRootsOf}
-use Rattle.leak_roots.specs.Skipped.{spans_of}
-use Rattle.leak_search.specs.Slack.{slack_in}
-use Rattle.leak_search.specs.Dead.{dead_in}
+use Rattle.leak_search.specs.LeftOut.{left_out}
 use Rattle.leak_report.specs.Totals.{HaveCallersIn, leaked_in}
 use Rattle.leak_report.proofs.Callers.{have_callers}
 use Rattle.leak_search.specs.declared.inputs.Input.{Input}
@@ -31,12 +29,17 @@ input_callers core log input read =
     subst (λ (bs : List Block). HaveCallersIn log bs) (sym (input_blocks core log read.0 input read.1))
     (have_callers live_of_lines log read.0 read.1.callers)
 
+-- the same in the log that the input has
+pub own_callers : (core log : List ℕ) (input : Input) → IsRead core log input → HaveCallersIn input.log.now input.live.blocks
+own_callers core log input read =
+    subst (λ (text : List ℕ). HaveCallersIn text input.live.blocks) (sym read.1.text) (input_callers core log input read)
+
 -- an input that was read
 abbrev pub as_input : (core log : List ℕ) (lines : List Line) (input : Input) → IsReadOf core log lines input → IsInput lines input
 as_input core log lines input read = record { log = log; read = subst (λ (file : List ℕ). IsReadOf file log lines input) (sym read.image) read }
 
 -- the places found are those of the input's root words
-pub roots_found : (lines : List Line) (input : Input) (found places : Places) → AreRootsOf input.skip.unwritable input.image input.live.blocks (spans_of input.skip lines) (slack_in input.skip input.image input.live.blocks) (dead_in input.skip input.image) found
+pub roots_found : (lines : List Line) (input : Input) (found places : Places) → AreRootsOf (left_out input.skip input.image input.live.blocks lines) input.image input.live.blocks found
     → places ≡ record found { skips_links = input.skip.links } → AreRootsFor lines input places
 roots_found lines input found places roots is = subst (λ (p : Places). AreRootsFor lines input p) (sym is) (record {
   roots = record { registers = roots.registers; memory = roots.memory; ranges = roots.ranges; freed = roots.freed; dead = roots.dead };

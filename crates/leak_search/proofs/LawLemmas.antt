@@ -17,11 +17,10 @@ use Rattle.leak_blocks.specs.Small.{small_spans_of}
 use Rattle.leak_index.specs.Leads.{Distances}
 use Rattle.leak_index.specs.Hits.{Index, hits_of}
 use Rattle.leak_roots.specs.declared.skip.Skip.{Skip}
+use Rattle.leak_roots.specs.LeftOut.{LeftOut}
 use Rattle.leak_roots.specs.Roots.{has_roots, is_inside, kept_places, outside_places, outside_places_in, root_places}
-use Rattle.leak_roots.specs.Skipped.{spans_of}
 use Rattle.leak_stacks.specs.Dead.{dead_spans_of}
-use Rattle.leak_search.specs.Slack.{slack_in}
-use Rattle.leak_search.specs.Dead.{dead_in}
+use Rattle.leak_search.specs.LeftOut.{left_out}
 use Rattle.leak_roots.proofs.LeftOut.{no_spans_inside}
 use Rattle.leak_chunks.specs.FreeLinks.{is_free_link_past}
 use Rattle.leak_chunks.specs.Slack.{slack_spans_of}
@@ -142,30 +141,32 @@ and_less true t false v i j h = absurd cc
 and_less false t u v i j h = absurd cc
 
 memory_less : (core : List ℕ) (index : Index) (less more : Skip) (lines : List Line) (x : ℕ) → LeavesOutNoMore less more
-    → times x (led_in_memory more.links (word_of core) index (root_places more.unwritable core (live_of lines) (spans_of more lines) (slack_in more core (live_of lines)) (dead_in more core)))
-    ≤ times x (led_in_memory less.links (word_of core) index (root_places less.unwritable core (live_of lines) (spans_of less lines) (slack_in less core (live_of lines)) (dead_in less core)))
+    → times x (led_in_memory more.links (word_of core) index (root_places (left_out more core (live_of lines) lines) core (live_of lines)))
+    ≤ times x (led_in_memory less.links (word_of core) index (root_places (left_out less core (live_of lines) lines) core (live_of lines)))
 unfolding root_places kept_places outside_places
 memory_less core index less more lines x h =
     let w = word_of core in
     let segments = segments_of core in
     let o = outside_places_in core (live_of lines) in
-    let kept = λ (skip : Skip) (a : ℕ). not (is_inside (spans_of skip lines) a) in
-    let spare = λ (skip : Skip) (a : ℕ). not (is_inside (slack_in skip core (live_of lines)) a) in
-    let used = λ (skip : Skip) (a : ℕ). not (is_inside (dead_in skip core) a) in
-    let both = λ (skip : Skip) (a : ℕ). kept skip a && spare skip a in
-    let every = λ (skip : Skip) (a : ℕ). both skip a && used skip a in
+    let most = left_out more core (live_of lines) lines in
+    let least = left_out less core (live_of lines) lines in
+    let kept = λ (left : LeftOut) (a : ℕ). not (is_inside left.freed a) in
+    let spare = λ (left : LeftOut) (a : ℕ). not (is_inside left.slack a) in
+    let used = λ (left : LeftOut) (a : ℕ). not (is_inside left.dead a) in
+    let both = λ (left : LeftOut) (a : ℕ). kept left a && spare left a in
+    let every = λ (left : LeftOut) (a : ℕ). both left a && used left a in
     let places = flat_map o (filter (has_roots more.unwritable) segments) in
     let others = flat_map o (filter (has_roots less.unwritable) segments) in
-    let left = led_is more.links w index (filter (used more) (filter (spare more) (filter (kept more) places)))
-    ∙ ap (flat_map (led_at more.links w index)) (ap (filter (used more)) (filter_twice (spare more) (kept more) places) ∙ filter_twice (used more) (both more) places) in
-    let right = led_is less.links w index (filter (used less) (filter (spare less) (filter (kept less) others)))
-    ∙ ap (flat_map (led_at less.links w index)) (ap (filter (used less)) (filter_twice (spare less) (kept less) others) ∙ filter_twice (used less) (both less) others) in
-    let one = each_less (led_at more.links w index) (led_at less.links w index) (filter (every more) places) x (λ a. led_less less.links more.links w index a x h.links) in
-    let two = fewer (led_at less.links w index) (every more) (every less) places x (λ a. and_less (both more a) (both less a) (used more a) (used less a)
-    (and_less (kept more a) (kept less a) (spare more a) (spare less a)
+    let left = led_is more.links w index (filter (used most) (filter (spare most) (filter (kept most) places)))
+    ∙ ap (flat_map (led_at more.links w index)) (ap (filter (used most)) (filter_twice (spare most) (kept most) places) ∙ filter_twice (used most) (both most) places) in
+    let right = led_is less.links w index (filter (used least) (filter (spare least) (filter (kept least) others)))
+    ∙ ap (flat_map (led_at less.links w index)) (ap (filter (used least)) (filter_twice (spare least) (kept least) others) ∙ filter_twice (used least) (both least) others) in
+    let one = each_less (led_at more.links w index) (led_at less.links w index) (filter (every most) places) x (λ a. led_less less.links more.links w index a x h.links) in
+    let two = fewer (led_at less.links w index) (every most) (every least) places x (λ a. and_less (both most a) (both least a) (used most a) (used least a)
+    (and_less (kept most a) (kept least a) (spare most a) (spare least a)
     (inside_less less.freed more.freed (small_spans_of lines) a h.freed) (inside_less less.slack more.slack (slack_spans_of w (live_of lines)) a h.slack))
     (inside_less less.dead more.dead (dead_spans_of core) a h.dead)) in
-    let three = fewer_segments (led_at less.links w index) (every less) o (has_roots more.unwritable) (has_roots less.unwritable) segments x (λ s. roots_less less.unwritable more.unwritable s h.unwritable) in
+    let three = fewer_segments (led_at less.links w index) (every least) o (has_roots more.unwritable) (has_roots less.unwritable) segments x (λ s. roots_less less.unwritable more.unwritable s h.unwritable) in
     rw (left, right) (omega (arith, one, two, three))
 
 pub first_within : (core : List ℕ) (reading : Distances) (less more : Skip) (lines : List Line) → LeavesOutNoMore less more
@@ -175,8 +176,8 @@ first_within core reading less more lines h x has =
     let w = word_of core in
     let registers = targets_of index (registers_of core) in
     let few = memory_less core index less more lines x h in
-    let left = times-append x registers (led_in_memory more.links w index (root_places more.unwritable core (live_of lines) (spans_of more lines) (slack_in more core (live_of lines)) (dead_in more core))) in
-    let right = times-append x registers (led_in_memory less.links w index (root_places less.unwritable core (live_of lines) (spans_of less lines) (slack_in less core (live_of lines)) (dead_in less core))) in
+    let left = times-append x registers (led_in_memory more.links w index (root_places (left_out more core (live_of lines) lines) core (live_of lines))) in
+    let right = times-append x registers (led_in_memory less.links w index (root_places (left_out less core (live_of lines) lines) core (live_of lines))) in
     omega (arith, few, left, right, has)
 
 pub marked_with_less : (core : List ℕ) (reading : Distances) (less more : Skip) (lines : List Line) (i : ℕ) → LeavesOutNoMore less more

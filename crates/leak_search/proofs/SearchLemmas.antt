@@ -1,5 +1,5 @@
 -- From what was read and marked to what a search comes to.
-use Rattle.std.proofs.Common.{◌≡◌, ℕ, ◌-◌, ◌≤◌, ◌<◌, ◌^◌, List, [], length, Bool, true, false, Option, Some, None, Result, Ok, Err, IfOk, refl, ap, subst, sym, ◌∙◌, arith, inr}
+use Rattle.std.proofs.Common.{◌≡◌, ℕ, ◌-◌, ◌≤◌, ◌<◌, ◌^◌, List, [], length, Bool, Option, Some, None, Result, Ok, Err, IfOk, refl, ap, subst, sym, ◌∙◌, arith, inr}
 use Rattle.std.specs.Prelude.{if◌then◌else◌}
 use Rattle.leak_elf.specs.Segments.{undumped_of}
 use Rattle.leak_mtrace.specs.Log.{torn_of}
@@ -8,19 +8,15 @@ use Rattle.std.specs.Result.{IsErrOf}
 use Rattle.leak_elf.specs.Words.{word_of}
 use Rattle.leak_mtrace.specs.declared.line.Line.{Line}
 use Rattle.leak_blocks.specs.declared.block.Block.{Block}
-use Rattle.leak_blocks.specs.declared.small.Span.{Span}
-use Rattle.leak_blocks.specs.Small.{small_spans_of}
 use Rattle.leak_blocks.specs.Live.{live_of, replay_of}
 use Rattle.leak_index.specs.Leads.{Distances}
 use Rattle.leak_index.specs.Hits.{Index}
 use Rattle.leak_scan.specs.Heads.{heads_of}
 use Rattle.leak_notes.specs.Threads.{registers_of}
 use Rattle.leak_roots.specs.Places.{Places}
-use Rattle.leak_roots.specs.Roots.{AreRootsOf, dead_places, freed_places, root_places}
-use Rattle.leak_roots.specs.Skipped.{spans_of, freed_of}
-use Rattle.leak_stacks.specs.Dead.{dead_spans_of}
-use Rattle.leak_search.specs.Slack.{slack_in}
-use Rattle.leak_search.specs.Dead.{dead_in, dead_told}
+use Rattle.leak_roots.specs.LeftOut.{LeftOut}
+use Rattle.leak_roots.specs.Roots.{AreRootsOf, root_places}
+use Rattle.leak_search.specs.LeftOut.{dead_told, freed_told, left_out}
 use Rattle.leak_roots.specs.declared.skip.Skip.{Skip}
 use Rattle.leak_marks.specs.Reach.{Graph, Reach}
 use Rattle.leak_marks.specs.Partition.{Partitions}
@@ -48,42 +44,31 @@ too_many core log input read many =
     inr (refl, read.1.accepted, (read.0, read.1.is_log, subst (λ (bs : List Block). 2 ^ 32 ≤ length bs) e (omega (arith, many))))
 
 -- what the words at the places found lead to is what the root words lead to
-pub found_first : (core : List ℕ) (index : Index) (blocks : List Block) (spans slack dead : List Span) (links unwritable : Bool) (places : Places) → AreRootsOf unwritable core blocks spans slack dead places → places.skips_links ≡ links
-    → led_by_roots (word_of core) index places ≡ led_from links (word_of core) index (registers_of core) (root_places unwritable core blocks spans slack dead)
-found_first core index blocks spans slack dead links unwritable places roots same = rw (roots.registers, roots.memory, same) refl
+pub found_first : (core : List ℕ) (index : Index) (blocks : List Block) (left : LeftOut) (links : Bool) (places : Places) → AreRootsOf left core blocks places → places.skips_links ≡ links
+    → led_by_roots (word_of core) index places ≡ led_from links (word_of core) index (registers_of core) (root_places left core blocks)
+found_first core index blocks left links places roots same = rw (roots.registers, roots.memory, same) refl
 
 -- the graph that was marked is that of the core and the lines
 pub marked_graph : (core : List ℕ) (reading : Distances) (skip : Skip) (lines : List Line) (blocks : List Block) (index : Index) (places : Places)
-    → blocks ≡ live_of lines → index ≡ record { blocks = blocks; reading = reading } → AreRootsOf skip.unwritable core blocks (spans_of skip lines) (slack_in skip core blocks) (dead_in skip core) places → places.skips_links ≡ skip.links
+    → blocks ≡ live_of lines → index ≡ record { blocks = blocks; reading = reading } → AreRootsOf (left_out skip core blocks lines) core blocks places → places.skips_links ≡ skip.links
     → graph_of (word_of core) index (led_by_roots (word_of core) index places) [] ≡ graph_of_one core reading skip lines
 marked_graph core reading skip lines blocks index places are is roots links =
-    rw (found_first core index blocks (spans_of skip lines) (slack_in skip core blocks) (dead_in skip core) skip.links skip.unwritable places roots links, is, are) refl
+    rw (found_first core index blocks (left_out skip core blocks lines) skip.links places roots links, is, are) refl
 
-counted : (asked unwritable : Bool) (core : List ℕ) (blocks : List Block) (small : List Span) (places : Places) → places.freed ≡ length (freed_places unwritable core blocks (if asked then small else []))
-    → (if asked then Some places.freed else None) ≡ (if asked then Some (length (freed_places unwritable core blocks small)) else None)
-counted true unwritable core blocks small places is = ap (λ (n : ℕ). Some n) is
-counted false unwritable core blocks small places is = refl
+-- the numbers of freed and of dead places are told if they are left out
+pub freed_is : (skip : Skip) (core : List ℕ) (blocks : List Block) (lines : List Line) (places : Places) → AreRootsOf (left_out skip core blocks lines) core blocks places
+    → (if skip.freed then Some places.freed else None) ≡ freed_told skip core blocks lines
+freed_is skip core blocks lines places roots = ap (λ (n : ℕ). if skip.freed then Some n else None) roots.freed
 
--- the number of freed places is told if they are left out
-pub freed_is : (skip : Skip) (core : List ℕ) (blocks : List Block) (lines : List Line) (places : Places) → AreRootsOf skip.unwritable core blocks (spans_of skip lines) (slack_in skip core blocks) (dead_in skip core) places
-    → (if skip.freed then Some places.freed else None) ≡ freed_of skip core blocks lines
-freed_is skip core blocks lines places roots = counted skip.freed skip.unwritable core blocks (small_spans_of lines) places roots.freed
-
-dead_counted : (asked unwritable : Bool) (core : List ℕ) (blocks : List Block) (spans slack dead : List Span) (places : Places) → places.dead ≡ length (dead_places unwritable core blocks spans slack (if asked then dead else []))
-    → (if asked then Some places.dead else None) ≡ (if asked then Some (length (dead_places unwritable core blocks spans slack dead)) else None)
-dead_counted true unwritable core blocks spans slack dead places is = ap (λ (n : ℕ). Some n) is
-dead_counted false unwritable core blocks spans slack dead places is = refl
-
--- the number of dead places is told if they are left out
-pub dead_is : (skip : Skip) (core : List ℕ) (blocks : List Block) (lines : List Line) (places : Places) → AreRootsOf skip.unwritable core blocks (spans_of skip lines) (slack_in skip core blocks) (dead_in skip core) places
+pub dead_is : (skip : Skip) (core : List ℕ) (blocks : List Block) (lines : List Line) (places : Places) → AreRootsOf (left_out skip core blocks lines) core blocks places
     → (if skip.dead then Some places.dead else None) ≡ dead_told skip core blocks lines
-dead_is skip core blocks lines places roots = dead_counted skip.dead skip.unwritable core blocks (spans_of skip lines) (slack_in skip core blocks) (dead_spans_of core) places roots.dead
+dead_is skip core blocks lines places roots = ap (λ (n : ℕ). if skip.dead then Some n else None) roots.dead
 
 -- the numbers of the first lines
-pub head_is : (core log : List ℕ) (lines : List Line) (input : Input) (places : Places) (two : Option Two) → IsReadOf core log lines input → AreRootsOf input.skip.unwritable core input.live.blocks (spans_of input.skip lines) (slack_in input.skip core input.live.blocks) (dead_in input.skip core) places
-    → head_with input places two ≡ record { undumped = undumped_of core; unknown = (replay_of lines).unknown; displaced = (replay_of lines).displaced; torn = torn_of log; freed = freed_of input.skip core (live_of lines) lines; dead = dead_told input.skip core (live_of lines) lines; two = two }
+pub head_is : (core log : List ℕ) (lines : List Line) (input : Input) (places : Places) (two : Option Two) → IsReadOf core log lines input → AreRootsOf (left_out input.skip core input.live.blocks lines) core input.live.blocks places
+    → head_with input places two ≡ record { undumped = undumped_of core; unknown = (replay_of lines).unknown; displaced = (replay_of lines).displaced; torn = torn_of log; freed = freed_told input.skip core (live_of lines) lines; dead = dead_told input.skip core (live_of lines) lines; two = two }
 head_is core log lines input places two read roots =
-    let f = subst (λ (bs : List Block). (if input.skip.freed then Some places.freed else None) ≡ freed_of input.skip core bs lines) (input_blocks core log lines input read) (freed_is input.skip core input.live.blocks lines places roots) in
+    let f = subst (λ (bs : List Block). (if input.skip.freed then Some places.freed else None) ≡ freed_told input.skip core bs lines) (input_blocks core log lines input read) (freed_is input.skip core input.live.blocks lines places roots) in
     let d = subst (λ (bs : List Block). (if input.skip.dead then Some places.dead else None) ≡ dead_told input.skip core bs lines) (input_blocks core log lines input read) (dead_is input.skip core input.live.blocks lines places roots) in
     rw (f, d, read.image, read.live, read.torn) refl
 
@@ -93,7 +78,7 @@ index_is reading lines blocks index are is = rw (is, are) refl
 -- a search that read, found roots and marked
 pub finds_one : (core log : List ℕ) (reading : Distances) (check : Bool) (workers : ℕ) (input : Input) (index : Index) (places : Places) (head : Head) (fits : Option (List Bool)) (marked : Marked) (found : Found)
     → (read : IsRead core log input) → length input.live.blocks < 2 ^ 32 → index ≡ record { blocks = input.live.blocks; reading = reading }
-    → AreRootsOf input.skip.unwritable core input.live.blocks (spans_of input.skip read.0) (slack_in input.skip core input.live.blocks) (dead_in input.skip core) places → places.skips_links ≡ input.skip.links → MarksFromRoots (word_of core) index places workers marked → head ≡ head_with input places None
+    → AreRootsOf (left_out input.skip core input.live.blocks read.0) core input.live.blocks places → places.skips_links ≡ input.skip.links → MarksFromRoots (word_of core) index places workers marked → head ≡ head_with input places None
     → fits ≡ fits_with check input
     → found.report.items ≡ text_of head input.live.blocks marked.set.items (heads_of (word_of core) index marked.set.items) fits log
     → found.leaked ≡ length (leaked_in marked.set.items input.live.blocks) → found.claims ≡ marked.claims
@@ -154,7 +139,7 @@ pub finds_read : (core log : List ℕ) (reading : Distances) (skip : Skip) (chec
 finds_read core log reading skip check workers input index places head fits marked found read skips many is roots marks head_at fits_is report leaked claims =
     subst (λ (s : Skip). FindsOne core log reading s check workers found) skips
     (finds_one core log reading check workers input index places head fits marked found read (few_blocks (length input.live.blocks) (λ h. no_error marked (many h))) is
-    (subst (λ (file : List ℕ). AreRootsOf input.skip.unwritable file input.live.blocks (spans_of input.skip read.0) (slack_in input.skip file input.live.blocks) (dead_in input.skip file) places) read.1.image roots.roots)
+    (subst (λ (file : List ℕ). AreRootsOf (left_out input.skip file input.live.blocks read.0) file input.live.blocks places) read.1.image roots.roots)
     roots.links
     (subst (λ (file : List ℕ). MarksFromRoots (word_of file) index places workers marked) read.1.image marks)
     head_at fits_is

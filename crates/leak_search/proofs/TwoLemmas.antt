@@ -10,9 +10,7 @@ use Rattle.leak_index.specs.Hits.{Index}
 use Rattle.leak_scan.specs.Heads.{heads_of}
 use Rattle.leak_roots.specs.Places.{Places}
 use Rattle.leak_roots.specs.Roots.{AreRootsOf}
-use Rattle.leak_roots.specs.Skipped.{spans_of}
-use Rattle.leak_search.specs.Slack.{slack_in}
-use Rattle.leak_search.specs.Dead.{dead_in}
+use Rattle.leak_search.specs.LeftOut.{left_out}
 use Rattle.leak_roots.specs.declared.skip.Skip.{Skip}
 use Rattle.leak_marks.specs.Lists.{Has}
 use Rattle.leak_marks.specs.Reach.{Graph, Reach}
@@ -132,14 +130,14 @@ for_memory T (Err e) h = λ other. absurd (other h)
 
 -- the graph that was marked again is that of the later core and its lines
 later_graph : (core : List ℕ) (reading : Distances) (skip : Skip) (lines : List Line) (blocks : List Block) (index : Index) (places : Places) (kept fresh : List ℕ)
-    → blocks ≡ live_of lines → index ≡ record { blocks = blocks; reading = reading } → AreRootsOf skip.unwritable core blocks (spans_of skip lines) (slack_in skip core blocks) (dead_in skip core) places → places.skips_links ≡ skip.links
+    → blocks ≡ live_of lines → index ≡ record { blocks = blocks; reading = reading } → AreRootsOf (left_out skip core blocks lines) core blocks places → places.skips_links ≡ skip.links
     → graph_of_two (word_of core) index (led_by_roots (word_of core) index places) kept fresh ≡ graph_of_later core reading skip kept fresh lines
 later_graph core reading skip lines blocks index places kept fresh are is roots links =
-    rw (found_first core index blocks (spans_of skip lines) (slack_in skip core blocks) (dead_in skip core) skip.links skip.unwritable places roots links, is, are) refl
+    rw (found_first core index blocks (left_out skip core blocks lines) skip.links places roots links, is, are) refl
 
 -- a search of the later core that read, compared, found roots and marked again
 finds_later : (core log : List ℕ) (reading : Distances) (check : Bool) (workers : ℕ) (lines : List Line) (input : Input) (index : Index) (places : Places) (head : Head) (fits : Option (List Bool)) (pages : List ℕ) (c : Carry) (r : Retraced) (count bytes : ℕ) (found : Found)
-    → IsReadOf core log lines input → index ≡ record { blocks = input.live.blocks; reading = reading } → AreRootsOf input.skip.unwritable core input.live.blocks (spans_of input.skip lines) (slack_in input.skip core input.live.blocks) (dead_in input.skip core) places → places.skips_links ≡ input.skip.links
+    → IsReadOf core log lines input → index ≡ record { blocks = input.live.blocks; reading = reading } → AreRootsOf (left_out input.skip core input.live.blocks lines) core input.live.blocks places → places.skips_links ≡ input.skip.links
     → OthersLeadWithin (word_of core) (index_of reading lines) pages c.kept.items c.fresh.items
     → IsRetrace (word_of core) index places pages c workers r → count ≡ length c.fresh.items → bytes ≡ size_of input.live.blocks c.fresh.items
     → head ≡ head_with input places (Some (record { fresh = count; fresh_bytes = bytes; reread = r.reread }))
@@ -167,7 +165,7 @@ finds_later core log reading check workers lines input index places head fits pa
     }
   where
     text_is : (core log : List ℕ) (reading : Distances) (lines : List Line) (input : Input) (index : Index) (places : Places) (head : Head) (fits : Option (List Bool)) (pages : List ℕ) (c : Carry) (r : Retraced) (count bytes : ℕ)
-        → IsReadOf core log lines input → AreRootsOf input.skip.unwritable core input.live.blocks (spans_of input.skip lines) (slack_in input.skip core input.live.blocks) (dead_in input.skip core) places → index ≡ index_of reading lines → r.reread ≡ reread_of (word_of core) pages index.blocks c.kept.items
+        → IsReadOf core log lines input → AreRootsOf (left_out input.skip core input.live.blocks lines) core input.live.blocks places → index ≡ index_of reading lines → r.reread ≡ reread_of (word_of core) pages index.blocks c.kept.items
         → count ≡ length c.fresh.items → bytes ≡ size_of input.live.blocks c.fresh.items
         → head ≡ head_with input places (Some (record { fresh = count; fresh_bytes = bytes; reread = r.reread }))
         → text_of head input.live.blocks r.marked.set.items (heads_of (word_of core) index r.marked.set.items) fits log

@@ -10,9 +10,7 @@ use Rattle.leak_index.specs.Leads.{Distances}
 use Rattle.leak_index.specs.Hits.{Index}
 use Rattle.leak_roots.specs.Places.{Places}
 use Rattle.leak_roots.specs.Roots.{AreRootsOf}
-use Rattle.leak_roots.specs.Skipped.{spans_of}
-use Rattle.leak_search.specs.Slack.{slack_in}
-use Rattle.leak_search.specs.Dead.{dead_in}
+use Rattle.leak_search.specs.LeftOut.{left_out}
 use Rattle.leak_roots.specs.declared.skip.Skip.{Skip}
 use Rattle.leak_marks.specs.Reach.{Graph, Reach}
 use Rattle.leak_why.specs.declared.chain.Chain.{Chain}
@@ -36,8 +34,8 @@ pub tells_why : (core log : List ℕ) (reading : Distances) (skip : Skip) (addre
 tells_why core log reading skip address input index places block chain found read is skips roots asked why reached text held =
     let e = input_blocks core log read.0 input read.1 in
     let file = read.1.image in
-    let of_core = subst (λ (f : List ℕ). AreRootsOf skip.unwritable f input.live.blocks (spans_of skip read.0) (slack_in skip f input.live.blocks) (dead_in skip f) places) file
-    (subst (λ (s : Skip). AreRootsOf s.unwritable input.image input.live.blocks (spans_of s read.0) (slack_in s input.image input.live.blocks) (dead_in s input.image) places) skips roots.roots) in
+    let of_core = subst (λ (f : List ℕ). AreRootsOf (left_out skip f input.live.blocks read.0) f input.live.blocks places) file
+    (subst (λ (s : Skip). AreRootsOf (left_out s input.image input.live.blocks read.0) input.image input.live.blocks places) skips roots.roots) in
     let links : places.skips_links ≡ skip.links = roots.links ∙ ap (λ (s : Skip). s.links) skips in
     let g = marked_graph core reading skip read.0 input.live.blocks index places e is of_core links in
     record {
@@ -47,7 +45,7 @@ tells_why core log reading skip address input index places block chain found rea
       block = block;
       asked = subst (λ (bs : List Block). IsAsked bs address block) e asked;
       places = places;
-      are_places = subst (λ (bs : List Block). AreRootsOf skip.unwritable core bs (spans_of skip read.0) (slack_in skip core bs) (dead_in skip core) places) e of_core;
+      are_places = subst (λ (bs : List Block). AreRootsOf (left_out skip core bs read.0) core bs places) e of_core;
       links = links;
       chain = chain;
       why =

@@ -9,7 +9,7 @@ use Rattle.leak_notes.specs.declared.error.NoteError.TheVariants.{NoMemory as No
 use Rattle.leak_mtrace.specs.declared.line.Line.{Line}
 use Rattle.leak_mtrace.specs.declared.error.LogError.{LogError}
 use Rattle.leak_mtrace.specs.declared.error.LogError.TheVariants.{NoMemory as NoMemoryForLog}
-use Rattle.leak_mtrace.specs.Log.{IsLog, IsFirstFault, CallersAreIn, torn_of, whole_len_of, is_continued_by}
+use Rattle.leak_mtrace.specs.Log.{IsLog, IsFirstFault, CallersAreIn, torn_of, is_continued_by}
 use Rattle.leak_blocks.specs.Live.{replay_of, live_of}
 use Rattle.leak_blocks.specs.declared.replaying.Replayed.{Replayed}
 use Rattle.leak_blocks.specs.declared.small.Span.{Span}
@@ -19,8 +19,7 @@ use Rattle.leak_roots.specs.Places.{Places}
 use Rattle.leak_roots.specs.Roots.{AreRootsOf}
 use Rattle.leak_roots.specs.declared.skip.Skip.{Skip}
 use Rattle.leak_roots.specs.Skipped.{spans_of}
-use Rattle.leak_search.specs.Slack.{slack_in}
-use Rattle.leak_search.specs.Dead.{dead_in}
+use Rattle.leak_search.specs.LeftOut.{left_out}
 use Rattle.leak_pool.specs.declared.error.PoolError.{PoolError}
 use Rattle.leak_pool.specs.declared.error.PoolError.TheVariants.{TooMany as TooManyForPool, NoMemory as NoMemoryForPool}
 use Rattle.leak_search.specs.declared.inputs.Input.{Input}
@@ -67,13 +66,13 @@ IsReadLog skip log read = (lines : List Line) × ComesTo log lines read.0 × Cov
 pub record IsReadOf (core log : List ℕ) (lines : List Line) (input : Input) : Type 0 where
   pub accepted : IsCore core
   pub image : input.image ≡ core
+  pub text : input.log.now ≡ log
   pub threads : input.threads ≡ threads_of core
   pub is_log : IsLog log lines
   pub torn : input.torn ≡ torn_of log
-  pub whole_len : input.whole_len ≡ whole_len_of log
   pub callers : CallersAreIn log lines
   pub live : input.live ≡ replay_of lines
-  pub small : CoverSame input.small (spans_of input.skip lines)
+  pub heap_spans : CoverSame input.heap_spans (spans_of input.skip lines)
 
 -- they were read, with the lines that the log has
 abbrev pub IsRead : List ℕ → List ℕ → Input → Type 0
@@ -86,7 +85,7 @@ pub record IsInput (lines : List Line) (input : Input) : Type 0 where
 
 -- these are the places of the input's root words, without what its search leaves out
 pub record AreRootsFor (lines : List Line) (input : Input) (places : Places) : Type 0 where
-  pub roots : AreRootsOf input.skip.unwritable input.image input.live.blocks (spans_of input.skip lines) (slack_in input.skip input.image input.live.blocks) (dead_in input.skip input.image) places
+  pub roots : AreRootsOf (left_out input.skip input.image input.live.blocks lines) input.image input.live.blocks places
   pub links : places.skips_links ≡ input.skip.links
 
 -- more blocks than there are numbers for them

@@ -1,6 +1,5 @@
 -- The definitions of this crate, by subject.
-pub mod Slack
-pub mod Dead
+pub mod LeftOut
 pub mod Inputs
 pub mod Report
 pub mod Signs

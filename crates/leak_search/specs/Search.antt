@@ -10,9 +10,7 @@ use Rattle.leak_index.specs.Hits.{Index}
 use Rattle.leak_roots.specs.declared.skip.Skip.{Skip}
 use Rattle.leak_notes.specs.Threads.{registers_of}
 use Rattle.leak_roots.specs.Roots.{root_places}
-use Rattle.leak_roots.specs.Skipped.{spans_of, freed_of}
-use Rattle.leak_search.specs.Slack.{slack_in}
-use Rattle.leak_search.specs.Dead.{dead_in, dead_told}
+use Rattle.leak_search.specs.LeftOut.{dead_told, freed_told, left_out}
 use Rattle.leak_scan.specs.Heads.{heads_of}
 use Rattle.leak_marks.specs.Reach.{Graph, Reach}
 use Rattle.leak_marks.specs.Partition.{Partitions}
@@ -32,7 +30,7 @@ index_of reading lines = record { blocks = live_of lines; reading = reading }
 abbrev pub first_of : List ℕ → Index → Skip → List Line → List ℕ
 first_of core index skip lines =
     led_from skip.links (word_of core) index (registers_of core)
-    (root_places skip.unwritable core (live_of lines) (spans_of skip lines) (slack_in skip core (live_of lines)) (dead_in skip core))
+    (root_places (left_out skip core (live_of lines) lines) core (live_of lines))
 
 -- which live block leads to which, and which of them the root words of the core lead to
 abbrev pub graph_of_one : List ℕ → Distances → Skip → List Line → Graph
@@ -47,7 +45,7 @@ head_of_one core log skip lines = record {
   unknown = (replay_of lines).unknown;
   displaced = (replay_of lines).displaced;
   torn = torn_of log;
-  freed = freed_of skip core (live_of lines) lines;
+  freed = freed_told skip core (live_of lines) lines;
   dead = dead_told skip core (live_of lines) lines;
   two = None;
 }

@@ -11,8 +11,7 @@ use Rattle.leak_blocks.specs.declared.block.Block.{Block}
 use Rattle.leak_blocks.specs.Live.{live_of, replay_of}
 use Rattle.leak_index.specs.Leads.{Distances}
 use Rattle.leak_roots.specs.declared.skip.Skip.{Skip}
-use Rattle.leak_roots.specs.Skipped.{freed_of}
-use Rattle.leak_search.specs.Dead.{dead_told}
+use Rattle.leak_search.specs.LeftOut.{dead_told, freed_told}
 use Rattle.leak_scan.specs.Heads.{heads_of}
 use Rattle.leak_marks.specs.Lists.{Has}
 use Rattle.leak_marks.specs.Reach.{Graph, Reach}
@@ -68,7 +67,7 @@ head_of_two core log skip lines two = record {
   unknown = (replay_of lines).unknown;
   displaced = (replay_of lines).displaced;
   torn = torn_of log;
-  freed = freed_of skip core (live_of lines) lines;
+  freed = freed_told skip core (live_of lines) lines;
   dead = dead_told skip core (live_of lines) lines;
   two = Some two;
 }

@@ -9,9 +9,7 @@ use Rattle.leak_blocks.specs.Live.{live_of}
 use Rattle.leak_index.specs.Leads.{Distances}
 use Rattle.leak_roots.specs.Places.{Places}
 use Rattle.leak_roots.specs.Roots.{AreRootsOf}
-use Rattle.leak_roots.specs.Skipped.{spans_of}
-use Rattle.leak_search.specs.Slack.{slack_in}
-use Rattle.leak_search.specs.Dead.{dead_in}
+use Rattle.leak_search.specs.LeftOut.{left_out}
 use Rattle.leak_roots.specs.declared.skip.Skip.{Skip}
 use Rattle.leak_marks.specs.Reach.{Reach}
 use Rattle.leak_why.specs.declared.chain.Chain.{Chain}
@@ -33,7 +31,7 @@ pub record TellsWhy (core log : List ℕ) (reading : Distances) (skip : Skip) (a
   pub block : ℕ
   pub asked : IsAsked (live_of lines) address block
   pub places : Places
-  pub are_places : AreRootsOf skip.unwritable core (live_of lines) (spans_of skip lines) (slack_in skip core (live_of lines)) (dead_in skip core) places
+  pub are_places : AreRootsOf (left_out skip core (live_of lines) lines) core (live_of lines) places
   pub links : places.skips_links ≡ skip.links
   pub chain : Option Chain
   pub why : IsWhy (word_of core) (index_of reading lines) places block chain

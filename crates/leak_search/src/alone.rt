@@ -7,7 +7,7 @@ ghost use Rattle.leak_search.specs.Search.{FindsOne};
 ghost use Rattle.leak_search.specs.Signs.{AreSigns};
 
 use crate::{
-    Aside, FindError, Found, Rules, consistency_of_one, find_roots, head_of, read_input, report_of,
+    FindError, Found, Rules, consistency_of_one, find_roots, head_of, read_input, report_of,
 };
 use leak_index::Sorted;
 use leak_pool::mark_alone;
@@ -17,10 +17,10 @@ use std::alloc::Global;
 ///
 /// `lists_misfits` says whether the report lists the misfits. It gives what [`find_one`](crate::find_one) gives with one
 /// worker, and refuses what that refuses, in the same order. It is for libraries and tests.
-pub fn find_alone(
+pub fn find_alone<'a>(
     alloc: Global,
-    core: &[u8],
-    log: &[u8],
+    core: &'a [u8],
+    log: &'a [u8],
     rules: Rules,
     lists_misfits: bool,
 ) -> Result<Found, FindError>
@@ -37,6 +37,5 @@ pub fn find_alone(
     let lookup = Sorted::new(&input.live, rules.reading);
     let marked = mark_alone(alloc, &input.image, &lookup, &roots, &input.live)?;
     let head = head_of(&input, &roots, None);
-    let aside = Aside { head, consistency };
-    report_of(alloc, &input, &lookup, log, marked, aside)
+    report_of(alloc, &input, &lookup, marked, &head, consistency)
 }

@@ -1,14 +1,13 @@
 //! An input: a core, and the log of its allocations.
 
 ghost use Rattle.std.specs.Prelude.{◌≡◌, ◌≢◌, List, [], IfOk, IfErr};
-ghost use Rattle.leak_blocks.specs.declared.small.Span.{Span};
 ghost use Rattle.leak_mtrace.specs.declared.line.Line.{Line};
 ghost use Rattle.leak_mtrace.specs.Log.{IsFirstFault};
 ghost use Rattle.leak_pool.specs.Room.{room_of};
+ghost use Rattle.leak_roots.specs.LeftOut.{LeftOut};
 ghost use Rattle.leak_roots.specs.Roots.{AreRootsOf};
 ghost use Rattle.leak_search.specs.Inputs.{AreRootsFor, IsInput, IsInputFault, IsRead, IsReadLog};
-ghost use Rattle.leak_search.specs.Slack.{slack_in};
-ghost use Rattle.leak_search.specs.Dead.{dead_in};
+ghost use Rattle.leak_search.specs.LeftOut.{dead_in, slack_in};
 
 use crate::error::{FindError, at_core, at_log, at_notes};
 use leak_blocks::{Live, Replayed, SmallSpans, replay_bytes, replay_with_spans};
@@ -21,10 +20,12 @@ use leak_roots::{Roots, Skip};
 use leak_stacks::dead_spans;
 use std::alloc::{AllocError, Global};
 
-/// A core and its log, read: nothing is marked yet. Of the log's lines only the live blocks are kept.
+/// A core and its log, read: nothing is marked yet. Of the log's lines only the live blocks are listed.
 #[derive(Drop)]
 pub struct Input<'a> {
     pub image: Image<'a>,
+    /// The bytes of the log.
+    pub log: &'a [u8],
     /// The room that the core gives to edges.
     pub edges: EdgeRoom,
     pub threads: Threads,
@@ -32,11 +33,9 @@ pub struct Input<'a> {
     /// What a search leaves out of the root words.
     pub skip: Skip,
     /// The spans of the log whose freed places are left out.
-    pub small: SmallSpans,
+    pub heap_spans: SmallSpans,
     /// How many of the log's lines are torn.
     pub torn: u64,
-    /// How many bytes of the log its complete lines take.
-    pub whole_len: usize,
 }
 
 /// Reads a log and finds its live blocks, and the spans whose freed places are left out.
@@ -61,7 +60,7 @@ pub fn read_input<'a>(
     number: u8,
     skip: Skip,
     core: &'a [u8],
-    log: &[u8],
+    log: &'a [u8],
 ) -> Result<Input<'a>, FindError>
     ensures ok { IfOk result (IsRead core.now log.now) }
     ensures skip { IfOk result (λ input. input.skip ≡ skip) }
@@ -77,28 +76,29 @@ pub fn read_input<'a>(
         Ok(threads) => threads,
         Err(error) => return Err(at_notes(number, error)),
     };
-    let (replayed, small) = match read_log(alloc, skip, log) {
+    let (replayed, heap_spans) = match read_log(alloc, skip, log) {
         Ok(read) => read,
         Err(error) => return Err(at_log(number, error)),
     };
     Ok(Input {
         image,
+        log,
         edges: EdgeRoom::of_core(core),
         threads,
         live: replayed.live,
         skip,
-        small,
+        heap_spans,
         torn: replayed.torn,
-        whole_len: replayed.whole_len,
     })
 }
 
 /// The root words of an input without those in slack, if its search leaves these out.
 fn without_slack(alloc: Global, input: &Input, roots: Roots) -> Result<Roots, AllocError>
-    ensures { (spans : List Span) → let input = input.now in let skip = input.skip in
-        AreRootsOf skip.unwritable input.image input.live.blocks spans [] [] roots
-        → IfOk result (AreRootsOf skip.unwritable input.image input.live.blocks spans
-        (slack_in skip input.image input.live.blocks) []) }
+    ensures { (left : LeftOut) → let input = input.now in
+        let slack = slack_in input.skip input.image input.live.blocks in
+        AreRootsOf (record left { slack = []; dead = [] }) input.image input.live.blocks roots
+        → IfOk result (AreRootsOf (record left { slack = slack; dead = [] }) input.image
+        input.live.blocks) }
 {
     if !input.skip.slack {
         return Ok(roots);
@@ -109,10 +109,10 @@ fn without_slack(alloc: Global, input: &Input, roots: Roots) -> Result<Roots, Al
 
 /// The root words of an input without those in dead stack, if its search leaves these out.
 fn without_dead(alloc: Global, input: &Input, roots: Roots) -> Result<Roots, AllocError>
-    ensures { (spans slack : List Span) → let input = input.now in let skip = input.skip in
-        AreRootsOf skip.unwritable input.image input.live.blocks spans slack [] roots
-        → IfOk result (AreRootsOf skip.unwritable input.image input.live.blocks spans slack
-        (dead_in skip input.image)) }
+    ensures { (left : LeftOut) → let input = input.now in
+        let dead = dead_in input.skip input.image in
+        AreRootsOf (record left { dead = [] }) input.image input.live.blocks roots
+        → IfOk result (AreRootsOf (record left { dead = dead }) input.image input.live.blocks) }
 {
     if !input.skip.dead {
         return Ok(roots);
@@ -131,7 +131,7 @@ pub fn find_roots(alloc: Global, input: &Input) -> Result<Roots, AllocError>
         &input.image,
         &input.threads,
         &input.live,
-        &input.small,
+        &input.heap_spans,
         input.skip.unwritable,
     )?;
     let roots = without_slack(alloc, input, roots)?;

@@ -12,7 +12,8 @@
 //!
 //! An input is a core and the log of its allocations. [`read_input`] reads it or gives its first fault, and [`read_two`]
 //! reads two of one process; `specs/Inputs.antt` says what an accepted input is, and which of its faults comes first.
-//! [`consistency_of_one`] and [`consistency_of_two`] say what is odd about inputs. [`ground_of`] finds the root words, by
+//! [`is_continued`] compares two logs, and [`count_lines`] counts the complete lines of one.
+//! [`consistency_of_one`] and [`consistency_of_two`] say what is odd about inputs. [`find_roots_and_index`] finds the root words, by
 //! [`find_roots`], and makes the lookup, and [`mark_input`] marks blocks over them by workers. [`head_of`] gives the
 //! numbers of a report's first lines, and [`report_of`] makes the report of what is marked.
 //!
@@ -51,10 +52,10 @@ pub use error::FindError;
 pub use found::Found;
 pub use inputs::{Input, find_roots, read_input};
 pub use laws::{leaked_stay_leaked, leaked_stay_leaked_without_ends};
-pub use marking::{Ground, Workers, ground_of, mark_input};
+pub use marking::{RootsAndIndex, Workers, find_roots_and_index, mark_input};
 pub use one_core::find_one;
-pub use pairs::{Inputs, read_two};
-pub use reporting::{Aside, head_of, report_of};
+pub use pairs::{Inputs, count_lines, is_continued, read_two};
+pub use reporting::{head_of, report_of};
 pub use rules::Rules;
 pub use signing::{Consistency, consistency_of_one, consistency_of_two};
 pub use two_cores::find_two;

@@ -25,25 +25,25 @@ pub struct Workers<'a, R: Threads + Sync, G: Gate + Sync> {
 
 /// What chains of an input begin with, and what tells where a word of it leads to.
 #[derive(Drop)]
-pub struct Ground<'a> {
+pub struct RootsAndIndex<'a> {
     pub roots: Roots,
     pub lookup: Paged<'a>,
 }
 
 /// Finds the root words of an input, and makes the lookup among its blocks.
-pub fn ground_of<'a>(
+pub fn find_roots_and_index<'a>(
     alloc: Global,
     input: &'a Input<'_>,
     reading: Reading,
-) -> Result<Ground<'a>, AllocError>
+) -> Result<RootsAndIndex<'a>, AllocError>
     ensures roots { (lines : List Line) → IsInput lines input.now
-        → IfOk result (λ ground. AreRootsFor lines input.now ground.roots) }
-    ensures lookup { IfOk result (λ ground. ground.lookup
+        → IfOk result (λ indexed. AreRootsFor lines input.now indexed.roots) }
+    ensures lookup { IfOk result (λ indexed. indexed.lookup
         ≡ record { blocks = input.now.live.blocks; reading = distances_of reading }) }
 {
     let roots = find_roots(alloc, input)?;
     let lookup = Paged::new(alloc, &input.live, reading)?;
-    Ok(Ground { roots, lookup })
+    Ok(RootsAndIndex { roots, lookup })
 }
 
 /// Marks the blocks of an input that chains of its words reach.
@@ -55,21 +55,21 @@ pub fn mark_input<R: Threads + Sync, G: Gate + Sync>(
     workers: &Workers<'_, R, G>,
     alloc: Global,
     input: &Input,
-    ground: &Ground,
+    indexed: &RootsAndIndex,
 ) -> Result<Marked, PoolError>
-    requires same_blocks { ground.now.lookup.blocks ≡ input.now.live.blocks }
+    requires same_blocks { indexed.now.lookup.blocks ≡ input.now.live.blocks }
     ensures many { IsErrOf result PoolError.TooMany ↔ (2 ^ 32 - 1 < length input.now.live.blocks) }
-    ensures marks { IfOk result (MarksFromRoots (word_of input.now.image) ground.now.lookup
-        ground.now.roots workers.now.plan.workers) }
-    ensures course { IfOk result (IsByRounds (word_of input.now.image) ground.now.lookup
-        ground.now.roots [] [] workers.now.plan) }
+    ensures marks { IfOk result (MarksFromRoots (word_of input.now.image) indexed.now.lookup
+        indexed.now.roots workers.now.plan.workers) }
+    ensures course { IfOk result (IsByRounds (word_of input.now.image) indexed.now.lookup
+        indexed.now.roots [] [] workers.now.plan) }
 {
     mark_by_edges(
         workers.rt,
         alloc,
         &input.image,
-        &ground.lookup,
-        &ground.roots,
+        &indexed.lookup,
+        &indexed.roots,
         &input.live,
         workers.plan,
         workers.gate,

@@ -7,8 +7,8 @@ ghost use Rattle.leak_search.specs.Search.{FindsOne};
 ghost use Rattle.leak_search.specs.Signs.{AreSigns};
 
 use crate::{
-    Aside, FindError, Found, Rules, Workers, consistency_of_one, ground_of, head_of, mark_input,
-    read_input, report_of,
+    FindError, Found, Rules, Workers, consistency_of_one, find_roots_and_index, head_of,
+    mark_input, read_input, report_of,
 };
 use leak_pool::Gate;
 use std::alloc::Global;
@@ -41,9 +41,8 @@ pub fn find_one<R: std::thread::Threads + Sync, G: Gate + Sync>(
 {
     let input = read_input(alloc, 1, rules.skip, core, log)?;
     let consistency = consistency_of_one(alloc, &input, lists_misfits, rules.other_heap)?;
-    let ground = ground_of(alloc, &input, rules.reading)?;
-    let marked = mark_input(workers, alloc, &input, &ground)?;
-    let head = head_of(&input, &ground.roots, None);
-    let aside = Aside { head, consistency };
-    report_of(alloc, &input, &ground.lookup, log, marked, aside)
+    let indexed = find_roots_and_index(alloc, &input, rules.reading)?;
+    let marked = mark_input(workers, alloc, &input, &indexed)?;
+    let head = head_of(&input, &indexed.roots, None);
+    report_of(alloc, &input, &indexed.lookup, marked, &head, consistency)
 }

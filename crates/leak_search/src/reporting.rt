@@ -1,6 +1,6 @@
 //! From a marked set to the report.
 
-ghost use Rattle.std.specs.Prelude.{◌≡◌, IfOk, IfErr, IfSome, length, not, count_by, option_map};
+ghost use Rattle.std.specs.Prelude.{◌≡◌, IfOk, IfErr, IfSome, length, option_map};
 ghost use Rattle.leak_report.specs.Totals.{HaveCallersIn, leaked_in};
 ghost use Rattle.leak_search.specs.Report.{head_with, text_with};
 
@@ -10,19 +10,10 @@ use crate::inputs::Input;
 use crate::signing::Consistency;
 use leak_index::Lookup;
 use leak_pool::Marked;
-use leak_report::{Head, Two, text};
+use leak_report::{Head, Two, count_clear, text};
 use leak_roots::Roots;
 use leak_scan::heads;
 use std::alloc::Global;
-
-/// What a search tells besides the marks of its last core.
-#[derive(Drop)]
-pub struct Aside {
-    /// The numbers of the report's first lines.
-    pub head: Head,
-    /// What is odd about the inputs.
-    pub consistency: Consistency,
-}
 
 /// The numbers of the report's first lines, of an input and its root words.
 pub fn head_of(input: &Input, roots: &Roots, two: Option<Two>) -> Head
@@ -53,46 +44,33 @@ pub fn report_of<L: Lookup>(
     alloc: Global,
     input: &Input,
     lookup: &L,
-    log: &[u8],
     marked: Marked,
-    aside: Aside,
+    head: &Head,
+    consistency: Consistency,
 ) -> Result<Found, FindError>
     requires one_each { length marked.set.items ≡ length input.now.live.blocks }
     requires same_blocks { (L.index lookup.now).blocks ≡ input.now.live.blocks }
-    requires a_fit_each { IfSome aside.consistency.fits
+    requires a_fit_each { IfSome consistency.fits
         (λ v. length v.items ≡ length input.now.live.blocks) }
-    requires in_log { HaveCallersIn log.now input.now.live.blocks }
+    requires in_log { HaveCallersIn input.now.log.now input.now.live.blocks }
     ensures report { IfOk result (λ found. found.report.items ≡
-        text_with aside.head input.now (L.index lookup.now) marked.set.items
-        (option_map (λ v. v.items) aside.consistency.fits) log.now) }
+        text_with head.now input.now (L.index lookup.now) marked.set.items
+        (option_map (λ v. v.items) consistency.fits) input.now.log.now) }
     ensures leaked { IfOk result (λ found.
         found.leaked ≡ length (leaked_in marked.set.items input.now.live.blocks)) }
     ensures claims { IfOk result (λ found. found.claims ≡ marked.claims) }
-    ensures signs { IfOk result (λ found. found.signs.items ≡ aside.consistency.signs.items) }
+    ensures signs { IfOk result (λ found. found.signs.items ≡ consistency.signs.items) }
     ensures memory { IfErr result (λ e. e ≡ FindError.NoMemory) }
 {
     let set = marked.set.as_slice();
     let heads = heads(alloc, &input.image, lookup, &input.live, set)?;
     let live = &input.live;
-    let fits = aside.consistency.fits.as_deref();
-    let report = text(alloc, &aside.head, live, set, heads.as_slice(), fits, log)?;
+    let fits = consistency.fits.as_deref();
+    let report = text(alloc, head, live, set, heads.as_slice(), fits, input.log)?;
     Ok(Found {
         report,
         leaked: count_clear(set),
         claims: marked.claims,
-        signs: aside.consistency.signs,
+        signs: consistency.signs,
     })
-}
-
-/// How many entries of the set are not in it.
-fn count_clear(set: &[bool]) -> u64
-    ensures { result ≡ count_by not set.now }
-{
-    let mut clear = 0;
-    for marked in set {
-        if !*marked {
-            clear += 1;
-        }
-    }
-    clear
 }

@@ -1,7 +1,8 @@
 //! By what rules an input is searched.
 
-ghost use Rattle.std.specs.Prelude.{◌≡◌, false, true, None};
+ghost use Rattle.std.specs.Prelude.{◌≡◌, false, None};
 ghost use Rattle.leak_index.specs.Readings.{distances_of};
+ghost use Rattle.leak_roots.specs.Skipped.{usual_skip};
 
 use leak_index::Reading;
 use leak_roots::Skip;
@@ -22,8 +23,7 @@ impl Rules {
     /// what [`Skip::usual`] says, and the heap is glibc's.
     pub fn usual() -> Rules
         ensures reading { distances_of result.reading ≡ record { listed = None; skips_ends = false } }
-        ensures skip { result.skip
-            ≡ record { freed = false; slack = false; dead = false; links = false; unwritable = true } }
+        ensures skip { result.skip ≡ usual_skip }
         ensures heap { result.other_heap ≡ false }
     {
         Rules {

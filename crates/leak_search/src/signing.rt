@@ -6,8 +6,8 @@ ghost use Rattle.leak_chunks.specs.Fit.{fits_of};
 ghost use Rattle.leak_search.specs.Signs.{signs_with, fits_with, misfits_counted};
 
 use crate::inputs::Input;
-use leak_chunks::{count_misfits, fits};
-use leak_report::Signs;
+use leak_chunks::fits;
+use leak_report::{Signs, count_clear};
 use std::alloc::{AllocError, Global};
 
 /// What is odd about the inputs of a search.
@@ -45,7 +45,7 @@ fn ask(alloc: Global, input: &Input, check: bool, other_heap: bool) -> Result<As
     let misfits = if other_heap {
         0
     } else {
-        count_misfits(fits.as_slice())
+        count_clear(fits.as_slice())
     };
     let fits = if check { Some(fits) } else { None };
     Ok(Asked { misfits, fits })

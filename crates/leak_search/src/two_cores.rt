@@ -15,8 +15,8 @@ ghost use Rattle.leak_search.specs.Signs.{AreSigns};
 ghost use Rattle.leak_search.specs.SearchTwo.{IsMarkedEarlier, IsBetweenCores, FindsTwo, size_of};
 
 use crate::{
-    Aside, FindError, Found, Ground, Input, Inputs, Rules, Workers, consistency_of_two, ground_of,
-    head_of, mark_input, read_two, report_of,
+    FindError, Found, Input, Inputs, RootsAndIndex, Rules, Workers, consistency_of_two,
+    find_roots_and_index, head_of, mark_input, read_two, report_of,
 };
 use leak_blocks::Block;
 use leak_index::Reading;
@@ -50,8 +50,8 @@ fn mark_earlier<R: Threads + Sync, G: Gate + Sync>(
         marked.set.items) }
     ensures memory { IfErr result (λ e. e ≡ FindError.NoMemory) }
 {
-    let ground = ground_of(alloc, input, reading)?;
-    let marked = mark_input(workers, alloc, input, &ground)?;
+    let indexed = find_roots_and_index(alloc, input, reading)?;
+    let marked = mark_input(workers, alloc, input, &indexed)?;
     Ok(marked)
 }
 
@@ -89,14 +89,14 @@ fn mark_later<R: Threads + Sync, G: Gate + Sync>(
     workers: &Workers<'_, R, G>,
     alloc: Global,
     input: &Input,
-    ground: &Ground,
+    indexed: &RootsAndIndex,
     between: &Between,
 ) -> Result<Retraced, FindError>
-    requires blocks { ground.now.lookup.blocks ≡ input.now.live.blocks }
+    requires blocks { indexed.now.lookup.blocks ≡ input.now.live.blocks }
     requires carried { IsCarry (length input.now.live.blocks) between.now.carry }
     requires few { length input.now.live.blocks < 2 ^ 32 }
     ensures traced { IfOk result (IsRetrace (word_of input.now.image)
-        ground.now.lookup ground.now.roots between.now.pages between.now.carry
+        indexed.now.lookup indexed.now.roots between.now.pages between.now.carry
         workers.now.plan.workers) }
     ensures memory { IfErr result (λ e. e ≡ FindError.NoMemory) }
 {
@@ -104,8 +104,8 @@ fn mark_later<R: Threads + Sync, G: Gate + Sync>(
         workers.rt,
         alloc,
         &input.image,
-        &ground.lookup,
-        &ground.roots,
+        &indexed.lookup,
+        &indexed.roots,
         &input.live,
         &between.carry,
         &between.pages,
@@ -182,10 +182,16 @@ pub fn find_two<R: Threads + Sync, G: Gate + Sync>(
     let consistency = consistency_of_two(alloc, earlier, later, lists_misfits, rules.other_heap)?;
     let Inputs { first, second } = inputs;
     drop(first); // no more is asked of it
-    let ground = ground_of(alloc, &second, rules.reading)?;
-    let retraced = mark_later(workers, alloc, &second, &ground, &between)?;
+    let indexed = find_roots_and_index(alloc, &second, rules.reading)?;
+    let retraced = mark_later(workers, alloc, &second, &indexed, &between)?;
     let two = numbers_of(&second, &between.carry, retraced.reread);
-    let head = head_of(&second, &ground.roots, Some(two));
-    let aside = Aside { head, consistency };
-    report_of(alloc, &second, &ground.lookup, log2, retraced.marked, aside)
+    let head = head_of(&second, &indexed.roots, Some(two));
+    report_of(
+        alloc,
+        &second,
+        &indexed.lookup,
+        retraced.marked,
+        &head,
+        consistency,
+    )
 }

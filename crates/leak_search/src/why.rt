@@ -55,10 +55,10 @@ impl From<AllocError> for WhyError {
 
 /// Tells the shortest chain of words that holds the live block of the address, or that it leaked, by the rules, on the
 /// caller's thread.
-pub fn find_why(
+pub fn find_why<'a>(
     alloc: Global,
-    core: &[u8],
-    log: &[u8],
+    core: &'a [u8],
+    log: &'a [u8],
     rules: Rules,
     address: u64,
 ) -> Result<Why, WhyError>

@@ -6,14 +6,11 @@ use Rattle.std.specs.Prelude.{Result, Ok, Err}
 use Rattle.std.specs.declared.io.Error.{Error}
 use Rattle.std.specs.Io.{WritesAtMost}
 use Rattle.std.specs.Io.KnownBytes.{Appends, Keeps, WriteAppends}
+use Rattle.leak_lemmas.proofs.Lists.{left_whole}
 use Rattle.leak_streams.specs.declared.writers.WrittenSoFar.{WrittenSoFar}
 use Rattle.leak_streams.specs.declared.fault.WriteFault.{WriteFault}
 use Rattle.leak_streams.specs.Laws.{WritesTell}
 use Rattle.leak_streams.specs.Writes.{Calls, GoesOn, Stops, IsTurn, ComesBy, HasCome, IsWrittenWhole, IsCutOff}
-
--- what is left of the text, cut at its end
-pub left_whole : (n : ℕ) (text : List ℕ) → take (length text - n) (drop n text) ≡ drop n text
-left_whole n text = take_all _ _ (omega (arith, length-drop n text))
 
 -- if a writing goes on, no more is taken than the text, and there were not too many interruptions
 pub goes_on_within : (text : List ℕ) (now next : WrittenSoFar) (answer : Result ℕ Error) → now.written ≤ length text

@@ -18,7 +18,11 @@ fn messages_of_failures(rt: HostRuntime) -> Result<(), Fail> {
     let alloc = rt.alloc();
     let path = "a\n\u{e9}\\".to_string(alloc)?;
     let read = ReadFault::TooLong;
-    says(&rt, &Failure::Word, "leak_find: a word is not UTF-8\n")?;
+    says(
+        &rt,
+        &Failure::BadArgument,
+        "leak_find: a word is not UTF-8\n",
+    )?;
     says(&rt, &Failure::NoMemory, "leak_find: out of memory\n")?;
     says(
         &rt,

@@ -2,7 +2,7 @@
 
 use crate::appointment::Appointment;
 use crate::comparisons::same;
-use crate::samples::{Scene, core_of, scene_of};
+use crate::samples::{Sample, core_of, sample_of};
 use leak_index::{Reading, Sorted};
 use leak_later::{Retraced, carry, differing, retrace};
 use leak_pool::{Open, Plan, PoolError};
@@ -28,10 +28,10 @@ fn traced_by_two<R: Threads + Sync + Abort>(
     rt: &R,
     alloc: Global,
     words: &Appointment,
-    later: &Scene,
+    later: &Sample,
 ) -> Result<Retraced, Fail> {
     let zeros = core_of(alloc, &[])?;
-    let earlier = scene_of(alloc, zeros.as_slice(), EARLIER)?;
+    let earlier = sample_of(alloc, zeros.as_slice(), EARLIER)?;
     if later.live.blocks().len() > u32::MAX as usize {
         return Err(Fail::from(PoolError::TooMany));
     }
@@ -52,7 +52,7 @@ fn traced_by_two<R: Threads + Sync + Abort>(
 fn two_workers_scan_kept_and_new_blocks_at_the_same_time(rt: HostRuntime) -> Result<(), Fail> {
     let alloc = rt.alloc();
     let core = core_of(alloc, &LEADS)?;
-    let later = scene_of(alloc, core.as_slice(), LATER)?;
+    let later = sample_of(alloc, core.as_slice(), LATER)?;
     for in_runs in [false, true] {
         let words = Appointment::of(&later.image, in_runs, 0x10000, 0x10070);
         let Retraced { marked, reread } = traced_by_two(&rt, alloc, &words, &later)?;

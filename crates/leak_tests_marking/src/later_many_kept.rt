@@ -3,7 +3,7 @@ ghost use Rattle.leak_elf.specs.Words.{word_of};
 ghost use Rattle.leak_elf.specs.Aligned.{aligned_words};
 
 use crate::comparisons::same;
-use crate::samples::{Scene, scene_of};
+use crate::samples::{Sample, sample_of};
 use leak_elf::{Image, Words, core_k};
 use leak_index::{Reading, Sorted};
 use leak_later::{carry, differing, retrace};
@@ -79,7 +79,7 @@ fn no_word_of_two_thousand_kept_blocks_is_read_off_differing_pages(
     let second = wide_core(alloc, 1)?;
     let log = kept(alloc)?;
     let first = Image::read(alloc, first.as_slice())?;
-    let Scene { image, live, roots } = scene_of(alloc, second.as_slice(), log.as_str())?;
+    let Sample { image, live, roots } = sample_of(alloc, second.as_slice(), log.as_str())?;
     let pages = differing(&rt, alloc, &first, &image)?;
     same(&rt, pages.numbers(), [31u64].as_slice());
     if live.blocks().len() > u32::MAX as usize {

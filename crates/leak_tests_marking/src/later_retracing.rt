@@ -3,7 +3,7 @@ ghost use Rattle.leak_elf.specs.Words.{word_of};
 ghost use Rattle.leak_elf.specs.Aligned.{aligned_words};
 
 use crate::comparisons::same;
-use crate::samples::{core_of, scene_of};
+use crate::samples::{core_of, sample_of};
 use leak_elf::{Image, Words};
 use leak_index::{Reading, Sorted};
 use leak_later::{Retraced, carry, differing, retrace};
@@ -58,8 +58,8 @@ fn traced<R: std::thread::Threads + Sync>(
 ) -> Result<Retraced, Fail> {
     let first = core_of(alloc, cores[0])?;
     let second = core_of(alloc, cores[1])?;
-    let earlier = scene_of(alloc, first.as_slice(), logs[0])?;
-    let later = scene_of(alloc, second.as_slice(), logs[1])?;
+    let earlier = sample_of(alloc, first.as_slice(), logs[0])?;
+    let later = sample_of(alloc, second.as_slice(), logs[1])?;
     if later.live.blocks().len() > u32::MAX as usize {
         return Err(Fail::from(PoolError::TooMany));
     }

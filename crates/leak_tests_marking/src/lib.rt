@@ -41,7 +41,7 @@ mod lists;
 
 // Which numbers hold each block.
 #[cfg(test)]
-mod holding;
+mod holders;
 
 // The same as one plain marking for each number.
 #[cfg(test)]

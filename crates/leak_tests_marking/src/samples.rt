@@ -30,18 +30,18 @@ pub fn core_of(alloc: Global, words: &[(u64, u64)]) -> Result<Vec<u8>, Fail> {
 
 /// What marking asks of a core and a log.
 #[derive(Drop)]
-pub struct Scene<'a> {
+pub struct Sample<'a> {
     pub image: Image<'a>,
     pub live: Live,
     pub roots: Roots,
 }
 
 /// Reads a core and a log, with all root words.
-pub fn scene_of<'a>(alloc: Global, core: &'a [u8], log: &str) -> Result<Scene<'a>, Fail> {
+pub fn sample_of<'a>(alloc: Global, core: &'a [u8], log: &str) -> Result<Sample<'a>, Fail> {
     let image = Image::read(alloc, core)?;
     let threads = Threads::read(alloc, &image)?;
     let live = lives(alloc, log)?;
     let small = SmallSpans::none(alloc);
     let roots = Roots::find(alloc, &image, &threads, &live, &small, true)?;
-    Ok(Scene { image, live, roots })
+    Ok(Sample { image, live, roots })
 }

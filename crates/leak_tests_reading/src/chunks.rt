@@ -1,7 +1,7 @@
 //! Blocks that fit the heap of a core.
 
 use leak_blocks::replay;
-use leak_chunks::{count_misfits, fits};
+use leak_chunks::fits;
 use leak_elf::{Image, core_k};
 use leak_mtrace::Log;
 use std::alloc::Global;
@@ -110,14 +110,12 @@ fn no_sum_passes_the_end_of_the_address_space(rt: HostRuntime) -> Result<(), Fai
 }
 
 #[test]
-fn misfits_are_counted(rt: HostRuntime) -> Result<(), Fail> {
+fn each_block_fits_or_not(rt: HostRuntime) -> Result<(), Fail> {
     let words = [(0x100f8, 0x31), (0x10128, 0x21), (0x10148, 0x20)];
     let log = "+ 0x10130 0x18\n+ 0x10100 0x20\n+ 0x10200 0x8\n";
     let found = fits_with(rt.alloc(), log, &words)?;
     assert_eq!(rt; found.as_slice(), [true, false, false].as_slice());
-    assert_eq!(rt; count_misfits(found.as_slice()), 2);
     let none = fits_with(rt.alloc(), "", &words)?;
     assert_eq!(rt; none.len(), 0);
-    assert_eq!(rt; count_misfits(none.as_slice()), 0);
     Ok(())
 }

@@ -1,6 +1,6 @@
 //! Lists of claims are those of the workers that claimed: no list is dealt out afterwards.
 
-use crate::samples::{Part, Scene, core_of, scene_of};
+use crate::samples::{MarkingInput, Part, core_of, marking_input};
 use crate::searches::{by_plan, of_two};
 use leak_index::{Reading, Sorted};
 use leak_pool::{Open, Plan, mark};
@@ -27,7 +27,7 @@ fn a_search_of_one_core_has_the_lists_of_marking(rt: HostRuntime) -> Result<(), 
     let alloc = rt.alloc();
     let core = core_of(alloc, &APART)?;
     let plan = Plan::new(2, 1, 0)?;
-    let Scene { image, live, roots } = scene_of(alloc, core.as_slice(), BLOCKS)?;
+    let MarkingInput { image, live, roots } = marking_input(alloc, core.as_slice(), BLOCKS)?;
     let lookup = Sorted::new(&live, Reading::interior());
     let marked = mark(&rt, alloc, &image, &lookup, &roots, &live, plan, &Open)?;
     assert!(rt; are_apart(marked.claims.as_slice()));

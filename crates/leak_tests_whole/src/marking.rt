@@ -1,7 +1,7 @@
 //! Marking without a report: the marked blocks, the lists of claims and the rounds.
 
 use crate::hundreds::Sample;
-use crate::samples::{Scene, core_of, scene_of, set, set_word};
+use crate::samples::{MarkingInput, core_of, marking_input, set, set_word};
 use leak_index::{Reading, Sorted};
 use leak_pool::{EdgeRoom, Gate, Marked, Open, Plan, mark, mark_alone, mark_by_edges};
 use std::alloc::Global;
@@ -9,7 +9,7 @@ use std::test::Fail;
 
 /// Marks a sample on the caller's thread.
 pub fn alone(alloc: Global, sample: &Sample) -> Result<Marked, Fail> {
-    let Scene { image, live, roots } = scene_of(
+    let MarkingInput { image, live, roots } = marking_input(
         alloc,
         sample.core.as_slice(),
         sample.log.as_str(),
@@ -26,7 +26,7 @@ pub fn by_plan<R: std::thread::Threads + Sync, G: Gate + Sync>(
     plan: Plan,
     gate: &G,
 ) -> Result<Marked, Fail> {
-    let Scene { image, live, roots } = scene_of(
+    let MarkingInput { image, live, roots } = marking_input(
         alloc,
         sample.core.as_slice(),
         sample.log.as_str(),
@@ -43,7 +43,7 @@ pub fn by_edges<R: std::thread::Threads + Sync>(
     plan: Plan,
     room: usize,
 ) -> Result<Marked, Fail> {
-    let Scene { image, live, roots } = scene_of(
+    let MarkingInput { image, live, roots } = marking_input(
         alloc,
         sample.core.as_slice(),
         sample.log.as_str(),

@@ -59,19 +59,23 @@ fn set_part(core: &mut Vec<u8>, part: Part) {
 
 /// What marking asks of a core and a log.
 #[derive(Drop)]
-pub struct Scene<'a> {
+pub struct MarkingInput<'a> {
     pub image: Image<'a>,
     pub live: Live,
     pub roots: Roots,
 }
 
 /// Reads a core and a log, with all root words.
-pub fn scene_of<'a>(alloc: Global, core: &'a [u8], log: &str) -> Result<Scene<'a>, Fail> {
+pub fn marking_input<'a>(
+    alloc: Global,
+    core: &'a [u8],
+    log: &str,
+) -> Result<MarkingInput<'a>, Fail> {
     let image = Image::read(alloc, core)?;
     let threads = Threads::read(alloc, &image)?;
     let log = Log::read(alloc, log.as_bytes())?;
     let live = replay(alloc, &log)?;
     let small = SmallSpans::none(alloc);
     let roots = Roots::find(alloc, &image, &threads, &live, &small, true)?;
-    Ok(Scene { image, live, roots })
+    Ok(MarkingInput { image, live, roots })
 }

@@ -1,7 +1,7 @@
 //! Inputs larger than the samples: a call that has memory does not answer that it wants some.
 
 use crate::comparisons::same;
-use crate::samples::{core_of, scene_of, set};
+use crate::samples::{core_of, marking_input, set};
 use leak_blocks::{Live, replay};
 use leak_index::{Hits, Lookup, Paged, Reading};
 use leak_marks::{Claims, Marks};
@@ -44,7 +44,7 @@ fn four_thousand_ranges_of_roots_are_cut(rt: HostRuntime) -> Result<(), Fail> {
     let alloc = rt.alloc();
     let core = wide_core(alloc)?;
     let log = row_of_blocks(alloc, 4096, 8, 16)?;
-    let roots = scene_of(alloc, core.as_slice(), log.as_str())?.roots;
+    let roots = marking_input(alloc, core.as_slice(), log.as_str())?.roots;
     same(&rt, roots.memory().len(), 4096);
     let pieces = roots.cut(alloc, 1)?;
     same(&rt, pieces.len(), 4123);

@@ -1,7 +1,7 @@
 //! A core with vector registers.
 
 use crate::comparisons::same;
-use crate::samples::{Part, core_of, scene_of, set};
+use crate::samples::{Part, core_of, marking_input, set};
 use leak_elf::Image;
 use leak_notes::Threads;
 use std::test::Fail;
@@ -18,7 +18,7 @@ fn vector_registers_are_root_words(rt: HostRuntime) -> Result<(), Fail> {
     let threads = Threads::read(rt.alloc(), &image)?;
     same(&rt, threads.count(), 1);
     same(&rt, threads.registers(), [0u64; 75].as_slice());
-    let roots = scene_of(rt.alloc(), core.as_slice(), "")?.roots;
+    let roots = marking_input(rt.alloc(), core.as_slice(), "")?.roots;
     let mut words = roots.registers().len() as u64;
     for (from, to) in roots.memory() {
         words = words.saturating_add(to.saturating_sub(*from) / 8);

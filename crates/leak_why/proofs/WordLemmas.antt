@@ -1,11 +1,9 @@
 -- What words lead to, and the words that do.
 use Rattle.std.proofs.Common.{◌≡◌, ℕ, zero, suc, ◌+◌, ◌-◌, ◌*◌, ◌/◌, ◌%◌, ◌<◌, ◌≤◌, ⊎_elim, refl, sym, subst, ap, ◌∙◌, List, [], ◌∷◌, ◌++◌, length, map, get_or, Bool, true, false, Option, Some, None, slice_get, filter_map, flat_map, arith}
-use Rattle.std.specs.List.{range_with_len, cons_option}
+use Rattle.std.specs.List.{range_with_len}
 use Rattle.std.specs.Option.{option_map_or}
 use Rattle.std.proofs.lemmas.Option.{slice_get_within, get_or_from_slice_get}
 use Rattle.std.proofs.lemmas.List.FromFn.{get_or-map-range_with_len, length-map-range_with_len}
-use mathlib.Core.Logic.{dite}
-use native.Mathlib.Decide.{ℕ_discrete}
 use Rattle.leak_elf.specs.Words.{places, words_between}
 use Rattle.leak_blocks.specs.declared.block.Block.{Block}
 use Rattle.leak_index.specs.Hits.{Index, hits_of}
@@ -16,8 +14,9 @@ use Rattle.leak_pool.specs.Marking.{led_by_roots, led_in_memory}
 use Rattle.leak_marks.specs.Lists.{Has}
 use Rattle.leak_marks.specs.Reach.{IsChain as IsBlockChain, targets_of as targets_in}
 use Rattle.leak_marks.proofs.ListLemmas.{none_has, here, there, at_head, has_front, has_back}
-use Rattle.leak_marks.proofs.ElementLemmas.{of_flat_map, has_flat_map, has_at}
+use Rattle.leak_marks.proofs.ElementLemmas.{of_flat_map, has_flat_map, has_at, has_range, of_range, has_filter_map, of_filter_map, has_flat}
 use Rattle.leak_pool.proofs.GraphLemmas.{graph-first, graph-given, graph-block}
+use Rattle.leak_pool.proofs.AloneLemmas.{range_at}
 use Rattle.leak_why.specs.declared.chain.RootPlace.{RootPlace}
 use Rattle.leak_why.specs.declared.chain.RootPlace.TheVariants.{Register, Address}
 use Rattle.leak_why.specs.declared.chain.RootWord.{RootWord}
@@ -26,48 +25,6 @@ use Rattle.leak_why.specs.Leading.{IsLeading, NoneLeads, led_by}
 use Rattle.leak_why.specs.Chains.{StandsAt, IsRoot, IsLink, IsChain, led_at, search_graph}
 
 -- ---- elements of lists
-
-has_range : (n from a : ℕ) → from ≤ a → a < from + n → Has (range_with_len from n) a
-has_range zero from a low high = absurd (omega arith)
-has_range (suc n) from a low high = dite (ℕ_discrete from a)
-    (λ e. subst (λ (x : ℕ). Has (from ∷ range_with_len (from + 1) n) x) e (here from (range_with_len (from + 1) n)))
-    (λ ne. there from (range_with_len (from + 1) n) a (has_range n (from + 1) a (omega (arith, ne)) (omega arith)))
-
-of_range : (n from a : ℕ) → Has (range_with_len from n) a → (from ≤ a) × (a < from + n)
-of_range zero from a h = absurd (none_has a h)
-of_range (suc n) from a h = ⊎_elim
-    (λ e. (let s : from ≡ a = e in omega arith, let s : from ≡ a = e in omega arith))
-    (λ r. let p : (from + 1 ≤ a) × (a < from + 1 + n) = of_range n (from + 1) a r in let l = p.0 in let m = p.1 in (omega arith, omega arith))
-    (at_head from (range_with_len (from + 1) n) a h)
-
-has_filter_map : (f : ℕ → Option ℕ) (xs : List ℕ) (a w : ℕ) → Has xs a → f a ≡ Some w → Has (filter_map f xs) w
-has_filter_map f [] a w h e = absurd (none_has a h)
-has_filter_map f (x ∷ xs) a w h e = ⊎_elim
-    (λ s. subst (λ (o : Option ℕ). Has (cons_option o (filter_map f xs)) w) (sym (ap f s ∙ e)) (here w (filter_map f xs)))
-    (λ r. later (f x) (has_filter_map f xs a w r e))
-    (at_head x xs a h)
-  where
-    later : (o : Option ℕ) → Has (filter_map f xs) w → Has (cons_option o (filter_map f xs)) w
-    later None h = h
-    later (Some v) h = there v (filter_map f xs) w h
-
-of_filter_map : (f : ℕ → Option ℕ) (xs : List ℕ) (w : ℕ) → Has (filter_map f xs) w → (a : ℕ) × Has xs a × (f a ≡ Some w)
-of_filter_map f [] w h = absurd (none_has w h)
-of_filter_map f (x ∷ xs) w h = go (f x) refl h (λ k. of_filter_map f xs w k)
-  where
-    later : (a : ℕ) × Has xs a × (f a ≡ Some w) → (a : ℕ) × Has (x ∷ xs) a × (f a ≡ Some w)
-    later r = (r.0, there x xs r.0 r.1, r.2)
-
-    go : (o : Option ℕ) → f x ≡ o → Has (cons_option o (filter_map f xs)) w → (Has (filter_map f xs) w → (a : ℕ) × Has xs a × (f a ≡ Some w)) → (a : ℕ) × Has (x ∷ xs) a × (f a ≡ Some w)
-    go None e k rest = later (rest k)
-    go (Some v) e k rest = ⊎_elim (λ s. (x, here x xs, e ∙ ap Some s)) (λ r. later (rest r)) (at_head v (filter_map f xs) w k)
-
-has_flat : (f : ℕ → List ℕ) (xs : List ℕ) (w b : ℕ) → Has xs w → Has (f w) b → Has (flat_map f xs) b
-has_flat f [] w b h k = absurd (none_has w h)
-has_flat f (x ∷ xs) w b h k = ⊎_elim
-    (λ s. has_front (f x) (flat_map f xs) b (subst (λ (y : ℕ). Has (f y) b) (sym s) k))
-    (λ r. has_back (f x) (flat_map f xs) b (has_flat f xs w b r k))
-    (at_head x xs w h)
 
 of_flat : (f : ℕ → List ℕ) (xs : List ℕ) (b : ℕ) → Has (flat_map f xs) b → (w : ℕ) × Has xs w × Has (f w) b
 of_flat f xs b h =
@@ -117,14 +74,9 @@ none_listed index words block none h =
 
 -- ---- root words
 
-range_is : (ranges : List (ℕ × ℕ)) (k : ℕ) (d : ℕ × ℕ) → k < length ranges → AreRanges ranges → IsRange (get_or ranges k d)
-range_is [] k d h a = absurd (omega arith)
-range_is (r ∷ rs) zero d h a = a.0
-range_is (r ∷ rs) (suc k) d h a = range_is rs k d (omega arith) a.2
-
 -- a multiple of 8 whose 8 bytes lie in a range of root words is a place of one
 pub place_in : (ranges : List (ℕ × ℕ)) (k : ℕ) (d : ℕ × ℕ) (a : ℕ) → k < length ranges → AreRanges ranges → a % 8 ≡ 0 → (get_or ranges k d).0 ≤ a → a + 8 ≤ (get_or ranges k d).1 → Has (memory_places ranges) a
-place_in ranges k d a h are aligned low high = has_flat_map addresses_in ranges k d a h (go (get_or ranges k d) (range_is ranges k d h are) low high)
+place_in ranges k d a h are aligned low high = has_flat_map addresses_in ranges k d a h (go (get_or ranges k d) (range_at ranges k d h are) low high)
   where
     go : (r : ℕ × ℕ) → IsRange r → r.0 ≤ a → a + 8 ≤ r.1 → Has (addresses_in r) a
     go r is low high =

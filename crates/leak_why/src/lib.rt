@@ -10,15 +10,15 @@
 #![tactic(auto)]
 
 mod asked;
-mod asking;
 mod chain;
 mod finding;
 mod reached_block;
 mod spreading;
 mod telling;
 mod tracing;
+mod why_block;
 
 pub use asked::block_at;
-pub use asking::why;
 pub use chain::{Chain, Link, RootPlace, RootWord};
 pub use telling::{push_numbered, text};
+pub use why_block::why;

@@ -6,7 +6,7 @@ use crate::comparisons::same;
 use crate::report::samples::have_callers_in;
 use leak_blocks::replay;
 use leak_mtrace::Log;
-use leak_report::Totals;
+use leak_report::{Totals, count_clear};
 use std::test::Fail;
 
 #[test]
@@ -30,5 +30,12 @@ fn totals_of_leaked_blocks(rt: HostRuntime) -> Result<(), Fail> {
             (blocks, bytes, heads, caller),
         );
     }
+    Ok(())
+}
+
+#[test]
+fn marks_that_are_not_set_are_counted(rt: HostRuntime) -> Result<(), Fail> {
+    same(&rt, count_clear(&[true, false, false]), 2);
+    same(&rt, count_clear(&[]), 0);
     Ok(())
 }

@@ -1,6 +1,6 @@
 //! Roots with malloc's links to free chunks, and without them.
 
-use crate::samples::{Scene, core_of, scene_of};
+use crate::samples::{Sample, core_of, sample_of};
 use leak_blocks::Live;
 use leak_elf::Image;
 use leak_index::{Reading, Sorted};
@@ -23,7 +23,7 @@ fn all_mark<R: std::thread::Threads + Sync>(
     set: &[bool],
 ) -> Result<bool, Fail> {
     let core = core_of(alloc, words)?;
-    let Scene { image, live, roots } = scene_of(alloc, core.as_slice(), log)?;
+    let Sample { image, live, roots } = sample_of(alloc, core.as_slice(), log)?;
     let roots = roots.skip_links(skip_links);
     let alone = marks_alone(alloc, &image, &roots, &live, set)?;
     let by_workers = workers_mark(rt, alloc, &image, &roots, &live, set)?;

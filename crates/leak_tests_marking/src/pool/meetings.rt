@@ -5,7 +5,7 @@ ghost use Rattle.leak_elf.specs.Aligned.{aligned_words};
 
 use crate::comparisons::same;
 use crate::pool::samples::{TURNS, two_apart};
-use crate::samples::{Scene, core_of, scene_of};
+use crate::samples::{Sample, core_of, sample_of};
 use leak_elf::{Image, Words};
 use leak_index::{Reading, Sorted};
 use leak_pool::{Marked, Open, Plan, Start, mark, mark_from};
@@ -91,13 +91,13 @@ fn no_start(alloc: Global) -> Start
 fn marked_by_two<R: Threads + Sync + Abort>(
     rt: &R,
     alloc: Global,
-    scene: &Scene,
+    sample: &Sample,
     words: &Meeting,
     from: bool,
 ) -> Result<Marked, Fail> {
-    let lookup = Sorted::new(&scene.live, Reading::interior());
+    let lookup = Sorted::new(&sample.live, Reading::interior());
     let plan = Plan::new(2, 1, 0)?;
-    let (roots, live) = (&scene.roots, &scene.live);
+    let (roots, live) = (&sample.roots, &sample.live);
     if !from {
         return Ok(mark(rt, alloc, words, &lookup, roots, live, plan, &Open)?);
     }
@@ -115,14 +115,14 @@ fn two_workers_scan_and_claim_at_the_same_time(rt: HostRuntime) -> Result<(), Fa
     let alloc = rt.alloc();
     let sample = two_apart(alloc)?;
     let core = core_of(alloc, sample.words.as_slice())?;
-    let scene = scene_of(alloc, core.as_slice(), sample.log.as_str())?;
+    let sample = sample_of(alloc, core.as_slice(), sample.log.as_str())?;
     for from in [false, true] {
         let words = Meeting {
-            image: &scene.image,
+            image: &sample.image,
             reads: counts(alloc)?,
             late: AtomicU64::new(0),
         };
-        let marked = marked_by_two(&rt, alloc, &scene, &words, from)?;
+        let marked = marked_by_two(&rt, alloc, &sample, &words, from)?;
         same(&rt, words.late.load(Ordering::SeqCst), 0);
         assert!(rt; marked.claims.len() == 2);
         same(&rt, marked.claims[0].as_slice(), [0u32].as_slice());

@@ -1,6 +1,6 @@
 //! Samples, and marking of them.
 
-use crate::samples::{core_of, scene_of};
+use crate::samples::{core_of, sample_of};
 use leak_index::{Reading, Sorted};
 use leak_pool::{Gate, Marked, Plan, mark, mark_alone};
 use std::alloc::Global;
@@ -50,9 +50,9 @@ pub(crate) fn lead_of_the_second(alloc: Global) -> Result<Sample, Fail> {
 /// Marks a sample on the caller's thread.
 pub(crate) fn alone(alloc: Global, sample: &Sample) -> Result<Marked, Fail> {
     let core = core_of(alloc, sample.words.as_slice())?;
-    let scene = scene_of(alloc, core.as_slice(), sample.log.as_str())?;
-    let lookup = Sorted::new(&scene.live, Reading::interior());
-    Ok(mark_alone(alloc, &scene.image, &lookup, &scene.roots, &scene.live)?)
+    let sample = sample_of(alloc, core.as_slice(), sample.log.as_str())?;
+    let lookup = Sorted::new(&sample.live, Reading::interior());
+    Ok(mark_alone(alloc, &sample.image, &lookup, &sample.roots, &sample.live)?)
 }
 
 /// Marks a sample by workers.
@@ -64,15 +64,15 @@ pub(crate) fn by_workers<R: std::thread::Threads + Sync, G: Gate + Sync>(
     gate: &G,
 ) -> Result<Marked, Fail> {
     let core = core_of(alloc, sample.words.as_slice())?;
-    let scene = scene_of(alloc, core.as_slice(), sample.log.as_str())?;
-    let lookup = Sorted::new(&scene.live, Reading::interior());
+    let sample = sample_of(alloc, core.as_slice(), sample.log.as_str())?;
+    let lookup = Sorted::new(&sample.live, Reading::interior());
     Ok(mark(
         rt,
         alloc,
-        &scene.image,
+        &sample.image,
         &lookup,
-        &scene.roots,
-        &scene.live,
+        &sample.roots,
+        &sample.live,
         plan,
         gate,
     )?)

@@ -3,7 +3,7 @@ ghost use Rattle.std.specs.Prelude.{◌<◌, length};
 
 use crate::comparisons::same;
 use crate::pool::samples::{Sample, alone, by_workers, claim_count};
-use crate::samples::scene_of;
+use crate::samples::sample_of;
 use leak_blocks::Live;
 use leak_elf::{Image, core_k};
 use leak_index::{Reading, Sorted};
@@ -61,7 +61,7 @@ fn from_first<R: std::thread::Threads + Sync>(
 fn a_start_is_scanned_again_in_parts(rt: HostRuntime) -> Result<(), Fail> {
     let alloc = rt.alloc();
     let core = core_k(alloc, &[(0x10100, 0x10200)])?;
-    let scene = scene_of(alloc, core.as_slice(), "+ 0x10100 0x20\n+ 0x10200 0x10\n")?;
+    let sample = sample_of(alloc, core.as_slice(), "+ 0x10100 0x20\n+ 0x10200 0x10\n")?;
     let cases = [
         (Part::Whole, 17u64, 1usize),
         (Part::Differing, 16, 1),
@@ -71,13 +71,13 @@ fn a_start_is_scanned_again_in_parts(rt: HostRuntime) -> Result<(), Fail> {
         let Some(pages) = Pages::new(vec![in alloc; page]?) else {
             panic!(rt; "one page is pages")
         };
-        assert!(rt; !scene.live.blocks().is_empty());
+        assert!(rt; !sample.live.blocks().is_empty());
         let marked = from_first(
             &rt,
             alloc,
-            &scene.image,
-            &scene.roots,
-            &scene.live,
+            &sample.image,
+            &sample.roots,
+            &sample.live,
             part,
             &pages,
         )?;

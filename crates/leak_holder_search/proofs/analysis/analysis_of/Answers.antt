@@ -28,7 +28,7 @@ returns-clause-ok g c = record {
     few = few_marked _ (length c.args.input.now.live.blocks) c.in_ok-edges.ensures.many;
     marked =
         (same_marked _ _ (listed _ _ _ c.in_ok-edges.ensures.listed _ c.as_slice.ensures.value) c.in_ok-set.set.items _
-        (targets_each c.args.input.now c.args.ground.now ∙ ap length c.requires.of.lookup)).0 c.in_ok-set.ensures;
+        (targets_each c.args.input.now c.args.indexed.now ∙ ap length c.requires.of.lookup)).0 c.in_ok-set.ensures;
     numbered =
         subst (λ (bs : List Block). AreTexts c.args.files.now.log.now bs (bytes_each c.in_ok-texts.texts.texts.items) c.in_ok-texts.texts.numbers.items)
         c.blocks-2.ensures.value c.in_ok-texts.ensures;

@@ -6,7 +6,7 @@ use Rattle.leak_holder_search.proofs.BothLemmas.{both_each, set_each}
 use Rattle.leak_holder_search.proofs.held.held_by.Goals as goal
 
 pub holders_of-requires-clause-reached : goal.holders_of-requires-clause-reached
-holders_of-requires-clause-reached g c κs within = reached_in _ c.requires.known _ _ c.as_slice-first.ensures.value c.facts_of-facts.ensures.of.reached
+holders_of-requires-clause-reached g c κs within = reached_in _ c.requires.known _ _ c.as_slice-first.ensures.value c.table_of-table.ensures.of.reached
 
 pub holders_of-requires-clause-told : goal.holders_of-requires-clause-told
 holders_of-requires-clause-told g c κs within =
@@ -14,20 +14,20 @@ holders_of-requires-clause-told g c κs within =
 
 pub in_both-requires : goal.in_both-requires
 in_both-requires g c =
-    c.facts_of-facts.ensures.complete.counted ∙ ap length c.facts_of-facts.ensures.of.of_blocks ∙ sym (set_each _ c.requires.known _ c.requires.choice)
+    c.table_of-table.ensures.complete.counted ∙ ap length c.table_of-table.ensures.of.of_blocks ∙ sym (set_each _ c.requires.known _ c.requires.choice)
     ∙ sym (ap length (c.as_slice.ensures.value ∙ c.requires.choice.own) ∙ both_each _ _)
 
 pub returns : goal.returns
 returns g c = record {
-  facts = c.facts_of-facts.result;
-  of = c.facts_of-facts.ensures.of;
+  table = c.table_of-table.result;
+  of = c.table_of-table.ensures.of;
   each = ap length c.in_ok-told.ensures ∙ both_each _ _ ∙ ap length (c.as_slice.ensures.value ∙ c.requires.choice.own) ∙ both_each _ _ ∙ set_each _ c.requires.known _ c.requires.choice;
   are = record {
     told_are =
-        c.in_ok-told.ensures ∙ ap (λ (xs : List Bool). both xs c.facts_of-facts.result.counted.now)
-        (c.as_slice.ensures.value ∙ c.requires.choice.own ∙ ap (both c.args.choice.now.set.items) (sym c.facts_of-facts.ensures.of.reached));
+        c.in_ok-told.ensures ∙ ap (λ (xs : List Bool). both xs c.table_of-table.result.counted.now)
+        (c.as_slice.ensures.value ∙ c.requires.choice.own ∙ ap (both c.args.choice.now.set.items) (sym c.table_of-table.ensures.of.reached));
     rows =
-        rw (← c.count_texts-texts.ensures, ← c.as_slice-set.ensures.value, ← c.facts_of-facts.ensures.of.of_texts)
+        rw (← c.count_texts-texts.ensures, ← c.as_slice-set.ensures.value, ← c.table_of-table.ensures.of.of_texts)
         (same_holders_of _ _ (alike c.args.analysis.now c.requires.known _ c.as_slice-first.ensures.value) _ _ _ _ _ c.in_ok-parts.ensures);
   };
 }

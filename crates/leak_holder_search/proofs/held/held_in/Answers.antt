@@ -17,11 +17,11 @@ held_blocks-requires-clause-told c =
 pub parts_of-requires-clause-told : goal.parts_of-requires-clause-told
 parts_of-requires-clause-told c =
     ap length c.as_slice-held.ensures.value ∙ c.in_ok-held.ensures.len ∙ ap length c.as_slice-set.ensures.value ∙ set_each _ c.requires.known _ c.requires.choice
-    ∙ ap length (sym c.facts_of-facts.ensures.of.of_blocks)
+    ∙ ap length (sym c.table_of-table.ensures.of.of_blocks)
 
 pub in_both-requires : goal.in_both-requires
 in_both-requires c =
-    c.facts_of-facts.ensures.complete.counted ∙ ap length c.facts_of-facts.ensures.of.of_blocks ∙ sym (set_each _ c.requires.known _ c.requires.choice)
+    c.table_of-table.ensures.complete.counted ∙ ap length c.table_of-table.ensures.of.of_blocks ∙ sym (set_each _ c.requires.known _ c.requires.choice)
     ∙ sym (ap length c.as_slice-held.ensures.value ∙ c.in_ok-held.ensures.len ∙ ap length c.as_slice-set.ensures.value)
 
 pub returns : goal.returns
@@ -29,8 +29,8 @@ returns c =
     let a = c.args.analysis.now in
     let long = c.in_ok-held.ensures.len ∙ ap length c.as_slice-set.ensures.value ∙ set_each a c.requires.known _ c.requires.choice in
     record {
-      facts = c.facts_of-facts.result;
-      of = c.facts_of-facts.ensures.of;
+      table = c.table_of-table.result;
+      of = c.table_of-table.ensures.of;
       each = ap length c.in_ok-told.ensures ∙ both_each _ _ ∙ ap length c.as_slice-held.ensures.value ∙ long;
       are = record {
         held = c.in_ok-held.held.items;
@@ -40,9 +40,9 @@ returns c =
             (subst (λ (set : List Bool). (b : ℕ) → b < length (all_targets (word_of a.edges.listed.words.now) a.edges.listed.lookup.now)
             → IsTrue (slice_index_or c.in_ok-held.held.items b false) ↔ IsHeldBy (graph_of c.as_slice-first.result.now (all_targets (word_of a.edges.listed.words.now) a.edges.listed.lookup.now)) (chosen set) b)
             c.as_slice-set.ensures.value c.in_ok-held.ensures.each);
-        told_are = c.in_ok-told.ensures ∙ ap (λ (hs : List Bool). both hs c.facts_of-facts.result.counted.now) c.as_slice-held.ensures.value;
+        told_are = c.in_ok-told.ensures ∙ ap (λ (hs : List Bool). both hs c.table_of-table.result.counted.now) c.as_slice-held.ensures.value;
         rows =
-            c.in_ok-parts.ensures ∙ ap (λ (hs : List Bool). parts_by c.facts_of-facts.result (λ b. slice_index_or hs b false) c.count_texts.result) c.as_slice-held.ensures.value
-            ∙ ap (parts_by c.facts_of-facts.result (λ b. slice_index_or c.in_ok-held.held.items b false)) c.count_texts.ensures;
+            c.in_ok-parts.ensures ∙ ap (λ (hs : List Bool). parts_by c.table_of-table.result (λ b. slice_index_or hs b false) c.count_texts.result) c.as_slice-held.ensures.value
+            ∙ ap (parts_by c.table_of-table.result (λ b. slice_index_or c.in_ok-held.held.items b false)) c.count_texts.ensures;
       };
     }

@@ -12,7 +12,7 @@ use Rattle.leak_holder_search.proofs.HeldLemmas.{finds_held, none_asked}
 use Rattle.leak_holder_search.proofs.question.find_held.Goals as goal
 
 pub analysis_of-requires-clause-of : goal.analysis_of-requires-clause-of
-analysis_of-requires-clause-of g c κs within = record { lookup = ap (λ (i : Index). i.blocks) c.in_ok-ground.ensures.lookup; roots = c.in_ok-ground.ensures.roots }
+analysis_of-requires-clause-of g c κs within = record { lookup = ap (λ (i : Index). i.blocks) c.in_ok-indexed.ensures.lookup; roots = c.in_ok-indexed.ensures.roots }
 
 pub returns-in_err-analysis-clause-refused : goal.returns-in_err-analysis-clause-refused
 returns-in_err-analysis-clause-refused g c =
@@ -25,7 +25,7 @@ returns-in_default-clause-refused g c = λ other. none_asked _ _ _ _ c.in_ok-ana
 
 pub returns-clause-ok : goal.returns-clause-ok
 returns-clause-ok g c =
-    finds_held _ _ _ c.in_ok-analysis.analysis (by_rules c.in_ok-analysis.ensures.ok (ap (λ (i : Index). i.reading) c.in_ok-ground.ensures.lookup) c.in_ok-input.ensures.skip)
+    finds_held _ _ _ c.in_ok-analysis.analysis (by_rules c.in_ok-analysis.ensures.ok (ap (λ (i : Index). i.reading) c.in_ok-indexed.ensures.lookup) c.in_ok-input.ensures.skip)
     c.args.question c.in_ok-choice.choice c.in_ok-held.held _ c.in_ok-choice.ensures.of c.in_ok-choice.ensures.are c.in_ok-held.ensures c.in_ok-report.ensures
 
 pub returns-clause-signs : goal.returns-clause-signs

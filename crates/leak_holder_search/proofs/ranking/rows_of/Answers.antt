@@ -12,24 +12,24 @@ use Rattle.leak_holder_search.proofs.RowLemmas.{inside_of}
 use Rattle.leak_holder_search.proofs.ranking.rows_of.Goals as goal
 
 pub holders-requires-clause-reached : goal.holders-requires-clause-reached
-holders-requires-clause-reached g c κs within = reached_in _ c.requires _ _ c.as_slice-first.ensures.value c.facts_of-facts.ensures.of.reached
+holders-requires-clause-reached g c κs within = reached_in _ c.requires _ _ c.as_slice-first.ensures.value c.table_of-table.ensures.of.reached
 
 pub returns-clause-are : goal.returns-clause-are
 returns-clause-are g c =
     let a = c.args.analysis.now in
     let listed = graph_of c.as_slice-first.result.now (all_targets (word_of a.edges.listed.words.now) a.edges.listed.lookup.now) in
-    IfOk-weaker c.holders.result (λ v. AreHolders listed c.facts_of-facts.result c.count_texts.result v.items) (λ v. AreRowsIn a v.items)
+    IfOk-weaker c.holders.result (λ v. AreHolders listed c.table_of-table.result c.count_texts.result v.items) (λ v. AreRowsIn a v.items)
     (λ v is. record {
-      facts = c.facts_of-facts.result;
-      known = c.facts_of-facts.ensures.of;
-      holders = subst (λ (n : ℕ). AreHolders (graph_in a) c.facts_of-facts.result n v.items) c.count_texts.ensures (same_holders _ _ (alike a c.requires _ c.as_slice-first.ensures.value) _ _ _ is);
+      table = c.table_of-table.result;
+      known = c.table_of-table.ensures.of;
+      holders = subst (λ (n : ℕ). AreHolders (graph_in a) c.table_of-table.result n v.items) c.count_texts.ensures (same_holders _ _ (alike a c.requires _ c.as_slice-first.ensures.value) _ _ _ is);
     }) c.holders.ensures
 
 pub returns-clause-inside : goal.returns-clause-inside
 returns-clause-inside g c =
     let a = c.args.analysis.now in
     let listed = graph_of c.as_slice-first.result.now (all_targets (word_of a.edges.listed.words.now) a.edges.listed.lookup.now) in
-    IfOk-weaker c.holders.result (λ v. AreHolders listed c.facts_of-facts.result c.count_texts.result v.items)
+    IfOk-weaker c.holders.result (λ v. AreHolders listed c.table_of-table.result c.count_texts.result v.items)
     (λ v. AreRowsOf (length (blocks_in a)) (length (texts_in a)) v.items)
     (λ v is. subst (λ (n : ℕ). AreRowsOf (length (blocks_in a)) n v.items) c.count_texts.ensures
-    (inside_of listed c.facts_of-facts.result c.count_texts.result _ v.items is (ap length c.facts_of-facts.ensures.of.of_blocks))) c.holders.ensures
+    (inside_of listed c.table_of-table.result c.count_texts.result _ v.items is (ap length c.table_of-table.ensures.of.of_blocks))) c.holders.ensures

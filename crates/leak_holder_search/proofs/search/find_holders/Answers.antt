@@ -13,7 +13,7 @@ use Rattle.leak_holder_search.proofs.FindLemmas.{by_rules, finds_holders}
 use Rattle.leak_holder_search.proofs.search.find_holders.Goals as goal
 
 pub analysis_of-requires-clause-of : goal.analysis_of-requires-clause-of
-analysis_of-requires-clause-of g c κs within = record { lookup = ap (λ (i : Index). i.blocks) c.in_ok-ground.ensures.lookup; roots = c.in_ok-ground.ensures.roots }
+analysis_of-requires-clause-of g c κs within = record { lookup = ap (λ (i : Index). i.blocks) c.in_ok-indexed.ensures.lookup; roots = c.in_ok-indexed.ensures.roots }
 
 pub returns-in_err-analysis-clause-refused : goal.returns-in_err-analysis-clause-refused
 returns-in_err-analysis-clause-refused g c =
@@ -24,9 +24,9 @@ returns-in_err-analysis-clause-refused g c =
 pub returns-clause-ok : goal.returns-clause-ok
 returns-clause-ok g c =
     let a = c.in_ok-analysis.analysis in
-    finds_holders _ _ _ a (by_rules c.in_ok-analysis.ensures.ok (ap (λ (i : Index). i.reading) c.in_ok-ground.ensures.lookup) c.in_ok-input.ensures.skip) c.in_ok-rows.rows.items _ c.in_ok-rows.ensures.are
+    finds_holders _ _ _ a (by_rules c.in_ok-analysis.ensures.ok (ap (λ (i : Index). i.reading) c.in_ok-indexed.ensures.lookup) c.in_ok-input.ensures.skip) c.in_ok-rows.rows.items _ c.in_ok-rows.ensures.are
     (c.in_ok-report.ensures
-    ∙ ap (holders_text (head_with a.input.now a.ground.now.roots None) (blocks_in a) (news_of (earlier a.files.since) (blocks_in a)) a.set.items (texts_in a)) c.as_slice.ensures.value)
+    ∙ ap (holders_text (head_with a.input.now a.indexed.now.roots None) (blocks_in a) (news_of (earlier a.files.since) (blocks_in a)) a.set.items (texts_in a)) c.as_slice.ensures.value)
 
 pub returns-clause-signs : goal.returns-clause-signs
 returns-clause-signs g c =

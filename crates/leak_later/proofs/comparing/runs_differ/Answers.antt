@@ -1,5 +1,6 @@
 -- From the lemmas of ByteLemmas.
-use Rattle.leak_later.proofs.ByteLemmas.{are_bytes, words_same, word_differs}
+use Rattle.leak_lemmas.proofs.Bytes.{are_bytes}
+use Rattle.leak_later.proofs.ByteLemmas.{words_same, word_differs}
 use Rattle.leak_later.proofs.comparing.runs_differ.Goals as goal
 
 pub returns-clause-differ : goal.returns-clause-differ

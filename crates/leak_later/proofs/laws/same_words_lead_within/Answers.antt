@@ -1,5 +1,6 @@
 -- A word of a kept block that is in the earlier core too leads to a block that was marked there, or is fresh.
 use Rattle.std.proofs.Common.{◌≡◌, ℕ, ◌<◌, ◌≤◌, Bool, true, false, ◌⊎◌, inl, inr, sym, subst, refl, ap, ◌∙◌, List, [], ◌++◌, length, Some, slice_get, arith, nat_lt, nltb→le}
+use Rattle.std.proofs.lemmas.Option.{same_Some}
 use Rattle.std.specs.Bool.{fails}
 use Rattle.leak_mtrace.specs.declared.line.Line.{Line}
 use Rattle.leak_blocks.specs.declared.block.Block.{Block}
@@ -12,7 +13,7 @@ use Rattle.leak_marks.specs.Lists.{Has}
 use Rattle.leak_marks.specs.Reach.{Reach}
 use Rattle.leak_pool.specs.Marking.{graph_of}
 use Rattle.leak_later.specs.Kept.{kept_of, fresh_of, has_marked_line}
-use Rattle.leak_later.proofs.NumberLemmas.{some_same, inside, of_numbers, to_numbers, of_marked, to_marked, Numbered, MarkedAt}
+use Rattle.leak_later.proofs.NumberLemmas.{inside, of_numbers, to_numbers, of_marked, to_marked, Numbered, MarkedAt}
 use Rattle.leak_later.proofs.WordLemmas.{unchanged, word_of_block, next_reached, led_block, leads_at}
 use Rattle.leak_later.proofs.laws.same_words_lead_within.Goals as goal
 
@@ -46,7 +47,7 @@ returns c word_before word_now reading first_before before after set given i b a
     -- the kept block is that of a marked block of the earlier log
     let k : Numbered 0 (λ x. has_marked_line set (live_of before) x.line) all i = of_kept (live_of before) set all i kept_i in
     let i_is : i ≡ k.0 = omega (arith, k.1) in
-    let here : k.2.block ≡ b = some_same k.2.block b (sym k.2.at ∙ ap (slice_get all) (sym i_is) ∙ at_i) in
+    let here : k.2.block ≡ b = same_Some k.2.block b (sym k.2.at ∙ ap (slice_get all) (sym i_is) ∙ at_i) in
     let m : MarkedAt set (live_of before) b.line = of_marked set (live_of before) b.line (subst (λ (x : Block). has_marked_line set (live_of before) x.line ≡ true) here k.2.passes) in
     let in_log : b.line ≤ length before = omega (arith, line_within before m.block m.place m.at, m.is_line) in
     let q : (n : ℕ) × (slice_get (live_of before) n ≡ Some b) = was_live before after b i at_i in_log in

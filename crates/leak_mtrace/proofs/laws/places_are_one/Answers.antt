@@ -4,11 +4,11 @@ use Rattle.std.proofs.lemmas.Bool.{cases_Bool}
 use Rattle.std.proofs.lemmas.Bool.Decides.{Decides-eqb}
 use Rattle.std.proofs.lemmas.List.Folds.{list_any-append}
 use Rattle.std.proofs.lemmas.Slice.Eq.{ends_is}
+use Rattle.std.proofs.lemmas.Option.{same_Some}
 use Rattle.std.specs.List.{ends_with}
 use Rattle.leak_mtrace.specs.declared.line.Line.{Line}
 use Rattle.leak_mtrace.specs.Line.{IsBody, IsCall, IsPlace, sign_of}
 use Rattle.leak_mtrace.specs.CallPlace.{has_bracket, BeginsCall, IsWhere}
-use Rattle.leak_mtrace.proofs.SplitLemmas.{some_same}
 use Rattle.leak_mtrace.proofs.CallLemmas.{Begins, call_spaces}
 use Rattle.leak_mtrace.proofs.BodyLemmas.{call_body, call_not_remark}
 use Rattle.leak_mtrace.proofs.CallPlaceLemmas.{call_plain, sign_is, no_sign, ends_so, bracket_false, not_or_left, not_or_right}
@@ -26,8 +26,8 @@ or_left_false true b e = e
 or_left_false false b e = refl
 
 both_begin : (r : List ℕ) → Begins r → BeginsCall r → ⊥
-both_begin r (inl e) c = (no_sign c.0 c.3).0 (some_same _ _ (sym (ap (λ t. slice_get t 0) c.2) ∙ e))
-both_begin r (inr e) c = (no_sign c.0 c.3).1 (some_same _ _ (sym (ap (λ t. slice_get t 0) c.2) ∙ e))
+both_begin r (inl e) c = (no_sign c.0 c.3).0 (same_Some _ _ (sym (ap (λ t. slice_get t 0) c.2) ∙ e))
+both_begin r (inr e) c = (no_sign c.0 c.3).1 (same_Some _ _ (sym (ap (λ t. slice_get t 0) c.2) ∙ e))
 
 begins : (x : Line) (rest : List ℕ) → IsCall x.kind rest x.addr x.size → BeginsCall rest
 begins x rest c =

@@ -1,11 +1,12 @@
 -- Each has a sign and a space, and no body after them.
 use Rattle.std.proofs.Common.{◌≡◌, ℕ, inl, inr, refl, sym, subst, ap, ◌∙◌, List, [], ◌∷◌, ◌++◌, Some, None, slice_get, ◌-◌, length, take, drop, arith, codes}
+use Rattle.std.proofs.lemmas.Option.{same_Some}
 use Rattle.leak_mtrace.specs.declared.line.Kind.{Kind}
 use Rattle.leak_mtrace.specs.declared.line.Kind.TheVariants.{Alloc, Free, MoveOut, MoveIn, Failed, Remark}
 use Rattle.leak_mtrace.specs.declared.line.Line.{Line}
 use Rattle.leak_mtrace.specs.Number.{IsAddress, IsSize, IsPair}
 use Rattle.leak_mtrace.specs.Line.{IsBody, IsLine, sign_of}
-use Rattle.leak_mtrace.proofs.SplitLemmas.{tail, head, some_same, HasNoSpace, no_space_in, compared, digits_no_space}
+use Rattle.leak_mtrace.proofs.SplitLemmas.{tail, head, HasNoSpace, no_space_in, compared, digits_no_space}
 use Rattle.leak_mtrace.proofs.CallLemmas.{Begins, address_begins, begins_append, size_no_space, address_no_space}
 use Rattle.leak_mtrace.proofs.BodyLemmas.{call_front, no_body}
 use Rattle.leak_mtrace.proofs.LineLemmas.{line_plain}
@@ -39,8 +40,8 @@ too_long n (inr h) = let e : 17 ≡ length h.0 = ap length (tail (tail h.1)) in 
 
 begins_with_space : (text : List ℕ) (p : ℕ × ℕ) → slice_get text 0 ≡ Some 32 → IsPair text p.0 p.1 → ⊥
 begins_with_space text p e h = elim (subst Begins (sym h.2) (begins_append h.0 (32 ∷ h.1) (address_begins h.0 p.0 h.3))) [
-  | inl b ↦ absurd (omega (arith, some_same 32 40 (sym e ∙ b)))
-  | inr b ↦ absurd (omega (arith, some_same 32 48 (sym e ∙ b)))
+  | inl b ↦ absurd (omega (arith, same_Some 32 40 (sym e ∙ b)))
+  | inr b ↦ absurd (omega (arith, same_Some 32 48 (sym e ∙ b)))
 ]
 
 no_star : (k : Kind) → 42 ≡ sign_of k → ⊥

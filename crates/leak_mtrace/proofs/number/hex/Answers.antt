@@ -1,6 +1,7 @@
 -- 16 digits fit.
 use Rattle.std.proofs.Common.{ℕ, ◌+◌, ◌*◌, ◌^◌, ◌<◌, arith, subst, sym}
-use Rattle.leak_mtrace.proofs.DigitLemmas.{digit_room, digit_below}
+use Rattle.leak_lemmas.proofs.Numbers.{digit_room}
+use Rattle.leak_mtrace.proofs.DigitLemmas.{digit_below}
 use Rattle.leak_mtrace.proofs.number.hex.Goals as goal
 
 pub overflow_mul-value : goal.overflow_mul-value

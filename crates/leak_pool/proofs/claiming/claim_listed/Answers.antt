@@ -2,7 +2,7 @@
 use Rattle.std.proofs.Common.{subst, sym, ap, List, ℕ, ◌∙◌, ◌++◌, ⊎_elim, inl, inr, get_or, arith}
 use Rattle.std.proofs.lemmas.List.{drop_more}
 use Rattle.leak_marks.specs.Lists.{Has}
-use Rattle.leak_pool.proofs.FromLemmas.{at_has_any}
+use Rattle.leak_marks.proofs.ElementLemmas.{has_at}
 use Rattle.leak_pool.proofs.ScanLemmas.{scanning_none, scanning_more}
 use Rattle.leak_pool.proofs.claiming.claim_listed.Goals as goal
 
@@ -19,4 +19,4 @@ loop-block-preserved c = scanning_more _ _ _ (get_or c.args.targets.now c.loop-b
 
 pub claim-requires-clause-block : goal.claim-requires-clause-block
 claim-requires-clause-block c =
-    c.requires.inside _ (at_has_any c.args.targets.now c.loop-block.block-index 0 (omega arith))
+    c.requires.inside _ (has_at c.args.targets.now c.loop-block.block-index 0 (omega arith))

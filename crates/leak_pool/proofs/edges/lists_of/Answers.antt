@@ -2,12 +2,12 @@
 use Rattle.std.proofs.Common.{◌∙◌, ap, sym, ℕ, List, [], ◌∷◌, ◌++◌, map, take, get_or, Bor}
 use Rattle.std.proofs.lemmas.List.{map-append, take_more}
 use Rattle.leak_pool.specs.Items.{targets_of_block}
-use Rattle.leak_pool.proofs.FromLemmas.{at_has_any}
 use Rattle.leak_pool.proofs.edges.lists_of.Goals as goal
+use Rattle.leak_marks.proofs.ElementLemmas.{has_at}
 
 pub listed_targets-requires : goal.listed_targets-requires
 listed_targets-requires c =
-    (c.requires.0, c.requires.1, c.requires.2 _ (at_has_any c.args.blocks.now c.loop-block.block-index 0 c.loop-block-test.true))
+    (c.requires.0, c.requires.1, c.requires.2 _ (has_at c.args.blocks.now c.loop-block.block-index 0 c.loop-block-test.true))
 
 pub loop-block-preserved : goal.loop-block-preserved
 loop-block-preserved c targets are inside =
@@ -16,6 +16,6 @@ loop-block-preserved c targets are inside =
     ap (λ (l : List (Bor (List ℕ))). map now l) c.in_ok-push.ensures.items
     ∙ map-append now c.loop-block.lists.items (c.listed_targets.result ∷ [])
     ∙ ap (λ (l : List (List ℕ)). l ++ now c.listed_targets.result ∷ []) (c.loop-block.invariant targets are inside)
-    ∙ ap (λ (t : List ℕ). map led (take i blocks) ++ t ∷ []) (c.listed_targets.ensures targets are (inside block (at_has_any blocks i 0 c.loop-block-test.true)))
+    ∙ ap (λ (t : List ℕ). map led (take i blocks) ++ t ∷ []) (c.listed_targets.ensures targets are (inside block (has_at blocks i 0 c.loop-block-test.true)))
     ∙ sym (map-append led (take i blocks) (block ∷ []))
     ∙ ap (λ (l : List ℕ). map led l) (sym (take_more blocks i 0 c.loop-block-test.true))

@@ -3,7 +3,7 @@ use Rattle.std.proofs.Common.{◌≡◌, ◌<◌, ◌≤◌, ◌∙◌, ap, sym,
 use Rattle.leak_marks.specs.Seats.{Held, kept_half, given_half}
 use Rattle.leak_pool.specs.Gates.{ArePassed}
 use Rattle.leak_pool.specs.Promises.{AreBoth, IsHalf}
-use Rattle.leak_pool.specs.Scene.{blocks_of, items_of}
+use Rattle.leak_pool.specs.SearchModel.{blocks_of, items_of}
 use Rattle.leak_pool.specs.declared.task.Gains.{Gains}
 use Rattle.leak_pool.proofs.GateLemmas.{both_passed}
 use Rattle.leak_pool.proofs.HalfLemmas.{pair_ok, some_at, half_after, half_joined, add_two}
@@ -21,8 +21,8 @@ returns-then-not-is_shared g t c =
     let blocks = blocks_of work in let targets = items_of work in
     let passed : ℕ → ℕ → Type 0 = g.T.Task.passed c.args.task.now in
     let n : ℕ = length work.items in
-    let stack : ℕ = work.scene.stack in
-    let w : ℕ = work.scene.workers in
+    let stack : ℕ = work.model.stack in
+    let w : ℕ = work.model.workers in
     let middle : ℕ = c.args.low + (c.args.high - c.args.low) / 2 in
     let some : 0 < w = let l = c.requires.some in let h = c.requires.workers in omega arith in let lower : c.args.low ≤ middle = omega arith in let upper : middle ≤ c.args.high = omega arith in
     record {
@@ -56,8 +56,8 @@ returns g t c =
     let blocks = blocks_of work in let targets = items_of work in
     let passed : ℕ → ℕ → Type 0 = g.T.Task.passed c.args.task.now in
     let n : ℕ = length work.items in
-    let stack : ℕ = work.scene.stack in
-    let w : ℕ = work.scene.workers in
+    let stack : ℕ = work.model.stack in
+    let w : ℕ = work.model.workers in
     let middle : ℕ = c.args.low + (c.args.high - c.args.low) / 2 in
     let some : 0 < w = let l = c.requires.some in let h = c.requires.workers in omega arith in let lower : c.args.low ≤ middle = omega arith in let upper : middle ≤ c.args.high = omega arith in
     let kept : one.0.share ≡ c.args.seat.share - c.args.seat.share / 2 = c.join-upper.ensures.second.share ∙ ap (λ (h : Held). h.share) giver_is in

@@ -9,7 +9,7 @@ use Rattle.leak_pool.specs.declared.target_source.Item.{Item}
 use Rattle.leak_pool.specs.declared.target_source.Item.TheVariants.{Block}
 use Rattle.leak_pool.specs.declared.marking_state.MarkingState.{MarkingState}
 use Rattle.leak_pool.specs.Rounds.{IsStep, IsGoing, graph_over}
-use Rattle.leak_pool.specs.Scene.{Scene}
+use Rattle.leak_pool.specs.SearchModel.{SearchModel}
 use Rattle.leak_pool.specs.MarkingState.{IsReady, IsBetweenRounds, HaveCome, HasRoundMore, HasScanned, InItems, AreOfShares, AreOfOne, claims_of}
 use Rattle.leak_pool.proofs.CountLemmas.{at_has}
 use Rattle.leak_pool.proofs.GoingLemmas.{later_round, waiting_inside, all_blocks, blocks_long, front_rest}
@@ -19,9 +19,9 @@ use Rattle.leak_pool.proofs.FromLemmas.{if_ok}
 use Rattle.leak_marks.proofs.ListLemmas.{there}
 use Rattle.leak_pool.proofs.later_rounds.later_round.Goals as goal
 
--- what waits is of the scene's blocks
-waits : (scene : Scene) (p : MarkingState) (ws : Vec ℕ Global) → IsBetweenRounds scene p → ws ≡ p.waiting → (b : ℕ) → Has ws.items b → b < length scene.targets
-waits scene p ws between is b h = waiting_inside _ _ _ _ _ _ _ between.going.1 b (subst (λ (v : Vec ℕ Global). Has v.items b) is h)
+-- what waits is of the model's blocks
+waits : (model : SearchModel) (p : MarkingState) (ws : Vec ℕ Global) → IsBetweenRounds model p → ws ≡ p.waiting → (b : ℕ) → Has ws.items b → b < length model.targets
+waits model p ws between is b h = waiting_inside _ _ _ _ _ _ _ between.going.1 b (subst (λ (v : Vec ℕ Global). Has v.items b) is h)
 
 pub by_caller-requires-clause-item : goal.by_caller-requires-clause-item
 by_caller-requires-clause-item g c =
@@ -32,28 +32,28 @@ by_caller-requires-clause-item g c =
 
 pub by_workers-requires-clause-items : goal.by_workers-requires-clause-items
 by_workers-requires-clause-items g c κs within =
-    let scene = c.args.search.now in let all = c.replace-waiting.result in
+    let model = c.args.search.now in let all = c.replace-waiting.result in
     let some : 0 < length all.items = subst (λ (v : Vec ℕ Global). 0 < length v.items) (sym c.replace-waiting.ensures.value) c.requires.waiting in
     let ws : List ℕ = take (length all.items - 1) (drop 1 all.items) in
     let items : List Item = map Block (take (length c.deref.result.now - 1) (drop 1 c.deref.result.now)) in
     let is : items ≡ map Block ws = ap (λ (l : List ℕ). map Block (take (length l - 1) (drop 1 l))) c.deref.ensures.value in
-    subst (λ (l : List Item). (k : ℕ) (d : Item) → k < length l → IsItem scene.roots scene.targets (get_or l k d)) (sym is)
-    (all_blocks scene.roots scene.targets ws
-    (λ b h. waits scene c.args.state all c.requires.between c.replace-waiting.ensures.value b (subst (λ (l : List ℕ). Has l b) (sym (front_rest all.items some)) (there (get_or all.items 0 0) ws b h))))
+    subst (λ (l : List Item). (k : ℕ) (d : Item) → k < length l → IsItem model.roots model.targets (get_or l k d)) (sym is)
+    (all_blocks model.roots model.targets ws
+    (λ b h. waits model c.args.state all c.requires.between c.replace-waiting.ensures.value b (subst (λ (l : List ℕ). Has l b) (sym (front_rest all.items some)) (there (get_or all.items 0 0) ws b h))))
 
 pub returns-clause-size : goal.returns-clause-size
 returns-clause-size g c =
-    let scene = c.args.search.now in let from = c.args.state in let mid = c.by_caller.new.state in
+    let model = c.args.search.now in let from = c.args.state in let mid = c.by_caller.new.state in
     let items : List Item = map Block (take (length c.deref.result.now - 1) (drop 1 c.deref.result.now)) in
     let first = c.in_ok-by_caller.ensures.done in
-    if_ok (HasScanned (InItems scene items) (AreOfShares scene items) scene mid) _ c.by_workers.result
-    (λ (p : MarkingState) second. two_steps (targets_of_block scene.targets) _ _ scene.workers (claims_of from) (claims_of mid) (claims_of p) c.replace-waiting.new.dest.items mid.waiting.items p.waiting.items from.seat mid.seat p.seat first.0 second.0 first.1 second.1
+    if_ok (HasScanned (InItems model items) (AreOfShares model items) model mid) _ c.by_workers.result
+    (λ (p : MarkingState) second. two_steps (targets_of_block model.targets) _ _ model.workers (claims_of from) (claims_of mid) (claims_of p) c.replace-waiting.new.dest.items mid.waiting.items p.waiting.items from.seat mid.seat p.seat first.0 second.0 first.1 second.1
     (ap (λ (v : Vec ℕ Global). v.items) c.replace-waiting.ensures.after ∙ c.new.ensures.items) first.2 second.2)
     c.by_workers.ensures.done
 
 pub returns-clause-between : goal.returns-clause-between
 returns-clause-between g c =
-    let scene = c.args.search.now in let from = c.args.state in let mid = c.by_caller.new.state in let all = c.replace-waiting.result in
+    let model = c.args.search.now in let from = c.args.state in let mid = c.by_caller.new.state in let all = c.replace-waiting.result in
     let some : 0 < length all.items = subst (λ (v : Vec ℕ Global). 0 < length v.items) (sym c.replace-waiting.ensures.value) c.requires.waiting in
     let ws : List ℕ = take (length all.items - 1) (drop 1 all.items) in
     let x : ℕ = get_or all.items 0 0 in
@@ -62,20 +62,20 @@ returns-clause-between g c =
     let first = c.in_ok-by_caller.ensures.done in
     let items : List Item = map Block (take (length c.deref.result.now - 1) (drop 1 c.deref.result.now)) in
     let is : items ≡ map Block ws = ap (λ (l : List ℕ). map Block (take (length l - 1) (drop 1 l))) c.deref.ensures.value in
-    let going : IsGoing (graph_over scene.roots scene.targets scene.given) (length scene.targets) scene.workers base (claims_of from) (x ∷ ws) from.seat =
-    subst (λ (l : List ℕ). IsGoing (graph_over scene.roots scene.targets scene.given) (length scene.targets) scene.workers base (claims_of from) l from.seat) (sym (ap (λ (v : Vec ℕ Global). v.items) c.replace-waiting.ensures.value) ∙ front_rest all.items some) c.requires.between.going.1 in
-    let blocks = targets_of_block scene.targets in
-    let one : IsStep blocks (Has (get_or scene.targets x [])) scene.workers (claims_of from) c.replace-waiting.new.dest.items from.seat (claims_of mid) mid.waiting.items mid.seat first.0 first.1 =
-    subst (λ (b : ℕ). IsStep blocks (Has (get_or scene.targets b [])) scene.workers (claims_of from) c.replace-waiting.new.dest.items from.seat (claims_of mid) mid.waiting.items mid.seat first.0 first.1) (get_or_read all.items _ _ some c.index.ensures 0) first.2 in
-    let inside = subst (λ (s : Scene). (k b : ℕ) → Has (get_or s.targets k []) b → b < length s.targets) c.search.view_is (λ k b h. c.targets_are_blocks.ensures (Block k) b h) in
-    ok_both (IsReady scene) (HasScanned (InItems scene items) (AreOfShares scene items) scene mid) (IsBetweenRounds scene) c.by_workers.result
+    let going : IsGoing (graph_over model.roots model.targets model.given) (length model.targets) model.workers base (claims_of from) (x ∷ ws) from.seat =
+    subst (λ (l : List ℕ). IsGoing (graph_over model.roots model.targets model.given) (length model.targets) model.workers base (claims_of from) l from.seat) (sym (ap (λ (v : Vec ℕ Global). v.items) c.replace-waiting.ensures.value) ∙ front_rest all.items some) c.requires.between.going.1 in
+    let blocks = targets_of_block model.targets in
+    let one : IsStep blocks (Has (get_or model.targets x [])) model.workers (claims_of from) c.replace-waiting.new.dest.items from.seat (claims_of mid) mid.waiting.items mid.seat first.0 first.1 =
+    subst (λ (b : ℕ). IsStep blocks (Has (get_or model.targets b [])) model.workers (claims_of from) c.replace-waiting.new.dest.items from.seat (claims_of mid) mid.waiting.items mid.seat first.0 first.1) (get_or_read all.items _ _ some c.index.ensures 0) first.2 in
+    let inside = subst (λ (s : SearchModel). (k b : ℕ) → Has (get_or s.targets k []) b → b < length s.targets) c.search.view_is (λ k b h. c.targets_are_blocks.ensures (Block k) b h) in
+    ok_both (IsReady model) (HasScanned (InItems model items) (AreOfShares model items) model mid) (IsBetweenRounds model) c.by_workers.result
     (λ (p : MarkingState) ready two. record {
       ready = ready;
       small = c.requires.between.small;
-      few = let s = two_steps blocks _ _ scene.workers (claims_of from) (claims_of mid) (claims_of p) c.replace-waiting.new.dest.items mid.waiting.items p.waiting.items from.seat mid.seat p.seat first.0 two.0 first.1 two.1 none first.2 two.2 in omega arith;
+      few = let s = two_steps blocks _ _ model.workers (claims_of from) (claims_of mid) (claims_of p) c.replace-waiting.new.dest.items mid.waiting.items p.waiting.items from.seat mid.seat p.seat first.0 two.0 first.1 two.1 none first.2 two.2 in omega arith;
       going = (
         base,
-        later_round scene.roots scene.targets scene.given (length scene.targets) scene.workers base x ws (claims_of from) (claims_of mid) (claims_of p) c.replace-waiting.new.dest.items mid.waiting.items p.waiting.items
+        later_round model.roots model.targets model.given (length model.targets) model.workers base x ws (claims_of from) (claims_of mid) (claims_of p) c.replace-waiting.new.dest.items mid.waiting.items p.waiting.items
             from.seat mid.seat p.seat first.0 two.0 first.1 two.1 items
             inside is (blocks_long ws) none going one two.2,
         λ b h. two.2.kept.keeps b (one.kept.keeps b (c.requires.between.going.2 b h)),
@@ -85,7 +85,7 @@ returns-clause-between g c =
 
 pub returns-clause-course : goal.returns-clause-course
 returns-clause-course g c n led =
-    let scene = c.args.search.now in let from = c.args.state in let mid = c.by_caller.new.state in let all = c.replace-waiting.result in
+    let model = c.args.search.now in let from = c.args.state in let mid = c.by_caller.new.state in let all = c.replace-waiting.result in
     let some : 0 < length all.items = subst (λ (v : Vec ℕ Global). 0 < length v.items) (sym c.replace-waiting.ensures.value) c.requires.waiting in
     let ws : List ℕ = take (length all.items - 1) (drop 1 all.items) in
     let x : ℕ = get_or all.items 0 0 in
@@ -93,20 +93,20 @@ returns-clause-course g c n led =
     let first = c.in_ok-by_caller.ensures.done in
     let items : List Item = map Block (take (length c.deref.result.now - 1) (drop 1 c.deref.result.now)) in
     let is : items ≡ map Block ws = ap (λ (l : List ℕ). map Block (take (length l - 1) (drop 1 l))) c.deref.ensures.value in
-    let come : HaveCome scene.roots scene.targets scene.workers scene.stack n (claims_of from) (x ∷ ws) from.seat.seen = (
+    let come : HaveCome model.roots model.targets model.workers model.stack n (claims_of from) (x ∷ ws) from.seat.seen = (
       led.0,
       led.1,
-      subst (λ (l : List ℕ). IsCourse scene.roots scene.targets scene.workers scene.stack (claims_of from) l led.0) (sym (ap (λ (v : Vec ℕ Global). v.items) c.replace-waiting.ensures.value) ∙ front_rest all.items some) led.2,
+      subst (λ (l : List ℕ). IsCourse model.roots model.targets model.workers model.stack (claims_of from) l led.0) (sym (ap (λ (v : Vec ℕ Global). v.items) c.replace-waiting.ensures.value) ∙ front_rest all.items some) led.2,
       led.3,
     ) in
-    let blocks = targets_of_block scene.targets in
+    let blocks = targets_of_block model.targets in
     let read = get_or_read all.items _ _ some c.index.ensures 0 in
-    let one : IsStep blocks (Has (get_or scene.targets x [])) scene.workers (claims_of from) c.replace-waiting.new.dest.items from.seat (claims_of mid) mid.waiting.items mid.seat first.0 first.1 =
-    subst (λ (b : ℕ). IsStep blocks (Has (get_or scene.targets b [])) scene.workers (claims_of from) c.replace-waiting.new.dest.items from.seat (claims_of mid) mid.waiting.items mid.seat first.0 first.1) read first.2 in
-    let alone : AreOfOne (get_or scene.targets x []) first.0 first.1 = subst (λ (b : ℕ). AreOfOne (get_or scene.targets b []) first.0 first.1) read first.3 in
-    let workers : 0 < scene.workers = subst (λ (s : Scene). 0 < s.workers) c.search.view_is c.search.invariant.some in
-    if_ok (HasScanned (InItems scene items) (AreOfShares scene items) scene mid) (λ (p : MarkingState). HasRoundMore scene p n led.0) c.by_workers.result
-    (λ (p : MarkingState) second. course_more scene.roots scene.targets scene.workers scene.stack n x ws (claims_of from) (claims_of mid) (claims_of p) c.replace-waiting.new.dest.items mid.waiting.items p.waiting.items from.seat mid.seat p.seat
+    let one : IsStep blocks (Has (get_or model.targets x [])) model.workers (claims_of from) c.replace-waiting.new.dest.items from.seat (claims_of mid) mid.waiting.items mid.seat first.0 first.1 =
+    subst (λ (b : ℕ). IsStep blocks (Has (get_or model.targets b [])) model.workers (claims_of from) c.replace-waiting.new.dest.items from.seat (claims_of mid) mid.waiting.items mid.seat first.0 first.1) read first.2 in
+    let alone : AreOfOne (get_or model.targets x []) first.0 first.1 = subst (λ (b : ℕ). AreOfOne (get_or model.targets b []) first.0 first.1) read first.3 in
+    let workers : 0 < model.workers = subst (λ (s : SearchModel). 0 < s.workers) c.search.view_is c.search.invariant.some in
+    if_ok (HasScanned (InItems model items) (AreOfShares model items) model mid) (λ (p : MarkingState). HasRoundMore model p n led.0) c.by_workers.result
+    (λ (p : MarkingState) second. course_more model.roots model.targets model.workers model.stack n x ws (claims_of from) (claims_of mid) (claims_of p) c.replace-waiting.new.dest.items mid.waiting.items p.waiting.items from.seat mid.seat p.seat
     first.0 second.0 first.1 second.1 items workers is none come one alone second.2 second.3)
     c.by_workers.ensures.done
 

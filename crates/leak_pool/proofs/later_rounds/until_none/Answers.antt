@@ -1,14 +1,14 @@
 -- From the lemmas of GoingLemmas.
 use Rattle.std.proofs.Common.{◌<◌, ◌≤◌, length, arith, rules}
-use Rattle.leak_pool.specs.Scene.{Scene}
+use Rattle.leak_pool.specs.SearchModel.{SearchModel}
 use Rattle.leak_pool.specs.declared.marking_state.MarkingState.{MarkingState}
 use Rattle.leak_pool.specs.MarkingState.{IsBetweenRounds}
 use Rattle.leak_pool.proofs.GoingLemmas.{going_few}
 use Rattle.leak_pool.proofs.GateLemmas.{through_one, through_more, gone_through}
 use Rattle.leak_pool.proofs.later_rounds.until_none.Goals as goal
 
-few : (scene : Scene) (p : MarkingState) → IsBetweenRounds scene p → length p.seat.claims ≤ length scene.targets
-few scene p between = going_few _ _ _ _ _ _ _ between.going.1
+few : (model : SearchModel) (p : MarkingState) → IsBetweenRounds model p → length p.seat.claims ≤ length model.targets
+few model p between = going_few _ _ _ _ _ _ _ between.going.1
 
 pub overflow_add-rounds : goal.overflow_add-rounds
 overflow_add-rounds g c = let i = c.until.invariant in let f = few c.args.search.now c.until.state i.between in let a = i.size in let s = i.between.small in let ne : 0 < length c.until.state.waiting.items = search rules in omega arith

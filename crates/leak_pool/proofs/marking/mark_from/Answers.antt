@@ -11,9 +11,10 @@ use Rattle.leak_pool.specs.Rounds.{IsMarked, graph_over}
 use Rattle.leak_pool.specs.Marking.{lists_of}
 use Rattle.leak_pool.specs.Course.{HaveGone, HaveLed}
 use Rattle.leak_pool.proofs.ScopeLemmas.{long_all, long_roots}
-use Rattle.leak_pool.proofs.FromLemmas.{at_has_any, parts_inside, marks_from}
+use Rattle.leak_pool.proofs.FromLemmas.{parts_inside, marks_from}
 use Rattle.leak_pool.proofs.DepthOfCores.{depth_from}
 use Rattle.leak_pool.proofs.marking.mark_from.Goals as goal
+use Rattle.leak_marks.proofs.ElementLemmas.{has_at}
 
 pub invariant_of-scope : goal.invariant_of-scope
 invariant_of-scope g c =
@@ -32,7 +33,7 @@ pub mark_by_rounds-requires-after_bounds : goal.mark_by_rounds-requires-after_bo
 mark_by_rounds-requires-after_bounds g c κs within k d h =
     let w = g.W.Words.word_at c.args.words.now in let i = g.L.Lookup.index c.args.lookup.now in
     let v : c.as_slice-2.result.now ≡ c.args.start.now.marked.items = c.as_slice-2.ensures.value in
-    let b = c.requires.start.inside (slice_index_or c.args.start.now.marked.items k d) (at_has_any c.args.start.now.marked.items k d (subst (λ (l : List ℕ). k < length l) v h)) in
+    let b = c.requires.start.inside (slice_index_or c.args.start.now.marked.items k d) (has_at c.args.start.now.marked.items k d (subst (λ (l : List ℕ). k < length l) v h)) in
     let e = ap (λ (l : List Block). length l) c.requires.blocks in
     let l = long_all w i in
     subst (λ (l : List ℕ). slice_index_or l k d < length (all_targets w i)) (sym v) (omega (arith, b, e, l))

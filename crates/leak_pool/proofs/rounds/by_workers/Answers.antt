@@ -6,7 +6,7 @@ use Rattle.leak_pool.specs.Items.{items_in, targets_at, targets_of_block}
 use Rattle.leak_pool.specs.Gates.{IsNextPassed, ArePassed}
 use Rattle.leak_pool.specs.Promises.{IsHalf}
 use Rattle.leak_pool.specs.Rounds.{AreCounted}
-use Rattle.leak_pool.specs.Scene.{Scene}
+use Rattle.leak_pool.specs.SearchModel.{SearchModel}
 use Rattle.leak_pool.specs.declared.task.Gains.{Gains}
 use Rattle.leak_pool.proofs.GateLemmas.{round_more, round_none}
 use Rattle.leak_pool.proofs.StepLemmas.{ok_at, step_of_half, step_of_none}
@@ -17,22 +17,22 @@ items v = v.items
 
 pub returns-clause-done : goal.returns-clause-done
 returns-clause-done g c =
-    let scene = c.args.search.now in let p = c.args.state in
-    let blocks = targets_of_block scene.targets in
-    let targets = targets_at scene.roots scene.targets (items_in c.args.items) in
+    let model = c.args.search.now in let p = c.args.state in
+    let blocks = targets_of_block model.targets in
+    let targets = targets_at model.roots model.targets (items_in c.args.items) in
     let n : ℕ = length (items_in c.args.items) in
-    let w : ℕ = scene.workers in
-    let same_workers : c.search.inside.workers ≡ w = ap (λ (s : Scene). s.workers) c.search.view_is in
+    let w : ℕ = model.workers in
+    let same_workers : c.search.inside.workers ≡ w = ap (λ (s : SearchModel). s.workers) c.search.view_is in
     let some : 0 < w = let s = c.search.invariant.some in omega arith in
     let scanned = c.scan_shares-seat.ensures in
     let gains : Gains = c.in_ok-gained.gained in
-    let done = subst (λ (k : ℕ). IfOk c.scan_shares-seat.result.1 (λ (g : Gains). IsHalf blocks targets scene.stack n w 0 k p.seat c.scan_shares-seat.result.0 (map items g.claims.items) g.left.items)) same_workers scanned.done in
-    let h = ok_at c.scan_shares-seat.result.1 gains (λ (g : Gains). IsHalf blocks targets scene.stack n w 0 w p.seat c.scan_shares-seat.result.0 (map items g.claims.items) g.left.items) c.in_ok-gained.was done in
+    let done = subst (λ (k : ℕ). IfOk c.scan_shares-seat.result.1 (λ (g : Gains). IsHalf blocks targets model.stack n w 0 k p.seat c.scan_shares-seat.result.0 (map items g.claims.items) g.left.items)) same_workers scanned.done in
+    let h = ok_at c.scan_shares-seat.result.1 gains (λ (g : Gains). IsHalf blocks targets model.stack n w 0 w p.seat c.scan_shares-seat.result.0 (map items g.claims.items) g.left.items) c.in_ok-gained.was done in
     let same : c.as_slice-claims.result.now ≡ gains.claims.items = c.as_slice-claims.ensures.value in
     let left : c.as_slice-left.result.now ≡ gains.left.items = c.as_slice-left.ensures.value in (
       map items gains.claims.items,
       gains.left.items,
-      step_of_half blocks targets scene.stack n w (map items p.claims.items) p.waiting.items p.seat (map items c.absorb.new.claims.items) c.absorb.new.waiting.items c.scan_shares-seat.result.0 (map items gains.claims.items) gains.left.items
+      step_of_half blocks targets model.stack n w (map items p.claims.items) p.waiting.items p.seat (map items c.absorb.new.claims.items) c.absorb.new.waiting.items c.scan_shares-seat.result.0 (map items gains.claims.items) gains.left.items
           some h scanned.table scanned.share scanned.sound
           (c.in_ok-absorb.ensures.claims ∙ ap (λ (l : List (Vec ℕ Global)). appended_from 0 (map items p.claims.items) (map items l)) same)
           (c.in_ok-absorb.ensures.waiting ∙ ap (λ (l : List ℕ). p.waiting.items ++ l) left),
@@ -41,16 +41,16 @@ returns-clause-done g c =
 
 pub returns-then-len-eq0-clause-done : goal.returns-then-len-eq0-clause-done
 returns-then-len-eq0-clause-done g c =
-    let scene = c.args.search.now in let p = c.args.state in
+    let model = c.args.search.now in let p = c.args.state in
     let none : length (items_in c.args.items) ≡ 0 = search rules in
-    ([], [], step_of_none (targets_of_block scene.targets) (targets_at scene.roots scene.targets (items_in c.args.items)) (length (items_in c.args.items)) scene.workers (map items p.claims.items) p.waiting.items p.seat none c.requires.ready.sound, record { own = tt; full = omega arith; direct = λ z. tt; all_left = λ z. refl })
+    ([], [], step_of_none (targets_of_block model.targets) (targets_at model.roots model.targets (items_in c.args.items)) (length (items_in c.args.items)) model.workers (map items p.claims.items) p.waiting.items p.seat none c.requires.ready.sound, record { own = tt; full = omega arith; direct = λ z. tt; all_left = λ z. refl })
 
 pub returns-clause-gate : goal.returns-clause-gate
 returns-clause-gate g c =
     let p = c.args.state in
     let n : ℕ = length (items_in c.args.items) in let w : ℕ = c.args.search.now.workers in
     let passed : ℕ → ℕ → Type 0 = g.G.Gate.passed c.args.gate.now in
-    let same_workers : c.search.inside.workers ≡ w = ap (λ (s : Scene). s.workers) c.search.view_is in
+    let same_workers : c.search.inside.workers ≡ w = ap (λ (s : SearchModel). s.workers) c.search.view_is in
     let steps : c.as_slice.result.now ≡ p.steps.items = c.as_slice.ensures.value in
     let scanned : IfOk c.scan_shares-seat.result.1 (λ (g : Gains). ArePassed (IsNextPassed passed p.steps.items) n w 0 w) =
     subst (λ (l : List ℕ). IfOk c.scan_shares-seat.result.1 (λ (g : Gains). ArePassed (IsNextPassed passed l) n w 0 w)) steps

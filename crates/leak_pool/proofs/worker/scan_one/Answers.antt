@@ -4,29 +4,29 @@ use Rattle.std.proofs.lemmas.List.{take_rest, drop_at}
 use Rattle.leak_marks.specs.Lists.{Has}
 use Rattle.leak_pool.specs.Items.{items_in, targets_of_item}
 use Rattle.leak_pool.specs.Promises.{IsScanned}
-use Rattle.leak_pool.specs.Scene.{Scene, Work}
+use Rattle.leak_pool.specs.SearchModel.{SearchModel, Work}
 use Rattle.leak_pool.specs.declared.target_source.Item.{Item}
 use Rattle.leak_pool.proofs.FromLemmas.{if_ok}
 use Rattle.leak_pool.proofs.ScanLemmas.{kept_of_scan}
 use Rattle.leak_pool.proofs.worker.scan_one.Goals as goal
 
-abbrev work : List Item → List ℕ → Scene → Work
-work items steps scene = record { scene = scene; items = items; steps = steps }
+abbrev work : List Item → List ℕ → SearchModel → Work
+work items steps model = record { model = model; items = items; steps = steps }
 
 pub returns-clause-done : goal.returns-clause-done
 returns-clause-done g c =
-    let scene : Scene = c.args.round.now.scene in let hand = c.args.hand.now in
-    let is = ap (λ (w : Work). w.scene) (ap (λ (s : Scene). work (items_in c.round.inside.items) c.round.inside.steps.now s) c.search.view_is ∙ c.round.view_is) in
+    let model : SearchModel = c.args.round.now.model in let hand = c.args.hand.now in
+    let is = ap (λ (w : Work). w.model) (ap (λ (s : SearchModel). work (items_in c.round.inside.items) c.round.inside.steps.now s) c.search.view_is ∙ c.round.view_is) in
     let before : List ℕ = c.args.seat.now.seen in let after : List ℕ = c.scan.new.seat.seen in let longer : List ℕ = c.scan.new.list.items in
-    let done : IsScanned (Has (targets_of_item scene.roots scene.targets c.args.item)) [] before hand.list.items after longer =
-    subst (λ (s : Scene). IsScanned (Has (targets_of_item s.roots s.targets c.args.item)) [] before hand.list.items after longer) is c.in_ok-scan.ensures.done in
+    let done : IsScanned (Has (targets_of_item model.roots model.targets c.args.item)) [] before hand.list.items after longer =
+    subst (λ (s : SearchModel). IsScanned (Has (targets_of_item s.roots s.targets c.args.item)) [] before hand.list.items after longer) is c.in_ok-scan.ensures.done in
     let more : List ℕ = done.grown.0 in
     let base : List ℕ = c.requires.hand.listed.0 in
     let claims : c.scan.new.seat.claims ≡ base ++ longer = c.scan.ensures.listed base c.requires.hand.listed.1 in
     let all : List ℕ = c.deref.result.now in
     let from : ℕ = c.len-from.result in
     let claimed : take (length all - from) (drop from all) ≡ more = take_rest all from ∙ ap (λ (l : List ℕ). drop from l) (c.deref.ensures.value ∙ done.grown.1) ∙ drop_at hand.list.items more from (sym hand.list.ok.0 ∙ sym c.len-from.ensures) in
-    let same : c.search.inside.stack ≡ scene.stack = ap (λ (s : Scene). s.stack) is in
+    let same : c.search.inside.stack ≡ model.stack = ap (λ (s : SearchModel). s.stack) is in
     let size : ℕ = length hand.stack.items in
     if_ok _ _ c.put_away.result
     (λ x left. record {
@@ -35,6 +35,6 @@ returns-clause-done g c =
       list_is = done.grown.1;
       stack_is = c.put_away.ensures.stack ∙ ap (λ (l : List ℕ). hand.stack.items ++ take (c.search.inside.stack - size) l) claimed ∙ ap (λ (n : ℕ). hand.stack.items ++ take (n - size) more) same;
       left_is = left ∙ ap (λ (l : List ℕ). hand.left.items ++ drop (c.search.inside.stack - size) l) claimed ∙ ap (λ (n : ℕ). hand.left.items ++ drop (n - size) more) same;
-      kept = kept_of_scan (Has (targets_of_item scene.roots scene.targets c.args.item)) base hand.list.items more c.args.seat.now c.scan.new.seat longer done.grown.1 claims c.scan.ensures.sound done;
+      kept = kept_of_scan (Has (targets_of_item model.roots model.targets c.args.item)) base hand.list.items more c.args.seat.now c.scan.new.seat longer done.grown.1 claims c.scan.ensures.sound done;
     })
     c.put_away.ensures.left

@@ -1,6 +1,6 @@
 use Rattle.std.proofs.Common.{ap}
 use Rattle.std.specs.Prelude.{slice_index_or}
-use Rattle.leak_pool.specs.Scene.{Work}
+use Rattle.leak_pool.specs.SearchModel.{Work}
 use Rattle.leak_pool.proofs.worker.steps_before.Goals as goal
 
 pub returns : goal.returns

@@ -9,7 +9,7 @@ use Rattle.leak_pool.specs.declared.hand.Hand.{Hand}
 use Rattle.leak_pool.specs.declared.target_source.Item.{Item}
 use Rattle.leak_pool.specs.declared.target_source.Item.TheVariants.{Root}
 use Rattle.leak_pool.specs.Promises.{IsPutAway, IsWorking}
-use Rattle.leak_pool.specs.Scene.{Scene, Work, blocks_of, items_of}
+use Rattle.leak_pool.specs.SearchModel.{SearchModel, Work, blocks_of, items_of}
 use Rattle.leak_pool.specs.Gates.{IsNextPassed}
 use Rattle.leak_pool.specs.Tops.{IsTopScanned}
 use Rattle.leak_pool.proofs.HalfLemmas.{share-mono}
@@ -17,8 +17,8 @@ use Rattle.leak_pool.proofs.WorkLemmas.{working_none, worker_inside, worker_few,
 use Rattle.leak_pool.proofs.GateLemmas.{next_passed, first_step, next_step, alone_passed}
 use Rattle.leak_pool.proofs.worker.work.Goals as goal
 
-abbrev work : List Item → List ℕ → Scene → Work
-work items steps scene = record { scene = scene; items = items; steps = steps }
+abbrev work : List Item → List ℕ → SearchModel → Work
+work items steps model = record { model = model; items = items; steps = steps }
 
 pub scan-init : goal.scan-init
 scan-init g c =
@@ -35,16 +35,16 @@ scan-init g c =
       passed = λ j below. absurd (omega arith);
       working = working_none (blocks_of w) (InRange (items_of w) first first) c.args.seat.now c.args.hand.now.list.items c.args.hand.now.stack.items c.args.hand.now.left.items
           (λ b r. let from : first ≤ r.0 = r.1 in let below : r.0 < first = r.2 in absurd (omega arith)) c.requires.seat.sound c.requires.none.0 c.requires.none.1 c.requires.none.2;
-      by_stack = by_stack_none w.scene.stack (InRange (items_of w) first first) c.args.hand.now.list.items c.args.hand.now.left.items c.requires.none.0 c.requires.none.2;
+      by_stack = by_stack_none w.model.stack (InRange (items_of w) first first) c.args.hand.now.list.items c.args.hand.now.left.items c.requires.none.0 c.requires.none.2;
     }
 
 pub returns-else-next-end-clause-gate : goal.returns-else-next-end-clause-gate
 returns-else-next-end-clause-gate g c =
     let w = c.args.round.now in let k = c.args.worker in let i = c.scan.invariant in
-    let n : ℕ = length w.items in let m : ℕ = w.scene.workers in
-    let all = ap (λ (s : Scene). work (items_in c.round.inside.items) c.round.inside.steps.now s) c.search.view_is ∙ c.round.view_is in
+    let n : ℕ = length w.items in let m : ℕ = w.model.workers in
+    let all = ap (λ (s : SearchModel). work (items_in c.round.inside.items) c.round.inside.steps.now s) c.search.view_is ∙ c.round.view_is in
     let many : c.len-count.result ≡ n = c.len-count.ensures ∙ ap (λ (v : Work). length v.items) all in
-    let same : c.search.inside.workers ≡ m = ap (λ (v : Work). v.scene.workers) all in
+    let same : c.search.inside.workers ≡ m = ap (λ (v : Work). v.model.workers) all in
     let first : c.share_start-next.result ≡ share k n m = c.share_start-next.ensures.start ∙ ap (λ (x : ℕ). share k x c.search.inside.workers) many ∙ ap (λ (x : ℕ). share k n x) same in
     let end : c.share_start-end.result ≡ share (k + 1) n m = c.share_start-end.ensures.start ∙ ap (λ (x : ℕ). share (k + 1) x c.search.inside.workers) many ∙ ap (λ (x : ℕ). share (k + 1) n x) same in
     let last : c.scan.next ≡ c.share_start-end.result = let t = i.to in let f = c.if-next-end.false in omega arith in
@@ -54,10 +54,10 @@ returns-else-next-end-clause-gate g c =
 pub returns-else-next-end-clause-once : goal.returns-else-next-end-clause-once
 returns-else-next-end-clause-once g c =
     let w = c.args.round.now in let k = c.args.worker in let i = c.scan.invariant in
-    let n : ℕ = length w.items in let m : ℕ = w.scene.workers in
-    let all = ap (λ (s : Scene). work (items_in c.round.inside.items) c.round.inside.steps.now s) c.search.view_is ∙ c.round.view_is in
+    let n : ℕ = length w.items in let m : ℕ = w.model.workers in
+    let all = ap (λ (s : SearchModel). work (items_in c.round.inside.items) c.round.inside.steps.now s) c.search.view_is ∙ c.round.view_is in
     let many : c.len-count.result ≡ n = c.len-count.ensures ∙ ap (λ (v : Work). length v.items) all in
-    let same : c.search.inside.workers ≡ m = ap (λ (v : Work). v.scene.workers) all in
+    let same : c.search.inside.workers ≡ m = ap (λ (v : Work). v.model.workers) all in
     let first : c.share_start-next.result ≡ share k n m = c.share_start-next.ensures.start ∙ ap (λ (x : ℕ). share k x c.search.inside.workers) many ∙ ap (λ (x : ℕ). share k n x) same in
     let end : c.share_start-end.result ≡ share (k + 1) n m = c.share_start-end.ensures.start ∙ ap (λ (x : ℕ). share (k + 1) x c.search.inside.workers) many ∙ ap (λ (x : ℕ). share (k + 1) n x) same in
     let last : c.scan.next ≡ c.share_start-end.result = let t = i.to in let f = c.if-next-end.false in omega arith in
@@ -68,29 +68,29 @@ returns-else-next-end-clause-once g c =
 pub scan_top-requires-clause-inside : goal.scan_top-requires-clause-inside
 scan_top-requires-clause-inside g c b h =
     let w = c.args.round.now in
-    let is = ap (λ (v : Work). v.scene) (ap (λ (s : Scene). work (items_in c.round.inside.items) c.round.inside.steps.now s) c.search.view_is ∙ c.round.view_is) in
-    let inside = subst (λ (s : Scene). (i : Item) (b : ℕ) → Has (targets_of_item s.roots s.targets i) b → b < length s.targets) is (λ i b h. c.targets_are_blocks.ensures i b h) in
+    let is = ap (λ (v : Work). v.model) (ap (λ (s : SearchModel). work (items_in c.round.inside.items) c.round.inside.steps.now s) c.search.view_is ∙ c.round.view_is) in
+    let inside = subst (λ (s : SearchModel). (i : Item) (b : ℕ) → Has (targets_of_item s.roots s.targets i) b → b < length s.targets) is (λ i b h. c.targets_are_blocks.ensures i b h) in
     let working = c.scan.invariant.working in
-    worker_inside w (length w.scene.targets) inside c.share_start-next.result c.scan.next c.args.seat.now c.scan.seat c.scan.hand.list.items c.scan.hand.stack.items c.scan.hand.left.items working b
+    worker_inside w (length w.model.targets) inside c.share_start-next.result c.scan.next c.args.seat.now c.scan.seat c.scan.hand.list.items c.scan.hand.stack.items c.scan.hand.left.items working b
     (working.of_list b (has_back c.scan.hand.left.items c.scan.hand.stack.items b h))
 
 pub scan-preserved-in-Continue-1 : goal.scan-preserved-in-Continue-1
 scan-preserved-in-Continue-1 g c =
     let w = c.args.round.now in let i = c.scan.invariant in
     let hand : Hand = c.scan.hand in let later : Hand = c.scan_top.new.hand in let after = c.scan_top.new.seat in
-    let p : IsTopScanned w.scene.targets w.scene.stack c.scan.seat after hand later = c.in_ok-scan_top.ensures.done in
+    let p : IsTopScanned w.model.targets w.model.stack c.scan.seat after hand later = c.in_ok-scan_top.ensures.done in
     record {
       from = i.from;
       to = i.to;
       room = let a = i.room in let b : vec_capacity later.stack ≡ vec_capacity hand.stack = c.in_ok-scan_top.ensures.room in omega arith;
-      few = top_few w.scene.targets w.scene.stack c.scan.seat after hand later p i.few;
+      few = top_few w.model.targets w.model.stack c.scan.seat after hand later p i.few;
       door = i.door;
       step = i.step;
       passed = i.passed;
-      working = put_top w w.scene.stack c.share_start-next.result c.scan.next c.args.seat.now c.scan.seat after hand later i.working
+      working = put_top w w.model.stack c.share_start-next.result c.scan.next c.args.seat.now c.scan.seat after hand later i.working
           c.scan_top.ensures.same.0 c.scan_top.ensures.same.1 c.scan_top.ensures.sound p;
       by_stack = record {
-        full = top_full w.scene.targets w.scene.stack c.scan.seat after hand later p i.working.few i.few i.by_stack.full;
+        full = top_full w.model.targets w.model.stack c.scan.seat after hand later p i.working.few i.few i.by_stack.full;
         direct = λ z. absurd (let f = i.few in let s = p.some in
             let l : length hand.stack.items ≡ length p.rest + length p.top = ap (λ (l : List ℕ). length l) p.stack_was ∙ length-append p.rest p.top in omega arith);
       };
@@ -99,16 +99,16 @@ scan-preserved-in-Continue-1 g c =
 pub scan-smaller-in-Continue-1 : goal.scan-smaller-in-Continue-1
 scan-smaller-in-Continue-1 g c =
     let w = c.args.round.now in let i = c.scan.invariant in
-    let is = ap (λ (v : Work). v.scene) (ap (λ (s : Scene). work (items_in c.round.inside.items) c.round.inside.steps.now s) c.search.view_is ∙ c.round.view_is) in
-    let inside = subst (λ (s : Scene). (i : Item) (b : ℕ) → Has (targets_of_item s.roots s.targets i) b → b < length s.targets) is (λ i b h. c.targets_are_blocks.ensures i b h) in
+    let is = ap (λ (v : Work). v.model) (ap (λ (s : SearchModel). work (items_in c.round.inside.items) c.round.inside.steps.now s) c.search.view_is ∙ c.round.view_is) in
+    let inside = subst (λ (s : SearchModel). (i : Item) (b : ℕ) → Has (targets_of_item s.roots s.targets i) b → b < length s.targets) is (λ i b h. c.targets_are_blocks.ensures i b h) in
     let hand : Hand = c.scan.hand in let later : Hand = c.scan_top.new.hand in let after = c.scan_top.new.seat in
-    let p : IsTopScanned w.scene.targets w.scene.stack c.scan.seat after hand later = c.in_ok-scan_top.ensures.done in
+    let p : IsTopScanned w.model.targets w.model.stack c.scan.seat after hand later = c.in_ok-scan_top.ensures.done in
     let working : IsWorking (blocks_of w) (InRange (items_of w) c.share_start-next.result c.scan.next) c.args.seat.now after later.list.items later.stack.items later.left.items =
-    put_top w w.scene.stack c.share_start-next.result c.scan.next c.args.seat.now c.scan.seat after hand later i.working
+    put_top w w.model.stack c.share_start-next.result c.scan.next c.args.seat.now c.scan.seat after hand later i.working
     c.scan_top.ensures.same.0 c.scan_top.ensures.same.1 c.scan_top.ensures.sound p in
-    let few : length later.list.items ≤ length w.scene.targets = worker_few w (length w.scene.targets) inside c.share_start-next.result c.scan.next c.args.seat.now after later.list.items later.stack.items later.left.items working in
-    let grown : length later.stack.items + length hand.list.items < length hand.stack.items + length later.list.items = top_grown w.scene.targets w.scene.stack c.scan.seat after hand later p in
-    let longer : length hand.list.items ≤ length later.list.items = top_longer w.scene.targets w.scene.stack c.scan.seat after hand later p in
+    let few : length later.list.items ≤ length w.model.targets = worker_few w (length w.model.targets) inside c.share_start-next.result c.scan.next c.args.seat.now after later.list.items later.stack.items later.left.items working in
+    let grown : length later.stack.items + length hand.list.items < length hand.stack.items + length later.list.items = top_grown w.model.targets w.model.stack c.scan.seat after hand later p in
+    let longer : length hand.list.items ≤ length later.list.items = top_longer w.model.targets w.model.stack c.scan.seat after hand later p in
     omega arith
 
 pub scan-preserved : goal.scan-preserved
@@ -116,42 +116,42 @@ scan-preserved g c =
     let w = c.args.round.now in let i = c.scan.invariant in
     let hand : Hand = c.scan.hand in let later : Hand = c.scan_one.new.hand in let after = c.scan_one.new.seat in
     let items : (items_in c.round.inside.items) ≡ w.items = ap (λ (v : Work). v.items) c.round.view_is in
-    let p : IsPutAway (items_of w c.scan.next) w.scene.stack c.scan.seat after hand later =
-    subst (λ (l : List Item). IsPutAway (targets_of_item w.scene.roots w.scene.targets (slice_index_or l c.scan.next (Root 0))) w.scene.stack c.scan.seat after hand later) items
-    (subst (λ (i : Item). IsPutAway (targets_of_item w.scene.roots w.scene.targets i) w.scene.stack c.scan.seat after hand later) (c.at.ensures (Root 0)) c.in_ok-scan_one.ensures.done) in
+    let p : IsPutAway (items_of w c.scan.next) w.model.stack c.scan.seat after hand later =
+    subst (λ (l : List Item). IsPutAway (targets_of_item w.model.roots w.model.targets (slice_index_or l c.scan.next (Root 0))) w.model.stack c.scan.seat after hand later) items
+    (subst (λ (i : Item). IsPutAway (targets_of_item w.model.roots w.model.targets i) w.model.stack c.scan.seat after hand later) (c.at.ensures (Root 0)) c.in_ok-scan_one.ensures.done) in
     record {
       from = let f = i.from in omega arith;
       to = let t = c.if-next-end.true in omega arith;
       room = let a = i.room in let b : vec_capacity later.stack ≡ vec_capacity hand.stack = c.in_ok-scan_one.ensures.room in omega arith;
-      few = put_few _ w.scene.stack c.scan.seat after hand later i.few p;
+      few = put_few _ w.model.stack c.scan.seat after hand later i.few p;
       door = (c.pass.ensures.same.0 ∙ i.door.0, c.pass.ensures.same.1 ∙ i.door.1);
       step = c.pass.ensures.counted ∙ next_step (slice_index_or w.steps c.args.worker 0) c.share_start-next.result c.scan.next c.scan.door.step i.from i.step;
       passed = next_passed (g.G.Gate.passed c.args.door.now.gate.now) w.steps c.args.worker c.share_start-next.result c.scan.next c.scan.door.step i.from i.step
           (subst (λ (k : ℕ). g.G.Gate.passed c.args.door.now.gate.now k c.scan.door.step) (i.door.1 ∙ c.requires.door.0)
           (subst (λ d. g.G.Gate.passed d.now c.scan.door.worker c.scan.door.step) i.door.0 c.pass.ensures.passed)) i.passed;
-      working = put_item w w.scene.stack c.share_start-next.result c.scan.next c.args.seat.now c.scan.seat after hand later i.from i.working
+      working = put_item w w.model.stack c.share_start-next.result c.scan.next c.args.seat.now c.scan.seat after hand later i.from i.working
           c.scan_one.ensures.same.0 c.scan_one.ensures.same.1 c.scan_one.ensures.sound p;
       by_stack = record {
-        full = put_full _ w.scene.stack c.scan.seat after hand later i.working.few i.few i.by_stack.full p;
-        direct = λ z. direct_item (items_of w) c.share_start-next.result c.scan.next w.scene.stack c.scan.seat after hand later i.from z (i.by_stack.direct z) p;
+        full = put_full _ w.model.stack c.scan.seat after hand later i.working.few i.few i.by_stack.full p;
+        direct = λ z. direct_item (items_of w) c.share_start-next.result c.scan.next w.model.stack c.scan.seat after hand later i.from z (i.by_stack.direct z) p;
       };
     }
 
 pub scan-smaller : goal.scan-smaller
 scan-smaller g c =
     let w = c.args.round.now in let i = c.scan.invariant in
-    let is = ap (λ (v : Work). v.scene) (ap (λ (s : Scene). work (items_in c.round.inside.items) c.round.inside.steps.now s) c.search.view_is ∙ c.round.view_is) in
-    let inside = subst (λ (s : Scene). (i : Item) (b : ℕ) → Has (targets_of_item s.roots s.targets i) b → b < length s.targets) is (λ i b h. c.targets_are_blocks.ensures i b h) in
+    let is = ap (λ (v : Work). v.model) (ap (λ (s : SearchModel). work (items_in c.round.inside.items) c.round.inside.steps.now s) c.search.view_is ∙ c.round.view_is) in
+    let inside = subst (λ (s : SearchModel). (i : Item) (b : ℕ) → Has (targets_of_item s.roots s.targets i) b → b < length s.targets) is (λ i b h. c.targets_are_blocks.ensures i b h) in
     let hand : Hand = c.scan.hand in let later : Hand = c.scan_one.new.hand in let after = c.scan_one.new.seat in
     let items : (items_in c.round.inside.items) ≡ w.items = ap (λ (v : Work). v.items) c.round.view_is in
-    let p : IsPutAway (items_of w c.scan.next) w.scene.stack c.scan.seat after hand later =
-    subst (λ (l : List Item). IsPutAway (targets_of_item w.scene.roots w.scene.targets (slice_index_or l c.scan.next (Root 0))) w.scene.stack c.scan.seat after hand later) items
-    (subst (λ (i : Item). IsPutAway (targets_of_item w.scene.roots w.scene.targets i) w.scene.stack c.scan.seat after hand later) (c.at.ensures (Root 0)) c.in_ok-scan_one.ensures.done) in
+    let p : IsPutAway (items_of w c.scan.next) w.model.stack c.scan.seat after hand later =
+    subst (λ (l : List Item). IsPutAway (targets_of_item w.model.roots w.model.targets (slice_index_or l c.scan.next (Root 0))) w.model.stack c.scan.seat after hand later) items
+    (subst (λ (i : Item). IsPutAway (targets_of_item w.model.roots w.model.targets i) w.model.stack c.scan.seat after hand later) (c.at.ensures (Root 0)) c.in_ok-scan_one.ensures.done) in
     let working : IsWorking (blocks_of w) (InRange (items_of w) c.share_start-next.result (c.scan.next + 1)) c.args.seat.now after later.list.items later.stack.items later.left.items =
-    put_item w w.scene.stack c.share_start-next.result c.scan.next c.args.seat.now c.scan.seat after hand later i.from i.working
+    put_item w w.model.stack c.share_start-next.result c.scan.next c.args.seat.now c.scan.seat after hand later i.from i.working
     c.scan_one.ensures.same.0 c.scan_one.ensures.same.1 c.scan_one.ensures.sound p in
-    let few : length later.list.items ≤ length w.scene.targets = worker_few w (length w.scene.targets) inside c.share_start-next.result (c.scan.next + 1) c.args.seat.now after later.list.items later.stack.items later.left.items working in
-    let grown : length later.stack.items + length hand.list.items ≤ length hand.stack.items + length later.list.items = put_grown _ w.scene.stack c.scan.seat after hand later p in
-    let longer : length hand.list.items ≤ length later.list.items = put_longer _ w.scene.stack c.scan.seat after hand later p in
+    let few : length later.list.items ≤ length w.model.targets = worker_few w (length w.model.targets) inside c.share_start-next.result (c.scan.next + 1) c.args.seat.now after later.list.items later.stack.items later.left.items working in
+    let grown : length later.stack.items + length hand.list.items ≤ length hand.stack.items + length later.list.items = put_grown _ w.model.stack c.scan.seat after hand later p in
+    let longer : length hand.list.items ≤ length later.list.items = put_longer _ w.model.stack c.scan.seat after hand later p in
     let next : c.scan.next < c.share_start-end.result = c.if-next-end.true in
     omega arith

@@ -7,7 +7,7 @@ use Rattle.leak_report.proofs.misfits.push_number.Goals as goal
 pub returns-in-Some : goal.returns-in-Some
 returns-in-Some c =
     let each = subst (λ fits. IfSome fits (λ f. length f.now ≡ length c.args.blocks.now)) c.in-Some.is c.requires in
-    let line : number_line c.count_misfits.result ≡ misfit_sums (option_copied c.args.fits) c.args.blocks.now =
-    ap number_line (c.count_misfits.ensures ∙ sym (length-misfits c.in-Some.fits.now c.args.blocks.now each))
+    let line : number_line c.count_clear.result ≡ misfit_sums (option_copied c.args.fits) c.args.blocks.now =
+    ap number_line (c.count_clear.ensures ∙ sym (length-misfits c.in-Some.fits.now c.args.blocks.now each))
     ∙ ap (λ fits. misfit_sums (option_copied fits) c.args.blocks.now) (sym c.in-Some.is) in
     subst (λ text. OnOk c.push_misfit_number.result (string_bytes c.push_misfit_number.new.out ≡ string_bytes c.args.out.now ++ text)) line c.push_misfit_number.ensures

@@ -1,7 +1,8 @@
 -- The text ends or falls below, and the prefix ends.
 use Rattle.std.proofs.Common.{◌≡◌, length, drop, sym, ap, ◌∙◌, arith}
+use Rattle.leak_lemmas.proofs.Lists.{left_whole}
 use Rattle.leak_report.specs.Places.{number_of}
-use Rattle.leak_report.proofs.PlaceLemmas.{text_ends, byte_below, left_whole, prefix_ends}
+use Rattle.leak_report.proofs.PlaceLemmas.{text_ends, byte_below, prefix_ends}
 use Rattle.leak_report.proofs.places.place.Goals as goal
 use Rattle.leak_report.proofs.places.place.Goals.{then-text-i-via-then-text-i, then-text-i-via-else-text-i+then-text-i-2}
 

@@ -1,6 +1,6 @@
 -- 16 digits fit.
 use Rattle.std.proofs.Common.{◌+◌, ◌*◌, ◌^◌, ◌<◌, arith}
-use Rattle.leak_request.proofs.Digits.{digit_room}
+use Rattle.leak_lemmas.proofs.Numbers.{digit_room}
 use Rattle.leak_request.proofs.address.address.Goals as goal
 
 pub overflow_mul-value : goal.overflow_mul-value

@@ -2,9 +2,10 @@
 use Rattle.std.proofs.Common.{◌≡◌, ap, ◌∙◌, Err, [], ◌∷◌}
 use Rattle.std.proofs.lemmas.Result.{err_from_is_err_and}
 use Rattle.leak_search.specs.declared.found.Found.{Found}
+use Rattle.leak_search.specs.Report.{text_with}
 use Rattle.leak_search.specs.Signs.{AreSigns}
 use Rattle.leak_search.proofs.SignLemmas.{are_of_one}
-use Rattle.leak_search.proofs.InputLemmas.{as_input, fits_each, input_callers}
+use Rattle.leak_search.proofs.InputLemmas.{as_input, fits_each, own_callers}
 use Rattle.leak_search.proofs.SearchLemmas.{at_ok, finds_read, marking_refused, ok_by}
 use Rattle.leak_search.proofs.alone.find_alone.Goals as goal
 
@@ -14,7 +15,7 @@ returns-in_err-marked-clause-refused c =
     rw (p.1) (λ other. marking_refused _ _ c.in_ok-input.input _ _ c.in_ok-input.ensures.ok p.2 (λ e. c.in_err-marked.ensures.many.0 (ap Err e)) other)
 
 pub report_of-requires-clause-in_log : goal.report_of-requires-clause-in_log
-report_of-requires-clause-in_log c = input_callers _ _ _ c.in_ok-input.ensures.ok
+report_of-requires-clause-in_log c = own_callers _ _ _ c.in_ok-input.ensures.ok
 
 pub report_of-requires-clause-a_fit_each : goal.report_of-requires-clause-a_fit_each
 report_of-requires-clause-a_fit_each c = fits_each c.in_ok-consistency.consistency.fits c.args.lists_misfits c.in_ok-input.input c.in_ok-consistency.ensures.fits
@@ -23,7 +24,7 @@ pub returns-clause-ok : goal.returns-clause-ok
 returns-clause-ok c = ok_by _ _ (λ found is.
     finds_read _ _ _ _ _ _ c.in_ok-input.input _ _ _ _ c.in_ok-marked.marked found c.in_ok-input.ensures.ok c.in_ok-input.ensures.skip c.in_ok-marked.ensures.many.1
     c.new-lookup.ensures (c.in_ok-roots.ensures _ (as_input _ _ _ _ c.in_ok-input.ensures.ok.1)) c.in_ok-marked.ensures.marks c.head_of-head.ensures c.in_ok-consistency.ensures.fits
-    (at_ok _ _ found is c.report_of.ensures.report) (at_ok _ _ found is c.report_of.ensures.leaked) (at_ok _ _ found is c.report_of.ensures.claims))
+    (at_ok _ _ found is c.report_of.ensures.report ∙ ap (text_with _ c.in_ok-input.input _ _ _) c.in_ok-input.ensures.ok.1.text) (at_ok _ _ found is c.report_of.ensures.leaked) (at_ok _ _ found is c.report_of.ensures.claims))
 
 pub returns-clause-signs : goal.returns-clause-signs
 returns-clause-signs c = ok_by (λ (found : Found). AreSigns c.args.rules.other_heap (c.args.core.now ∷ c.args.log.now ∷ []) found.signs.items) c.report_of.result (λ found is.

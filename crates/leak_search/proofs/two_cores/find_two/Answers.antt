@@ -1,8 +1,8 @@
 -- From the lemmas.
 use Rattle.std.proofs.Common.{◌≡◌, ◌∙◌, ap, [], ◌∷◌, Some, refl}
 use Rattle.leak_report.specs.declared.head.Two.{Two}
-use Rattle.leak_search.specs.Report.{head_with}
-use Rattle.leak_search.proofs.InputLemmas.{as_input, fits_each, input_callers}
+use Rattle.leak_search.specs.Report.{head_with, text_with}
+use Rattle.leak_search.proofs.InputLemmas.{as_input, fits_each, own_callers}
 use Rattle.leak_search.proofs.SearchLemmas.{at_ok, ok_by}
 use Rattle.leak_search.specs.declared.found.Found.{Found}
 use Rattle.leak_search.specs.Signs.{AreSigns}
@@ -21,7 +21,7 @@ pub numbers_of-two-requires : goal.numbers_of-two-requires
 numbers_of-two-requires g c = carried _ _ _ _ _ _ _ _ _ _ c.in_ok-inputs.ensures.read.second (c.in_ok-between.ensures.between _ _ (paired _ _ _ _ _ c.in_ok-inputs.ensures.read))
 
 pub report_of-requires-clause-in_log : goal.report_of-requires-clause-in_log
-report_of-requires-clause-in_log g c = input_callers _ _ _ (c.in_ok-inputs.ensures.read.now, c.in_ok-inputs.ensures.read.second)
+report_of-requires-clause-in_log g c = own_callers _ _ _ (c.in_ok-inputs.ensures.read.now, c.in_ok-inputs.ensures.read.second)
 
 pub report_of-requires-clause-a_fit_each : goal.report_of-requires-clause-a_fit_each
 report_of-requires-clause-a_fit_each g c = fits_each c.in_ok-consistency.consistency.fits c.args.lists_misfits c.in_ok-inputs.inputs.second c.in_ok-consistency.ensures.fits
@@ -32,9 +32,9 @@ returns-clause-refused g c = for_memory _ _ c.report_of.ensures.memory
 pub returns-clause-ok : goal.returns-clause-ok
 returns-clause-ok g c = ok_by _ _ (λ found is.
     finds_two _ _ _ _ _ _ _ _ c.in_ok-inputs.inputs _ _ _ _ c.in_ok-between.between c.in_ok-retraced.retraced _ _ found c.in_ok-inputs.ensures.read c.same_words_lead_within.ensures
-    (c.in_ok-between.ensures.between _ _ (paired _ _ _ _ _ c.in_ok-inputs.ensures.read)) c.in_ok-inputs.ensures.skip c.in_ok-ground.ensures.lookup (c.in_ok-ground.ensures.roots _ (as_input _ _ _ _ c.in_ok-inputs.ensures.read.second)) c.in_ok-retraced.ensures.traced refl refl
-    (c.head_of-head.ensures ∙ ap (λ (t : Two). head_with c.in_ok-inputs.inputs.second c.in_ok-ground.ground.roots (Some t)) c.numbers_of-two.ensures)
-    c.in_ok-consistency.ensures.fits (at_ok _ _ found is c.report_of.ensures.report) (at_ok _ _ found is c.report_of.ensures.leaked) (at_ok _ _ found is c.report_of.ensures.claims))
+    (c.in_ok-between.ensures.between _ _ (paired _ _ _ _ _ c.in_ok-inputs.ensures.read)) c.in_ok-inputs.ensures.skip c.in_ok-indexed.ensures.lookup (c.in_ok-indexed.ensures.roots _ (as_input _ _ _ _ c.in_ok-inputs.ensures.read.second)) c.in_ok-retraced.ensures.traced refl refl
+    (c.head_of-head.ensures ∙ ap (λ (t : Two). head_with c.in_ok-inputs.inputs.second c.in_ok-indexed.indexed.roots (Some t)) c.numbers_of-two.ensures)
+    c.in_ok-consistency.ensures.fits (at_ok _ _ found is c.report_of.ensures.report ∙ ap (text_with _ c.in_ok-inputs.inputs.second _ _ _) c.in_ok-inputs.ensures.read.second.text) (at_ok _ _ found is c.report_of.ensures.leaked) (at_ok _ _ found is c.report_of.ensures.claims))
 
 pub returns-clause-signs : goal.returns-clause-signs
 returns-clause-signs g c = ok_by

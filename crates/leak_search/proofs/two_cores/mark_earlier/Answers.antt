@@ -3,4 +3,4 @@ use Rattle.leak_search.proofs.TwoLemmas.{marked_earlier}
 use Rattle.leak_search.proofs.two_cores.mark_earlier.Goals as goal
 
 pub returns-clause-marked : goal.returns-clause-marked
-returns-clause-marked g c = λ lines read. marked_earlier _ _ lines c.args.input.now _ _ c.in_ok-marked.marked read c.in_ok-ground.ensures.lookup (c.in_ok-ground.ensures.roots lines read) c.in_ok-marked.ensures.marks
+returns-clause-marked g c = λ lines read. marked_earlier _ _ lines c.args.input.now _ _ c.in_ok-marked.marked read c.in_ok-indexed.ensures.lookup (c.in_ok-indexed.ensures.roots lines read) c.in_ok-marked.ensures.marks

@@ -1,6 +1,7 @@
 -- From the lemmas of Appended.
 use Rattle.std.proofs.Common.{refl, rules}
-use Rattle.leak_streams.proofs.Appended.{goes_on_few, goes_on_within, is_turn, left_whole, none_yet, one_more}
+use Rattle.leak_lemmas.proofs.Lists.{left_whole}
+use Rattle.leak_streams.proofs.Appended.{goes_on_few, goes_on_within, is_turn, none_yet, one_more}
 use Rattle.leak_streams.proofs.writers.write.Goals as goal
 
 pub loop-now-init : goal.loop-now-init

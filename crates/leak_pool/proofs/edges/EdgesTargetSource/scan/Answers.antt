@@ -3,7 +3,7 @@ use Rattle.std.proofs.Common.{List, ℕ, subst, sym, arith}
 use Rattle.leak_marks.specs.Lists.{Has}
 use Rattle.leak_pool.specs.Items.{IsItem}
 use Rattle.leak_pool.specs.Edges.{AreEdges}
-use Rattle.leak_pool.specs.declared.edges.Rows.{Rows}
+use Rattle.leak_pool.specs.declared.rows.Rows.{Rows}
 use Rattle.leak_pool.specs.declared.target_source.Item.TheVariants.{Block}
 use Rattle.leak_pool.proofs.edges.EdgesTargetSource.scan.Goals as goal
 

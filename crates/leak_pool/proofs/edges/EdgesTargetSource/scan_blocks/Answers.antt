@@ -4,7 +4,7 @@ use Rattle.leak_marks.specs.Lists.{Has}
 use Rattle.leak_pool.specs.Edges.{AreEdges}
 use Rattle.leak_pool.specs.Items.{targets_of_block}
 use Rattle.leak_pool.specs.Promises.{IsScanned}
-use Rattle.leak_pool.specs.declared.edges.Rows.{Rows}
+use Rattle.leak_pool.specs.declared.rows.Rows.{Rows}
 use Rattle.leak_pool.specs.declared.target_source.Item.TheVariants.{Block}
 use Rattle.leak_pool.proofs.PartLemmas.{of_parts, same_parts}
 use Rattle.leak_pool.proofs.edges.EdgesTargetSource.scan_blocks.Goals as goal

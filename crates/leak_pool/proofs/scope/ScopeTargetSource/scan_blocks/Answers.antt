@@ -3,13 +3,13 @@ use Rattle.std.proofs.Common.{◌+◌, drop, get_or}
 use Rattle.leak_pool.specs.Items.{targets_of_block}
 use Rattle.leak_pool.specs.Scopes.{all_targets}
 use Rattle.leak_pool.specs.Tops.{targets_of_blocks}
-use Rattle.leak_pool.proofs.FromLemmas.{at_has_any}
 use Rattle.leak_pool.proofs.PartLemmas.{next_part}
 use Rattle.leak_pool.proofs.ScanLemmas.{scanning_part}
 use Rattle.leak_pool.proofs.scope.ScopeTargetSource.scan_blocks.Goals as goal
+use Rattle.leak_marks.proofs.ElementLemmas.{has_at}
 
 pub scan-requires-clause-item : goal.scan-requires-clause-item
-scan-requires-clause-item g c = c.requires.inside _ (at_has_any c.args.blocks.now c.loop-block.block-index 0 c.loop-block-test.true)
+scan-requires-clause-item g c = c.requires.inside _ (has_at c.args.blocks.now c.loop-block.block-index 0 c.loop-block-test.true)
 
 pub loop-block-preserved : goal.loop-block-preserved
 loop-block-preserved g c =

@@ -1,5 +1,5 @@
 use Rattle.std.proofs.Common.{◌≡◌, ◌∙◌, ap, refl, ◌∷◌, ◌++◌, ℕ, List, [], Vec, Global, length, map, rules}
-use Rattle.leak_pool.specs.Scene.{blocks_of, items_of}
+use Rattle.leak_pool.specs.SearchModel.{blocks_of, items_of}
 use Rattle.leak_pool.proofs.WorkLemmas.{half_of_one}
 use Rattle.leak_pool.proofs.worker.GatedTask.scan_share.Goals as goal
 
@@ -14,7 +14,7 @@ returns g c =
       table = c.work.ensures.same.0;
       share = c.work.ensures.same.1;
       sound = c.work.ensures.sound;
-      done = half_of_one (blocks_of w) (items_of w) w.scene.stack (length w.items) w.scene.workers c.args.worker c.args.seat.now c.work.new.seat list.items c.work.new.hand.left.items
+      done = half_of_one (blocks_of w) (items_of w) w.model.stack (length w.items) w.model.workers c.args.worker c.args.seat.now c.work.new.seat list.items c.work.new.hand.left.items
           (map items c.push.new.self.items) c.work.new.hand.left.items c.in_ok-work.ensures.done c.in_ok-work.ensures.left (ap (λ (l : List (Vec ℕ Global)). map items l) pushed) refl;
       gate = search rules;
     }

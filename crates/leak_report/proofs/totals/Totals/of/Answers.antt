@@ -1,8 +1,8 @@
 -- From the lemmas of Leaks, PlaceLemmas and Orders.
 use Rattle.std.proofs.Common.{ap, arith}
+use Rattle.leak_lemmas.proofs.Bytes.{are_bytes}
 use Rattle.leak_report.specs.Totals.{leaks_in, bytes_of}
 use Rattle.leak_report.proofs.Leaks.{length-both, bytes_of-both, length-marked, bytes_of-marked}
-use Rattle.leak_report.proofs.PlaceLemmas.{are_bytes}
 use Rattle.leak_report.proofs.Orders.{rows_are}
 use Rattle.leak_report.proofs.totals.Totals.of.Goals as goal
 

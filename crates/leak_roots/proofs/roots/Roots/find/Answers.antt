@@ -1,11 +1,12 @@
--- From the lemmas of Gaps and LeftOut.
-use Rattle.std.proofs.Common.{◌∙◌, ap, length, List, []}
+-- From the lemmas of Gaps and RootPlaces.
+use Rattle.std.proofs.Common.{◌∙◌, ap, length, List}
 use Rattle.leak_notes.specs.Threads.{Registers, threads_of}
 use Rattle.leak_blocks.specs.declared.small.Span.{Span}
+use Rattle.leak_roots.specs.LeftOut.{freed_left_out}
 use Rattle.leak_roots.specs.Roots.{outside_places, root_places, freed_places}
 use Rattle.leak_roots.specs.Places.{memory_places}
 use Rattle.leak_roots.proofs.Gaps.{are_ordered}
-use Rattle.leak_roots.proofs.LeftOut.{none_dead, root_places_some, freed_places_some, root_places_same, freed_places_same}
+use Rattle.leak_roots.proofs.RootPlaces.{none_dead, root_places_some, freed_places_some, root_places_same, freed_places_same}
 use Rattle.leak_roots.proofs.roots.Roots.find.Goals as goal
 
 pub find_ranges-requires : goal.find_ranges-requires
@@ -19,14 +20,14 @@ returns-clause-memory c =
     let outside = c.in_ok-outside.ensures.places ∙ ap (outside_places c.args.unwritable c.args.image.now) c.blocks-2.ensures.value in
     c.in_ok-memory.ensures.places
     ∙ root_places_some c.args.unwritable c.args.image.now c.args.live.now.blocks c.ranges-2.result.now (memory_places c.in_ok-outside.outside.items) outside
-    ∙ ap (λ (spans : List Span). root_places c.args.unwritable c.args.image.now c.args.live.now.blocks spans [] []) c.ranges-2.ensures.value
+    ∙ ap (λ (spans : List Span). root_places (freed_left_out c.args.unwritable spans) c.args.image.now c.args.live.now.blocks) c.ranges-2.ensures.value
 
 pub returns-clause-freed : goal.returns-clause-freed
 returns-clause-freed c =
     let outside = c.in_ok-outside.ensures.places ∙ ap (outside_places c.args.unwritable c.args.image.now) c.blocks-2.ensures.value in
     c.in_ok-memory.ensures.inside
     ∙ ap length (freed_places_some c.args.unwritable c.args.image.now c.args.live.now.blocks c.ranges-2.result.now (memory_places c.in_ok-outside.outside.items) outside)
-    ∙ ap (λ (spans : List Span). length (freed_places c.args.unwritable c.args.image.now c.args.live.now.blocks spans)) c.ranges-2.ensures.value
+    ∙ ap (λ (spans : List Span). length (freed_places (freed_left_out c.args.unwritable spans) c.args.image.now c.args.live.now.blocks)) c.ranges-2.ensures.value
 
 pub returns-clause-of_core : goal.returns-clause-of_core
 unfolding threads_of
@@ -36,12 +37,12 @@ returns-clause-of_core c = λ spans cover same.
       registers = c.in_ok-registers.ensures.items_if_clones_equal (λ x y e. e) ∙ c.registers.ensures ∙ ap (λ (t : Registers). t.registers) same;
       memory = c.in_ok-memory.ensures.places
           ∙ root_places_some c.args.unwritable c.args.image.now c.args.live.now.blocks c.ranges-2.result.now (memory_places c.in_ok-outside.outside.items) outside
-          ∙ ap (λ (spans : List Span). root_places c.args.unwritable c.args.image.now c.args.live.now.blocks spans [] []) c.ranges-2.ensures.value
-          ∙ root_places_same c.args.unwritable c.args.image.now c.args.live.now.blocks c.args.small.now spans [] [] cover;
+          ∙ ap (λ (spans : List Span). root_places (freed_left_out c.args.unwritable spans) c.args.image.now c.args.live.now.blocks) c.ranges-2.ensures.value
+          ∙ root_places_same (freed_left_out c.args.unwritable c.args.small.now) c.args.image.now c.args.live.now.blocks spans cover;
       ranges = c.in_ok-memory.ensures.ranges;
       freed = c.in_ok-memory.ensures.inside
           ∙ ap length (freed_places_some c.args.unwritable c.args.image.now c.args.live.now.blocks c.ranges-2.result.now (memory_places c.in_ok-outside.outside.items) outside)
-          ∙ ap (λ (spans : List Span). length (freed_places c.args.unwritable c.args.image.now c.args.live.now.blocks spans)) c.ranges-2.ensures.value
-          ∙ ap length (freed_places_same c.args.unwritable c.args.image.now c.args.live.now.blocks c.args.small.now spans cover);
-      dead = none_dead c.args.unwritable c.args.image.now c.args.live.now.blocks spans [];
+          ∙ ap (λ (spans : List Span). length (freed_places (freed_left_out c.args.unwritable spans) c.args.image.now c.args.live.now.blocks)) c.ranges-2.ensures.value
+          ∙ ap length (freed_places_same (freed_left_out c.args.unwritable c.args.small.now) c.args.image.now c.args.live.now.blocks spans cover);
+      dead = none_dead (freed_left_out c.args.unwritable spans) c.args.image.now c.args.live.now.blocks;
     }

@@ -1,0 +1,155 @@
+//! What blocks lead to, in rows that workers make side by side.
+ghost use Rattle.std.specs.Prelude.{◌≡◌, ◌+◌, ◌<◌, ◌≤◌, ◌^◌, ◌++◌, ℕ, Ok, Some, None, length, map, slice_index_or, IfOk, IfSome, IfNone, IsTrue, IsFalse};
+ghost use Rattle.std.specs.Int.{div_ceil};
+ghost use Rattle.std.specs.List.{All};
+ghost use Rattle.leak_marks.specs.Lists.{Has};
+ghost use Rattle.leak_scan.specs.Targets.{block_targets, block_words, targets_of};
+ghost use Rattle.leak_pool.specs.Edges.{AreEdges, IsOver, IsRowOrOver, kept_count, target_count};
+ghost use Rattle.leak_pool.specs.Scopes.{all_targets};
+
+use leak_blocks::Block;
+use leak_elf::Words;
+use leak_index::Lookup;
+use leak_scan::{BlockRuns, Targets, list_run};
+use std::alloc::{AllocError, Global};
+use std::thread::{Threads, map_chunks};
+
+/// What some blocks lead to, block by block.
+#[derive(Drop)]
+pub(crate) struct Rows {
+    /// Where the targets of each block begin, and at last where those of the last block end.
+    pub(crate) starts: Vec<u32>,
+    /// The targets of all of them, one block's after another's.
+    pub(crate) targets: Vec<u32>,
+}
+
+/// Appends the targets of a block, unless that makes more than `room`.
+fn list_targets<W: Words, L: Lookup>(
+    found: Targets<'_, W, L>,
+    room: usize,
+    targets: &mut Vec<u32>,
+) -> Result<bool, AllocError>
+    requires small { (b : ℕ) → Has found b → b < 2 ^ 32 }
+    requires within { length targets.old.items ≤ room }
+    ensures within { length targets.new.items ≤ room }
+    ensures listed { IfOk result
+        (λ fits. IsTrue fits → targets.new.items ≡ targets.old.items ++ found.entry) }
+    ensures over { IfOk result
+        (λ fits. IsFalse fits → room < length targets.old.items + length found.entry) }
+{
+    for block in found {
+        if targets.len() == room {
+            return Ok(false);
+        }
+        targets.push(block as u32)?;
+    }
+    Ok(true)
+}
+
+/// Appends what a block leads to, unless that makes more than `room`.
+fn list_block<W: Words, L: Lookup>(
+    runs: &mut BlockRuns<'_, W>,
+    lookup: &L,
+    block: &Block,
+    room: usize,
+    targets: &mut Vec<u32>,
+) -> Result<bool, AllocError>
+    requires few { length (L.index lookup.now).blocks < 2 ^ 32 }
+    requires within { length targets.old.items ≤ room }
+    ensures same { runs.new.words.now ≡ runs.old.words.now }
+    ensures within { length targets.new.items ≤ room }
+    ensures listed { let words = block_words (W.word_at runs.old.words.now) block.now in
+        let led = targets_of (L.index lookup.now) words in
+        IfOk result (λ fits. IsTrue fits → targets.new.items ≡ targets.old.items ++ led) }
+    ensures over { let words = block_words (W.word_at runs.old.words.now) block.now in
+        let led = targets_of (L.index lookup.now) words in
+        IfOk result (λ fits. IsFalse fits → room < length targets.old.items + length led) }
+{
+    if let Some(bytes) = runs.of_block(block) {
+        return list_run(lookup, bytes, room, targets);
+    }
+    let found = Targets::of_block(runs.words, lookup, block);
+    list_targets(found, room, targets)
+}
+
+/// What the blocks lead to, unless they lead to more than `room`.
+fn rows_of<W: Words, L: Lookup>(
+    alloc: Global,
+    words: &W,
+    lookup: &L,
+    blocks: &[Block],
+    room: u32,
+) -> Result<Option<Rows>, AllocError>
+    requires few { length (L.index lookup.now).blocks < 2 ^ 32 }
+    ensures { let targets = map (block_targets (W.word_at words.now) (L.index lookup.now))
+        blocks.now in
+        IfOk result (IsRowOrOver targets room) }
+{
+    let mut starts = Vec::new(alloc);
+    starts.push(0)?;
+    starts.reserve(blocks.len())?;
+    let mut targets = Vec::new(alloc);
+    let mut runs = BlockRuns::new(words);
+    for k in 0..blocks.len() {
+        if !list_block(&mut runs, lookup, &blocks[k], room as usize, &mut targets)? {
+            return Ok(None);
+        }
+        starts.push(targets.len() as u32)?;
+    }
+    Ok(Some(Rows { starts, targets }))
+}
+
+/// The rows, unless one is missing.
+fn all_rows(
+    alloc: Global,
+    parts: Vec<Result<Option<Rows>, AllocError>>,
+) -> Result<Option<Vec<Rows>>, AllocError>
+    ensures all { IfOk result (λ rows.
+        IfSome rows (λ r. parts.items ≡ map (λ x. Ok (Some x)) r.items)) }
+    ensures missing { IfOk result (λ rows. IfNone rows ((n : ℕ) × (n < length parts.items)
+        × (slice_index_or parts.items n (Ok None) ≡ Ok None))) }
+{
+    let mut rows = Vec::new(alloc);
+    for part in parts {
+        let Some(row) = part? else {
+            return Ok(None);
+        };
+        rows.push(row)?;
+    }
+    Ok(Some(rows))
+}
+
+/// What the blocks lead to, in rows of `size` blocks each, each made by a worker. None if a row has more than `room`
+/// targets.
+pub(crate) fn list_rows<R: Threads + Sync, W: Words + Sync, L: Lookup + Sync>(
+    rt: &R,
+    alloc: Global,
+    words: &W,
+    lookup: &L,
+    blocks: &[Block],
+    size: usize,
+    room: u32,
+) -> Result<Option<Vec<Rows>>, AllocError>
+    requires some { 0 < size }
+    requires same { (L.index lookup.now).blocks ≡ blocks.now }
+    requires few { length blocks.now < 2 ^ 32 }
+    ensures listed { let targets = all_targets (W.word_at words.now) (L.index lookup.now) in
+        IfOk result (λ rows. IfSome rows (λ r. AreEdges targets size r.items)) }
+    ensures exact { let targets = all_targets (W.word_at words.now) (L.index lookup.now) in
+        IfOk result (λ rows. IfSome rows (λ r. kept_count r.items ≡ target_count targets)) }
+    ensures count { IfOk result (λ rows.
+        IfSome rows (λ r. length r.items ≡ div_ceil (length blocks.now) size)) }
+    ensures room { IfOk result (λ rows.
+        IfSome rows (λ r. All (λ row. length row.targets.items ≤ room) r.items)) }
+    ensures over { let targets = all_targets (W.word_at words.now) (L.index lookup.now) in
+        IfOk result (λ rows. IfNone rows (IsOver targets size room)) }
+{
+    let rows_of_part = move |_start: usize, part: &[Block]| -> Result<Option<Rows>, AllocError>
+        requires { length (L.index lookup.now).blocks < 2 ^ 32 }
+        ensures { let word_at = W.word_at words.entry.now in
+            let targets = map (block_targets word_at (L.index lookup.entry.now)) part.entry.now in
+            IfOk result (IsRowOrOver targets room) }
+    { rows_of(alloc, words, lookup, part, room) };
+    let parts = map_chunks(rt, alloc, blocks, size, &rows_of_part)?;
+    all_rows(alloc, parts)
+}
