@@ -16,17 +16,33 @@ fn says<R: Abort + AllocGlobal>(rt: &R, failure: &Failure, text: &str) -> Result
 #[test]
 fn messages_of_failures(rt: HostRuntime) -> Result<(), Fail> {
     let alloc = rt.alloc();
-    let path = "a\n\u{e9}\\".to_string(alloc)?;
-    let read = ReadFault::TooLong;
     says(
         &rt,
         &Failure::BadArgument,
         "leak_find: a word is not UTF-8\n",
     )?;
     says(&rt, &Failure::NoMemory, "leak_find: out of memory\n")?;
+    let words = "error: no\n".to_string(alloc)?;
     says(
         &rt,
-        &Failure::Read(2, path.clone()?, read),
+        &Failure::Usage(UsageFault::Words(words)),
+        "error: no\n",
+    )?;
+    says(
+        &rt,
+        &Failure::Usage(UsageFault::Check),
+        "leak_find: --check: not with --other-heap\n",
+    )?;
+    Ok(())
+}
+
+#[test]
+fn messages_of_files(rt: HostRuntime) -> Result<(), Fail> {
+    let alloc = rt.alloc();
+    let path = "a\n\u{e9}\\".to_string(alloc)?;
+    says(
+        &rt,
+        &Failure::Read(2, path.clone()?, ReadFault::TooLong),
         "leak_find: reader 2: too long: a\\n\u{e9}\\\\\n",
     )?;
     says(
@@ -41,17 +57,6 @@ fn messages_of_failures(rt: HostRuntime) -> Result<(), Fail> {
         &rt,
         &links,
         "leak_find: cannot open a: too many symbolic links\n",
-    )?;
-    let words = "error: no\n".to_string(alloc)?;
-    says(
-        &rt,
-        &Failure::Usage(UsageFault::Words(words)),
-        "error: no\n",
-    )?;
-    says(
-        &rt,
-        &Failure::Usage(UsageFault::Check),
-        "leak_find: --check: not with --other-heap\n",
     )?;
     Ok(())
 }

@@ -1,5 +1,6 @@
 //! Which numbers hold each block.
 
+use crate::comparisons::same;
 use crate::lists::{words_of, words_of_set};
 use std::alloc::{AllocError, Global};
 use std::process::Abort;
@@ -15,9 +16,10 @@ fn the_top_of_a_diamond_holds_all_four(rt: HostRuntime) -> Result<(), Fail> {
     let lists: [&[u32]; 4] = [&[1, 2], &[3], &[3], &[]];
     let words = words_of(&rt, rt.alloc(), &lists, &[0], &[0, 1, 2, 3], 0)?;
     let held = holders(rt.alloc(), words.as_slice())?;
-    assert_eq!(rt;
+    same(
+        &rt,
         held.as_slice(),
-        [0b0001u64, 0b0011, 0b0101, 0b1001].as_slice()
+        [0b0001u64, 0b0011, 0b0101, 0b1001].as_slice(),
     );
     Ok(())
 }
@@ -28,9 +30,10 @@ fn a_doubly_linked_list_is_held_by_its_caller(rt: HostRuntime) -> Result<(), Fai
     let lists: [&[u32]; 6] = [&[1, 3], &[0, 2, 4], &[1, 5], &[], &[], &[]];
     let words = words_of(&rt, rt.alloc(), &lists, &[0, 2], &[0, 0, 0, 1, 1, 1], 0)?;
     let held = holders(rt.alloc(), words.as_slice())?;
-    assert_eq!(rt;
+    same(
+        &rt,
         held.as_slice(),
-        [0b01u64, 0b01, 0b01, 0b11, 0b11, 0b11].as_slice()
+        [0b01u64, 0b01, 0b01, 0b11, 0b11, 0b11].as_slice(),
     );
     Ok(())
 }
@@ -41,9 +44,10 @@ fn a_block_is_held_by_each_of_two_numbers(rt: HostRuntime) -> Result<(), Fail> {
     let lists: [&[u32]; 5] = [&[1], &[4], &[3], &[4], &[]];
     let words = words_of(&rt, rt.alloc(), &lists, &[0, 2], &[0, 1, 1, 0, 2], 0)?;
     let held = holders(rt.alloc(), words.as_slice())?;
-    assert_eq!(rt;
+    same(
+        &rt,
         held.as_slice(),
-        [0b001u64, 0b011, 0b010, 0b011, 0b111].as_slice()
+        [0b001u64, 0b011, 0b010, 0b011, 0b111].as_slice(),
     );
     Ok(())
 }
@@ -62,7 +66,7 @@ fn bits_that_come_late_are_given_on(rt: HostRuntime) -> Result<(), Fail> {
         0b011001,
         0b100101,
     ];
-    assert_eq!(rt; held.as_slice(), wanted.as_slice());
+    same(&rt, held.as_slice(), wanted.as_slice());
     Ok(())
 }
 
@@ -71,7 +75,7 @@ fn no_chain_reaches_a_block_that_only_leads(rt: HostRuntime) -> Result<(), Fail>
     let lists: [&[u32]; 2] = [&[], &[0]];
     let top = u32::MAX;
     let words = words_of(&rt, rt.alloc(), &lists, &[0], &[top, top - 64], top - 63)?;
-    assert_eq!(rt; words.as_slice(), [u64::MAX >> 1, 0].as_slice());
+    same(&rt, words.as_slice(), [u64::MAX >> 1, 0].as_slice());
     Ok(())
 }
 
@@ -80,7 +84,11 @@ fn the_sides_of_a_diamond_hold_its_end_together(rt: HostRuntime) -> Result<(), F
     let lists: [&[u32]; 4] = [&[1, 2], &[3], &[3], &[]];
     let words = words_of_set(&rt, rt.alloc(), &lists, &[0], &[false, true, true, false])?;
     let bits: Vec<u64> = words.iter().map(|word| *word & 0b101).collect(rt.alloc())?;
-    assert_eq!(rt; bits.as_slice(), [0b101u64, 0b100, 0b100, 0b100].as_slice());
+    same(
+        &rt,
+        bits.as_slice(),
+        [0b101u64, 0b100, 0b100, 0b100].as_slice(),
+    );
     Ok(())
 }
 
@@ -104,13 +112,15 @@ fn a_chain_of_70_in_two_calls(rt: HostRuntime) -> Result<(), Fail> {
     let high = holders(rt.alloc(), high.as_slice())?;
     assert_eq!(rt; low.len(), 70);
     assert_eq!(rt; high.len(), 70);
-    assert_eq!(rt;
+    same(
+        &rt,
         [low[0], low[62], low[63], low[69]],
-        [1, u64::MAX >> 1, u64::MAX, u64::MAX]
+        [1, u64::MAX >> 1, u64::MAX, u64::MAX],
     );
-    assert_eq!(rt;
+    same(
+        &rt,
         [high[0], high[63], high[64], high[69]],
-        [0, 0, 1, 0b111111]
+        [0, 0, 1, 0b111111],
     );
     Ok(())
 }

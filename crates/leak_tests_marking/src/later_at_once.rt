@@ -2,11 +2,10 @@
 
 use crate::appointment::Appointment;
 use crate::comparisons::same;
-use crate::samples::{Sample, core_of, sample_of};
-use leak_index::{Reading, Sorted};
-use leak_later::{Retraced, carry, differing, retrace};
-use leak_pool::{Open, Plan, PoolError};
-use std::alloc::Global;
+use crate::samples::{Sample, core_of, retraced, sample_of};
+use leak_later::Retraced;
+use leak_pool::Plan;
+use std::alloc::AllocGlobal;
 use std::process::Abort;
 use std::test::Fail;
 use std::thread::Threads;
@@ -24,28 +23,18 @@ const LATER: &str = "+ 0x10000 0x10\n+ 0x10010 0x10\n+ 0x10020 0x10\n+ 0x10030 0
 const LEADS: [(u64, u64); 2] = [(0x10000, 0x10100), (0x10070, 0x10200)];
 
 /// Marks again by two workers. The earlier core is all zeros.
-fn traced_by_two<R: Threads + Sync + Abort>(
+fn traced_by_two<R: Threads + Sync + AllocGlobal + Abort>(
     rt: &R,
-    alloc: Global,
     words: &Appointment,
     later: &Sample,
 ) -> Result<Retraced, Fail> {
+    let alloc = rt.alloc();
     let zeros = core_of(alloc, &[])?;
     let earlier = sample_of(alloc, zeros.as_slice(), EARLIER)?;
-    if later.live.blocks().len() > u32::MAX as usize {
-        return Err(Fail::from(PoolError::TooMany));
-    }
-    let marked = vec![in alloc; true, true, true, true, false, false]?;
-    assert!(rt; marked.len() == earlier.live.blocks().len());
-    let carried = carry(alloc, &earlier.live, &marked, &later.live)?;
-    let pages = differing(rt, alloc, &earlier.image, &later.image)?;
-    let lookup = Sorted::new(&later.live, Reading::interior());
-    let (roots, live) = (&later.roots, &later.live);
+    let marked = [true, true, true, true, false, false];
     // The registers, three ranges of memory and eight blocks: each worker scans six of them, the second all new blocks.
     let plan = Plan::new(2, 65_536, 0)?;
-    Ok(retrace(
-        rt, alloc, words, &lookup, roots, live, &carried, &pages, plan, &Open,
-    )?)
+    retraced(rt, words, &earlier, later, &marked, plan)
 }
 
 #[test]
@@ -55,7 +44,7 @@ fn two_workers_scan_kept_and_new_blocks_at_the_same_time(rt: HostRuntime) -> Res
     let later = sample_of(alloc, core.as_slice(), LATER)?;
     for in_runs in [false, true] {
         let words = Appointment::of(&later.image, in_runs, 0x10000, 0x10070);
-        let Retraced { marked, reread } = traced_by_two(&rt, alloc, &words, &later)?;
+        let Retraced { marked, reread } = traced_by_two(&rt, &words, &later)?;
         assert!(rt; words.is_kept(), "in runs: {in_runs}");
         same(&rt, marked.set.as_slice(), [true; 10].as_slice());
         assert!(rt; marked.claims.len() == 2);

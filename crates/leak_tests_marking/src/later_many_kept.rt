@@ -3,11 +3,10 @@ ghost use Rattle.leak_elf.specs.Words.{word_of};
 ghost use Rattle.leak_elf.specs.Aligned.{aligned_words};
 
 use crate::comparisons::same;
-use crate::samples::{Sample, sample_of};
+use crate::samples::{lives, retraced, sample_of};
 use leak_elf::{Image, Words, core_k};
-use leak_index::{Reading, Sorted};
-use leak_later::{carry, differing, retrace};
-use leak_pool::{Open, Plan, PoolError};
+use leak_later::{Retraced, differing};
+use leak_pool::Plan;
 use std::alloc::Global;
 use std::fmt::Write;
 use std::sync::atomic::{AtomicU64, Ordering};
@@ -69,36 +68,41 @@ fn kept(alloc: Global) -> Result<String, Fail> {
 }
 
 #[test]
+fn the_last_page_of_two_thousand_kept_blocks_differs(rt: HostRuntime) -> Result<(), Fail> {
+    let alloc = rt.alloc();
+    let first = wide_core(alloc, 0)?;
+    let second = wide_core(alloc, 1)?;
+    let (first, second) = (first.as_slice(), second.as_slice());
+    let (first, second) = (Image::read(alloc, first)?, Image::read(alloc, second)?);
+    let pages = differing(&rt, alloc, &first, &second)?;
+    same(&rt, pages.numbers(), [31u64].as_slice());
+    let log = kept(alloc)?;
+    let live = lives(alloc, log.as_str())?;
+    same(&rt, live.blocks().len(), 2048);
+    Ok(())
+}
+
+#[test]
 fn no_word_of_two_thousand_kept_blocks_is_read_off_differing_pages(
     rt: HostRuntime,
 ) -> Result<(), Fail> {
     let alloc = rt.alloc();
     let asked = AtomicU64::new(0);
+    let log = kept(alloc)?;
     let first = wide_core(alloc, 0)?;
     // The last page has no kept block.
     let second = wide_core(alloc, 1)?;
-    let log = kept(alloc)?;
-    let first = Image::read(alloc, first.as_slice())?;
-    let Sample { image, live, roots } = sample_of(alloc, second.as_slice(), log.as_str())?;
-    let pages = differing(&rt, alloc, &first, &image)?;
-    same(&rt, pages.numbers(), [31u64].as_slice());
-    if live.blocks().len() > u32::MAX as usize {
-        return Err(Fail::from(PoolError::TooMany));
-    }
-    let marked = vec![in alloc; true; live.blocks().len()]?;
-    let carried = carry(alloc, &live, &marked, &live)?;
-    same(&rt, carried.kept.len(), 2048);
-    let lookup = Sorted::new(&live, Reading::interior());
+    let earlier = sample_of(alloc, first.as_slice(), log.as_str())?;
+    let later = sample_of(alloc, second.as_slice(), log.as_str())?;
+    let marked = vec![in alloc; true; earlier.live.blocks().len()]?;
     let words = Counting {
-        image: &image,
+        image: &later.image,
         asked: &asked,
     };
     let plan = Plan::new(2, 512, 1024)?;
-    let retraced = retrace(
-        &rt, alloc, &words, &lookup, &roots, &live, &carried, &pages, plan, &Open,
-    )?;
-    assert!(rt; retraced.marked.set.iter().all(|block| *block));
-    same(&rt, retraced.reread, 0);
+    let Retraced { marked, reread } = retraced(&rt, &words, &earlier, &later, &marked, plan)?;
+    assert!(rt; marked.set.iter().all(|block| *block));
+    same(&rt, reread, 0);
     same(&rt, asked.load(Ordering::SeqCst), 0);
     Ok(())
 }

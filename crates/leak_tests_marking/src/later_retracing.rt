@@ -3,14 +3,15 @@ ghost use Rattle.leak_elf.specs.Words.{word_of};
 ghost use Rattle.leak_elf.specs.Aligned.{aligned_words};
 
 use crate::comparisons::same;
-use crate::samples::{core_of, sample_of};
+use crate::samples::{core_of, retraced, sample_of};
 use leak_elf::{Image, Words};
-use leak_index::{Reading, Sorted};
-use leak_later::{Retraced, carry, differing, retrace};
-use leak_pool::{Open, Plan, PoolError};
-use std::alloc::Global;
+use leak_later::Retraced;
+use leak_pool::Plan;
+use std::alloc::AllocGlobal;
+use std::process::Abort;
 use std::sync::atomic::{AtomicU64, Ordering};
 use std::test::Fail;
+use std::thread::Threads;
 
 /// The words of a core, with a count of those of two blocks that are read: of 32 bytes at 0x10100 and of 16 at
 /// 0x10200.
@@ -48,42 +49,25 @@ impl<'a> Words for Counting<'a> {
 }
 
 /// Marks again in the later of two cores, by one worker, after all blocks of the earlier log were marked or none.
-fn traced<R: std::thread::Threads + Sync>(
+fn traced<R: Threads + Sync + AllocGlobal + Abort>(
     rt: &R,
-    alloc: Global,
     cores: [&[(u64, u64)]; 2],
     logs: [&str; 2],
     is_marked: bool,
     asked: &AtomicU64,
 ) -> Result<Retraced, Fail> {
+    let alloc = rt.alloc();
     let first = core_of(alloc, cores[0])?;
     let second = core_of(alloc, cores[1])?;
     let earlier = sample_of(alloc, first.as_slice(), logs[0])?;
     let later = sample_of(alloc, second.as_slice(), logs[1])?;
-    if later.live.blocks().len() > u32::MAX as usize {
-        return Err(Fail::from(PoolError::TooMany));
-    }
-    let pages = differing(rt, alloc, &earlier.image, &later.image)?;
     let marked = vec![in alloc; is_marked; earlier.live.blocks().len()]?;
-    let carried = carry(alloc, &earlier.live, &marked, &later.live)?;
-    let lookup = Sorted::new(&later.live, Reading::interior());
     let words = Counting {
         image: &later.image,
         asked,
     };
     let plan = Plan::new(1, 512, 1024)?;
-    Ok(retrace(
-        rt,
-        alloc,
-        &words,
-        &lookup,
-        &later.roots,
-        &later.live,
-        &carried,
-        &pages,
-        plan,
-        &Open,
-    )?)
+    retraced(rt, &words, &earlier, &later, &marked, plan)
 }
 
 #[test]
@@ -95,7 +79,7 @@ fn a_fresh_block_is_scanned_where_nothing_differs(rt: HostRuntime) -> Result<(),
         "+ 0x10100 0x20\n+ 0x10200 0x10\n< 0x10100\n> 0x10100 0x20\n",
     ];
     let cores = [words.as_slice(), words.as_slice()];
-    let retraced = traced(&rt, rt.alloc(), cores, logs, false, &asked)?;
+    let retraced = traced(&rt, cores, logs, false, &asked)?;
     same(&rt, retraced.marked.set.as_slice(), [true, true].as_slice());
     same(&rt, retraced.marked.claims.len(), 1);
     for claims in retraced.marked.claims.as_slice() {
@@ -115,13 +99,13 @@ fn no_word_of_a_kept_block_is_read_where_nothing_differs(rt: HostRuntime) -> Res
         "+ 0x10100 0x20\n+ 0x10120 0x10\n+ 0x10200 0x10\n- 0x10120\n",
     ];
     let cores = [words.as_slice(), words.as_slice()];
-    let retraced = traced(&rt, rt.alloc(), cores, logs, true, &asked)?;
+    let retraced = traced(&rt, cores, logs, true, &asked)?;
     same(&rt, retraced.marked.set.as_slice(), [true, true].as_slice());
     same(&rt, retraced.reread, 0);
     same(&rt, asked.load(Ordering::SeqCst), 0);
 
     let cores = [words.as_slice(), changed.as_slice()];
-    let retraced = traced(&rt, rt.alloc(), cores, logs, true, &asked)?;
+    let retraced = traced(&rt, cores, logs, true, &asked)?;
     same(&rt, retraced.marked.set.as_slice(), [true, true].as_slice());
     for claims in retraced.marked.claims.as_slice() {
         assert!(rt; claims.is_empty());

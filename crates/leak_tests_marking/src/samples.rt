@@ -1,12 +1,17 @@
 //! What more than one crate's tests are made of.
 
 use leak_blocks::{Live, SmallSpans, replay};
-use leak_elf::{Image, core_k};
+use leak_elf::{Image, Words, core_k};
+use leak_index::{Reading, Sorted};
+use leak_later::{Retraced, carry, differing, retrace};
 use leak_mtrace::Log;
 use leak_notes::Threads;
+use leak_pool::{Open, Plan, PoolError};
 use leak_roots::Roots;
-use std::alloc::Global;
+use std::alloc::{AllocGlobal, Global};
+use std::process::Abort;
 use std::test::Fail;
+use std::thread;
 
 /// The live blocks of a log.
 pub fn lives(alloc: Global, text: &str) -> Result<Live, Fail> {
@@ -44,4 +49,28 @@ pub fn sample_of<'a>(alloc: Global, core: &'a [u8], log: &str) -> Result<Sample<
     let small = SmallSpans::none(alloc);
     let roots = Roots::find(alloc, &image, &threads, &live, &small, true)?;
     Ok(Sample { image, live, roots })
+}
+
+/// Marks again in the later of two cores, over these words of it, after the blocks of the earlier log that say so were marked. It is
+/// apart from what makes the cores, since a call costs more to prove the more is known before it.
+pub fn retraced<R: thread::Threads + Sync + AllocGlobal + Abort, W: Words + Sync>(
+    rt: &R,
+    words: &W,
+    earlier: &Sample,
+    later: &Sample,
+    marked: &[bool],
+    plan: Plan,
+) -> Result<Retraced, Fail> {
+    if later.live.blocks().len() > u32::MAX as usize {
+        return Err(Fail::from(PoolError::TooMany));
+    }
+    assert!(rt; marked.len() == earlier.live.blocks().len());
+    let alloc = rt.alloc();
+    let carried = carry(alloc, &earlier.live, marked, &later.live)?;
+    let pages = differing(rt, alloc, &earlier.image, &later.image)?;
+    let lookup = Sorted::new(&later.live, Reading::interior());
+    let (roots, live) = (&later.roots, &later.live);
+    Ok(retrace(
+        rt, alloc, words, &lookup, roots, live, &carried, &pages, plan, &Open,
+    )?)
 }

@@ -4,6 +4,7 @@ ghost use Rattle.leak_elf.specs.Words.{word_of};
 ghost use Rattle.leak_elf.specs.Aligned.{aligned_words};
 
 use crate::chunks::core_with;
+use crate::comparisons::same_in;
 use leak_blocks::replay;
 use leak_chunks::{is_free_link, without_free_links};
 use leak_elf::{Image, Words};
@@ -67,11 +68,7 @@ fn links_to_the_chunk_after_a_block(rt: HostRuntime) -> Result<(), Fail> {
     for (size_word, link, next, left) in cases {
         let words = [(0x100f8, size_word), link, next];
         let found = hits_with(rt.alloc(), BLOCK, &words, link.0)?;
-        assert_eq!(rt;
-            found,
-            (Hits::One(0), left),
-            "{size_word} {link:?} {next:?}"
-        );
+        same_in(&rt, &(size_word, link, next), found, (Hits::One(0), left));
     }
     Ok(())
 }
@@ -109,7 +106,7 @@ fn links_past_other_blocks(rt: HostRuntime) -> Result<(), Fail> {
     ];
     for (log, words, wanted) in cases {
         let found = hits_with(rt.alloc(), log, &words, 0x10008)?;
-        assert_eq!(rt; found, wanted, "{log}");
+        same_in(&rt, &log, found, wanted);
     }
     Ok(())
 }
@@ -145,7 +142,7 @@ fn links_past_blocks_of_other_sizes(rt: HostRuntime) -> Result<(), Fail> {
     ];
     for (log, words, wanted) in cases {
         let found = hits_with(rt.alloc(), log, &words, 0x10008)?;
-        assert_eq!(rt; found, wanted, "{log}");
+        same_in(&rt, &log, found, wanted);
     }
     Ok(())
 }
@@ -162,7 +159,7 @@ fn both_words_of_a_lists_head_are_links(rt: HostRuntime) -> Result<(), Fail> {
     ];
     for place in [0x10008, 0x10010] {
         let found = hits_with(rt.alloc(), BLOCK, &words, place)?;
-        assert_eq!(rt; found, (Hits::One(0), Hits::Zero), "{place}");
+        same_in(&rt, &place, found, (Hits::One(0), Hits::Zero));
     }
     Ok(())
 }
@@ -209,12 +206,13 @@ fn at_most_four_words_are_asked_for(rt: HostRuntime) -> Result<(), Fail> {
             image: &image,
             asked: Cell::new(0),
         };
-        assert_eq!(rt;
+        same_in(
+            &rt,
+            &word,
             is_free_link(&counted, &live, 0x10008, word, 0),
             link,
-            "{word}"
         );
-        assert_eq!(rt; counted.asked.get(), asked, "{word}");
+        same_in(&rt, &word, counted.asked.get(), asked);
         assert!(rt; !is_free_link(&image, &live, 0x10008, word, 1));
     }
     Ok(())
@@ -232,7 +230,7 @@ fn no_header_is_past_the_end_of_the_address_space(rt: HostRuntime) -> Result<(),
         let live = replay(alloc, &Log::read(alloc, log.as_bytes())?)?;
         for word in [0, 0xfff0, 0xffff_ffff_ffff_fff0, 0xffff_ffff_ffff_ffff] {
             let found = without_free_links(&image, &live, 0x10008, word, Hits::One(0));
-            assert_eq!(rt; found, Hits::One(0), "{word}");
+            same_in(&rt, &word, found, Hits::One(0));
         }
     }
     Ok(())

@@ -1,5 +1,6 @@
 //! Blocks that fit the heap of a core.
 
+use crate::comparisons::{same, same_in};
 use leak_blocks::replay;
 use leak_chunks::fits;
 use leak_elf::{Image, core_k};
@@ -57,7 +58,7 @@ fn size_words_of_one_block(rt: HostRuntime) -> Result<(), Fail> {
     for (size_word, next, fit) in cases {
         let words = [(0x100f8, size_word), next];
         let found = fits_with(rt.alloc(), "+ 0x10100 0x20\n", &words)?;
-        assert_eq!(rt; found.as_slice(), [fit].as_slice(), "{size_word}");
+        same_in(&rt, &size_word, found.as_slice(), [fit].as_slice());
     }
     Ok(())
 }
@@ -84,7 +85,7 @@ fn size_words_of_other_blocks(rt: HostRuntime) -> Result<(), Fail> {
     ];
     for (log, words, fit) in cases {
         let found = fits_with(rt.alloc(), log, &words)?;
-        assert_eq!(rt; found.as_slice(), fit.as_slice(), "{log}");
+        same_in(&rt, &log, found.as_slice(), fit.as_slice());
     }
     Ok(())
 }
@@ -104,7 +105,7 @@ fn no_sum_passes_the_end_of_the_address_space(rt: HostRuntime) -> Result<(), Fai
     for (log, size_word) in cases {
         let words = [(0x100f8, size_word), (0x10000, 1), (0x10008, 1)];
         let found = fits_with(rt.alloc(), log, &words)?;
-        assert_eq!(rt; found.as_slice(), [false].as_slice(), "{size_word}");
+        same_in(&rt, &size_word, found.as_slice(), [false].as_slice());
     }
     Ok(())
 }
@@ -114,8 +115,8 @@ fn each_block_fits_or_not(rt: HostRuntime) -> Result<(), Fail> {
     let words = [(0x100f8, 0x31), (0x10128, 0x21), (0x10148, 0x20)];
     let log = "+ 0x10130 0x18\n+ 0x10100 0x20\n+ 0x10200 0x8\n";
     let found = fits_with(rt.alloc(), log, &words)?;
-    assert_eq!(rt; found.as_slice(), [true, false, false].as_slice());
+    same(&rt, found.as_slice(), [true, false, false].as_slice());
     let none = fits_with(rt.alloc(), "", &words)?;
-    assert_eq!(rt; none.len(), 0);
+    same(&rt, none.len(), 0);
     Ok(())
 }

@@ -1,6 +1,7 @@
 //! Mark bits and lists of claims.
 ghost use Rattle.std.specs.Prelude.{◌≡◌, ◌<◌, ◌≤◌, length, IfOk};
 
+use crate::comparisons::same;
 use leak_marks::{Claims, MarkSeat, Marks};
 use std::alloc::{AllocError, Global};
 use std::test::*;
@@ -12,8 +13,8 @@ fn claims_of_three_blocks(rt: HostRuntime) -> Result<(), Fail> {
     assert!(rt; claims.attempt(0, 1));
     assert!(rt; !claims.attempt(1, 1));
     assert!(rt; claims.attempt(1, 0));
-    assert_eq!(rt; claims.claims(0), [1u32].as_slice());
-    assert_eq!(rt; claims.claims(1), [0u32].as_slice());
+    same(&rt, claims.claims(0), [1u32].as_slice());
+    same(&rt, claims.claims(1), [0u32].as_slice());
     assert!(rt; claims.is_marked(1));
     assert!(rt; !claims.is_marked(2));
     Ok(())
@@ -54,10 +55,10 @@ fn two_whole_runs_over_101_blocks(rt: HostRuntime) -> Result<(), Fail> {
         assert!(rt; one.is_marked(block), "block {block} by levels");
         assert!(rt; other.is_marked(block), "block {block} in depth");
     }
-    assert_eq!(rt; one.claims(0).len(), 51);
-    assert_eq!(rt; one.claims(1).len(), 50);
-    assert_eq!(rt; other.claims(0).len(), 50);
-    assert_eq!(rt; other.claims(1).len(), 51);
+    same(&rt, one.claims(0).len(), 51);
+    same(&rt, one.claims(1).len(), 50);
+    same(&rt, other.claims(0).len(), 50);
+    same(&rt, other.claims(1).len(), 51);
     Ok(())
 }
 
@@ -73,7 +74,7 @@ fn marks_of_65_blocks(rt: HostRuntime) -> Result<(), Fail> {
     assert!(rt; !marks.seen(&mut first, 0));
     marks.join(&mut first, second);
     let words = marks.close(rt.alloc(), first)?;
-    assert_eq!(rt; words.as_slice(), [0u64, 1].as_slice());
+    same(&rt, words.as_slice(), [0u64, 1].as_slice());
     Ok(())
 }
 
@@ -81,7 +82,7 @@ fn marks_of_65_blocks(rt: HostRuntime) -> Result<(), Fail> {
 fn no_block(rt: HostRuntime) -> Result<(), Fail> {
     let (marks, first) = Marks::new(rt.alloc(), 0)?;
     let words = marks.close(rt.alloc(), first)?;
-    assert_eq!(rt; words.as_slice(), [0u64].as_slice());
+    same(&rt, words.as_slice(), [0u64].as_slice());
     Ok(())
 }
 
@@ -125,12 +126,12 @@ fn two_threads_claim(rt: HostRuntime) -> Result<(), Fail> {
     );
     let (mine, mut first) = one;
     let (theirs, second) = other;
-    assert_eq!(rt; mine + theirs, 1000);
+    same(&rt, mine + theirs, 1000);
     marks.join(&mut first, second);
     let words = marks.close(rt.alloc(), first)?;
     let mut want = [u64::MAX; 16];
     want[15] = 1_099_511_627_775;
-    assert_eq!(rt; words.as_slice(), want.as_slice());
+    same(&rt, words.as_slice(), want.as_slice());
     Ok(())
 }
 

@@ -64,6 +64,6 @@ fn slack_that_overlaps_is_one_span(rt: HostRuntime) -> Result<(), Fail> {
             last: 0x10217,
         },
     ];
-    assert_eq!(rt; slack.ranges(), spans.as_slice());
+    same(&rt, slack.ranges(), spans.as_slice());
     Ok(())
 }
