@@ -212,6 +212,10 @@ verdict 'a table' "leak_dump: the blocks of $work/table.log are by leak_trace's 
 leak_dump: now search: leak_find one --skip-freed --skip-links --all-memory $work/table.core $work/table.log" \
 "$(grep '^leak_dump' dump.said)"
 verdict 'sizes' "core $(stat -c %s table.core)" "$("$kit/leak_dump" --size "$process" | head -n 1)"
+usual='--skip-freed --skip-links --all-memory'
+find_leaks one $usual table.core table.log > table.report 2> said
+verdict 'a compressed core is searched from a pipe' same "$(gzip -1 < table.core | gzip -d |
+    timeout 120 "$finder" one $usual /dev/stdin table.log 2> said | cmp - table.report && echo same)"
 verdict 'the table is not in the core, nor is the finder' yes "$(takes_no_more table.core "$process")"
 stop "$process"
 LD_PRELOAD=$work/libjemalloc.so.2 start ./plain
