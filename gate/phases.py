@@ -1,6 +1,6 @@
 """phases.py [PART [WORD..]]: passes everything, phase by phase, or one part alone, and counts it all together.
 
-A phase is a row of shell commands. One that counts must end its standard output with `NAME: N passed, M failed`, with the NAME
+A phase is a row of shell commands, and may run beside the one before it. A command that counts must end its standard output with `NAME: N passed, M failed`, with the NAME
 that is its own; of the others only the status counts, and only if it is not 0. A phase has a time limit, so that a hang says
 where it is. The words after PART go to the last command of the part.
 
@@ -16,12 +16,15 @@ import subprocess
 import sys
 import threading
 import time
+from concurrent.futures import ThreadPoolExecutor
 from typing import NamedTuple
 
 ROOT = os.path.dirname(os.path.dirname(os.path.abspath(__file__)))
 OUT = "crates/leak_cli/out"
 # In CI the wrong bodies of a crate that is as it was when all of them were refused are not tried again.
 RECORDED = " --recorded" if os.environ.get("CI") == "true" else ""
+# Linux shares processors among sessions first, and by nice only within one.
+GIVE_WAY = "(echo 19 > /proc/self/autogroup) 2> /dev/null; nice -n 19"
 
 
 class Step(NamedTuple):
@@ -31,18 +34,16 @@ class Step(NamedTuple):
 
 
 class Phase(NamedTuple):
-    """A part: its time limit in minutes, the files that it depends on as patterns, and its steps."""
+    """A part: its time limit in minutes, the files that it depends on as patterns, its steps, and if it runs beside the one before."""
     name: str
     minutes: float
     stands_on: tuple
     steps: tuple
+    beside: bool = False
 
 
 PHASES = (
     Phase("proofs", 110, (), (Step("rt ci", ""),)),
-    Phase("wrong", 90, ("crates/*/out/rlib",), (
-        Step("python3 gate/wrong_bodies_test.py"),
-        Step(f"python3 gate/wrong_bodies.py{RECORDED}", "wrong bodies: "))),
     Phase("cases", 5, (f"{OUT}/leak_cli", f"{OUT}/leak_cli.by-rattle"), (
         Step("python3 gate/phases_test.py"),
         Step("python3 gate/cases_test.py"),
@@ -52,10 +53,18 @@ PHASES = (
         Step(f"python3 gate/threads.py {OUT}/leak_cli {OUT}/leak_cli.by-rattle", "threads: "),
         Step(f"python3 gate/cases.py {OUT}/leak_cli {OUT}/leak_cli.by-rattle", "cases: "))),
     Phase("capture", 30, (f"{OUT}/leak_cli",), (
-        Step("make -C capture"),
+        Step("make -j $(nproc) -C capture"),
         Step(f"MOMENTS=10 LEAK_FIND=$PWD/{OUT}/leak_cli capture/tests/run.sh", "capture: "),
         Step(f"examples/run.sh $PWD/{OUT}/leak_cli", "examples: "))),
+    # Capture's programs mostly wait, so checks of wrong bodies have the processors; but they give way.
+    Phase("wrong", 90, ("crates/*/out/rlib",), (
+        Step(f"{GIVE_WAY} python3 gate/wrong_bodies.py{RECORDED}", "wrong bodies: "),), beside=True),
+    Phase("script", 20, (), (Step(f"{GIVE_WAY} python3 gate/wrong_bodies_test.py", "test of the script: "),), beside=True),
 )
+
+printing = threading.Lock()
+running = set()
+ended = threading.Event()
 
 
 class Result(NamedTuple):
@@ -78,15 +87,17 @@ def fault(text):
 
 def say(text):
     """Writes a line at once, so that it is where it belongs among those of the commands."""
-    print(text, flush=True)
+    with printing:
+        print(text, flush=True)
 
 
-def copy_lines(source, lines):
-    """Copies what a command writes, and leaves its last line that is not blank in `lines`."""
+def copy_lines(source, label, lines):
+    """Copies what a command writes, behind the label, and leaves its last line that is not blank in `lines`."""
     with source:
         for line in source:
-            sys.stdout.buffer.write(line)
-            sys.stdout.buffer.flush()
+            with printing:
+                sys.stdout.buffer.write(label.encode() + line)
+                sys.stdout.buffer.flush()
             if line.strip():
                 lines[:] = [line.decode(errors="replace").rstrip()]
 
@@ -103,18 +114,22 @@ def stop_group(process):
             pass
 
 
-def run(command, seconds):
+def run(command, seconds, label=""):
     """Runs a shell command in the top folder. Gives its status, or None if the time was up, and its last line."""
     process = subprocess.Popen(["sh", "-c", command], cwd=ROOT, stdin=subprocess.DEVNULL, stdout=subprocess.PIPE,
                                start_new_session=True)
+    running.add(process)
+    if ended.is_set():
+        stop_group(process)
     lines = []
-    reader = threading.Thread(target=copy_lines, args=(process.stdout, lines), daemon=True)
+    reader = threading.Thread(target=copy_lines, args=(process.stdout, label, lines), daemon=True)
     reader.start()
     try:
         status = process.wait(timeout=seconds)
     except subprocess.TimeoutExpired:
         status = None
     finally:
+        running.discard(process)
         stop_group(process)
     reader.join(timeout=10)  # a program in another session may hold the pipe forever
     return status, "".join(lines)
@@ -135,7 +150,7 @@ def judge(step, status, last):
     return result
 
 
-def pass_phase(phase, words):
+def pass_phase(phase, words, label):
     """Runs the steps of a phase one after the other, also after one that failed, until its time is up."""
     lacking = [it for it in phase.stands_on if not glob.glob(os.path.join(ROOT, it))]
     if lacking:
@@ -143,24 +158,58 @@ def pass_phase(phase, words):
     until, result = time.monotonic() + 60 * phase.minutes, Result()
     for step in phase.steps:
         command = shlex.join(words) if step is phase.steps[-1] else ""
-        status, last = run(f"{step.command} {command}".rstrip(), max(until - time.monotonic(), 0))
+        status, last = run(f"{step.command} {command}".rstrip(), max(until - time.monotonic(), 0), label)
+        if ended.is_set():
+            return result + fault("ended")
         if status is None:
             return result + fault(f"'{step.command}' was ended: the phase has {phase.minutes:g} minutes")
         result += judge(step, status, last)
     return result
 
 
+def pass_timed(phase, words, label):
+    """Passes a phase, and says so. Gives its row of the table: name, minutes and result."""
+    say(f"== {phase.name}: at most {phase.minutes:g} minutes")
+    begin = time.monotonic()
+    result = pass_phase(phase, words, label)
+    minutes = f"{(time.monotonic() - begin) / 60:.1f}"
+    say(f"== {phase.name}: {minutes} minutes: {result}")
+    return phase.name, minutes, result
+
+
+def stop_all():
+    """Ends all commands, so that no step follows."""
+    ended.set()
+    for process in list(running):
+        stop_group(process)
+
+
+def pass_beside(phases, words):
+    """Passes phases side by side, each line with the name of its phase before it. Gives their rows in order."""
+    with ThreadPoolExecutor(len(phases)) as pool:
+        try:
+            label = "{}: " if phases[1:] else ""
+            return list(pool.map(lambda phase: pass_timed(phase, words, label.format(phase.name)), phases))
+        except BaseException:
+            stop_all()
+            raise
+
+
+def groups_of(phases):
+    """The phases in lists of those that run side by side."""
+    groups = []
+    for phase in phases:
+        if phase.beside and groups:
+            groups[-1].append(phase)
+        else:
+            groups.append([phase])
+    return groups
+
+
 def pass_all(phases, words=()):
     """Passes the phases in order, prints a table and the sum of all, and gives the exit status."""
-    rows, whole = [], Result()
-    for phase in phases:
-        say(f"== {phase.name}: at most {phase.minutes:g} minutes")
-        begin = time.monotonic()
-        result = pass_phase(phase, words)
-        minutes = f"{(time.monotonic() - begin) / 60:.1f}"
-        say(f"== {phase.name}: {minutes} minutes: {result}")
-        rows.append((phase.name, minutes, result))
-        whole += result
+    rows = [row for group in groups_of(phases) for row in pass_beside(group, words)]
+    whole = sum((result for _, _, result in rows), Result())
     say(f"\n{'phase':<10}{'minutes':>7}  result")
     for name, minutes, result in rows:
         say(f"{name:<10}{minutes:>7}  {result}")

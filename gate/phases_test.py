@@ -2,6 +2,7 @@
 import contextlib
 import io
 import os
+import subprocess
 import sys
 import time
 import unittest
@@ -43,6 +44,16 @@ class Counting(unittest.TestCase):
     def test_later_phases_run_after_one_that_failed(self):
         lines, status = lines_of(phase(Step("echo 3 passed, 2 failed; exit 1", "")), phase(Step("echo 4 passed, 0 failed", "")))
         self.assertEqual((lines[-1], status), ("7 passed, 2 failed", 1))
+
+    def test_phases_run_side_by_side_and_their_lines_say_whose_they_are(self):
+        begin = time.monotonic()
+        lines, status = lines_of(phase(Step("sleep 2; echo 3 passed, 0 failed", "")),
+                                 phase(Step("sleep 2; echo 40 passed, 1 failed", ""), name="two")._replace(beside=True),
+                                 phase(Step("echo 500 passed, 0 failed", ""), name="three"))
+        self.assertLess(time.monotonic() - begin, 3.9)
+        self.assertEqual((lines[-1], status), ("543 passed, 1 failed", 1))
+        self.assertLess({"one: 3 passed, 0 failed", "two: 40 passed, 1 failed", "500 passed, 0 failed"}, set(lines))
+        self.assertEqual([line.split()[0] for line in lines[-4:-1]], ["one", "two", "three"])
 
     def test_a_count_of_failures_counts_at_status_0(self):
         self.check("3 passed, 2 failed", Step("echo 3 passed, 2 failed", ""))
@@ -91,6 +102,19 @@ class Ending(unittest.TestCase):
         lines, status = lines_of(phase(Step("sleep 61 & sleep 62 & echo 3 passed, 0 failed", "")))
         self.assertEqual((lines[-1], status), ("3 passed, 0 failed", 0))
         self.assertLess(time.monotonic() - begin, 30)
+
+    def test_what_runs_side_by_side_is_ended_together(self):
+        begin = time.monotonic()
+        script = ("import phases, sys; from phases import Phase, Step; sys.argv = ['phases.py']; "
+                  "phases.PHASES = tuple(Phase(it, 1.0, (), (Step('echo $PPID; sleep 63 & sleep 64'), Step('echo never')), it == 'two') "
+                  "for it in ('one', 'two')); sys.exit(phases.main())")
+        process = subprocess.Popen([sys.executable, "-c", script], cwd=os.path.dirname(phases.__file__), stdout=subprocess.PIPE, text=True)
+        for _ in range(4):  # both phases have begun, and so have their commands
+            process.stdout.readline()
+        process.terminate()
+        rest = process.communicate(timeout=30)[0]
+        self.assertEqual((process.returncode, "never" in rest), (1, False))
+        self.assertLess(time.monotonic() - begin, 25)
 
     def test_a_phase_whose_ground_is_missing_fails(self):
         lines, status = lines_of(phase(Step("echo 3 passed, 0 failed", ""), stands_on=("gate/phases.py", "gate/no_such_*")))

@@ -5,7 +5,8 @@ mkdir strict && find "$kit" -mindepth 1 -maxdepth 1 ! -name tests ! -name object
     cp "$kit/../VERSION" .
 for compiler in gcc clang; do
     command -v $compiler > /dev/null || { leave_out "a build by $compiler"; continue; }
-    make -C strict CC=$compiler CFLAGS='-O2 -g -Werror' clean all > strict.said 2>&1
+    make -C strict clean > strict.said 2>&1
+    make -j "$(nproc)" -C strict CC=$compiler CFLAGS='-O2 -g -Werror' all > strict.said 2>&1
     verdict "$compiler has no warning" 0 $?
     grep -E '(warning|error): ' strict.said
 done

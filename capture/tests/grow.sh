@@ -82,6 +82,7 @@ print(*(it["report"] for it in json.loads(re.search("id=\"data\">(.*?)</script>"
     verdict 'not prepared: what to do next' 1 \
         "$(grep -c "^Next: leak_report --grow $process --attach --for 10m shows which functions allocate what grows\.$" bare.out)"
     grown attached --attach --for 2s $process
+    [ $status = 1 ] || cat attached.said
     verdict 'attached: functions' '1 1 1' \
         "$status $(grep -cE '^ *\+[0-9.]+ KB +.* +add_session +.*grows\.c:' attached.out) $(grep -cE \
         '^ *\+[0-9.]+ KB +.* +lose_answer +.*grows\.c:' attached.out)"
