@@ -1,8 +1,9 @@
 """phases.py [PART [WORD..]]: passes everything, phase by phase, or one part alone, and counts it all together.
 
-A phase is a row of shell commands, and may run beside the one before it. A command that counts must end its standard output with `NAME: N passed, M failed`, with the NAME
-that is its own; of the others only the status counts, and only if it is not 0. A phase has a time limit, so that a hang says
-where it is. The words after PART go to the last command of the part.
+A phase is a row of shell commands, and may run beside the one before it. A command that counts must end its standard
+output with `NAME: N passed, M failed`, with the NAME that is its own; of the others only the status counts, and only if
+it is not 0. A phase has a time limit, so that a hang says where it is. The words after PART go to the last command of
+the part.
 
 The last line is `N passed, M failed`, the sum. The status is 0 if nothing failed, 1 if something did, and 2 if PART
 names no phase.
@@ -34,7 +35,8 @@ class Step(NamedTuple):
 
 
 class Phase(NamedTuple):
-    """A part: its time limit in minutes, the files that it depends on as patterns, its steps, and if it runs beside the one before."""
+    """A part: its time limit in minutes, the files that it depends on as patterns, its steps, and whether it runs beside the
+    part before it."""
     name: str
     minutes: float
     stands_on: tuple
@@ -52,7 +54,7 @@ PHASES = (
         Step(f"python3 gate/terminal.py {OUT}/leak_cli {OUT}/leak_cli.by-rattle", "terminal: "),
         Step(f"python3 gate/threads.py {OUT}/leak_cli {OUT}/leak_cli.by-rattle", "threads: "),
         Step(f"python3 gate/cases.py {OUT}/leak_cli {OUT}/leak_cli.by-rattle", "cases: "))),
-    Phase("capture", 30, (f"{OUT}/leak_cli",), (
+    Phase("capture", 45, (f"{OUT}/leak_cli",), (
         Step("make -j $(nproc) -C capture"),
         Step(f"MOMENTS=10 LEAK_FIND=$PWD/{OUT}/leak_cli capture/tests/run.sh", "capture: "),
         Step(f"examples/run.sh $PWD/{OUT}/leak_cli", "examples: "))),

@@ -105,10 +105,15 @@ class Ending(unittest.TestCase):
 
     def test_what_runs_side_by_side_is_ended_together(self):
         begin = time.monotonic()
-        script = ("import phases, sys; from phases import Phase, Step; sys.argv = ['phases.py']; "
-                  "phases.PHASES = tuple(Phase(it, 1.0, (), (Step('echo $PPID; sleep 63 & sleep 64'), Step('echo never')), it == 'two') "
-                  "for it in ('one', 'two')); sys.exit(phases.main())")
-        process = subprocess.Popen([sys.executable, "-c", script], cwd=os.path.dirname(phases.__file__), stdout=subprocess.PIPE, text=True)
+        script = """if True:
+            import sys
+            import phases
+            steps = phases.Step("echo begun; sleep 63 & sleep 64"), phases.Step("echo never")
+            phases.PHASES = tuple(phases.Phase(it, 1.0, (), steps, it == "two") for it in ("one", "two"))
+            sys.exit(phases.main())
+        """
+        process = subprocess.Popen([sys.executable, "-c", script], cwd=os.path.dirname(phases.__file__),
+                                   stdout=subprocess.PIPE, text=True)
         for _ in range(4):  # both phases have begun, and so have their commands
             process.stdout.readline()
         process.terminate()
