@@ -2,8 +2,13 @@
 
 A line has the crate's name, how many wrong bodies it has, the first digits of a checksum of the scripts that judged them, and a
 checksum of all that decides whether they are wrong: the kit, the crate's line of crates.txt, its sources, specs, proofs and wrong
-bodies; and of the crates of the repository below it the public types, heads and clauses, as `rt ci` left them in out/, and the
-definitions that these or the crate name, directly or not. When any of these changes, the line no longer speaks of the crate.
+bodies; and of the crates of the repository below it, as `rt ci` left them in out/, what these name. When any of this changes, the
+line no longer speaks of the crate.
+
+What is named is found by words, so in whatever form: a function's head with its clauses, if its name is a word of the crate's own
+text, and so are its library's and its type's, or, where it takes a value of the type, the type is known; a type, a trait, a renaming
+and what is said of a type, if the name is a word of anything read so far; a module of definitions, if its path stands there. A name
+that means something else is followed too, which only tries a crate again that need not be.
 
 A body that is wrong by a contract stays so whatever becomes of bodies, inner functions and lemmas of the crates below, so these
 count nowhere, nor does a crate that declares nothing, as one of lemmas alone; nor do lines that are comments, but in wrong bodies.
@@ -12,15 +17,32 @@ import hashlib
 import os
 import re
 import subprocess
+from typing import NamedTuple
 
 PARTS = ("src", "specs", "proofs")
 JUDGES = ("edits.py", "judging.py", "wrong_bodies.py")
 FILE = "gate/refused.txt"
 COMMENT = {".rt": "//", ".antt": "--"}
-# A library's definitions that a text names, as 'use Rattle.leak_elf.specs.Words.{word_of}' or '.. as words'; the heads of a function and of a type.
-NAMED = re.compile(r"\buse Rattle\.(\w+)\.specs\.([\w.]+?)(?:\.\{([^}]*)\}| as (\w+))")
-HEAD = re.compile(r"(?:^| )fn \w")
-TYPE = re.compile(r"\b(?:struct|enum) \w")
+WORD = re.compile(r"\w+")
+# The path of a module of definitions, as .antt texts and clauses write it, or as Rust's paths are written.
+PATH = re.compile(r"\b(\w+)(?:\.|\s*::\s*)specs((?:(?:\.|\s*::\s*)\w+)+)")
+# A line that imports definitions under names; the heads of a function, of a type and of what is said of one.
+IMPORT = re.compile(r"\bghost use [\w.]+(?:\.\{([^}]*)\}| as (\w+));")
+FUNCTION = re.compile(r"(?:^| )fn (\w+)")
+TYPE = re.compile(r"^(?:# \[.*\] )?(?:pub (?:\( [\w :]+ \) )?)?(?:struct|enum|union|trait|type|const|static) (?!fn\b)(\w+)")
+SELF = re.compile(r"\( (?:& (?:'\w+ )?)?(?:mut )?self\b")
+PASSED_ON = re.compile(r"^pub use (.*)$", re.M)
+RENAMED = re.compile(r"^pub (?:use [\w :]+ as (\w+) ;|type (\w+) )")
+IMPL = re.compile(r"\bimpl (.*?)(?: where | as | ?\{|$)")
+
+
+class Item(NamedTuple):
+    """A declaration of a library: its name, the type that it is a function of, whether it is a function, its text, and whose it is."""
+    name: str
+    type: str | None
+    is_function: bool
+    text: str
+    library: str = ""
 
 
 def files_below(folder):
@@ -35,59 +57,109 @@ def text_of(path):
         return "".join(line for line in it if not (sign and line.lstrip().startswith(sign)))
 
 
-def with_clauses(interface, heads):
-    """Returns the text of a library's interface, with the clauses of its functions, which `heads` has for inner ones too."""
-    found, lines = [], heads.split("\n")
-    for head in interface.split("\n"):
-        found.append(head)
-        for at in (at for at, line in enumerate(lines) if line == head and HEAD.search(line)):
-            end = next((end for end in range(at, len(lines)) if lines[end].rstrip().endswith(";")), at)
-            found += lines[at + 1:end + 1]
-    return "\n".join(found)
-
-
-def public_texts(root, name):
-    """Returns what a built library declares to others, file by file: (text, the definitions that the file names)."""
-    library = f"{root}/crates/{name}/out/rlib/{name}.rlib"
-    for path in files_below(f"{library}/interface/lang"):
-        with_heads = path.replace("/interface/lang/", "/lang/")
-        whole = text_of(with_heads) if os.path.isfile(with_heads) else ""
-        text = with_clauses(text_of(path), whole)
-        words = set(re.findall(r"[^\s(){}.,;]+", text))
-        yield text, [it for it in NAMED.findall(whole) if words & set((it[2] + it[3]).replace(",", " ").split())]
-
-
-def file_of(root, crate, module):
-    """Returns the file of a module of definitions. One that begins with 'declared' is a type of the sources, as a library has them."""
-    parts = module.split(".")
-    if parts[0] != "declared":
-        return f"{root}/crates/{crate}/specs/{'/'.join(parts)}.antt"
-    sources = f"{root}/crates/{crate}/out/rlib/{crate}.rlib/lang/src"
-    files = (f"{sources}/{'/'.join(parts[1:end])}.rt" for end in range(len(parts), 1, -1))
-    return next((it for it in files if os.path.isfile(it)), f"{sources}/lib.rt")
-
-
-def types_in(text):
-    """Returns the types that a source text of a library declares, without its functions."""
-    found, depth = [], 0
-    for line in text.split("\n"):
-        if depth or TYPE.search(line):
-            found.append(line)
-            depth += line.count("{") - line.count("}")
-    return "\n".join(found)
-
-
-def definitions(root, below, named):
-    """Returns the texts of the definitions that are named, and of those that these name in turn, in the crates below, by their paths."""
-    found, waiting = {}, list(named)
-    while waiting:
-        crate, module, *_ = waiting.pop()
-        path = file_of(root, crate, module)
-        if crate in below and path not in found:
-            text = text_of(path) if os.path.isfile(path) else ""
-            found[path] = text if path.endswith(".antt") else types_in(text)
-            waiting += NAMED.findall(found[path])
+def clauses_of(head, lines):
+    """Returns the lines of the clauses that stand behind each line that is this head of a function."""
+    found = []
+    for at in (at for at, line in enumerate(lines) if line == head):
+        found += lines[at + 1:next((end for end in range(at, len(lines)) if lines[end].rstrip().endswith(";")), at) + 1]
     return found
+
+
+def declarations(lines):
+    """Returns the declarations that stand one behind the other in these lines, each as its own lines."""
+    found, depth = [[]], 0
+    for line in lines:
+        found[-1].append(line)
+        depth += line.count("{") - line.count("}")
+        ends = ";" if FUNCTION.search(found[-1][0]) else (";", "}")
+        if depth <= 0 and line.rstrip().endswith(ends):
+            found.append([])
+    return [it for it in found if "".join(it).strip()]
+
+
+def impl_of(head):
+    """Returns whether an impl's head names a trait, and what it is of: its type, or its trait if it is for every type."""
+    told, depth, end = IMPL.search(head)[1], 0, 0
+    if told.startswith("<"):
+        end = next(at for at, it in enumerate(told) if (depth := depth + (it == "<") - (it == ">")) == 0)
+    trait, is_of_trait, of = told[end:].rpartition(" for ")
+    trait, of = (WORD.findall(re.sub(r"<.*", "", it)) for it in (trait, of.lstrip("> ")))
+    return bool(is_of_trait), (trait if is_of_trait and of[-1] in WORD.findall(told[:end]) else of)[-1]
+
+
+def items_of(lines, heads, of=None):
+    """Returns the items of one declaration; `heads` has the clauses of functions."""
+    head, text = lines[0], "\n".join(lines)
+    if IMPL.search(head):
+        is_of_trait, name = impl_of(head)
+        parts = [] if is_of_trait else [it for part in declarations(lines[1:-1]) for it in items_of(part, heads, name)]
+        return [it._replace(text=f"{head}\n{it.text}") for it in parts] or [Item(name, None, False, text)]
+    if TYPE.search(head):
+        return [Item(TYPE.search(head)[1], None, False, text)]
+    if FUNCTION.search(head):
+        return [Item(FUNCTION.search(head)[1], of, True, "\n".join([text, *clauses_of(head, heads)]))]
+    renamed = RENAMED.search(head)
+    return [Item(renamed[1] or renamed[2], None, False, text)] if renamed else []
+
+
+def items_in(root, name):
+    """Returns what a built library declares to others, and the types that its definitions can name, each with the imports of what it names."""
+    library = f"{root}/crates/{name}/out/rlib/{name}.rlib"
+    for path in files_below(f"{library}/lang/src"):
+        whole, public = text_of(path), path.replace(".rlib/lang/", ".rlib/interface/lang/")
+        heads = whole.split("\n")
+        imports = [(set(WORD.findall(f"{it[1]} {it[2]}")), it[0]) for it in IMPORT.finditer(whole)]
+        declared = declarations(text_of(public).split("\n")) if os.path.isfile(public) else []
+        types = [it for it in declarations(heads) if TYPE.search(it[0]) and it not in declared]
+        for item in (it for lines in declared + types for it in items_of(lines, heads)):
+            words = set(WORD.findall(item.text))
+            yield item._replace(text="\n".join([item.text, *(line for names, line in imports if names & words)]), library=name)
+
+
+def definitions_at(root, below, text):
+    """Returns the modules of definitions of the crates below whose paths stand in a text, by their files."""
+    found = {}
+    for crate, path in PATH.findall(text):
+        parts = WORD.findall(path) if crate in below else []
+        files = (f"{root}/crates/{crate}/specs/{'/'.join(parts[:end])}.antt" for end in range(len(parts), 0, -1))
+        file = next((it for it in files if os.path.isfile(it)), None)
+        if file:
+            found[file] = text_of(file)
+    return found
+
+
+def libraries_named(root, below, called):
+    """Returns the libraries that are among these words, and those from which these pass names on."""
+    named, waiting = set(), [it for it in below if it in called]
+    while waiting:
+        name = waiting.pop()
+        if name not in named:
+            named.add(name)
+            texts = [text_of(it) for it in files_below(f"{root}/crates/{name}/out/rlib/{name}.rlib/interface/lang/src")]
+            waiting += [it for text in texts for line in PASSED_ON.findall(text) for it in WORD.findall(line) if it in below]
+    return named
+
+
+def named_in(root, below, own):
+    """Returns the texts that a crate's own text names in the crates below, and the files of definitions, with those that these name in turn."""
+    items = [it for name in sorted(below) for it in items_in(root, name)]
+    waiting, found, words, files = [own], [], set(), {}
+    called = set(WORD.findall(own)).union(*(WORD.findall(it.text) for it in items if RENAMED.search(it.text)))
+    libraries = libraries_named(root, below, called)
+    # (a function that takes no value of its type is called by a path, from its library and that type)
+    is_of_path = lambda it: it.library in libraries and it.type in called | {None}
+    is_called = lambda it: it.name in called and (it.type in words if SELF.search(it.text) else is_of_path(it))
+    while waiting:
+        text = waiting.pop()
+        words.update(WORD.findall(text))
+        new = {file: it for file, it in definitions_at(root, below, text).items() if file not in files}
+        is_reached = lambda it: is_called(it) if it.is_function else it.name in words
+        reached = [it for it in items if is_reached(it)]
+        items = [it for it in items if not is_reached(it)]
+        files |= new
+        found += (it.text for it in reached)
+        waiting += [*new.values(), *(it.text for it in reached)]
+    return sorted(found), files
 
 
 def judge():
@@ -107,16 +179,11 @@ def sum_of(root, crate, libraries, below):
 
     add(subprocess.run(["rt", "version"], capture_output=True, text=True, check=True).stdout)
     own = {it: text_of(it) for part in (*PARTS, "wrong") for it in files_below(f"{root}/crates/{crate}/{part}")}
-    named = [it for text in own.values() for it in NAMED.findall(text)]
-    declared = {it: list(public_texts(root, it)) for it in sorted(below)}
-    silent = {it for it, texts in declared.items() if not any(text.strip() for text, _ in texts)}
-    for name in (crate, *declared):
-        if name not in silent:
-            add(" ".join([name, *(it for it in libraries[name] if it not in silent)]))
-    for text, names in (it for texts in declared.values() for it in texts if it[0].strip()):
-        add(text)
-        named += names
-    for path, text in sorted((own | definitions(root, below, named)).items()):
+    silent = {it for it in below if not any(items_in(root, it))}
+    add(" ".join([crate, *(it for it in libraries[crate] if it not in silent)]))
+    named, files = named_in(root, below, "\n".join(own.values()))
+    add(*named)
+    for path, text in sorted((own | files).items()):
         add(os.path.relpath(path, root), text)
     return found.hexdigest()
 

@@ -17,6 +17,7 @@ import record
 import wrong_bodies
 from edits import Edit, Fault, read_edit
 from judging import FOR_CALLEE, NAME_ALONE, PROVED, REFUSED, UNTOLD, Output, disturbed
+from record_test import facts_of_sums
 from wrong_bodies import FAULT, NOT_REFUSED
 
 SOURCE = """//! Small sums.
@@ -127,48 +128,6 @@ def mistakes():
             except Fault as fault:
                 found[name] = str(fault)
     return found
-
-
-def changed(root, path, text):
-    """Writes a file of the repository, and returns the checksum of the crate `sums` then."""
-    os.makedirs(os.path.dirname(f"{root}/{path}"), exist_ok=True)
-    with open(f"{root}/{path}", "w", encoding="utf-8") as it:
-        it.write(text)
-    libraries = wrong_bodies.libraries_of(root)
-    return record.sum_of(root, "sums", libraries, wrong_bodies.below(libraries, "sums"))
-
-
-LOW = "crates/low/out/rlib/low.rlib"
-HEADS = "ghost use Rattle.low.specs.A.{IsOne};\nghost use Rattle.low.specs.C.{IsTwo};\npub fn one ( )\n    ensures { IsOne result } ;\nfn two ( )\n    ensures { IsTwo } ;\n"
-LIBRARY = {f"{LOW}/interface/lang/src/lib.rt": "pub fn one ( )\n    ensures { } ;\n", f"{LOW}/lang/src/lib.rt": HEADS,
-           "crates/low/specs/A.antt": "use Rattle.low.specs.B.{one}\n"}
-READ = ("crates/sums/src/a.rt", "crates/sums/specs/A.antt", "crates/sums/proofs/a/Answers.antt", "crates/sums/wrong/b.edit",
-        f"{LOW}/interface/lang/src/other.rt", "crates/low/specs/B.antt")
-UNREAD_BY_CHECKS = ("crates/other/src/lib.rt", "README.md", "crates/sums/out/a", "crates/low/wrong/a.edit", "crates/low/src/lib.rt",
-                    "crates/low/proofs/A.antt", "crates/low/specs/C.antt", f"{LOW}/lang/src/other.rt", f"{LOW}/toolchain/mir.json")
-COMMENTED = {"crates/sums/src/a.rt": "    /// three\n", "crates/sums/specs/A.antt": "-- three\n", "crates/low/specs/B.antt": "  -- three\n"}
-
-
-def facts_of_sums():
-    """Returns which changes of a repository change the checksum of its crate."""
-    with tempfile.TemporaryDirectory(prefix="wrong-test-") as root:
-        write_crate(root, WRONG)
-        sums = [changed(root, "crates.txt", "sums: low\nlow:\nother: sums\n")]
-        sums += [changed(root, path, text) for path, text in LIBRARY.items()][-1:]
-        sums.append(changed(root, f"{LOW}/lang/src/lib.rt", HEADS.replace("IsOne result", "IsOne 1")))
-        sums.append(changed(root, "crates/low/specs/A.antt", "use Rattle.low.specs.B.{one, two}\n"))
-        for path in READ:
-            sums += [changed(root, path, "one\n"), changed(root, path, "two\n")]
-        sums.append(changed(root, f"crates/sums/wrong/{min(WRONG)}.edit", "function: next"))
-        sums.append(changed(root, "crates.txt", "sums: low more\nlow:\nother: sums\n"))
-        unread = {changed(root, it, "one\n") for it in UNREAD_BY_CHECKS}
-        lemmas = changed(root, "crates.txt", "lemmas:\nsums: low more lemmas\nlow: lemmas\nother: sums\n")
-        inner = changed(root, f"{LOW}/lang/src/lib.rt", HEADS.replace("IsOne result", "IsOne 1").replace("{ IsTwo }", "{ IsTwo 2 }"))
-        commented = {changed(root, path, f"two\n{text}") for path, text in COMMENTED.items()}
-        found = {"what a check reads changes the checksum": len(set(sums)) == len(sums)}
-        found["an inner function of a crate below does not"] = inner == sums[-1]
-        found["a crate below that declares nothing does not"] = lemmas == sums[-1]
-        return found | {"what no check reads does not": unread == {sums[-1]}, "a comment does not": commented == {sums[-1]}}
 
 
 def facts_of_record():
