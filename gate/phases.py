@@ -1,9 +1,9 @@
 """phases.py [PART [WORD..]]: passes everything, phase by phase, or one part alone, and counts it all together.
 
-A phase is a row of shell commands, and may run beside the one before it. A command that counts must end its standard
-output with `NAME: N passed, M failed`, with the NAME that is its own; of the others only the status counts, and only if
-it is not 0. A phase has a time limit, so that a hang says where it is. The words after PART go to the last command of
-the part.
+A phase is a row of shell commands. It follows the one before it, or begins a lane of its own; lanes go side by side. A
+command that counts must end its standard output with `NAME: N passed, M failed`, with the NAME that is its own; of the
+others only the status counts, and only if it is not 0. A phase has a time limit, so that a hang says where it is. The
+words after PART go to the last command of the part.
 
 The last line is `N passed, M failed`, the sum. The status is 0 if nothing failed, 1 if something did, and 2 if PART
 names no phase.
@@ -35,17 +35,23 @@ class Step(NamedTuple):
 
 
 class Phase(NamedTuple):
-    """A part: its time limit in minutes, the files that it depends on as patterns, its steps, and whether it runs beside the
-    part before it."""
+    """A part: its time limit in minutes, the files that it depends on as patterns, its steps, whether it begins a lane, and
+    the line of the first lane that it waits for, or for that lane's end."""
     name: str
     minutes: float
     stands_on: tuple
     steps: tuple
     beside: bool = False
+    after: bytes = b""
 
 
+# What rt ci says once the program is proved and built, while tests are left to prove; and once the libraries are built on which
+# wrong bodies stand.
+BUILT = rb"rt: leak_cli (proved|is kept)\b"
+LIBRARIES_BUILT = rb"rt: leak_find (proved|is kept)\b"
+# Proofs and wrong bodies give way, for what runs programs goes by the clock.
 PHASES = (
-    Phase("proofs", 110, (), (Step("rt ci", ""),)),
+    Phase("proofs", 110, (), (Step(f"{GIVE_WAY} rt ci", ""),)),
     Phase("cases", 5, (f"{OUT}/leak_cli", f"{OUT}/leak_cli.by-rattle"), (
         Step("python3 gate/phases_test.py"),
         Step("python3 gate/cases_test.py"),
@@ -53,20 +59,24 @@ PHASES = (
         Step(f"python3 setup/options.py --check {OUT}/leak_cli"),
         Step(f"python3 gate/terminal.py {OUT}/leak_cli {OUT}/leak_cli.by-rattle", "terminal: "),
         Step(f"python3 gate/threads.py {OUT}/leak_cli {OUT}/leak_cli.by-rattle", "threads: "),
-        Step(f"python3 gate/cases.py {OUT}/leak_cli {OUT}/leak_cli.by-rattle", "cases: "))),
-    Phase("capture", 45, (f"{OUT}/leak_cli",), (
+        Step(f"python3 gate/cases.py {OUT}/leak_cli {OUT}/leak_cli.by-rattle", "cases: ")), beside=True, after=BUILT),
+    Phase("examples", 15, (f"{OUT}/leak_cli",), (
         Step("make -j $(nproc) -C capture"),
-        Step(f"MOMENTS=10 LEAK_FIND=$PWD/{OUT}/leak_cli capture/tests/run.sh", "capture: "),
+        Step(f"LEAK_FIND=$PWD/{OUT}/leak_cli capture/tests/run.sh known report", "capture: "),
         Step(f"examples/run.sh $PWD/{OUT}/leak_cli", "examples: "))),
-    # Capture's programs mostly wait, so checks of wrong bodies have the processors; but they give way.
+    Phase("capture", 45, (), (
+        Step("make -j $(nproc) -C capture"),
+        Step("gate/capture.sh", "capture: ")), beside=True),
     Phase("wrong", 90, ("crates/*/out/rlib",), (
-        Step(f"{GIVE_WAY} python3 gate/wrong_bodies.py{RECORDED}", "wrong bodies: "),), beside=True),
+        Step(f"{GIVE_WAY} python3 gate/wrong_bodies.py{RECORDED}", "wrong bodies: "),), beside=True, after=LIBRARIES_BUILT),
     Phase("script", 20, (), (Step(f"{GIVE_WAY} python3 gate/wrong_bodies_test.py", "test of the script: "),), beside=True),
 )
 
 printing = threading.Lock()
 running = set()
 ended = threading.Event()
+# By the lines that phases wait for: whether each was printed, or the first lane has ended.
+awaited = {}
 
 
 class Result(NamedTuple):
@@ -97,6 +107,8 @@ def copy_lines(source, label, lines):
     """Copies what a command writes, behind the label, and leaves its last line that is not blank in `lines`."""
     with source:
         for line in source:
+            for wanted in (it for it in awaited if re.match(it, line)):
+                awaited[wanted].set()
             with printing:
                 sys.stdout.buffer.write(label.encode() + line)
                 sys.stdout.buffer.flush()
@@ -182,35 +194,55 @@ def pass_timed(phase, words, label):
 def stop_all():
     """Ends all commands, so that no step follows."""
     ended.set()
+    end_waiting()
     for process in list(running):
         stop_group(process)
 
 
-def pass_beside(phases, words):
-    """Passes phases side by side, each line with the name of its phase before it. Gives their rows in order."""
-    with ThreadPoolExecutor(len(phases)) as pool:
+def end_waiting():
+    """Lets the phases begin that wait for a line: no more are to come."""
+    for it in awaited.values():
+        it.set()
+
+
+def pass_lane(lane, words, is_one_of_many):
+    """Passes phases one after the other, each line with the name of its phase before it if there are other lanes."""
+    rows = []
+    for phase in lane:
+        if phase.after in awaited:
+            awaited[phase.after].wait()
+        rows.append(pass_timed(phase, words, f"{phase.name}: " if is_one_of_many else ""))
+    return rows
+
+
+def lanes_of(phases):
+    """The phases in lists of those that follow each other."""
+    lanes = []
+    for phase in phases:
+        if phase.beside or not lanes:
+            lanes.append([phase])
+        else:
+            lanes[-1].append(phase)
+    return lanes
+
+
+def pass_lanes(lanes, words):
+    """Passes lanes side by side. Gives the rows of their phases in order."""
+    awaited.clear()
+    awaited.update((phase.after, threading.Event()) for lane in lanes[1:] for phase in lane if phase.after)
+    with ThreadPoolExecutor(len(lanes)) as pool:
         try:
-            label = "{}: " if phases[1:] else ""
-            return list(pool.map(lambda phase: pass_timed(phase, words, label.format(phase.name)), phases))
+            passed = [pool.submit(pass_lane, lane, words, len(lanes) > 1) for lane in lanes]
+            passed[0].add_done_callback(lambda _: end_waiting())
+            return [row for it in passed for row in it.result()]
         except BaseException:
             stop_all()
             raise
 
 
-def groups_of(phases):
-    """The phases in lists of those that run side by side."""
-    groups = []
-    for phase in phases:
-        if phase.beside and groups:
-            groups[-1].append(phase)
-        else:
-            groups.append([phase])
-    return groups
-
-
 def pass_all(phases, words=()):
     """Passes the phases in order, prints a table and the sum of all, and gives the exit status."""
-    rows = [row for group in groups_of(phases) for row in pass_beside(group, words)]
+    rows = pass_lanes(lanes_of(phases), words)
     whole = sum((result for _, _, result in rows), Result())
     say(f"\n{'phase':<10}{'minutes':>7}  result")
     for name, minutes, result in rows:

@@ -45,15 +45,33 @@ class Counting(unittest.TestCase):
         lines, status = lines_of(phase(Step("echo 3 passed, 2 failed; exit 1", "")), phase(Step("echo 4 passed, 0 failed", "")))
         self.assertEqual((lines[-1], status), ("7 passed, 2 failed", 1))
 
-    def test_phases_run_side_by_side_and_their_lines_say_whose_they_are(self):
+    def test_lanes_go_side_by_side_and_their_lines_say_whose_they_are(self):
         begin = time.monotonic()
         lines, status = lines_of(phase(Step("sleep 2; echo 3 passed, 0 failed", "")),
-                                 phase(Step("sleep 2; echo 40 passed, 1 failed", ""), name="two")._replace(beside=True),
-                                 phase(Step("echo 500 passed, 0 failed", ""), name="three"))
+                                 phase(Step("sleep 1; echo 40 passed, 1 failed", ""), name="two")._replace(beside=True),
+                                 phase(Step("sleep 1; echo 500 passed, 0 failed", ""), name="three"))
         self.assertLess(time.monotonic() - begin, 3.9)
         self.assertEqual((lines[-1], status), ("543 passed, 1 failed", 1))
-        self.assertLess({"one: 3 passed, 0 failed", "two: 40 passed, 1 failed", "500 passed, 0 failed"}, set(lines))
+        self.assertLess({"one: 3 passed, 0 failed", "two: 40 passed, 1 failed", "three: 500 passed, 0 failed"}, set(lines))
         self.assertEqual([line.split()[0] for line in lines[-4:-1]], ["one", "two", "three"])
+        self.assertLess(lines.index("two: 40 passed, 1 failed"), lines.index("== three: at most 1 minutes"))
+
+    def test_a_phase_waits_for_its_line(self):
+        lines, status = lines_of(phase(Step("sleep 1; echo built it; sleep 2; echo 3 passed, 0 failed", "")),
+                                 phase(Step("echo 40 passed, 0 failed", ""), name="two")._replace(beside=True, after=rb"built \w"))
+        self.assertEqual((lines[-1], status), ("43 passed, 0 failed", 0))
+        order = [lines.index(it) for it in ("one: built it", "== two: at most 1 minutes", "two: 40 passed, 0 failed", "one: 3 passed, 0 failed")]
+        self.assertEqual(order, sorted(order))
+
+    def test_a_phase_whose_line_does_not_come_waits_for_the_end_of_the_first_lane(self):
+        two = phase(Step("echo 40 passed, 0 failed", ""), name="two", stands_on=("gate/no_such_*",))._replace(beside=True, after=b"built")
+        lines, status = lines_of(phase(Step("sleep 1; echo not built; echo 3 passed, 2 failed", "")), two)
+        self.assertEqual((lines[-1], status), ("3 passed, 3 failed", 1))
+        self.assertLess(lines.index("one: 3 passed, 2 failed"), lines.index("== two: at most 1 minutes"))
+
+    def test_a_part_alone_waits_for_nothing(self):
+        lines, status = lines_of(phase(Step("echo 3 passed, 0 failed", ""))._replace(beside=True, after=b"built"))
+        self.assertEqual((lines[-1], status), ("3 passed, 0 failed", 0))
 
     def test_a_count_of_failures_counts_at_status_0(self):
         self.check("3 passed, 2 failed", Step("echo 3 passed, 2 failed", ""))
