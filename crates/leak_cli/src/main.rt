@@ -8,6 +8,9 @@
 //! `--strict` was given. `why` gives 0 if the block is held, and 1 if it leaked; `holders` and `grow` never give 1.
 #![tactic(auto)]
 
+#[cfg(test)]
+mod tests;
+
 use leak_program::{Screen, start};
 use std::io::IsTerminal;
 use std::process::ExitCode;

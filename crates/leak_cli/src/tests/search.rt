@@ -1,6 +1,6 @@
 //! Searches of cores in memory.
 
-use crate::comparisons::same;
+use crate::tests::comparisons::same;
 use leak_elf::core_k;
 use leak_search::{Rules, find_alone};
 use std::test::*;

@@ -1,7 +1,7 @@
 //! The first lines of reports, with numbers that no small core gives.
 
-use crate::comparisons::same;
-use crate::report::samples::report;
+use crate::tests::comparisons::same;
+use crate::tests::report::samples::report;
 use leak_report::{Head, Two};
 use std::test::Fail;
 

@@ -1,7 +1,7 @@
 //! What writers take of a text.
 
-use crate::comparisons::same;
-use crate::report::samples::{NOTHING_ODD, report};
+use crate::tests::comparisons::same;
+use crate::tests::report::samples::{NOTHING_ODD, report};
 use leak_streams::{WriteFault, write};
 use std::alloc::Global;
 use std::io;

@@ -1,6 +1,6 @@
 //! What the program says of a failure.
 
-use crate::comparisons::same_in;
+use crate::tests::comparisons::same_in;
 use leak_find::{FindError, ReadFault, RunFault, UsageFault, WriteFault};
 use leak_program::{Failure, Reason, message};
 use std::process::Abort;

@@ -1,6 +1,6 @@
 //! Texts of faults, and what their own Display writes.
 
-use crate::comparisons::same_in;
+use crate::tests::comparisons::same_in;
 use leak_elf::ElfError;
 use leak_find::{DisplaceFault, FindError, ReadFault, ReadingError, UsageFault, WriteFault};
 use leak_mtrace::LogError;

@@ -1,6 +1,6 @@
 //! What words ask for, in words.
 
-use crate::comparisons::same_in;
+use crate::tests::comparisons::same_in;
 use leak_index::Reading;
 use leak_pool::Plan;
 use leak_request::{Options, Request, UsageFault, request};

@@ -2,8 +2,8 @@
 
 ghost use Rattle.std.specs.Prelude.{length};
 
-use crate::comparisons::same;
-use crate::report::samples::have_callers_in;
+use crate::tests::comparisons::same;
+use crate::tests::report::samples::have_callers_in;
 use leak_blocks::replay;
 use leak_mtrace::Log;
 use leak_report::{Totals, count_clear};

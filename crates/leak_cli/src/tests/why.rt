@@ -2,7 +2,7 @@
 ghost use Rattle.std.specs.Prelude.{IsTrue};
 ghost use Rattle.leak_report.specs.Totals.{HaveCallersIn};
 
-use crate::comparisons::same_in;
+use crate::tests::comparisons::same_in;
 use leak_blocks::{Block, replay};
 use leak_mtrace::Log;
 use leak_notes::RegisterSet;

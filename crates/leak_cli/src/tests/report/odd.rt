@@ -1,6 +1,6 @@
 //! The warnings of what is odd about the inputs.
 
-use crate::comparisons::same;
+use crate::tests::comparisons::same;
 use leak_report::{Signs, warnings};
 use std::test::Fail;
 

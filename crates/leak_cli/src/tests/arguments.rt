@@ -1,7 +1,9 @@
 //! Words of the command line.
 
-use crate::asked::{asked, asks, options, shown, skipping, takes, with_all_memory, without_slack};
-use crate::comparisons::same;
+use crate::tests::asked::{
+    asked, asks, options, shown, skipping, takes, with_all_memory, without_slack,
+};
+use crate::tests::comparisons::same;
 use leak_index::Reading;
 use leak_pool::Plan;
 use leak_request::{Options, UsageFault};

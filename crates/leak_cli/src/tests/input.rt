@@ -1,6 +1,6 @@
 //! An input that is read.
 
-use crate::comparisons::same;
+use crate::tests::comparisons::same;
 use leak_elf::core_k;
 use leak_roots::Skip;
 use leak_search::{find_roots, head_of, read_input};

@@ -1,7 +1,7 @@
 //! Runs over readers whose sizes are told.
 ghost use Rattle.std.specs.Prelude.{IfOk, false, ◌≡◌};
 
-use crate::comparisons::{same, same_in};
+use crate::tests::comparisons::{same, same_in};
 use leak_elf::core_k;
 use leak_find::{
     Context, Options, Plan, ReadFault, Reading, Rules, RunFault, Skip, Task, find_alone, read_all,
