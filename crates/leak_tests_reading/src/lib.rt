@@ -11,6 +11,10 @@ mod comparisons;
 #[cfg(test)]
 mod cores;
 
+// Lists of words of which most are 0.
+#[cfg(test)]
+mod sparse;
+
 // Cores: headers, segments and words.
 #[cfg(test)]
 mod elf;

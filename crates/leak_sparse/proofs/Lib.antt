@@ -1,0 +1,9 @@
+-- The lemmas of this crate, by subject.
+pub mod BitLemmas
+pub mod RankLemmas
+pub mod LowestLemmas
+pub mod ViewLemmas
+pub mod NextLemmas
+pub mod ChangeLemmas
+pub mod BitChangeLemmas
+pub mod PushLemmas

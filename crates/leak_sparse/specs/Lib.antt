@@ -1,0 +1,5 @@
+-- The definitions of this crate, by subject.
+pub mod Bits
+pub mod Groups
+pub mod Words
+pub mod Rows

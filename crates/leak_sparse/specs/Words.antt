@@ -1,0 +1,23 @@
+-- Words that aren't 0, in a list, and room for more words.
+use Rattle.std.specs.Prelude.{◌≡◌, ◌≢◌, ℕ, ◌+◌, ◌/◌, ◌^◌, ◌<◌, ◌≤◌, ◌==◌, not, List, length, slice_index}
+use Rattle.std.specs.List.{count_by}
+
+-- how many words aren't 0
+abbrev pub kept_of : List ℕ → ℕ
+kept_of words = count_by (λ word. not (word == 0)) words
+
+-- each word from a place on is 0
+pub record NoneKeptFrom (words : List ℕ) (from : ℕ) : Type 0 where
+  pub each : (k : ℕ) → from ≤ k → slice_index words k ≡ 0
+
+-- the place's word isn't 0, and each from `from` on before it is 0
+pub record IsNextKept (words : List ℕ) (from place : ℕ) : Type 0 where
+  pub at_or_after : from ≤ place
+  pub inside : place < length words
+  pub kept : slice_index words place ≢ 0
+  pub least : (k : ℕ) → from ≤ k → k < place → slice_index words k ≡ 0
+
+-- the groups of 64 places that the words take have room for this many more
+pub record HasRoom (words : List ℕ) (count : ℕ) : Type 0 where
+  pub same : (length words + count + 63) / 64 ≡ (length words + 63) / 64
+  pub fits : length words + count < 2 ^ 64

@@ -1,0 +1,61 @@
+//! Groups of 64 places of a list.
+ghost use Rattle.std.specs.Prelude.{◌≡◌, ◌%◌, ◌^◌, ◌<◌, ◌≤◌, ◌↔◌, if◌then◌else◌, length, count_ones};
+ghost use Rattle.std.specs.Prelude.{MatchOption, is_ok, IsOk, IsTrue};
+ghost use Rattle.std.specs.Int.{bit_at};
+ghost use Rattle.leak_sparse.specs.Bits.{IsLowestFrom, NoneFrom};
+ghost use Rattle.leak_sparse.specs.Groups.{covered, group_count};
+
+use std::alloc::AllocError;
+
+/// 64 places of a list: which of their words are kept, and how many are kept before them.
+#[derive(Clone, Copy)]
+pub(crate) struct Group {
+    /// Bit `k` is set if the word at the group's place `k` is kept.
+    pub(crate) bits: u64,
+    /// How many words are kept before the group.
+    pub(crate) before: usize,
+}
+
+/// Whether the bit is set.
+#[inline(always)]
+pub(crate) fn has(bits: u64, bit: usize) -> bool
+    requires { bit < 64 }
+    ensures { IsTrue result ↔ bit_at bits bit ≡ 1 }
+{
+    (bits >> bit) & 1 == 1
+}
+
+/// How many bits below this one are set.
+#[inline(always)]
+pub(crate) fn ones_below(bits: u64, bit: usize) -> usize
+    requires { bit < 64 }
+    ensures { result ≡ count_ones (bits % 2 ^ bit) }
+{
+    (bits & ((1 << bit) - 1)).count_ones() as usize
+}
+
+/// The lowest bit that is set, from this one on.
+#[inline(always)]
+pub(crate) fn lowest_from(bits: u64, from: usize) -> Option<usize>
+    requires { from < 64 }
+    ensures { MatchOption result (NoneFrom bits from) (IsLowestFrom bits from) }
+{
+    let rest = bits >> from;
+    if rest == 0 {
+        return None;
+    }
+    Some(from + rest.trailing_zeros() as usize)
+}
+
+/// Adds groups of which no word is kept, until there are enough for this many places.
+pub(crate) fn cover(groups: &mut Vec<Group>, places: usize, before: usize) -> Result<(), AllocError>
+    ensures items { groups.new.items ≡
+        (if is_ok result then covered groups.old.items places before else groups.old.items) }
+    ensures room { group_count places ≤ length groups.old.items → IsOk result }
+{
+    let needed = places.div_ceil(64);
+    if groups.len() < needed {
+        groups.resize(needed, Group { bits: 0, before })?;
+    }
+    Ok(())
+}

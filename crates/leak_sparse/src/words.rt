@@ -1,0 +1,124 @@
+//! The list of words.
+ghost use Rattle.std.specs.Prelude.{◌≡◌, ◌∷◌, [], ◌++◌, length, replicate, slice_get, MatchOption, OnOk, OnErr, IsOk};
+ghost use Rattle.leak_sparse.specs.Words.{HasRoom, IsNextKept, NoneKeptFrom, kept_of};
+
+use crate::group::{Group, cover, has, lowest_from, ones_below};
+use std::alloc::{AllocError, Global};
+use std::marker::Model;
+
+/// A growing list of words. Contracts see the plain list.
+#[derive(Drop)]
+pub struct SparseWords {
+    /// The places, 64 to a group. The last group may have none yet, after an error.
+    groups: Vec<Group>,
+    /// The words that aren't 0, in order.
+    kept: Vec<u64>,
+    /// How many words the list has, with those that are 0.
+    len: usize,
+}
+
+impl Model for SparseWords {
+    ghost use Rattle.std.specs.Prelude.{ℕ, List};
+    ghost use Rattle.leak_sparse.specs.Groups.{AreGroups, words_of};
+
+    ghost Value = { List ℕ };
+
+    ghost view = { λ s. words_of s.groups.items s.kept.items s.len };
+
+    ghost invariant = { λ s. AreGroups s.groups.items s.kept.items s.len };
+}
+
+impl SparseWords {
+    /// The empty list. It takes no memory.
+    pub fn new(alloc: Global) -> SparseWords
+        ensures { result ≡ [] }
+    {
+        SparseWords {
+            groups: Vec::new(alloc),
+            kept: Vec::new(alloc),
+            len: 0,
+        }
+    }
+
+    /// How many words the list has.
+    pub fn len(&self) -> usize
+        ensures { result ≡ length self.now }
+    {
+        self.len
+    }
+
+    /// How many of the words aren't 0.
+    pub fn kept(&self) -> usize
+        ensures { result ≡ kept_of self.now }
+    {
+        self.kept.len()
+    }
+
+    /// Appends a word. Only an allocation that fails is an error, or a list of 2^64 words.
+    pub fn push(&mut self, word: u64) -> Result<(), AllocError>
+        ensures ok { OnOk result (self.new ≡ self.old ++ word ∷ []) }
+        ensures err { OnErr result (self.new ≡ self.old) }
+        ensures room { word ≡ 0 → HasRoom self.old 1 → IsOk result }
+    {
+        if word == 0 {
+            return self.push_zeros(1);
+        }
+        let Some(len) = self.len.checked_add(1) else {
+            return Err(AllocError);
+        };
+        cover(&mut self.groups, len, self.kept.len())?;
+        self.kept.push(word)?;
+        let last = self.len / 64;
+        let group = self.groups[last];
+        self.groups[last] = Group {
+            bits: group.bits + (1 << (self.len % 64)),
+            before: group.before,
+        };
+        self.len = len;
+        Ok(())
+    }
+
+    /// Appends this many words that are 0, a group of 64 at a time. Its errors are those of [`SparseWords::push`].
+    pub fn push_zeros(&mut self, count: usize) -> Result<(), AllocError>
+        ensures ok { OnOk result (self.new ≡ self.old ++ replicate count 0) }
+        ensures err { OnErr result (self.new ≡ self.old) }
+        ensures room { HasRoom self.old count → IsOk result }
+    {
+        let Some(len) = self.len.checked_add(count) else {
+            return Err(AllocError);
+        };
+        cover(&mut self.groups, len, self.kept.len())?;
+        self.len = len;
+        Ok(())
+    }
+
+    /// The word at a place.
+    #[inline(always)]
+    pub fn get(&self, place: usize) -> Option<u64>
+        ensures { result ≡ slice_get self.now place }
+    {
+        if place >= self.len {
+            return None;
+        }
+        let group = self.groups[place / 64];
+        let bit = place % 64;
+        if !has(group.bits, bit) {
+            return Some(0);
+        }
+        Some(self.kept[group.before + ones_below(group.bits, bit)])
+    }
+
+    /// The first place at or after `from` whose word isn't 0.
+    pub fn next_kept(&self, from: usize) -> Option<usize>
+        ensures { MatchOption result (NoneKeptFrom self.now from) (IsNextKept self.now from) }
+    {
+        let mut bit = from % 64;
+        for number in from / 64..self.len.div_ceil(64) {
+            if let Some(found) = lowest_from(self.groups[number].bits, bit) {
+                return Some(64 * number + found);
+            }
+            bit = 0;
+        }
+        None
+    }
+}

@@ -1,0 +1,88 @@
+//! Lists of words of which most are 0.
+use crate::comparisons::{same, same_in};
+use leak_sparse::SparseWords;
+use std::alloc::{AllocError, Global};
+use std::test::*;
+
+/// Appends each of the words.
+fn push_all(words: &mut SparseWords, all: &[u64]) -> Result<(), AllocError> {
+    for word in all {
+        words.push(*word)?;
+    }
+    Ok(())
+}
+
+/// Words in which one of five is not 0, over more than three groups of 64.
+fn fifths(alloc: Global) -> Result<Vec<u64>, AllocError> {
+    let mut all = Vec::new(alloc);
+    for place in 0..203u64 {
+        all.push(if place % 5 == 3 { place } else { 0 })?;
+    }
+    Ok(all)
+}
+
+#[test]
+fn each_word_stands_where_it_was_put(rt: HostRuntime) -> Result<(), Fail> {
+    let all = fifths(rt.alloc())?;
+    let mut words = SparseWords::new(rt.alloc());
+    push_all(&mut words, all.as_slice())?;
+    same(&rt, words.len(), 203);
+    same(&rt, words.kept(), 40);
+    for (place, word) in all.iter().enumerate() {
+        same_in(&rt, &place, words.get(place), Some(*word));
+    }
+    same(&rt, words.get(203), None);
+    same(&rt, words.get(usize::MAX), None);
+    Ok(())
+}
+
+#[test]
+fn the_next_word_that_is_not_0(rt: HostRuntime) -> Result<(), Fail> {
+    let mut words = SparseWords::new(rt.alloc());
+    push_all(&mut words, [0, 7, 0].as_slice())?;
+    words.push_zeros(1_000_000)?;
+    push_all(&mut words, [8, 0, u64::MAX].as_slice())?;
+    let rows = [
+        (0, Some(1)),
+        (1, Some(1)),
+        (2, Some(1_000_003)),
+        (999_999, Some(1_000_003)),
+        (1_000_003, Some(1_000_003)),
+        (1_000_004, Some(1_000_005)),
+        (1_000_006, None),
+        (usize::MAX, None),
+    ];
+    for (from, wanted) in &rows {
+        same_in(&rt, from, words.next_kept(*from), *wanted);
+    }
+    same(&rt, words.len(), 1_000_006);
+    same(&rt, words.kept(), 3);
+    same(&rt, words.get(1_000_005), Some(u64::MAX));
+    Ok(())
+}
+
+#[test]
+fn zeros_end_at_the_bounds_of_groups(rt: HostRuntime) -> Result<(), Fail> {
+    for count in [0usize, 1, 63, 64, 65, 127, 128, 129] {
+        let mut words = SparseWords::new(rt.alloc());
+        words.push_zeros(count)?;
+        words.push(5)?;
+        words.push_zeros(64)?;
+        words.push(6)?;
+        same_in(&rt, &count, words.next_kept(0), Some(count));
+        same_in(&rt, &count, words.next_kept(count + 1), Some(count + 65));
+        same_in(&rt, &count, words.get(count + 65), Some(6));
+        same_in(&rt, &count, words.len(), count + 66);
+    }
+    Ok(())
+}
+
+#[test]
+fn more_places_than_numbers_are_refused(rt: HostRuntime) -> Result<(), Fail> {
+    let mut words = SparseWords::new(rt.alloc());
+    words.push(5)?;
+    assert!(rt; words.push_zeros(usize::MAX).is_err());
+    same(&rt, words.len(), 1);
+    same(&rt, words.get(0), Some(5));
+    Ok(())
+}
