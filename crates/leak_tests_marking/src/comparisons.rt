@@ -19,3 +19,11 @@ pub fn same_in<C: Debug, T: Copy + PartialEq + Debug>(
 ) {
     assert_eq!(rt; found, wanted, "{case:?}");
 }
+
+/// Ends the test if the lists differ.
+pub fn same_lists(rt: &impl Abort, found: &[Vec<u32>], wanted: &[&[u32]]) {
+    same(rt, found.len(), wanted.len());
+    for (list, expected) in found.iter().zip(wanted) {
+        same(rt, list.as_slice(), *expected);
+    }
+}

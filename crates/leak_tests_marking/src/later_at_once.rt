@@ -1,7 +1,7 @@
 //! Workers that scan blocks of the later core again at the same time.
 
 use crate::appointment::Appointment;
-use crate::comparisons::same;
+use crate::comparisons::{same, same_lists};
 use crate::samples::{Sample, core_of, retraced, sample_of};
 use leak_later::Retraced;
 use leak_pool::Plan;
@@ -37,20 +37,28 @@ fn traced_by_two<R: Threads + Sync + AllocGlobal + Abort>(
     retraced(rt, words, &earlier, later, &marked, plan)
 }
 
+/// Ends the test unless the two blocks are marked, by one worker each, while the other scans.
+fn are_scanned_at_once<R: Threads + Sync + AllocGlobal + Abort>(
+    rt: &R,
+    later: &Sample,
+    in_runs: bool,
+) -> Result<(), Fail> {
+    let words = Appointment::of(&later.image, in_runs, 0x10000, 0x10070);
+    let Retraced { marked, reread } = traced_by_two(rt, &words, later)?;
+    assert!(rt; words.is_kept(), "in runs: {in_runs}");
+    same(rt, marked.set.as_slice(), [true; 10].as_slice());
+    same_lists(rt, marked.claims.as_slice(), &[&[8], &[9]]);
+    same(rt, reread, 8);
+    Ok(())
+}
+
 #[test]
 fn two_workers_scan_kept_and_new_blocks_at_the_same_time(rt: HostRuntime) -> Result<(), Fail> {
     let alloc = rt.alloc();
     let core = core_of(alloc, &LEADS)?;
     let later = sample_of(alloc, core.as_slice(), LATER)?;
     for in_runs in [false, true] {
-        let words = Appointment::of(&later.image, in_runs, 0x10000, 0x10070);
-        let Retraced { marked, reread } = traced_by_two(&rt, &words, &later)?;
-        assert!(rt; words.is_kept(), "in runs: {in_runs}");
-        same(&rt, marked.set.as_slice(), [true; 10].as_slice());
-        assert!(rt; marked.claims.len() == 2);
-        same(&rt, marked.claims[0].as_slice(), [8u32].as_slice());
-        same(&rt, marked.claims[1].as_slice(), [9u32].as_slice());
-        same(&rt, reread, 8);
+        are_scanned_at_once(&rt, &later, in_runs)?;
     }
     Ok(())
 }

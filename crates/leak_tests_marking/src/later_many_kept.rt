@@ -3,14 +3,16 @@ ghost use Rattle.leak_elf.specs.Words.{word_of};
 ghost use Rattle.leak_elf.specs.Aligned.{aligned_words};
 
 use crate::comparisons::same;
-use crate::samples::{lives, retraced, sample_of};
+use crate::samples::{Sample, differ_at, lives, retraced, sample_of, set};
 use leak_elf::{Image, Words, core_k};
-use leak_later::{Retraced, differing};
+use leak_later::Retraced;
 use leak_pool::Plan;
-use std::alloc::Global;
+use std::alloc::{AllocGlobal, Global};
 use std::fmt::Write;
+use std::process::Abort;
 use std::sync::atomic::{AtomicU64, Ordering};
 use std::test::Fail;
+use std::thread::Threads;
 
 /// How many blocks are kept. Each has one word, at a multiple of 16 from 0x10000 on.
 const KEPT: u64 = 2048;
@@ -50,9 +52,7 @@ fn wide_core(alloc: Global, last: u64) -> Result<Vec<u8>, Fail> {
     }
     let fields = [(152usize, 0x10000u64), (160, 0x10000), (0x10ff8, last)];
     for (at, value) in fields {
-        for (place, byte) in core.iter_mut().skip(at).zip(value.to_le_bytes()) {
-            *place = byte;
-        }
+        set(&mut core, at, &value.to_le_bytes());
     }
     Ok(core)
 }
@@ -69,38 +69,53 @@ fn kept(alloc: Global) -> Result<String, Fail> {
 
 #[test]
 fn the_last_page_of_two_thousand_kept_blocks_differs(rt: HostRuntime) -> Result<(), Fail> {
-    let alloc = rt.alloc();
-    let first = wide_core(alloc, 0)?;
-    let second = wide_core(alloc, 1)?;
-    let (first, second) = (first.as_slice(), second.as_slice());
-    let (first, second) = (Image::read(alloc, first)?, Image::read(alloc, second)?);
-    let pages = differing(&rt, alloc, &first, &second)?;
-    same(&rt, pages.numbers(), [31u64].as_slice());
-    let log = kept(alloc)?;
-    let live = lives(alloc, log.as_str())?;
+    let first = wide_core(rt.alloc(), 0)?;
+    let second = wide_core(rt.alloc(), 1)?;
+    differ_at(&rt, first.as_slice(), second.as_slice(), &[31])?;
+    let log = kept(rt.alloc())?;
+    let live = lives(rt.alloc(), log.as_str())?;
     same(&rt, live.blocks().len(), 2048);
     Ok(())
+}
+
+/// Marks again in the later of two cores, after all blocks of the earlier were marked. Counts what it reads of these.
+fn counted<R: Threads + Sync + AllocGlobal + Abort>(
+    rt: &R,
+    earlier: &Sample,
+    later: &Sample,
+    asked: &AtomicU64,
+) -> Result<Retraced, Fail> {
+    let marked = vec![in rt.alloc(); true; earlier.live.blocks().len()]?;
+    let words = Counting {
+        image: &later.image,
+        asked,
+    };
+    let plan = Plan::new(2, 512, 1024)?;
+    retraced(rt, &words, earlier, later, &marked, plan)
+}
+
+/// The same of two cores that have these bytes.
+fn counted_of<R: Threads + Sync + AllocGlobal + Abort>(
+    rt: &R,
+    cores: [&[u8]; 2],
+    asked: &AtomicU64,
+) -> Result<Retraced, Fail> {
+    let log = kept(rt.alloc())?;
+    let earlier = sample_of(rt.alloc(), cores[0], log.as_str())?;
+    let later = sample_of(rt.alloc(), cores[1], log.as_str())?;
+    counted(rt, &earlier, &later, asked)
 }
 
 #[test]
 fn no_word_of_two_thousand_kept_blocks_is_read_off_differing_pages(
     rt: HostRuntime,
 ) -> Result<(), Fail> {
-    let alloc = rt.alloc();
-    let asked = AtomicU64::new(0);
-    let log = kept(alloc)?;
-    let first = wide_core(alloc, 0)?;
+    let first = wide_core(rt.alloc(), 0)?;
     // The last page has no kept block.
-    let second = wide_core(alloc, 1)?;
-    let earlier = sample_of(alloc, first.as_slice(), log.as_str())?;
-    let later = sample_of(alloc, second.as_slice(), log.as_str())?;
-    let marked = vec![in alloc; true; earlier.live.blocks().len()]?;
-    let words = Counting {
-        image: &later.image,
-        asked: &asked,
-    };
-    let plan = Plan::new(2, 512, 1024)?;
-    let Retraced { marked, reread } = retraced(&rt, &words, &earlier, &later, &marked, plan)?;
+    let second = wide_core(rt.alloc(), 1)?;
+    let asked = AtomicU64::new(0);
+    let cores = [first.as_slice(), second.as_slice()];
+    let Retraced { marked, reread } = counted_of(&rt, cores, &asked)?;
     assert!(rt; marked.set.iter().all(|block| *block));
     same(&rt, reread, 0);
     same(&rt, asked.load(Ordering::SeqCst), 0);

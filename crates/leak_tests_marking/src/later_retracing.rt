@@ -2,8 +2,8 @@
 ghost use Rattle.leak_elf.specs.Words.{word_of};
 ghost use Rattle.leak_elf.specs.Aligned.{aligned_words};
 
-use crate::comparisons::same;
-use crate::samples::{core_of, retraced, sample_of};
+use crate::comparisons::{same, same_lists};
+use crate::samples::{Sample, core_of, retraced, sample_of};
 use leak_elf::{Image, Words};
 use leak_later::Retraced;
 use leak_pool::Plan;
@@ -48,7 +48,24 @@ impl<'a> Words for Counting<'a> {
     ghost aligned = { λ counting. aligned_words counting.image.now };
 }
 
-/// Marks again in the later of two cores, by one worker, after all blocks of the earlier log were marked or none.
+/// Marks again in the later of two cores, by one worker, after all blocks of the earlier were marked or none.
+fn counted<R: Threads + Sync + AllocGlobal + Abort>(
+    rt: &R,
+    earlier: &Sample,
+    later: &Sample,
+    is_marked: bool,
+    asked: &AtomicU64,
+) -> Result<Retraced, Fail> {
+    let marked = vec![in rt.alloc(); is_marked; earlier.live.blocks().len()]?;
+    let words = Counting {
+        image: &later.image,
+        asked,
+    };
+    let plan = Plan::new(1, 512, 1024)?;
+    retraced(rt, &words, earlier, later, &marked, plan)
+}
+
+/// The same of two cores with these words, and of two logs.
 fn traced<R: Threads + Sync + AllocGlobal + Abort>(
     rt: &R,
     cores: [&[(u64, u64)]; 2],
@@ -61,13 +78,14 @@ fn traced<R: Threads + Sync + AllocGlobal + Abort>(
     let second = core_of(alloc, cores[1])?;
     let earlier = sample_of(alloc, first.as_slice(), logs[0])?;
     let later = sample_of(alloc, second.as_slice(), logs[1])?;
-    let marked = vec![in alloc; is_marked; earlier.live.blocks().len()]?;
-    let words = Counting {
-        image: &later.image,
-        asked,
-    };
-    let plan = Plan::new(1, 512, 1024)?;
-    retraced(rt, &words, &earlier, &later, &marked, plan)
+    counted(rt, &earlier, &later, is_marked, asked)
+}
+
+/// Ends the test if other blocks than two are marked, the one worker claimed others, or other blocks were read again.
+fn come_to(rt: &impl Abort, found: &Retraced, claims: &[u32], reread: u64) {
+    same(rt, found.marked.set.as_slice(), [true, true].as_slice());
+    same_lists(rt, found.marked.claims.as_slice(), &[claims]);
+    same(rt, found.reread, reread);
 }
 
 #[test]
@@ -80,37 +98,29 @@ fn a_fresh_block_is_scanned_where_nothing_differs(rt: HostRuntime) -> Result<(),
     ];
     let cores = [words.as_slice(), words.as_slice()];
     let retraced = traced(&rt, cores, logs, false, &asked)?;
-    same(&rt, retraced.marked.set.as_slice(), [true, true].as_slice());
-    same(&rt, retraced.marked.claims.len(), 1);
-    for claims in retraced.marked.claims.as_slice() {
-        same(&rt, claims.as_slice(), [1u32].as_slice());
-    }
-    same(&rt, retraced.reread, 0);
+    come_to(&rt, &retraced, &[1], 0);
     Ok(())
 }
+
+/// Three blocks, and the same without the second.
+const KEPT: [&str; 2] = [
+    "+ 0x10100 0x20\n+ 0x10120 0x10\n+ 0x10200 0x10\n",
+    "+ 0x10100 0x20\n+ 0x10120 0x10\n+ 0x10200 0x10\n- 0x10120\n",
+];
 
 #[test]
 fn no_word_of_a_kept_block_is_read_where_nothing_differs(rt: HostRuntime) -> Result<(), Fail> {
     let asked = AtomicU64::new(0);
     let words = [(0x10008u64, 0x10200u64), (0x10200, 0x10120)];
     let changed = [(0x10008u64, 0x10200u64), (0x10200, 0x10120), (0x10ff8, 1)];
-    let logs = [
-        "+ 0x10100 0x20\n+ 0x10120 0x10\n+ 0x10200 0x10\n",
-        "+ 0x10100 0x20\n+ 0x10120 0x10\n+ 0x10200 0x10\n- 0x10120\n",
-    ];
     let cores = [words.as_slice(), words.as_slice()];
-    let retraced = traced(&rt, cores, logs, true, &asked)?;
-    same(&rt, retraced.marked.set.as_slice(), [true, true].as_slice());
-    same(&rt, retraced.reread, 0);
+    let retraced = traced(&rt, cores, KEPT, true, &asked)?;
+    come_to(&rt, &retraced, &[], 0);
     same(&rt, asked.load(Ordering::SeqCst), 0);
 
     let cores = [words.as_slice(), changed.as_slice()];
-    let retraced = traced(&rt, cores, logs, true, &asked)?;
-    same(&rt, retraced.marked.set.as_slice(), [true, true].as_slice());
-    for claims in retraced.marked.claims.as_slice() {
-        assert!(rt; claims.is_empty());
-    }
-    same(&rt, retraced.reread, 6);
+    let retraced = traced(&rt, cores, KEPT, true, &asked)?;
+    come_to(&rt, &retraced, &[], 6);
     assert!(rt; asked.load(Ordering::SeqCst) > 0);
     Ok(())
 }

@@ -1,20 +1,24 @@
 //! Roots with malloc's links to free chunks, and without them.
 
+use crate::pool::samples::no_start;
 use crate::samples::{Sample, core_of, sample_of};
 use leak_blocks::Live;
 use leak_elf::Image;
 use leak_index::{Reading, Sorted};
-use leak_pool::{EdgeRoom, Open, Plan, Start, mark, mark_alone, mark_by_edges, mark_from};
+use leak_pool::{
+    EdgeRoom, Marked, Open, Plan, PoolError, mark, mark_alone, mark_by_edges, mark_from,
+};
 use leak_roots::Roots;
 use leak_scan::Pages;
 use std::alloc::Global;
 use std::test::Fail;
+use std::thread::Threads;
 
 /// Where `rbx` of the sample core's thread is: at byte 348 of the file.
 const RBX: u64 = 0xf15c;
 
 /// Whether each way to mark marks just these blocks, of the words with links to free chunks or without them.
-fn all_mark<R: std::thread::Threads + Sync>(
+fn all_mark<R: Threads + Sync>(
     rt: &R,
     alloc: Global,
     words: &[(u64, u64)],
@@ -43,8 +47,8 @@ fn marks_alone(
     Ok(marked.set.as_slice() == set)
 }
 
-/// Whether workers do, over the words and over links, and from nothing.
-fn workers_mark<R: std::thread::Threads + Sync>(
+/// Whether two workers do, over the words, over links and from nothing.
+fn workers_mark<R: Threads + Sync>(
     rt: &R,
     alloc: Global,
     image: &Image,
@@ -52,23 +56,55 @@ fn workers_mark<R: std::thread::Threads + Sync>(
     live: &Live,
     set: &[bool],
 ) -> Result<bool, Fail> {
-    let lookup = Sorted::new(live, Reading::interior());
     let plan = Plan::new(2, 512, 1024)?;
-    let over_words = mark(rt, alloc, image, &lookup, roots, live, plan, &Open)?;
-    let room = EdgeRoom::of_core(&[0u8; 32_000]);
-    let over_edges = mark_by_edges(rt, alloc, image, &lookup, roots, live, plan, &Open, room)?;
-    let start = Start {
-        marked: Vec::new(alloc),
-        rescan: Vec::new(alloc),
-    };
-    let Some(pages) = Pages::new(Vec::new(alloc)) else {
-        return Ok(false);
-    };
-    let from_nothing = mark_from(
-        rt, alloc, image, &lookup, roots, live, plan, &Open, &start, &pages,
-    )?;
+    let over_words = by_words(rt, alloc, image, roots, live, plan)?;
+    let over_edges = by_edges(rt, alloc, image, roots, live, plan)?;
+    let from_nothing = from_nothing(rt, alloc, image, roots, live, plan)?;
     let is_set = over_words.set.as_slice() == set && over_edges.set.as_slice() == set;
     Ok(is_set && from_nothing.set.as_slice() == set)
+}
+
+fn by_words<R: Threads + Sync>(
+    rt: &R,
+    alloc: Global,
+    image: &Image,
+    roots: &Roots,
+    live: &Live,
+    plan: Plan,
+) -> Result<Marked, Fail> {
+    let lookup = Sorted::new(live, Reading::interior());
+    Ok(mark(rt, alloc, image, &lookup, roots, live, plan, &Open)?)
+}
+
+fn by_edges<R: Threads + Sync>(
+    rt: &R,
+    alloc: Global,
+    image: &Image,
+    roots: &Roots,
+    live: &Live,
+    plan: Plan,
+) -> Result<Marked, Fail> {
+    let lookup = Sorted::new(live, Reading::interior());
+    let room = EdgeRoom::of_core(&[0u8; 32_000]);
+    Ok(mark_by_edges(rt, alloc, image, &lookup, roots, live, plan, &Open, room)?)
+}
+
+fn from_nothing<R: Threads + Sync>(
+    rt: &R,
+    alloc: Global,
+    image: &Image,
+    roots: &Roots,
+    live: &Live,
+    plan: Plan,
+) -> Result<Marked, Fail> {
+    let lookup = Sorted::new(live, Reading::interior());
+    let start = no_start(alloc);
+    let Some(pages) = Pages::new(Vec::new(alloc)) else {
+        return Err(Fail::from(PoolError::NoMemory));
+    };
+    Ok(mark_from(
+        rt, alloc, image, &lookup, roots, live, plan, &Open, &start, &pages,
+    )?)
 }
 
 #[test]

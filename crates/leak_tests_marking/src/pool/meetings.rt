@@ -1,16 +1,15 @@
 //! Workers that scan and claim at the same time.
-ghost use Rattle.std.specs.Prelude.{◌≡◌, []};
 ghost use Rattle.leak_elf.specs.Words.{word_of};
 ghost use Rattle.leak_elf.specs.Aligned.{aligned_words};
 
-use crate::comparisons::same;
-use crate::pool::samples::{TURNS, two_apart};
+use crate::comparisons::{same, same_lists};
+use crate::pool::samples::{TURNS, no_start, two_apart};
 use crate::samples::{Sample, core_of, sample_of};
 use leak_elf::{Image, Words};
 use leak_index::{Reading, Sorted};
-use leak_pool::{Marked, Open, Plan, Start, mark, mark_from};
+use leak_pool::{Marked, Open, Plan, mark, mark_from};
 use leak_scan::Pages;
-use std::alloc::Global;
+use std::alloc::{AllocGlobal, Global};
 use std::process::Abort;
 use std::sync::atomic::{AtomicU64, Ordering};
 use std::test::Fail;
@@ -77,30 +76,28 @@ fn counts(alloc: Global) -> Result<Vec<AtomicU64>, Fail> {
     Ok(counts)
 }
 
-/// A start that marks nothing.
-fn no_start(alloc: Global) -> Start
-    ensures { (result.marked.items ≡ []) × (result.rescan.items ≡ []) }
-{
-    Start {
-        marked: Vec::new(alloc),
-        rescan: Vec::new(alloc),
-    }
-}
-
-/// Marks by two workers, from a start that marks nothing or from none.
-fn marked_by_two<R: Threads + Sync + Abort>(
+/// Marks by two workers.
+fn marked_by_two<R: Threads + Sync + AllocGlobal>(
     rt: &R,
-    alloc: Global,
     sample: &Sample,
     words: &Meeting,
-    from: bool,
 ) -> Result<Marked, Fail> {
     let lookup = Sorted::new(&sample.live, Reading::interior());
     let plan = Plan::new(2, 1, 0)?;
     let (roots, live) = (&sample.roots, &sample.live);
-    if !from {
-        return Ok(mark(rt, alloc, words, &lookup, roots, live, plan, &Open)?);
-    }
+    Ok(mark(rt, rt.alloc(), words, &lookup, roots, live, plan, &Open)?)
+}
+
+/// The same from a start that marks nothing.
+fn marked_from_nothing<R: Threads + Sync + AllocGlobal + Abort>(
+    rt: &R,
+    sample: &Sample,
+    words: &Meeting,
+) -> Result<Marked, Fail> {
+    let alloc = rt.alloc();
+    let lookup = Sorted::new(&sample.live, Reading::interior());
+    let plan = Plan::new(2, 1, 0)?;
+    let (roots, live) = (&sample.roots, &sample.live);
     let nothing = no_start(alloc);
     let Some(pages) = Pages::new(Vec::new(alloc)) else {
         panic!(rt; "no pages are pages")
@@ -110,6 +107,30 @@ fn marked_by_two<R: Threads + Sync + Abort>(
     )?)
 }
 
+/// Ends the test unless each worker claims one block while the other scans, and each word is read once.
+fn meet<R: Threads + Sync + AllocGlobal + Abort>(
+    rt: &R,
+    sample: &Sample,
+    from: bool,
+) -> Result<(), Fail> {
+    let words = Meeting {
+        image: &sample.image,
+        reads: counts(rt.alloc())?,
+        late: AtomicU64::new(0),
+    };
+    let marked = if from {
+        marked_from_nothing(rt, sample, &words)?
+    } else {
+        marked_by_two(rt, sample, &words)?
+    };
+    same(rt, words.late.load(Ordering::SeqCst), 0);
+    same_lists(rt, marked.claims.as_slice(), &[&[0], &[1]]);
+    for reads in words.reads.as_slice() {
+        same(rt, reads.load(Ordering::SeqCst), 1);
+    }
+    Ok(())
+}
+
 #[test]
 fn two_workers_scan_and_claim_at_the_same_time(rt: HostRuntime) -> Result<(), Fail> {
     let alloc = rt.alloc();
@@ -117,19 +138,7 @@ fn two_workers_scan_and_claim_at_the_same_time(rt: HostRuntime) -> Result<(), Fa
     let core = core_of(alloc, sample.words.as_slice())?;
     let sample = sample_of(alloc, core.as_slice(), sample.log.as_str())?;
     for from in [false, true] {
-        let words = Meeting {
-            image: &sample.image,
-            reads: counts(alloc)?,
-            late: AtomicU64::new(0),
-        };
-        let marked = marked_by_two(&rt, alloc, &sample, &words, from)?;
-        same(&rt, words.late.load(Ordering::SeqCst), 0);
-        assert!(rt; marked.claims.len() == 2);
-        same(&rt, marked.claims[0].as_slice(), [0u32].as_slice());
-        same(&rt, marked.claims[1].as_slice(), [1u32].as_slice());
-        for reads in words.reads.as_slice() {
-            same(&rt, reads.load(Ordering::SeqCst), 1);
-        }
+        meet(&rt, &sample, from)?;
     }
     Ok(())
 }

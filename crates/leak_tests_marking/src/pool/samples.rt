@@ -1,8 +1,9 @@
 //! Samples, and marking of them.
+ghost use Rattle.std.specs.Prelude.{◌≡◌, []};
 
 use crate::samples::{core_of, sample_of};
 use leak_index::{Reading, Sorted};
-use leak_pool::{Gate, Marked, Plan, mark, mark_alone};
+use leak_pool::{Gate, Marked, Plan, Start, mark, mark_alone};
 use std::alloc::Global;
 use std::fmt::Write;
 use std::test::Fail;
@@ -45,6 +46,16 @@ pub(crate) fn lead_of_the_second(alloc: Global) -> Result<Sample, Fail> {
     add_block(&mut log, 0x10200, 0x10)?;
     add_block(&mut log, 0x10300, 0x10)?;
     Ok(Sample { words, log })
+}
+
+/// A start that marks nothing.
+pub(crate) fn no_start(alloc: Global) -> Start
+    ensures { (result.marked.items ≡ []) × (result.rescan.items ≡ []) }
+{
+    Start {
+        marked: Vec::new(alloc),
+        rescan: Vec::new(alloc),
+    }
 }
 
 /// Marks a sample on the caller's thread.
