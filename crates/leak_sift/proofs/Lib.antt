@@ -1,0 +1,8 @@
+-- The lemmas of this crate, by subject.
+pub mod NearLemmas
+pub mod PlaceLemmas
+pub mod WordLemmas
+pub mod RunLemmas
+pub mod PartLemmas
+pub mod TakenLemmas
+pub mod OrderLemmas

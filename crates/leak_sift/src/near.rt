@@ -1,0 +1,92 @@
+//! Whether a place is near a live block.
+ghost use Rattle.std.specs.Prelude.{◌≡◌, ◌+◌, ◌-◌, ◌<◌, ◌≤◌, length};
+ghost use Rattle.leak_blocks.specs.Span.{AreDisjoint};
+ghost use Rattle.leak_chunks.specs.Fit.{least_chunk};
+ghost use Rattle.leak_sift.specs.Kept.{is_near, is_near_block};
+ghost use Rattle.leak_sift.specs.Passed.{IsPassed};
+
+use leak_blocks::Block;
+
+/// How many bytes before its block a chunk's size word is.
+const SIZE: u64 = 8;
+
+/// From this many bytes after the start of a block on, no place is near an earlier block. The least chunk of that one
+/// ends at most 31 bytes after the start; the next size word is 8 bytes before that end, and the last distance is 32.
+const FARTHEST: u64 = 56;
+
+/// How many of the blocks have their size word at the place or before it. The count for the last place is a guess from
+/// which a later place goes on.
+pub(crate) fn count_passed(blocks: &[Block], place: u64, guess: usize) -> usize
+    requires disjoint { AreDisjoint blocks.now }
+    requires guessed { guess ≤ length blocks.now }
+    ensures { IsPassed blocks.now place result }
+{
+    if guess > 0 && place < size_place(&blocks[guess - 1]) {
+        return blocks.partition_point(|block| size_place(block) <= place);
+    }
+    let mut count = guess;
+    while count < blocks.len() && size_place(&blocks[count]) <= place {
+        count += 1;
+    }
+    count
+}
+
+/// Whether the place is near one of the blocks, given how many have their size word at the place or before it.
+///
+/// It tries the last of those, and goes back while an earlier one can be near: over 65 blocks at most.
+pub(crate) fn is_near(blocks: &[Block], links: bool, count: usize, place: u64) -> bool
+    requires disjoint { AreDisjoint blocks.now }
+    requires passed { IsPassed blocks.now place count }
+    ensures { result ≡ is_near blocks.now links place }
+{
+    let mut left = count;
+    while left > 0 {
+        left -= 1;
+        let block = blocks[left];
+        if is_near_block(&block, links, place) {
+            return true;
+        }
+        if place.saturating_sub(block.start) >= FARTHEST {
+            return false;
+        }
+    }
+    false
+}
+
+/// Whether the place is near the block.
+fn is_near_block(block: &Block, links: bool, place: u64) -> bool
+    ensures { result ≡ is_near_block links place block.now }
+{
+    if place == size_place(block) {
+        return true;
+    }
+    let Some(distance) = place.checked_sub(block.start) else {
+        return false;
+    };
+    // A sum with the size could exceed 64 bits.
+    let Some(past) = distance.checked_sub(block.size) else {
+        return false;
+    };
+    match past.checked_sub(padding(block.size)) {
+        Some(0 | 16 | 32) => true,
+        Some(8) => links,
+        _ => false,
+    }
+}
+
+/// Where the size word of the block's chunk is.
+fn size_place(block: &Block) -> u64
+    ensures { result ≡ block.now.start - 8 }
+{
+    block.start.saturating_sub(SIZE)
+}
+
+/// How many bytes after the end of a block the next size word is, if the block's chunk is the least for its size.
+fn padding(size: u64) -> u64
+    ensures { size + result ≡ least_chunk size - 8 }
+{
+    if size <= 24 {
+        return 24 - size;
+    }
+    15 - (size % 16 + 7) % 16
+}
