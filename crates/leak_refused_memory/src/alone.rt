@@ -24,30 +24,35 @@ pub(crate) const HELD: &str = "blocks 1 bytes 32\n\
                     leaked 0 bytes 0\n\
                     heads 0\n";
 
+/// What `find_alone` answers of a core and a log, if it is to give the report.
+fn find(
+    alloc: Global,
+    core: &[u8],
+    log: &str,
+    skip: Skip,
+    lists_misfits: bool,
+    report: &str,
+) -> Answer {
+    let rules = Rules {
+        skip,
+        ..Rules::usual()
+    };
+    let found = find_alone(alloc, core, log.as_bytes(), rules, lists_misfits);
+    answer_of(found, report)
+}
+
 /// `find_alone` of one lost block.
 pub(crate) fn alone(alloc: Global) -> Option<Answer> {
     let core = core_of(alloc, &[])?;
-    let found = find_alone(
-        alloc,
-        core.as_slice(),
-        ONE_BLOCK.as_bytes(),
-        Rules::usual(),
-        false,
-    );
-    Some(answer_of(found, LOST))
+    let skip = Skip::usual();
+    Some(find(alloc, core.as_slice(), ONE_BLOCK, skip, false, LOST))
 }
 
 /// `find_alone` of one block that a vector register holds.
 pub(crate) fn vectors(alloc: Global) -> Option<Answer> {
     let core = vector_core(alloc)?;
-    let found = find_alone(
-        alloc,
-        core.as_slice(),
-        ONE_BLOCK.as_bytes(),
-        Rules::usual(),
-        false,
-    );
-    Some(answer_of(found, HELD))
+    let skip = Skip::usual();
+    Some(find(alloc, core.as_slice(), ONE_BLOCK, skip, false, HELD))
 }
 
 /// The report of a block that only a word in freed memory leads to.
@@ -64,20 +69,18 @@ const UNFREED: &str = "blocks 1 bytes 16\n\
 /// `find_alone` without freed memory, of a block that only a word there leads to.
 pub(crate) fn unfreed(alloc: Global) -> Option<Answer> {
     let core = core_of(alloc, &[(0x10108, 0x10200)])?;
-    let found = find_alone(
+    let skip = Skip {
+        freed: true,
+        ..Skip::usual()
+    };
+    Some(find(
         alloc,
         core.as_slice(),
-        b"+ 0x10100 0x20\n+ 0x10200 0x10\n- 0x10100\n",
-        Rules {
-            skip: Skip {
-                freed: true,
-                ..Skip::usual()
-            },
-            ..Rules::usual()
-        },
+        "+ 0x10100 0x20\n+ 0x10200 0x10\n- 0x10100\n",
+        skip,
         false,
-    );
-    Some(answer_of(found, UNFREED))
+        UNFREED,
+    ))
 }
 
 /// The report of one lost block that has no chunk in the core, which tells so.
@@ -95,14 +98,8 @@ const MISFIT: &str = "blocks 1 bytes 32\n\
 /// `find_alone` that tells misfits, of one lost block.
 pub(crate) fn checked(alloc: Global) -> Option<Answer> {
     let core = core_of(alloc, &[])?;
-    let found = find_alone(
-        alloc,
-        core.as_slice(),
-        ONE_BLOCK.as_bytes(),
-        Rules::usual(),
-        true,
-    );
-    Some(answer_of(found, MISFIT))
+    let skip = Skip::usual();
+    Some(find(alloc, core.as_slice(), ONE_BLOCK, skip, true, MISFIT))
 }
 
 /// The report of two blocks, to one of which malloc's link to a free chunk alone leads.
@@ -124,20 +121,18 @@ pub(crate) fn unlinked(alloc: Global) -> Option<Answer> {
         (0x10138, 0xfff8),
     ];
     let core = core_of(alloc, &words)?;
-    let found = find_alone(
+    let skip = Skip {
+        links: true,
+        ..Skip::usual()
+    };
+    Some(find(
         alloc,
         core.as_slice(),
-        b"+ 0x10100 0x20\n+ 0x10200 0x10\n",
-        Rules {
-            skip: Skip {
-                links: true,
-                ..Skip::usual()
-            },
-            ..Rules::usual()
-        },
+        "+ 0x10100 0x20\n+ 0x10200 0x10\n",
+        skip,
         false,
-    );
-    Some(answer_of(found, UNLINKED))
+        UNLINKED,
+    ))
 }
 
 /// The report of two blocks to which only words in slack lead.
@@ -160,20 +155,18 @@ pub(crate) fn unslacked(alloc: Global) -> Option<Answer> {
         (0x10118, 0x21),
     ];
     let core = core_of(alloc, &words)?;
-    let found = find_alone(
+    let skip = Skip {
+        slack: true,
+        ..Skip::usual()
+    };
+    Some(find(
         alloc,
         core.as_slice(),
-        b"+ 0x10100 0x8\n+ 0x10200 0x10\n",
-        Rules {
-            skip: Skip {
-                slack: true,
-                ..Skip::usual()
-            },
-            ..Rules::usual()
-        },
+        "+ 0x10100 0x8\n+ 0x10200 0x10\n",
+        skip,
         false,
-    );
-    Some(answer_of(found, UNSLACKED))
+        UNSLACKED,
+    ))
 }
 
 /// The report of a block to which only a word in dead stack leads.
@@ -190,18 +183,9 @@ const UNDEAD: &str = "blocks 1 bytes 32\n\
 /// `find_alone` without dead stack, of a block to which only a word there leads.
 pub(crate) fn undead(alloc: Global) -> Option<Answer> {
     let core = stack_core(alloc)?;
-    let found = find_alone(
-        alloc,
-        core.as_slice(),
-        ONE_BLOCK.as_bytes(),
-        Rules {
-            skip: Skip {
-                dead: true,
-                ..Skip::usual()
-            },
-            ..Rules::usual()
-        },
-        false,
-    );
-    Some(answer_of(found, UNDEAD))
+    let skip = Skip {
+        dead: true,
+        ..Skip::usual()
+    };
+    Some(find(alloc, core.as_slice(), ONE_BLOCK, skip, false, UNDEAD))
 }

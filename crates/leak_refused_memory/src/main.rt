@@ -123,7 +123,8 @@ fn told<R: Print + AllocGlobal + Threads + Sync>(rt: &R, name: &str) -> Answer {
     answer
 }
 
-/// What the call with the name answers, or `None` if memory for its inputs was refused.
+/// What the call with the name answers, or `None` if memory for its inputs was refused. The calls are in groups, since a
+/// name costs more to prove the more names it is not.
 fn answer_of<R: AllocGlobal + Threads + Sync>(rt: &R, name: &str) -> Option<Answer> {
     let alloc = rt.alloc();
     match name {
@@ -136,6 +137,14 @@ fn answer_of<R: AllocGlobal + Threads + Sync>(rt: &R, name: &str) -> Option<Answ
         "replay_bytes" => reading::replayed_bytes(alloc),
         "replay_with_spans" => reading::spanned(alloc),
         "small_spans" => reading::small(alloc),
+        _ => answer_of_roots(rt, name),
+    }
+}
+
+/// The same of what makes a lookup and roots.
+fn answer_of_roots<R: AllocGlobal + Threads + Sync>(rt: &R, name: &str) -> Option<Answer> {
+    let alloc = rt.alloc();
+    match name {
         "Paged::new" => searching::paged(alloc),
         "Roots::find" => searching::roots(alloc),
         "Roots::find_unfreed" => searching::unfreed_roots(alloc),
@@ -144,6 +153,14 @@ fn answer_of<R: AllocGlobal + Threads + Sync>(rt: &R, name: &str) -> Option<Answ
         "Roots::skip_dead" => searching::undead_roots(alloc),
         "cut" => searching::cut(alloc),
         "pieces" => searching::pieces(alloc),
+        _ => answer_of_marking(rt, name),
+    }
+}
+
+/// The same of what marks, and of what makes the report.
+fn answer_of_marking<R: AllocGlobal + Threads + Sync>(rt: &R, name: &str) -> Option<Answer> {
+    let alloc = rt.alloc();
+    match name {
         "Claims::new" => marking::claims(alloc),
         "Marks::new" => marking::table(alloc),
         "split" => marking::split(alloc),
@@ -158,6 +175,14 @@ fn answer_of<R: AllocGlobal + Threads + Sync>(rt: &R, name: &str) -> Option<Answ
         "heads" => marking::headed(alloc),
         "Totals::of" => reporting::totals(alloc),
         "text" => reporting::report(alloc),
+        _ => answer_of_search(rt, name),
+    }
+}
+
+/// The same of whole searches.
+fn answer_of_search<R: AllocGlobal + Threads + Sync>(rt: &R, name: &str) -> Option<Answer> {
+    let alloc = rt.alloc();
+    match name {
         "find_alone" => alone::alone(alloc),
         "find_alone_vectors" => alone::vectors(alloc),
         "find_alone_unfreed" => alone::unfreed(alloc),
@@ -173,6 +198,14 @@ fn answer_of<R: AllocGlobal + Threads + Sync>(rt: &R, name: &str) -> Option<Answ
         "find_held_in" => why::held_in(rt),
         "find_held_of" => why::held_of(rt),
         "find_growth" => why::growth(alloc),
+        _ => answer_of_run(rt, name),
+    }
+}
+
+/// The same of whole runs, and of what they begin with. There is no other call.
+fn answer_of_run<R: AllocGlobal + Threads + Sync>(rt: &R, name: &str) -> Option<Answer> {
+    let alloc = rt.alloc();
+    match name {
         "read_all" => whole::input(alloc),
         "run" => running::runs(rt),
         "run_sized" => running::runs_sized(rt),

@@ -2,12 +2,12 @@
 
 use crate::answer::Answer;
 use crate::samples::{MOVED, Sample, TWO_BLOCKS, chain, core_of, live_of, star};
+use crate::searching::find_roots;
 use leak_blocks::{Live, SmallSpans};
 use leak_elf::Image;
 use leak_index::{Reading, Sorted};
-use leak_later::{Carry, carry, differing, retrace};
+use leak_later::{Carry, Retraced, carry, differing, retrace};
 use leak_marks::{Claims, Marks};
-use leak_notes::Threads;
 use leak_pool::{
     EdgeRoom, Marked, Open, Part, Plan, PoolError, Start, mark, mark_alone, mark_by_edges,
     mark_from,
@@ -94,10 +94,8 @@ struct MarkingInput<'a> {
 
 fn marking_input<'a>(alloc: Global, core: &'a [u8], log: &str) -> Option<MarkingInput<'a>> {
     let image = Image::read(alloc, core).ok()?;
-    let threads = Threads::read(alloc, &image).ok()?;
     let live = live_of(alloc, log)?;
-    let small = SmallSpans::none(alloc);
-    let roots = Roots::find(alloc, &image, &threads, &live, &small, true).ok()?;
+    let roots = find_roots(alloc, &image, &live, &SmallSpans::none(alloc))?.ok()?;
     Some(MarkingInput { image, live, roots })
 }
 
@@ -233,6 +231,15 @@ pub(crate) fn carried(alloc: Global) -> Option<Answer> {
     }
 }
 
+/// Whether both blocks are marked, the second is claimed once and the first never, and none is read again.
+fn is_retraced(retraced: &Retraced) -> bool {
+    let claims = retraced.marked.claims.as_slice();
+    retraced.marked.set.as_slice() == [true, true].as_slice()
+        && times_on(claims, 1) == 1
+        && times_on(claims, 0) == 0
+        && retraced.reread == 0
+}
+
 /// `retrace` in a core in which a register leads to the moved block.
 pub(crate) fn retraced<R: AllocGlobal + std::thread::Threads + Sync>(rt: &R) -> Option<Answer> {
     let alloc = rt.alloc();
@@ -260,12 +267,7 @@ pub(crate) fn retraced<R: AllocGlobal + std::thread::Threads + Sync>(rt: &R) -> 
         &Open,
     );
     match retraced {
-        Ok(retraced) => Some(Answer::of(
-            retraced.marked.set.as_slice() == [true, true].as_slice()
-                && times_on(retraced.marked.claims.as_slice(), 1) == 1
-                && times_on(retraced.marked.claims.as_slice(), 0) == 0
-                && retraced.reread == 0,
-        )),
+        Ok(retraced) => Some(Answer::of(is_retraced(&retraced))),
         Err(error) => Some(Answer::of_refusal(error == PoolError::NoMemory)),
     }
 }

@@ -1,6 +1,7 @@
 //! Whole runs, from readers to writers.
 
-ghost use Rattle.std.specs.Prelude.{◌≡◌};
+ghost use Rattle.std.specs.Prelude.{◌≡◌, length};
+ghost use Rattle.leak_find.specs.Tasks.{TakesInputs};
 
 use crate::alone::{HELD, LOST};
 use crate::answer::Answer;
@@ -39,9 +40,49 @@ pub(crate) fn options(two: bool, plan: Plan) -> Options
     }
 }
 
-/// What a run over the inputs answers, if it is to write the report and to end with the status. The writer has room for
-/// all of it, and after want of memory nothing is written. If sizes are given, the readers come with them.
-fn run_of<R: AllocGlobal + Threads + Sync>(
+/// Runs by the readers, with their sizes if they are given.
+fn end_of<R: AllocGlobal + Threads + Sync>(
+    rt: &R,
+    readers: &mut [Cursor<Vec<u8>>],
+    sizes: Option<&[u64]>,
+    task: &Task,
+    written: &mut Vec<u8>,
+    warned: &mut Vec<u8>,
+) -> Result<u8, RunFault>
+    requires { TakesInputs task.now (length readers.old) }
+{
+    let context = Context::silent(rt, rt.alloc());
+    match sizes {
+        Some(sizes) => run_sized(&context, readers, sizes, task, written, warned),
+        None => run(&context, readers, task, written, warned),
+    }
+}
+
+/// What a run answers, if it is to write the report and to end with the status. The writers have room for all of it,
+/// and after want of memory nothing is written. If sizes are given, the readers come with them.
+pub(crate) fn run_of<R: AllocGlobal + Threads + Sync>(
+    rt: &R,
+    readers: &mut [Cursor<Vec<u8>>],
+    sizes: Option<&[u64]>,
+    task: &Task,
+    report: &str,
+    status: u8,
+) -> Option<Answer>
+    requires { TakesInputs task.now (length readers.old) }
+{
+    let mut written: Vec<u8> = Vec::with_capacity(rt.alloc(), 1000).ok()?;
+    let mut warned: Vec<u8> = Vec::with_capacity(rt.alloc(), 1000).ok()?;
+    let answer = match end_of(rt, readers, sizes, task, &mut written, &mut warned) {
+        Ok(given) => Answer::of(given == status && written.as_slice() == report.as_bytes()),
+        Err(fault) => {
+            Answer::of_refusal(is_wanting(&fault) && written.is_empty() && warned.is_empty())
+        }
+    };
+    Some(answer)
+}
+
+/// What a search over the inputs answers, if it is to write the report and to end with the status.
+fn search_of<R: AllocGlobal + Threads + Sync>(
     rt: &R,
     inputs: Vec<Vec<u8>>,
     sizes: Option<&[u64]>,
@@ -57,20 +98,7 @@ fn run_of<R: AllocGlobal + Threads + Sync>(
     if readers.len() != if two { 4 } else { 2 } {
         return Some(Answer::Other);
     }
-    let mut written: Vec<u8> = Vec::with_capacity(rt.alloc(), 1000).ok()?;
-    let mut warned: Vec<u8> = Vec::with_capacity(rt.alloc(), 1000).ok()?;
-    let (context, readers) = (Context::silent(rt, rt.alloc()), readers.as_mut_slice());
-    let (writer, warner) = (&mut written, &mut warned);
-    let answer = match sizes {
-        Some(sizes) => run_sized(&context, readers, sizes, &task, writer, warner),
-        None => run(&context, readers, &task, writer, warner),
-    };
-    match answer {
-        Ok(given) => Some(Answer::of(given == status && written.as_slice() == report.as_bytes())),
-        Err(fault) => Some(Answer::of_refusal(
-            is_wanting(&fault) && written.is_empty() && warned.is_empty(),
-        )),
-    }
+    run_of(rt, readers.as_mut_slice(), sizes, &task, report, status)
 }
 
 /// `run` over one lost block, and over one that is held.
@@ -85,15 +113,18 @@ pub(crate) fn runs_sized<R: AllocGlobal + Threads + Sync>(rt: &R) -> Option<Answ
 
 /// A run over one lost block, and over one that is held.
 fn lost_and_held<R: AllocGlobal + Threads + Sync>(rt: &R, sizes: Option<&[u64]>) -> Option<Answer> {
-    let alloc = rt.alloc();
-    let mut lost = Vec::new(alloc);
-    lost.push(core_of(alloc, &[])?).ok()?;
-    lost.push(ONE_BLOCK.as_bytes().to_vec(alloc).ok()?).ok()?;
-    let mut held = Vec::new(alloc);
-    held.push(core_of(alloc, &[(0x10008, 0x10100)])?).ok()?;
-    held.push(ONE_BLOCK.as_bytes().to_vec(alloc).ok()?).ok()?;
-    let first = run_of(rt, lost, sizes, false, LOST, 1)?;
-    Some(first.worse(run_of(rt, held, sizes, false, HELD, 0)?))
+    let lost = one_block_in(rt.alloc(), &[])?;
+    let first = search_of(rt, lost, sizes, false, LOST, 1)?;
+    let held = one_block_in(rt.alloc(), &[(0x10008, 0x10100)])?;
+    Some(first.worse(search_of(rt, held, sizes, false, HELD, 0)?))
+}
+
+/// The sample core with the words set, and the log of one block.
+fn one_block_in(alloc: Global, words: &[(u64, u64)]) -> Option<Vec<Vec<u8>>> {
+    let mut inputs = Vec::new(alloc);
+    inputs.push(core_of(alloc, words)?).ok()?;
+    inputs.push(ONE_BLOCK.as_bytes().to_vec(alloc).ok()?).ok()?;
+    Some(inputs)
 }
 
 /// `run` over two cores.
@@ -104,7 +135,7 @@ pub(crate) fn runs_two<R: AllocGlobal + Threads + Sync>(rt: &R) -> Option<Answer
     inputs.push(TWO_BLOCKS.as_bytes().to_vec(alloc).ok()?).ok()?;
     inputs.push(later_core(alloc)?).ok()?;
     inputs.push(MOVED.as_bytes().to_vec(alloc).ok()?).ok()?;
-    run_of(rt, inputs, None, true, TWO, 0)
+    search_of(rt, inputs, None, true, TWO, 0)
 }
 
 /// `run` that asks for the same block.
@@ -129,17 +160,5 @@ fn why_of<R: AllocGlobal + Threads + Sync>(rt: &R, sizes: Option<&[u64]>) -> Opt
     if readers.len() != 2 {
         return Some(Answer::Other);
     }
-    let mut written: Vec<u8> = Vec::with_capacity(alloc, 1000).ok()?;
-    let mut told: Vec<u8> = Vec::with_capacity(alloc, 1000).ok()?;
-    let (readers, out, warner) = (readers.as_mut_slice(), &mut written, &mut told);
-    let context = Context::silent(rt, alloc);
-    let answer = match sizes {
-        Some(sizes) => run_sized(&context, readers, sizes, &task, out, warner),
-        None => run(&context, readers, &task, out, warner),
-    };
-    let answer = match answer {
-        Ok(status) => Answer::of(status == 0 && written.as_slice() == ASKED.as_bytes()),
-        Err(fault) => Answer::of_refusal(is_wanting(&fault) && written.is_empty()),
-    };
-    Some(answer)
+    run_of(rt, readers.as_mut_slice(), sizes, &task, ASKED, 0)
 }

@@ -2,14 +2,14 @@
 
 use crate::answer::Answer;
 use crate::samples::{ONE_BLOCK, core_of, live_of, stack_core};
-use leak_blocks::{SmallSpans, Span, replay, small_spans};
+use leak_blocks::{Live, SmallSpans, Span, replay, small_spans};
 use leak_elf::Image;
 use leak_index::{Hits, Lookup, Paged, Reading};
 use leak_mtrace::Log;
 use leak_notes::Threads;
 use leak_roots::{CutError, Piece, Roots};
 use leak_stacks::dead_spans;
-use std::alloc::Global;
+use std::alloc::{AllocError, Global};
 
 /// `Paged::new` over four blocks that touch.
 pub(crate) fn paged(alloc: Global) -> Option<Answer> {
@@ -25,14 +25,30 @@ pub(crate) fn paged(alloc: Global) -> Option<Answer> {
     }
 }
 
+/// What `Roots::find` answers of a core, outside these blocks and freed spans.
+pub(crate) fn find_roots(
+    alloc: Global,
+    image: &Image,
+    live: &Live,
+    freed: &SmallSpans,
+) -> Option<Result<Roots, AllocError>> {
+    let threads = Threads::read(alloc, image).ok()?;
+    Some(Roots::find(alloc, image, &threads, live, freed, true))
+}
+
+/// The root words of a core outside the blocks of a log.
+fn roots_of(alloc: Global, core: &[u8], log: &str) -> Option<Roots> {
+    let image = Image::read(alloc, core).ok()?;
+    let live = live_of(alloc, log)?;
+    find_roots(alloc, &image, &live, &SmallSpans::none(alloc))?.ok()
+}
+
 /// `Roots::find` of the sample core without a block.
 pub(crate) fn roots(alloc: Global) -> Option<Answer> {
     let core = core_of(alloc, &[])?;
     let image = Image::read(alloc, core.as_slice()).ok()?;
-    let threads = Threads::read(alloc, &image).ok()?;
     let live = live_of(alloc, "")?;
-    let small = SmallSpans::none(alloc);
-    match Roots::find(alloc, &image, &threads, &live, &small, true) {
+    match find_roots(alloc, &image, &live, &SmallSpans::none(alloc))? {
         Ok(roots) => Some(Answer::of(
             roots.registers().len() == 27
                 && roots.memory() == [(0x10000u64, 0x11000u64)].as_slice(),
@@ -45,11 +61,8 @@ pub(crate) fn roots(alloc: Global) -> Option<Answer> {
 pub(crate) fn unfreed_roots(alloc: Global) -> Option<Answer> {
     let core = core_of(alloc, &[])?;
     let image = Image::read(alloc, core.as_slice()).ok()?;
-    let threads = Threads::read(alloc, &image).ok()?;
-    let log = Log::read(alloc, b"+ 0x10100 0x20\n- 0x10100\n").ok()?;
-    let live = replay(alloc, &log).ok()?;
-    let small = small_spans(alloc, &log).ok()?;
-    match Roots::find(alloc, &image, &threads, &live, &small, true) {
+    let (live, freed) = given_back(alloc)?;
+    match find_roots(alloc, &image, &live, &freed)? {
         Ok(roots) => Some(Answer::of(
             roots.freed() == 4
                 && roots.memory() == [(0x10000u64, 0x10100u64), (0x10120, 0x11000)].as_slice(),
@@ -58,14 +71,17 @@ pub(crate) fn unfreed_roots(alloc: Global) -> Option<Answer> {
     }
 }
 
+/// No block, and the span of one that was given back.
+fn given_back(alloc: Global) -> Option<(Live, SmallSpans)> {
+    let log = Log::read(alloc, b"+ 0x10100 0x20\n- 0x10100\n").ok()?;
+    let live = replay(alloc, &log).ok()?;
+    Some((live, small_spans(alloc, &log).ok()?))
+}
+
 /// `Roots::skip_slack` of the sample core with a block of 8 bytes, whose slack has two words.
 pub(crate) fn unslacked_roots(alloc: Global) -> Option<Answer> {
     let core = core_of(alloc, &[])?;
-    let image = Image::read(alloc, core.as_slice()).ok()?;
-    let threads = Threads::read(alloc, &image).ok()?;
-    let live = live_of(alloc, "+ 0x10100 0x8\n")?;
-    let small = SmallSpans::none(alloc);
-    let roots = Roots::find(alloc, &image, &threads, &live, &small, true).ok()?;
+    let roots = roots_of(alloc, core.as_slice(), "+ 0x10100 0x8\n")?;
     let slack = [Span {
         first: 0x10108,
         last: 0x10117,
@@ -95,11 +111,7 @@ pub(crate) fn dead_stack(alloc: Global) -> Option<Answer> {
 /// `Roots::skip_dead` of that core with a block.
 pub(crate) fn undead_roots(alloc: Global) -> Option<Answer> {
     let core = stack_core(alloc)?;
-    let image = Image::read(alloc, core.as_slice()).ok()?;
-    let threads = Threads::read(alloc, &image).ok()?;
-    let live = live_of(alloc, ONE_BLOCK)?;
-    let small = SmallSpans::none(alloc);
-    let roots = Roots::find(alloc, &image, &threads, &live, &small, true).ok()?;
+    let roots = roots_of(alloc, core.as_slice(), ONE_BLOCK)?;
     let dead = [Span {
         first: 0x10000,
         last: 0x107ff,
@@ -128,11 +140,7 @@ fn words_in(pieces: &[Piece]) -> u64 {
 /// The root words of the sample core with a block.
 fn roots_outside(alloc: Global) -> Option<Roots> {
     let core = core_of(alloc, &[])?;
-    let image = Image::read(alloc, core.as_slice()).ok()?;
-    let threads = Threads::read(alloc, &image).ok()?;
-    let live = live_of(alloc, "+ 0x10100 0x20\n")?;
-    let small = SmallSpans::none(alloc);
-    Roots::find(alloc, &image, &threads, &live, &small, true).ok()
+    roots_of(alloc, core.as_slice(), "+ 0x10100 0x20\n")
 }
 
 /// `cut` of these roots.

@@ -1,11 +1,11 @@
 //! Questions who holds the memory, and what grew.
 
 use crate::answer::Answer;
-use crate::running::{is_wanting, options};
+use crate::running::{options, run_of};
 use crate::samples::core_of;
 use leak_find::{
-    Context, Files, FindError, GrowOptions, Plan, Question, Rules, Side, Silent, Task, WhyError,
-    find_growth, find_held, find_holders, run_sized,
+    Files, FindError, GrowOptions, Plan, Question, Rules, Side, Silent, Task, WhyError,
+    find_growth, find_held, find_holders,
 };
 use std::alloc::Global;
 use std::io::Cursor;
@@ -159,17 +159,8 @@ fn runs_by<R: AllocGlobal + Threads + Sync>(
     if readers.len() != 2 && readers.len() != 3 {
         return Some(Answer::Other);
     }
-    let mut written: Vec<u8> = Vec::with_capacity(alloc, 1000).ok()?;
-    let mut warned: Vec<u8> = Vec::with_capacity(alloc, 1000).ok()?;
     let sizes = [8192, HELD.len() as u64, 25];
-    let (context, readers) = (Context::silent(rt, alloc), readers.as_mut_slice());
-    let answer = match run_sized(&context, readers, &sizes, &task, &mut written, &mut warned) {
-        Ok(status) => Answer::of(status == 0 && written.as_slice() == wanted.as_bytes()),
-        Err(fault) => Answer::of_refusal(
-            is_wanting(&fault) && written.is_empty() && warned.is_empty(),
-        ),
-    };
-    Some(answer)
+    run_of(rt, readers.as_mut_slice(), Some(&sizes), &task, wanted, 0)
 }
 
 /// Readers of the core, its log and, if there is one, the earlier log.
@@ -204,15 +195,6 @@ pub(crate) fn runs_grow<R: AllocGlobal + Threads + Sync>(rt: &R) -> Option<Answe
     if readers.len() != 2 {
         return Some(Answer::Other);
     }
-    let mut written: Vec<u8> = Vec::with_capacity(alloc, 1000).ok()?;
-    let mut warned: Vec<u8> = Vec::with_capacity(alloc, 1000).ok()?;
     let sizes = [EARLIER.len() as u64, HELD.len() as u64];
-    let (context, readers) = (Context::silent(rt, alloc), readers.as_mut_slice());
-    let answer = match run_sized(&context, readers, &sizes, &task, &mut written, &mut warned) {
-        Ok(status) => Answer::of(status == 0 && written.as_slice() == GREW.as_bytes()),
-        Err(fault) => Answer::of_refusal(
-            is_wanting(&fault) && written.is_empty() && warned.is_empty(),
-        ),
-    };
-    Some(answer)
+    run_of(rt, readers.as_mut_slice(), Some(&sizes), &task, GREW, 0)
 }
