@@ -15,10 +15,6 @@ mod cores;
 #[cfg(test)]
 mod sparse;
 
-// Words of a core that are kept as its bytes pass.
-#[cfg(test)]
-mod sifting;
-
 // Cores: headers, segments and words.
 #[cfg(test)]
 mod elf;
