@@ -1,5 +1,5 @@
 -- Going over the program headers from the first on.
-use Rattle.std.proofs.Common.{◌≡◌, ℕ, zero, suc, true, false, ◌+◌, ◌<◌, ◌≤◌, List, [], ◌∷◌, ap, arith, length, get_or, take, drop, Option, Some, None, refl, sym, ◌∙◌, add-one}
+use Rattle.std.proofs.Common.{◌++◌, ◌≡◌, ℕ, zero, suc, true, false, ◌+◌, ◌<◌, ◌≤◌, List, [], ◌∷◌, ap, arith, length, get_or, take, drop, Option, Some, None, refl, sym, ◌∙◌, add-one}
 use Rattle.std.proofs.Math.Seq.{drop-cons}
 use Rattle.std.proofs.lemmas.List.{take_more}
 use Rattle.std.specs.Option.{option_or}
@@ -78,3 +78,12 @@ ends_by_overlap file hs i x b e m =
     sym (fine_until file hs n none (omega arith) (λ k d q. e k d (omega arith)) m.apart)
     ∙ ends file hs n none (Overlap n) (omega arith) (overlap_last file (take n hs) n (get_or hs n none) (e n none (omega arith)) o)
     ∙ ap (λ (y : ElfError). Some y) (sym m.is)
+
+-- the faults of the headers go by the file's length alone
+one_by_length : (file other : List ℕ) (before : List Header) (i : ℕ) (h : Header) → length file ≡ length other → header_fault file before i h ≡ header_fault other before i h
+unfolding header_fault
+one_by_length file other before i h e = rw e refl
+
+pub by_length : (file other : List ℕ) (before : List Header) (i : ℕ) (hs : List Header) → length file ≡ length other → faults_from file before i hs ≡ faults_from other before i hs
+by_length file other before i [] e = refl
+by_length file other before i (h ∷ hs) e = rw (one_by_length file other before i h e, by_length file other (before ++ h ∷ []) (i + 1) hs e) refl

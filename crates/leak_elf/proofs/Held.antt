@@ -1,5 +1,5 @@
 -- Which segment holds a word.
-use Rattle.std.proofs.Common.{◌≡◌, ℕ, zero, suc, ◌+◌, ◌-◌, ◌<◌, ◌≤◌, ◌*◌, take, drop, ◌%◌, max, Bool, true, false, cond, List, [], ◌∷◌, length, get_or, find, Option, Some, None, refl, sym, ap, ◌∙◌, arith, inl, inr, eqb, subst}
+use Rattle.std.proofs.Common.{◌≡◌, ℕ, zero, suc, ◌+◌, ◌-◌, ◌<◌, ◌≤◌, ◌*◌, take, drop, ◌%◌, max, Bool, true, false, cond, List, [], ◌∷◌, ◌++◌, length, get_or, find, Option, Some, None, refl, sym, ap, ◌∙◌, arith, inl, inr, eqb, subst}
 use Rattle.std.specs.Prelude.{slice_range}
 use Rattle.std.specs.Int.{w64, from_le_bytes}
 use Rattle.std.proofs.lemmas.List.{drop-take, take-take, drop-drop, length-take}
@@ -10,6 +10,7 @@ use Rattle.leak_elf.specs.Fields.{number_at}
 use Rattle.leak_elf.specs.Words.{holds_word, word_in, NoneHeld, IsNextHeld, word_of}
 use Rattle.leak_elf.specs.Segments.{IsAscending, AreKeptSegments, segments_of}
 use Rattle.leak_elf.specs.Words.{IsNextReadable, IsRun}
+use Rattle.leak_elf.proofs.Heads.{number_front}
 
 pub ascend : (segs : List Segment) → AreKeptSegments segs → IsAscending segs
 ascend segs kept j k d le lt =
@@ -101,7 +102,7 @@ next_at segs from i d low kept l none e room =
     )
 
 -- what `find_next` gives is the next readable address
-next_in : (file : List ℕ) (segs : List Segment) (from : ℕ) (d : Segment) (r : Option ℕ) → AreKeptSegments segs → IsNextHeld segs from r → IsNextReadable (word_in file segs) from r
+pub next_in : (file : List ℕ) (segs : List Segment) (from : ℕ) (d : Segment) (r : Option ℕ) → AreKeptSegments segs → IsNextHeld segs from r → IsNextReadable (word_in file segs) from r
 next_in file segs from d None kept h = λ a f.
     elim (cases_eq (a % 8) 0) [ inl e ↦ word_none file segs a d (λ k l. h k d a l f e) | inr n ↦ word_odd file segs a n ]
 next_in file segs from d (Some n) kept h =
@@ -131,13 +132,13 @@ number_in : (file : List ℕ) (a b k : ℕ) → a + (k + 8) ≤ b → number_at 
 unfolding number_at
 number_in file a b k h = ap (from_le_bytes w64) (slice_of_slice file a b k h)
 
--- the dumped bytes of a segment from an address on
-pub run_at : (file : List ℕ) (segs : List Segment) (from i start : ℕ) (d : Segment) → AreKeptSegments segs → from % 8 ≡ 0 → i < length segs → (get_or segs i d).vaddr ≤ from → from < (get_or segs i d).vaddr + (get_or segs i d).filesz → start ≡ (get_or segs i d).offset + (from - (get_or segs i d).vaddr)
-    → IsRun (word_in file segs) from (slice_range file start (start + ((get_or segs i d).vaddr + (get_or segs i d).filesz - from)))
-run_at file segs from i start d kept e l low high at k h =
+-- the dumped bytes of a segment from an address on, as far as they are held
+pub run_at : (held rest : List ℕ) (segs : List Segment) (from i start stop : ℕ) (d : Segment) → AreKeptSegments segs → from % 8 ≡ 0 → i < length segs → (get_or segs i d).vaddr ≤ from → from < (get_or segs i d).vaddr + (get_or segs i d).filesz → start ≡ (get_or segs i d).offset + (from - (get_or segs i d).vaddr)
+    → stop ≤ start + ((get_or segs i d).vaddr + (get_or segs i d).filesz - from) → stop ≤ length held → IsRun (word_in (held ++ rest) segs) from (slice_range held start stop)
+run_at held rest segs from i start stop d kept e l low high at end in_held k h =
     let s = get_or segs i d in
-    let n = s.vaddr + s.filesz - from in
-    let fits : 8 * k + 8 ≤ n = omega (arith, length-take (start + n - start) (drop start file)) in
-    let w = word_some file segs (from + 8 * k) i d kept (eq-eqb _ _ (omega arith)) l (omega arith) (omega arith) in
+    let fits : 8 * k + 8 ≤ stop - start = omega (arith, length-take (stop - start) (drop start held)) in
+    let w = word_some (held ++ rest) segs (from + 8 * k) i d kept (eq-eqb _ _ (omega arith)) l (omega arith) (omega arith) in
     let place : s.offset + (from + 8 * k - s.vaddr) ≡ start + 8 * k = omega arith in
-    w ∙ ap (λ (j : ℕ). Some (number_at w64 file j)) place ∙ ap (λ (x : ℕ). Some x) (sym (number_in file start (start + n) (8 * k) (omega arith)))
+    let front = number_front w64 held rest (start + 8 * k) (omega arith) in
+    w ∙ ap (λ (j : ℕ). Some (number_at w64 (held ++ rest) j)) place ∙ ap (λ (x : ℕ). Some x) (front ∙ sym (number_in held start stop (8 * k) (omega arith)))

@@ -1,6 +1,8 @@
 -- The lemmas of this crate, by subject.
 pub mod Accepted
 pub mod Faults
+pub mod HeadLengths
+pub mod Heads
 pub mod Held
 pub mod Holders
 pub mod Kept
@@ -10,3 +12,5 @@ pub mod Plain
 pub mod PlainWords
 pub mod Samples
 pub mod Sorted
+pub mod Split
+pub mod Zeros

@@ -64,16 +64,16 @@ pub any_false_at : (p : Segment → Bool) (xs : List Segment) (k : ℕ) (d : Seg
 any_false_at p xs k d e l = not_true _ (λ t. let u = list_any_at p xs k d l t in absurd cc)
 
 -- where a test passes
-record At (p : Segment → Bool) (xs : List Segment) (d : Segment) : Type 0 where
-  at : ℕ
-  within : at < length xs
-  passes : p (get_or xs at d) ≡ true
+pub record At (p : Segment → Bool) (xs : List Segment) (d : Segment) : Type 0 where
+  pub at : ℕ
+  pub within : at < length xs
+  pub passes : p (get_or xs at d) ≡ true
 
 any_at_by : (p : Segment → Bool) (x : Segment) (xs : List Segment) (d : Segment) (b : Bool) → p x ≡ b → (list_any p xs ≡ true → At p xs d) → (b || list_any p xs) ≡ true → At p (x ∷ xs) d
 any_at_by p x xs d true e rec t = record { at = 0; within = omega arith; passes = e }
 any_at_by p x xs d false e rec t = let r = rec t in record { at = suc r.at; within = let w = r.within in omega arith; passes = r.passes }
 
-any_at : (p : Segment → Bool) (xs : List Segment) (d : Segment) → list_any p xs ≡ true → At p xs d
+pub any_at : (p : Segment → Bool) (xs : List Segment) (d : Segment) → list_any p xs ≡ true → At p xs d
 any_at p [] d e = absurd cc
 any_at p (x ∷ xs) d e = any_at_by p x xs d (p x) refl (any_at p xs d) e
 

@@ -1,5 +1,5 @@
 -- Words of memory: maps from addresses to words, and the words of a core file.
-use Rattle.std.specs.Prelude.{◌≡◌, false, true, ℕ, ◌-◌, ◌+◌, ◌*◌, ◌%◌, length, ◌<◌, ◌≤◌, Bool, ◌&&◌, nat_le, ◌==◌, if◌then◌else◌, find, List, Option, Some, None, IsSome, option_map, slice_index_or}
+use Rattle.std.specs.Prelude.{◌≡◌, false, true, ℕ, ◌-◌, ◌+◌, ◌*◌, ◌%◌, length, ◌<◌, ◌≤◌, Bool, ◌&&◌, nat_le, ◌==◌, if◌then◌else◌, find, List, Option, Some, None, IsSome, IfSome, option_map, slice_index_or}
 use Rattle.std.specs.Int.{w64}
 use Rattle.std.specs.List.{range_with_len, filter_map}
 use Rattle.leak_elf.specs.declared.segment.Segment.{Segment}
@@ -10,6 +10,15 @@ use Rattle.leak_elf.specs.Segments.{segments_of}
 abbrev pub IsNextReadable : (ℕ → Option ℕ) → ℕ → Option ℕ → Type 0
 IsNextReadable word_at from None = (a : ℕ) → from ≤ a → word_at a ≡ None
 IsNextReadable word_at from (Some next) = (from ≤ next) × IsSome (word_at next) × ((a : ℕ) → from ≤ a → a < next → word_at a ≡ None)
+
+-- no address from the first on before the second has a word other than 0
+abbrev pub AreZeros : (ℕ → Option ℕ) → ℕ → ℕ → Type 0
+AreZeros word_at from to = (a : ℕ) → from ≤ a → a < to → IfSome (word_at a) (λ word. word ≡ 0)
+
+-- an address from `from` on that has a word, and none before it has one other than 0
+abbrev pub IsPastZeros : (ℕ → Option ℕ) → ℕ → Option ℕ → Type 0
+IsPastZeros word_at from None = (a : ℕ) → from ≤ a → IfSome (word_at a) (λ word. word ≡ 0)
+IsPastZeros word_at from (Some next) = (from ≤ next) × IsSome (word_at next) × AreZeros word_at from next
 
 -- the addresses from `from` on whose 8 bytes end at `to` or before it
 abbrev pub places : ℕ → ℕ → List ℕ

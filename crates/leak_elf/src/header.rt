@@ -25,7 +25,7 @@ pub(crate) const ET_CORE: u16 = 4;
 /// The machine of an x86-64 file.
 pub(crate) const EM_X86_64: u16 = 62;
 /// The count that says that the number of program headers is in section header 0.
-const PN_XNUM: u16 = 0xffff;
+pub(crate) const PN_XNUM: u16 = 0xffff;
 
 /// A program header. Its physical address and its alignment are not read.
 #[derive(Clone, Copy)]
@@ -46,7 +46,7 @@ pub struct Header {
 
 /// The program header at the file offset.
 #[tactic(auto, unfolding(crate::specs::Headers::header_at))]
-fn read_header(core: &[u8], at: usize) -> Header
+pub(crate) fn read_header(core: &[u8], at: usize) -> Header
     requires { at + 56 ≤ length core.now }
     ensures { result ≡ header_at core.now at }
 {

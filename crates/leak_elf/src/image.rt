@@ -1,8 +1,9 @@
 //! An accepted core file.
 
-ghost use Rattle.std.specs.Prelude.{◌≡◌, ◌≢◌, ℕ, List, Some, None, IfOk, IfErr, ◌<◌, ◌+◌, ◌^◌, length, slice_index_or};
+ghost use Rattle.std.specs.Prelude.{◌≡◌, ◌≢◌, ℕ, List, Some, None, IfOk, IfErr, ◌<◌, ◌+◌, ◌++◌, ◌⊎◌, ◌^◌, [], length, slice_index_or};
 ghost use Rattle.leak_elf.specs.declared.segment.Segment.{Segment};
 ghost use Rattle.leak_elf.specs.declared.segment.NotePart.{NotePart};
+ghost use Rattle.leak_elf.specs.Head.{IsHead, AreSplit};
 ghost use Rattle.leak_elf.specs.Refusals.{fault_of};
 ghost use Rattle.leak_elf.specs.Segments.{segments_of, note_parts_of, undumped_of, bytes_at, AreSegments, AreParts};
 ghost use Rattle.leak_elf.specs.Words.{word_of, AreHolders};
@@ -11,35 +12,39 @@ use crate::error::ElfError;
 use crate::fields::bytes_from;
 use crate::header::read_headers;
 use crate::refusal::{check_file, check_headers};
-use crate::search::{find_holders, find_next, find_run, find_word};
+use crate::rest::{NoRest, Rest};
+use crate::search::{find_holders, find_next, find_past_zeros, find_run, find_word};
 use crate::segment::{NotePart, Segment, kept_parts, sum_undumped};
 use crate::words::Words;
 use std::alloc::Global;
 use std::marker::Model;
 
 /// An accepted core file. Contracts see it as the bytes of the file.
+///
+/// It holds the first bytes of the file, by default all. Of the others it asks for words alone.
 #[derive(Drop)]
-pub struct Image<'a> {
-    core: &'a [u8],
+pub struct Image<'a, R: Rest = NoRest> {
+    held: &'a [u8],
+    rest: R,
     segments: Vec<Segment>,
     holders: Vec<usize>,
     parts: Vec<NotePart>,
 }
 
-impl<'a> Model for Image<'a> {
+impl<'a, R: Rest> Model for Image<'a, R> {
     ghost Value = { List ℕ };
 
-    ghost view = { λ image. image.core.now };
+    ghost view = { λ image. image.held.now ++ R.bytes image.rest };
 
-    ghost invariant = { λ image. (fault_of image.core.now ≡ None)
-        × (image.segments.items ≡ segments_of image.core.now)
-        × (image.parts.items ≡ note_parts_of image.core.now)
-        × AreSegments image.core.now image.segments.items
-        × AreParts image.core.now image.parts.items
+    ghost invariant = { λ image. (fault_of (image.held.now ++ R.bytes image.rest) ≡ None)
+        × (image.segments.items ≡ segments_of (image.held.now ++ R.bytes image.rest))
+        × (image.parts.items ≡ note_parts_of (image.held.now ++ R.bytes image.rest))
+        × AreSplit image.held.now (R.bytes image.rest) image.segments.items
+        × AreParts image.held.now image.parts.items
         × AreHolders image.segments.items image.holders.items };
 }
 
-impl<'a> Words for Image<'a> {
+impl<'a, R: Rest> Words for Image<'a, R> {
     ghost use Rattle.leak_elf.specs.Words.{word_of};
     ghost use Rattle.leak_elf.specs.Aligned.{aligned_words};
 
@@ -47,7 +52,7 @@ impl<'a> Words for Image<'a> {
 
     #[tactic(auto, unfolding(crate::specs::Words::word_of))]
     fn word(&self, addr: u64) -> Option<u64> {
-        find_word(self.core, self.segments.as_slice(), addr)
+        find_word(self.held, &self.rest, self.segments.as_slice(), addr)
     }
 
     fn next(&self, from: u64) -> Option<u64> {
@@ -55,31 +60,76 @@ impl<'a> Words for Image<'a> {
     }
 
     #[tactic(auto, unfolding(crate::specs::Words::word_of))]
+    fn skip_zeros(&self, from: u64) -> Option<u64> {
+        let segments = self.segments.as_slice();
+        find_past_zeros(
+            self.held,
+            &self.rest,
+            segments,
+            self.holders.as_slice(),
+            from,
+        )
+    }
+
+    #[tactic(auto, unfolding(crate::specs::Words::word_of))]
     fn run(&self, from: u64) -> &[u8] {
-        find_run(self.core, self.segments.as_slice(), from)
+        find_run(self.held, &self.rest, self.segments.as_slice(), from)
     }
 
     ghost aligned = { aligned_words };
 }
 
-impl<'a> Image<'a> {
+impl<'a> Image<'a, NoRest> {
     /// Reads a core file, or gives the first reason against it.
-    #[tactic(auto, unfolding(crate::specs::Refusals::fault_of, crate::specs::Segments::segments_of, crate::specs::Segments::note_parts_of))]
-    pub fn read(alloc: Global, core: &'a [u8]) -> Result<Image<'a>, ElfError>
+    pub fn read(alloc: Global, core: &'a [u8]) -> Result<Image<'a, NoRest>, ElfError>
         ensures ok { IfOk result (λ image. (image ≡ core.now) × (fault_of core.now ≡ None)) }
         ensures refused { IfErr result (λ e. e ≢ ElfError.NoMemory → fault_of core.now ≡ Some e) }
     {
-        let count = check_file(core)?;
-        let headers = read_headers(alloc, core, count)?;
-        let segments = check_headers(alloc, core, headers.as_slice())?;
+        Image::passed(alloc, core, NoRest)
+    }
+
+    /// The dumped bytes of the segment with the number, from 0. It is for libraries and tests.
+    #[tactic(auto, unfolding(crate::specs::Segments::segments_of))]
+    pub fn bytes_of(&self, i: usize) -> &'a [u8]
+        requires { i < length (segments_of self.now) }
+        ensures { (d : Segment) →
+            let s = slice_index_or (segments_of self.now) i d in
+            result.now ≡ bytes_at self.now s.offset s.filesz }
+    {
+        let segment = self.segments[i];
+        bytes_from(self.held, segment.offset, segment.filesz)
+    }
+}
+
+impl<'a, R: Rest> Image<'a, R> {
+    /// Reads a core file that is held, or of which the head is held, with the rest behind it. Gives the first reason against it.
+    pub fn passed(alloc: Global, held: &'a [u8], rest: R) -> Result<Image<'a, R>, ElfError>
+        requires { (R.bytes rest ≡ []) ⊎ IsHead held.now }
+        ensures ok { IfOk result (λ image.
+            (image ≡ held.now ++ R.bytes rest) × (fault_of (held.now ++ R.bytes rest) ≡ None)) }
+        ensures refused { IfErr result (λ e.
+            e ≢ ElfError.NoMemory → fault_of (held.now ++ R.bytes rest) ≡ Some e) }
+    {
+        let count = check_file(held)?;
+        let headers = read_headers(alloc, held, count)?;
+        let len = held.len() as u64 + rest.len();
+        let segments = check_headers(alloc, len, headers.as_slice())?;
         let holders = find_holders(alloc, segments.as_slice())?;
         let parts = kept_parts(alloc, headers.as_slice())?;
         Ok(Image {
-            core,
+            held,
+            rest,
             segments,
             holders,
             parts,
         })
+    }
+
+    /// How many bytes the file has.
+    pub fn len(&self) -> u64
+        ensures { result ≡ length self.now }
+    {
+        self.held.len() as u64 + self.rest.len()
     }
 
     /// The segments by ascending address, without those of no addresses.
@@ -98,18 +148,6 @@ impl<'a> Image<'a> {
         self.parts.as_slice()
     }
 
-    /// The dumped bytes of the segment with the number, from 0. It is for libraries and tests.
-    #[tactic(auto, unfolding(crate::specs::Segments::segments_of))]
-    pub fn bytes_of(&self, i: usize) -> &'a [u8]
-        requires { i < length (segments_of self.now) }
-        ensures { (d : Segment) →
-            let s = slice_index_or (segments_of self.now) i d in
-            result.now ≡ bytes_at self.now s.offset s.filesz }
-    {
-        let segment = self.segments[i];
-        bytes_from(self.core, segment.offset, segment.filesz)
-    }
-
     /// The bytes of the part of notes with the number, from 0.
     #[tactic(auto, unfolding(crate::specs::Segments::note_parts_of))]
     pub fn note_bytes(&self, i: usize) -> &'a [u8]
@@ -122,7 +160,7 @@ impl<'a> Image<'a> {
             p.offset + length result.now < 2 ^ 64 }
     {
         let part = self.parts[i];
-        bytes_from(self.core, part.offset, part.filesz)
+        bytes_from(self.held, part.offset, part.filesz)
     }
 
     /// How many bytes of writable segments are not in the file.

@@ -6,6 +6,10 @@
 //! sample core that the program searches if it is given no word. [`Image::bytes_of`], the dumped bytes
 //! of one segment, is for libraries and tests.
 //!
+//! [`Image::passed`] does the same where only the head of a file is held: its first bytes, with all headers and notes.
+//! What is behind them is a [`Rest`], which gives the file's words alone, and may pass over zeros. [`head_of`] says how
+//! long the head is, and [`segments_in`] which segments the file has.
+//!
 //! The rules are those of the System V gABI and elf(5). Bytes past the file size of a segment are
 //! not in the file, so they are no words, and no zeros are made up for them. Of section headers only
 //! the number of program headers is read, if there are too many for the file header to number.
@@ -14,19 +18,25 @@
 
 mod error;
 mod fields;
+mod first;
+mod head;
 mod header;
 mod image;
 mod laws;
 mod layout;
 mod refusal;
+mod rest;
 mod sample;
 mod search;
 mod segment;
 mod words;
 
 pub use error::ElfError;
+pub use first::segments_in;
+pub use head::{Head, head_of};
 pub use image::Image;
 pub use laws::{faults_are_plain, words_are_plain};
+pub use rest::{NoRest, Rest};
 pub use sample::core_k;
 pub use segment::{NotePart, Segment};
 pub use words::Words;

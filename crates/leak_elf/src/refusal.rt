@@ -1,6 +1,6 @@
 //! Which files are accepted as cores.
 
-ghost use Rattle.std.specs.Prelude.{◌≡◌, ◌≢◌, ◌+◌, ◌*◌, ◌≤◌, length, take, IfOk, IfErr, OnOk, [], false, true, Some, None};
+ghost use Rattle.std.specs.Prelude.{◌≡◌, ◌≢◌, ◌+◌, ◌*◌, ◌≤◌, ℕ, List, length, take, IfOk, IfErr, OnOk, [], false, true, Some, None};
 ghost use Rattle.leak_elf.specs.Fields.{e_phoff};
 ghost use Rattle.leak_elf.specs.Headers.{header_count};
 ghost use Rattle.leak_elf.specs.Refusals.{file_fault, extent_fault, faults_from, IsMeetingBefore};
@@ -59,15 +59,17 @@ pub(crate) fn check_file(core: &[u8]) -> Result<usize, ElfError>
     Ok(count)
 }
 
-/// Checks one program header by itself.
+/// Checks one program header by itself, in a file of that length.
 #[tactic(auto, unfolding(crate::specs::Refusals::extent_fault))]
-fn check_extent(core: &[u8], i: usize, header: Header) -> Result<(), ElfError>
-    ensures ok { OnOk result (extent_fault core.now i header ≡ None) }
-    ensures refused { IfErr result (λ e. extent_fault core.now i header ≡ Some e) }
+fn check_extent(len: u64, i: usize, header: Header) -> Result<(), ElfError>
+    ghost file: { List ℕ }
+    requires { len ≡ length file }
+    ensures ok { OnOk result (extent_fault file i header ≡ None) }
+    ensures refused { IfErr result (λ e. extent_fault file i header ≡ Some e) }
 {
     let is_load = header.kind == PT_LOAD;
-    let end = header.offset.saturating_add(header.filesz);
-    if (is_load || header.kind == PT_NOTE) && header.filesz > 0 && end > core.len() as u64 {
+    let end = header.offset as u128 + header.filesz as u128;
+    if (is_load || header.kind == PT_NOTE) && header.filesz > 0 && end > len as u128 {
         return Err(ElfError::Truncated(i));
     }
     if !is_load {
@@ -131,19 +133,21 @@ fn apart_segments(alloc: Global, headers: &[Header], count: usize) -> Result<Vec
     Ok(segments)
 }
 
-/// Checks all program headers, in the order of the file, and gives their segments by ascending address.
+/// Checks all program headers of a file of that length, in their order, and gives their segments by ascending address.
 pub(crate) fn check_headers(
     alloc: Global,
-    core: &[u8],
+    len: u64,
     headers: &[Header],
 ) -> Result<Vec<Segment>, ElfError>
+    ghost file: { List ℕ }
+    requires { len ≡ length file }
     ensures items { IfOk result (λ v. v.items ≡ kept_of headers.now) }
-    ensures ok { OnOk result (faults_from core.now [] 0 headers.now ≡ None) }
+    ensures ok { OnOk result (faults_from file [] 0 headers.now ≡ None) }
     ensures refused { IfErr result (λ e.
-        e ≢ ElfError.NoMemory → faults_from core.now [] 0 headers.now ≡ Some e) }
+        e ≢ ElfError.NoMemory → faults_from file [] 0 headers.now ≡ Some e) }
 {
     for (i, header) in headers.iter().enumerate() {
-        if let Err(error) = check_extent(core, i, *header) {
+        if let Err(error) = check_extent(len, i, *header) {
             apart_segments(alloc, headers, i)?;
             return Err(error);
         }

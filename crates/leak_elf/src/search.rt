@@ -1,11 +1,13 @@
 //! Searches among segments by ascending address.
 
-ghost use Rattle.std.specs.Prelude.{◌≡◌, ◌≤◌, ◌+◌, ◌<◌, ◌%◌, ◌^◌, ℕ, [], ◌∷◌, length, slice_index_or, IfSome, IfOk};
+ghost use Rattle.std.specs.Prelude.{◌≡◌, ◌≤◌, ◌+◌, ◌<◌, ◌%◌, ◌^◌, ◌++◌, ℕ, [], ◌∷◌, length, slice_index_or, IfSome, IfOk, IsSome, IsTrue};
 ghost use Rattle.leak_elf.specs.declared.segment.Segment.{Segment};
-ghost use Rattle.leak_elf.specs.Segments.{IsAscending, AreSegments, IsKeptSegment, AreKeptSegments};
-ghost use Rattle.leak_elf.specs.Words.{IsRun, word_in, IsNextHeld, AreHolders};
+ghost use Rattle.leak_elf.specs.Head.{AreSplit};
+ghost use Rattle.leak_elf.specs.Segments.{IsAscending, IsKeptSegment, AreKeptSegments};
+ghost use Rattle.leak_elf.specs.Words.{IsRun, word_in, IsNextHeld, IsPastZeros, AreHolders, AreZeros};
 
 use crate::fields::u64_at;
+use crate::rest::Rest;
 use crate::segment::Segment;
 use std::alloc::{AllocError, Global};
 
@@ -22,9 +24,14 @@ pub(crate) fn count_up_to(segments: &[Segment], addr: u64) -> usize
 }
 
 /// The word at the address.
-pub(crate) fn find_word(core: &[u8], segments: &[Segment], addr: u64) -> Option<u64>
-    requires { AreSegments core.now segments.now }
-    ensures value { result ≡ word_in core.now segments.now addr }
+pub(crate) fn find_word<R: Rest>(
+    held: &[u8],
+    rest: &R,
+    segments: &[Segment],
+    addr: u64,
+) -> Option<u64>
+    requires { AreSplit held.now (R.bytes rest.now) segments.now }
+    ensures value { result ≡ word_in (held.now ++ R.bytes rest.now) segments.now addr }
     ensures place { IfSome result (λ _. (addr % 8 ≡ 0) × (addr + 8 ≤ 2 ^ 64)) }
 {
     if addr % 8 != 0 {
@@ -39,7 +46,11 @@ pub(crate) fn find_word(core: &[u8], segments: &[Segment], addr: u64) -> Option<
     if end.saturating_sub(addr) < 8 {
         return None;
     }
-    Some(u64_at(core, (segment.offset + (addr - segment.vaddr)) as usize))
+    let at = (segment.offset + (addr - segment.vaddr)) as usize;
+    if at >= held.len() {
+        return rest.word(at - held.len());
+    }
+    Some(u64_at(held, at))
 }
 
 /// The least address from `from` on whose word the segment holds.
@@ -95,10 +106,68 @@ pub(crate) fn find_next(segments: &[Segment], holders: &[usize], from: u64) -> O
     find_next_in(*segments.get(holder)?, from)
 }
 
-/// The dumped bytes from a multiple of 8 on, up to the end of those of its segment.
-pub(crate) fn find_run<'a>(core: &'a [u8], segments: &[Segment], from: u64) -> &'a [u8]
-    requires { AreSegments core.now segments.now }
-    ensures { IsRun (word_in core.now segments.now) from result.now }
+/// An address from `from` on that has a word, past words behind the head that are 0.
+pub(crate) fn find_past_zeros<R: Rest>(
+    held: &[u8],
+    rest: &R,
+    segments: &[Segment],
+    holders: &[usize],
+    from: u64,
+) -> Option<u64>
+    requires split { AreSplit held.now (R.bytes rest.now) segments.now }
+    requires holders { AreHolders segments.now holders.now }
+    ensures zeros { IsPastZeros (word_in (held.now ++ R.bytes rest.now) segments.now) from result }
+    ensures place { IfSome result (λ addr. (addr % 8 ≡ 0) × (addr + 8 ≤ 2 ^ 64)) }
+{
+    let (later, is_word) = pass_zeros(held, rest, segments, from);
+    if is_word {
+        return Some(later);
+    }
+    find_next(segments, holders, later)
+}
+
+/// An address up to which the segment has no words but zeros, from `from` on, and whether it is known to have a word.
+fn pass_zeros<R: Rest>(held: &[u8], rest: &R, segments: &[Segment], from: u64) -> (u64, bool)
+    requires { AreSplit held.now (R.bytes rest.now) segments.now }
+    ensures later { from ≤ result.0 }
+    ensures zeros { AreZeros (word_in (held.now ++ R.bytes rest.now) segments.now) from result.0 }
+    ensures word { IsTrue result.1 →
+        IsSome (word_in (held.now ++ R.bytes rest.now) segments.now result.0) }
+    ensures place { IsTrue result.1 → (result.0 % 8 ≡ 0) × (result.0 + 8 ≤ 2 ^ 64) }
+{
+    if from % 8 != 0 {
+        return (from, false);
+    }
+    let count = count_up_to(segments, from);
+    if count == 0 {
+        return (from, false);
+    }
+    let segment = segments[count - 1];
+    let end = segment.vaddr + segment.filesz;
+    if end.saturating_sub(from) < 8 {
+        return (from, false);
+    }
+    let at = (segment.offset + (from - segment.vaddr)) as usize;
+    if at < held.len() {
+        return (from, true);
+    }
+    let behind = at - held.len();
+    let zeros = (rest.skip_zeros(behind) - behind) as u64;
+    if zeros > end - from - 8 {
+        return (end, false);
+    }
+    (from + zeros, true)
+}
+
+/// The dumped bytes from a multiple of 8 on, up to the end of those of its segment, as far as they are held.
+pub(crate) fn find_run<'a, R: Rest>(
+    held: &'a [u8],
+    rest: &R,
+    segments: &[Segment],
+    from: u64,
+) -> &'a [u8]
+    requires { AreSplit held.now (R.bytes rest.now) segments.now }
+    ensures { IsRun (word_in (held.now ++ R.bytes rest.now) segments.now) from result.now }
 {
     if from % 8 != 0 {
         return &[];
@@ -113,5 +182,8 @@ pub(crate) fn find_run<'a>(core: &'a [u8], segments: &[Segment], from: u64) -> &
         return &[];
     }
     let start = (segment.offset + (from - segment.vaddr)) as usize;
-    &core[start..start + (end - from) as usize]
+    if start >= held.len() {
+        return &[];
+    }
+    &held[start..held.len().min(start + (end - from) as usize)]
 }

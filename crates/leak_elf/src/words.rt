@@ -1,7 +1,7 @@
 //! Memory as a map from addresses to words.
 
 ghost use Rattle.std.specs.Prelude.{◌≡◌, ◌+◌, ◌≤◌, ◌%◌, ◌^◌, ℕ, Option, IfSome, IsSome};
-ghost use Rattle.leak_elf.specs.Words.{IsNextReadable, IsRun};
+ghost use Rattle.leak_elf.specs.Words.{IsNextReadable, IsPastZeros, IsRun};
 
 /// A map from addresses to words of 8 bytes. Only multiples of 8 have a word.
 pub trait Words {
@@ -17,6 +17,15 @@ pub trait Words {
     fn next(&self, from: u64) -> Option<u64>
         ensures least { IsNextReadable (word_at self.now) from result }
         ensures place { IfSome result (λ addr. (addr % 8 ≡ 0) × (addr + 8 ≤ 2 ^ 64)) };
+
+    /// An address from `from` on that has a word, such that none before it has a word other than 0. By default it is
+    /// the least that has a word.
+    fn skip_zeros(&self, from: u64) -> Option<u64>
+        ensures zeros { IsPastZeros (word_at self.now) from result }
+        ensures place { IfSome result (λ addr. (addr % 8 ≡ 0) × (addr + 8 ≤ 2 ^ 64)) }
+    {
+        self.next(from)
+    }
 
     /// Bytes of consecutive words from the address on. It may give fewer than there are, by default none:
     /// a caller asks `word` for the others.

@@ -7,6 +7,7 @@ use leak_elf::Image;
 use leak_index::Paged;
 use leak_pool::{Listed, PoolError, first_blocks, list_edges};
 use leak_search::{Input, RootsAndIndex};
+use leak_sift::Behind;
 use std::alloc::Global;
 use std::thread::Threads;
 
@@ -14,7 +15,7 @@ use std::thread::Threads;
 #[derive(Drop)]
 pub(crate) struct InputEdges<'a> {
     /// What each block leads to, at four bytes a target.
-    pub(crate) listed: Listed<'a, Image<'a>, Paged<'a>>,
+    pub(crate) listed: Listed<'a, Image<'a, Behind>, Paged<'a>>,
     /// What the root words lead to, each block once.
     pub(crate) first: Vec<u32>,
 }

@@ -7,7 +7,7 @@ ghost use Rattle.leak_elf.specs.Words.{word_of};
 ghost use Rattle.leak_later.specs.Differing.{is_changed as changed, differs, AreDiffering};
 ghost use Rattle.leak_later.specs.Pieces.{IsCover};
 
-use leak_elf::{Image, Words};
+use leak_elf::{Image, Rest, Words};
 use leak_scan::Pages;
 use rayon::prelude::*;
 use std::alloc::{AllocError, Global};
@@ -27,7 +27,7 @@ fn is_changed(before: Option<u64>, now: Option<u64>) -> bool
 }
 
 /// Compares the words of a page one by one.
-fn words_differ(first: &Image, second: &Image, page: u64) -> bool
+fn words_differ<B: Rest>(first: &Image<'_, B>, second: &Image<'_, B>, page: u64) -> bool
     requires { page < 2 ^ 52 }
     ensures { result ≡ differs (word_of first.now) (word_of second.now) page }
 {
@@ -56,10 +56,10 @@ fn runs_differ(before: &[u8], now: &[u8]) -> bool
 /// alone. Gives the first page that was not looked at.
 ///
 /// A page that no run holds completely, as at the edges of segments, is compared word by word.
-fn push_differing(
+fn push_differing<B: Rest>(
     pages: &mut Vec<u64>,
-    first: &Image,
-    second: &Image,
+    first: &Image<'_, B>,
+    second: &Image<'_, B>,
     page: u64,
     to: u64,
 ) -> Result<u64, AllocError>
@@ -89,10 +89,10 @@ fn push_differing(
 }
 
 /// The pages that differ, of those from the first up to the end, which is excluded.
-fn differing_in(
+fn differing_in<B: Rest>(
     alloc: Global,
-    first: &Image,
-    second: &Image,
+    first: &Image<'_, B>,
+    second: &Image<'_, B>,
     from: u64,
     to: u64,
 ) -> Result<Vec<u64>, AllocError>
@@ -111,7 +111,7 @@ fn differing_in(
 
 /// Pieces of the pages, by ascending number, that hold all words of the core: each is its first page and its end,
 /// which is excluded.
-fn pieces_of(alloc: Global, core: &Image) -> Result<Vec<(u64, u64)>, AllocError>
+fn pieces_of<B: Rest>(alloc: Global, core: &Image<'_, B>) -> Result<Vec<(u64, u64)>, AllocError>
     ensures { IfOk result (λ v. IsCover (word_of core.now) 0 v.items) }
 {
     let mut pieces = Vec::new(alloc);
@@ -140,11 +140,11 @@ fn joined(alloc: Global, lists: &[Vec<u64>]) -> Result<Vec<u64>, AllocError>
 ///
 /// A page that the earlier core lacks differs if the later core has a word on it. A page of which the later core
 /// has no word doesn't differ.
-pub fn differing<R: Threads + Sync>(
+pub fn differing<R: Threads + Sync, B: Rest + Sync>(
     rt: &R,
     alloc: Global,
-    first: &Image,
-    second: &Image,
+    first: &Image<'_, B>,
+    second: &Image<'_, B>,
 ) -> Result<Pages, AllocError>
     ensures { IfOk result (AreDiffering (word_of first.now) (word_of second.now)) }
 {

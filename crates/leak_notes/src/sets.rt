@@ -6,7 +6,7 @@ ghost use Rattle.leak_notes.specs.Sets.{set_of, sets_of};
 
 use crate::entry::Entry;
 use crate::state::state_words;
-use leak_elf::Image;
+use leak_elf::{Image, Rest};
 use std::alloc::{AllocError, Global};
 
 /// The registers of one entry.
@@ -23,7 +23,10 @@ pub enum RegisterSet {
 
 /// The sets that a core's register words come from, in the order of [`Threads::registers`](crate::Threads::registers).
 /// An entry that is cut off has none.
-pub fn register_sets(alloc: Global, image: &Image) -> Result<Vec<RegisterSet>, AllocError>
+pub fn register_sets<R: Rest>(
+    alloc: Global,
+    image: &Image<'_, R>,
+) -> Result<Vec<RegisterSet>, AllocError>
     ensures { IfOk result (λ sets. sets.items ≡ sets_of (entries image.now)) }
 {
     let mut sets = Vec::new(alloc);

@@ -7,7 +7,7 @@ ghost use Rattle.leak_notes.specs.Stacks.{registers_in, stack_registers_of, thre
 use crate::entry::Entry;
 use crate::status::STATUS_SIZE;
 use crate::words::u64_at;
-use leak_elf::Image;
+use leak_elf::{Image, Rest};
 use std::alloc::{AllocError, Global};
 
 /// Where orig_rax is in a thread status, in bytes from its first.
@@ -35,7 +35,10 @@ pub struct StackRegisters {
 }
 
 /// The registers that tell of stacks, of each thread status in the order of the notes.
-pub fn stack_registers(alloc: Global, image: &Image) -> Result<Vec<StackRegisters>, AllocError>
+pub fn stack_registers<R: Rest>(
+    alloc: Global,
+    image: &Image<'_, R>,
+) -> Result<Vec<StackRegisters>, AllocError>
     ensures { IfOk result (λ threads. threads.items ≡ threads_in image.now) }
 {
     let mut threads = Vec::new(alloc);
@@ -93,7 +96,10 @@ fn registers_in(status: &[u8]) -> StackRegisters
 }
 
 /// The address AT_RANDOM: the value of the first pair of its type in the first auxiliary vector, if it has one.
-pub fn random_address(alloc: Global, image: &Image) -> Result<Option<u64>, AllocError>
+pub fn random_address<R: Rest>(
+    alloc: Global,
+    image: &Image<'_, R>,
+) -> Result<Option<u64>, AllocError>
     ensures { IfOk result (λ address. address ≡ random_of image.now) }
 {
     let mut said = Vec::new(alloc);

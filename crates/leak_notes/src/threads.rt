@@ -9,7 +9,7 @@ use crate::error::NoteError;
 use crate::state::push_state;
 use crate::status::{STATUS_SIZE, push_registers};
 use crate::vector::{VECTOR_SIZE, push_vectors};
-use leak_elf::Image;
+use leak_elf::{Image, Rest};
 use std::alloc::Global;
 use std::marker::Model;
 
@@ -75,7 +75,7 @@ impl Threads {
     }
 
     /// Reads the notes of a core, or gives the first reason against them.
-    pub fn read(alloc: Global, image: &Image) -> Result<Threads, NoteError>
+    pub fn read<R: Rest>(alloc: Global, image: &Image<'_, R>) -> Result<Threads, NoteError>
         ensures ok { IfOk result (λ t.
             (t ≡ threads_of image.now) × (note_fault_of image.now ≡ None)) }
         ensures refused { IfErr result (λ e.

@@ -10,7 +10,7 @@ ghost use Rattle.leak_roots.specs.Places.{memory_places, aligned_places, AreRang
 ghost use Rattle.leak_roots.specs.Roots.{AreOrdered, has_roots, is_free, outside_places};
 
 use leak_blocks::Block;
-use leak_elf::{Image, Segment};
+use leak_elf::{Image, Rest, Segment};
 use std::alloc::{AllocError, Global};
 
 /// Adds the words whose bytes lie between two addresses, as one range after the others.
@@ -86,9 +86,9 @@ fn has_roots(segment: &Segment, unwritable: bool) -> bool
 }
 
 /// Finds the words that share no byte with a block: of all segments, or without memory that can't be written.
-pub(crate) fn find_ranges(
+pub(crate) fn find_ranges<R: Rest>(
     alloc: Global,
-    image: &Image,
+    image: &Image<'_, R>,
     blocks: &[Block],
     unwritable: bool,
 ) -> Result<Vec<(u64, u64)>, AllocError>

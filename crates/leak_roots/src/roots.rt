@@ -18,7 +18,7 @@ use crate::piece::{Piece, push_memory, push_registers};
 use crate::pieces::Pieces;
 use crate::places::find_ranges;
 use leak_blocks::{Live, SmallSpans, Span};
-use leak_elf::Image;
+use leak_elf::{Image, Rest};
 use leak_notes::Threads;
 use std::alloc::{AllocError, Global};
 use std::marker::Model;
@@ -56,9 +56,9 @@ impl Roots {
     /// segments that share no byte with a live block and whose bytes the core holds: registers, stacks and static data,
     /// as Boehm's collector takes them. These are the core's root words only if the threads are the core's. No slack, no
     /// dead stack and no link to a free chunk is left out. It fails only if memory is refused.
-    pub fn find(
+    pub fn find<R: Rest>(
         alloc: Global,
-        image: &Image,
+        image: &Image<'_, R>,
         threads: &Threads,
         live: &Live,
         small: &SmallSpans,

@@ -2,8 +2,12 @@
 use Rattle.std.proofs.Common.{◌≡◌, ℕ, ◌+◌, ◌-◌, ◌<◌, ◌≤◌, Bool, true, false, refl, ap, sym, ◌∙◌, List, [], ◌∷◌, ◌++◌, Option, Some, None, IsSome, ◌⊎◌, inl, inr, if◌then◌else◌, arith, filter_map, filter, cond}
 use Rattle.std.proofs.lemmas.Bool.{cases_lt}
 use Rattle.std.specs.List.{cons_option}
+use Rattle.leak_index.specs.Hits.{Index}
 use Rattle.leak_scan.specs.declared.reading.ReadWords.{ReadWords}
-use Rattle.leak_scan.specs.Positions.{is_in, listed_word, words_from, words_found, IsRead, IsFirstWindowAt}
+use Rattle.leak_scan.specs.Targets.{targets_of}
+use Rattle.leak_scan.specs.Positions.{is_in, listed_word, words_from, words_found, IsRead, IsFirstWindowAt, LeadsNowhere}
+use Rattle.leak_scan.proofs.Ahead.{targets_append}
+use Rattle.leak_scan.proofs.Leading.{lead, leads_none, lead_aligned, left_out, listed_lead, none_found, not_leading}
 use Rattle.leak_scan.proofs.Ranges.{IsAligned, nothing_in, same_range, skip, split, agreeing}
 
 on_pages : (word_at : ℕ → Option ℕ) (pages : Option (List ℕ)) (a : ℕ) → is_in pages a ≡ true → listed_word word_at pages a ≡ word_at a
@@ -35,25 +39,43 @@ advance_end word_at pages from count start window first ended = nothing_in _ fro
     at a l (inl h) = off_pages word_at pages a (first.none a l h)
     at a l (inr h) = no_word word_at pages a (ended a h)
 
+-- the same if words that may be read lead nowhere
+pub advance_idle : (index : Index) (word_at : ℕ → Option ℕ) (pages : Option (List ℕ)) (from count start window : ℕ) → IsFirstWindowAt pages from count start window → ((a : ℕ) → start ≤ a → LeadsNowhere index (word_at a)) →
+    targets_of index (words_from (listed_word word_at pages) from count) ≡ targets_of index [] ++ targets_of index (words_from (listed_word word_at pages) from 0)
+advance_idle index word_at pages from count start window first ended =
+    let f = listed_word (lead index word_at) pages in
+    left_out index (listed_word word_at pages) f from count (listed_lead index word_at pages)
+    ∙ none_found index (listed_word word_at pages) from (words_from f from count) (advance_end (lead index word_at) pages from count start window first (λ a l. leads_none index (word_at a) (ended a l)))
+
 -- words were read
-pub advance_read : (word_at : ℕ → Option ℕ) (pages : Option (List ℕ)) (from count start window later left : ℕ) (found : ReadWords) → IsAligned word_at → IsFirstWindowAt pages from count start window → IsRead word_at start window found later → left ≡ count - (later - from) →
-    words_from (listed_word word_at pages) from count ≡ words_found found ++ words_from (listed_word word_at pages) later left
-advance_read word_at pages from count start window later left found aligned first read e =
-    let f = listed_word word_at pages in
+pub advance_read : (index : Index) (word_at : ℕ → Option ℕ) (pages : Option (List ℕ)) (from count start window later left : ℕ) (found : ReadWords) → IsAligned word_at → IsFirstWindowAt pages from count start window → IsRead word_at index start window found later → left ≡ count - (later - from) →
+    targets_of index (words_from (listed_word word_at pages) from count) ≡ targets_of index (words_found found) ++ targets_of index (words_from (listed_word word_at pages) later left)
+advance_read index word_at pages from count start window later left found aligned first read e =
+    let f = listed_word (lead index word_at) pages in
+    let rest = count - (start - from) - (later - start) in
     let behind = first.behind in
     let on = read.on in
-    skip f (start - from) from count start (count - (start - from)) (omega arith) refl (λ a l u. off_pages word_at pages a (first.none a l (omega (arith, u))))
-    ∙ split f (later - start) start (count - (start - from)) later (omega arith) (λ a l u. outside a l u (word_cases (word_at a)))
-    ∙ ap (λ ws. ws ++ words_from f later (count - (start - from) - (later - start))) (agreeing f word_at start (later - start) (λ a l u. same a l u (word_cases (word_at a))) ∙ read.words)
-    ∙ ap (λ ws. words_found found ++ ws) (same_range f later later (count - (start - from) - (later - start)) left refl (omega arith))
+    left_out index (listed_word word_at pages) f from count (listed_lead index word_at pages)
+    ∙ ap (targets_of index) (
+    skip f (start - from) from count start (count - (start - from)) (omega arith) refl (λ a l u. off_pages (lead index word_at) pages a (first.none a l (omega (arith, u))))
+    ∙ split f (later - start) start (count - (start - from)) later (omega arith) (λ a l u. outside a l u (word_cases (lead index word_at a))))
+    ∙ targets_append index (words_from f start (later - start)) (words_from f later rest)
+    ∙ ap (λ ts. ts ++ targets_of index (words_from f later rest)) (
+    ap (targets_of index) (agreeing f (lead index word_at) start (later - start) (λ a l u. same a l u (word_cases (lead index word_at a))))
+    ∙ sym (left_out index word_at (lead index word_at) start (later - start) (λ a. refl)) ∙ read.words)
+    ∙ ap (λ ws. targets_of index (words_found found) ++ targets_of index ws) (same_range f later later rest left refl (omega arith))
+    ∙ ap (λ ts. targets_of index (words_found found) ++ ts) (sym (left_out index (listed_word word_at pages) f later left (listed_lead index word_at pages)))
   where
-    outside : (a : ℕ) → start + (count - (start - from)) ≤ a → a < start + (later - start) → (word_at a ≡ None) ⊎ IsSome (word_at a) → listed_word word_at pages a ≡ None
-    outside a l u (inl h) = no_word word_at pages a h
-    outside a l u (inr h) = let on = read.on in let inside : a < start + window = read.inside a (omega (arith, l)) (omega (arith, u)) h in absurd (omega (arith, first.within, first.behind, l))
+    within : (a : ℕ) → a < later → IsSome (lead index word_at a) → a < start + window
+    within a u s = elim (cases_lt a (start + window)) [ inl l ↦ l | inr m ↦ absurd (not_leading index (word_at a) (read.outside a m u) s) ]
 
-    same : (a : ℕ) → start ≤ a → a < start + (later - start) → (word_at a ≡ None) ⊎ IsSome (word_at a) → listed_word word_at pages a ≡ word_at a
-    same a l u (inl h) = no_word word_at pages a h ∙ sym h
-    same a l u (inr h) = let on = read.on in on_pages word_at pages a (first.all a l (read.inside a l (omega (arith, u)) h) (aligned a h))
+    outside : (a : ℕ) → start + (count - (start - from)) ≤ a → a < start + (later - start) → (lead index word_at a ≡ None) ⊎ IsSome (lead index word_at a) → listed_word (lead index word_at) pages a ≡ None
+    outside a l u (inl h) = no_word (lead index word_at) pages a h
+    outside a l u (inr h) = let on = read.on in let inside : a < start + window = within a (omega (arith, u)) h in absurd (omega (arith, first.within, first.behind, l))
+
+    same : (a : ℕ) → start ≤ a → a < start + (later - start) → (lead index word_at a ≡ None) ⊎ IsSome (lead index word_at a) → listed_word (lead index word_at) pages a ≡ lead index word_at a
+    same a l u (inl h) = no_word (lead index word_at) pages a h ∙ sym h
+    same a l u (inr h) = let on = read.on in on_pages (lead index word_at) pages a (first.all a l (within a (omega (arith, u)) h) (lead_aligned index word_at aligned a h))
 
 -- leaving out elements is the same as giving nothing for them
 pub filtered : (f : ℕ → Option ℕ) (p : ℕ → Bool) (xs : List ℕ) → filter_map (λ a. if p a then f a else None) xs ≡ filter_map f (filter p xs)

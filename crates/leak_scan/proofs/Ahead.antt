@@ -53,20 +53,25 @@ pub run_passed : (index : Index) (f : ℕ → Option ℕ) (list run others : Lis
 run_passed index f list run others from count hits e h z =
     run_hit index f list run others (hits_in hits) from count e h ∙ ap (λ x. hits_in x ++ targets_of index (words_left f list others from count)) z
 
--- words were found when the list and the run are used up, and are in a run
-pub found_run : (f : ℕ → Option ℕ) (list run other found : List ℕ) (from count later left : ℕ) → list ≡ [] → words_in run ≡ [] → words_from f from count ≡ found ++ words_from f later left → words_in other ≡ found →
-    words_left f list run from count ≡ words_left f list other later left
+-- when the list and the run are used up, the words at the addresses are left
+addresses_left : (f : ℕ → Option ℕ) (list run : List ℕ) (from count : ℕ) → list ≡ [] → words_in run ≡ [] → words_left f list run from count ≡ words_from f from count
 unfolding words_left
-found_run f list run other found from count later left e d h o =
-    ap (λ ws. list ++ (ws ++ words_from f from count)) d ∙ ap (λ ws. list ++ ws) (h ∙ ap (λ ws. ws ++ words_from f later left) (sym o))
+addresses_left f list run from count e d = ap (λ ws. list ++ (ws ++ words_from f from count)) d ∙ ap (λ ws. ws ++ words_from f from count) e
+
+-- then words were found, and are in a run
+pub found_run : (index : Index) (f : ℕ → Option ℕ) (list run other found : List ℕ) (from count later left : ℕ) → list ≡ [] → words_in run ≡ [] → targets_of index (words_from f from count) ≡ targets_of index found ++ targets_of index (words_from f later left) → words_in other ≡ found →
+    targets_of index (words_left f list run from count) ≡ targets_of index (words_left f list other later left)
+unfolding words_left
+found_run index f list run other found from count later left e d h o =
+    ap (targets_of index) (addresses_left f list run from count e d) ∙ h ∙ sym (targets_append index found (words_from f later left))
+    ∙ ap (λ ws. targets_of index (ws ++ words_from f later left)) (sym o) ∙ ap (λ ws. targets_of index (ws ++ (words_in other ++ words_from f later left))) (sym e)
 
 -- one word was
-pub found_word : (f : ℕ → Option ℕ) (list run : List ℕ) (from count later left w : ℕ) → list ≡ [] → words_in run ≡ [] → words_from f from count ≡ (w ∷ []) ++ words_from f later left →
-    words_left f list run from count ≡ w ∷ words_left f list run later left
-unfolding words_left
-found_word f list run from count later left w e d h =
-    ap (λ ws. list ++ (ws ++ words_from f from count)) d ∙ ap (λ ws. ws ++ words_from f from count) e ∙ h
-    ∙ ap (λ ws. w ∷ ws) (sym (ap (λ ws. list ++ (ws ++ words_from f later left)) d ∙ ap (λ ws. ws ++ words_from f later left) e))
+pub found_word : (index : Index) (f : ℕ → Option ℕ) (list run : List ℕ) (from count later left w : ℕ) → list ≡ [] → words_in run ≡ [] → targets_of index (words_from f from count) ≡ targets_of index (w ∷ []) ++ targets_of index (words_from f later left) →
+    targets_of index (words_left f list run from count) ≡ targets_of index (w ∷ words_left f list run later left)
+found_word index f list run from count later left w e d h =
+    ap (targets_of index) (addresses_left f list run from count e d) ∙ h ∙ sym (targets_append index (w ∷ []) (words_from f later left))
+    ∙ ap (λ ws. targets_of index (w ∷ ws)) (sym (addresses_left f list run later left e d))
 
 -- nothing is left
 pub ahead_none : (f : ℕ → Option ℕ) (list run : List ℕ) (from count : ℕ) → list ≡ [] → words_in run ≡ [] → words_from f from count ≡ [] → words_left f list run from count ≡ []

@@ -1,8 +1,9 @@
 -- The lemmas of this crate, by subject.
 pub mod Ranges
 pub mod Runs
-pub mod Reached
 pub mod Ahead
+pub mod Leading
+pub mod Reached
 pub mod Advance
 pub mod Listing
 pub mod Held

@@ -23,7 +23,7 @@ pub no_addresses : (f : ℕ → Option ℕ) (from : ℕ) → words_from f from 0
 unfolding words_from
 no_addresses f from = refl
 
-step : (f : ℕ → Option ℕ) (from count : ℕ) → words_from f from (suc count) ≡ cons_option (f from) (words_from f (from + 1) count)
+pub step : (f : ℕ → Option ℕ) (from count : ℕ) → words_from f from (suc count) ≡ cons_option (f from) (words_from f (from + 1) count)
 unfolding words_from
 step f from count = refl
 

@@ -1,9 +1,9 @@
 -- The words that a scan has left.
-use Rattle.std.specs.Prelude.{◌≡◌, ℕ, zero, suc, ◌+◌, ◌-◌, ◌/◌, ◌%◌, ◌<◌, ◌≤◌, Bool, false, true, List, [], ◌∷◌, ◌++◌, length, drop, filter_map, if◌then◌else◌, Option, Some, None, IsSome}
+use Rattle.std.specs.Prelude.{◌≡◌, ℕ, zero, suc, ◌+◌, ◌-◌, ◌/◌, ◌%◌, ◌<◌, ◌≤◌, Bool, false, true, List, [], ◌∷◌, ◌++◌, length, drop, filter_map, if◌then◌else◌, Option, Some, None, IfSome, IsSome}
 use Rattle.std.specs.Int.{w64}
 use Rattle.std.specs.List.{range_with_len}
 use Rattle.leak_elf.specs.Fields.{number_at}
-use Rattle.leak_index.specs.Hits.{Index, hits_in}
+use Rattle.leak_index.specs.Hits.{Index, hits_in, hits_of}
 use Rattle.leak_index.specs.declared.hits.Hits.{Hits}
 use Rattle.leak_index.specs.declared.hits.Hits.TheVariants.{Zero}
 use Rattle.leak_scan.specs.declared.position.Position.{Position}
@@ -51,11 +51,21 @@ pub record AreNextHits (word_at : ℕ → Option ℕ) (index : Index) (position 
   pub split : targets_of index (words_ahead word_at position) ≡ hits_in hits ++ targets_of index (words_ahead word_at behind)
   pub end : hits ≡ Zero → words_ahead word_at behind ≡ []
 
--- what was found is the words from the address up to a later one, and those lie in the window
-pub record IsRead (word_at : ℕ → Option ℕ) (from window : ℕ) (found : ReadWords) (later : ℕ) : Type 0 where
+-- there is no word, or it leads to no block
+abbrev pub LeadsNowhere : Index → Option ℕ → Type 0
+LeadsNowhere index word = IfSome word (λ w. hits_of index w ≡ [])
+
+-- an address from `from` on that has a word, and none before it has one that leads to a block
+abbrev pub IsPastIdle : Index → (ℕ → Option ℕ) → ℕ → Option ℕ → Type 0
+IsPastIdle index word_at from None = (a : ℕ) → from ≤ a → LeadsNowhere index (word_at a)
+IsPastIdle index word_at from (Some next) = (from ≤ next) × IsSome (word_at next) × ((a : ℕ) → from ≤ a → a < next → LeadsNowhere index (word_at a))
+
+-- what was found leads where the words from the address up to a later one lead, of which those after the window lead
+-- nowhere
+pub record IsRead (word_at : ℕ → Option ℕ) (index : Index) (from window : ℕ) (found : ReadWords) (later : ℕ) : Type 0 where
   pub on : from < later
-  pub words : words_from word_at from (later - from) ≡ words_found found
-  pub inside : (a : ℕ) → from ≤ a → a < later → IsSome (word_at a) → a < from + window
+  pub words : targets_of index (words_from word_at from (later - from)) ≡ targets_of index (words_found found)
+  pub outside : (a : ℕ) → from + window ≤ a → a < later → LeadsNowhere index (word_at a)
 
 -- `window` addresses from the start on are the first of `count` addresses that may be read: none before them may,
 -- and of them each multiple of 8 may

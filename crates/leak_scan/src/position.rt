@@ -2,6 +2,7 @@
 ghost use Rattle.std.specs.Prelude.{◌≡◌, ◌++◌, ◌<◌};
 ghost use Rattle.std.specs.Option.{option_copied};
 ghost use Rattle.leak_scan.specs.Positions.{listed_word, words_found, words_from, IsFirstWindow, AreNextHits};
+ghost use Rattle.leak_scan.specs.Targets.{targets_of};
 
 use crate::first::{first_of_list, first_of_run};
 use crate::pages::Pages;
@@ -26,12 +27,20 @@ pub(crate) struct Step<'a> {
     pub(crate) count: u64,
 }
 
-/// Reads the first words at the addresses, on listed pages alone if there is a list.
-fn advance<'a, W: Words>(words: &'a W, pages: Option<&'a Pages>, from: u64, count: u64) -> Step<'a>
+/// Reads the first words at the addresses, on listed pages alone if there is a list. Words that lead nowhere may be left
+/// out.
+fn advance<'a, W: Words, L: Lookup>(
+    words: &'a W,
+    lookup: &L,
+    pages: Option<&'a Pages>,
+    from: u64,
+    count: u64,
+) -> Step<'a>
     requires { 0 < count }
     ensures split { let f = listed_word (W.word_at words.now) (option_copied pages.entry) in
-        words_from f from count ≡ words_found result.found
-        ++ words_from f result.from result.count }
+        let index = L.index lookup.now in
+        targets_of index (words_from f from count) ≡ targets_of index (words_found result.found)
+        ++ targets_of index (words_from f result.from result.count) }
     ensures fewer { result.count < count }
 {
     let end = Step {
@@ -42,7 +51,7 @@ fn advance<'a, W: Words>(words: &'a W, pages: Option<&'a Pages>, from: u64, coun
     let Some((start, window)) = first_window(pages, from, count) else {
         return end;
     };
-    match read_on(words, start, window) {
+    match read_on(words, lookup, start, window) {
         None => end,
         Some((found, later)) => Step {
             found,
@@ -95,7 +104,7 @@ pub(crate) fn next_hits<'a, W: Words, L: Lookup>(
         if position.count == 0 {
             return (Hits::Zero, position);
         }
-        let step = advance(words, pages, position.from, position.count);
+        let step = advance(words, lookup, pages, position.from, position.count);
         position.from = step.from;
         position.count = step.count;
         match step.found {

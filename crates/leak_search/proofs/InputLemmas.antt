@@ -1,5 +1,5 @@
 -- What is known of an input that was read.
-use Rattle.std.proofs.Common.{◌≡◌, ℕ, ◌-◌, List, [], ◌∷◌, length, Bool, true, false, not, Option, Some, None, refl, ap, subst, sym, ◌∙◌, zero-add, arith, Vec, Global, IfSome, option_map}
+use Rattle.std.proofs.Common.{◌≡◌, ℕ, List, [], ◌∷◌, length, Bool, true, false, not, Option, Some, None, refl, ap, subst, sym, ◌∙◌, zero-add, arith, Vec, Global, IfSome, option_map}
 use Rattle.std.specs.Prelude.{cond}
 use Rattle.std.proofs.lemmas.List.{length-map}
 use Rattle.std.proofs.lemmas.List.Sums.{sum_by-cons}
@@ -8,7 +8,7 @@ use Rattle.leak_blocks.proofs.StepLemmas.{replayed as blocks_are}
 use Rattle.leak_elf.specs.Words.{word_of}
 use Rattle.leak_mtrace.specs.declared.line.Line.{Line}
 use Rattle.leak_blocks.specs.declared.block.Block.{Block}
-use Rattle.leak_blocks.specs.Live.{Replay, live_of, replay_of}
+use Rattle.leak_blocks.specs.Live.{Replay, live_of}
 use Rattle.leak_blocks.proofs.LineLemmas.{live_of_lines}
 use Rattle.leak_notes.specs.Threads.{threads_of}
 use Rattle.leak_chunks.specs.Fit.{fits_core, fits_of}
@@ -33,6 +33,12 @@ input_callers core log input read =
 pub own_callers : (core log : List ℕ) (input : Input) → IsRead core log input → HaveCallersIn input.log.now input.live.blocks
 own_callers core log input read =
     subst (λ (text : List ℕ). HaveCallersIn text input.live.blocks) (sym read.1.text) (input_callers core log input read)
+
+-- the input has the core and the log of which it was read
+pub own_read : (core log : List ℕ) (input : Input) → IsRead core log input → IsRead input.image input.log.now input
+own_read core log input read =
+    let lines = read.0 in
+    (lines, subst (λ (text : List ℕ). IsReadOf input.image text lines input) (sym read.1.text) (subst (λ (file : List ℕ). IsReadOf file log lines input) (sym read.1.image) read.1))
 
 -- an input that was read
 abbrev pub as_input : (core log : List ℕ) (lines : List Line) (input : Input) → IsReadOf core log lines input → IsInput lines input

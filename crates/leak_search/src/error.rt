@@ -54,7 +54,7 @@ impl From<PoolError> for FindError {
 }
 
 /// The refusal of the core of the input with the number.
-pub(crate) fn at_core(input: u8, error: ElfError) -> FindError
+pub fn at_core(input: u8, error: ElfError) -> FindError
     ensures { result ≡ at_core input error }
 {
     match error {

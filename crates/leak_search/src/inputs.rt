@@ -1,6 +1,7 @@
 //! An input: a core, and the log of its allocations.
 
-ghost use Rattle.std.specs.Prelude.{◌≡◌, ◌≢◌, List, [], IfOk, IfErr};
+ghost use Rattle.std.specs.Prelude.{◌≡◌, ◌≢◌, List, [], None, IfOk, IfErr};
+ghost use Rattle.leak_elf.specs.Refusals.{fault_of};
 ghost use Rattle.leak_mtrace.specs.declared.line.Line.{Line};
 ghost use Rattle.leak_mtrace.specs.Log.{IsFirstFault};
 ghost use Rattle.leak_pool.specs.Room.{room_of};
@@ -17,13 +18,14 @@ use leak_mtrace::LogError;
 use leak_notes::Threads;
 use leak_pool::EdgeRoom;
 use leak_roots::{Roots, Skip};
+use leak_sift::Behind;
 use leak_stacks::dead_spans;
 use std::alloc::{AllocError, Global};
 
 /// A core and its log, read: nothing is marked yet. Of the log's lines only the live blocks are listed.
 #[derive(Drop)]
 pub struct Input<'a> {
-    pub image: Image<'a>,
+    pub image: Image<'a, Behind>,
     /// The bytes of the log.
     pub log: &'a [u8],
     /// The room that the core gives to edges.
@@ -39,7 +41,7 @@ pub struct Input<'a> {
 }
 
 /// Reads a log and finds its live blocks, and the spans whose freed places are left out.
-fn read_log(alloc: Global, skip: Skip, log: &[u8]) -> Result<(Replayed, SmallSpans), LogError>
+pub fn read_log(alloc: Global, skip: Skip, log: &[u8]) -> Result<(Replayed, SmallSpans), LogError>
     ensures ok { IfOk result (IsReadLog skip log.now) }
     ensures refused { IfErr result (λ e. e ≢ LogError.NoMemory → IsFirstFault log.now e) }
 {
@@ -68,22 +70,48 @@ pub fn read_input<'a>(
     ensures refused { IfErr result (λ e. e ≢ FindError.NoMemory
         → IsInputFault number core.now log.now e) }
 {
-    let image = match Image::read(alloc, core) {
+    let image = match Image::passed(alloc, core, Behind::none(alloc)) {
         Ok(image) => image,
         Err(error) => return Err(at_core(number, error)),
     };
+    input_of(alloc, number, skip, image, log, read_log(alloc, skip, log))
+}
+
+/// Makes the input with the number, from 1, of a core and of a log that were read, or gives its first fault: that of the
+/// core's notes, then that of the log.
+///
+/// # Errors
+///
+/// `Notes`, `Log`, in this order, with the number. `NoMemory` can come at any time.
+pub fn input_of<'a>(
+    alloc: Global,
+    number: u8,
+    skip: Skip,
+    image: Image<'a, Behind>,
+    log: &'a [u8],
+    read: Result<(Replayed, SmallSpans), LogError>,
+) -> Result<Input<'a>, FindError>
+    requires accepted { fault_of image ≡ None }
+    requires read { IfOk read (IsReadLog skip log.now) }
+    requires unread { IfErr read (λ e. e ≢ LogError.NoMemory → IsFirstFault log.now e) }
+    ensures ok { IfOk result (IsRead image.entry log.now) }
+    ensures skip { IfOk result (λ input. input.skip ≡ skip) }
+    ensures edges { IfOk result (λ input. input.edges ≡ room_of image.entry) }
+    ensures refused { IfErr result (λ e. e ≢ FindError.NoMemory
+        → IsInputFault number image.entry log.now e) }
+{
     let threads = match Threads::read(alloc, &image) {
         Ok(threads) => threads,
         Err(error) => return Err(at_notes(number, error)),
     };
-    let (replayed, heap_spans) = match read_log(alloc, skip, log) {
+    let (replayed, heap_spans) = match read {
         Ok(read) => read,
         Err(error) => return Err(at_log(number, error)),
     };
     Ok(Input {
+        edges: EdgeRoom::of_size(image.len()),
         image,
         log,
-        edges: EdgeRoom::of_core(core),
         threads,
         live: replayed.live,
         skip,

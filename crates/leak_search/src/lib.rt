@@ -11,7 +11,9 @@
 //! tests. `specs/Search.antt` says what a leak, a root and a chain are and, for two cores, `specs/SearchTwo.antt`.
 //!
 //! An input is a core and the log of its allocations. [`read_input`] reads it or gives its first fault, and [`read_two`]
-//! reads two of one process; `specs/Inputs.antt` says what an accepted input is, and which of its faults comes first.
+//! reads two of one process; [`input_of`] makes it of a core (if that is accepted, else [`at_core`]) and, by [`read_log`], of a
+//! log that were read one by one, and
+//! [`find_in`] searches it; `specs/Inputs.antt` says what an accepted input is, and which of its faults comes first.
 //! [`is_continued`] compares two logs, and [`count_lines`] counts the complete lines of one.
 //! [`consistency_of_one`] and [`consistency_of_two`] say what is odd about inputs. [`find_roots_and_index`] finds the root words, by
 //! [`find_roots`], and makes the lookup, and [`mark_input`] marks blocks over them by workers. [`head_of`] gives the
@@ -48,12 +50,12 @@ mod two_cores;
 mod why;
 
 pub use alone::find_alone;
-pub use error::FindError;
+pub use error::{FindError, at_core};
 pub use found::Found;
-pub use inputs::{Input, find_roots, read_input};
+pub use inputs::{Input, find_roots, input_of, read_input, read_log};
 pub use laws::{leaked_stay_leaked, leaked_stay_leaked_without_ends};
 pub use marking::{RootsAndIndex, Workers, find_roots_and_index, mark_input};
-pub use one_core::find_one;
+pub use one_core::{find_in, find_one};
 pub use pairs::{Inputs, count_lines, is_continued, read_two};
 pub use reporting::{head_of, report_of};
 pub use rules::Rules;

@@ -1,13 +1,13 @@
 //! The search of one core by worker threads.
 
-ghost use Rattle.std.specs.Prelude.{◌≢◌, [], ◌∷◌, IfOk, IfErr};
+ghost use Rattle.std.specs.Prelude.{◌≡◌, ◌≢◌, [], ◌∷◌, IfOk, IfErr};
 ghost use Rattle.leak_index.specs.Readings.{distances_of};
-ghost use Rattle.leak_search.specs.Inputs.{IsFaultOfOne};
+ghost use Rattle.leak_search.specs.Inputs.{IsFaultOfOne, IsRead};
 ghost use Rattle.leak_search.specs.Search.{FindsOne};
 ghost use Rattle.leak_search.specs.Signs.{AreSigns};
 
 use crate::{
-    FindError, Found, Rules, Workers, consistency_of_one, find_roots_and_index, head_of,
+    FindError, Found, Input, Rules, Workers, consistency_of_one, find_roots_and_index, head_of,
     mark_input, read_input, report_of,
 };
 use leak_pool::Gate;
@@ -40,9 +40,35 @@ pub fn find_one<R: std::thread::Threads + Sync, G: Gate + Sync>(
         → IsFaultOfOne core.now log.now e) }
 {
     let input = read_input(alloc, 1, rules.skip, core, log)?;
-    let consistency = consistency_of_one(alloc, &input, lists_misfits, rules.other_heap)?;
-    let indexed = find_roots_and_index(alloc, &input, rules.reading)?;
-    let marked = mark_input(workers, alloc, &input, &indexed)?;
-    let head = head_of(&input, &indexed.roots, None);
-    report_of(alloc, &input, &indexed.lookup, marked, &head, consistency)
+    find_in(workers, alloc, &input, rules, lists_misfits)
+}
+
+/// Searches an input by the rules, which left out of it what they leave out, and by the workers.
+///
+/// It gives what [`find_one`] gives for the core and the log of which the input was read.
+///
+/// # Errors
+///
+/// `TooMany`, and `NoMemory` at any time.
+pub fn find_in<R: std::thread::Threads + Sync, G: Gate + Sync>(
+    workers: &Workers<'_, R, G>,
+    alloc: Global,
+    input: &Input,
+    rules: Rules,
+    lists_misfits: bool,
+) -> Result<Found, FindError>
+    requires read { IsRead input.now.image input.now.log.now input.now }
+    requires skip { input.now.skip ≡ rules.skip }
+    ensures ok { IfOk result (FindsOne input.now.image input.now.log.now
+        (distances_of rules.reading) rules.skip lists_misfits workers.now.plan.workers) }
+    ensures signs { IfOk result (λ found. AreSigns rules.other_heap
+        (input.now.image ∷ input.now.log.now ∷ []) found.signs.items) }
+    ensures refused { IfErr result (λ e. e ≢ FindError.NoMemory
+        → IsFaultOfOne input.now.image input.now.log.now e) }
+{
+    let consistency = consistency_of_one(alloc, input, lists_misfits, rules.other_heap)?;
+    let indexed = find_roots_and_index(alloc, input, rules.reading)?;
+    let marked = mark_input(workers, alloc, input, &indexed)?;
+    let head = head_of(input, &indexed.roots, None);
+    report_of(alloc, input, &indexed.lookup, marked, &head, consistency)
 }

@@ -1,4 +1,5 @@
 -- The lemmas of this crate, by subject.
+pub mod BehindLemmas
 pub mod NearLemmas
 pub mod PlaceLemmas
 pub mod WordLemmas

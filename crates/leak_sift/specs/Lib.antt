@@ -1,4 +1,5 @@
 -- The definitions of this crate, by subject.
+pub mod Behind
 pub mod Kept
 pub mod KeptRows
 pub mod Passed

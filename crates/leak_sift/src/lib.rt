@@ -10,12 +10,13 @@
 //! `leak_sparse::SparseWords`: one word for each 8 bytes. The segments tell where these lie in memory. They must be
 //! orderly, which [`are_orderly`] tells: in the file they have the order of their addresses.
 //!
-//! Which words are kept is own rule; `leak_laws` is about searches of a core that has 0 in place of the others. Words that
+//! Which words are kept is own rule; `leak_alike` is about searches of a core that has 0 in place of the others. Words that
 //! tell of stacks are not considered here. The contracts don't say that the bytes are those of the file that has the
 //! segments.
 #![tactic(auto)]
 
 mod appending;
+mod behind;
 mod laws;
 mod near;
 mod orderly;
@@ -24,6 +25,7 @@ mod sieve;
 mod sifting;
 mod waiting;
 
+pub use behind::Behind;
 pub use laws::{worked_siftings, worked_words};
 pub use orderly::are_orderly;
 pub use sieve::Sieve;

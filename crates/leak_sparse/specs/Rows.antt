@@ -2,7 +2,7 @@
 use Rattle.std.specs.Prelude.{◌≡◌, ℕ, ◌^◌, List, [], ◌∷◌}
 use Rattle.leak_sparse.specs.declared.group.Group.{Group}
 use Rattle.leak_sparse.specs.Groups.{covered, empty, kept_in, word_at, words_of}
-use Rattle.leak_sparse.specs.Words.{HasRoom, IsNextKept, NoneKeptFrom, kept_of}
+use Rattle.leak_sparse.specs.Words.{AreZerosTo, HasRoom, IsNextKept, NoneKeptFrom, kept_of}
 
 -- a group by its bits
 abbrev pub group : ℕ → ℕ → Group
@@ -49,6 +49,9 @@ pub record AreWorkedLists : Type 0 where
   pub not_second : ¬ IsNextKept gaps 0 3
   pub left : NoneKeptFrom tail 2
   pub outside : NoneKeptFrom tail 3
+  pub to_word : AreZerosTo gaps 2 3
+  pub to_end : AreZerosTo tail 2 3
+  pub not_past : ¬ AreZerosTo gaps 0 3
   pub no_more : HasRoom [] 0
   pub no_group : ¬ HasRoom [] 1
   pub rest : HasRoom (7 ∷ []) 63

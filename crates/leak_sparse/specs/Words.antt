@@ -1,5 +1,5 @@
 -- Words that aren't 0, in a list, and room for more words.
-use Rattle.std.specs.Prelude.{◌≡◌, ◌≢◌, ℕ, ◌+◌, ◌/◌, ◌^◌, ◌<◌, ◌≤◌, ◌==◌, not, List, length, slice_index}
+use Rattle.std.specs.Prelude.{◌≡◌, ◌≢◌, ℕ, ◌+◌, ◌/◌, ◌*◌, ◌^◌, ◌<◌, ◌≤◌, ◌==◌, min, not, List, length, slice_index}
 use Rattle.std.specs.List.{count_by}
 
 -- how many words aren't 0
@@ -16,6 +16,17 @@ pub record IsNextKept (words : List ℕ) (from place : ℕ) : Type 0 where
   pub inside : place < length words
   pub kept : slice_index words place ≢ 0
   pub least : (k : ℕ) → from ≤ k → k < place → slice_index words k ≡ 0
+
+-- where the group of 64 places ends that has the place, or the list
+abbrev pub group_end : List ℕ → ℕ → ℕ
+group_end words place = min (length words) (64 * (place / 64) + 64)
+
+-- each word from `from` on before the place is 0. The place's word isn't 0, or the group or the list ends there.
+pub record AreZerosTo (words : List ℕ) (from place : ℕ) : Type 0 where
+  pub at_or_after : from ≤ place
+  pub within : place ≤ group_end words from
+  pub each : (k : ℕ) → from ≤ k → k < place → slice_index words k ≡ 0
+  pub kept : place < group_end words from → slice_index words place ≢ 0
 
 -- the groups of 64 places that the words take have room for this many more
 pub record HasRoom (words : List ℕ) (count : ℕ) : Type 0 where

@@ -1,6 +1,6 @@
 //! The list of words.
-ghost use Rattle.std.specs.Prelude.{◌≡◌, ◌∷◌, [], ◌++◌, length, replicate, slice_get, MatchOption, OnOk, OnErr, IsOk};
-ghost use Rattle.leak_sparse.specs.Words.{HasRoom, IsNextKept, NoneKeptFrom, kept_of};
+ghost use Rattle.std.specs.Prelude.{◌≡◌, ◌<◌, ◌∷◌, [], ◌++◌, length, replicate, slice_get, MatchOption, OnOk, OnErr, IsOk};
+ghost use Rattle.leak_sparse.specs.Words.{AreZerosTo, HasRoom, IsNextKept, NoneKeptFrom, kept_of};
 
 use crate::group::{Group, cover, has, lowest_from, ones_below};
 use std::alloc::{AllocError, Global};
@@ -120,5 +120,18 @@ impl SparseWords {
             bit = 0;
         }
         None
+    }
+
+    /// The first place at or after `from` that doesn't have a zero, if that is in its group of 64 places. Else the end
+    /// of the group, or of the list. It takes constant time.
+    pub fn skip_zeros(&self, from: usize) -> usize
+        requires { from < length self.now }
+        ensures { AreZerosTo self.now from result }
+    {
+        let number = from / 64;
+        match lowest_from(self.groups[number].bits, from % 64) {
+            Some(found) => 64 * number + found,
+            None => self.len.min((number + 1).saturating_mul(64)),
+        }
     }
 }

@@ -11,7 +11,7 @@ use crate::first::{First, first_in, stack_of};
 use crate::low::low_of;
 use crate::stack::Stack;
 use leak_blocks::{SmallSpans, Span, joined};
-use leak_elf::Image;
+use leak_elf::{Image, Rest};
 use leak_notes::{StackRegisters, stack_registers};
 use std::alloc::{AllocError, Global};
 
@@ -36,7 +36,7 @@ fn words_within(begin: u64, low: u64) -> Option<Span>
 }
 
 /// The dead words of a thread with this stack.
-fn dead_of(image: &Image, stack: &Stack, thread: &StackRegisters) -> Option<Span>
+fn dead_of<R: Rest>(image: &Image<'_, R>, stack: &Stack, thread: &StackRegisters) -> Option<Span>
     requires { Has stack.now thread.now.sp }
     ensures value { result ≡ dead_of (word_of image.now) stack.now thread.now }
     ensures some { IfSome result (λ span. span.first ≤ span.last) }
@@ -45,8 +45,8 @@ fn dead_of(image: &Image, stack: &Stack, thread: &StackRegisters) -> Option<Span
 }
 
 /// The dead words of a thread, if there is room for it.
-fn take(
-    image: &Image,
+fn take<R: Rest>(
+    image: &Image<'_, R>,
     first: Option<First>,
     room: &mut u64,
     thread: &StackRegisters,
@@ -66,9 +66,9 @@ fn take(
 }
 
 /// The dead words of threads, one after another.
-fn dead_from(
+fn dead_from<R: Rest>(
     alloc: Global,
-    image: &Image,
+    image: &Image<'_, R>,
     first: Option<First>,
     threads: &[StackRegisters],
 ) -> Result<Vec<Span>, AllocError>
@@ -90,7 +90,7 @@ fn dead_from(
 ///
 /// It takes 16 bytes for each thread, and 24 while the notes are read. It reads each word of a stack from the stack pointer on
 /// once for each thread that has the stack, of at most 256 MiB of stacks in use.
-pub fn dead_spans(alloc: Global, image: &Image) -> Result<SmallSpans, AllocError>
+pub fn dead_spans<R: Rest>(alloc: Global, image: &Image<'_, R>) -> Result<SmallSpans, AllocError>
     ensures { IfOk result (λ spans. CoverSame spans (dead_spans_of image.now)) }
 {
     let threads = stack_registers(alloc, image)?;

@@ -5,7 +5,7 @@ ghost use Rattle.leak_elf.specs.Words.{word_of};
 ghost use Rattle.leak_stacks.specs.Stacks.{Has, first_at, first_in, has_address, if_first, stack_of};
 
 use crate::stack::{Stack, own_stack};
-use leak_elf::{Image, Segment};
+use leak_elf::{Image, Rest, Segment};
 use leak_notes::{StackRegisters, random_address};
 use std::alloc::{AllocError, Global};
 
@@ -44,7 +44,10 @@ fn first_at(segments: &[Segment], random: u64) -> Option<First>
 }
 
 /// The first stack of a core.
-pub(crate) fn first_in(alloc: Global, image: &Image) -> Result<Option<First>, AllocError>
+pub(crate) fn first_in<R: Rest>(
+    alloc: Global,
+    image: &Image<'_, R>,
+) -> Result<Option<First>, AllocError>
     ensures { IfOk result (λ first. first ≡ first_in image.now) }
 {
     match random_address(alloc, image)? {
@@ -71,8 +74,8 @@ fn if_first(thread: &StackRegisters, first: Option<First>) -> Option<Stack>
 }
 
 /// The stack of a thread: by its own record, else the first one.
-pub(crate) fn stack_of(
-    image: &Image,
+pub(crate) fn stack_of<R: Rest>(
+    image: &Image<'_, R>,
     first: Option<First>,
     thread: &StackRegisters,
 ) -> Option<Stack>

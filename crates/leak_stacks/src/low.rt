@@ -6,7 +6,7 @@ ghost use Rattle.leak_stacks.specs.Stacks.{Has};
 ghost use Rattle.leak_stacks.specs.Lows.{are_flags, flags_in, frame_at, is_frame, low_of, lower, red_low};
 
 use crate::stack::{Stack, next_below, word_above};
-use leak_elf::{Image, Words};
+use leak_elf::{Image, Rest, Words};
 use leak_notes::StackRegisters;
 
 /// How many bytes below rsp a function that calls no other may use (System V ABI for x86-64, 3.2.2).
@@ -66,7 +66,7 @@ fn is_frame(stack: &Stack, sp: u64, place: u64, frame: &SignalFrame) -> bool
 }
 
 /// How low functions go by the signal frame at the place, if there is one.
-fn frame_at(image: &Image, stack: &Stack, sp: u64, place: u64) -> Option<u64>
+fn frame_at<R: Rest>(image: &Image<'_, R>, stack: &Stack, sp: u64, place: u64) -> Option<u64>
     ensures { result ≡ frame_at (word_of image.now) stack.now sp place }
 {
     let begin = image.word(place)?;
@@ -100,7 +100,7 @@ fn lower(low: u64, other: Option<u64>) -> u64
 }
 
 /// The lowest address that functions use: by the stack pointer, and by each signal frame from it on.
-pub(crate) fn low_of(image: &Image, stack: &Stack, thread: &StackRegisters) -> u64
+pub(crate) fn low_of<R: Rest>(image: &Image<'_, R>, stack: &Stack, thread: &StackRegisters) -> u64
     requires { Has stack.now thread.now.sp }
     ensures { result ≡ low_of (word_of image.now) stack.now thread.now }
 {

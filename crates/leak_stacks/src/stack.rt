@@ -4,7 +4,7 @@ ghost use Rattle.std.specs.Prelude.{◌≡◌, ◌+◌, ◌≤◌, ◌<◌, ◌%
 ghost use Rattle.leak_elf.specs.Words.{word_of};
 ghost use Rattle.leak_stacks.specs.Stacks.{IsNextBelow, is_stack, own_stack, stack_at, told_alone, told_more};
 
-use leak_elf::{Image, Words};
+use leak_elf::{Image, Rest, Words};
 use leak_notes::StackRegisters;
 
 /// How many bytes from fs_base on are looked at: a thread's record in glibc takes fewer.
@@ -32,7 +32,12 @@ struct Told {
 }
 
 /// The least address from `from` on that has a word, if it is one of the addresses from `begin` on, of which there are `size`.
-pub(crate) fn next_below(image: &Image, from: u64, begin: u64, size: u64) -> Option<u64>
+pub(crate) fn next_below<R: Rest>(
+    image: &Image<'_, R>,
+    from: u64,
+    begin: u64,
+    size: u64,
+) -> Option<u64>
     requires { begin ≤ from }
     ensures least { IsNextBelow (word_of image.now) from (begin + size) result }
     ensures place { IfSome result (λ place. (place % 8 ≡ 0) × (place + 8 ≤ 2 ^ 64)) }
@@ -46,7 +51,7 @@ pub(crate) fn next_below(image: &Image, from: u64, begin: u64, size: u64) -> Opt
 }
 
 /// The word this many bytes above the address. Beyond the last address there is none.
-pub(crate) fn word_above(image: &Image, place: u64, distance: u64) -> Option<u64>
+pub(crate) fn word_above<R: Rest>(image: &Image<'_, R>, place: u64, distance: u64) -> Option<u64>
     ensures { result ≡ word_of image.now (place + distance) }
 {
     match place.checked_add(distance) {
@@ -67,7 +72,7 @@ fn is_stack(thread: &StackRegisters, begin: u64, size: u64) -> bool
 }
 
 /// The stack that the word at the address and the next word tell of, if they tell of one.
-fn stack_at(image: &Image, thread: &StackRegisters, place: u64) -> Option<Stack>
+fn stack_at<R: Rest>(image: &Image<'_, R>, thread: &StackRegisters, place: u64) -> Option<Stack>
     ensures { result ≡ stack_at (word_of image.now) thread.now place }
 {
     let begin = image.word(place)?;
@@ -103,7 +108,7 @@ fn told_alone(told: Told) -> Option<Stack>
 }
 
 /// The stack that the thread's own record tells of, if one pair of words there does so alone.
-pub(crate) fn own_stack(image: &Image, thread: &StackRegisters) -> Option<Stack>
+pub(crate) fn own_stack<R: Rest>(image: &Image<'_, R>, thread: &StackRegisters) -> Option<Stack>
     ensures { result ≡ own_stack (word_of image.now) thread.now }
 {
     let mut told = Told {

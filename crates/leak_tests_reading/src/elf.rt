@@ -18,5 +18,8 @@ mod words;
 // Cores of many segments.
 mod many;
 
+// A core of which the head alone is held.
+mod passed;
+
 // What a refusal prints.
 mod texts;

@@ -62,6 +62,33 @@ fn the_next_word_that_is_not_0(rt: HostRuntime) -> Result<(), Fail> {
 }
 
 #[test]
+fn zeros_of_one_group_are_skipped(rt: HostRuntime) -> Result<(), Fail> {
+    let mut words = SparseWords::new(rt.alloc());
+    push_all(&mut words, [0, 7, 0].as_slice())?;
+    words.push_zeros(1_000_000)?;
+    push_all(&mut words, [8, 0, u64::MAX, 0, 0].as_slice())?;
+    let rows = [
+        (0, 1),
+        (1, 1),
+        (2, 64),
+        (63, 64),
+        (64, 128),
+        (999_999, 1_000_000),
+        (1_000_000, 1_000_003),
+        (1_000_004, 1_000_005),
+        (1_000_006, 1_000_008),
+        (1_000_007, 1_000_008),
+    ];
+    for (from, wanted) in &rows {
+        if *from >= words.len() {
+            return Ok(assert!(rt; false, "{from} is a place"));
+        }
+        same_in(&rt, from, words.skip_zeros(*from), *wanted);
+    }
+    Ok(())
+}
+
+#[test]
 fn zeros_end_at_the_bounds_of_groups(rt: HostRuntime) -> Result<(), Fail> {
     for count in [0usize, 1, 63, 64, 65, 127, 128, 129] {
         let mut words = SparseWords::new(rt.alloc());

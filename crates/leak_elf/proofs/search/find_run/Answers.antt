@@ -8,7 +8,7 @@ abbrev empty : Segment
 empty = record { vaddr = 0; memsz = 0; offset = 0; filesz = 0; writable = false }
 
 pub returns : goal.returns
-returns c =
+returns g c =
     let n = c.count_up_to-count.result in
     let low = c.count_up_to-count.ensures.within (n - 1) empty (omega arith) in
-    run_at c.args.core.now c.args.segments.now c.args.from (n - 1) _ empty c.requires.kept c.if-from-ne0.false (omega arith) low (omega arith) refl
+    run_at c.args.held.now (g.R.Rest.bytes c.args.rest.now) c.args.segments.now c.args.from (n - 1) _ c.min.result empty c.requires.of_file.kept c.if-from-ne0.false (omega arith) low (omega arith) refl (omega arith) (omega arith)

@@ -6,7 +6,7 @@ use Rattle.leak_later.proofs.PieceLemmas.{filter_join}
 use Rattle.leak_later.proofs.comparing.differing_in.Goals as goal
 
 pub loop-page-preserved : goal.loop-page-preserved
-loop-page-preserved c =
+loop-page-preserved g c =
     let told = c.in_ok-page.ensures in
     let further : c.loop-page.page < c.in_ok-page.page = told.0 in
     let within : c.in_ok-page.page ≤ c.args.to = told.1 in

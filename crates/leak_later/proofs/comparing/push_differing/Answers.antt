@@ -10,7 +10,7 @@ use Rattle.leak_later.proofs.comparing.push_differing.Goals.{then-runs_differ+in
 use Rattle.leak_later.proofs.comparing.push_differing.Goals as goal
 
 pub loop-k-preserved : goal.loop-k-preserved
-loop-k-preserved c =
+loop-k-preserved g c =
     let before = word_of c.args.first.now in
     let now = word_of c.args.second.now in
     let k : ℕ = c.loop-k.k in

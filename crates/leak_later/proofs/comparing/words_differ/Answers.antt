@@ -7,7 +7,7 @@ use Rattle.leak_later.proofs.DifferLemmas.{differs_at, same_words}
 use Rattle.leak_later.proofs.comparing.words_differ.Goals as goal
 
 pub returns-then-is_changed : goal.returns-then-is_changed
-returns-then-is_changed c =
+returns-then-is_changed g c =
     let at : ℕ = 4096 * c.args.page + 8 * c.loop-k.k in
     let few : c.loop-k.k < 512 = c.loop-k-test.true in
     sym (differs_at (word_of c.args.first.now) (word_of c.args.second.now) c.args.page at (omega arith) (omega arith)
@@ -16,5 +16,5 @@ returns-then-is_changed c =
     ∙ sym c.is_changed.ensures ∙ c.if-is_changed.true))
 
 pub returns : goal.returns
-returns c = sym (same_words (word_of c.args.first.now) (word_of c.args.second.now) c.args.page (aligned_words c.args.second.now)
+returns g c = sym (same_words (word_of c.args.first.now) (word_of c.args.second.now) c.args.page (aligned_words c.args.second.now)
     (λ k h. let all = c.loop-k-test.false in c.loop-k.invariant k (omega arith)))

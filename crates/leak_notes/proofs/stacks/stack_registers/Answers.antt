@@ -13,11 +13,11 @@ no_part : NotePart
 no_part = record { offset = 0; filesz = 0 }
 
 pub loop-i-init : goal.loop-i-init
-loop-i-init c = picked_none stack_registers_of c.args.image.now c.new-threads.result.items c.new-threads.ensures.items
+loop-i-init g c = picked_none stack_registers_of c.args.image.now c.new-threads.result.items c.new-threads.ensures.items
 
 pub loop-i-preserved : goal.loop-i-preserved
 unfolding no_part
-loop-i-preserved c =
+loop-i-preserved g c =
     let there : c.loop-i.i < length (note_parts_of c.args.image.now) = rw c.note_parts-part-items.ensures at c.loop-i-test.true in
     picked_more stack_registers_of c.args.image.now c.loop-i.i no_part c.loop-i.threads.items c.push_threads.new.threads.items there
     (c.in_ok-push_threads.ensures ∙ ap (λ (es : List Entry). c.loop-i.threads.items ++ filter_map stack_registers_of es)
@@ -26,4 +26,4 @@ loop-i-preserved c =
 
 pub returns : goal.returns
 unfolding threads_in
-returns c = picked_whole stack_registers_of c.args.image.now c.note_parts-part-items.result.now c.loop-i.i c.loop-i.threads.items c.note_parts-part-items.ensures c.loop-i-test.false c.loop-i.invariant
+returns g c = picked_whole stack_registers_of c.args.image.now c.note_parts-part-items.result.now c.loop-i.i c.loop-i.threads.items c.note_parts-part-items.ensures c.loop-i-test.false c.loop-i.invariant

@@ -12,18 +12,18 @@ no_segment = record { vaddr = 0; memsz = 0; offset = 0; filesz = 0; writable = f
 
 pub overflow_add-end : goal.overflow_add-end
 unfolding no_segment
-overflow_add-end c =
+overflow_add-end g c =
     let h = dumped_fits c.args.image.now c.segments-segment-items.result.now c.loop-segment.segment-index no_segment c.segments-segment-items.ensures.segments c.segments-segment-items.ensures.accepted c.loop-segment-test.true in omega (arith, h)
 
 pub loop-segment-init : goal.loop-segment-init
-loop-segment-init c = rw c.new-memory.ensures.items (record {
+loop-segment-init g c = rw c.new-memory.ensures.items (record {
   found = found_first _ _ _;
   few = gaps_few_first c.args.unwritable (segments_of c.args.image.now) c.args.blocks.now;
 })
 
 pub loop-segment-preserved : goal.loop-segment-preserved
 unfolding no_segment
-loop-segment-preserved c =
+loop-segment-preserved g c =
     elim c.if-has_roots.branch [
       | then-has_roots+in_ok-push_gaps w ↦
           rw w.memory-is (record {
@@ -41,8 +41,8 @@ loop-segment-preserved c =
     ]
 
 pub returns-clause-places : goal.returns-clause-places
-returns-clause-places c =
+returns-clause-places g c =
     read_all c.args.unwritable c.args.image.now c.args.blocks.now c.segments-segment-items.result.now c.loop-segment.segment-index c.loop-segment.memory.items c.segments-segment-items.ensures.segments c.loop-segment-test.false c.loop-segment.invariant.found
 
 pub returns-clause-few : goal.returns-clause-few
-returns-clause-few c = gaps_read_all c.args.unwritable c.args.image.now c.segments-segment-items.result.now c.args.blocks.now c.loop-segment.segment-index (length c.loop-segment.memory.items) c.segments-segment-items.ensures.segments c.loop-segment-test.false c.loop-segment.invariant.few
+returns-clause-few g c = gaps_read_all c.args.unwritable c.args.image.now c.segments-segment-items.result.now c.args.blocks.now c.loop-segment.segment-index (length c.loop-segment.memory.items) c.segments-segment-items.ensures.segments c.loop-segment-test.false c.loop-segment.invariant.few

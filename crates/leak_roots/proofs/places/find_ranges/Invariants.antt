@@ -6,7 +6,7 @@ use Rattle.leak_roots.proofs.Few.{AreGapsFew}
 use Rattle.leak_roots.proofs.places.find_ranges.Given as goal
 
 abbrev pub invariant-loop-segment : goal.invariant-loop-segment
-invariant-loop-segment l = record {
+invariant-loop-segment g l = record {
   found : AreFound l.unwritable l.image l.blocks l.segment-index l.memory.items;
   few : AreGapsFew l.unwritable (segments_of l.image) l.blocks l.segment-index (length l.memory.items);
 }

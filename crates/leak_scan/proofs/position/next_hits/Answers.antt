@@ -42,7 +42,7 @@ loop-hits-preserved-in-Nothing g c =
     let f = listed_word (g.W.Words.word_at c.args.words.now) (option_copied c.args.pages) in
     let used = c.first_of_run-hits.ensures.end c.in-Zero-hits.is in (
       c.loop-hits.invariant.0 ∙ run_passed index f _ _ c.first_of_run-hits.result.1.now _ _ c.first_of_run-hits.result.0 c.loop-hits.invariant.1 c.first_of_run-hits.ensures.split c.in-Zero-hits.is
-          ∙ ap (targets_of index) (found_run f _ _ c.first_of_run-hits.result.1.now [] _ _ _ _ c.loop-hits.invariant.1 used (c.advance-step.ensures.split ∙ ap (λ x. words_found x ++ words_from f c.advance-step.result.from c.advance-step.result.count) c.in-Nothing.is) used),
+          ∙ (found_run index f _ _ c.first_of_run-hits.result.1.now [] _ _ _ _ c.loop-hits.invariant.1 used (c.advance-step.ensures.split ∙ ap (λ x. targets_of index (words_found x) ++ targets_of index (words_from f c.advance-step.result.from c.advance-step.result.count)) c.in-Nothing.is) used),
       c.loop-hits.invariant.1,
     )
 
@@ -52,7 +52,7 @@ loop-hits-preserved-in-Bytes g c =
     let f = listed_word (g.W.Words.word_at c.args.words.now) (option_copied c.args.pages) in
     let used = c.first_of_run-hits.ensures.end c.in-Zero-hits.is in (
       c.loop-hits.invariant.0 ∙ run_passed index f _ _ c.first_of_run-hits.result.1.now _ _ c.first_of_run-hits.result.0 c.loop-hits.invariant.1 c.first_of_run-hits.ensures.split c.in-Zero-hits.is
-          ∙ ap (targets_of index) (found_run f _ _ c.in-Bytes.run'.now (words_in c.in-Bytes.run'.now) _ _ _ _ c.loop-hits.invariant.1 used (c.advance-step.ensures.split ∙ ap (λ x. words_found x ++ words_from f c.advance-step.result.from c.advance-step.result.count) c.in-Bytes.is) refl),
+          ∙ (found_run index f _ _ c.in-Bytes.run'.now (words_in c.in-Bytes.run'.now) _ _ _ _ c.loop-hits.invariant.1 used (c.advance-step.ensures.split ∙ ap (λ x. targets_of index (words_found x) ++ targets_of index (words_from f c.advance-step.result.from c.advance-step.result.count)) c.in-Bytes.is) refl),
       c.loop-hits.invariant.1,
     )
 
@@ -62,7 +62,7 @@ loop-hits-preserved g c =
     let f = listed_word (g.W.Words.word_at c.args.words.now) (option_copied c.args.pages) in
     let used = c.first_of_run-hits.ensures.end c.in-Zero-hits.is in (
       c.loop-hits.invariant.0 ∙ run_passed index f _ _ c.first_of_run-hits.result.1.now _ _ c.first_of_run-hits.result.0 c.loop-hits.invariant.1 c.first_of_run-hits.ensures.split c.in-Zero-hits.is
-          ∙ ap (targets_of index) (found_word f _ _ _ _ _ _ c.in-Word.word c.loop-hits.invariant.1 used (c.advance-step.ensures.split ∙ ap (λ x. words_found x ++ words_from f c.advance-step.result.from c.advance-step.result.count) c.in-Word.is))
+          ∙ (found_word index f _ _ _ _ _ _ c.in-Word.word c.loop-hits.invariant.1 used (c.advance-step.ensures.split ∙ ap (λ x. targets_of index (words_found x) ++ targets_of index (words_from f c.advance-step.result.from c.advance-step.result.count)) c.in-Word.is))
           ∙ targets_skip index _ _ c.in-Zero-hits-2.ensures,
       c.loop-hits.invariant.1,
     )
@@ -73,7 +73,7 @@ returns-in_default-hits-2 g c =
     let f = listed_word (g.W.Words.word_at c.args.words.now) (option_copied c.args.pages) in
     let used = c.first_of_run-hits.ensures.end c.in-Zero-hits.is in record {
       split = c.loop-hits.invariant.0 ∙ run_passed index f _ _ c.first_of_run-hits.result.1.now _ _ c.first_of_run-hits.result.0 c.loop-hits.invariant.1 c.first_of_run-hits.ensures.split c.in-Zero-hits.is
-          ∙ ap (targets_of index) (found_word f _ _ _ _ _ _ c.in-Word.word c.loop-hits.invariant.1 used (c.advance-step.ensures.split ∙ ap (λ x. words_found x ++ words_from f c.advance-step.result.from c.advance-step.result.count) c.in-Word.is))
+          ∙ (found_word index f _ _ _ _ _ _ c.in-Word.word c.loop-hits.invariant.1 used (c.advance-step.ensures.split ∙ ap (λ x. targets_of index (words_found x) ++ targets_of index (words_from f c.advance-step.result.from c.advance-step.result.count)) c.in-Word.is))
           ∙ targets_more index _ _ ∙ ap (λ ts. ts ++ targets_of index (words_left f c.loop-hits.position.list.now c.first_of_run-hits.result.1.now c.advance-step.result.from c.advance-step.result.count)) (sym c.hits.ensures);
       end = λ e. absurd (c.in_default-hits-2.not-Zero e);
     }

@@ -47,6 +47,9 @@ returns c = record {
     not_second = λ next. zero_not 6 (next.least 1 (omega arith) (omega arith));
     left = record { each = left };
     outside = record { each = λ k l. left k (omega (arith, l)) };
+    to_word = record { at_or_after = omega arith; within = omega arith; each = before_last; kept = λ l e. zero_not 8 e };
+    to_end = record { at_or_after = omega arith; within = omega arith; each = λ k l h. left k l; kept = λ l. absurd (omega (arith, l)) };
+    not_past = λ zeros. zero_not 6 (zeros.each 1 (omega arith) (omega arith));
     no_more = record { same = refl; fits = omega arith };
     no_group = λ room. omega (arith, room.same);
     rest = record { same = refl; fits = omega arith };

@@ -6,7 +6,7 @@ use Rattle.leak_stacks.specs.Dead.{dead_from}
 use Rattle.leak_stacks.proofs.dead.dead_from.Given as goal
 
 abbrev pub invariant-loop-thread : goal.invariant-loop-thread
-invariant-loop-thread l = record {
+invariant-loop-thread g l = record {
   rest : l.spans.items ++ dead_from (word_of l.image) l.first l.room (drop l.thread-index l.threads) ≡ dead_from (word_of l.image) l.first (2 ^ 28) l.threads;
   each : AreSpans l.spans.items;
 }

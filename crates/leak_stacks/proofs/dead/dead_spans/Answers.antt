@@ -13,7 +13,7 @@ use Rattle.leak_stacks.proofs.dead.dead_spans.Goals as goal
 
 pub returns : goal.returns
 unfolding dead_spans_of
-returns c =
+returns g c =
     let w = word_of c.args.image.now in
     let same : c.in_ok-spans.spans.items ≡ dead_from w (first_in c.args.image.now) (2 ^ 28) (threads_in c.args.image.now) =
     c.in_ok-spans.ensures.value

@@ -9,11 +9,11 @@ use Rattle.leak_stacks.proofs.first.first_in.Goals as goal
 
 pub returns-in-Some : goal.returns-in-Some
 unfolding first_in
-returns-in-Some c =
+returns-in-Some g c =
     c.first_at.ensures
     ∙ ap (λ (ss : List Segment). first_at ss c.in-Some.random) c.segments.ensures.segments
     ∙ ap (option_and_then (first_at (segments_of c.args.image.now))) (sym c.in-Some.is ∙ c.in_ok-random.ensures)
 
 pub returns-in-None : goal.returns-in-None
 unfolding first_in
-returns-in-None c = ap (option_and_then (first_at (segments_of c.args.image.now))) (sym c.in-None.is ∙ c.in_ok-random.ensures)
+returns-in-None g c = ap (option_and_then (first_at (segments_of c.args.image.now))) (sym c.in-None.is ∙ c.in_ok-random.ensures)

@@ -9,13 +9,13 @@ use Rattle.leak_stacks.proofs.low.low_of.Goals as goal
 
 pub loop-place-init : goal.loop-place-init
 unfolding low_of
-loop-place-init c = record {
+loop-place-init g c = record {
   from = omega arith;
   rest = ap (λ (n : ℕ). lowest n (made_from (frame_at (word_of c.args.image.now) c.args.stack.now c.args.thread.now.sp) c.args.thread.now.sp (c.args.stack.now.begin + c.args.stack.now.size))) c.red_low-low.ensures;
 }
 
 pub loop-place-preserved : goal.loop-place-preserved
-loop-place-preserved c =
+loop-place-preserved g c =
     let w = word_of c.args.image.now in
     let f = frame_at w c.args.stack.now c.args.thread.now.sp in
     let end = c.args.stack.now.begin + c.args.stack.now.size in
@@ -39,7 +39,7 @@ loop-place-preserved c =
     }
 
 pub returns : goal.returns
-returns c =
+returns g c =
     let w = word_of c.args.image.now in
     let f = frame_at w c.args.stack.now c.args.thread.now.sp in
     let end = c.args.stack.now.begin + c.args.stack.now.size in

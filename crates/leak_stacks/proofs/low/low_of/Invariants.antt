@@ -6,10 +6,10 @@ use Rattle.leak_stacks.specs.Lows.{frame_at, low_of, lowest}
 use Rattle.leak_stacks.proofs.low.low_of.Given as goal
 
 abbrev pub invariant-loop-place : goal.invariant-loop-place
-invariant-loop-place l = record {
+invariant-loop-place g l = record {
   from : l.thread.sp ≤ l.from;
   rest : lowest l.low (made_from (frame_at (word_of l.image) l.stack l.thread.sp) l.from (l.stack.begin + l.stack.size)) ≡ low_of (word_of l.image) l.stack l.thread;
 }
 
 abbrev pub decreases-loop-place : goal.decreases-loop-place
-decreases-loop-place l = 2 ^ 64 - l.from
+decreases-loop-place g l = 2 ^ 64 - l.from

@@ -10,13 +10,13 @@ use Rattle.leak_stacks.proofs.stack.own_stack.Goals as goal
 
 pub loop-place-init : goal.loop-place-init
 unfolding own_stack
-loop-place-init c = record {
+loop-place-init g c = record {
   from = omega arith;
   rest = ending_only (made_from (stack_at (word_of c.args.image.now) c.args.thread.now) c.args.thread.now.fs_base (c.args.thread.now.fs_base + 4096));
 }
 
 pub loop-place-preserved : goal.loop-place-preserved
-loop-place-preserved c =
+loop-place-preserved g c =
     let w = word_of c.args.image.now in
     let f = stack_at w c.args.thread.now in
     let end = c.args.thread.now.fs_base + 4096 in
@@ -40,7 +40,7 @@ loop-place-preserved c =
     }
 
 pub returns : goal.returns
-returns c =
+returns g c =
     let w = word_of c.args.image.now in
     let f = stack_at w c.args.thread.now in
     let end = c.args.thread.now.fs_base + 4096 in

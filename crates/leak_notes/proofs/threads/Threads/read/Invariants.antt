@@ -3,4 +3,4 @@ use Rattle.leak_notes.proofs.Parts.{AreTaken}
 use Rattle.leak_notes.proofs.threads.Threads.read.Given as goal
 
 abbrev pub invariant-loop-i : goal.invariant-loop-i
-invariant-loop-i l = AreTaken l.image l.i l.threads
+invariant-loop-i g l = AreTaken l.image l.i l.threads

@@ -1,0 +1,79 @@
+//! What a core file has behind the bytes that are held.
+ghost use Rattle.std.specs.Prelude.{◌≡◌, [], IfOk};
+ghost use Rattle.leak_sift.specs.Behind.{HasWords, bytes_behind};
+
+use leak_elf::Rest;
+use leak_sparse::SparseWords;
+use std::alloc::{AllocError, Global};
+use std::marker::Model;
+
+/// How many bytes are too many.
+const TOO_MANY: u64 = 1 << 63;
+
+/// The bytes of a core file behind those that are held: 8 for each word, and a zero for each byte after the last word.
+/// Contracts see the bytes.
+#[derive(Drop)]
+pub struct Behind {
+    words: SparseWords,
+    /// How many bytes.
+    len: u64,
+}
+
+impl Model for Behind {
+    ghost use Rattle.std.specs.Prelude.{ℕ, List};
+    ghost use Rattle.leak_sift.specs.Behind.{IsBehind, bytes_behind};
+
+    ghost Value = { List ℕ };
+
+    ghost view = { λ behind. bytes_behind behind.words behind.len };
+
+    ghost invariant = { λ behind. IsBehind behind.words behind.len };
+}
+
+impl Behind {
+    /// No bytes: the whole file is held.
+    pub fn none(alloc: Global) -> Behind
+        ensures { result ≡ [] }
+    {
+        Behind {
+            words: SparseWords::new(alloc),
+            len: 0,
+        }
+    }
+
+    /// So many bytes, of which the words are the first ones. An error is that there are 2^63 or more.
+    pub fn new(words: SparseWords, len: u64) -> Result<Behind, AllocError>
+        requires { HasWords words len }
+        ensures { IfOk result (λ behind. behind ≡ bytes_behind words len) }
+    {
+        if len >= TOO_MANY {
+            return Err(AllocError);
+        }
+        Ok(Behind { words, len })
+    }
+}
+
+impl Rest for Behind {
+    ghost bytes = { λ behind. behind };
+
+    fn len(&self) -> u64 {
+        self.len
+    }
+
+    #[tactic(auto, unfolding(leak_elf::specs::Head::aligned_number_at))]
+    fn word(&self, at: usize) -> Option<u64> {
+        if at % 8 != 0 {
+            return None;
+        }
+        let word = self.words.get(at / 8)?;
+        Some(word)
+    }
+
+    fn skip_zeros(&self, at: usize) -> usize {
+        let place = at / 8;
+        if place >= self.words.len() {
+            return at;
+        }
+        8 * self.words.skip_zeros(place)
+    }
+}
