@@ -51,11 +51,3 @@ pub mod LineParts
 pub mod PartMeaning
 pub mod PartReports
 pub mod EscapeReading
-pub mod AlikeLists
-pub mod AlikeWords
-pub mod AlikeStacks
-pub mod AlikeCores
-pub mod NowhereWords
-pub mod AskedPlaces
-pub mod AlikeHolders
-pub mod AlikeRefusals

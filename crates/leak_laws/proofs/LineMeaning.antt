@@ -21,6 +21,7 @@ use Rattle.leak_holders.specs.declared.holder.Holder.{Holder}
 use Rattle.leak_holders.specs.Holders.{is_counted, is_own, is_reached, is_within, text_of}
 use Rattle.leak_holders.specs.Laws.{AreRowsOf}
 use Rattle.leak_holders.specs.Words.{table_of}
+use Rattle.leak_alike.proofs.Ranges.{range_each}
 use Rattle.leak_laws.specs.HolderLines.{blocks_with_text}
 use Rattle.leak_laws.specs.HolderMeaning.{IsOwn, IsSaid, Numbers, Texts, block_at}
 use Rattle.leak_laws.specs.ToldHolders.{ToldHolder, told_holder}
@@ -28,7 +29,7 @@ use Rattle.leak_laws.proofs.HolderRows.{Row as RowOf, holder_rows, row_holds}
 use Rattle.leak_laws.proofs.LineHolders.{inside_tests}
 use Rattle.leak_laws.proofs.OuterTexts.{held_within, holder_reached, within_held}
 use Rattle.leak_laws.proofs.RangeLists.{first_passing, passing, passing_sorted}
-use Rattle.leak_laws.proofs.Ranges.{in_range, range_each}
+use Rattle.leak_laws.proofs.Ranges.{in_range}
 use Rattle.leak_laws.proofs.SameHeld.{apart_at}
 use Rattle.leak_laws.proofs.ToldOrder.{less_is}
 use Rattle.leak_laws.proofs.TextBlocks.{by_number, by_text, has_text, holder_text, holds_by_number, holds_by_text, inside_text, number_low, text_is}

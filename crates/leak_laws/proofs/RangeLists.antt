@@ -9,8 +9,8 @@ use Rattle.std.proofs.lemmas.List.Kept.{IsStrictlySortedBy-filter}
 use Rattle.leak_lemmas.proofs.Orders.{nat_less as below_less}
 use Rattle.leak_marks.proofs.ElementLemmas.{has_filter, of_filter, of_range}
 use Rattle.leak_without.proofs.GoingLemmas.{has_range}
+use Rattle.leak_alike.proofs.Ranges.{range_each}
 use Rattle.leak_laws.specs.HolderMeaning.{Numbers}
-use Rattle.leak_laws.proofs.Ranges.{range_each}
 
 range_sorted : (a n : ℕ) → IsStrictlySortedBy nat_cmp (range_with_len a n)
 unfolding IsStrictlySortedBy

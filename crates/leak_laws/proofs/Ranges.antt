@@ -1,12 +1,8 @@
 -- Consecutive numbers that pass tests.
 use Rattle.std.proofs.Common.{◌≡◌, ℕ, zero, suc, ◌+◌, ◌<◌, ◌≤◌, ◌⊎◌, inl, inr, Bool, true, false, cond, ◌∷◌, length, filter, refl, sym, ap, ◌∙◌, arith}
-use Rattle.std.specs.List.{AllByRecursion, list_all, range_with_len}
+use Rattle.std.specs.List.{list_all, range_with_len}
 use Rattle.std.proofs.lemmas.Bool.{and_from, and_parts, cases_eq}
 use Rattle.leak_lemmas.proofs.Members.{Has}
-
-pub range_each : (P : ℕ → Type 0) (a n : ℕ) → ((x : ℕ) → a ≤ x → x < a + n → P x) → AllByRecursion P (range_with_len a n)
-range_each P a zero each = tt
-range_each P a (suc n) each = (each a (omega arith) (omega arith), range_each P (a + 1) n (λ x low high. each x (omega arith) (omega arith)))
 
 pub in_range : (a n x : ℕ) → a ≤ x → x < a + n → Has (range_with_len a n) x
 in_range a zero x low high = absurd (omega arith)

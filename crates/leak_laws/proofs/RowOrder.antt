@@ -12,7 +12,8 @@ use Rattle.leak_lemmas.proofs.Members.{Has, Has-filter, Has-map, each_filtered, 
 use Rattle.leak_holders.specs.declared.holder.Holder.{Holder}
 use Rattle.leak_holders.specs.Holders.{rank, ranked, with_blocks}
 use Rattle.leak_holders.proofs.Ranks.{AllDiffer, Differ, Has-ranked, each_ranked, sorted_ranked}
-use Rattle.leak_laws.proofs.Ranges.{in_range, range_each}
+use Rattle.leak_alike.proofs.Ranges.{range_each}
+use Rattle.leak_laws.proofs.Ranges.{in_range}
 
 -- numbers that are tied are the same
 tied_numbers : (m n : ℕ) → nat_cmp m n ≡ Equal → m < n → ⊥

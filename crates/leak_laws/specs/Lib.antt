@@ -24,9 +24,3 @@ pub mod EscapedTexts
 pub mod PartLines
 pub mod HolderMeaning
 pub mod PartMeaning
-pub mod Alike
-pub mod AlikeRows
-pub mod Nowhere
-pub mod AskedWords
-pub mod AlikeHolders
-pub mod AlikeRefusals

@@ -6,8 +6,6 @@
 //!   [`reports_of_growth_are_one`], and of whole runs [`runs_are_one`], [`other_runs_are_one`]. Which of the shortest chains
 //!   is told of a block is open, but not how long it is ([`answers_of_why_are_as_long`]).
 //! - **What leaks by other options**: [`reported_stay_reported`], [`earlier_cores_keep_blocks`].
-//! - **Which words don't matter**: [`words_that_lead_nowhere`], [`holders_of_alike_cores`],
-//!   [`refusals_of_alike_cores`], [`words_outside_the_blocks`], [`asked_words_are_near_blocks`].
 //! - **Lines belong together**, as docs/FORMAT.md says: [`lines_belong_together`], [`check_adds_misfits`],
 //!   [`runs_write_reports`], [`holders_belong_together`], [`texts_have_holders`], [`holders_have_lines`],
 //!   [`holder_lines_say`], [`outermost_hold_all`], [`parts_have_lines`], [`part_lines_say`],
@@ -15,12 +13,11 @@
 //! - **Bytes tell the lines**: [`reports_read_back`], [`texts_are_of_one_line`], [`growth_reads_back`],
 //!   [`holders_read_back`], [`why_reads_back`], [`answers_are_of_lines`], and what is escaped in a message
 //!   ([`escaped_texts_read_back`]).
-//! - **Worked rows**: [`worked_growths`], [`worked_alike`], [`roots_at_zero`].
+//! - **Worked rows**: [`worked_growths`], [`roots_at_zero`].
 //!
 //! What the lines of a report say is in `specs/Told.antt`, and how they belong together in `specs/Together.antt`.
 #![tactic(auto)]
 
-mod alike;
 mod answers;
 mod growth;
 mod held;
@@ -30,10 +27,6 @@ mod reports;
 mod runs;
 mod same;
 
-pub use alike::{
-    asked_words_are_near_blocks, holders_of_alike_cores, refusals_of_alike_cores,
-    words_outside_the_blocks, words_that_lead_nowhere, worked_alike,
-};
 pub use answers::{
     answers_are_of_lines, growth_reads_back, holders_read_back, roots_at_zero, why_reads_back,
 };

@@ -1,0 +1,35 @@
+//! A core that is read in one pass, of which only some words are kept, gives the answers of the whole core.
+
+ghost use Rattle.leak_alike.specs.OneHead.{FilesOfOneHeadAgree, RefusedOfOneHeadAreOne};
+ghost use Rattle.leak_alike.specs.SiftedCores.{RefusedOfSiftedAreOne, SearchesOfSiftedAreOne, SignsOfSiftedAreOne};
+ghost use Rattle.leak_alike.specs.SiftedCores.{SiftedAreAlike, SiftedAreAlikeByLog, SiftedWordsAreKept};
+ghost use Rattle.leak_alike.specs.SiftedRows.{AreWorkedSifted};
+
+/// Two files that begin with one head and are as long agree in all that is read of them but words: faults, segments,
+/// registers and what tells of stacks. So a search rejects both for the same reason, or neither.
+pub fn files_of_one_head()
+    ensures agree { FilesOfOneHeadAgree }
+    ensures refused { RefusedOfOneHeadAreOne }
+{}
+
+/// If a sieve with the live blocks of the log passes over the bytes behind a core's head, the core with the words that
+/// it keeps is like the whole one, to every search that does not leave out dead stack. All words have to be behind the
+/// head, in the order of their addresses.
+pub fn sifted_cores_are_alike()
+    ensures words { SiftedWordsAreKept }
+    ensures alike { SiftedAreAlike }
+    ensures by_log { SiftedAreAlikeByLog }
+{}
+
+/// So a search of the core with those words gives the report, the claims and the signs of the whole core. Whatever is
+/// kept, it rejects the one core for the reason for which it rejects the other.
+pub fn searches_of_sifted_cores()
+    ensures found { SearchesOfSiftedAreOne }
+    ensures signs { SignsOfSiftedAreOne }
+    ensures refused { RefusedOfSiftedAreOne }
+{}
+
+/// A core that can be sifted, one that can't, and what is kept of some words.
+pub fn worked_sifted()
+    ensures { AreWorkedSifted }
+{}

@@ -1,6 +1,0 @@
--- By the rules that ask.
-use Rattle.leak_laws.proofs.AskedPlaces.{asked_near}
-use Rattle.leak_laws.proofs.alike.asked_words_are_near_blocks.Goals as goal
-
-pub returns : goal.returns
-returns c = asked_near

@@ -1,6 +1,0 @@
--- The graph of alike cores is one, and so are the first lines of their reports.
-use Rattle.leak_laws.proofs.AlikeHolders.{answers_of_alike_are_one, holders_of_alike_are_one}
-use Rattle.leak_laws.proofs.alike.holders_of_alike_cores.Goals as goal
-
-pub returns : goal.returns
-returns c = record { holders = holders_of_alike_are_one; chosen = answers_of_alike_are_one }
