@@ -1,16 +1,14 @@
 -- One read after another.
-use Rattle.std.proofs.Common.{◌≡◌, ℕ, ◌+◌, ◌-◌, ◌≤◌, ◌<◌, min, drop, length-drop, ◌∙◌, ◌++◌, List, [], ◌∷◌, length, Option, Some, None, refl, ap, subst, sym, append_assoc, append-nil, take, length-take, arith, length-append}
-use Rattle.std.proofs.lemmas.List.{take-append-le}
+use Rattle.std.proofs.Common.{◌≡◌, ℕ, ◌+◌, ◌-◌, ◌≤◌, ◌<◌, ◌++◌, List, [], ◌∷◌, length, Option, Some, None, refl, subst, sym, append_assoc, append-nil, take, length-take, arith, length-append}
 use Rattle.std.specs.Prelude.{Result, Ok, Err, IfOk}
 use Rattle.std.specs.Io.{ReadsAtMost}
 use Rattle.std.specs.Io.KnownBytes.{Consumes, Keeps, IsAtEnd, ReadConsumes}
 use Rattle.std.specs.declared.io.Error.{Error}
 use Rattle.leak_streams.specs.declared.fault.ReadFault.{ReadFault}
 use Rattle.leak_streams.specs.declared.fault.ReadFault.TheVariants.{TooLong, Device, TooManyTurns, NoMemory}
-use Rattle.leak_streams.specs.declared.readers.Turn.TheVariants.{End, Bytes, Again, Stop}
 use Rattle.leak_streams.specs.Laws.{ReadsTell}
 use Rattle.leak_streams.specs.Reading.{IsWholeInput, IsStopped}
-use Rattle.leak_streams.specs.Reads.{Calls, StopsBy, IsEnd, Follows, ReadSoFar, GoesOn, OneRead, IsRead, ComesBy, HasCome, IsReadWhole, IsCutOff, IsGivenUp}
+use Rattle.leak_streams.specs.Reads.{Calls, StopsBy, IsEnd, ReadSoFar, GoesOn, OneRead, ComesBy, IsReadWhole, IsCutOff, IsGivenUp}
 
 -- ---- bytes that are taken one after the other
 
@@ -32,107 +30,6 @@ consumes_none (Some us) = refl
 
 pub taken_length : (count : ℕ) (xs piece : List ℕ) → count ≤ length piece → length (xs ++ take count piece) ≡ length xs + count
 taken_length count xs piece within = rw (length-append xs (take count piece), length-take count piece) (omega (arith, within))
-
-pub front : (count : ℕ) (xs piece rest : List ℕ) → count ≤ length piece → xs ++ take count (piece ++ rest) ≡ xs ++ take count piece
-front count xs piece rest within = ap (λ ys. xs ++ ys) (take-append-le count piece rest within)
-
--- the piece keeps its length
-pub still_long : (room : ℕ) (new piece : List ℕ) → length new ≡ length (take room piece) → length (new ++ drop room piece) ≡ length piece
-still_long room new piece is_new =
-    rw (length-append new (drop room piece), length-drop room piece, is_new, length-take room piece) (omega arith)
-
--- bytes at the front of the piece, and of the piece with what follows it
-pub in_front : (count : ℕ) (piece rest : List ℕ) → count ≤ length piece → count ≤ length (piece ++ rest)
-in_front count piece rest within = rw (length-append piece rest) (omega (arith, within))
-
-pub as_many : (count : ℕ) (piece rest : List ℕ) → count ≤ length piece → count ≡ length (take count (piece ++ rest))
-as_many count piece rest within = rw (length-take count (piece ++ rest), length-append piece rest) (omega (arith, within))
-
--- ---- what follows an answer
-
-pub ended : (left turns : ℕ) (answer : Result ℕ Error) → Follows left turns answer End → IsEnd answer
-ended left turns (Ok count) follows = follows
-ended left turns (Err e) follows = absurd follows
-
-pub stopped_by : (left turns : ℕ) (answer : Result ℕ Error) (f : ReadFault) → Follows left turns answer (Stop f) → StopsBy left turns answer f
-stopped_by left turns (Ok count) f follows = follows
-stopped_by left turns (Err e) f follows = follows
-
-pub count_within : (left turns : ℕ) (answer : Result ℕ Error) (count : ℕ) (piece : List ℕ) → ReadsAtMost answer piece
-    → Follows left turns answer (Bytes count) → count ≤ length piece
-count_within left turns (Ok read) count piece bound follows = let is = follows.0 in let most = bound.0 in omega (arith, is, most)
-count_within left turns (Err e) count piece bound follows = absurd follows
-
-pub count_fits : (left turns : ℕ) (answer : Result ℕ Error) (count : ℕ) → Follows left turns answer (Bytes count) → (0 < count) × (count ≤ left)
-count_fits left turns (Ok read) count follows =
-    let is = follows.0 in let some = follows.1 in let few = follows.2 in (omega (arith, is, some), omega (arith, is, few))
-count_fits left turns (Err e) count follows = absurd follows
-
-pub turns_more : (left turns : ℕ) (answer : Result ℕ Error) (now : ℕ) → Follows left turns answer (Again now) → (now ≡ turns + 1) × (now < 1000000)
-turns_more left turns (Ok read) now follows = absurd follows
-turns_more left turns (Err e) now follows = (follows.1, follows.2)
-
-pub on_by_bytes : (limit counted turns count : ℕ) (bytes piece : List ℕ) (answer : Result ℕ Error) → counted ≡ length bytes → length bytes ≤ limit
-    → Follows (limit - counted) turns answer (Bytes count)
-    → GoesOn limit (record { bytes = bytes; interruptions = turns }) piece answer (record { bytes = bytes ++ take count piece; interruptions = turns })
-on_by_bytes limit counted turns count bytes piece (Ok read) is few follows =
-    let same = follows.0 in let within = follows.2 in
-    (follows.1, omega (arith, is, few, within), ap (λ n. bytes ++ take n piece) same, refl)
-on_by_bytes limit counted turns count bytes piece (Err e) is few follows = absurd follows
-
-pub on_by_interruption : (limit left turns now : ℕ) (bytes piece : List ℕ) (answer : Result ℕ Error) → Follows left turns answer (Again now)
-    → GoesOn limit (record { bytes = bytes; interruptions = turns }) piece answer (record { bytes = bytes; interruptions = now })
-on_by_interruption limit left turns now bytes piece (Ok read) follows = absurd follows
-on_by_interruption limit left turns now bytes piece (Err e) follows = (follows.0, refl, follows.1, follows.2)
-
--- ---- reads
-
-most_of : (answer : Result ℕ Error) (piece : List ℕ) → ReadsAtMost answer piece → IfOk answer (λ count. count ≤ length piece)
-most_of (Ok count) piece bound = bound.0
-most_of (Err e) piece bound = tt
-
--- what a read asks for: a byte at least, and a byte over the limit at most
-piece_length : (limit len counted sum room : ℕ) (new piece : List ℕ) → len ≤ limit → counted ≡ len → sum ≡ min (limit - counted + 1) 18446744073709551615
-    → room ≡ min sum 262144 → length piece ≡ 262144 → length new ≡ length (take room piece) → (0 < length new) × (len + length new ≤ limit + 1)
-piece_length limit len counted sum room new piece few is_len is_sum is_room is_piece is_new =
-    let h : length new ≡ min room (length piece) = is_new ∙ length-take room piece in
-    (omega (arith, h, few, is_len, is_sum, is_room, is_piece), omega (arith, h, few, is_len, is_sum, is_room, is_piece))
-
-module _ {R : Type 0} (calls : Calls R) (limit : ℕ) where
-  pub is_read : (counted sum room : ℕ) (now : ReadSoFar) (before after : R) (new piece : List ℕ) (answer : Result ℕ Error) → length now.bytes ≤ limit
-      → counted ≡ length now.bytes → sum ≡ min (limit - counted + 1) 18446744073709551615 → room ≡ min sum 262144 → length piece ≡ 262144
-      → length new ≡ length (take room piece) → ReadsAtMost answer new → calls before new answer after
-      → IsRead calls limit now (record { before = before; piece = new; answer = answer }) after
-  is_read counted sum room now before after new piece answer few is_len is_sum is_room is_piece is_new bound call =
-      let asks = piece_length limit (length now.bytes) counted sum room new piece few is_len is_sum is_room is_piece is_new in
-      record { asks = asks.0; bounded = asks.1; within = most_of answer new bound; call = call }
-
-  -- no read yet
-  pub none_yet : (first : R) → HasCome calls limit first first (record { bytes = []; interruptions = 0 })
-  none_yet first = record { reads = []; by_reads = (refl, refl, refl) }
-
-  -- one read more
-  pub one_more : (first last : R) (read : OneRead R) (was now : ReadSoFar) → HasCome calls limit first read.before was
-      → IsRead calls limit was read last → GoesOn limit was read.piece read.answer now → HasCome calls limit first last now
-  one_more first last read was now come is_read on = record { reads = read ∷ come.reads; by_reads = (was, come.by_reads, is_read, on) }
-
-  no_memory_stop : (left turns : ℕ) (answer : Result ℕ Error) → StopsBy left turns answer NoMemory → ⊥
-  no_memory_stop left turns (Ok count) stops = stops
-  no_memory_stop left turns (Err e) stops = stops
-
-  pub given_up : (first last : R) (f : ReadFault) → IsCutOff calls limit first last f → IsGivenUp calls limit first last f
-  given_up first last TooLong cut = cut
-  given_up first last Device cut = cut
-  given_up first last TooManyTurns cut = cut
-  given_up first last NoMemory cut = absurd (no_memory_stop _ _ cut.read.answer cut.stops)
-
--- the loop comes nearer to its end, by bytes and by an interruption
-pub nearer_by_bytes : (limit len counted now count turns : ℕ) → counted ≡ len → len ≤ limit → now ≡ len + count → (0 < count) × (count ≤ limit - counted)
-    → (limit - now) + (1000000 - turns) < (limit - len) + (1000000 - turns)
-nearer_by_bytes limit len counted now count turns is_len few is fits = let some = fits.0 in let most = fits.1 in omega (arith, is_len, few, is, some, most)
-
-pub nearer_by_turn : (rest turns now : ℕ) → (now ≡ turns + 1) × (now < 1000000) → rest + (1000000 - now) < rest + (1000000 - turns)
-nearer_by_turn rest turns now more = let is = more.0 in let few = more.1 in omega (arith, is, few)
 
 -- ---- what reads come to, if the reader tells its bytes
 

@@ -6,8 +6,8 @@ use Rattle.std.specs.declared.io.Error.{Error}
 use Rattle.std.specs.declared.io.ErrorKind.TheVariants.{Interrupted}
 use Rattle.leak_streams.specs.declared.fault.ReadFault.{ReadFault}
 use Rattle.leak_streams.specs.declared.fault.ReadFault.TheVariants.{TooLong, Device, TooManyTurns, NoMemory}
-use Rattle.leak_streams.specs.declared.readers.Turn.{Turn}
-use Rattle.leak_streams.specs.declared.readers.Turn.TheVariants.{End, Bytes, Again, Stop}
+use Rattle.leak_streams.specs.declared.pieces.Turn.{Turn}
+use Rattle.leak_streams.specs.declared.pieces.Turn.TheVariants.{End, Bytes, Again, Stop}
 
 -- what a read does: the reader before it, the piece as it left it, its answer, and the reader after it
 abbrev pub Calls : Type 0 → Type 1

@@ -2,7 +2,8 @@
 //!
 //! [`read_sized`] takes all bytes that a reader has, up to a limit, or says why it does not; the reader's size is told, or 0 if
 //! it is unknown. [`write`] hands a text to a writer until all of it is taken. The program goes by these two. [`read_all`], which is
-//! [`read_sized`] without a size, is for libraries and tests. Of a reader or a writer they
+//! [`read_sized`] without a size, is for libraries and tests. A [`Reading`] gives an input piece by piece and keeps no more than
+//! the last piece; between two pieces its caller may read another input (`specs/Pieces.antt`). Of a reader or a writer they
 //! know nothing but its single calls, [`ReadCalls`] and [`WriteCalls`], so their contracts name each call that was made, its answer
 //! and the device before and after it: read by read in `specs/Reads.antt`, write by write in `specs/Writes.antt`. Everything that is
 //! `Read` has such reads, and everything that is `Write` such writes.
@@ -21,15 +22,26 @@
 //! assert_eq!(rt; read_all(alloc, &mut five, 4).err(), Some(ReadFault::TooLong));
 //! ```
 //!
+//! A function `f` is given all bytes within a limit, piece by piece:
+//!
+//! ```text
+//! let mut reading = Reading::begin::<R>(alloc)?;
+//! while reading.next_piece(&mut reader, limit)? {
+//!     f(reading.piece());
+//! }
+//! ```
+//!
 //! The contracts don't say which bytes a file holds, what becomes of those that it took, or how long a call takes.
 #![tactic(auto)]
 
 mod fault;
 mod laws;
+mod pieces;
 mod readers;
 mod writers;
 
 pub use fault::{ReadFault, WriteFault};
 pub use laws::{reads_tell, writes_tell};
+pub use pieces::Reading;
 pub use readers::{ReadCalls, read_all, read_sized};
 pub use writers::{WriteCalls, write};

@@ -1,20 +1,15 @@
 //! Reading an input to its end.
 
-ghost use Rattle.std.specs.Prelude.{◌≡◌, ◌<◌, [], IfOk, IfErr};
+ghost use Rattle.std.specs.Prelude.{◌≡◌, [], IfOk, IfErr};
 ghost use Rattle.std.specs.Io.{ReadsAtMost};
 ghost use Rattle.std.specs.Io.KnownBytes.{ReadConsumes};
-ghost use Rattle.leak_streams.specs.Reads.{Calls, Follows, IsReadWhole, IsGivenUp};
+ghost use Rattle.leak_streams.specs.Reads.{Calls, IsReadWhole, IsGivenUp};
 
 use crate::fault::ReadFault;
+use crate::pieces::Reading;
 use std::alloc::Global;
 use std::io;
-use std::io::{ErrorKind, Read};
-
-/// How many interrupted reads end the reading.
-const MOST_INTERRUPTIONS: u32 = 1_000_000;
-
-/// How many bytes are asked for at a time.
-const PIECE: usize = 262_144;
+use std::io::Read;
 
 /// A reader, by its single reads. Everything that is [`Read`] is one.
 ///
@@ -64,22 +59,12 @@ pub fn read_sized<R: ReadCalls>(
     ensures ok { IfOk result (λ v. IsReadWhole R.calls limit reader.old reader.new v.items) }
     ensures refused { IfErr result (IsGivenUp R.calls limit reader.old reader.new) }
 {
-    let mut buffer = vec![in alloc; 0u8; PIECE]?;
-    let piece = buffer.as_mut_slice();
+    let mut reading = Reading::begin::<R>(alloc)?;
     let mut bytes = list_for(alloc, size.min(limit));
-    let mut interruptions = 0;
-    'reading: loop {
-        let left = limit - bytes.len() as u64;
-        // A byte past the limit shows that there are too many.
-        let room = left.saturating_add(1).min(PIECE as u64) as usize;
-        let answer = reader.read_some(&mut piece[..room]);
-        match turn_after(answer, left, interruptions) {
-            Turn::End => return Ok(bytes),
-            Turn::Bytes(count) => bytes.extend_from_slice(&piece[..count])?,
-            Turn::Again(turns) => interruptions = turns,
-            Turn::Stop(fault) => return Err(fault),
-        }
+    'pieces: while reading.next_piece(reader, limit)? {
+        bytes.extend_from_slice(reading.piece())?;
     }
+    Ok(bytes)
 }
 
 /// An empty list with room for this many bytes, or with none if that can't be had.
@@ -91,44 +76,5 @@ fn list_for(alloc: Global, size: u64) -> Vec<u8>
     match Vec::with_capacity(alloc, size as usize) {
         Ok(bytes) => bytes,
         Err(_) => Vec::new(alloc),
-    }
-}
-
-/// What follows the answer of a read.
-enum Turn {
-    /// The input has ended.
-    End,
-    /// This many bytes were read, within the limit.
-    Bytes(usize),
-    /// One more read was interrupted. This many were by now, and there may be more.
-    Again(u32),
-    /// The reading ends with a fault.
-    Stop(ReadFault),
-}
-
-/// What follows the answer, if the limit leaves `left` bytes and this many reads were interrupted before.
-fn turn_after(answer: io::Result<usize>, left: u64, interruptions: u32) -> Turn
-    requires { interruptions < MOST_INTERRUPTIONS }
-    ensures { Follows left interruptions answer result }
-{
-    match answer {
-        Ok(0) => Turn::End,
-        Ok(count) => {
-            if count as u64 > left {
-                return Turn::Stop(ReadFault::TooLong);
-            }
-            Turn::Bytes(count)
-        }
-        Err(error) => {
-            if error.kind() != ErrorKind::Interrupted {
-                return Turn::Stop(ReadFault::Device);
-            }
-            let turns = interruptions + 1;
-            if turns < MOST_INTERRUPTIONS {
-                Turn::Again(turns)
-            } else {
-                Turn::Stop(ReadFault::TooManyTurns)
-            }
-        }
     }
 }

@@ -84,6 +84,14 @@ mod signs;
 #[cfg(test)]
 mod readers;
 
+// A core and its log in one pass.
+#[cfg(test)]
+mod passing;
+
+// Reading an input piece by piece.
+#[cfg(test)]
+mod pieces;
+
 // Readers and writers that fail or are interrupted between their bytes.
 #[cfg(test)]
 mod turns;

@@ -1,0 +1,8 @@
+-- The lemmas of this crate, by subject.
+pub mod HeadLemmas
+pub mod ByteLemmas
+pub mod PieceLemmas
+pub mod KeptLemmas
+pub mod LogLemmas
+pub mod ReaderLemmas
+pub mod FoundLemmas

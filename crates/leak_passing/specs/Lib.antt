@@ -1,0 +1,6 @@
+-- The definitions of this crate, by subject.
+pub mod Underway
+pub mod Begun
+pub mod Sifting
+pub mod Kept
+pub mod Passed

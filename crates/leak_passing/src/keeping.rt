@@ -1,0 +1,76 @@
+//! What is kept of a core, by the log as it was read.
+
+ghost use Rattle.std.specs.Prelude.{◌≡◌, [], IfOk, IfErr};
+ghost use Rattle.leak_streams.specs.Reads.{IsGivenUp};
+ghost use Rattle.leak_passing.specs.Begun.{IsAtHead, IsBegun};
+ghost use Rattle.leak_passing.specs.Kept.{Keeps, blocks_of};
+
+use crate::begun::{Begun, Front};
+use crate::sifted::sift_core;
+use leak_blocks::{Live, Replayed, SmallSpans, replay_bytes};
+use leak_mtrace::LogError;
+use leak_roots::Skip;
+use leak_sparse::SparseWords;
+use leak_streams::{ReadCalls, ReadFault};
+use std::alloc::{AllocError, Global};
+
+/// The live blocks of an empty log: none.
+fn no_blocks(alloc: Global) -> Result<Live, AllocError>
+    ensures { IfOk result (λ live. live.blocks ≡ []) }
+{
+    match replay_bytes(alloc, &[]) {
+        Ok(replayed) => Ok(replayed.live),
+        Err(_) => Err(AllocError),
+    }
+}
+
+/// Sifts a core behind its head by the log as it was read: if the log has a fault, no word is kept.
+fn sift_by_log<R: ReadCalls>(
+    alloc: Global,
+    front: Front,
+    reader: &mut R,
+    limit: u64,
+    read: &Result<(Replayed, SmallSpans), LogError>,
+    skip: Skip,
+) -> Result<(Vec<u8>, SparseWords, u64), ReadFault>
+    requires { (first : R) × IsAtHead R.calls limit first reader.old skip front }
+    ensures ok { IfOk result (λ kept. (first : R)
+        → IsAtHead R.calls limit first reader.old skip front
+        → Keeps R.calls limit first reader.new skip (blocks_of read.now)
+        kept.0.items kept.1 kept.2) }
+    ensures refused { IfErr result (λ f. (first : R)
+        → IsAtHead R.calls limit first reader.old skip front
+        → IsGivenUp R.calls limit first reader.new f) }
+{
+    match read {
+        Ok(parts) => sift_core(alloc, front, reader, limit, &parts.0.live, skip),
+        Err(_) => {
+            let none = no_blocks(alloc)?;
+            sift_core(alloc, front, reader, limit, &none, skip)
+        }
+    }
+}
+
+/// Reads the rest of a core that was begun, and returns what is kept of it, by the log as it was read.
+pub(crate) fn keep_core<R: ReadCalls>(
+    alloc: Global,
+    begun: Begun,
+    reader: &mut R,
+    limit: u64,
+    read: &Result<(Replayed, SmallSpans), LogError>,
+    skip: Skip,
+) -> Result<(Vec<u8>, SparseWords, u64), ReadFault>
+    requires { (first : R) × IsBegun R.calls limit first reader.old skip begun }
+    ensures ok { IfOk result (λ kept. (first : R)
+        → IsBegun R.calls limit first reader.old skip begun
+        → Keeps R.calls limit first reader.new skip (blocks_of read.now)
+        kept.0.items kept.1 kept.2) }
+    ensures refused { IfErr result (λ f. (first : R)
+        → IsBegun R.calls limit first reader.old skip begun
+        → IsGivenUp R.calls limit first reader.new f) }
+{
+    match begun {
+        Begun::Whole(bytes) => Ok((bytes, SparseWords::new(alloc), 0)),
+        Begun::Head(front) => sift_by_log(alloc, front, reader, limit, read, skip),
+    }
+}

@@ -1,0 +1,27 @@
+//! A core and its log are read in one pass: of a core that is sifted only the words that a search needs are kept.
+//!
+//! [`read_passing`] reads a core up to the end of its head, then the log, then the rest of the core piece by piece,
+//! through a `leak_sift::Sifting`. It returns a [`Passed`]: the head, the words that are kept, and the log with what
+//! was read of it. [`find_passed`] searches this, and gives what `leak_search::find_one` gives for the whole core.
+//!
+//! Some cores are read whole, before the log: those without such a head, with a head of more than 64 MiB, or with
+//! segments that a header refuses or that are not orderly; and all cores if dead stack is left out, since a sieve does
+//! not keep the words that tell of stacks.
+//!
+//! `specs/Passed.antt` says what a passed core and log are, and when a passing is refused.
+//!
+//! The contracts don't say how much memory is taken, nor which cores are sifted.
+#![tactic(auto)]
+
+mod begun;
+mod fault;
+mod finding;
+mod keeping;
+mod passed;
+mod passing;
+mod sifted;
+
+pub use fault::PassingFault;
+pub use finding::find_passed;
+pub use passed::Passed;
+pub use passing::{Limits, read_passing};

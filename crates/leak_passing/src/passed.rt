@@ -1,0 +1,20 @@
+//! A core and its log that were read in one pass.
+
+use leak_blocks::{Replayed, SmallSpans};
+use leak_mtrace::LogError;
+use leak_sparse::SparseWords;
+
+/// A core and its log, read in one pass.
+#[derive(Drop)]
+pub struct Passed {
+    /// The core's head, or the whole core.
+    pub held: Vec<u8>,
+    /// What is kept of the words behind the head. If the whole core is held, no words.
+    pub words: SparseWords,
+    /// How many bytes the core has behind what is held.
+    pub len: u64,
+    /// The bytes of the log.
+    pub log: Vec<u8>,
+    /// What was read of the log: its live blocks and the spans whose freed places are left out, or its first fault.
+    pub read: Result<(Replayed, SmallSpans), LogError>,
+}

@@ -1,0 +1,69 @@
+//! A core and its log are read in one pass.
+
+ghost use Rattle.std.specs.Prelude.{◌≡◌, length, IfOk, IfErr};
+ghost use Rattle.leak_passing.specs.Passed.{AreTwo, IsPassingFault, Passes};
+
+use crate::begun::begin_core;
+use crate::fault::PassingFault;
+use crate::keeping::keep_core;
+use crate::passed::Passed;
+use leak_roots::Skip;
+use leak_search::read_log;
+use leak_streams::{ReadCalls, read_sized};
+use std::alloc::Global;
+
+/// How many bytes a core and its log may have.
+#[derive(Clone, Copy, Debug, PartialEq, Eq)]
+pub struct Limits {
+    /// The most bytes of the core.
+    pub core: u64,
+    /// The most bytes of the log.
+    pub log: u64,
+    /// How many bytes the core is said to have, or 0, as of the log. These sizes change only time and memory.
+    pub core_size: u64,
+    pub log_size: u64,
+}
+
+/// Reads a core and its log, in one pass over each: the core's head, the log, and then the rest of the core, of which
+/// only the words are kept that a search needs. The first reader has the core, the second the log.
+///
+/// A core that can't be sifted is read whole, and so is every core if dead stack is left out. Faults in the core or in
+/// the log refuse nothing here.
+///
+/// # Errors
+///
+/// `Core` if the core is not read to its end, or if there is no memory for what is kept of it; `Log` if the log is not
+/// read to its end. The first that comes, in the order of the reading.
+pub fn read_passing<R: ReadCalls>(
+    alloc: Global,
+    readers: &mut [R],
+    limits: Limits,
+    skip: Skip,
+) -> Result<Passed, PassingFault>
+    requires { length readers.old ≡ 2 }
+    ensures ok { IfOk result (λ passed.
+        AreTwo readers.old readers.new (Passes R.calls limits skip passed)) }
+    ensures refused { IfErr result (λ fault.
+        AreTwo readers.old readers.new (IsPassingFault R.calls limits fault)) }
+{
+    let (limit, size) = (limits.core, limits.core_size);
+    let begun = match begin_core(alloc, &mut readers[0], limit, size, skip) {
+        Ok(begun) => begun,
+        Err(fault) => return Err(PassingFault::Core(fault)),
+    };
+    let log = match read_sized(alloc, &mut readers[1], limits.log, limits.log_size) {
+        Ok(log) => log,
+        Err(fault) => return Err(PassingFault::Log(fault)),
+    };
+    let read = read_log(alloc, skip, log.as_slice());
+    match keep_core(alloc, begun, &mut readers[0], limits.core, &read, skip) {
+        Ok((held, words, len)) => Ok(Passed {
+            held,
+            words,
+            len,
+            log,
+            read,
+        }),
+        Err(fault) => Err(PassingFault::Core(fault)),
+    }
+}

@@ -1,0 +1,81 @@
+//! A core is sifted behind its head, as it passes.
+
+ghost use Rattle.std.specs.Prelude.{◌≡◌, ℕ, List, IfOk, IfErr, OnOk};
+ghost use Rattle.leak_streams.specs.Pieces.{GivesUp, HasComeTo};
+ghost use Rattle.leak_streams.specs.Reads.{IsGivenUp};
+ghost use Rattle.leak_alike.specs.SiftedCores.{AreBytes};
+ghost use Rattle.leak_passing.specs.Begun.{IsAtHead};
+ghost use Rattle.leak_passing.specs.Kept.{Keeps};
+ghost use Rattle.leak_passing.specs.Sifting.{SiftsRest};
+
+use crate::begun::Front;
+use leak_blocks::Live;
+use leak_roots::Skip;
+use leak_sift::{Sieve, Sifting};
+use leak_sparse::SparseWords;
+use leak_streams::{ReadCalls, ReadFault, Reading};
+use std::alloc::Global;
+
+/// A law, for proofs: each number in a slice of bytes is below 256.
+fn are_bytes(bytes: &[u8])
+    ensures { AreBytes bytes.now }
+{
+    let _bytes = bytes;
+}
+
+/// Sifts the pieces of a core that are left.
+fn sift_pieces<R: ReadCalls>(
+    mut reading: Reading,
+    reader: &mut R,
+    limit: u64,
+    sifting: &mut Sifting<'_>,
+) -> Result<(), ReadFault>
+    requires { (first : R) × (bytes : List ℕ)
+        × HasComeTo R.calls limit first reader.old reading bytes }
+    ensures ok { OnOk result ((more : List ℕ)
+        × SiftsRest R.calls limit reader.old reading sifting.old reader.new sifting.new more) }
+    ensures refused { IfErr result (GivesUp R.calls limit reader.old reading reader.new) }
+{
+    'pieces: while reading.next_piece(reader, limit)? {
+        let piece = reading.piece();
+        are_bytes(piece);
+        sifting.take(piece)?;
+    }
+    Ok(())
+}
+
+/// Sifts a core behind its head to its end, by the live blocks. Returns its head, what is kept of the words behind it,
+/// and how many bytes the core has there.
+pub(crate) fn sift_core<R: ReadCalls>(
+    alloc: Global,
+    front: Front,
+    reader: &mut R,
+    limit: u64,
+    live: &Live,
+    skip: Skip,
+) -> Result<(Vec<u8>, SparseWords, u64), ReadFault>
+    requires { (first : R) × IsAtHead R.calls limit first reader.old skip front }
+    ensures ok { IfOk result (λ kept. (first : R)
+        → IsAtHead R.calls limit first reader.old skip front
+        → Keeps R.calls limit first reader.new skip live.now.blocks kept.0.items kept.1 kept.2) }
+    ensures refused { IfErr result (λ f. (first : R)
+        → IsAtHead R.calls limit first reader.old skip front
+        → IsGivenUp R.calls limit first reader.new f) }
+{
+    let Front {
+        reading,
+        mut held,
+        head,
+        segments,
+    } = front;
+    let bytes = held.as_slice();
+    are_bytes(bytes);
+    let sieve = Sieve::new(live, skip.links);
+    let parts = segments.as_slice();
+    let mut sifting = Sifting::new(alloc, parts, head as u64, sieve);
+    sifting.take(&bytes[head..])?;
+    held.truncate(head);
+    sift_pieces(reading, reader, limit, &mut sifting)?;
+    let (words, len) = sifting.finish();
+    Ok((held, words, len))
+}
