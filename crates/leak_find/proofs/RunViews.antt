@@ -5,16 +5,17 @@ use Rattle.leak_find.specs.declared.fault.RunFault.{RunFault}
 use Rattle.leak_find.specs.declared.fault.RunFault.TheVariants.{Read, Find, NoBlock, Write}
 use Rattle.leak_find.specs.declared.task.Task.{Task}
 use Rattle.leak_find.specs.Answers.{IsUntold, Tells}
+use Rattle.leak_find.specs.Passing.{passes_core}
 use Rattle.leak_find.specs.Run.{IsRunFault, Runs}
 use Rattle.leak_find.specs.Streams.{Sink, Source}
 use Rattle.leak_find.specs.Tasks.{limit_at}
-use Rattle.leak_find.proofs.ViewLemmas.{Sees, Shows, of_inputs, tried, within_all}
+use Rattle.leak_find.proofs.ViewLemmas.{Sees, Shows, of_inputs, tried, unread}
 
 module _ {R S W X : Type 0} (view : R → S) (source : Source R) (known : Source S) (sees : Sees view source known)
     (look : W → X) (sink : Sink W) (shown : Sink X) (shows : Shows look sink shown) where
   pub refused : (task : Task) (before after : List R) (w z : W) (e : RunFault) → IsRunFault source sink task before after w z e
       → IsRunFault known shown task (map view before) (map view after) (look w) (look z) e
-  refused task before after w z (Read n e) fault = (ap look fault.0, within_all view source known sees (limit_at task) before after n e fault.1)
+  refused task before after w z (Read n e) fault = (ap look fault.0, unread view source known sees (passes_core task) (limit_at task) before after n e fault.1)
   refused task before after w z (Find e) fault =
       (ap look fault.0, of_inputs view source known sees task before after (λ inputs. IsUntold task inputs (Find e)) fault.1)
   refused task before after w z (NoBlock a) fault =

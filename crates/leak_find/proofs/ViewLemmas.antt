@@ -1,13 +1,16 @@
 -- What is known of readers and writers, as seen by one who knows less of them.
-use Rattle.std.proofs.Common.{ℕ, suc, List, [], ◌∷◌, length, map, Option, ap, sym, subst, ◌∙◌, inl, inr}
+use Rattle.std.proofs.Common.{ℕ, suc, Bool, true, false, List, [], ◌∷◌, length, map, Option, ap, sym, subst, ◌∙◌, inl, inr}
 use Rattle.std.proofs.lemmas.List.{length-map}
 use Rattle.leak_streams.specs.declared.fault.ReadFault.{ReadFault}
+use Rattle.leak_streams.specs.declared.fault.ReadFault.TheVariants.{NoMemory}
 use Rattle.leak_streams.specs.declared.fault.WriteFault.{WriteFault}
+use Rattle.leak_passing.specs.Passed.{Pair}
 use Rattle.leak_streams.proofs.Consumed.{stopped, whole_input, tells as tells_left}
 use Rattle.leak_streams.proofs.Appended.{cut_off_appends, cut_off_short, whole_appends, tells as tells_held}
 use Rattle.leak_find.specs.Streams.{IsTried, Sink, Source, by_bytes_held, by_bytes_left, by_reads, by_writes}
 use Rattle.leak_find.specs.declared.task.Task.{Task}
 use Rattle.leak_find.specs.Inputs.{AreAllRead, AreRead, AreReadUpTo, IsReadFaultWithin}
+use Rattle.leak_find.specs.Passing.{IsStoppedOf, IsUnreadBy}
 use Rattle.leak_find.specs.Run.{OfInputs}
 use Rattle.leak_find.specs.Tasks.{limit_at}
 
@@ -63,12 +66,33 @@ module _ {R S : Type 0} (view : R → S) (source : Source R) (known : Source S) 
     stopped = up_to limit before after fault.inputs e fault.stopped;
   }
 
-  pub within_all : (limit : ℕ → ℕ) (before after : List R) (number : ℕ) (e : ReadFault)
+  within_all : (limit : ℕ → ℕ) (before after : List R) (number : ℕ) (e : ReadFault)
       → IsReadFaultWithin source limit (length before) before after number e
       → IsReadFaultWithin known limit (length (map view before)) (map view before) (map view after) number e
   within_all limit before after number e fault =
       subst (λ (n : ℕ). IsReadFaultWithin known limit n (map view before) (map view after) number e) (sym (length-map before view))
       (fault_within limit (length before) before after number e fault)
+
+  of_two : (limit : ℕ → ℕ) (number : ℕ) (e : ReadFault) (was is : Pair R) → IsStoppedOf source limit number e was is
+      → IsStoppedOf known limit number e (record { core = view was.core; log = view was.log }) (record { core = view is.core; log = view is.log })
+  of_two limit number e was is (inl (n, fault, inl same)) = inl (n, sees.stopped (limit 0) was.core is.core e fault, inl (ap view same))
+  of_two limit number e was is (inl (n, fault, inr read)) =
+      inl (n, sees.stopped (limit 0) was.core is.core e fault, inr (read.0, sees.whole (limit 1) was.log is.log read.0 read.1))
+  of_two limit number e was is (inr (n, fault, inl on)) =
+      inr (n, sees.stopped (limit 1) was.log is.log e fault, inl (sees.stopped (limit 0) was.core is.core NoMemory on))
+  of_two limit number e was is (inr (n, fault, inr read)) =
+      inr (n, sees.stopped (limit 1) was.log is.log e fault, inr (read.0, sees.whole (limit 0) was.core is.core read.0 read.1))
+
+  pub unread : (passes : Bool) (limit : ℕ → ℕ) (before after : List R) (number : ℕ) (e : ReadFault) → IsUnreadBy passes source limit before after number e
+      → IsUnreadBy passes known limit (map view before) (map view after) number e
+  unread false limit before after number e fault = within_all limit before after number e fault
+  unread true limit before after number e fault = record {
+    was = record { core = view fault.was.core; log = view fault.was.log };
+    is = record { core = view fault.is.core; log = view fault.is.log };
+    were = ap (map view) fault.were;
+    are = ap (map view) fault.are;
+    holds = of_two limit number e fault.was fault.is fault.holds;
+  }
 
   pub all_read : (limit : ℕ → ℕ) (before after : List R) (inputs : List (List ℕ)) → AreAllRead source limit before after inputs
       → AreAllRead known limit (map view before) (map view after) inputs

@@ -7,7 +7,8 @@ use Rattle.leak_find.specs.declared.fault.RunFault.{RunFault}
 use Rattle.leak_find.specs.declared.fault.RunFault.TheVariants.{Read, Find, NoBlock, Write}
 use Rattle.leak_find.specs.declared.task.Task.{Task}
 use Rattle.leak_find.specs.Answers.{IsUntold, Tells}
-use Rattle.leak_find.specs.Inputs.{AreAllRead, IsReadFaultWithin}
+use Rattle.leak_find.specs.Inputs.{AreAllRead}
+use Rattle.leak_find.specs.Passing.{IsUnread}
 use Rattle.leak_find.specs.Streams.{Source, Sink, IsTried}
 use Rattle.leak_find.specs.Tasks.{TakesInputs, is_strict, limit_at}
 
@@ -24,7 +25,7 @@ HasAnswered source task before after answer = OfInputs source task before after 
 
 -- why there is no answer: a reader was not read to its end; or all were, and what they held gives none for this reason
 abbrev pub IsUnanswered : {R : Type 0} → Source R → Task → List R → List R → RunFault → Type 0
-IsUnanswered source task before after (Read n e) = IsReadFaultWithin source (limit_at task) (length before) before after n e
+IsUnanswered source task before after (Read n e) = IsUnread source task before after n e
 IsUnanswered source task before after (Find e) = OfInputs source task before after (λ inputs. IsUntold task inputs (Find e))
 IsUnanswered source task before after (NoBlock a) = OfInputs source task before after (λ inputs. IsUntold task inputs (NoBlock a))
 IsUnanswered source task before after (Write f) = ⊥

@@ -86,12 +86,19 @@ fn report<T: Threads + Sync, P: Progress>(
     ensures refused { IfErr result (IsUntold (Search options.now) (bytes_of inputs.now)) }
 {
     match search(context, options, inputs) {
-        Ok(found) => Ok(Answer {
-            text: found.report,
-            leaked: found.leaked,
-            signs: found.signs,
-        }),
+        Ok(found) => Ok(answer_of(found)),
         Err(error) => Err(RunFault::Find(error)),
+    }
+}
+
+/// What a search found, as an answer.
+pub(crate) fn answer_of(found: Found) -> Answer
+    ensures { result ≡ record { text = found.report; leaked = found.leaked; signs = found.signs } }
+{
+    Answer {
+        text: found.report,
+        leaked: found.leaked,
+        signs: found.signs,
     }
 }
 

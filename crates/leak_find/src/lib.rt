@@ -8,8 +8,8 @@
 //! The program makes a [`Request`] of the words of a command line by [`request`], and runs its [`Task`] by [`run_sized`], from
 //! readers that are said to have sizes to writers. A task says what is asked of the inputs:
 //!
-//! - [`Task::Search`] which blocks leaked: of one core by [`find_one`], or of a later core by [`find_two`] from what an earlier
-//!   one says;
+//! - [`Task::Search`] which blocks leaked: of one core, which is read in one pass and not held (`leak_passing`), with the answer of
+//!   [`find_one`]; or of a later core by [`find_two`] from what an earlier one says;
 //! - [`Task::Why`] what holds a block, by [`find_why`];
 //! - [`Task::Holders`] who holds the memory, by [`find_holders`], or what some blocks hold, by [`find_held`];
 //! - [`Task::Grow`] what grew between two logs, by [`find_growth`].
@@ -44,6 +44,7 @@
 mod answer;
 mod fault;
 mod laws;
+mod passing;
 mod reading;
 mod rules;
 mod running;

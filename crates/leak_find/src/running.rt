@@ -8,6 +8,7 @@ ghost use Rattle.leak_find.specs.Tasks.{TakesInputs};
 
 use crate::answer::{Answer, Context, answer_for};
 use crate::fault::RunFault;
+use crate::passing::{options_to_pass, search_passing};
 use crate::reading::read_inputs;
 use crate::task::{Task, is_strict};
 use leak_holder_search::Progress;
@@ -30,6 +31,9 @@ fn answer<T: Threads + Sync, P: Progress, R: ReadCalls>(
     ensures refused { IfErr result
         (IsUnanswered (by_reads R.calls) task.now readers.old readers.new) }
 {
+    if let Some(options) = options_to_pass(task) {
+        return search_passing(context, readers, sizes, options);
+    }
     let inputs = read_inputs(context.alloc, readers, sizes, task)?;
     answer_for(context, task, inputs.as_slice())
 }
@@ -68,7 +72,8 @@ fn write_both<W: WriteCalls, V: WriteCalls>(
 /// second: 0 if nothing leaked, and 1 otherwise; if a warning has a status of its own and there is one, 3. Who holds the
 /// memory and what grew tell of no leak.
 ///
-/// All inputs are read in order before the task is begun, and answer and warnings are made before anything is written.
+/// The inputs are read in order, each to its end; of one core that is searched and its log the reads take turns
+/// (`leak_passing`). Answer and warnings are made before anything is written.
 /// After a refusal the readers are where the reads left them, and the second writer was not written to. If the second
 /// writer fails, it has a first part of the warnings, and the status is the same. It is for libraries and tests: the program
 /// goes by [`run_sized`], which this calls without sizes.
@@ -93,8 +98,8 @@ pub fn run<T: Threads + Sync, P: Progress, R: Read, W: Write, V: Write>(
 }
 
 /// Runs as [`run`] does, with readers that are said to have these sizes, in their order; 0, as a size that is missing,
-/// says nothing. A list has the said size from the start, at most its limit, if that memory can be had. Nothing else
-/// depends on a size.
+/// says nothing. A list has the said size from the start, at most its limit, if that memory can be had, but for a core of
+/// which it is not known yet whether it is held. Nothing else depends on a size.
 ///
 /// What it promises of readers and writers it promises by each of their calls. [`runs_tell`](crate::runs_tell) is the law
 /// that says what these come to if readers and writers tell their bytes.
