@@ -8,3 +8,4 @@ pub mod Numbers
 pub mod Runs
 pub mod Examples
 pub mod Outcome
+pub mod Callers
