@@ -14,3 +14,4 @@ pub mod PlaceLemmas
 pub mod MeetingLemmas
 pub mod SortLemmas
 pub mod NumberLemmas
+pub mod ElsewhereLemmas

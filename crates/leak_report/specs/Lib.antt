@@ -13,3 +13,5 @@ pub mod WarningExamples
 pub mod Numbered
 pub mod Meeting
 pub mod TextExamples
+pub mod Elsewhere
+pub mod PlaceExamples

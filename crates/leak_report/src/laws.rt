@@ -3,6 +3,8 @@ ghost use Rattle.leak_report.specs.Examples.{AreWorkedReports};
 ghost use Rattle.leak_report.specs.WarningExamples.{AreWorkedWarnings};
 ghost use Rattle.leak_report.specs.TextExamples.{AreWorkedTexts};
 ghost use Rattle.leak_report.specs.Laws.{RowsAreSums, LiveHaveCallers, NumbersTell};
+ghost use Rattle.leak_report.specs.Elsewhere.{ReportsGoByTexts};
+ghost use Rattle.leak_report.specs.PlaceExamples.{AreWorkedPlaces};
 
 use leak_blocks::live_are_of_lines;
 
@@ -38,4 +40,15 @@ pub fn numbers_tell()
 /// The texts and the numbers of the blocks of a log.
 pub fn worked_texts()
     ensures { AreWorkedTexts }
+{}
+
+/// A report goes by the texts of the callers, wherever these stand: blocks whose callers are ranges of other bytes, with
+/// the same texts there, have the report of the blocks of the log.
+pub fn reports_go_by_texts()
+    ensures { ReportsGoByTexts }
+{}
+
+/// Texts that are kept elsewhere, for the blocks of a log.
+pub fn worked_places()
+    ensures { AreWorkedPlaces }
 {}

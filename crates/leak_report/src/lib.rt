@@ -31,7 +31,8 @@ mod warning;
 
 pub use head::{Head, Two};
 pub use laws::{
-    live_have_callers, numbers_tell, rows_are_sums, worked_reports, worked_texts, worked_warnings,
+    live_have_callers, numbers_tell, reports_go_by_texts, rows_are_sums, worked_places,
+    worked_reports, worked_texts, worked_warnings,
 };
 pub use lines::{caller_text, push_dead, push_freed, push_head, push_line, push_sizes};
 pub use listing::{number_texts, push_texts};
