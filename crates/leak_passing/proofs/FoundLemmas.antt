@@ -79,7 +79,7 @@ module _ (core : List ℕ) (skip : Skip) (blocks : List Block) (held words : Lis
 -- ---- the log
 
 -- if the log has lines, its blocks are the live ones
-lines_of : (log : List ℕ) (skip : Skip) (read : Result (Replayed × List Span) LogError) → IfOk read (IsReadLog skip log) → IfErr read (λ e. e ≢ NoMemory → IsFirstFault log e)
+pub lines_of : (log : List ℕ) (skip : Skip) (read : Result (Replayed × List Span) LogError) → IfOk read (IsReadLog skip log) → IfErr read (λ e. e ≢ NoMemory → IsFirstFault log e)
     → (read ≡ Err NoMemory → ⊥) → (lines : List Line) → IsLog log lines → (lines : List Line) × IsLog log lines × (blocks_of read ≡ live_of lines)
 unfolding replay_of
 lines_of log skip (Ok parts) read unread full lines is = (read.0, read.1.is_log, ap (λ (it : Replay). it.blocks) read.1.live)

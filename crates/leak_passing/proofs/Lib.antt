@@ -6,3 +6,5 @@ pub mod KeptLemmas
 pub mod LogLemmas
 pub mod ReaderLemmas
 pub mod FoundLemmas
+pub mod TextLemmas
+pub mod ByTextLemmas

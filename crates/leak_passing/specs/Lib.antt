@@ -4,3 +4,5 @@ pub mod Begun
 pub mod Sifting
 pub mod Kept
 pub mod Passed
+pub mod Texts
+pub mod ByTexts

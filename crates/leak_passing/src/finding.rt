@@ -1,28 +1,81 @@
 //! A core and its log that were read in one pass are searched.
 
-ghost use Rattle.std.specs.Prelude.{◌≡◌, ◌≢◌, ◌↔◌, ℕ, List, [], ◌∷◌, Err, IfOk, IfErr, IsTrue};
+ghost use Rattle.std.specs.Prelude.{◌≡◌, ◌≢◌, ◌↔◌, ◌<◌, ◌^◌, ℕ, List, [], ◌∷◌, length, Err, IfOk, IfErr, IsTrue};
 ghost use Rattle.leak_mtrace.specs.declared.error.LogError.TheVariants.{NoMemory as NoMemoryForLog};
 ghost use Rattle.leak_index.specs.Readings.{distances_of};
+ghost use Rattle.leak_report.specs.Elsewhere.{HaveTextsAt};
+ghost use Rattle.leak_report.specs.Totals.{HaveCallersIn};
 ghost use Rattle.leak_search.specs.Inputs.{IsFaultOfOne};
 ghost use Rattle.leak_search.specs.Search.{FindsOne};
 ghost use Rattle.leak_search.specs.Signs.{AreSigns};
+ghost use Rattle.leak_passing.specs.ByTexts.{IsLogOf, OfLog};
+ghost use Rattle.leak_passing.specs.Kept.{blocks_of};
 ghost use Rattle.leak_passing.specs.Passed.{IsPassed, OfPassed};
 
 use crate::passed::Passed;
+use crate::reporting::found_by_texts;
+use crate::texts::{KeptTexts, keep_texts};
 use leak_alike::searches_of_sifted_cores;
-use leak_blocks::{Replayed, SmallSpans};
+use leak_blocks::{Live, Replayed, SmallSpans};
 use leak_elf::Image;
 use leak_mtrace::LogError;
 use leak_pool::Gate;
-use leak_search::{FindError, Found, Rules, Workers, at_core, find_in, input_of};
+use leak_search::{FindError, Found, Input, Rules, Workers, at_core, input_of, search_in};
 use leak_sift::Behind;
-use std::alloc::Global;
+use std::alloc::{AllocError, Global};
 
 /// Whether the log was not read for want of memory.
 fn is_short(read: &Result<(Replayed, SmallSpans), LogError>) -> bool
     ensures { IsTrue result ↔ read.now ≡ Err NoMemoryForLog }
 {
     matches!(read, Err(LogError::NoMemory))
+}
+
+/// Keeps the texts of the callers of the live blocks that were read of the log. If it has a fault, there are none.
+fn texts_of(
+    alloc: Global,
+    read: &Result<(Replayed, SmallSpans), LogError>,
+    log: &[u8],
+) -> Result<KeptTexts, AllocError>
+    requires { HaveCallersIn log.now (blocks_of read.now) }
+    ensures { IfOk result (λ kept. length (blocks_of read.now) < 2 ^ 32
+        → HaveTextsAt log.now kept.bytes.items kept.places.items kept.numbers.items
+        (blocks_of read.now)) }
+{
+    match read {
+        Ok((replayed, _)) => keep_texts(alloc, replayed.live.blocks(), log),
+        Err(_) => keep_texts(alloc, &[], log),
+    }
+}
+
+/// The live blocks of an input of which nothing else is asked any more.
+fn into_live(input: Input) -> Live
+    ensures { result ≡ input.entry.live }
+{
+    input.live
+}
+
+/// Searches an input by the rules and by the workers, without its log, of which the texts of callers were kept.
+fn find_kept<R: std::thread::Threads + Sync, G: Gate + Sync>(
+    workers: &Workers<'_, R, G>,
+    alloc: Global,
+    input: Input,
+    kept: KeptTexts,
+    rules: Rules,
+    lists_misfits: bool,
+) -> Result<Found, FindError>
+    requires texts { (log : List ℕ) × IsLogOf input kept log }
+    requires skip { input.skip ≡ rules.skip }
+    ensures ok { IfOk result (λ found. OfLog input.entry kept (λ log.
+        FindsOne input.entry.image log (distances_of rules.reading) rules.skip lists_misfits
+        workers.now.plan.workers found)) }
+    ensures signs { IfOk result (λ found. OfLog input.entry kept (λ log.
+        AreSigns rules.other_heap (input.entry.image ∷ log ∷ []) found.signs.items)) }
+    ensures refused { IfErr result (λ e. e ≢ FindError.NoMemory
+        → OfLog input.entry kept (λ log. IsFaultOfOne input.entry.image log e)) }
+{
+    let searched = search_in(workers, alloc, &input, rules, lists_misfits)?;
+    found_by_texts(alloc, into_live(input), searched, kept)
 }
 
 /// Searches a core and its log that were read in one pass by these rules. It gives what
@@ -59,11 +112,13 @@ pub fn find_passed<R: std::thread::Threads + Sync, G: Gate + Sync>(
     if is_short(&read) {
         return Err(FindError::NoMemory);
     }
+    let kept = texts_of(alloc, &read, log.as_slice())?;
+    drop(log); // the texts are all that is asked of it from here on
     let rest = Behind::new(words, len)?;
     let image = match Image::passed(alloc, held.as_slice(), rest) {
         Ok(image) => image,
         Err(error) => return Err(at_core(1, error)),
     };
-    let input = input_of(alloc, 1, rules.skip, image, log.as_slice(), read)?;
-    find_in(workers, alloc, &input, rules, lists_misfits)
+    let input = input_of(alloc, 1, rules.skip, image, read)?;
+    find_kept(workers, alloc, input, kept, rules, lists_misfits)
 }

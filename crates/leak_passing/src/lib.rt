@@ -2,7 +2,8 @@
 //!
 //! [`read_passing`] reads a core up to the end of its head, then the log, then the rest of the core piece by piece,
 //! through a `leak_sift::Sifting`. It returns a [`Passed`]: the head, the words that are kept, and the log with what
-//! was read of it. [`find_passed`] searches this, and gives what `leak_search::find_one` gives for the whole core.
+//! was read of it. [`find_passed`] searches this, and gives what `leak_search::find_one` gives for the whole core. It
+//! keeps the texts of the callers that a report can tell and frees the log before it searches.
 //!
 //! Some cores are read whole, before the log: those without such a head, with a head of more than 64 MiB, or with
 //! segments that a header refuses or that are not orderly; and all cores if dead stack is left out, since a sieve does
@@ -19,7 +20,9 @@ mod finding;
 mod keeping;
 mod passed;
 mod passing;
+mod reporting;
 mod sifted;
+mod texts;
 
 pub use fault::PassingFault;
 pub use finding::find_passed;

@@ -29,20 +29,13 @@ input_callers core log input read =
     subst (λ (bs : List Block). HaveCallersIn log bs) (sym (input_blocks core log read.0 input read.1))
     (have_callers live_of_lines log read.0 read.1.callers)
 
--- the same in the log that the input has
-pub own_callers : (core log : List ℕ) (input : Input) → IsRead core log input → HaveCallersIn input.log.now input.live.blocks
-own_callers core log input read =
-    subst (λ (text : List ℕ). HaveCallersIn text input.live.blocks) (sym read.1.text) (input_callers core log input read)
-
--- the input has the core and the log of which it was read
-pub own_read : (core log : List ℕ) (input : Input) → IsRead core log input → IsRead input.image input.log.now input
-own_read core log input read =
-    let lines = read.0 in
-    (lines, subst (λ (text : List ℕ). IsReadOf input.image text lines input) (sym read.1.text) (subst (λ (file : List ℕ). IsReadOf file log lines input) (sym read.1.image) read.1))
+-- the input has the core of which it was read
+pub own_core : (core log : List ℕ) (lines : List Line) (input : Input) → IsReadOf core log lines input → IsReadOf input.image log lines input
+own_core core log lines input read = subst (λ (file : List ℕ). IsReadOf file log lines input) (sym read.image) read
 
 -- an input that was read
 abbrev pub as_input : (core log : List ℕ) (lines : List Line) (input : Input) → IsReadOf core log lines input → IsInput lines input
-as_input core log lines input read = record { log = log; read = subst (λ (file : List ℕ). IsReadOf file log lines input) (sym read.image) read }
+as_input core log lines input read = record { log = log; read = own_core core log lines input read }
 
 -- the places found are those of the input's root words
 pub roots_found : (lines : List Line) (input : Input) (found places : Places) → AreRootsOf (left_out input.skip input.image input.live.blocks lines) input.image input.live.blocks found

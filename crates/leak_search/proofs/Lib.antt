@@ -2,6 +2,7 @@
 pub mod InputLemmas
 pub mod PairLemmas
 pub mod SearchLemmas
+pub mod SearchedLemmas
 pub mod SizeLemmas
 pub mod TwoLemmas
 pub mod WhyLemmas

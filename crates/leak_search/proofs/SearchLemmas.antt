@@ -32,7 +32,7 @@ use Rattle.leak_pool.specs.declared.error.PoolError.TheVariants.{TooMany as TooM
 use Rattle.leak_search.specs.declared.found.Found.{Found}
 use Rattle.leak_search.specs.declared.inputs.Input.{Input}
 use Rattle.leak_search.specs.Inputs.{AreRootsFor, IsReadOf, IsRead, at_marking, IsFaultOfOne}
-use Rattle.leak_search.specs.Report.{head_with, text_with}
+use Rattle.leak_search.specs.Report.{head_with}
 use Rattle.leak_search.proofs.InputLemmas.{fits_are, input_blocks}
 use Rattle.leak_search.specs.Search.{FindsOne, graph_of_one, index_of}
 use Rattle.leak_search.specs.Signs.{fits_told, fits_with}
@@ -75,36 +75,6 @@ head_is core log lines input places two read roots =
 pub index_is : (reading : Distances) (lines : List Line) (blocks : List Block) (index : Index) → blocks ≡ live_of lines → index ≡ record { blocks = blocks; reading = reading } → index ≡ index_of reading lines
 index_is reading lines blocks index are is = rw (is, are) refl
 
--- a search that read, found roots and marked
-pub finds_one : (core log : List ℕ) (reading : Distances) (check : Bool) (workers : ℕ) (input : Input) (index : Index) (places : Places) (head : Head) (fits : Option (List Bool)) (marked : Marked) (found : Found)
-    → (read : IsRead core log input) → length input.live.blocks < 2 ^ 32 → index ≡ record { blocks = input.live.blocks; reading = reading }
-    → AreRootsOf (left_out input.skip core input.live.blocks read.0) core input.live.blocks places → places.skips_links ≡ input.skip.links → MarksFromRoots (word_of core) index places workers marked → head ≡ head_with input places None
-    → fits ≡ fits_with check input
-    → found.report.items ≡ text_of head input.live.blocks marked.set.items (heads_of (word_of core) index marked.set.items) fits log
-    → found.leaked ≡ length (leaked_in marked.set.items input.live.blocks) → found.claims ≡ marked.claims
-    → FindsOne core log reading input.skip check workers found
-finds_one core log reading check workers input index places head fits marked found read few is roots links marks head_at fits_is report leaked claims =
-    let e = input_blocks core log read.0 input read.1 in
-    let g = marked_graph core reading input.skip read.0 input.live.blocks index places e is roots links in
-    record {
-      accepted = read.1.accepted;
-      lines = read.0;
-      is_log = read.1.is_log;
-      few = subst (λ (bs : List Block). length bs < 2 ^ 32) e few;
-      set = marked.set.items;
-      marked =
-          subst (λ (bs : List Block). IsSet marked.set.items (length bs) (Reach (graph_of_one core reading input.skip read.0))) (ap (λ (i : Index). i.blocks) is ∙ e)
-          (subst (λ (h : Graph). IsSet marked.set.items (length index.blocks) (Reach h)) g marks.set);
-      report =
-          subst (λ (h : Head). found.report.items ≡ text_of h (live_of read.0) marked.set.items (heads_of (word_of core) (index_of reading read.0) marked.set.items) (fits_told check core read.0) log) (head_at ∙ head_is core log read.0 input places None read.1 roots)
-          (subst (λ (f : Option (List Bool)). found.report.items ≡ text_of head (live_of read.0) marked.set.items (heads_of (word_of core) (index_of reading read.0) marked.set.items) f log) (fits_is ∙ fits_are check core log read.0 input read.1)
-          (subst (λ (i : Index). found.report.items ≡ text_of head (live_of read.0) marked.set.items (heads_of (word_of core) i marked.set.items) fits log) (index_is reading read.0 input.live.blocks index e is)
-          (subst (λ (bs : List Block). found.report.items ≡ text_of head bs marked.set.items (heads_of (word_of core) index marked.set.items) fits log) e report)));
-      leaked = subst (λ (bs : List Block). found.leaked ≡ length (leaked_in marked.set.items bs)) e leaked;
-      lists = rw (claims) marks.lists;
-      claims = rw (claims) (subst (λ (h : Graph). Partitions (lists_of marked) (Reach h)) g marks.claims);
-    }
-
 -- what holds of each value that a result may have
 pub ok_by : {A E : Type 0} (T : A → Type 0) (r : Result A E) → ((x : A) → r ≡ Ok x → T x) → IfOk r T
 ok_by T (Ok x) each = each x refl
@@ -120,28 +90,9 @@ marking_refused core log input TooManyForPool f read is many other =
     subst (λ (g : FindError). IsFaultOfOne core log g) (sym is) (too_many core log input read (many refl))
 marking_refused core log input NoMemoryForPool f read is many other = absurd (other is)
 
-no_error : (marked : Marked) → IsErrOf {T = Marked} {E = PoolError} (Ok marked) TooManyForPool → ⊥
+pub no_error : (marked : Marked) → IsErrOf {T = Marked} {E = PoolError} (Ok marked) TooManyForPool → ⊥
 no_error marked e = cc
 
 -- marking that is not refused has blocks that can be numbered
-few_blocks : (n : ℕ) → (2 ^ 32 - 1 < n → ⊥) → n < 2 ^ 32
+pub few_blocks : (n : ℕ) → (2 ^ 32 - 1 < n → ⊥) → n < 2 ^ 32
 few_blocks n not_many = omega (arith, not_many)
-
--- the same of an input as it was read
-pub finds_read : (core log : List ℕ) (reading : Distances) (skip : Skip) (check : Bool) (workers : ℕ) (input : Input) (index : Index) (places : Places) (head : Head) (fits : Option (List Bool)) (marked : Marked) (found : Found)
-    → (read : IsRead core log input) → input.skip ≡ skip → (2 ^ 32 - 1 < length input.live.blocks → IsErrOf {T = Marked} {E = PoolError} (Ok marked) TooManyForPool)
-    → index ≡ record { blocks = input.live.blocks; reading = reading }
-    → AreRootsFor read.0 input places → MarksFromRoots (word_of input.image) index places workers marked → head ≡ head_with input places None
-    → fits ≡ fits_with check input
-    → found.report.items ≡ text_with head input index marked.set.items fits log
-    → found.leaked ≡ length (leaked_in marked.set.items input.live.blocks) → found.claims ≡ marked.claims
-    → FindsOne core log reading skip check workers found
-finds_read core log reading skip check workers input index places head fits marked found read skips many is roots marks head_at fits_is report leaked claims =
-    subst (λ (s : Skip). FindsOne core log reading s check workers found) skips
-    (finds_one core log reading check workers input index places head fits marked found read (few_blocks (length input.live.blocks) (λ h. no_error marked (many h))) is
-    (subst (λ (file : List ℕ). AreRootsOf (left_out input.skip file input.live.blocks read.0) file input.live.blocks places) read.1.image roots.roots)
-    roots.links
-    (subst (λ (file : List ℕ). MarksFromRoots (word_of file) index places workers marked) read.1.image marks)
-    head_at fits_is
-    (subst (λ (file : List ℕ). found.report.items ≡ text_of head input.live.blocks marked.set.items (heads_of (word_of file) index marked.set.items) fits log) read.1.image report)
-    leaked claims)

@@ -36,7 +36,7 @@ use Rattle.leak_search.specs.declared.inputs.Input.{Input}
 use Rattle.leak_search.specs.declared.two_cores.Between.{Between}
 use Rattle.leak_search.specs.declared.pairs.Inputs.{Inputs}
 use Rattle.leak_search.specs.Inputs.{AreRootsFor, IsReadOf, IsInput, at_marking, Continues, AreReadTwo}
-use Rattle.leak_search.specs.Report.{head_with, text_with}
+use Rattle.leak_search.specs.Report.{head_with}
 use Rattle.leak_search.specs.Search.{first_of, graph_of_one, index_of}
 use Rattle.leak_search.specs.SearchTwo.{IsMarkedEarlier, IsBetweenCores, FindsLater, FindsTwo, graph_of_later, head_of_two, kept_blocks, new_blocks, numbers_of_two, size_of}
 use Rattle.leak_search.specs.Signs.{fits_with}
@@ -184,7 +184,7 @@ finds_inputs : (log1 log2 : List ℕ) (reading : Distances) (skip : Skip) (check
     → IsRetrace (word_of second.image) index places b.pages b.carry workers r → count ≡ length b.carry.fresh.items → bytes ≡ size_of second.live.blocks b.carry.fresh.items
     → head ≡ head_with second places (Some (record { fresh = count; fresh_bytes = bytes; reread = r.reread }))
     → fits ≡ fits_with check second
-    → found.report.items ≡ text_with head second index r.marked.set.items fits log2
+    → found.report.items ≡ text_of head second.live.blocks r.marked.set.items (heads_of (word_of second.image) index r.marked.set.items) fits log2
     → found.leaked ≡ length (leaked_in r.marked.set.items second.live.blocks) → found.claims ≡ r.marked.claims
     → FindsTwo first.image log1 second.image log2 reading skip check workers found
 finds_inputs log1 log2 reading skip check workers before now first second index places head fits b r count bytes found read1 read2 few1 few2 continued continues same between skips is roots retrace counted sized head_at fits_is report leaked claims =
@@ -212,7 +212,7 @@ pub finds_two : (core1 log1 core2 log2 : List ℕ) (reading : Distances) (skip :
     → IsRetrace (word_of inputs.second.image) index places b.pages b.carry workers r → count ≡ length b.carry.fresh.items → bytes ≡ size_of inputs.second.live.blocks b.carry.fresh.items
     → head ≡ head_with inputs.second places (Some (record { fresh = count; fresh_bytes = bytes; reread = r.reread }))
     → fits ≡ fits_with check inputs.second
-    → found.report.items ≡ text_with head inputs.second index r.marked.set.items fits log2
+    → found.report.items ≡ text_of head inputs.second.live.blocks r.marked.set.items (heads_of (word_of inputs.second.image) index r.marked.set.items) fits log2
     → found.leaked ≡ length (leaked_in r.marked.set.items inputs.second.live.blocks) → found.claims ≡ r.marked.claims
     → FindsTwo core1 log1 core2 log2 reading skip check workers found
 finds_two core1 log1 core2 log2 reading skip check workers inputs index places head fits b r count bytes found read same between skips is roots retrace counted sized head_at fits_is report leaked claims =

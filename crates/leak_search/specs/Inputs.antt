@@ -1,5 +1,5 @@
 -- An input: a core, and the log of its allocations; and two of one process. Which of their refusals comes first.
-use Rattle.std.specs.Prelude.{◌≡◌, ℕ, List, None, Some, ◌^◌, ◌<◌, ◌≤◌, ◌⊎◌, ◌++◌, length, IsTrue, IsFalse}
+use Rattle.std.specs.Prelude.{◌≡◌, ◌≢◌, ℕ, List, None, Some, ◌^◌, ◌<◌, ◌≤◌, ◌⊎◌, ◌++◌, length, IsTrue, IsFalse, Result, IfOk, IfErr}
 use Rattle.leak_elf.specs.Refusals.{fault_of}
 use Rattle.leak_elf.specs.declared.error.ElfError.{ElfError}
 use Rattle.leak_elf.specs.declared.error.ElfError.TheVariants.{NoMemory as NoMemoryForCore}
@@ -62,11 +62,15 @@ at_marking NoMemoryForPool = NoMemory
 abbrev pub IsReadLog : Skip → List ℕ → Replayed × List Span → Type 0
 IsReadLog skip log read = (lines : List Line) × ComesTo log lines read.0 × CoverSame read.1 (spans_of skip lines)
 
+-- this was read of the log, or its first fault
+pub record IsReadAs (skip : Skip) (log : List ℕ) (answer : Result (Replayed × List Span) LogError) : Type 0 where
+  pub read : IfOk answer (IsReadLog skip log)
+  pub unread : IfErr answer (λ e. e ≢ NoMemoryForLog → IsFirstFault log e)
+
 -- the core and the log are free of faults, the log has these lines, and they were read as they are
 pub record IsReadOf (core log : List ℕ) (lines : List Line) (input : Input) : Type 0 where
   pub accepted : IsCore core
   pub image : input.image ≡ core
-  pub text : input.log.now ≡ log
   pub threads : input.threads ≡ threads_of core
   pub is_log : IsLog log lines
   pub torn : input.torn ≡ torn_of log

@@ -5,6 +5,7 @@ pub mod Report
 pub mod Signs
 pub mod Why
 pub mod Search
+pub mod Searched
 pub mod SearchTwo
 pub mod Laws
 pub mod EndsLaw

@@ -7,7 +7,8 @@ ghost use Rattle.leak_search.specs.Search.{FindsOne};
 ghost use Rattle.leak_search.specs.Signs.{AreSigns};
 
 use crate::{
-    FindError, Found, Rules, consistency_of_one, find_roots, head_of, read_input, report_of,
+    FindError, Found, Rules, consistency_of_one, find_roots, found_of, head_of, read_input,
+    searched_of,
 };
 use leak_index::Sorted;
 use leak_pool::mark_alone;
@@ -37,5 +38,6 @@ pub fn find_alone<'a>(
     let lookup = Sorted::new(&input.live, rules.reading);
     let marked = mark_alone(alloc, &input.image, &lookup, &roots, &input.live)?;
     let head = head_of(&input, &roots, None);
-    report_of(alloc, &input, &lookup, marked, &head, consistency)
+    let searched = searched_of(alloc, &input, &lookup, marked, head, consistency)?;
+    found_of(alloc, &input.live, searched, log)
 }

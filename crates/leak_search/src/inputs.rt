@@ -1,13 +1,13 @@
 //! An input: a core, and the log of its allocations.
 
-ghost use Rattle.std.specs.Prelude.{◌≡◌, ◌≢◌, List, [], None, IfOk, IfErr};
+ghost use Rattle.std.specs.Prelude.{◌≡◌, ◌≢◌, ℕ, List, [], None, IfOk, IfErr};
 ghost use Rattle.leak_elf.specs.Refusals.{fault_of};
 ghost use Rattle.leak_mtrace.specs.declared.line.Line.{Line};
 ghost use Rattle.leak_mtrace.specs.Log.{IsFirstFault};
 ghost use Rattle.leak_pool.specs.Room.{room_of};
 ghost use Rattle.leak_roots.specs.LeftOut.{LeftOut};
 ghost use Rattle.leak_roots.specs.Roots.{AreRootsOf};
-ghost use Rattle.leak_search.specs.Inputs.{AreRootsFor, IsInput, IsInputFault, IsRead, IsReadLog};
+ghost use Rattle.leak_search.specs.Inputs.{AreRootsFor, IsInput, IsInputFault, IsRead, IsReadAs, IsReadLog};
 ghost use Rattle.leak_search.specs.LeftOut.{dead_in, slack_in};
 
 use crate::error::{FindError, at_core, at_log, at_notes};
@@ -22,12 +22,11 @@ use leak_sift::Behind;
 use leak_stacks::dead_spans;
 use std::alloc::{AllocError, Global};
 
-/// A core and its log, read: nothing is marked yet. Of the log's lines only the live blocks are listed.
+/// A core and its log, read: nothing is marked yet. Of the log's lines only the live blocks are listed. Their callers are ranges
+/// of the log's bytes, which the input doesn't hold.
 #[derive(Drop)]
 pub struct Input<'a> {
     pub image: Image<'a, Behind>,
-    /// The bytes of the log.
-    pub log: &'a [u8],
     /// The room that the core gives to edges.
     pub edges: EdgeRoom,
     pub threads: Threads,
@@ -74,11 +73,11 @@ pub fn read_input<'a>(
         Ok(image) => image,
         Err(error) => return Err(at_core(number, error)),
     };
-    input_of(alloc, number, skip, image, log, read_log(alloc, skip, log))
+    input_of(alloc, number, skip, image, read_log(alloc, skip, log))
 }
 
-/// Makes the input with the number, from 1, of a core and of a log that were read, or gives its first fault: that of the
-/// core's notes, then that of the log.
+/// Makes the input with the number, from 1, of a core and of what was read of a log, or gives its first fault: that of the
+/// core's notes, then that of the log. It needs none of the log's bytes.
 ///
 /// # Errors
 ///
@@ -88,17 +87,16 @@ pub fn input_of<'a>(
     number: u8,
     skip: Skip,
     image: Image<'a, Behind>,
-    log: &'a [u8],
     read: Result<(Replayed, SmallSpans), LogError>,
 ) -> Result<Input<'a>, FindError>
     requires accepted { fault_of image ≡ None }
-    requires read { IfOk read (IsReadLog skip log.now) }
-    requires unread { IfErr read (λ e. e ≢ LogError.NoMemory → IsFirstFault log.now e) }
-    ensures ok { IfOk result (IsRead image.entry log.now) }
+    requires read { (log : List ℕ) × IsReadAs skip log read }
+    ensures ok { IfOk result (λ input. (log : List ℕ) → IsReadAs skip log read
+        → IsRead image.entry log input) }
     ensures skip { IfOk result (λ input. input.skip ≡ skip) }
     ensures edges { IfOk result (λ input. input.edges ≡ room_of image.entry) }
-    ensures refused { IfErr result (λ e. e ≢ FindError.NoMemory
-        → IsInputFault number image.entry log.now e) }
+    ensures refused { IfErr result (λ e. e ≢ FindError.NoMemory → (log : List ℕ)
+        → IsReadAs skip log read → IsInputFault number image.entry log e) }
 {
     let threads = match Threads::read(alloc, &image) {
         Ok(threads) => threads,
@@ -111,7 +109,6 @@ pub fn input_of<'a>(
     Ok(Input {
         edges: EdgeRoom::of_size(image.len()),
         image,
-        log,
         threads,
         live: replayed.live,
         skip,

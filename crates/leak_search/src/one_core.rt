@@ -4,11 +4,12 @@ ghost use Rattle.std.specs.Prelude.{◌≡◌, ◌≢◌, [], ◌∷◌, IfOk, I
 ghost use Rattle.leak_index.specs.Readings.{distances_of};
 ghost use Rattle.leak_search.specs.Inputs.{IsFaultOfOne, IsRead};
 ghost use Rattle.leak_search.specs.Search.{FindsOne};
+ghost use Rattle.leak_search.specs.Searched.{OfLogs, SearchesOne};
 ghost use Rattle.leak_search.specs.Signs.{AreSigns};
 
 use crate::{
-    FindError, Found, Input, Rules, Workers, consistency_of_one, find_roots_and_index, head_of,
-    mark_input, read_input, report_of,
+    FindError, Found, Input, Rules, Searched, Workers, consistency_of_one, find_roots_and_index,
+    found_of, head_of, mark_input, read_input, searched_of,
 };
 use leak_pool::Gate;
 use std::alloc::Global;
@@ -40,10 +41,11 @@ pub fn find_one<R: std::thread::Threads + Sync, G: Gate + Sync>(
         → IsFaultOfOne core.now log.now e) }
 {
     let input = read_input(alloc, 1, rules.skip, core, log)?;
-    find_in(workers, alloc, &input, rules, lists_misfits)
+    find_in(workers, alloc, &input, log, rules, lists_misfits)
 }
 
-/// Searches an input by the rules, which left out of it what they leave out, and by the workers.
+/// Searches an input by the rules, which left out of it what they leave out, and by the workers. `log` holds the bytes of the log
+/// of which it was read.
 ///
 /// It gives what [`find_one`] gives for the core and the log of which the input was read.
 ///
@@ -54,21 +56,47 @@ pub fn find_in<R: std::thread::Threads + Sync, G: Gate + Sync>(
     workers: &Workers<'_, R, G>,
     alloc: Global,
     input: &Input,
+    log: &[u8],
     rules: Rules,
     lists_misfits: bool,
 ) -> Result<Found, FindError>
-    requires read { IsRead input.now.image input.now.log.now input.now }
+    requires read { IsRead input.now.image log.now input.now }
     requires skip { input.now.skip ≡ rules.skip }
-    ensures ok { IfOk result (FindsOne input.now.image input.now.log.now
+    ensures ok { IfOk result (FindsOne input.now.image log.now
         (distances_of rules.reading) rules.skip lists_misfits workers.now.plan.workers) }
     ensures signs { IfOk result (λ found. AreSigns rules.other_heap
-        (input.now.image ∷ input.now.log.now ∷ []) found.signs.items) }
+        (input.now.image ∷ log.now ∷ []) found.signs.items) }
     ensures refused { IfErr result (λ e. e ≢ FindError.NoMemory
-        → IsFaultOfOne input.now.image input.now.log.now e) }
+        → IsFaultOfOne input.now.image log.now e) }
+{
+    let searched = search_in(workers, alloc, input, rules, lists_misfits)?;
+    found_of(alloc, &input.live, searched, log)
+}
+
+/// Does all of [`find_in`] but write the report, which [`found_of`] does. So it needs none of the log's bytes.
+///
+/// # Errors
+///
+/// `TooMany`, and `NoMemory` at any time.
+pub fn search_in<R: std::thread::Threads + Sync, G: Gate + Sync>(
+    workers: &Workers<'_, R, G>,
+    alloc: Global,
+    input: &Input,
+    rules: Rules,
+    lists_misfits: bool,
+) -> Result<Searched, FindError>
+    requires skip { input.now.skip ≡ rules.skip }
+    ensures ok { IfOk result (λ searched. OfLogs input.now (λ log lines.
+        SearchesOne input.now.image log lines (distances_of rules.reading) rules.skip
+        lists_misfits workers.now.plan.workers searched)) }
+    ensures signs { IfOk result (λ searched. OfLogs input.now (λ log lines.
+        AreSigns rules.other_heap (input.now.image ∷ log ∷ []) searched.signs.items)) }
+    ensures refused { IfErr result (λ e. e ≢ FindError.NoMemory
+        → OfLogs input.now (λ log lines. IsFaultOfOne input.now.image log e)) }
 {
     let consistency = consistency_of_one(alloc, input, lists_misfits, rules.other_heap)?;
     let indexed = find_roots_and_index(alloc, input, rules.reading)?;
     let marked = mark_input(workers, alloc, input, &indexed)?;
     let head = head_of(input, &indexed.roots, None);
-    report_of(alloc, input, &indexed.lookup, marked, &head, consistency)
+    Ok(searched_of(alloc, input, &indexed.lookup, marked, head, consistency)?)
 }

@@ -16,7 +16,7 @@ ghost use Rattle.leak_search.specs.SearchTwo.{IsMarkedEarlier, IsBetweenCores, F
 
 use crate::{
     FindError, Found, Input, Inputs, RootsAndIndex, Rules, Workers, consistency_of_two,
-    find_roots_and_index, head_of, mark_input, read_two, report_of,
+    find_roots_and_index, found_of, head_of, mark_input, read_two, searched_of,
 };
 use leak_blocks::Block;
 use leak_index::Reading;
@@ -186,12 +186,13 @@ pub fn find_two<R: Threads + Sync, G: Gate + Sync>(
     let retraced = mark_later(workers, alloc, &second, &indexed, &between)?;
     let two = numbers_of(&second, &between.carry, retraced.reread);
     let head = head_of(&second, &indexed.roots, Some(two));
-    report_of(
+    let searched = searched_of(
         alloc,
         &second,
         &indexed.lookup,
         retraced.marked,
-        &head,
+        head,
         consistency,
-    )
+    )?;
+    found_of(alloc, &second.live, searched, log2)
 }

@@ -1,0 +1,16 @@
+-- An input whose log is let go: what was kept of it is enough.
+use Rattle.std.specs.Prelude.{ℕ, ◌^◌, ◌<◌, List, length}
+use Rattle.leak_report.specs.Elsewhere.{HaveTextsAt}
+use Rattle.leak_search.specs.Inputs.{IsRead}
+use Rattle.leak_search.specs.declared.inputs.Input.{Input}
+use Rattle.leak_passing.specs.declared.texts.KeptTexts.{KeptTexts}
+
+-- the input was read of the log, and these are the texts of its blocks' callers, if these are few enough to be numbered
+pub record IsLogOf (input : Input) (kept : KeptTexts) (log : List ℕ) : Type 0 where
+  pub read : IsRead input.image log input
+  pub texts : length input.live.blocks < 2 ^ 32
+      → HaveTextsAt log kept.bytes.items kept.places.items kept.numbers.items input.live.blocks
+
+-- this is so of each such log
+abbrev pub OfLog : Input → KeptTexts → (List ℕ → Type 0) → Type 0
+OfLog input kept Holds = (log : List ℕ) → IsLogOf input kept log → Holds log

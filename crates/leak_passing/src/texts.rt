@@ -1,0 +1,75 @@
+//! The texts of the callers of blocks, kept in place of the log that has them.
+
+ghost use Rattle.std.specs.Prelude.{◌≡◌, ◌-◌, ◌^◌, ◌<◌, length, min, sum_by, IfOk};
+ghost use Rattle.leak_report.specs.Totals.{HaveCallersIn};
+ghost use Rattle.leak_report.specs.Numbered.{bytes_each};
+ghost use Rattle.leak_report.specs.Elsewhere.{HaveTextsAt};
+ghost use Rattle.leak_passing.specs.Texts.{StandAt};
+
+use leak_blocks::Block;
+use leak_report::{Texts, number_texts};
+use std::alloc::{AllocError, Global};
+
+/// The texts of the callers of blocks, each once.
+#[derive(Drop)]
+pub(crate) struct KeptTexts {
+    /// The texts, one after another.
+    pub(crate) bytes: Vec<u8>,
+    /// For each text its range of these bytes, with its end excluded.
+    pub(crate) places: Vec<(usize, usize)>,
+    /// For each block which of the places its text has.
+    pub(crate) numbers: Vec<u32>,
+}
+
+/// How many bytes texts have together, as far as a number can tell.
+fn total(texts: &[&[u8]]) -> usize
+    ensures { result ≡ min (sum_by length (bytes_each texts.now)) (2 ^ 64 - 1) }
+{
+    let mut total = 0usize;
+    for text in texts {
+        total = total.saturating_add(text.len());
+    }
+    total
+}
+
+/// Copies texts one after another. It gives the bytes, and for each text its range of them.
+fn copied(alloc: Global, texts: &[&[u8]]) -> Result<(Vec<u8>, Vec<(usize, usize)>), AllocError>
+    ensures { IfOk result (λ copied.
+        StandAt copied.0.items copied.1.items (bytes_each texts.now)) }
+{
+    let mut bytes = Vec::with_capacity(alloc, total(texts))?;
+    let mut places = Vec::with_capacity(alloc, texts.len())?;
+    for text in texts {
+        let start = bytes.len();
+        bytes.extend_from_slice(text)?;
+        places.push((start, bytes.len()))?;
+    }
+    Ok((bytes, places))
+}
+
+/// Keeps the texts of the callers of blocks, whose ranges are of the log. Of 2^32 blocks and more it keeps none: no
+/// search takes so many.
+pub(crate) fn keep_texts(
+    alloc: Global,
+    blocks: &[Block],
+    log: &[u8],
+) -> Result<KeptTexts, AllocError>
+    requires { HaveCallersIn log.now blocks.now }
+    ensures { IfOk result (λ kept. length blocks.now < 2 ^ 32
+        → HaveTextsAt log.now kept.bytes.items kept.places.items kept.numbers.items blocks.now) }
+{
+    if blocks.len() > u32::MAX as usize {
+        return Ok(KeptTexts {
+            bytes: Vec::new(alloc),
+            places: Vec::new(alloc),
+            numbers: Vec::new(alloc),
+        });
+    }
+    let Texts { texts, numbers } = number_texts(alloc, blocks, log)?;
+    let (bytes, places) = copied(alloc, texts.as_slice())?;
+    Ok(KeptTexts {
+        bytes,
+        places,
+        numbers,
+    })
+}
