@@ -55,10 +55,12 @@ PHASES = (
     Phase("cases", 5, (f"{OUT}/leak_cli", f"{OUT}/leak_cli.by-rattle"), (
         Step("python3 gate/phases_test.py"),
         Step("python3 gate/cases_test.py"),
+        Step("python3 gate/passes_test.py"),
         Step("python3 setup/options_test.py"),
         Step(f"python3 setup/options.py --check {OUT}/leak_cli"),
         Step(f"python3 gate/terminal.py {OUT}/leak_cli {OUT}/leak_cli.by-rattle", "terminal: "),
         Step(f"python3 gate/threads.py {OUT}/leak_cli {OUT}/leak_cli.by-rattle", "threads: "),
+        Step(f"python3 gate/passes.py {OUT}/leak_cli {OUT}/leak_cli.by-rattle", "passes: "),
         Step(f"python3 gate/cases.py {OUT}/leak_cli {OUT}/leak_cli.by-rattle", "cases: ")), beside=True, after=BUILT),
     Phase("examples", 15, (f"{OUT}/leak_cli",), (
         Step("make -j $(nproc) -C capture"),
