@@ -36,7 +36,7 @@ MOST_FAILED = 10  # then the others are not tried
 MOST_AT_ONCE = 16  # Linux grants no user many more pipes of this size
 PIPE_BYTES, STEPS = 1 << 20, 240  # 256 steps fit
 # The commands, and whether they pass orderly cores.
-COMMANDS = {"one": True, "holders": False}
+COMMANDS = {"one": True, "holders": True}
 FLAGS = ("--skip-freed", "--skip-links", "--skip-slack", "--skip-ends", "--all-memory", "--strict")
 VALUES = ("", "", "--workers 1", "--workers 1 --stack 0", "--workers 2 --piece 1", "--displace 0",
           "--workers 1 --displace 8,16")

@@ -104,7 +104,7 @@ class Programs(unittest.TestCase):
         self.told(found_by(PASSES, 0.3, range(8)), "a core was not held")
 
     def test_another_answer_by_a_pipe_is_told(self):
-        with mock.patch.dict(passes.COMMANDS, one=False):
+        with mock.patch.dict(passes.COMMANDS, one=False, holders=False):
             self.assertFalse([found for _, _, found in found_by(HOLDS) if found])
             rows = ("echo pipe", "stdout:"), ("echo pipe >&2", "stderr:"), ("exit 7", "status: wanted 0, got 7")
             for said, stream in rows:
@@ -113,7 +113,7 @@ class Programs(unittest.TestCase):
                 self.assertTrue(all(found for _, _, found in results))
 
     def test_another_answer_by_the_layout_is_told(self):
-        with mock.patch.dict(passes.COMMANDS, one=False):
+        with mock.patch.dict(passes.COMMANDS, one=False, holders=False):
             results = found_by('cksum < "$2"; cat "$3" > /dev/null')
             whole = [passes.Task(number).is_same for number in NUMBERS]
             self.assertEqual([bool(found) for _, _, found in results], whole)

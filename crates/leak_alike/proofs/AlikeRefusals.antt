@@ -33,12 +33,12 @@ module _ (core other : List ℕ) (faults : fault_of core ≡ fault_of other) (no
   search_refused log e (inl is) = inl (input_refused 1 log e is)
   search_refused log e (inr is) = inr (is.0, core_faultless is.1, is.2)
 
-  holders_refused : (log : List ℕ) (since : Option (List ℕ)) (e : FindError) → IsFaultOfHolders core log since e → IsFaultOfHolders other log since e
+  pub holders_refused : (log : List ℕ) (since : Option (List ℕ)) (e : FindError) → IsFaultOfHolders core log since e → IsFaultOfHolders other log since e
   holders_refused log since e (inl is) = inl (input_refused 1 log e is)
   holders_refused log since e (inr (inl is)) = inr (inl (both_faultless log is.0, is.1, is.2))
   holders_refused log since e (inr (inr is)) = inr (inr (both_faultless log is.0, is.1, is.2, is.3))
 
-  answer_refused : (log : List ℕ) (since : Option (List ℕ)) (address : ℕ) (e : WhyError) → IsHeldFault core log since address e → IsHeldFault other log since address e
+  pub answer_refused : (log : List ℕ) (since : Option (List ℕ)) (address : ℕ) (e : WhyError) → IsHeldFault core log since address e → IsHeldFault other log since address e
   answer_refused log since address (Find e) is = holders_refused log since e is
   answer_refused log since address (NoBlock a) is = (is.0, core_faultless is.1, is.2, is.3)
 

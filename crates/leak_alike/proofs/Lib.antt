@@ -14,3 +14,4 @@ pub mod WordBytes
 pub mod SiftedWords
 pub mod SiftedLemmas
 pub mod SiftedSearches
+pub mod SiftedAnswers

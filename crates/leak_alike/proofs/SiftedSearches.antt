@@ -20,7 +20,7 @@ use Rattle.leak_alike.proofs.OneHeads.{agree_but_words}
 use Rattle.leak_alike.proofs.SiftedLemmas.{alike_by_log}
 use Rattle.leak_alike.proofs.SiftedWords.{behind, sifted_long}
 
-both_accepted : (rule : Rule) (held rest : List ℕ) → IsHead held → fault_of (sifted_core rule held rest) ≡ None → fault_of (held ++ rest) ≡ None
+pub both_accepted : (rule : Rule) (held rest : List ℕ) → IsHead held → fault_of (sifted_core rule held rest) ≡ None → fault_of (held ++ rest) ≡ None
 both_accepted rule held rest head accepted = (agree_but_words held rest (behind rule held rest) head (sifted_long rule held rest)).faults ∙ accepted
 
 pub searches_of_sifted : (held rest log : List ℕ) (lines : List Line) (reading : Distances) (skip : Skip) (check : Bool) (workers : ℕ) (found : Found)

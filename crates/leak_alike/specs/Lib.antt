@@ -7,4 +7,5 @@ pub mod AlikeHolders
 pub mod AlikeRefusals
 pub mod OneHead
 pub mod SiftedCores
+pub mod SiftedHolders
 pub mod SiftedRows

@@ -3,6 +3,8 @@
 ghost use Rattle.leak_alike.specs.OneHead.{FilesOfOneHeadAgree, RefusedOfOneHeadAreOne};
 ghost use Rattle.leak_alike.specs.SiftedCores.{RefusedOfSiftedAreOne, SearchesOfSiftedAreOne, SignsOfSiftedAreOne};
 ghost use Rattle.leak_alike.specs.SiftedCores.{SiftedAreAlike, SiftedAreAlikeByLog, SiftedWordsAreKept};
+ghost use Rattle.leak_alike.specs.SiftedHolders.{AnswersOfSiftedAreOne, HoldersOfSiftedAreOne};
+ghost use Rattle.leak_alike.specs.SiftedHolders.{RefusedAnswersOfSiftedAreOne, RefusedHoldersOfSiftedAreOne};
 ghost use Rattle.leak_alike.specs.SiftedRows.{AreWorkedSifted};
 
 /// Two files that begin with one head and are as long agree in all that is read of them but words: faults, segments,
@@ -27,6 +29,15 @@ pub fn searches_of_sifted_cores()
     ensures found { SearchesOfSiftedAreOne }
     ensures signs { SignsOfSiftedAreOne }
     ensures refused { RefusedOfSiftedAreOne }
+{}
+
+/// The report on who holds the memory is that of the whole core too, and so is each answer about chosen blocks: what
+/// they hold, and who holds them. The one core is rejected for the reason for which the other is.
+pub fn holders_of_sifted_cores()
+    ensures holders { HoldersOfSiftedAreOne }
+    ensures chosen { AnswersOfSiftedAreOne }
+    ensures refused_holders { RefusedHoldersOfSiftedAreOne }
+    ensures refused_chosen { RefusedAnswersOfSiftedAreOne }
 {}
 
 /// A core that can be sifted, one that can't, and what is kept of some words.

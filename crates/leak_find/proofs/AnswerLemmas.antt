@@ -1,11 +1,9 @@
 -- From what the searches promise of some bytes to the answers for inputs that are these.
-use Rattle.std.proofs.Common.{◌≡◌, ℕ, List, [], ◌∷◌, Option, ap, length, refl, subst, ◌∙◌}
-use Rattle.std.specs.Prelude.{true, false}
+use Rattle.std.proofs.Common.{◌≡◌, ℕ, List, [], ◌∷◌, Option, ap, length, refl, subst}
 use Rattle.leak_index.specs.Readings.{distances_of}
 use Rattle.leak_holders.specs.declared.question.Question.{Question}
 use Rattle.leak_report.specs.declared.signs.Signs.{Signs}
 use Rattle.leak_request.specs.declared.options.Options.{Options}
-use Rattle.leak_request.specs.Requests.{file_count}
 use Rattle.leak_search.specs.Signs.{AreSigns}
 use Rattle.leak_search.specs.declared.rules.Rules.{Rules}
 use Rattle.leak_search.specs.Why.{TellsWhy}
@@ -18,13 +16,7 @@ use Rattle.leak_find.specs.Inputs.{input_at}
 use Rattle.leak_find.specs.Rules.{rules_in}
 use Rattle.leak_find.specs.declared.answer.Answer.{Answer}
 
--- ---- inputs of two readers, and of four
-
-just_two : (inputs : List (List ℕ)) → length inputs ≡ 2 → input_at inputs 0 ∷ input_at inputs 1 ∷ [] ≡ inputs
-just_two [] count = cc
-just_two (core ∷ []) count = cc
-just_two (core ∷ log ∷ []) count = refl
-just_two (core ∷ log ∷ more ∷ others) count = cc
+-- ---- inputs of four readers
 
 just_four : (inputs : List (List ℕ)) → length inputs ≡ 4
     → input_at inputs 0 ∷ input_at inputs 1 ∷ input_at inputs 2 ∷ input_at inputs 3 ∷ [] ≡ inputs
@@ -36,19 +28,11 @@ just_four (a ∷ b ∷ c ∷ d ∷ []) count = refl
 just_four (a ∷ b ∷ c ∷ d ∷ more ∷ others) count = cc
 
 module _ (o : Options) (rules : Rules) (inputs : List (List ℕ)) (signs : List Signs) (rules_are : rules ≡ rules_in o) where
-  pub signs_of_two : length inputs ≡ file_count o.two → o.two ≡ false → (core log : List ℕ) → core ≡ input_at inputs 0 → log ≡ input_at inputs 1
-      → AreSigns rules.other_heap (core ∷ log ∷ []) signs → AreSigns o.other_heap inputs signs
-  signs_of_two count one core log core_is log_is are =
-      subst (λ (is : List (List ℕ)). AreSigns o.other_heap is signs) (just_two inputs (count ∙ ap file_count one))
-      (subst (λ (l : List ℕ). AreSigns o.other_heap (input_at inputs 0 ∷ l ∷ []) signs) log_is
-      (subst (λ (c : List ℕ). AreSigns o.other_heap (c ∷ log ∷ []) signs) core_is
-      (subst (λ (r : Rules). AreSigns r.other_heap (core ∷ log ∷ []) signs) rules_are are)))
-
-  pub signs_of_four : length inputs ≡ file_count o.two → o.two ≡ true → (core1 log1 core2 log2 : List ℕ)
+  pub signs_of_four : length inputs ≡ 4 → (core1 log1 core2 log2 : List ℕ)
       → core1 ≡ input_at inputs 0 → log1 ≡ input_at inputs 1 → core2 ≡ input_at inputs 2 → log2 ≡ input_at inputs 3
       → AreSigns rules.other_heap (core1 ∷ log1 ∷ core2 ∷ log2 ∷ []) signs → AreSigns o.other_heap inputs signs
-  signs_of_four count two core1 log1 core2 log2 core1_is log1_is core2_is log2_is are =
-      subst (λ (is : List (List ℕ)). AreSigns o.other_heap is signs) (just_four inputs (count ∙ ap file_count two))
+  signs_of_four count core1 log1 core2 log2 core1_is log1_is core2_is log2_is are =
+      subst (λ (is : List (List ℕ)). AreSigns o.other_heap is signs) (just_four inputs count)
       (subst (λ (l : List ℕ). AreSigns o.other_heap (input_at inputs 0 ∷ input_at inputs 1 ∷ input_at inputs 2 ∷ l ∷ []) signs) log2_is
       (subst (λ (c : List ℕ). AreSigns o.other_heap (input_at inputs 0 ∷ input_at inputs 1 ∷ c ∷ log2 ∷ []) signs) core2_is
       (subst (λ (l : List ℕ). AreSigns o.other_heap (input_at inputs 0 ∷ l ∷ core2 ∷ log2 ∷ []) signs) log1_is

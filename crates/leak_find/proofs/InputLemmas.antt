@@ -5,8 +5,12 @@ use Rattle.std.proofs.lemmas.Option.{none-some, same_Some, slice_get-get_or}
 use Rattle.leak_streams.specs.declared.fault.ReadFault.{ReadFault}
 use Rattle.leak_find.specs.declared.fault.RunFault.{RunFault}
 use Rattle.leak_find.specs.declared.fault.RunFault.TheVariants.{Read, Find, NoBlock, Write}
+use Rattle.leak_find.specs.declared.task.Task.{Task}
+use Rattle.leak_find.specs.Answers.{IsUntold}
+use Rattle.leak_find.specs.Run.{IsUnanswered}
 use Rattle.leak_find.specs.Streams.{Source}
-use Rattle.leak_find.specs.Inputs.{AreRead, AreReadUpTo, IsReadAt, IsReaderFault, IsReadFaultWithin, IsReadRefusal, IsStoppedAt}
+use Rattle.leak_find.specs.Tasks.{TakesInputs, limit_at}
+use Rattle.leak_find.specs.Inputs.{AreAllRead, AreRead, AreReadUpTo, IsReadAt, IsReaderFault, IsReadFaultWithin, IsReadRefusal, IsStoppedAt}
 
 module _ {R : Type 0} (source : Source R) where
   -- the reader with the number was read, by what the list of readers gave
@@ -95,3 +99,13 @@ module _ {R : Type 0} (source : Source R) where
   refused_next limit before mid after inputs n most e so_far count is low fault =
       refused_at limit before mid after inputs e so_far (omega (arith, count, low))
       (subst (λ (k : ℕ). IsReaderFault source k (limit k) mid after e) (sym count) (subst (λ (m : ℕ). IsReaderFault source n m mid after e) is fault))
+
+-- all readers of the task were read to their ends, and what they held gives no answer for this reason
+pub untold_all : {R : Type 0} (source : Source R) (task : Task) (before after : List R) (inputs : List (List ℕ)) (e : RunFault) → TakesInputs task (length before)
+    → AreAllRead source (limit_at task) before after inputs → IsUntold task inputs e → IsUnanswered source task before after e
+untold_all source task before after inputs (Read n f) takes read untold = absurd untold
+untold_all source task before after inputs (Find f) takes read untold =
+    record { inputs = inputs; takes = subst (λ (n : ℕ). TakesInputs task n) (sym read.count) takes; read = read; holds = untold }
+untold_all source task before after inputs (NoBlock a) takes read untold =
+    record { inputs = inputs; takes = subst (λ (n : ℕ). TakesInputs task n) (sym read.count) takes; read = read; holds = untold }
+untold_all source task before after inputs (Write f) takes read untold = absurd untold

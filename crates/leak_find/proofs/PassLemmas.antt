@@ -1,5 +1,6 @@
 -- What a core that was passed comes to for a run.
-use Rattle.std.proofs.Common.{◌≡◌, ◌≢◌, ◌⊎◌, inl, inr, refl, sym, ap, subst, ℕ, Bool, false, not, List, [], ◌∷◌}
+use Rattle.std.proofs.Common.{◌≡◌, ◌≢◌, ◌⊎◌, inl, inr, refl, sym, ap, subst, ◌∙◌, ℕ, Bool, false, not, List, [], ◌∷◌, ◌++◌, length, take, drop}
+use Rattle.std.proofs.lemmas.List.{take-append-drop}
 use Rattle.leak_streams.specs.declared.fault.ReadFault.{ReadFault}
 use Rattle.leak_streams.specs.Reads.{Calls}
 use Rattle.leak_index.specs.Readings.{distances_of}
@@ -25,11 +26,11 @@ use Rattle.leak_find.specs.declared.fault.RunFault.{RunFault}
 use Rattle.leak_find.specs.declared.fault.RunFault.TheVariants.{Read, Find, NoBlock, Write}
 use Rattle.leak_find.specs.declared.task.Task.{Task}
 use Rattle.leak_find.specs.declared.task.Task.TheVariants.{Search}
-use Rattle.leak_find.specs.Inputs.{AreAllRead, IsReadRefusal}
-use Rattle.leak_find.specs.Passing.{IsReadOn, IsReadToEnd, IsStoppedOf, IsUnreadBy, at_passing, passes_core}
+use Rattle.leak_find.specs.Inputs.{AreRead, IsReadRefusal}
+use Rattle.leak_find.specs.Passing.{AreFirstTwo, IsPassRefusal, IsReadOn, IsReadToEnd, IsStoppedOf, IsUnreadBy, at_passing, limits_in, passes_core}
 use Rattle.leak_find.specs.Run.{IsUnanswered, OfInputs}
 use Rattle.leak_find.specs.Streams.{Source, by_reads}
-use Rattle.leak_find.specs.Tasks.{limit_at}
+use Rattle.leak_find.specs.Tasks.{limit_at, limit_beside}
 
 -- the refusal of readers that are read one after the other
 pub unread : {R : Type 0} (source : Source R) (task : Task) (before after : List R) (e : RunFault) → passes_core task ≡ false
@@ -39,69 +40,92 @@ unread source task before after (Find f) held refusal = absurd refusal
 unread source task before after (NoBlock a) held refusal = absurd refusal
 unread source task before after (Write f) held refusal = absurd refusal
 
--- the limits of a search of one core
-pub record AreLimits (o : Options) (limits : Limits) : Type 0 where
-  pub core : limits.core ≡ o.core_limit
-  pub log : limits.log ≡ o.log_limit
-
--- the number of the reader, and its fault
-abbrev number_of : PassingFault → ℕ
-number_of (Core f) = 1
-number_of (Log f) = 2
-
-abbrev fault_of : PassingFault → ReadFault
-fault_of (Core f) = f
-fault_of (Log f) = f
+-- ---- the first two readers
 
 -- by the limits of the options
-at_limits : {R : Type 0} (calls : Calls R) (o : Options) (limits : Limits) → AreLimits o limits → (fault : PassingFault) (was is : Pair R)
-    → IsPassingFault calls limits fault was is → IsPassingFault calls (record limits { core = o.core_limit; log = o.log_limit }) fault was is
-at_limits calls o limits are fault was is stopped = rw (← are.core, ← are.log) stopped
+limited : {R : Type 0} (calls : Calls R) (o : Options) (limits : Limits) (skip : Skip) (passed : Passed) (was is : Pair R)
+    → limits.core ≡ o.core_limit → limits.log ≡ o.log_limit → Passes calls limits skip passed was is → Passes calls (limits_in o) skip passed was is
+limited calls o limits skip passed was is core_is log_is both = record {
+  core = both.core;
+  log = both.log;
+  core_read = rw (← core_is) both.core_read;
+  log_read = rw (← log_is) both.log_read;
+  passed_is = both.passed_is;
+}
 
-module _ {R : Type 0} (calls : Calls R) (o : Options) (was is : Pair R) where
-  log_read : (n : ℕ) → IsReadOrNot calls n was.log is.log → (is.log ≡ was.log) ⊎ IsReadToEnd (by_reads calls) n was.log is.log
-  log_read n (inl same) = inl same
-  log_read n (inr whole) = inr whole
+module _ {R : Type 0} (Holds : Pair R → Pair R → Type 0) (before mid : List R) where
+  -- what is so of the first two, cut out, is so of the first two
+  first_two : AreTwo (take 2 before) mid Holds → AreFirstTwo before (mid ++ drop 2 before) Holds
+  first_two two = record {
+    was = two.was;
+    is = two.is;
+    others = drop 2 before;
+    were = sym (take-append-drop 2 before) ∙ ap (λ (rs : List R). rs ++ drop 2 before) two.were;
+    are = ap (λ (rs : List R). rs ++ drop 2 before) two.are;
+    holds = two.holds;
+  }
 
-  core_read : (n : ℕ) → IsReadSomeWay calls n was.core is.core → IsReadOn (by_reads calls) n was.core is.core ⊎ IsReadToEnd (by_reads calls) n was.core is.core
-  core_read n (inl whole) = inr whole
-  core_read n (inr some) = inl some
+weaker : {R : Type 0} (P Q : Pair R → Pair R → Type 0) (before after : List R) → ((was is : Pair R) → P was is → Q was is) → AreTwo before after P → AreTwo before after Q
+weaker P Q before after f two = record { was = two.was; is = two.is; were = two.were; are = two.are; holds = f two.was two.is two.holds }
 
-  stopped_of : (limits : Limits) (fault : PassingFault) → IsPassingFault calls (record limits { core = o.core_limit; log = o.log_limit }) fault was is
-      → IsStoppedOf (by_reads calls) (limit_at (Search o)) (number_of fault) (fault_of fault) was is
-  stopped_of limits (Core f) stopped = inl (refl, stopped.0, log_read o.log_limit stopped.1)
-  stopped_of limits (Log f) stopped = inr (refl, stopped.0, core_read o.core_limit stopped.1)
+module _ {R : Type 0} (calls : Calls R) (o : Options) (limits : Limits) (core_is : limits.core ≡ o.core_limit) (log_is : limits.log ≡ o.log_limit) where
+  log_read : (n : ℕ) (was is : Pair R) → IsReadOrNot calls n was.log is.log → (is.log ≡ was.log) ⊎ IsReadToEnd (by_reads calls) n was.log is.log
+  log_read n was is (inl same) = inl same
+  log_read n was is (inr whole) = inr whole
+
+  core_read : (n : ℕ) (was is : Pair R) → IsReadSomeWay calls n was.core is.core → IsReadOn (by_reads calls) n was.core is.core ⊎ IsReadToEnd (by_reads calls) n was.core is.core
+  core_read n was is (inl whole) = inr whole
+  core_read n was is (inr some) = inl some
+
+  core_stopped : (f : ReadFault) (was is : Pair R) → IsPassingFault calls limits (Core f) was is → IsStoppedOf (by_reads calls) (limit_beside o) 1 f was is
+  core_stopped f was is stopped = inl (refl, rw (← core_is) stopped.0, rw (← log_is) (log_read limits.log was is stopped.1))
+
+  log_stopped : (f : ReadFault) (was is : Pair R) → IsPassingFault calls limits (Log f) was is → IsStoppedOf (by_reads calls) (limit_beside o) 2 f was is
+  log_stopped f was is stopped = inr (refl, rw (← log_is) stopped.0, rw (← core_is) (core_read limits.core was is stopped.1))
+
+  pub passed_both : (skip : Skip) (passed : Passed) (before mid : List R) → AreTwo (take 2 before) mid (Passes calls limits skip passed)
+      → AreFirstTwo before (mid ++ drop 2 before) (Passes calls (limits_in o) skip passed)
+  passed_both skip passed before mid two =
+      first_two (Passes calls (limits_in o) skip passed) before mid
+      (weaker (Passes calls limits skip passed) (Passes calls (limits_in o) skip passed) (take 2 before) mid (λ was is. limited calls o limits skip passed was is core_is log_is) two)
+
+  pub passed_not : (fault : PassingFault) (before mid : List R) → AreTwo (take 2 before) mid (IsPassingFault calls limits fault)
+      → IsPassRefusal (by_reads calls) (limit_beside o) before (mid ++ drop 2 before) (at_passing fault)
+  passed_not (Core f) before mid two =
+      first_two (IsStoppedOf (by_reads calls) (limit_beside o) 1 f) before mid
+      (weaker (IsPassingFault calls limits (Core f)) (IsStoppedOf (by_reads calls) (limit_beside o) 1 f) (take 2 before) mid (core_stopped f) two)
+  passed_not (Log f) before mid two =
+      first_two (IsStoppedOf (by_reads calls) (limit_beside o) 2 f) before mid
+      (weaker (IsPassingFault calls limits (Log f)) (IsStoppedOf (by_reads calls) (limit_beside o) 2 f) (take 2 before) mid (log_stopped f) two)
+
+-- both were read to their ends
+pub both_read : {R : Type 0} (calls : Calls R) (o : Options) (skip : Skip) (passed : Passed) (limit : ℕ → ℕ) (before after : List R)
+    → limit 0 ≡ o.core_limit → limit 1 ≡ o.log_limit → (two : AreFirstTwo before after (Passes calls (limits_in o) skip passed))
+    → AreRead (by_reads calls) limit before after (two.holds.core ∷ two.holds.log ∷ [])
+both_read {R = R} calls o skip passed limit before after core_is log_is two =
+    let inputs : List (List ℕ) = two.holds.core ∷ two.holds.log ∷ [] in
+    subst (λ (rs : List R). AreRead (by_reads calls) limit rs after inputs) (sym two.were)
+    (subst (λ (rs : List R). AreRead (by_reads calls) limit (readers_of two.was ++ two.others) rs inputs) (sym two.are)
+    (rw (core_is) two.holds.core_read, (rw (log_is) two.holds.log_read, refl)))
+
+-- ---- the search of one core
 
 -- why a core and its log were not read is why the run has no answer
-pub refused : {R : Type 0} (calls : Calls R) (o : Options) (limits : Limits) → AreLimits o limits → o.two ≡ false → (fault : PassingFault) (before after : List R)
-    → AreTwo before after (IsPassingFault calls limits fault) → IsUnanswered (by_reads calls) (Search o) before after (at_passing fault)
-refused calls o limits are one (Core f) before after two =
-    subst (λ (b : Bool). IsUnreadBy (not b) (by_reads calls) (limit_at (Search o)) before after 1 f) (sym one) (record {
-      was = two.was;
-      is = two.is;
-      were = two.were;
-      are = two.are;
-      holds = stopped_of calls o two.was two.is limits (Core f) (at_limits calls o limits are (Core f) two.was two.is two.holds);
-    })
-refused calls o limits are one (Log f) before after two =
-    subst (λ (b : Bool). IsUnreadBy (not b) (by_reads calls) (limit_at (Search o)) before after 2 f) (sym one) (record {
-      was = two.was;
-      is = two.is;
-      were = two.were;
-      are = two.are;
-      holds = stopped_of calls o two.was two.is limits (Log f) (at_limits calls o limits are (Log f) two.was two.is two.holds);
-    })
+pub search_refused : {R : Type 0} (source : Source R) (o : Options) (before after : List R) (e : RunFault) → o.two ≡ false
+    → IsPassRefusal source (limit_beside o) before after e → IsUnanswered source (Search o) before after e
+search_refused source o before after (Read n f) one refusal = subst (λ (b : Bool). IsUnreadBy (not b) source (limit_at (Search o)) before after n f) (sym one) (inl refusal)
+search_refused source o before after (Find f) one refusal = absurd refusal
+search_refused source o before after (NoBlock a) one refusal = absurd refusal
+search_refused source o before after (Write f) one refusal = absurd refusal
 
 -- both were read to their ends, and this is so of what they held
-pub both_read : {R : Type 0} (calls : Calls R) (o : Options) (limits : Limits) (skip : Skip) (passed : Passed) (Holds : List (List ℕ) → Type 0) (before after : List R)
-    → AreLimits o limits → o.two ≡ false → (two : AreTwo before after (Passes calls limits skip passed))
+pub search_read : {R : Type 0} (calls : Calls R) (o : Options) (skip : Skip) (passed : Passed) (Holds : List (List ℕ) → Type 0) (before after : List R)
+    → o.two ≡ false → length before ≡ 2 → (two : AreFirstTwo before after (Passes calls (limits_in o) skip passed))
     → Holds (two.holds.core ∷ two.holds.log ∷ []) → OfInputs (by_reads calls) (Search o) before after Holds
-both_read {R = R} calls o limits skip passed Holds before after are one two holds = record {
+search_read calls o skip passed Holds before after one count two holds = record {
   inputs = two.holds.core ∷ two.holds.log ∷ [];
   takes = ap file_count (sym one);
-  read = subst (λ (rs : List R). AreAllRead (by_reads calls) (limit_at (Search o)) rs after (two.holds.core ∷ two.holds.log ∷ [])) (sym two.were)
-      (subst (λ (rs : List R). AreAllRead (by_reads calls) (limit_at (Search o)) (readers_of two.was) rs (two.holds.core ∷ two.holds.log ∷ [])) (sym two.are)
-      (record { count = refl; read = (rw (← are.core) two.holds.core_read, (rw (← are.log) two.holds.log_read, refl)) }));
+  read = record { count = sym count; read = both_read calls o skip passed (limit_at (Search o)) before after refl refl two };
   holds = holds;
 }
 

@@ -86,13 +86,15 @@ module _ {R S : Type 0} (view : R → S) (source : Source R) (known : Source S) 
   pub unread : (passes : Bool) (limit : ℕ → ℕ) (before after : List R) (number : ℕ) (e : ReadFault) → IsUnreadBy passes source limit before after number e
       → IsUnreadBy passes known limit (map view before) (map view after) number e
   unread false limit before after number e fault = within_all limit before after number e fault
-  unread true limit before after number e fault = record {
+  unread true limit before after number e (inl fault) = inl (record {
     was = record { core = view fault.was.core; log = view fault.was.log };
     is = record { core = view fault.is.core; log = view fault.is.log };
+    others = map view fault.others;
     were = ap (map view) fault.were;
     are = ap (map view) fault.are;
     holds = of_two limit number e fault.was fault.is fault.holds;
-  }
+  })
+  unread true limit before after number e (inr fault) = inr (fault.0, within_all limit before after number e fault.1)
 
   pub all_read : (limit : ℕ → ℕ) (before after : List R) (inputs : List (List ℕ)) → AreAllRead source limit before after inputs
       → AreAllRead known limit (map view before) (map view after) inputs

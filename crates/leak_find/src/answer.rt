@@ -1,28 +1,22 @@
-//! The answer to a task, for inputs that were read.
+//! The answers to tasks that hold their inputs, for inputs that were read.
 
-ghost use Rattle.std.specs.Prelude.{◌≡◌, ◌≢◌, [], ◌∷◌, IfOk, IfErr, length};
-ghost use Rattle.leak_request.specs.Requests.{file_count};
-ghost use Rattle.leak_search.specs.declared.why.WhyError.TheVariants.{Find as Refused};
+ghost use Rattle.std.specs.Prelude.{◌≡◌, ◌≢◌, true, IfOk, IfErr, length};
 ghost use Rattle.leak_search.specs.declared.error.FindError.TheVariants.{NoMemory};
 ghost use Rattle.leak_search.specs.Signs.{AreSigns};
-ghost use Rattle.leak_find.specs.Answers.{Finds, Holds, IsFaultOf, IsNotHeld, IsUntold, Tells, TellsGrowth, at_why, leaked_if_not};
-ghost use Rattle.leak_holder_search.specs.Since.{earlier};
+ghost use Rattle.leak_find.specs.Answers.{Finds, IsFaultOf, IsUntold, Tells, TellsGrowth, at_why, leaked_if_not};
 ghost use Rattle.leak_request.specs.declared.options.GrowOptions.{GrowOptions};
 ghost use Rattle.leak_find.specs.Inputs.{bytes_of, input_at};
-ghost use Rattle.leak_find.specs.Tasks.{TakesInputs};
-ghost use Rattle.leak_find.specs.declared.task.Task.TheVariants.{Grow, Holders as Asks, Search, Why as AsksWhy};
+ghost use Rattle.leak_find.specs.declared.task.Task.TheVariants.{Grow, Search, Why as AsksWhy};
 
 use crate::fault::RunFault;
-use crate::reading::{input, input_if_any};
+use crate::reading::input;
 use crate::rules::rules_of;
-use crate::task::Task;
 use leak_growth::find_growth;
-use leak_holder_search::{Files, Holding, Progress, Silent, find_held, find_holders};
-use leak_holders::Question;
+use leak_holder_search::{Progress, Silent};
 use leak_pool::Open;
 use leak_report::Signs;
 use leak_request::Options;
-use leak_search::{FindError, Found, WhyError, Workers, find_one, find_two, find_why};
+use leak_search::{FindError, Found, WhyError, Workers, find_two, find_why};
 use std::alloc::Global;
 use std::thread::Threads;
 
@@ -57,31 +51,14 @@ pub(crate) struct Answer {
     pub signs: Vec<Signs>,
 }
 
-/// The answer to the task, for the inputs.
-pub(crate) fn answer_for<T: Threads + Sync, P: Progress>(
-    context: &Context<'_, T, P>,
-    task: &Task,
-    inputs: &[Vec<u8>],
-) -> Result<Answer, RunFault>
-    requires { TakesInputs task.now (length inputs.now) }
-    ensures ok { IfOk result (Tells task.now (bytes_of inputs.now)) }
-    ensures refused { IfErr result (IsUntold task.now (bytes_of inputs.now)) }
-{
-    match task {
-        Task::Search(options) => report(context, options, inputs),
-        Task::Why(options, address) => chain(context.alloc, options, *address, inputs),
-        Task::Holders(options, question) => holding(context, options, *question, inputs),
-        Task::Grow(_) => growth(context.alloc, inputs),
-    }
-}
-
-/// The report of a search, and how many blocks leaked.
-fn report<T: Threads + Sync, P: Progress>(
+/// The report of a search of two cores, and how many blocks leaked.
+pub(crate) fn report<T: Threads + Sync, P: Progress>(
     context: &Context<'_, T, P>,
     options: &Options,
     inputs: &[Vec<u8>],
 ) -> Result<Answer, RunFault>
-    requires { length inputs.now ≡ file_count options.now.two }
+    requires count { length inputs.now ≡ 4 }
+    requires two { options.now.two ≡ true }
     ensures ok { IfOk result (Tells (Search options.now) (bytes_of inputs.now)) }
     ensures refused { IfErr result (IsUntold (Search options.now) (bytes_of inputs.now)) }
 {
@@ -102,18 +79,18 @@ pub(crate) fn answer_of(found: Found) -> Answer
     }
 }
 
-/// Searches one core, or two.
+/// Searches two cores.
 fn search<T: Threads + Sync, P: Progress>(
     context: &Context<'_, T, P>,
     options: &Options,
     inputs: &[Vec<u8>],
 ) -> Result<Found, FindError>
-    requires { length inputs.now ≡ file_count options.now.two }
-    ensures ok { IfOk result (Finds options.now.two options.now (bytes_of inputs.now)) }
+    requires { length inputs.now ≡ 4 }
+    ensures ok { IfOk result (Finds true options.now (bytes_of inputs.now)) }
     ensures signs { IfOk result (λ found.
         AreSigns options.now.other_heap (bytes_of inputs.now) found.signs.items) }
     ensures refused { IfErr result (λ e. e ≢ NoMemory
-        → IsFaultOf options.now.two (bytes_of inputs.now) e) }
+        → IsFaultOf true (bytes_of inputs.now) e) }
 {
     let workers = Workers {
         rt: context.rt,
@@ -122,16 +99,12 @@ fn search<T: Threads + Sync, P: Progress>(
     };
     let (alloc, rules, check) = (context.alloc, rules_of(options), options.check);
     let (core1, log1) = (input(inputs, 0), input(inputs, 1));
-    if options.two {
-        let (core2, log2) = (input(inputs, 2), input(inputs, 3));
-        find_two(&workers, alloc, core1, log1, core2, log2, rules, check)
-    } else {
-        find_one(&workers, alloc, core1, log1, rules, check)
-    }
+    let (core2, log2) = (input(inputs, 2), input(inputs, 3));
+    find_two(&workers, alloc, core1, log1, core2, log2, rules, check)
 }
 
 /// What holds the block of the address.
-fn chain(
+pub(crate) fn chain(
     alloc: Global,
     options: &Options,
     address: u64,
@@ -159,7 +132,7 @@ fn leaked_if_not(held: bool) -> u64
 }
 
 /// The refusal of a run whose inputs were read.
-fn at_why(error: WhyError) -> RunFault
+pub(crate) fn at_why(error: WhyError) -> RunFault
     ensures { result ≡ at_why error }
 {
     match error {
@@ -168,29 +141,8 @@ fn at_why(error: WhyError) -> RunFault
     }
 }
 
-/// Who holds the memory, or the answer to the question.
-fn holding<T: Threads + Sync, P: Progress>(
-    context: &Context<'_, T, P>,
-    options: &Options,
-    question: Option<Question>,
-    inputs: &[Vec<u8>],
-) -> Result<Answer, RunFault>
-    ensures ok { IfOk result (Tells (Asks options.now question) (bytes_of inputs.now)) }
-    ensures refused { IfErr result (IsUntold (Asks options.now question) (bytes_of inputs.now)) }
-{
-    let files = Files {
-        core: input(inputs, 0),
-        log: input(inputs, 1),
-        since: input_if_any(inputs, 2),
-    };
-    match held(context, options, question, &files) {
-        Ok(held) => Ok(without_leaks(held.report, held.signs)),
-        Err(error) => Err(at_why(error)),
-    }
-}
-
 /// The answer that tells of no leak.
-fn without_leaks(text: Vec<u8>, signs: Vec<Signs>) -> Answer
+pub(crate) fn without_leaks(text: Vec<u8>, signs: Vec<Signs>) -> Answer
     ensures { result ≡ record { text = text; leaked = 0; signs = signs } }
 {
     Answer {
@@ -200,33 +152,8 @@ fn without_leaks(text: Vec<u8>, signs: Vec<Signs>) -> Answer
     }
 }
 
-/// Finds who holds the memory, or the answer to the question.
-fn held<T: Threads + Sync, P: Progress>(
-    context: &Context<'_, T, P>,
-    options: &Options,
-    question: Option<Question>,
-    files: &Files,
-) -> Result<Holding, WhyError>
-    ensures ok { IfOk result (Holds question options.now files.now.core.now files.now.log.now
-        (earlier files.now.since)) }
-    ensures signs { IfOk result (λ held. AreSigns options.now.other_heap
-        (files.now.core.now ∷ files.now.log.now ∷ []) held.signs.items) }
-    ensures refused { IfErr result (λ e. e ≢ Refused NoMemory
-        → IsNotHeld question files.now.core.now files.now.log.now (earlier files.now.since) e) }
-{
-    let (rt, alloc, progress) = (context.rt, context.alloc, context.progress);
-    let (rules, plan) = (rules_of(options), options.plan);
-    match question {
-        Some(question) => find_held(rt, alloc, files, question, rules, plan, progress),
-        None => match find_holders(rt, alloc, files, rules, plan, progress) {
-            Ok(holding) => Ok(holding),
-            Err(error) => Err(WhyError::Find(error)),
-        },
-    }
-}
-
 /// What grew between two logs.
-fn growth(alloc: Global, inputs: &[Vec<u8>]) -> Result<Answer, RunFault>
+pub(crate) fn growth(alloc: Global, inputs: &[Vec<u8>]) -> Result<Answer, RunFault>
     ensures ok { IfOk result
         (TellsGrowth (input_at (bytes_of inputs.now) 0) (input_at (bytes_of inputs.now) 1)) }
     ensures refused { IfErr result (λ e. (o : GrowOptions) → IsUntold (Grow o) (bytes_of inputs.now) e) }

@@ -11,7 +11,8 @@
 //! - [`Task::Search`] which blocks leaked: of one core, which is read in one pass and not held (`leak_passing`), with the answer of
 //!   [`find_one`]; or of a later core by [`find_two`] from what an earlier one says;
 //! - [`Task::Why`] what holds a block, by [`find_why`];
-//! - [`Task::Holders`] who holds the memory, by [`find_holders`], or what some blocks hold, by [`find_held`];
+//! - [`Task::Holders`] who holds the memory, with the answer of [`find_holders`], or what some blocks hold, with that
+//!   of [`find_held`]: of a core that is read in one pass too;
 //! - [`Task::Grow`] what grew between two logs, by [`find_growth`].
 //!
 //! The searches are in `leak_search`, which also says what a leak, a root and a chain are, in `leak_holder_search` and in `leak_growth`.
@@ -43,6 +44,7 @@
 
 mod answer;
 mod fault;
+mod holding;
 mod laws;
 mod passing;
 mod reading;

@@ -1,33 +1,24 @@
-//! A search of one core, which is passed: of its bytes only what the search needs is kept.
+//! A core that is passed: of its bytes only what a search needs is kept.
 
-ghost use Rattle.std.specs.Prelude.{◌≡◌, false, length, IfOk, IfErr, MatchOption};
-ghost use Rattle.leak_find.specs.Passing.{at_passing, passes_core};
+ghost use Rattle.std.specs.Prelude.{◌≡◌, ◌≤◌, false, length, IfOk, IfErr};
+ghost use Rattle.leak_passing.specs.Passed.{Passes};
+ghost use Rattle.leak_find.specs.Passing.{AreFirstTwo, IsPassRefusal, at_passing, limits_in};
 ghost use Rattle.leak_find.specs.Run.{HasAnswered, IsUnanswered};
 ghost use Rattle.leak_find.specs.Streams.{by_reads};
+ghost use Rattle.leak_find.specs.Tasks.{limit_beside};
 ghost use Rattle.leak_find.specs.declared.task.Task.TheVariants.{Search};
 
 use crate::answer::{Answer, Context, answer_of};
 use crate::fault::RunFault;
 use crate::rules::rules_of;
-use crate::task::Task;
 use leak_holder_search::Progress;
-use leak_passing::{Limits, PassingFault, find_passed, read_passing};
+use leak_passing::{Limits, Passed, PassingFault, find_passed, read_passing};
 use leak_pool::Open;
 use leak_request::Options;
 use leak_search::Workers;
 use leak_streams::ReadCalls;
+use std::alloc::Global;
 use std::thread::Threads;
-
-/// The options of a search that passes over its core, if the task is one.
-pub(crate) fn options_to_pass(task: &Task) -> Option<&Options>
-    ensures { MatchOption result (passes_core task.now ≡ false)
-        (λ options. (options.now.two ≡ false) × (task.now ≡ Search options.now)) }
-{
-    match task {
-        Task::Search(options) if !options.two => Some(options),
-        _ => None,
-    }
-}
 
 /// The refusal of a run whose core and log were not read.
 fn at_passing(fault: PassingFault) -> RunFault
@@ -36,6 +27,33 @@ fn at_passing(fault: PassingFault) -> RunFault
     match fault {
         PassingFault::Core(fault) => RunFault::Read(1, fault),
         PassingFault::Log(fault) => RunFault::Read(2, fault),
+    }
+}
+
+/// Reads a core and its log in one pass, of the first two readers. The sizes are those that the readers are said to
+/// have; one that is missing counts as 0.
+pub(crate) fn read_passed<R: ReadCalls>(
+    alloc: Global,
+    readers: &mut [R],
+    sizes: &[u64],
+    options: &Options,
+) -> Result<Passed, RunFault>
+    requires { 2 ≤ length readers.old }
+    ensures ok { IfOk result (λ passed. AreFirstTwo readers.old readers.new
+        (Passes R.calls (limits_in options.now) options.now.skip passed)) }
+    ensures refused { IfErr result (IsPassRefusal (by_reads R.calls)
+        (limit_beside options.now) readers.old readers.new) }
+    ensures count { length readers.new ≡ length readers.old }
+{
+    let limits = Limits {
+        core: options.core_limit,
+        log: options.log_limit,
+        core_size: sizes.first().copied().unwrap_or(0),
+        log_size: sizes.get(1).copied().unwrap_or(0),
+    };
+    match read_passing(alloc, &mut readers[..2], limits, options.skip) {
+        Ok(passed) => Ok(passed),
+        Err(fault) => Err(at_passing(fault)),
     }
 }
 
@@ -53,28 +71,14 @@ pub(crate) fn search_passing<T: Threads + Sync, P: Progress, R: ReadCalls>(
     ensures refused { IfErr result
         (IsUnanswered (by_reads R.calls) (Search options.now) readers.old readers.new) }
 {
-    let limits = Limits {
-        core: options.core_limit,
-        log: options.log_limit,
-        core_size: sizes.first().copied().unwrap_or(0),
-        log_size: sizes.get(1).copied().unwrap_or(0),
-    };
-    let passed = match read_passing(context.alloc, readers, limits, options.skip) {
-        Ok(passed) => passed,
-        Err(fault) => return Err(at_passing(fault)),
-    };
+    let passed = read_passed(context.alloc, readers, sizes, options)?;
     let workers = Workers {
         rt: context.rt,
         plan: options.plan,
         gate: &Open,
     };
-    match find_passed(
-        &workers,
-        context.alloc,
-        passed,
-        rules_of(options),
-        options.check,
-    ) {
+    let (rules, check) = (rules_of(options), options.check);
+    match find_passed(&workers, context.alloc, passed, rules, check) {
         Ok(found) => Ok(answer_of(found)),
         Err(error) => Err(RunFault::Find(error)),
     }

@@ -1,6 +1,6 @@
 //! The inputs of a run are read, one after the other.
 
-ghost use Rattle.std.specs.Prelude.{◌≡◌, ◌<◌, ◌≤◌, IfOk, IfErr, length, option_map, slice_get};
+ghost use Rattle.std.specs.Prelude.{◌≡◌, ◌<◌, ◌≤◌, IfOk, IfErr, length};
 ghost use Rattle.leak_find.specs.Streams.{by_reads};
 ghost use Rattle.leak_find.specs.Tasks.{limit_at};
 ghost use Rattle.leak_find.specs.Inputs.{AreAllRead, IsReadAt, IsReadRefusal, IsReaderFault, bytes_of, input_at};
@@ -13,7 +13,7 @@ use std::alloc::Global;
 
 /// Reads the reader with the number, from 0, to its end. The sizes are those that the readers are said to have; one that
 /// is missing counts as 0.
-fn read_reader<R: ReadCalls>(
+pub(crate) fn read_reader<R: ReadCalls>(
     alloc: Global,
     readers: &mut [R],
     sizes: &[u64],
@@ -64,16 +64,5 @@ pub(crate) fn input(inputs: &[Vec<u8>], number: usize) -> &[u8]
     match inputs.get(number) {
         Some(input) => input.as_slice(),
         None => &[],
-    }
-}
-
-/// The bytes of the input with the number, from 0, if it is there.
-pub(crate) fn input_if_any(inputs: &[Vec<u8>], number: usize) -> Option<&[u8]>
-    ensures { option_map (λ input. input.now) result
-        ≡ slice_get (bytes_of inputs.now) number }
-{
-    match inputs.get(number) {
-        Some(input) => Some(input.as_slice()),
-        None => None,
     }
 }

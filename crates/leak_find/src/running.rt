@@ -6,9 +6,10 @@ ghost use Rattle.leak_find.specs.Streams.{IsTried, by_bytes_held, by_bytes_left,
 ghost use Rattle.leak_find.specs.Run.{HasAnswered, IsRunFault, IsUnanswered, Runs, status_by};
 ghost use Rattle.leak_find.specs.Tasks.{TakesInputs};
 
-use crate::answer::{Answer, Context, answer_for};
+use crate::answer::{Answer, Context, chain, growth, report};
 use crate::fault::RunFault;
-use crate::passing::{options_to_pass, search_passing};
+use crate::holding::holding;
+use crate::passing::search_passing;
 use crate::reading::read_inputs;
 use crate::task::{Task, is_strict};
 use leak_holder_search::Progress;
@@ -31,11 +32,22 @@ fn answer<T: Threads + Sync, P: Progress, R: ReadCalls>(
     ensures refused { IfErr result
         (IsUnanswered (by_reads R.calls) task.now readers.old readers.new) }
 {
-    if let Some(options) = options_to_pass(task) {
-        return search_passing(context, readers, sizes, options);
+    match task {
+        Task::Search(options) if options.two => {
+            let inputs = read_inputs(context.alloc, readers, sizes, task)?;
+            report(context, options, inputs.as_slice())
+        }
+        Task::Search(options) => search_passing(context, readers, sizes, options),
+        Task::Why(options, address) => {
+            let inputs = read_inputs(context.alloc, readers, sizes, task)?;
+            chain(context.alloc, options, *address, inputs.as_slice())
+        }
+        Task::Holders(options, question) => holding(context, readers, sizes, options, *question),
+        Task::Grow(_) => {
+            let inputs = read_inputs(context.alloc, readers, sizes, task)?;
+            growth(context.alloc, inputs.as_slice())
+        }
     }
-    let inputs = read_inputs(context.alloc, readers, sizes, task)?;
-    answer_for(context, task, inputs.as_slice())
 }
 
 /// The exit status of a run that has its answer.
@@ -72,11 +84,11 @@ fn write_both<W: WriteCalls, V: WriteCalls>(
 /// second: 0 if nothing leaked, and 1 otherwise; if a warning has a status of its own and there is one, 3. Who holds the
 /// memory and what grew tell of no leak.
 ///
-/// The inputs are read in order, each to its end; of one core that is searched and its log the reads take turns
-/// (`leak_passing`). Answer and warnings are made before anything is written.
-/// After a refusal the readers are where the reads left them, and the second writer was not written to. If the second
-/// writer fails, it has a first part of the warnings, and the status is the same. It is for libraries and tests: the program
-/// goes by [`run_sized`], which this calls without sizes.
+/// The inputs are read in order, each to its end; of one core that is searched, or asked who holds the memory, and its
+/// log the reads take turns (`leak_passing`). Answer and warnings are made before anything is written. After a refusal
+/// the readers are where the reads left them, and the second writer was not written to. If the second writer fails, it
+/// has a first part of the warnings, and the status is the same. It is for libraries and tests: the program goes by
+/// [`run_sized`], which this calls without sizes.
 pub fn run<T: Threads + Sync, P: Progress, R: Read, W: Write, V: Write>(
     context: &Context<'_, T, P>,
     readers: &mut [R],

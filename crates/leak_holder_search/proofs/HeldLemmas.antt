@@ -1,4 +1,4 @@
--- From an answer about a block of an input to what is found of the files.
+-- From an answer about a block of an input to what is found of the core and the logs.
 use Rattle.std.proofs.Common.{◌≡◌, ℕ, Bool, List, length, refl, ap, subst, ◌∙◌}
 use Rattle.std.specs.Prelude.{slice_index}
 use Rattle.leak_blocks.specs.declared.block.Block.{Block}
@@ -13,17 +13,17 @@ use Rattle.leak_search.specs.declared.why.WhyError.TheVariants.{NoBlock}
 use Rattle.leak_holder_search.specs.declared.search.Holding.{Holding}
 use Rattle.leak_holder_search.specs.declared.analysis.Analysis.{Analysis}
 use Rattle.leak_holder_search.specs.declared.choosing.Choice.{Choice}
-use Rattle.leak_holder_search.specs.declared.files.Files.{Files}
+use Rattle.leak_holder_search.specs.declared.logs.Logs.{Logs}
 use Rattle.leak_holder_search.specs.declared.held.Held.{Held}
 use Rattle.leak_holder_search.specs.Answers.{IsChoice, IsHeld}
 use Rattle.leak_holder_search.specs.Held.{AreHeld, FindsHeld, IsHeldFault, both, held_text}
 use Rattle.leak_holder_search.specs.Analyses.{IsAnalysis, IsAnalysisOf, blocks_in, texts_in}
 use Rattle.leak_holder_search.specs.Since.{earlier}
-use Rattle.leak_holder_search.proofs.FindLemmas.{blocks_are, few_are, graph_is, known_are, marked_is, of_files, texts_are}
+use Rattle.leak_holder_search.proofs.FindLemmas.{blocks_are, few_are, graph_is, known_are, marked_is, of_core, texts_are}
 
 finds_with : (a : Analysis) (s : IsAnalysis a) (choice : Choice) (held : Held) (found : Holding) → IsChoice a choice → IsHeld a choice choice.question.side held
-    → found.report.items ≡ held_text a.files.log.now (blocks_in a) choice.block choice.question.side choice.own.items held.told.items (texts_in a) held.parts.items
-    → FindsHeld a.files.core.now a.files.log.now (earlier a.files.since) a.indexed.now.lookup.reading a.input.now.skip choice.question found
+    → found.report.items ≡ held_text a.logs.log.now (blocks_in a) choice.block choice.question.side choice.own.items held.told.items (texts_in a) held.parts.items
+    → FindsHeld a.input.now.image a.logs.log.now (earlier a.logs.since) a.indexed.now.lookup.reading a.input.now.skip choice.question found
 finds_with a s choice held found chosen is report =
     let numbers : List ℕ = a.texts.numbers.items in
     let blocks = blocks_are a s in
@@ -45,26 +45,26 @@ finds_with a s choice held found chosen is report =
       told = held.told.items;
       parts = held.parts.items;
       are =
-          subst (λ (set : List Bool). AreHeld choice.question.side (graph_of_one a.files.core.now a.indexed.now.lookup.reading a.input.now.skip s.read.0) is.table (length (texts_in a)) set (slice_index numbers choice.block) held.told.items held.parts.items) chosen.set
+          subst (λ (set : List Bool). AreHeld choice.question.side (graph_of_one a.input.now.image a.indexed.now.lookup.reading a.input.now.skip s.read.0) is.table (length (texts_in a)) set (slice_index numbers choice.block) held.told.items held.parts.items) chosen.set
           (subst (λ (h : Graph). AreHeld choice.question.side h is.table (length (texts_in a)) choice.set.items (slice_index numbers choice.block) held.told.items held.parts.items) (graph_is a s) is.are);
       report =
           report
-          ∙ ap (λ (bs : List Block). held_text a.files.log.now bs choice.block choice.question.side choice.own.items held.told.items (texts_in a) held.parts.items) blocks
-          ∙ ap (λ (own : List Bool). held_text a.files.log.now (live_of s.read.0) choice.block choice.question.side own held.told.items (texts_in a) held.parts.items)
+          ∙ ap (λ (bs : List Block). held_text a.logs.log.now bs choice.block choice.question.side choice.own.items held.told.items (texts_in a) held.parts.items) blocks
+          ∙ ap (λ (own : List Bool). held_text a.logs.log.now (live_of s.read.0) choice.block choice.question.side own held.told.items (texts_in a) held.parts.items)
           (chosen.own ∙ ap (λ (set : List Bool). both set a.set.items) chosen.set);
     }
 
-module _ (files : Files) (reading : Distances) (skip : Skip) (a : Analysis) (s : IsAnalysisOf files reading skip a) where
+module _ (core : List ℕ) (logs : Logs) (reading : Distances) (skip : Skip) (a : Analysis) (s : IsAnalysisOf core logs reading skip a) where
   pub finds_held : (question : Question) (choice : Choice) (held : Held) (found : Holding) → choice.question ≡ question → IsChoice a choice → IsHeld a choice choice.question.side held
-      → found.report.items ≡ held_text a.files.log.now (blocks_in a) choice.block choice.question.side choice.own.items held.told.items (texts_in a) held.parts.items
-      → FindsHeld files.core.now files.log.now (earlier files.since) reading skip question found
+      → found.report.items ≡ held_text a.logs.log.now (blocks_in a) choice.block choice.question.side choice.own.items held.told.items (texts_in a) held.parts.items
+      → FindsHeld core logs.log.now (earlier logs.since) reading skip question found
   finds_held question choice held found same chosen is report =
-      subst (λ (q : Question). FindsHeld files.core.now files.log.now (earlier files.since) reading skip q found) same
-      (of_files (λ f r k. FindsHeld f.core.now f.log.now (earlier f.since) r k choice.question found) files reading skip a s (finds_with a s.is choice held found chosen is report))
+      subst (λ (q : Question). FindsHeld core logs.log.now (earlier logs.since) reading skip q found) same
+      (of_core (λ c l r k. FindsHeld c l.log.now (earlier l.since) r k choice.question found) core logs reading skip a s (finds_with a s.is choice held found chosen is report))
 
-  pub none_asked : (address : ℕ) → AreNotAsked (blocks_in a) address (length (blocks_in a)) → IsHeldFault files.core.now files.log.now (earlier files.since) address (NoBlock address)
+  pub none_asked : (address : ℕ) → AreNotAsked (blocks_in a) address (length (blocks_in a)) → IsHeldFault core logs.log.now (earlier logs.since) address (NoBlock address)
   none_asked address none =
-      of_files (λ f r k. IsHeldFault f.core.now f.log.now (earlier f.since) address (NoBlock address)) files reading skip a s (
+      of_core (λ c l r k. IsHeldFault c l.log.now (earlier l.since) address (NoBlock address)) core logs reading skip a s (
         refl,
         s.is.read.1.accepted,
         s.is.continued,

@@ -13,7 +13,7 @@ use Rattle.leak_search.specs.declared.inputs.Input.{Input}
 use Rattle.leak_search.specs.declared.marking.RootsAndIndex.{RootsAndIndex}
 use Rattle.leak_search.specs.Inputs.{AreRootsFor, IsInput, IsRead}
 use Rattle.leak_holder_search.specs.declared.analysis.Analysis.{Analysis}
-use Rattle.leak_holder_search.specs.declared.files.Files.{Files}
+use Rattle.leak_holder_search.specs.declared.logs.Logs.{Logs}
 use Rattle.leak_holder_search.specs.Edges.{AreEdgesOf, graph_with}
 use Rattle.leak_holder_search.specs.Rows.{AreKnown, AreRows}
 use Rattle.leak_holder_search.specs.Since.{counted_of, earlier, is_continued_from}
@@ -33,21 +33,22 @@ graph_in a = graph_with a.input.now a.indexed.now
 abbrev pub texts_in : Analysis → List (List ℕ)
 texts_in a = bytes_each a.texts.texts.items
 
--- the input was read from the files, and all else is what it says of that input
+-- the log is that of the input, and all else is what it says of that input
 pub record IsAnalysis (a : Analysis) : Type 0 where
-  pub read : IsRead a.files.core.now a.files.log.now a.input.now
-  pub continued : IsTrue (is_continued_from (earlier a.files.since) a.files.log.now)
+  pub read : IsRead a.input.now.image a.logs.log.now a.input.now
+  pub continued : IsTrue (is_continued_from (earlier a.logs.since) a.logs.log.now)
   pub of : AreRootsAndIndexOf a.input.now a.indexed.now
   pub listed : AreEdgesOf a.input.now a.indexed.now a.edges
   pub few : length (blocks_in a) < 2 ^ 32
   pub marked : IsSet a.set.items (length (blocks_in a)) (Reach (graph_in a))
-  pub numbered : AreTexts a.files.log.now (blocks_in a) (texts_in a) a.texts.numbers.items
-  pub counted : a.counted.items ≡ counted_of (earlier a.files.since) (blocks_in a)
+  pub numbered : AreTexts a.logs.log.now (blocks_in a) (texts_in a) a.texts.numbers.items
+  pub counted : a.counted.items ≡ counted_of (earlier a.logs.since) (blocks_in a)
 
--- it is that of these files, by this reading, without what is skipped
-pub record IsAnalysisOf (files : Files) (reading : Distances) (skip : Skip) (a : Analysis) : Type 0 where
+-- it is that of this core and these logs, by this reading, without what is skipped
+pub record IsAnalysisOf (core : List ℕ) (logs : Logs) (reading : Distances) (skip : Skip) (a : Analysis) : Type 0 where
   pub is : IsAnalysis a
-  pub files_are : a.files ≡ files
+  pub core_is : a.input.now.image ≡ core
+  pub logs_are : a.logs ≡ logs
   pub reading_is : a.indexed.now.lookup.reading ≡ reading
   pub skip_is : a.input.now.skip ≡ skip
 

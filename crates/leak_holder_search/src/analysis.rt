@@ -8,7 +8,7 @@ ghost use Rattle.leak_holder_search.specs.Holders.{IsFaultOfHolders};
 ghost use Rattle.leak_holder_search.specs.Since.{earlier, is_continued_from};
 
 use crate::edges::{InputEdges, edges_of};
-use crate::files::Files;
+use crate::logs::Logs;
 use crate::since::counted;
 use leak_holders::{BlockTable, reached_blocks};
 use leak_report::{Texts, number_texts};
@@ -19,8 +19,8 @@ use std::thread::Threads;
 /// What a question needs to know of an input.
 #[derive(Drop)]
 pub(crate) struct Analysis<'a, 'b> {
-    /// What the input was read from.
-    pub(crate) files: Files<'b>,
+    /// The log of the input, and maybe an earlier one.
+    pub(crate) logs: Logs<'b>,
     pub(crate) input: &'a Input<'a>,
     pub(crate) indexed: &'a RootsAndIndex<'a>,
     pub(crate) edges: InputEdges<'a>,
@@ -33,7 +33,7 @@ pub(crate) struct Analysis<'a, 'b> {
 }
 
 /// Lists what the words of an input lead to, marks its blocks over these lists, numbers its texts, and says which blocks are counted. The
-/// input was read from the files.
+/// log is that of the input.
 ///
 /// # Errors
 ///
@@ -43,23 +43,24 @@ pub(crate) fn analysis_of<'a, 'b, R: Threads + Sync>(
     alloc: Global,
     input: &'a Input<'a>,
     indexed: &'a RootsAndIndex<'a>,
-    files: &Files<'b>,
+    logs: &Logs<'b>,
     workers: u32,
 ) -> Result<Analysis<'a, 'b>, FindError>
-    requires read { IsRead files.now.core.now files.now.log.now input.now }
-    requires continued { IsTrue (is_continued_from (earlier files.now.since) files.now.log.now) }
+    requires read { IsRead input.now.image logs.now.log.now input.now }
+    requires continued { IsTrue (is_continued_from (earlier logs.now.since) logs.now.log.now) }
     requires of { AreRootsAndIndexOf input.now indexed.now }
     requires some { 0 < workers }
-    ensures ok { IfOk result (IsAnalysisOf files.now indexed.now.lookup.reading input.now.skip) }
+    ensures ok { IfOk result (IsAnalysisOf input.now.image logs.now
+        indexed.now.lookup.reading input.now.skip) }
     ensures refused { IfErr result (λ e. e ≢ FindError.NoMemory
-        → IsFaultOfHolders files.now.core.now files.now.log.now (earlier files.now.since) e) }
+        → IsFaultOfHolders input.now.image logs.now.log.now (earlier logs.now.since) e) }
 {
     let edges = edges_of(rt, alloc, input, indexed, workers)?;
     let set = reached_blocks(alloc, &edges.listed, edges.first.as_slice())?;
-    let texts = number_texts(alloc, input.live.blocks(), files.log)?;
-    let counted = counted(alloc, files.since, input.live.blocks())?;
+    let texts = number_texts(alloc, input.live.blocks(), logs.log)?;
+    let counted = counted(alloc, logs.since, input.live.blocks())?;
     Ok(Analysis {
-        files: *files,
+        logs: *logs,
         input,
         indexed,
         edges,

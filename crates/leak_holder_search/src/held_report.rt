@@ -26,11 +26,11 @@ pub(crate) fn held_text_of(
 ) -> Result<Vec<u8>, AllocError>
     requires known { IsAnalysis analysis.now }
     requires told { length held.now.told.items ≡ length (blocks_in analysis.now) }
-    ensures { IfOk result (λ out. out.items ≡ held_text analysis.now.files.log.now
+    ensures { IfOk result (λ out. out.items ≡ held_text analysis.now.logs.log.now
         (blocks_in analysis.now) choice.now.block choice.now.question.side choice.now.own.items
         held.now.told.items (texts_in analysis.now) held.now.parts.items) }
 {
-    let (live, log) = (&analysis.input.live, analysis.files.log);
+    let (live, log) = (&analysis.input.live, analysis.logs.log);
     let mut out = Vec::new(alloc);
     let mut buffer = String::new(alloc);
     push_numbered(

@@ -4,7 +4,8 @@
 //! and no chain does so without passing a block of that text. [`find_holders`] searches a core and its log, and tells for each
 //! text that holds a block how many it holds and how many bytes they have, how many of its own blocks are reached, how many
 //! other texts hold all of these, and the address of the first of them, for the question why it is held. With an earlier log of the
-//! same process ([`Files`]) only blocks of later lines are counted.
+//! same process ([`Files`]) only blocks of later lines are counted. [`find_held`] answers a question about chosen
+//! blocks. [`find_holders_in`] and [`find_held_in`] do the same for an input that was read.
 //!
 //! `specs/Holders.antt` says what the report tells, and `specs/Text.antt` has its lines. For every accepted input, every
 //! number of workers and every cutting of the work the report is the same. If an input is not accepted, the answer is the
@@ -35,6 +36,7 @@ mod edges;
 mod files;
 mod held;
 mod held_report;
+mod logs;
 mod question;
 mod ranking;
 mod report;
@@ -43,5 +45,6 @@ mod since;
 
 pub use files::Files;
 pub use leak_holders::{Progress, Silent};
-pub use question::find_held;
-pub use search::{Holding, find_holders};
+pub use logs::Logs;
+pub use question::{find_held, find_held_in};
+pub use search::{Holding, find_holders, find_holders_in};

@@ -1,8 +1,9 @@
 //! What one caller or one block holds, and who holds it.
 
-ghost use Rattle.std.specs.Prelude.{◌≢◌, [], ◌∷◌, IfOk, IfErr};
+ghost use Rattle.std.specs.Prelude.{◌≡◌, ◌≢◌, ◌<◌, [], ◌∷◌, IfOk, IfErr};
 ghost use Rattle.leak_index.specs.Readings.{distances_of};
 ghost use Rattle.leak_search.specs.declared.error.FindError.TheVariants.{NoMemory};
+ghost use Rattle.leak_search.specs.Inputs.{IsRead};
 ghost use Rattle.leak_search.specs.Signs.{AreSigns};
 ghost use Rattle.leak_search.specs.declared.why.WhyError.TheVariants.{Find};
 ghost use Rattle.leak_holder_search.specs.Held.{FindsHeld, IsHeldFault};
@@ -13,12 +14,13 @@ use crate::choosing::choice_of;
 use crate::files::Files;
 use crate::held::held_of;
 use crate::held_report::held_text_of;
+use crate::logs::Logs;
 use crate::search::Holding;
 use crate::since::is_continued;
 use leak_holders::{Progress, Question, Workers};
 use leak_pool::Plan;
 use leak_search::{
-    FindError, Rules, WhyError, consistency_of_one, find_roots_and_index, read_input,
+    FindError, Input, Rules, WhyError, consistency_of_one, find_roots_and_index, read_input,
 };
 use leak_why::block_at;
 use std::alloc::Global;
@@ -50,18 +52,52 @@ pub fn find_held<R: Threads + Sync, P: Progress>(
         files.now.log.now (earlier files.now.since) question.address e) }
 {
     let input = read_input(alloc, 1, rules.skip, files.core, files.log)?;
-    if !is_continued(files) {
+    let workers = Workers::new(rt, plan.workers(), progress);
+    let logs = Logs {
+        log: files.log,
+        since: files.since,
+    };
+    find_held_in(&workers, alloc, &input, &logs, question, rules)
+}
+
+/// Searches an input by the rules, which left out of it what they leave out, and answers a question about the live
+/// block of an address, or about all blocks of its text. The log is that of which the input was read.
+///
+/// It gives what [`find_held`] gives for the core and the logs.
+///
+/// # Errors
+///
+/// As [`find_holders_in`](crate::find_holders_in), and then `NoBlock` if no live block has a byte at the address, or
+/// begins there.
+pub fn find_held_in<R: Threads + Sync, P: Progress>(
+    workers: &Workers<'_, R, P>,
+    alloc: Global,
+    input: &Input,
+    logs: &Logs,
+    question: Question,
+    rules: Rules,
+) -> Result<Holding, WhyError>
+    requires read { IsRead input.now.image logs.now.log.now input.now }
+    requires skip { input.now.skip ≡ rules.skip }
+    requires some { 0 < workers.now.count }
+    ensures ok { IfOk result (FindsHeld input.now.image logs.now.log.now
+        (earlier logs.now.since) (distances_of rules.reading) rules.skip question) }
+    ensures signs { IfOk result (λ found. AreSigns rules.other_heap
+        (input.now.image ∷ logs.now.log.now ∷ []) found.signs.items) }
+    ensures refused { IfErr result (λ e. e ≢ Find NoMemory → IsHeldFault input.now.image
+        logs.now.log.now (earlier logs.now.since) question.address e) }
+{
+    if !is_continued(logs) {
         return Err(WhyError::Find(FindError::NotPrefix));
     }
-    let consistency = consistency_of_one(alloc, &input, false, rules.other_heap)?;
-    let indexed = find_roots_and_index(alloc, &input, rules.reading)?;
-    let workers = Workers::new(rt, plan.workers(), progress);
-    let analysis = analysis_of(rt, alloc, &input, &indexed, files, workers.count)?;
+    let consistency = consistency_of_one(alloc, input, false, rules.other_heap)?;
+    let indexed = find_roots_and_index(alloc, input, rules.reading)?;
+    let analysis = analysis_of(workers.rt, alloc, input, &indexed, logs, workers.count)?;
     let Some(block) = block_at(&analysis.input.live, question.address) else {
         return Err(WhyError::NoBlock(question.address));
     };
     let choice = choice_of(alloc, &analysis, question, block)?;
-    let held = held_of(&workers, alloc, &analysis, &choice)?;
+    let held = held_of(workers, alloc, &analysis, &choice)?;
     let report = held_text_of(alloc, &analysis, &choice, &held)?;
     Ok(Holding {
         report,

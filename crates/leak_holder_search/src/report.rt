@@ -25,12 +25,12 @@ pub(crate) fn text(
         rows.now }
     ensures { let a = analysis.now in
         IfOk result (λ out. out.items ≡ holders_text (head_with a.input.now a.indexed.now.roots None)
-        (blocks_in a) (news_of (earlier a.files.since) (blocks_in a)) a.set.items (texts_in a)
+        (blocks_in a) (news_of (earlier a.logs.since) (blocks_in a)) a.set.items (texts_in a)
         rows.now) }
 {
     let (input, texts) = (analysis.input, analysis.texts.texts.as_slice());
     let head = head_of(input, &analysis.indexed.roots, None);
-    let new = new(analysis.files.since, analysis.counted.as_slice());
+    let new = new(analysis.logs.since, analysis.counted.as_slice());
     let first = sums(alloc, &head, &input.live, new, analysis.set.as_slice())?;
     let mut out = first.into_bytes();
     push_holders(alloc, &mut out, input.live.blocks(), texts, rows)?;

@@ -1,20 +1,22 @@
 //! Who holds the memory of one core.
 
-ghost use Rattle.std.specs.Prelude.{◌≢◌, [], ◌∷◌, IfOk, IfErr};
+ghost use Rattle.std.specs.Prelude.{◌≡◌, ◌≢◌, ◌<◌, [], ◌∷◌, IfOk, IfErr};
 ghost use Rattle.leak_index.specs.Readings.{distances_of};
+ghost use Rattle.leak_search.specs.Inputs.{IsRead};
 ghost use Rattle.leak_search.specs.Signs.{AreSigns};
 ghost use Rattle.leak_holder_search.specs.Holders.{FindsHolders, IsFaultOfHolders};
 ghost use Rattle.leak_holder_search.specs.Since.{earlier};
 
 use crate::analysis::analysis_of;
 use crate::files::Files;
+use crate::logs::Logs;
 use crate::ranking::rows_of;
 use crate::report::text;
 use crate::since::is_continued;
 use leak_holders::{Progress, Workers};
 use leak_pool::Plan;
 use leak_report::Signs;
-use leak_search::{FindError, Rules, consistency_of_one, find_roots_and_index, read_input};
+use leak_search::{FindError, Input, Rules, consistency_of_one, find_roots_and_index, read_input};
 use std::alloc::Global;
 use std::thread::Threads;
 
@@ -52,14 +54,46 @@ pub fn find_holders<R: Threads + Sync, P: Progress>(
         → IsFaultOfHolders files.now.core.now files.now.log.now (earlier files.now.since) e) }
 {
     let input = read_input(alloc, 1, rules.skip, files.core, files.log)?;
-    if !is_continued(files) {
+    let workers = Workers::new(rt, plan.workers(), progress);
+    let logs = Logs {
+        log: files.log,
+        since: files.since,
+    };
+    find_holders_in(&workers, alloc, &input, &logs, rules)
+}
+
+/// Searches an input by the rules, which left out of it what they leave out, and tells which texts of callers hold its
+/// blocks. The log is that of which the input was read.
+///
+/// It gives what [`find_holders`] gives for the core and the logs.
+///
+/// # Errors
+///
+/// `NotPrefix`, `TooMany`, in this order, and `NoMemory` at any time.
+pub fn find_holders_in<R: Threads + Sync, P: Progress>(
+    workers: &Workers<'_, R, P>,
+    alloc: Global,
+    input: &Input,
+    logs: &Logs,
+    rules: Rules,
+) -> Result<Holding, FindError>
+    requires read { IsRead input.now.image logs.now.log.now input.now }
+    requires skip { input.now.skip ≡ rules.skip }
+    requires some { 0 < workers.now.count }
+    ensures ok { IfOk result (FindsHolders input.now.image logs.now.log.now
+        (earlier logs.now.since) (distances_of rules.reading) rules.skip) }
+    ensures signs { IfOk result (λ found. AreSigns rules.other_heap
+        (input.now.image ∷ logs.now.log.now ∷ []) found.signs.items) }
+    ensures refused { IfErr result (λ e. e ≢ FindError.NoMemory
+        → IsFaultOfHolders input.now.image logs.now.log.now (earlier logs.now.since) e) }
+{
+    if !is_continued(logs) {
         return Err(FindError::NotPrefix);
     }
-    let consistency = consistency_of_one(alloc, &input, false, rules.other_heap)?;
-    let indexed = find_roots_and_index(alloc, &input, rules.reading)?;
-    let workers = Workers::new(rt, plan.workers(), progress);
-    let analysis = analysis_of(rt, alloc, &input, &indexed, files, workers.count)?;
-    let rows = rows_of(&workers, alloc, &analysis)?;
+    let consistency = consistency_of_one(alloc, input, false, rules.other_heap)?;
+    let indexed = find_roots_and_index(alloc, input, rules.reading)?;
+    let analysis = analysis_of(workers.rt, alloc, input, &indexed, logs, workers.count)?;
+    let rows = rows_of(workers, alloc, &analysis)?;
     let report = text(alloc, &analysis, rows.as_slice())?;
     Ok(Holding {
         report,

@@ -3,17 +3,17 @@
 ghost use Rattle.std.specs.Prelude.{◌≡◌, map, nat_lt, option_map, IfOk, true};
 ghost use Rattle.leak_holder_search.specs.Since.{counted_of, earlier, is_continued_from};
 
-use crate::files::Files;
+use crate::logs::Logs;
 use leak_blocks::Block;
 use leak_search::count_lines;
 use std::alloc::{AllocError, Global};
 
 /// Whether the complete lines of the earlier log, if there is one, begin the log.
-pub(crate) fn is_continued(files: &Files) -> bool
-    ensures { result ≡ is_continued_from (earlier files.now.since) files.now.log.now }
+pub(crate) fn is_continued(logs: &Logs) -> bool
+    ensures { result ≡ is_continued_from (earlier logs.now.since) logs.now.log.now }
 {
-    match files.since {
-        Some(log) => leak_search::is_continued(log, files.log),
+    match logs.since {
+        Some(log) => leak_search::is_continued(log, logs.log),
         None => true,
     }
 }

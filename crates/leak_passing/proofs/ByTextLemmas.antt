@@ -1,6 +1,6 @@
 -- A search of an input whose log was let go is that of the log.
 use Rattle.std.proofs.Common.{◌≡◌, ◌∙◌, ℕ, ◌<◌, ◌^◌, Bool, List, length, Vec, Global, option_map, sym, ap, subst}
-use Rattle.std.specs.Prelude.{◌≢◌, Result, Ok, Err, IfOk, IfErr}
+use Rattle.std.specs.Prelude.{Result, Ok, Err, IfOk}
 use Rattle.leak_mtrace.specs.declared.error.LogError.{LogError}
 use Rattle.leak_mtrace.specs.declared.error.LogError.TheVariants.{NoMemory}
 use Rattle.leak_mtrace.specs.declared.line.Line.{Line}
@@ -9,7 +9,7 @@ use Rattle.leak_blocks.specs.declared.block.Block.{Block}
 use Rattle.leak_blocks.specs.declared.replaying.Replayed.{Replayed}
 use Rattle.leak_blocks.specs.declared.small.Span.{Span}
 use Rattle.leak_blocks.specs.Callers.{with_callers_at}
-use Rattle.leak_blocks.specs.Live.{Replay, live_of, replay_of}
+use Rattle.leak_blocks.specs.Live.{Replay, live_of}
 use Rattle.leak_blocks.proofs.LineLemmas.{live_of_lines}
 use Rattle.leak_blocks.proofs.StepLemmas.{replayed as blocks_are}
 use Rattle.leak_index.specs.Leads.{Distances}

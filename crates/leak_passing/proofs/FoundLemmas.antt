@@ -1,11 +1,8 @@
 -- What is found of what was read in one pass.
-use Rattle.std.proofs.Common.{◌≡◌, ◌∙◌, ℕ, ◌+◌, ◌/◌, ◌⊎◌, inl, inr, Bool, List, [], ◌∷◌, ◌++◌, length, Some, refl, sym, ap, subst, arith}
+use Rattle.std.proofs.Common.{◌≡◌, ◌∙◌, ℕ, ◌+◌, ◌/◌, ◌⊎◌, inl, inr, Bool, List, [], ◌∷◌, ◌++◌, length, sym, ap, subst, arith}
 use Rattle.std.specs.Prelude.{◌≢◌, Result, Ok, Err, IfOk, IfErr}
 use Rattle.std.proofs.lemmas.List.{append-nil}
-use Rattle.leak_elf.specs.declared.error.ElfError.{ElfError}
-use Rattle.leak_elf.specs.declared.error.ElfError.TheVariants.{NoMemory as NoMemoryForCore}
 use Rattle.leak_elf.specs.Head.{IsHead}
-use Rattle.leak_elf.specs.Refusals.{fault_of}
 use Rattle.leak_elf.specs.Segments.{segments_of}
 use Rattle.leak_mtrace.specs.declared.error.LogError.{LogError}
 use Rattle.leak_mtrace.specs.declared.error.LogError.TheVariants.{NoMemory}
@@ -21,11 +18,10 @@ use Rattle.leak_roots.specs.declared.skip.Skip.{Skip}
 use Rattle.leak_sift.specs.Behind.{HasWords, bytes_behind}
 use Rattle.leak_sift.specs.Sifted.{kept_at, sifted}
 use Rattle.leak_sift.proofs.WordLemmas.{length-by_words}
-use Rattle.leak_search.specs.Inputs.{IsFaultOfOne, IsReadLog, at_core}
+use Rattle.leak_search.specs.Inputs.{IsFaultOfOne, IsReadLog}
 use Rattle.leak_search.specs.Search.{FindsOne}
 use Rattle.leak_search.specs.Signs.{AreSigns}
 use Rattle.leak_search.specs.declared.error.FindError.{FindError}
-use Rattle.leak_search.specs.declared.error.FindError.TheVariants.{NoMemory as NoMemoryForAll}
 use Rattle.leak_search.specs.declared.found.Found.{Found}
 use Rattle.leak_alike.specs.SiftedCores.{SearchesOfSiftedAreOne, SignsOfSiftedAreOne, RefusedOfSiftedAreOne, rule_of, sifted_core}
 use Rattle.leak_passing.specs.declared.passed.Passed.{Passed}
@@ -42,11 +38,6 @@ both_ok (Err e) P Q S f p q = tt
 -- a fact about a file and a text, for equal ones
 pub moved : (P : List ℕ → List ℕ → Type 0) (file core text log : List ℕ) → file ≡ core → text ≡ log → P file text → P core log
 moved P file core text log same told p = subst (λ (l : List ℕ). P core l) told (subst (λ (l : List ℕ). P l text) same p)
-
--- a fault of the core is the first of all
-pub core_fault : (file log : List ℕ) (error : ElfError) → (error ≢ NoMemoryForCore → fault_of file ≡ Some error) → at_core 1 error ≢ NoMemoryForAll → IsFaultOfOne file log (at_core 1 error)
-core_fault file log NoMemoryForCore fault other = absurd (other refl)
-core_fault file log error fault other = inl (refl, fault (λ same. cc))
 
 -- ---- the words that are kept
 
@@ -69,10 +60,10 @@ module _ (core : List ℕ) (skip : Skip) (blocks : List Block) (held words : Lis
   whole_or_head (inl whole) = inl (none_behind whole)
   whole_or_head (inr it) = inr it.can.head
 
-  whole_file : IsHeld core held words len → held ++ bytes_behind words len ≡ core
+  pub whole_file : IsHeld core held words len → held ++ bytes_behind words len ≡ core
   whole_file whole = ap (λ (l : List ℕ). held ++ l) (none_behind whole) ∙ append-nil held ∙ whole.whole
 
-  sifted_file : (it : IsSifted core skip blocks held words len) → held ++ bytes_behind words len ≡ sifted_core (rule_by skip blocks) held it.more
+  pub sifted_file : (it : IsSifted core skip blocks held words len) → held ++ bytes_behind words len ≡ sifted_core (rule_by skip blocks) held it.more
   sifted_file it = ap (λ (l : List ℕ). held ++ bytes_behind l len) it.words_are
       ∙ ap (λ (n : ℕ). held ++ bytes_behind (sifted (rule_by skip blocks) (segments_of held) (length held) it.more) n) it.len_is
 

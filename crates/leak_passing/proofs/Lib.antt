@@ -8,3 +8,4 @@ pub mod ReaderLemmas
 pub mod FoundLemmas
 pub mod TextLemmas
 pub mod ByTextLemmas
+pub mod HoldingLemmas

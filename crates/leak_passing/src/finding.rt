@@ -1,7 +1,6 @@
 //! A core and its log that were read in one pass are searched.
 
-ghost use Rattle.std.specs.Prelude.{◌≡◌, ◌≢◌, ◌↔◌, ◌<◌, ◌^◌, ℕ, List, [], ◌∷◌, length, Err, IfOk, IfErr, IsTrue};
-ghost use Rattle.leak_mtrace.specs.declared.error.LogError.TheVariants.{NoMemory as NoMemoryForLog};
+ghost use Rattle.std.specs.Prelude.{◌≡◌, ◌≢◌, ◌<◌, ◌^◌, ℕ, List, [], ◌∷◌, length, IfOk, IfErr};
 ghost use Rattle.leak_index.specs.Readings.{distances_of};
 ghost use Rattle.leak_report.specs.Elsewhere.{HaveTextsAt};
 ghost use Rattle.leak_report.specs.Totals.{HaveCallersIn};
@@ -12,24 +11,16 @@ ghost use Rattle.leak_passing.specs.ByTexts.{IsLogOf, OfLog};
 ghost use Rattle.leak_passing.specs.Kept.{blocks_of};
 ghost use Rattle.leak_passing.specs.Passed.{IsPassed, OfPassed};
 
+use crate::opening::input_of_passed;
 use crate::passed::Passed;
 use crate::reporting::found_by_texts;
 use crate::texts::{KeptTexts, keep_texts};
 use leak_alike::searches_of_sifted_cores;
 use leak_blocks::{Live, Replayed, SmallSpans};
-use leak_elf::Image;
 use leak_mtrace::LogError;
 use leak_pool::Gate;
-use leak_search::{FindError, Found, Input, Rules, Workers, at_core, input_of, search_in};
-use leak_sift::Behind;
+use leak_search::{FindError, Found, Input, Rules, Workers, search_in};
 use std::alloc::{AllocError, Global};
-
-/// Whether the log was not read for want of memory.
-fn is_short(read: &Result<(Replayed, SmallSpans), LogError>) -> bool
-    ensures { IsTrue result ↔ read.now ≡ Err NoMemoryForLog }
-{
-    matches!(read, Err(LogError::NoMemory))
-}
 
 /// Keeps the texts of the callers of the live blocks that were read of the log. If it has a fault, there are none.
 fn texts_of(
@@ -109,16 +100,8 @@ pub fn find_passed<R: std::thread::Threads + Sync, G: Gate + Sync>(
         log,
         read,
     } = passed;
-    if is_short(&read) {
-        return Err(FindError::NoMemory);
-    }
     let kept = texts_of(alloc, &read, log.as_slice())?;
     drop(log); // the texts are all that is asked of it from here on
-    let rest = Behind::new(words, len)?;
-    let image = match Image::passed(alloc, held.as_slice(), rest) {
-        Ok(image) => image,
-        Err(error) => return Err(at_core(1, error)),
-    };
-    let input = input_of(alloc, 1, rules.skip, image, read)?;
+    let input = input_of_passed(alloc, rules.skip, held.as_slice(), (words, len), read)?;
     find_kept(workers, alloc, input, kept, rules, lists_misfits)
 }

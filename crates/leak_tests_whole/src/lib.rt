@@ -88,6 +88,10 @@ mod readers;
 #[cfg(test)]
 mod passing;
 
+// Runs that ask who holds the memory.
+#[cfg(test)]
+mod holding;
+
 // Reading an input piece by piece.
 #[cfg(test)]
 mod pieces;

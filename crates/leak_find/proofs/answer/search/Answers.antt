@@ -3,19 +3,12 @@ use Rattle.std.proofs.Common.{◌∙◌}
 use Rattle.std.proofs.lemmas.List.{length-map}
 use Rattle.std.proofs.lemmas.Result.{IfOk-weaker}
 use Rattle.leak_find.specs.Inputs.{bytes_of}
-use Rattle.leak_find.proofs.AnswerLemmas.{signs_of_four, signs_of_two}
+use Rattle.leak_find.proofs.AnswerLemmas.{signs_of_four}
 use Rattle.leak_find.proofs.answer.search.Goals as goal
 
-pub returns-then-options-clause-signs : goal.returns-then-options-clause-signs
-returns-then-options-clause-signs g c =
+pub returns-clause-signs : goal.returns-clause-signs
+returns-clause-signs g c =
     IfOk-weaker c.find_two.result _ _
     (λ found are. signs_of_four c.args.options.now c.rules_of-rules.result (bytes_of c.args.inputs.now) found.signs.items c.rules_of-rules.ensures
-    (length-map c.args.inputs.now _ ∙ c.requires) c.if-options.true c.input-core1.result.now c.input-log1.result.now c.input-core2.result.now c.input-log2.result.now
+    (length-map c.args.inputs.now _ ∙ c.requires) c.input-core1.result.now c.input-log1.result.now c.input-core2.result.now c.input-log2.result.now
     c.input-core1.ensures c.input-log1.ensures c.input-core2.ensures c.input-log2.ensures are) c.find_two.ensures.signs
-
-pub returns-else-options-clause-signs : goal.returns-else-options-clause-signs
-returns-else-options-clause-signs g c =
-    IfOk-weaker c.find_one.result _ _
-    (λ found are. signs_of_two c.args.options.now c.rules_of-rules.result (bytes_of c.args.inputs.now) found.signs.items c.rules_of-rules.ensures
-    (length-map c.args.inputs.now _ ∙ c.requires) c.if-options.false c.input-core1.result.now c.input-log1.result.now
-    c.input-core1.ensures c.input-log1.ensures are) c.find_one.ensures.signs

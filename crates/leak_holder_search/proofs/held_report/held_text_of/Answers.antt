@@ -10,7 +10,7 @@ use Rattle.leak_holder_search.proofs.held_report.held_text_of.Goals as goal
 
 pub push_numbered-requires : goal.push_numbered-requires
 push_numbered-requires c =
-    subst (λ (bs : List Block). HaveCallersIn c.args.analysis.now.files.log.now bs) (sym c.blocks-2.ensures.value) (input_callers _ _ _ c.requires.known.read)
+    subst (λ (bs : List Block). HaveCallersIn c.args.analysis.now.logs.log.now bs) (sym c.blocks-2.ensures.value) (input_callers _ _ _ c.requires.known.read)
 
 pub returns : goal.returns
 unfolding held_text
@@ -20,5 +20,5 @@ returns c =
     let lines : List ℕ = held_lines choice.question.side (blocks_in a) choice.own.items c.args.held.now.told.items (texts_in a) c.args.held.now.parts.items in
     c.in_ok-push_answer.ensures
     ∙ ap (λ (out : List ℕ). out ++ lines)
-    (c.in_ok-push_numbered.ensures ∙ ap (λ (out : List ℕ). out ++ numbered_line (codes "asked") a.files.log.now c.blocks-2.result.now choice.block) c.new-out.ensures.items
-    ∙ ap (λ (bs : List Block). numbered_line (codes "asked") a.files.log.now bs choice.block) c.blocks-2.ensures.value)
+    (c.in_ok-push_numbered.ensures ∙ ap (λ (out : List ℕ). out ++ numbered_line (codes "asked") a.logs.log.now c.blocks-2.result.now choice.block) c.new-out.ensures.items
+    ∙ ap (λ (bs : List Block). numbered_line (codes "asked") a.logs.log.now bs choice.block) c.blocks-2.ensures.value)

@@ -13,12 +13,12 @@ pub returns : goal.returns
 unfolding holders_text
 returns c =
     let a = c.args.analysis.now in
-    let news : Option (List Bool) = news_of (earlier a.files.since) (blocks_in a) in
+    let news : Option (List Bool) = news_of (earlier a.logs.since) (blocks_in a) in
     let sums : string_bytes c.in_ok-first.first ≡ sums_of (head_with a.input.now a.indexed.now.roots None) (blocks_in a) news a.set.items =
     c.in_ok-first.ensures
     ∙ ap (λ (h : Head). sums_of h (blocks_in a) (option_map (λ s. s.now) c.new-new.result) c.as_slice-2.result.now) c.head_of-head.ensures
     ∙ ap (λ (ns : Option (List Bool)). sums_of (head_with a.input.now a.indexed.now.roots None) (blocks_in a) ns c.as_slice-2.result.now)
-    (c.new-new.ensures ∙ ap (λ (ts : List Bool). option_map (λ _. ts) (earlier a.files.since)) c.as_slice.ensures.value ∙ news_are a c.requires.known)
+    (c.new-new.ensures ∙ ap (λ (ts : List Bool). option_map (λ _. ts) (earlier a.logs.since)) c.as_slice.ensures.value ∙ news_are a c.requires.known)
     ∙ ap (sums_of (head_with a.input.now a.indexed.now.roots None) (blocks_in a) news) c.as_slice-2.ensures.value in
     c.in_ok-push_holders.ensures
     ∙ ap (λ bs. c.into_bytes-out.result.items ++ flat_map (line_of bs (bytes_each c.as_slice-texts.result.now)) c.args.rows.now) c.blocks-2.ensures.value

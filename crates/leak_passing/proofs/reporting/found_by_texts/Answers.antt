@@ -2,7 +2,6 @@
 use Rattle.std.proofs.Common.{◌≡◌, ◌∙◌, ℕ, List, length, option_map, Vec, Bool, Global, sym, ap, subst}
 use Rattle.std.specs.Prelude.{IfSome}
 use Rattle.std.proofs.lemmas.Result.{IfOk-weaker}
-use Rattle.leak_blocks.specs.Callers.{with_callers_at}
 use Rattle.leak_report.specs.Report.{text_of}
 use Rattle.leak_report.specs.Totals.{HaveCallersIn}
 use Rattle.leak_search.proofs.InputLemmas.{leaked_count}
