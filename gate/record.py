@@ -102,18 +102,32 @@ def items_of(lines, heads, of=None):
     return [Item(renamed[1] or renamed[2], None, False, text)] if renamed else []
 
 
+def imports_of(file, item):
+    """Returns what a file's imports say of the names in one of its items: the modules, each with these names alone."""
+    words, is_type = set(WORD.findall(item)), TYPE.search(item.partition("\n")[0])
+
+    def is_named(name):
+        if WORD.search(name):
+            return bool(words & set(WORD.findall(name)))
+        # (an operator of signs alone, as ◌≡◌, is named by them; a type has no clauses, only arguments in < and >)
+        return not is_type and all(f" {sign} " in item for sign in name.split("◌") if sign)
+
+    for it in IMPORT.finditer(file):
+        names = [name for name in (part.strip() for part in (it[1] or it[2]).split(",")) if is_named(name)]
+        if names:
+            yield f"{it[0][:it.start(1) - it.start()] if it[1] else it[0]}{', '.join(names)}"
+
+
 def items_in(root, name):
     """Returns what a built library declares to others, and the types that its definitions can name, each with the imports of what it names."""
     library = f"{root}/crates/{name}/out/rlib/{name}.rlib"
     for path in files_below(f"{library}/lang/src"):
         whole, public = text_of(path), path.replace(".rlib/lang/", ".rlib/interface/lang/")
         heads = whole.split("\n")
-        imports = [(set(WORD.findall(f"{it[1]} {it[2]}")), it[0]) for it in IMPORT.finditer(whole)]
         declared = declarations(text_of(public).split("\n")) if os.path.isfile(public) else []
         types = [it for it in declarations(heads) if TYPE.search(it[0]) and it not in declared]
         for item in (it for lines in declared + types for it in items_of(lines, heads)):
-            words = set(WORD.findall(item.text))
-            yield item._replace(text="\n".join([item.text, *(line for names, line in imports if names & words)]), library=name)
+            yield item._replace(text="\n".join([item.text, *imports_of(whole, item.text)]), library=name)
 
 
 def definitions_at(root, below, text):

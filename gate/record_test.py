@@ -65,6 +65,7 @@ READ = [
     ("crates/sums/src/lib.rt", "fn all", "fn each"), ("crates/sums/specs/F.antt", "f", "g"), ("crates/sums/proofs/f/Answers.antt", "f", "g"),
     ("crates/sums/wrong/f.edit", "f", "// f"), ("crates.txt", "sums: low", "sums: low more"),
     (f"{LOW}/lang/src/lib.rt", "IsOne result", "IsOne 1"),  # a clause of a function that is called
+    (f"{LOW}/lang/src/lib.rt", "A.{IsOne}", "C.{IsOne}"),  # where a name of it is from
     (f"{LOW}/lang/src/lib.rt", "≤ 4", "≤ 5"),  # the second clause of one that is called by its other name
     (f"{LOW}/lang/src/lib.rt", "≡ 5", "≡ 6"),  # of a type that the head of such a function names
     (f"{LOW}/lang/src/lib.rt", "12 ≤", "13 ≤"),  # of a type that is named, without a value of it
@@ -75,6 +76,7 @@ READ = [
     ("crates/low/specs/B.antt", "b", "c"), ("crates/low/specs/D/E.antt", "e", "f")]
 # and what none reads.
 UNREAD = [
+    (f"{LOW}/lang/src/lib.rt", "A.{IsOne}", "A.{◌≢◌, IsOne, IsThree}"),  # names that others have from there
     (f"{LOW}/lang/src/lib.rt", "fn inner ( )\n    ensures { IsTwo }", "fn inner ( )\n    ensures { IsTwo 2 }"),
     (f"{LOW}/lang/src/lib.rt", "Other )\n    ensures { IsTwo }", "Other )\n    ensures { IsTwo 2 }"),
     (f"{LOW}/*/src/lib.rt", "Other { pub size : u64", "Other { pub size : u32"),
