@@ -7,3 +7,4 @@ pub mod NextLemmas
 pub mod ChangeLemmas
 pub mod BitChangeLemmas
 pub mod PushLemmas
+pub mod AppendLemmas

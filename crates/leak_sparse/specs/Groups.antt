@@ -43,3 +43,7 @@ group_count places = (places + 63) / 64
 -- with empty groups at the end, until there are enough for this many places
 abbrev pub covered : List Group → ℕ → ℕ → List Group
 covered groups places before = groups ++ replicate (group_count places - length groups) (empty before)
+
+-- a group before which this many words more are kept
+abbrev pub moved : ℕ → Group → Group
+moved count group = record { bits = group.bits; before = count + group.before }

@@ -1,7 +1,7 @@
 -- Worked rows of the definitions.
 use Rattle.std.specs.Prelude.{◌≡◌, ℕ, ◌^◌, List, [], ◌∷◌}
 use Rattle.leak_sparse.specs.declared.group.Group.{Group}
-use Rattle.leak_sparse.specs.Groups.{covered, empty, kept_in, word_at, words_of}
+use Rattle.leak_sparse.specs.Groups.{covered, empty, kept_in, moved, word_at, words_of}
 use Rattle.leak_sparse.specs.Words.{AreZerosTo, HasRoom, IsNextKept, NoneKeptFrom, kept_of}
 
 -- a group by its bits
@@ -39,6 +39,7 @@ pub record AreWorkedGroups : Type 0 where
   pub one_more : covered (group 5 0 ∷ []) 65 2 ≡ group 5 0 ∷ empty 2 ∷ []
   pub enough : covered (group 5 0 ∷ []) 64 2 ≡ group 5 0 ∷ []
   pub fewer : covered (group 5 0 ∷ empty 2 ∷ []) 4 2 ≡ group 5 0 ∷ empty 2 ∷ []
+  pub after_more : moved 3 (group 5 2) ≡ group 5 5
 
 -- words that aren't 0, and room for zeros
 pub record AreWorkedLists : Type 0 where

@@ -1,9 +1,9 @@
 //! Groups of 64 places of a list.
-ghost use Rattle.std.specs.Prelude.{◌≡◌, ◌%◌, ◌^◌, ◌<◌, ◌≤◌, ◌↔◌, if◌then◌else◌, length, count_ones};
-ghost use Rattle.std.specs.Prelude.{MatchOption, is_ok, IsOk, IsTrue};
+ghost use Rattle.std.specs.Prelude.{◌≡◌, ◌+◌, ◌%◌, ◌^◌, ◌<◌, ◌≤◌, ◌↔◌, if◌then◌else◌, length, ◌++◌, map, count_ones};
+ghost use Rattle.std.specs.Prelude.{All, MatchOption, is_ok, IsOk, IsTrue, vec_len, vec_capacity};
 ghost use Rattle.std.specs.Int.{bit_at};
 ghost use Rattle.leak_sparse.specs.Bits.{IsLowestFrom, NoneFrom};
-ghost use Rattle.leak_sparse.specs.Groups.{covered, group_count};
+ghost use Rattle.leak_sparse.specs.Groups.{covered, group_count, moved};
 
 use std::alloc::AllocError;
 
@@ -58,4 +58,18 @@ pub(crate) fn cover(groups: &mut Vec<Group>, places: usize, before: usize) -> Re
         groups.resize(needed, Group { bits: 0, before })?;
     }
     Ok(())
+}
+
+/// Appends the groups of another list, before which this many words more are kept.
+pub(crate) fn add_groups(groups: &mut Vec<Group>, more: &[Group], before: usize)
+    requires room { vec_len groups.old + length more.now ≤ vec_capacity groups.old }
+    requires fits { All (λ group. before + group.before < 2 ^ 64) more.now }
+    ensures { groups.new.items ≡ groups.old.items ++ map (moved before) more.now }
+{
+    for group in more {
+        groups.push_reserved(Group {
+            bits: group.bits,
+            before: before + group.before,
+        });
+    }
 }

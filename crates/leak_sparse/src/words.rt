@@ -1,8 +1,9 @@
 //! The list of words.
-ghost use Rattle.std.specs.Prelude.{◌≡◌, ◌<◌, ◌∷◌, [], ◌++◌, length, replicate, slice_get, MatchOption, OnOk, OnErr, IsOk};
+ghost use Rattle.std.specs.Prelude.{◌≡◌, ◌<◌, ◌%◌, ◌∷◌, [], ◌++◌, length, replicate, slice_get};
+ghost use Rattle.std.specs.Prelude.{MatchOption, OnOk, OnErr, IsOk};
 ghost use Rattle.leak_sparse.specs.Words.{AreZerosTo, HasRoom, IsNextKept, NoneKeptFrom, kept_of};
 
-use crate::group::{Group, cover, has, lowest_from, ones_below};
+use crate::group::{Group, add_groups, cover, has, lowest_from, ones_below};
 use std::alloc::{AllocError, Global};
 use std::marker::Model;
 
@@ -88,6 +89,26 @@ impl SparseWords {
             return Err(AllocError);
         };
         cover(&mut self.groups, len, self.kept.len())?;
+        self.len = len;
+        Ok(())
+    }
+
+    /// Appends the words of another list. Those so far fill whole groups of 64 places. Its errors are those of
+    /// [`SparseWords::push`].
+    pub fn append(&mut self, other: &SparseWords) -> Result<(), AllocError>
+        requires { length self.old % 64 ≡ 0 }
+        ensures ok { OnOk result (self.new ≡ self.old ++ other.now) }
+        ensures err { OnErr result (self.new ≡ self.old) }
+    {
+        let Some(len) = self.len.checked_add(other.len) else {
+            return Err(AllocError);
+        };
+        let before = self.kept.len();
+        self.groups.reserve(other.groups.len())?;
+        self.kept.extend_from_slice(other.kept.as_slice())?;
+        // An error can have left a spare group at the end.
+        self.groups.truncate(self.len / 64);
+        add_groups(&mut self.groups, other.groups.as_slice(), before);
         self.len = len;
         Ok(())
     }

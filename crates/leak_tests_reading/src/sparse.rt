@@ -2,6 +2,7 @@
 use crate::comparisons::{same, same_in};
 use leak_sparse::SparseWords;
 use std::alloc::{AllocError, Global};
+use std::process::Abort;
 use std::test::*;
 
 /// Appends each of the words.
@@ -12,26 +13,39 @@ fn push_all(words: &mut SparseWords, all: &[u64]) -> Result<(), AllocError> {
     Ok(())
 }
 
-/// Words in which one of five is not 0, over more than three groups of 64.
-fn fifths(alloc: Global) -> Result<Vec<u64>, AllocError> {
+/// Words in which one of five is not 0, from a place of a longer list to another.
+fn fifths(alloc: Global, from: u64, to: u64) -> Result<Vec<u64>, AllocError> {
     let mut all = Vec::new(alloc);
-    for place in 0..203u64 {
+    for place in from..to {
         all.push(if place % 5 == 3 { place } else { 0 })?;
     }
     Ok(all)
 }
 
+/// The same words as a list.
+fn listed(alloc: Global, from: u64, to: u64) -> Result<SparseWords, AllocError> {
+    let all = fifths(alloc, from, to)?;
+    let mut words = SparseWords::new(alloc);
+    push_all(&mut words, all.as_slice())?;
+    Ok(words)
+}
+
+/// Ends the test if the list has other words.
+fn has_words(rt: &impl Abort, words: &SparseWords, all: &[u64]) {
+    same(rt, words.len(), all.len());
+    for (place, word) in all.iter().enumerate() {
+        same_in(rt, &place, words.get(place), Some(*word));
+    }
+    same(rt, words.get(all.len()), None);
+}
+
 #[test]
 fn each_word_stands_where_it_was_put(rt: HostRuntime) -> Result<(), Fail> {
-    let all = fifths(rt.alloc())?;
-    let mut words = SparseWords::new(rt.alloc());
-    push_all(&mut words, all.as_slice())?;
+    let all = fifths(rt.alloc(), 0, 203)?;
+    let words = listed(rt.alloc(), 0, 203)?;
+    has_words(&rt, &words, all.as_slice());
     same(&rt, words.len(), 203);
     same(&rt, words.kept(), 40);
-    for (place, word) in all.iter().enumerate() {
-        same_in(&rt, &place, words.get(place), Some(*word));
-    }
-    same(&rt, words.get(203), None);
     same(&rt, words.get(usize::MAX), None);
     Ok(())
 }
@@ -100,6 +114,32 @@ fn zeros_end_at_the_bounds_of_groups(rt: HostRuntime) -> Result<(), Fail> {
         same_in(&rt, &count, words.next_kept(count + 1), Some(count + 65));
         same_in(&rt, &count, words.get(count + 65), Some(6));
         same_in(&rt, &count, words.len(), count + 66);
+    }
+    Ok(())
+}
+
+#[test]
+fn a_list_follows_whole_groups(rt: HostRuntime) -> Result<(), Fail> {
+    for before in [0u64, 64, 128] {
+        for count in [0u64, 1, 63, 64, 200] {
+            let mut words = listed(rt.alloc(), 0, before)?;
+            let more = listed(rt.alloc(), before, before + count)?;
+            if words.len() % 64 != 0 {
+                return Ok(assert!(rt; false, "{before} words fill groups"));
+            }
+            words.append(&more)?;
+            let mut all = fifths(rt.alloc(), 0, before + count)?;
+            has_words(&rt, &words, all.as_slice());
+            same_in(
+                &rt,
+                &(before, count),
+                words.kept(),
+                (before + count + 1) as usize / 5,
+            );
+            words.push(7)?;
+            all.push(7)?;
+            has_words(&rt, &words, all.as_slice());
+        }
     }
     Ok(())
 }

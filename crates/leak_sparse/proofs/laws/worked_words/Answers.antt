@@ -38,6 +38,7 @@ returns c = record {
     one_more = refl;
     enough = refl;
     fewer = refl;
+    after_more = refl;
   };
   lists = record {
     none = refl;
