@@ -75,12 +75,12 @@ looked b st m n m' = b / 64 ≡ st.word
 abbrev pub checked : Step (Unit {0}) → Sat → ℕ → Sat → Type 0
 checked st m n m' = (m' ≡ m) × IsDistinct m.0.claims × (m.0.share ≤ 4294967296)
 
--- cut in two: the new seat has half of the share, rounded down, has claimed nothing and has seen what the giver has seen
+-- cut in two: the new seat has a share of 1, has claimed nothing and has seen what the giver has seen
 abbrev pub left_of : View → View
-left_of v = view v.claims v.seen (v.share - v.share / 2)
+left_of v = view v.claims v.seen (v.share - 1)
 
 abbrev pub right_of : View → View
-right_of v = view [] v.seen (v.share / 2)
+right_of v = view [] v.seen 1
 
 abbrev pub joined : View → View → View
 joined v w = view (v.claims ++ w.claims) (v.seen ++ w.seen) (v.share + w.share)

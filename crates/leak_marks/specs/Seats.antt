@@ -1,5 +1,5 @@
 -- A table of marks and a seat of it, as callers see them.
-use Rattle.std.specs.Prelude.{ℕ, ◌+◌, ◌-◌, ◌/◌, List, [], ◌∷◌, ◌++◌}
+use Rattle.std.specs.Prelude.{ℕ, ◌+◌, ◌-◌, List, [], ◌∷◌, ◌++◌}
 pub use Rattle.atomic_table.specs.Seated.{TableId}
 use Rattle.leak_marks.specs.Lists.{IsDistinct, Within}
 
@@ -26,12 +26,12 @@ with_claim h block = held h.table (h.claims ++ block ∷ []) (h.seen ++ block �
 abbrev pub with_sight : Held → ℕ → Held
 with_sight h block = held h.table h.claims (h.seen ++ block ∷ []) h.share
 
--- a seat that was split: what it keeps, and the new seat, which has half of the share, rounded down
-abbrev pub kept_half : Held → Held
-kept_half h = held h.table h.claims h.seen (h.share - h.share / 2)
+-- a seat that was split: what it keeps, and the new seat, whose share is 1
+abbrev pub kept_rest : Held → Held
+kept_rest h = held h.table h.claims h.seen (h.share - 1)
 
-abbrev pub given_half : Held → Held
-given_half h = held h.table [] h.seen (h.share / 2)
+abbrev pub split_off : Held → Held
+split_off h = held h.table [] h.seen 1
 
 -- a seat that another was joined to
 abbrev pub both_seats : Held → Held → Held

@@ -2,10 +2,10 @@
 ghost use Rattle.std.specs.Prelude.{◌≡◌, ℕ, ◌<◌, ◌≤◌, [], length, IfOk, IfSome, IfNone, IsTrue, false};
 ghost use Rattle.std.specs.Slots.{slots_items, IsFull};
 ghost use Rattle.leak_marks.specs.Lists.{times, Has, Within, mark_of, word_count};
-ghost use Rattle.leak_marks.specs.Seats.{held, with_claim, with_sight, kept_half, given_half, both_seats, IsSound};
+ghost use Rattle.leak_marks.specs.Seats.{held, with_claim, with_sight, kept_rest, split_off, both_seats, IsSound};
 
 use crate::bits::{bit_of, count_for, is_set, word_of};
-use crate::rule::{Both, Check, Claim, Halves, Look, MarkRule, Target};
+use crate::rule::{Both, Check, Claim, Look, MarkRule, SplitOff, Target};
 use crate::seat::MarkSeat;
 use crate::view::View;
 use atomic_table::{Closed, Table};
@@ -96,11 +96,11 @@ impl Marks {
         self.look::<Brand>(seat, block)
     }
 
-    /// Gives half of the seat's share, rounded down, to a new seat. `None` if the share is 1.
+    /// Gives a share of 1 to a new seat. `None` if the seat's own share is 1.
     pub fn split(&self, seat: &mut MarkSeat) -> Option<MarkSeat>
         requires { seat.old.table ≡ self.now.table }
-        ensures giver { IfSome result (λ _. seat.new ≡ kept_half seat.old) }
-        ensures given { IfSome result (λ r. r ≡ given_half seat.old) }
+        ensures giver { IfSome result (λ _. seat.new ≡ kept_rest seat.old) }
+        ensures given { IfSome result (λ r. r ≡ split_off seat.old) }
         ensures none { IfNone result ((seat.new ≡ seat.old) × (seat.old.share ≡ 1)) }
         ensures table { seat.new.table ≡ seat.old.table }
         ensures sound { IsSound seat.new }
@@ -109,12 +109,11 @@ impl Marks {
         if seat.share < 2 {
             return None;
         }
-        let half = seat.share / 2;
-        let other = self.words.shared.split_seat::<Halves>(&mut seat.seat);
-        seat.share -= half;
+        let other = self.words.shared.split_seat::<SplitOff>(&mut seat.seat);
+        seat.share -= 1;
         Some(MarkSeat {
             seat: other,
-            share: half,
+            share: 1,
         })
     }
 

@@ -54,10 +54,10 @@ impl Play<(), View> for Check {
     ghost then = { checked };
 }
 
-// The share is cut in two; the claims stay, and both have seen the same.
-pub(crate) struct Halves;
+// A share of 1 is split off; the claims stay, and both have seen the same.
+pub(crate) struct SplitOff;
 
-impl Split<View> for Halves {
+impl Split<View> for SplitOff {
     ghost use Rattle.leak_marks.specs.Marks.{left_of, right_of};
 
     ghost left = { left_of };

@@ -1,18 +1,16 @@
 -- Lists of targets, one after another.
-use Rattle.std.proofs.Common.{◌≡◌, ℕ, zero, suc, ◌+◌, ◌-◌, ◌*◌, ◌/◌, ◌%◌, ◌<◌, ◌≤◌, min, List, [], ◌∷◌, ◌++◌, length, map, get_or, take, drop, Option, Some, Result, Ok, refl, sym, ap, ◌∙◌, subst, ⊎_elim, arith, length-append}
+use Rattle.std.proofs.Common.{◌≡◌, ℕ, zero, suc, ◌+◌, ◌-◌, ◌*◌, ◌/◌, ◌%◌, ◌<◌, ◌≤◌, min, List, [], ◌∷◌, ◌++◌, length, map, get_or, take, drop, Option, refl, sym, ap, ◌∙◌, subst, ⊎_elim, arith, length-append}
 use Rattle.std.proofs.Math.Nat.{mod-lt, mod-add-div, lt-div-mul-add, eq-or-lt_of_le, div-lt_iff_lt-mul, mul_comm, suc-mul}
 use Rattle.std.proofs.Math.Seq.{take-length, drop-append_seam, get_or-append_seam}
-use Rattle.std.proofs.lemmas.List.{length-map, length-drop, get_or-map, get_or_append_left, take-append-le, drop-append-le}
-use Rattle.std.specs.Prelude.{IfOk}
-use Rattle.std.specs.Fork.{IsChunk}
-use Rattle.std.specs.declared.alloc.AllocError.{AllocError}
+use Rattle.std.proofs.lemmas.List.{length-drop, length-take, get_or-drop, get_or-map, get_or-take, get_or_append_left, take-append-le, drop-append-le}
+use Rattle.std.specs.Fork.{slice_chunk}
+use Rattle.std.specs.Int.{div_ceil}
 use Rattle.leak_blocks.specs.declared.block.Block.{Block}
 use Rattle.leak_elf.specs.Words.{words_between}
 use Rattle.leak_index.specs.Hits.{Index}
 use Rattle.leak_scan.specs.Targets.{targets_of, block_words, block_targets}
 use Rattle.leak_pool.specs.Items.{targets_of_block}
-use Rattle.leak_pool.specs.Edges.{IsListAt, AreListed, AreEdges, IsRow}
-use Rattle.leak_pool.specs.Scopes.{all_targets}
+use Rattle.leak_pool.specs.Edges.{IsListAt, AreListed, AreEdges, AreRows}
 use Rattle.leak_pool.specs.declared.rows.Rows.{Rows}
 
 -- ---- one list more
@@ -108,59 +106,27 @@ enough n size k pos h = go (n % size) refl
         let c = suc-mul (n / size) size in
         let f = (div-lt_iff_lt-mul pos).1 (let z : k < suc (n / size) * size = omega (arith, l, c, h) in z) in omega (arith, f, e)
 
--- what a part lists is what its blocks lead to among all
-part_at : (word_at : ℕ → Option ℕ) (index : Index) (blocks part : List Block) (size k : ℕ) → 0 < size → k < length blocks → IsChunk blocks size (k / size * size) part
-    → (k % size < length part) × (targets_of_block (map (block_targets word_at index) part) (k % size) ≡ targets_of_block (map (block_targets word_at index) blocks) k)
-part_at word_at index blocks part size k pos h chunk =
+-- what a row lists is what its blocks lead to among all
+list_in_row : (targets : List (List ℕ)) (size k : ℕ) → 0 < size → k < length targets
+    → (k % size < length (slice_chunk targets size (k / size))) × (targets_of_block (slice_chunk targets size (k / size)) (k % size) ≡ targets_of_block targets k)
+list_in_row targets size k pos h =
+    let start = k / size * size in
     let r = mod-lt k pos in
     let m = mod-add-div k size in
     let c = mul_comm size (k / size) in
-    let e : k / size * size + k % size ≡ k = omega (arith, m, c) in
-    let l = chunk.len in
-    let inside : k % size < length part = omega (arith, r, e, l, h) in
-    let d : Block = record { start = 0; size = 0; line = 0; caller = (0, 0) } in (
-      inside,
-      get_or-map (block_targets word_at index) part (k % size) d [] inside
-          ∙ ap (λ (b : Block). block_targets word_at index b) (chunk.elements (k % size) d inside ∙ ap (λ (j : ℕ). get_or blocks j d) e)
-          ∙ sym (get_or-map (block_targets word_at index) blocks k d [] h),
+    let e : start + k % size ≡ k = omega (arith, m, c) in
+    let l = length-take size (drop start targets) in
+    let d = length-drop start targets in (
+      omega (arith, r, e, l, d, h),
+      get_or-take size (drop start targets) (k % size) [] r ∙ get_or-drop start targets (k % size) [] ∙ ap (λ (j : ℕ). get_or targets j []) e,
     )
 
--- the row holds what a part of the blocks leads to
-abbrev pub IsRowAt : (word_at : ℕ → Option ℕ) (index : Index) (blocks : List Block) (size room n : ℕ) (row : Rows) → Type 0
-IsRowAt word_at index blocks size room n row =
-    (part : List Block) × IsChunk blocks size (n * size) part × IsRow (map (block_targets word_at index) part) room row
-
--- what was made, with nothing missing
-abbrev pub whole : Rows → Result (Option Rows) AllocError
-whole row = Ok (Some row)
-
-pub row_from : (P : Option Rows → Type 0) (r : Result (Option Rows) AllocError) (o : Option Rows) → r ≡ Ok o → IfOk r P → P o
-row_from P r o e h = subst (λ (q : Result (Option Rows) AllocError). IfOk q P) e h
-
-pub as_many : (parts : List (Result (Option Rows) AllocError)) (rows : List Rows) → parts ≡ map whole rows → length parts ≡ length rows
-as_many parts rows same = ap (λ (l : List (Result (Option Rows) AllocError)). length l) same ∙ length-map rows whole
-
-pub whole_at : (parts : List (Result (Option Rows) AllocError)) (rows : List Rows) (n : ℕ) (d : Rows) → parts ≡ map whole rows → n < length rows → get_or parts n (whole d) ≡ whole (get_or rows n d)
-whole_at parts rows n d same h = ap (λ (l : List (Result (Option Rows) AllocError)). get_or l n (whole d)) same ∙ get_or-map whole rows n d (whole d) h
-
-pub edges_made : (word_at : ℕ → Option ℕ) (index : Index) (blocks : List Block) (size room : ℕ) (rows : List Rows) → index.blocks ≡ blocks → 0 < size → length rows ≡ length blocks / size + min 1 (length blocks % size)
-    → ((n : ℕ) (d : Rows) → n < length rows → IsRowAt word_at index blocks size room n (get_or rows n d)) → AreEdges (all_targets word_at index) size rows
-edges_made word_at index blocks size room rows same pos count made = record {
+pub edges_made : (targets : List (List ℕ)) (size room : ℕ) (rows : List Rows) → 0 < size → AreRows targets size room (div_ceil (length targets) size) rows → AreEdges targets size rows
+edges_made targets size room rows pos made = record {
   some = pos;
-  enough = λ k h. many k (below k h);
-  each = λ k d h. at k d (below k h);
+  enough = λ k h. let f = enough (length targets) size k pos h in let m = made.many in omega (arith, f, m);
+  each = λ k d h.
+      let row = made.each (k / size) d (enough (length targets) size k pos h) in
+      let is = list_in_row targets size k pos h in
+      subst (λ (l : List ℕ). IsListAt (get_or rows (k / size) d).starts.items (get_or rows (k / size) d).targets.items (k % size) l) is.1 (row.listed.each (k % size) is.0);
 }
-  where
-    below : (k : ℕ) → k < length (all_targets word_at index) → k < length blocks
-    below k h = let l = length-map index.blocks (block_targets word_at index) in let e = ap (λ (l : List Block). length l) same in omega (arith, l, e, h)
-
-    many : (k : ℕ) → k < length blocks → k / size < length rows
-    many k h = let f = enough (length blocks) size k pos h in omega (arith, f, count)
-
-    at : (k : ℕ) (d : Rows) → k < length blocks → IsListAt (get_or rows (k / size) d).starts.items (get_or rows (k / size) d).targets.items (k % size) (targets_of_block (all_targets word_at index) k)
-    at k d h =
-        let row = made (k / size) d (many k h) in
-        let p = part_at word_at index blocks row.0 size k pos h row.1 in
-        subst (λ (l : List ℕ). IsListAt (get_or rows (k / size) d).starts.items (get_or rows (k / size) d).targets.items (k % size) l)
-        (p.1 ∙ ap (λ (bs : List Block). targets_of_block (map (block_targets word_at index) bs) k) (sym same))
-        (row.2.listed.each (k % size) (let m = length-map row.0 (block_targets word_at index) in omega (arith, m, p.0)))

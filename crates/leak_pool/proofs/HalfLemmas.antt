@@ -110,7 +110,7 @@ module _ (blocks targets : ℕ → List ℕ) (stack items workers low middle hig
   }
 
   -- the two at once
-  pub half_joined : (start giver given one two end : Held) (g1 g2 : List (List ℕ)) (l1 l2 : List ℕ) → giver ≡ held start.table start.claims start.seen (start.share - start.share / 2) → given ≡ held start.table [] start.seen (start.share / 2)
+  pub half_joined : (start giver given one two end : Held) (g1 g2 : List (List ℕ)) (l1 l2 : List ℕ) → giver ≡ held start.table start.claims start.seen (start.share - 1) → given ≡ held start.table [] start.seen 1
       → IsHalf blocks targets stack items workers low middle giver one g1 l1 → IsHalf blocks targets stack items workers middle high given two g2 l2
       → end ≡ held one.table (one.claims ++ two.claims) (one.seen ++ two.seen) (one.share + two.share) → IsHalf blocks targets stack items workers low high start end (g1 ++ g2) (l1 ++ l2)
   half_joined start giver given one two end g1 g2 l1 l2 giver_is given_is x y is = record {

@@ -1,14 +1,16 @@
 -- How many targets rows have, and what is over their room.
-use Rattle.std.proofs.Common.{◌≡◌, refl, ℕ, zero, suc, ◌+◌, ◌*◌, ◌/◌, ◌%◌, ◌<◌, ◌≤◌, min, List, [], ◌∷◌, ◌++◌, length, map, get_or, take, drop, Option, Some, None, Result, Ok, sym, ap, ◌∙◌, subst, ⊎_elim, arith, length-append, append-nil}
-use Rattle.std.proofs.Math.Nat.{mod-lt, mul_comm, suc-mul, div-le_of_le-mul, mul-le-mul_left, mul-le-mul_right, mul-div-le}
+use Rattle.std.proofs.Common.{◌≡◌, refl, ℕ, zero, suc, ◌+◌, ◌*◌, ◌/◌, ◌%◌, ◌<◌, ◌≤◌, List, [], ◌∷◌, ◌++◌, length, map, get_or, take, drop, Option, Some, Result, Ok, sym, ap, ◌∙◌, subst, ◌⊎◌, inl, inr, ⊎_elim, arith, length-append, append-nil}
+use Rattle.std.proofs.Math.Nat.{eq-or-lt_of_le, mod-lt, mul_comm, suc-mul, div-le_of_le-mul, mul-le-mul_left, mul-le-mul_right, mul-div-le}
 use Rattle.std.proofs.lemmas.Bool.{cases_lt}
 use Rattle.std.proofs.lemmas.Nat.{div-add-mod', mul-le}
-use Rattle.std.proofs.lemmas.List.{length-map, get_or-map, take_all, take-map, drop-map}
+use Rattle.std.proofs.Math.Seq.{get_or-append_seam}
+use Rattle.std.proofs.lemmas.Grind.{div_ceil_times}
+use Rattle.std.proofs.lemmas.List.{length-map, get_or-map, get_or_append_left, take_all, take-map, drop-map}
 use Rattle.std.proofs.lemmas.List.Sums.{sum_by_more, sum_by-take-le, sum-map, sum_by-le}
 use Rattle.std.proofs.lemmas.Slice.Chunks.{sum_by_chunks}
 use Rattle.std.specs.Prelude.{IfOk}
 use Rattle.std.specs.declared.alloc.AllocError.{AllocError}
-use Rattle.std.specs.Fork.{IsChunk, slice_chunk}
+use Rattle.std.specs.Fork.{slice_chunk}
 use Rattle.std.specs.Int.{div_ceil}
 use Rattle.std.specs.List.{All}
 use Rattle.leak_blocks.specs.declared.block.Block.{Block}
@@ -16,10 +18,9 @@ use Rattle.leak_index.specs.Hits.{Index}
 use Rattle.leak_elf.specs.Words.{words_between}
 use Rattle.leak_scan.specs.Targets.{targets_of, block_targets}
 use Rattle.leak_pool.specs.Items.{targets_of_block}
-use Rattle.leak_pool.specs.Edges.{AreListed, IsOver, IsRow, IsRowOrOver, kept_count, row_size, share_of, target_count}
+use Rattle.leak_pool.specs.Edges.{AreListed, AreRows, IsRow, kept_count, row_size, share_of, target_count}
 use Rattle.leak_pool.specs.Scopes.{all_targets}
 use Rattle.leak_pool.specs.declared.rows.Rows.{Rows}
-use Rattle.leak_pool.proofs.EdgeLemmas.{IsRowAt, as_many, row_from, whole, whole_at}
 
 -- ---- one row
 
@@ -69,60 +70,62 @@ row_made lists k room row all listed is within = record {
 
 -- ---- rows of all blocks
 
--- what the blocks of a part lead to
-pub part_lists : (word_at : ℕ → Option ℕ) (index : Index) (blocks part : List Block) (size n : ℕ) → index.blocks ≡ blocks → IsChunk blocks size (n * size) part
-    → map (block_targets word_at index) part ≡ slice_chunk (all_targets word_at index) size n
-part_lists word_at index blocks part size n same chunk =
+-- what the blocks of a row lead to
+pub row_lists : (word_at : ℕ → Option ℕ) (index : Index) (blocks : List Block) (size n : ℕ) → index.blocks ≡ blocks
+    → map (block_targets word_at index) (slice_chunk blocks size n) ≡ slice_chunk (all_targets word_at index) size n
+row_lists word_at index blocks size n same =
     let f = block_targets word_at index in
-    ap (λ (bs : List Block). map f bs) (chunk.value ∙ ap (λ (bs : List Block). take size (drop (n * size) bs)) (sym same))
+    ap (λ (bs : List Block). map f (slice_chunk bs size n)) (sym same)
     ∙ sym (take-map f size (drop (n * size) index.blocks)) ∙ ap (λ (ls : List (List ℕ)). take size ls) (sym (drop-map f (n * size) index.blocks))
 
-pub over_made : (word_at : ℕ → Option ℕ) (index : Index) (blocks part : List Block) (size n room : ℕ) → index.blocks ≡ blocks → IsChunk blocks size (n * size) part
-    → room < target_count (map (block_targets word_at index) part) → IsOver (all_targets word_at index) size room
-over_made word_at index blocks part size n room same chunk over =
-    let s = chunk.nonempty in
-    let b = chunk.in_bounds in
-    let l = length-map index.blocks (block_targets word_at index) in
-    let e = ap (λ (bs : List Block). length bs) same in
-    (n, omega (arith, s, b, l, e), subst (λ (ls : List (List ℕ)). room < target_count ls) (part_lists word_at index blocks part size n same chunk) over)
+-- each row that there is has a block
+pub begins : (n size k : ℕ) → 0 < size → k < div_ceil n size → k * size < n
+begins n size k pos h =
+    let t = (div_ceil_times n size pos).1 in
+    let m = mul-le-mul_right size (let z : suc k ≤ div_ceil n size = omega (arith, h) in z) in
+    let s = suc-mul k size in
+    omega (arith, t, m, s)
+
+-- what is known of a result that there is
+pub ok_some : {X : Type 0} (P : Option X → Type 0) (r : Result (Option X) AllocError) (o : Option X) (x : X) → r ≡ Ok o → o ≡ Some x → IfOk r P → P (Some x)
+ok_some P r o x e f h = subst P f (subst (λ (q : Result (Option _) AllocError). IfOk q P) e h)
+
+pub no_rows : (targets : List (List ℕ)) (size room : ℕ) → AreRows targets size room 0 []
+no_rows targets size room = record { many = refl; each = λ n d h. absurd (omega arith) }
+
+-- one row more
+pub rows_more : (targets : List (List ℕ)) (size room count : ℕ) (rows more : List Rows) (row : Rows) → AreRows targets size room count rows → IsRow (slice_chunk targets size count) room row → more ≡ rows ++ row ∷ []
+    → AreRows targets size room (count + 1) more
+rows_more targets size room count rows more row first last is = record {
+  many = let l = ap (λ (rs : List Rows). length rs) is ∙ length-append rows (row ∷ []) in let m = first.many in omega (arith, l, m);
+  each = λ n d h. subst (λ (rs : List Rows). IsRow (slice_chunk targets size n) room (get_or rs n d)) (sym is) (at n d (eq-or-lt_of_le (let z : n ≤ count = omega (arith, h) in z)));
+}
+  where
+    at : (n : ℕ) (d : Rows) → (n ≡ count) ⊎ (n < count) → IsRow (slice_chunk targets size n) room (get_or (rows ++ row ∷ []) n d)
+    at n d (inl e) =
+        let newest : get_or (rows ++ row ∷ []) n d ≡ row = ap (λ (j : ℕ). get_or (rows ++ row ∷ []) j d) (e ∙ sym first.many) ∙ get_or-append_seam rows row [] d in
+        subst (λ (j : ℕ). IsRow (slice_chunk targets size j) room (get_or (rows ++ row ∷ []) n d)) (sym e) (subst (λ (r : Rows). IsRow (slice_chunk targets size count) room r) (sym newest) last)
+    at n d (inr low) =
+        let m = first.many in
+        subst (λ (r : Rows). IsRow (slice_chunk targets size n) room r) (sym (get_or_append_left rows (row ∷ []) d n (omega (arith, m, low)))) (first.each n d low)
 
 -- the rows have what all blocks lead to, and nothing else
-pub rows_exact : (word_at : ℕ → Option ℕ) (index : Index) (blocks : List Block) (size room : ℕ) (rows : List Rows) → index.blocks ≡ blocks → 0 < size → length rows ≡ length blocks / size + min 1 (length blocks % size)
-    → ((n : ℕ) (d : Rows) → n < length rows → IsRowAt word_at index blocks size room n (get_or rows n d)) → kept_count rows ≡ target_count (all_targets word_at index)
-rows_exact word_at index blocks size room rows same pos count made =
+pub rows_exact : (targets : List (List ℕ)) (size room : ℕ) (rows : List Rows) → 0 < size → AreRows targets size room (div_ceil (length targets) size) rows → kept_count rows ≡ target_count targets
+rows_exact targets size room rows pos made =
     sym (sum-map (λ (row : Rows). length row.targets.items) rows)
-    ∙ sum_by_chunks (λ (l : List ℕ). length l) size (all_targets word_at index) (map (λ (row : Rows). length row.targets.items) rows)
+    ∙ sum_by_chunks (λ (l : List ℕ). length l) size targets (map (λ (row : Rows). length row.targets.items) rows)
     (λ n h. let m = length-map rows (λ (row : Rows). length row.targets.items) in at n (let z : n < length rows = omega (arith, m, h) in z)) pos
-    (length-map rows (λ (row : Rows). length row.targets.items) ∙ count
-    ∙ ap (λ (l : ℕ). l / size + min 1 (l % size)) (sym (length-map index.blocks (block_targets word_at index) ∙ ap (λ (bs : List Block). length bs) same)))
+    (length-map rows (λ (row : Rows). length row.targets.items) ∙ made.many)
   where
     first : (rs : List Rows) → 0 < length rs → Rows
     first [] h = absurd (omega (arith, h))
     first (r ∷ rs) h = r
 
-    at : (n : ℕ) → n < length rows → get_or (map (λ (row : Rows). length row.targets.items) rows) n 0 ≡ target_count (slice_chunk (all_targets word_at index) size n)
+    at : (n : ℕ) → n < length rows → get_or (map (λ (row : Rows). length row.targets.items) rows) n 0 ≡ target_count (slice_chunk targets size n)
     at n h =
         let some = first rows (omega (arith, h)) in
-        let row = made n some h in
-        get_or-map (λ (row : Rows). length row.targets.items) rows n some 0 h ∙ row.2.exact
-        ∙ ap (λ (ls : List (List ℕ)). target_count ls) (part_lists word_at index blocks row.0 size n same row.1)
-
--- what the workers made of the parts of the blocks
-abbrev pub AreMade : (word_at : ℕ → Option ℕ) (index : Index) (blocks : List Block) (size room : ℕ) (parts : List (Result (Option Rows) AllocError)) → Type 0
-AreMade word_at index blocks size room parts = (n : ℕ) (d : Result (Option Rows) AllocError) → n < length parts
-    → (part : List Block) × IsChunk blocks size (n * size) part × IfOk (get_or parts n d) (IsRowOrOver (map (block_targets word_at index) part) room)
-
-pub rows_at : (word_at : ℕ → Option ℕ) (index : Index) (blocks : List Block) (size room : ℕ) (parts : List (Result (Option Rows) AllocError)) (rows : List Rows) → AreMade word_at index blocks size room parts
-    → parts ≡ map whole rows → (n : ℕ) (d : Rows) → n < length rows → IsRowAt word_at index blocks size room n (get_or rows n d)
-rows_at word_at index blocks size room parts rows made same n d h =
-    let k = made n (whole d) (let a = as_many parts rows same in omega (arith, a, h)) in
-    (k.0, k.1, row_from (IsRowOrOver (map (block_targets word_at index) k.0) room) (get_or parts n (whole d)) (Some (get_or rows n d)) (whole_at parts rows n d same h) k.2)
-
-pub over_at : (word_at : ℕ → Option ℕ) (index : Index) (blocks : List Block) (size room : ℕ) (parts : List (Result (Option Rows) AllocError)) → AreMade word_at index blocks size room parts → index.blocks ≡ blocks
-    → (n : ℕ) → n < length parts → get_or parts n (Ok None) ≡ Ok None → IsOver (all_targets word_at index) size room
-over_at word_at index blocks size room parts made same n h missing =
-    let k = made n (Ok None) h in
-    over_made word_at index blocks k.0 size n room same k.1 (row_from (IsRowOrOver (map (block_targets word_at index) k.0) room) (get_or parts n (Ok None)) None missing k.2)
+        let m = made.many in
+        get_or-map (λ (row : Rows). length row.targets.items) rows n some 0 h ∙ (made.each n some (omega (arith, m, h))).exact
 
 -- ---- room
 

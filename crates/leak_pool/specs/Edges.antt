@@ -1,8 +1,11 @@
 -- What blocks lead to, listed once: the targets of one block after those of another.
-use Rattle.std.specs.Prelude.{◌≡◌, ℕ, suc, ◌-◌, ◌*◌, ◌/◌, ◌%◌, ◌<◌, ◌≤◌, ◌^◌, min, max, List, length, take, drop, slice_index_or, Option, Some, None}
+use Rattle.std.specs.Prelude.{◌≡◌, ℕ, suc, ◌-◌, ◌*◌, ◌/◌, ◌%◌, ◌<◌, ◌≤◌, ◌^◌, min, max, List, length, take, drop, slice_index_or, Option, Some, None, Vec}
+use Rattle.std.specs.declared.alloc.Global.{Global}
 use Rattle.std.specs.Fork.{slice_chunk}
 use Rattle.std.specs.Int.{div_ceil}
 use Rattle.std.specs.List.{sum_by}
+use Rattle.leak_blocks.specs.declared.block.Block.{Block}
+use Rattle.leak_index.specs.Hits.{Index}
 use Rattle.leak_pool.specs.Items.{targets_of_block}
 use Rattle.leak_pool.specs.declared.rows.Rows.{Rows}
 
@@ -44,10 +47,26 @@ abbrev pub IsRowOrOver : List (List ℕ) → ℕ → Option Rows → Type 0
 IsRowOrOver targets room (Some row) = IsRow targets room row
 IsRowOrOver targets room None = room < target_count targets
 
+-- there are so many rows of this many blocks each, of the blocks of the index, which numbers of 32 bits name
+pub record CanList (index : Index) (blocks : List Block) (size count : ℕ) : Type 0 where
+  pub some : 0 < size
+  pub same : index.blocks ≡ blocks
+  pub few : length blocks < 2 ^ 32
+  pub many : count ≤ div_ceil (length blocks) size
+
+-- the first rows, each of this many blocks
+pub record AreRows (targets : List (List ℕ)) (size room count : ℕ) (rows : List Rows) : Type 0 where
+  pub many : length rows ≡ count
+  pub each : (n : ℕ) (d : Rows) → n < count → IsRow (slice_chunk targets size n) room (slice_index_or rows n d)
+
 -- the lists of the blocks of some row have more targets than there is room for
 abbrev pub IsOver : List (List ℕ) → ℕ → ℕ → Type 0
 IsOver targets size room =
     (n : ℕ) × (n * size < length targets) × (room < target_count (slice_chunk targets size n))
+
+abbrev pub AreRowsOrOver : List (List ℕ) → ℕ → ℕ → ℕ → Option (Vec Rows Global) → Type 0
+AreRowsOrOver targets size room count (Some rows) = AreRows targets size room count rows.items
+AreRowsOrOver targets size room count None = IsOver targets size room
 
 -- how many blocks each row has, but for the last, where so many workers list so many blocks
 abbrev pub row_size : ℕ → ℕ → ℕ

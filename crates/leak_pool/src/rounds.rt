@@ -9,10 +9,10 @@ ghost use Rattle.leak_pool.specs.MarkingState.{IsReady, HasScanned, InItems, Are
 ghost use Rattle.leak_pool.specs.Rounds.{AreCounted};
 
 use crate::gate::Gate;
-use crate::halves::scan_shares;
 use crate::items::Items;
 use crate::marking_state::MarkingState;
 use crate::search::{Gated, Round, Search};
+use crate::sharing::scan_shares;
 use crate::target_source::{Item, TargetSource};
 use crate::worker::share_start;
 use std::alloc::{AllocError, Global};

@@ -1,10 +1,11 @@
-//! What blocks lead to, in rows that workers make side by side.
-ghost use Rattle.std.specs.Prelude.{◌≡◌, ◌+◌, ◌<◌, ◌≤◌, ◌^◌, ◌++◌, ℕ, Ok, Some, None, length, map, slice_index_or, IfOk, IfSome, IfNone, IsTrue, IsFalse};
+//! What blocks lead to, in rows that workers make side by side. As for a round, the caller starts one after another.
+ghost use Rattle.std.specs.Prelude.{◌≡◌, ◌+◌, ◌*◌, ◌<◌, ◌≤◌, ◌^◌, ◌++◌, ℕ, List, length, map, IfOk, IfSome, IfNone, IsTrue, IsFalse};
+ghost use Rattle.std.specs.Fork.{slice_chunk};
 ghost use Rattle.std.specs.Int.{div_ceil};
 ghost use Rattle.std.specs.List.{All};
 ghost use Rattle.leak_marks.specs.Lists.{Has};
 ghost use Rattle.leak_scan.specs.Targets.{block_targets, block_words, targets_of};
-ghost use Rattle.leak_pool.specs.Edges.{AreEdges, IsOver, IsRowOrOver, kept_count, target_count};
+ghost use Rattle.leak_pool.specs.Edges.{AreEdges, AreRowsOrOver, CanList, IsOver, IsRowOrOver, kept_count, target_count};
 ghost use Rattle.leak_pool.specs.Scopes.{all_targets};
 
 use leak_blocks::Block;
@@ -12,7 +13,7 @@ use leak_elf::Words;
 use leak_index::Lookup;
 use leak_scan::{BlockRuns, Targets, list_run};
 use std::alloc::{AllocError, Global};
-use std::thread::{Threads, map_chunks};
+use std::thread::{Threads, join};
 
 /// What some blocks lead to, block by block.
 #[derive(Drop)]
@@ -99,24 +100,93 @@ fn rows_of<W: Words, L: Lookup>(
     Ok(Some(Rows { starts, targets }))
 }
 
-/// The rows, unless one is missing.
-fn all_rows(
+/// How many rows there are, and how large they are.
+#[derive(Clone, Copy)]
+struct Shape {
+    /// How many rows, from that of the first blocks on.
+    count: usize,
+    /// How many blocks each row has, except that of the last blocks.
+    size: usize,
+    /// How many targets each has room for.
+    room: u32,
+}
+
+/// The row after those before it, unless its blocks lead to more than it has room for.
+fn row_after<W: Words, L: Lookup>(
     alloc: Global,
-    parts: Vec<Result<Option<Rows>, AllocError>>,
-) -> Result<Option<Vec<Rows>>, AllocError>
-    ensures all { IfOk result (λ rows.
-        IfSome rows (λ r. parts.items ≡ map (λ x. Ok (Some x)) r.items)) }
-    ensures missing { IfOk result (λ rows. IfNone rows ((n : ℕ) × (n < length parts.items)
-        × (slice_index_or parts.items n (Ok None) ≡ Ok None))) }
+    words: &W,
+    lookup: &L,
+    blocks: &[Block],
+    before: Shape,
+) -> Result<Option<Rows>, AllocError>
+    requires { CanList (L.index lookup.now) blocks.now before.size (before.count + 1) }
+    ensures { let targets = all_targets (W.word_at words.now) (L.index lookup.now) in
+        IfOk result (IsRowOrOver (slice_chunk targets before.size before.count) before.room) }
 {
-    let mut rows = Vec::new(alloc);
-    for part in parts {
-        let Some(row) = part? else {
-            return Ok(None);
-        };
-        rows.push(row)?;
+    let rest = &blocks[before.count * before.size..];
+    let part = &rest[..before.size.min(rest.len())];
+    rows_of(alloc, words, lookup, part, before.room)
+}
+
+/// The rows and the one after them, unless one is missing.
+fn with_row(
+    rows: Result<Option<Vec<Rows>>, AllocError>,
+    row: Result<Option<Rows>, AllocError>,
+) -> Result<Option<Vec<Rows>>, AllocError>
+    ensures { (targets : List (List ℕ)) (size room count : ℕ) → count * size < length targets
+        → IfOk rows (AreRowsOrOver targets size room count)
+        → IfOk row (IsRowOrOver (slice_chunk targets size count) room)
+        → IfOk result (AreRowsOrOver targets size room (count + 1)) }
+{
+    let Some(mut all) = rows? else {
+        return Ok(None);
+    };
+    let Some(last) = row? else {
+        return Ok(None);
+    };
+    all.push(last)?;
+    Ok(Some(all))
+}
+
+/// The first rows: the last of them is listed in a new thread, those before it from here.
+fn first_rows<R: Threads + Sync, W: Words + Sync, L: Lookup + Sync>(
+    rt: &R,
+    alloc: Global,
+    words: &W,
+    lookup: &L,
+    blocks: &[Block],
+    shape: Shape,
+) -> Result<Option<Vec<Rows>>, AllocError>
+    requires { CanList (L.index lookup.now) blocks.now shape.size shape.count }
+    ensures { let targets = all_targets (W.word_at words.now) (L.index lookup.now) in
+        IfOk result (AreRowsOrOver targets shape.size shape.room shape.count) }
+{
+    if shape.count == 0 {
+        return Ok(Some(Vec::new(alloc)));
     }
-    Ok(Some(rows))
+    let mut before = shape;
+    before.count -= 1;
+    if before.count == 0 {
+        let none = Ok(Some(Vec::new(alloc)));
+        return with_row(none, row_after(alloc, words, lookup, blocks, before));
+    }
+    let (row, rows) = join(
+        rt,
+        move || -> Result<Option<Rows>, AllocError>
+            requires { CanList (L.index lookup.now) blocks.now before.size (before.count + 1) }
+            ensures { let word_at = W.word_at words.entry.now in
+                let targets = all_targets word_at (L.index lookup.entry.now) in
+                let chunk = slice_chunk targets before.size before.count in
+                IfOk result (IsRowOrOver chunk before.room) }
+        { row_after(alloc, words, lookup, blocks, before) },
+        move || -> Result<Option<Vec<Rows>>, AllocError>
+            requires { CanList (L.index lookup.now) blocks.now before.size before.count }
+            ensures { let word_at = W.word_at words.entry.now in
+                let targets = all_targets word_at (L.index lookup.entry.now) in
+                IfOk result (AreRowsOrOver targets before.size before.room before.count) }
+        { first_rows(rt, alloc, words, lookup, blocks, before) },
+    );
+    with_row(rows, row)
 }
 
 /// What the blocks lead to, in rows of `size` blocks each, each made by a worker. None if a row has more than `room`
@@ -144,12 +214,7 @@ pub(crate) fn list_rows<R: Threads + Sync, W: Words + Sync, L: Lookup + Sync>(
     ensures over { let targets = all_targets (W.word_at words.now) (L.index lookup.now) in
         IfOk result (λ rows. IfNone rows (IsOver targets size room)) }
 {
-    let rows_of_part = move |_start: usize, part: &[Block]| -> Result<Option<Rows>, AllocError>
-        requires { length (L.index lookup.now).blocks < 2 ^ 32 }
-        ensures { let word_at = W.word_at words.entry.now in
-            let targets = map (block_targets word_at (L.index lookup.entry.now)) part.entry.now in
-            IfOk result (IsRowOrOver targets room) }
-    { rows_of(alloc, words, lookup, part, room) };
-    let parts = map_chunks(rt, alloc, blocks, size, &rows_of_part)?;
-    all_rows(alloc, parts)
+    let count = blocks.len().div_ceil(size);
+    let shape = Shape { count, size, room };
+    first_rows(rt, alloc, words, lookup, blocks, shape)
 }

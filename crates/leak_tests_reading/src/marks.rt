@@ -87,12 +87,14 @@ fn no_block(rt: HostRuntime) -> Result<(), Fail> {
 }
 
 #[test]
-fn splits_32_times(rt: HostRuntime) -> Result<(), Fail> {
+fn a_seat_that_was_split_off_gives_none(rt: HostRuntime) -> Result<(), Fail> {
     let (marks, mut first) = Marks::new(rt.alloc(), 1)?;
-    for _ in 0..32 {
-        assert!(rt; marks.split(&mut first).is_some());
+    for _ in 0..63 {
+        let Some(mut other) = marks.split(&mut first) else {
+            panic!(rt; "no seat")
+        };
+        assert!(rt; marks.split(&mut other).is_none());
     }
-    assert!(rt; marks.split(&mut first).is_none());
     assert!(rt; marks.claim(&mut first, 0));
     Ok(())
 }

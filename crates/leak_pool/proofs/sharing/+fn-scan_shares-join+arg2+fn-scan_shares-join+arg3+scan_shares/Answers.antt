@@ -1,13 +1,13 @@
 -- From the lemmas of HalfLemmas.
-use Rattle.std.proofs.Common.{◌≡◌, ◌<◌, ◌≤◌, ◌∙◌, ap, sym, ◌+◌, ◌-◌, ◌/◌, ℕ, List, Vec, Global, length, map, arith}
-use Rattle.leak_marks.specs.Seats.{Held, kept_half, given_half}
+use Rattle.std.proofs.Common.{◌≡◌, ◌<◌, ◌≤◌, ◌∙◌, ap, sym, ◌+◌, ◌-◌, ℕ, List, Vec, Global, length, map, arith}
+use Rattle.leak_marks.specs.Seats.{Held, kept_rest, split_off}
 use Rattle.leak_pool.specs.Gates.{ArePassed}
 use Rattle.leak_pool.specs.Promises.{AreBoth, IsHalf}
 use Rattle.leak_pool.specs.SearchModel.{blocks_of, items_of}
 use Rattle.leak_pool.specs.declared.task.Gains.{Gains}
 use Rattle.leak_pool.proofs.GateLemmas.{both_passed}
 use Rattle.leak_pool.proofs.HalfLemmas.{pair_ok, some_at, half_after, half_joined, add_two}
-use Rattle.leak_pool.proofs.halves.+fn-scan_shares-join+arg2+fn-scan_shares-join+arg3+scan_shares.Goals as goal
+use Rattle.leak_pool.proofs.sharing.+fn-scan_shares-join+arg2+fn-scan_shares-join+arg3+scan_shares.Goals as goal
 
 abbrev items : Vec ℕ Global → List ℕ
 items v = v.items
@@ -23,7 +23,7 @@ returns-then-not-is_shared g t c =
     let n : ℕ = length work.items in
     let stack : ℕ = work.model.stack in
     let w : ℕ = work.model.workers in
-    let middle : ℕ = c.args.low + (c.args.high - c.args.low) / 2 in
+    let middle : ℕ = c.args.high - 1 in
     let some : 0 < w = let l = c.requires.some in let h = c.requires.workers in omega arith in let lower : c.args.low ≤ middle = omega arith in let upper : middle ≤ c.args.high = omega arith in
     record {
       table = c.scan_shares-seat-then-not-is_shared.ensures.table ∙ c.scan_shares-seat.ensures.table;
@@ -43,14 +43,14 @@ returns-then-not-is_shared g t c =
 
 pub merge-requires : goal.merge-requires
 merge-requires g t c =
-    let given_is = some_at c.split.result c.unwrap-other.result (λ h. h ≡ given_half c.args.seat) c.unwrap-other.ensures c.split.ensures.given in
+    let given_is = some_at c.split.result c.unwrap-other.result (λ h. h ≡ split_off c.args.seat) c.unwrap-other.ensures c.split.ensures.given in
     let table : c.args.seat.table ≡ c.marks-2.result.now.table = c.requires.table ∙ sym c.marks-2.ensures in
     (c.join-upper.ensures.second.table ∙ c.split.ensures.table ∙ table, c.join-upper.ensures.first.table ∙ ap (λ (h : Held). h.table) given_is ∙ table)
 
 pub returns : goal.returns
 returns g t c =
-    let given_is = some_at c.split.result c.unwrap-other.result (λ h. h ≡ given_half c.args.seat) c.unwrap-other.ensures c.split.ensures.given in
-    let giver_is = some_at c.split.result c.unwrap-other.result (λ h. c.split.new.seat ≡ kept_half c.args.seat) c.unwrap-other.ensures c.split.ensures.giver in
+    let given_is = some_at c.split.result c.unwrap-other.result (λ h. h ≡ split_off c.args.seat) c.unwrap-other.ensures c.split.ensures.given in
+    let giver_is = some_at c.split.result c.unwrap-other.result (λ h. c.split.new.seat ≡ kept_rest c.args.seat) c.unwrap-other.ensures c.split.ensures.giver in
     let one = c.join-upper.result.1 in let two = c.join-upper.result.0 in
     let work = (g.T.Task.work c.args.task.now) in
     let blocks = blocks_of work in let targets = items_of work in
@@ -58,10 +58,10 @@ returns g t c =
     let n : ℕ = length work.items in
     let stack : ℕ = work.model.stack in
     let w : ℕ = work.model.workers in
-    let middle : ℕ = c.args.low + (c.args.high - c.args.low) / 2 in
+    let middle : ℕ = c.args.high - 1 in
     let some : 0 < w = let l = c.requires.some in let h = c.requires.workers in omega arith in let lower : c.args.low ≤ middle = omega arith in let upper : middle ≤ c.args.high = omega arith in
-    let kept : one.0.share ≡ c.args.seat.share - c.args.seat.share / 2 = c.join-upper.ensures.second.share ∙ ap (λ (h : Held). h.share) giver_is in
-    let given : two.0.share ≡ c.args.seat.share / 2 = c.join-upper.ensures.first.share ∙ ap (λ (h : Held). h.share) given_is in
+    let kept : one.0.share ≡ c.args.seat.share - 1 = c.join-upper.ensures.second.share ∙ ap (λ (h : Held). h.share) giver_is in
+    let given : two.0.share ≡ 1 = c.join-upper.ensures.first.share ∙ ap (λ (h : Held). h.share) given_is in
     let both : c.merge.result.0.share ≡ one.0.share + two.0.share = ap (λ (h : Held). h.share) c.merge.ensures.seat in
     let whole : c.merge.result.0.share ≡ c.args.seat.share = omega arith in
     record {

@@ -1,6 +1,6 @@
--- Each half has fewer workers.
+-- Each call has fewer workers.
 use Rattle.std.proofs.Common.{◌+◌, ◌-◌, ◌*◌}
-use Rattle.leak_pool.proofs.halves.+fn-scan_shares-join+arg2+fn-scan_shares-join+arg3+scan_shares.Given as goal
+use Rattle.leak_pool.proofs.sharing.+fn-scan_shares-join+arg2+fn-scan_shares-join+arg3+scan_shares.Given as goal
 
 abbrev pub decreases-scan_shares : goal.decreases-scan_shares
 decreases-scan_shares g l = 2 * (l.high - l.low)

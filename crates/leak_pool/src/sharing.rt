@@ -1,4 +1,5 @@
-//! The workers of a round, forked by halves. Besides this file, `edges.rt` alone starts threads.
+//! The workers of a round, each started by the caller, one after another: where new threads start others at the same
+//! moment, the kernel puts two of them on one processor. Besides this file, `rows.rt` alone starts threads.
 ghost use Rattle.std.specs.Prelude.{◌≡◌, ◌++◌, IfOk, IsOkAnd};
 ghost use Rattle.leak_marks.specs.Seats.{IsSound, both_seats};
 ghost use Rattle.leak_pool.specs.Promises.{AreBoth, CanScan, HaveScanned};
@@ -8,7 +9,7 @@ use leak_marks::{MarkSeat, Marks};
 use std::alloc::Global;
 use std::thread::{Threads, join};
 
-// What two halves gained, the first half's first.
+// What some workers and those after them gained, in this order.
 fn both(first: Gained, second: Gained) -> Gained
     ensures { IfOk result (λ all. IsOkAnd first (λ a. IsOkAnd second (λ b. AreBoth a b all))) }
 {
@@ -21,7 +22,7 @@ fn both(first: Gained, second: Gained) -> Gained
     Ok(all)
 }
 
-// Joins the seats of two halves.
+// Joins the seats of some workers and of those after them.
 fn merge(marks: &Marks, lower: (MarkSeat, Gained), upper: (MarkSeat, Gained)) -> (MarkSeat, Gained)
     requires { (lower.0.table ≡ marks.now.table) × (upper.0.table ≡ marks.now.table) }
     ensures seat { result.0 ≡ both_seats lower.0 upper.0 }
@@ -35,7 +36,7 @@ fn merge(marks: &Marks, lower: (MarkSeat, Gained), upper: (MarkSeat, Gained)) ->
     (seat, both(first, second))
 }
 
-/// The workers from `low` up to `high` scan their shares at once, by halves.
+/// The workers from `low` up to `high` scan their shares at once: the last in a new thread, the others from here.
 pub(crate) fn scan_shares<R: Threads + Sync, T: Task + Sync>(
     rt: &R,
     alloc: Global,
@@ -51,7 +52,7 @@ pub(crate) fn scan_shares<R: Threads + Sync, T: Task + Sync>(
         let gained = task.scan_share(alloc, &mut seat, low);
         return (seat, gained);
     }
-    let middle = low + (high - low) / 2;
+    let middle = high - 1;
     if !task.is_shared(low, middle, high) {
         let (seat, first) = scan_shares(rt, alloc, task, seat, low, middle);
         let (seat, second) = scan_shares(rt, alloc, task, seat, middle, high);
