@@ -1,5 +1,6 @@
 #!/usr/bin/env python3
-"""How many threads a run starts: `--workers`, `--piece` and `--stack` of the command line reach marking.
+"""How many threads a run starts: `--workers` of the command line reaches sifting and marking, and `--piece` and `--stack`
+reach marking.
 
     python3 gate/threads.py PROGRAM [PROGRAM ..]
 
@@ -13,7 +14,7 @@ import signal
 import sys
 import tempfile
 
-from cores import core, field, word
+from cores import SEGMENT, SIZE, core, field, word
 
 SECONDS = 20
 ENVIRONMENT = {"PATH": "/usr/bin:/bin", "LANG": "C.UTF-8"}
@@ -100,9 +101,15 @@ def started_by(program, line, files):
             end(process)
 
 
+def core_of(size, *parts):
+    """The sample core with so many bytes, of which all from 4,096 on are the segment's."""
+    segment = size - SEGMENT
+    return core(lambda image: image.extend(bytes(size - SIZE)), field(152, segment, 8), field(160, segment, 8), *parts)
+
+
 def wide_core(*parts):
     """The sample core with a segment of 36,864 bytes."""
-    return core(lambda image: image.extend(bytes(0x8000)), field(152, 0x9000, 8), field(160, 0x9000, 8), *parts)
+    return core_of(0xa000, *parts)
 
 
 def wide_star():
@@ -144,6 +151,31 @@ def of_stacks():
     ]
 
 
+def of_long():
+    """One block, in a core of 1 MiB and 16 KiB. The first MiB is read at once, and each worker, the caller among them,
+    sifts a part of it; the caller alone sifts the 16 KiB. The first round has some 260 items, so each worker has some.
+    A core that is held is not sifted."""
+    return [
+        ("a long core by a worker alone", "--workers 1", 0),
+        ("a long core by two workers", "--workers 2", 1 + 1),
+        ("a long core by four workers, if none are asked for", "", 3 + 3),
+        ("a long core that is held", "--workers 4 --skip-dead-stack", 3),
+    ]
+
+
+def of_long_holders():
+    """The same, of whose one block a worker lists the links."""
+    return [
+        ("holders of a long core by a worker alone", "--workers 1", 0),
+        ("holders of a long core by four workers", "--workers 4", 3),
+    ]
+
+
+def of_short_holders():
+    """One block, in a core of 256 KiB, with less behind its head: so the caller alone sifts it."""
+    return [("holders of a core of 256 KiB", "--workers 4", 0)]
+
+
 def of_two():
     """Two cores, in both of which the block is held. The first is marked as one core is, and in the second the block is an item more."""
     return [
@@ -171,11 +203,15 @@ def cases():
     block, lines = core(word(0x10008, 0x10100)), b"+ 0x10100 0x20\n"
     star, star_lines = wide_star()
     one, few = {"core.k": block, "trace.log": lines}, {"core.k": star, "trace.log": star_lines}
+    sizes = (0x104000, 0x40000)
+    long, short = [{"core.k": core_of(size, word(0x10008, 0x10100)), "trace.log": lines} for size in sizes]
     pair = {"core.1": block, "log.1": lines, "core.2": block, "log.2": lines}
     stars = {"core.1": wide_core(), "log.1": star_lines, "core.2": star, "log.2": star_lines}
     of_one, of_both = "one core.k trace.log", "two core.1 log.1 core.2 log.2"
     tables = [(of_pieces(), of_one, one), (of_stacks(), of_one, few), (of_two(), of_both, pair), (of_two_stacks(), of_both, stars),
-              (of_holders(), "holders core.k trace.log", few)]
+              (of_holders(), "holders core.k trace.log", few), (of_long(), of_one, long),
+              (of_long_holders(), "holders core.k trace.log", long),
+              (of_short_holders(), "holders core.k trace.log", short)]
     return [(name, f"{line} {options} --other-heap", files, wanted) for table, line, files in tables for name, options, wanted in table]
 
 

@@ -101,7 +101,7 @@ pub(crate) fn holding<T: Threads + Sync, P: Progress, R: ReadCalls>(
     ensures refused { IfErr result
         (IsUnanswered (by_reads R.calls) (Asks options.now question) readers.old readers.new) }
 {
-    let passed = read_passed(context.alloc, readers, sizes, options)?;
+    let passed = read_passed(context, readers, sizes, options)?;
     let earlier = read_earlier(context.alloc, readers, sizes, options.log_limit)?;
     match held(context, options, question, passed, bytes(&earlier)) {
         Ok(held) => Ok(without_leaks(held.report, held.signs)),

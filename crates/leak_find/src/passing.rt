@@ -16,8 +16,8 @@ use leak_passing::{Limits, Passed, PassingFault, find_passed, read_passing};
 use leak_pool::Open;
 use leak_request::Options;
 use leak_search::Workers;
+use leak_sift::Sifters;
 use leak_streams::ReadCalls;
-use std::alloc::Global;
 use std::thread::Threads;
 
 /// The refusal of a run whose core and log were not read.
@@ -32,8 +32,8 @@ fn at_passing(fault: PassingFault) -> RunFault
 
 /// Reads a core and its log in one pass, of the first two readers. The sizes are those that the readers are said to
 /// have; one that is missing counts as 0.
-pub(crate) fn read_passed<R: ReadCalls>(
-    alloc: Global,
+pub(crate) fn read_passed<T: Threads + Sync, P: Progress, R: ReadCalls>(
+    context: &Context<'_, T, P>,
     readers: &mut [R],
     sizes: &[u64],
     options: &Options,
@@ -51,7 +51,13 @@ pub(crate) fn read_passed<R: ReadCalls>(
         core_size: sizes.first().copied().unwrap_or(0),
         log_size: sizes.get(1).copied().unwrap_or(0),
     };
-    match read_passing(alloc, &mut readers[..2], limits, options.skip) {
+    let sifters = Sifters {
+        rt: context.rt,
+        alloc: context.alloc,
+        count: options.plan.workers(),
+    };
+    let first = &mut readers[..2];
+    match read_passing(&sifters, first, limits, options.skip) {
         Ok(passed) => Ok(passed),
         Err(fault) => Err(at_passing(fault)),
     }
@@ -71,7 +77,7 @@ pub(crate) fn search_passing<T: Threads + Sync, P: Progress, R: ReadCalls>(
     ensures refused { IfErr result
         (IsUnanswered (by_reads R.calls) (Search options.now) readers.old readers.new) }
 {
-    let passed = read_passed(context.alloc, readers, sizes, options)?;
+    let passed = read_passed(context, readers, sizes, options)?;
     let workers = Workers {
         rt: context.rt,
         plan: options.plan,

@@ -9,8 +9,9 @@ use crate::keeping::keep_core;
 use crate::passed::Passed;
 use leak_roots::Skip;
 use leak_search::read_log;
+use leak_sift::Sifters;
 use leak_streams::{ReadCalls, read_sized};
-use std::alloc::Global;
+use std::thread::Threads;
 
 /// How many bytes a core and its log may have.
 #[derive(Clone, Copy, Debug, PartialEq, Eq)]
@@ -25,7 +26,8 @@ pub struct Limits {
 }
 
 /// Reads a core and its log, in one pass over each: the core's head, the log, and then the rest of the core, of which
-/// only the words are kept that a search needs. The first reader has the core, the second the log.
+/// only the words are kept that a search needs. The first reader has the core, the second the log. How many sifters there
+/// are changes nothing of what is read and kept.
 ///
 /// A core that can't be sifted is read whole, and so is every core if dead stack is left out. Faults in the core or in
 /// the log refuse nothing here.
@@ -34,8 +36,8 @@ pub struct Limits {
 ///
 /// `Core` if the core is not read to its end, or if there is no memory for what is kept of it; `Log` if the log is not
 /// read to its end. The first that comes, in the order of the reading.
-pub fn read_passing<R: ReadCalls>(
-    alloc: Global,
+pub fn read_passing<T: Threads + Sync, R: ReadCalls>(
+    sifters: &Sifters<'_, T>,
     readers: &mut [R],
     limits: Limits,
     skip: Skip,
@@ -46,6 +48,7 @@ pub fn read_passing<R: ReadCalls>(
     ensures refused { IfErr result (λ fault.
         AreTwo readers.old readers.new (IsPassingFault R.calls limits fault)) }
 {
+    let alloc = sifters.alloc;
     let (limit, size) = (limits.core, limits.core_size);
     let begun = match begin_core(alloc, &mut readers[0], limit, size, skip) {
         Ok(begun) => begun,
@@ -56,7 +59,7 @@ pub fn read_passing<R: ReadCalls>(
         Err(fault) => return Err(PassingFault::Log(fault)),
     };
     let read = read_log(alloc, skip, log.as_slice());
-    match keep_core(alloc, begun, &mut readers[0], limits.core, &read, skip) {
+    match keep_core(sifters, begun, &mut readers[0], limits.core, &read, skip) {
         Ok((held, words, len)) => Ok(Passed {
             held,
             words,

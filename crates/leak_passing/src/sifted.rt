@@ -11,10 +11,10 @@ ghost use Rattle.leak_passing.specs.Sifting.{SiftsRest};
 use crate::begun::Front;
 use leak_blocks::Live;
 use leak_roots::Skip;
-use leak_sift::{Sieve, Sifting};
+use leak_sift::{Sieve, Sifters, Sifting};
 use leak_sparse::SparseWords;
 use leak_streams::{ReadCalls, ReadFault, Reading};
-use std::alloc::Global;
+use std::thread::Threads;
 
 /// A law, for proofs: each number in a slice of bytes is below 256.
 fn are_bytes(bytes: &[u8])
@@ -24,7 +24,8 @@ fn are_bytes(bytes: &[u8])
 }
 
 /// Sifts the pieces of a core that are left.
-fn sift_pieces<R: ReadCalls>(
+fn sift_pieces<T: Threads + Sync, R: ReadCalls>(
+    sifters: &Sifters<'_, T>,
     mut reading: Reading,
     reader: &mut R,
     limit: u64,
@@ -39,15 +40,15 @@ fn sift_pieces<R: ReadCalls>(
     'pieces: while reading.next_piece(reader, limit)? {
         let piece = reading.piece();
         are_bytes(piece);
-        sifting.take(piece)?;
+        sifting.take(sifters, piece)?;
     }
     Ok(())
 }
 
 /// Sifts a core behind its head to its end, by the live blocks. Returns its head, what is kept of the words behind it,
 /// and how many bytes the core has there.
-pub(crate) fn sift_core<R: ReadCalls>(
-    alloc: Global,
+pub(crate) fn sift_core<T: Threads + Sync, R: ReadCalls>(
+    sifters: &Sifters<'_, T>,
     front: Front,
     reader: &mut R,
     limit: u64,
@@ -72,10 +73,10 @@ pub(crate) fn sift_core<R: ReadCalls>(
     are_bytes(bytes);
     let sieve = Sieve::new(live, skip.links);
     let parts = segments.as_slice();
-    let mut sifting = Sifting::new(alloc, parts, head as u64, sieve);
-    sifting.take(&bytes[head..])?;
+    let mut sifting = Sifting::new(sifters.alloc, parts, head as u64, sieve);
+    sifting.take(sifters, &bytes[head..])?;
     held.truncate(head);
-    sift_pieces(reading, reader, limit, &mut sifting)?;
+    sift_pieces(sifters, reading, reader, limit, &mut sifting)?;
     let (words, len) = sifting.finish();
     Ok((held, words, len))
 }

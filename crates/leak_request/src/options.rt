@@ -20,7 +20,7 @@ pub struct Options {
     pub reading: Reading,
     /// What is left out of the root words.
     pub skip: Skip,
-    /// How marking is shared among the workers.
+    /// How sifting and marking are shared among the workers.
     pub plan: Plan,
     /// Whether the blocks are of another allocator than glibc's, whose heap says nothing of them.
     pub other_heap: bool,

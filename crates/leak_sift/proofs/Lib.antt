@@ -7,3 +7,4 @@ pub mod RunLemmas
 pub mod PartLemmas
 pub mod TakenLemmas
 pub mod OrderLemmas
+pub mod ThreadLemmas

@@ -1,7 +1,8 @@
 //! Whether a place is near a live block.
-ghost use Rattle.std.specs.Prelude.{◌≡◌, ◌+◌, ◌-◌, ◌<◌, ◌≤◌, length};
+ghost use Rattle.std.specs.Prelude.{◌≡◌, ◌+◌, ◌-◌, ◌<◌, ◌≤◌, length, slice_index_or, IsTrue};
 ghost use Rattle.leak_blocks.specs.Span.{AreDisjoint};
 ghost use Rattle.leak_chunks.specs.Fit.{least_chunk};
+ghost use Rattle.leak_index.specs.Ranks.{none};
 ghost use Rattle.leak_sift.specs.Kept.{is_near, is_near_block};
 ghost use Rattle.leak_sift.specs.Passed.{IsPassed};
 
@@ -14,14 +15,17 @@ const SIZE: u64 = 8;
 /// ends at most 31 bytes after the start; the next size word is 8 bytes before that end, and the last distance is 32.
 const FARTHEST: u64 = 56;
 
+/// How many blocks are passed one by one at most, but for the last.
+const FEW: usize = 64;
+
 /// How many of the blocks have their size word at the place or before it. The count for the last place is a guess from
-/// which a later place goes on.
+/// which a place a little later goes on.
 pub(crate) fn count_passed(blocks: &[Block], place: u64, guess: usize) -> usize
     requires disjoint { AreDisjoint blocks.now }
     requires guessed { guess ≤ length blocks.now }
     ensures { IsPassed blocks.now place result }
 {
-    if guess > 0 && place < size_place(&blocks[guess - 1]) {
+    if !is_soon_after(blocks, place, guess) {
         return blocks.partition_point(|block| size_place(block) <= place);
     }
     let mut count = guess;
@@ -29,6 +33,20 @@ pub(crate) fn count_passed(blocks: &[Block], place: u64, guess: usize) -> usize
         count += 1;
     }
     count
+}
+
+/// Whether the last of so many blocks has its size word at the place or before it, and the block a few behind them has it
+/// after the place.
+fn is_soon_after(blocks: &[Block], place: u64, count: usize) -> bool
+    requires { count ≤ length blocks.now }
+    ensures { IsTrue result → 0 < count →
+        (slice_index_or blocks.now (count - 1) none).start - 8 ≤ place }
+{
+    if count > 0 && place < size_place(&blocks[count - 1]) {
+        return false;
+    }
+    let few = count.saturating_add(FEW);
+    few >= blocks.len() || place < size_place(&blocks[few])
 }
 
 /// Whether the place is near one of the blocks, given how many have their size word at the place or before it.

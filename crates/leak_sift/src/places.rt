@@ -51,6 +51,17 @@ impl<'a> Places<'a> {
         }
     }
 
+    /// The same segments, for other offsets.
+    pub(crate) fn again(&self) -> Places<'a>
+        ensures { result ≡ self.now }
+    {
+        Places {
+            segments: self.segments,
+            passed: self.passed,
+            last: self.last,
+        }
+    }
+
     /// The run of at most so many words from the offset on.
     pub(crate) fn run_at(&mut self, offset: u64, most: usize) -> Run
         requires { 0 < most }

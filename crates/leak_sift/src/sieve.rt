@@ -50,6 +50,19 @@ impl<'a> Sieve<'a> {
         }
     }
 
+    /// The same sieve, for other places.
+    pub(crate) fn again(&self) -> Sieve<'a>
+        ensures { result ≡ self.now }
+    {
+        Sieve {
+            blocks: self.blocks,
+            links: self.links,
+            low: self.low,
+            high: self.high,
+            passed: self.passed,
+        }
+    }
+
     /// What is kept of the word at the place, which is an address: the word itself, or 0.
     #[inline]
     pub fn kept(&mut self, place: u64, word: u64) -> u64

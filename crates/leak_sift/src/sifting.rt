@@ -7,11 +7,13 @@ ghost use Rattle.leak_sift.specs.Sifted.{HasTaken, Takes, TakesSome, end_of};
 use crate::appending::append_words;
 use crate::places::Places;
 use crate::sieve::Sieve;
+use crate::threads::{LEAST, Mesh, Sifters, sift_parts};
 use crate::waiting::Waiting;
 use leak_elf::Segment;
 use leak_sparse::SparseWords;
 use std::alloc::{AllocError, Global};
 use std::marker::Model;
+use std::thread::Threads;
 
 /// Takes the bytes of a core file in order, in pieces of any length. Of each 8 bytes it keeps the word, or 0.
 #[derive(Drop)]
@@ -61,10 +63,15 @@ impl<'a> Sifting<'a> {
         }
     }
 
-    /// Takes the next bytes. Those after the last complete word wait for the rest of it.
+    /// Takes the next bytes, by the sifters if they are many. Those after the last complete word wait for the rest of it.
     ///
-    /// An error is an allocation that failed, or an offset past 64 bits. Some of the bytes were taken then.
-    pub fn take(&mut self, bytes: &[u8]) -> Result<(), AllocError>
+    /// An error is an allocation that failed, or an offset past 64 bits. Some of the bytes were taken then. Threads that
+    /// can't be had are no error: the caller does their share.
+    pub fn take<T: Threads + Sync>(
+        &mut self,
+        sifters: &Sifters<'_, T>,
+        bytes: &[u8],
+    ) -> Result<(), AllocError>
         ensures ok { OnOk result (Takes self.old bytes.now self.new) }
         ensures err { OnErr result (TakesSome self.old bytes.now self.new) }
     {
@@ -81,7 +88,7 @@ impl<'a> Sifting<'a> {
             self.complete(first)?;
         }
         let (whole, others) = rest.split_at(rest.len() / 8 * 8);
-        self.append(whole)?;
+        self.append_by(sifters, whole)?;
         self.wait(others);
         Ok(())
     }
@@ -167,5 +174,54 @@ impl<'a> Sifting<'a> {
             offset,
             bytes,
         )
+    }
+
+    /// Takes bytes of complete words, if none waits, by as many sifters as have enough to do.
+    fn append_by<T: Threads + Sync>(
+        &mut self,
+        sifters: &Sifters<'_, T>,
+        bytes: &[u8],
+    ) -> Result<(), AllocError>
+        requires none { self.old.waiting ≡ [] }
+        requires whole { length bytes.now % 8 ≡ 0 }
+        requires fits { end_of self.old + length bytes.now < 2 ^ 64 }
+        ensures ok { OnOk result (Takes self.old bytes.now self.new) }
+        ensures err { OnErr result (TakesSome self.old bytes.now self.new) }
+        ensures none { self.new.waiting ≡ [] }
+        ensures end { OnOk result (end_of self.new ≡ end_of self.old + length bytes.now) }
+    {
+        if sifters.count < 2 || bytes.len() < 2 * LEAST {
+            return self.append(bytes);
+        }
+        let count = (bytes.len() / LEAST).min(sifters.count as usize) as u32;
+        // Up to the end of the last group, so that what the sifters keep begins with a group.
+        let (first, rest) = bytes.split_at(512 - 8 * (self.words.len() % 64));
+        self.append(first)?;
+        self.append_groups(sifters, rest, count)
+    }
+
+    /// The same by so many sifters, if the words so far fill whole groups.
+    fn append_groups<T: Threads + Sync>(
+        &mut self,
+        sifters: &Sifters<'_, T>,
+        bytes: &[u8],
+        count: u32,
+    ) -> Result<(), AllocError>
+        requires groups { length self.old.words % 64 ≡ 0 }
+        requires none { self.old.waiting ≡ [] }
+        requires whole { length bytes.now % 8 ≡ 0 }
+        requires fits { end_of self.old + length bytes.now < 2 ^ 64 }
+        ensures ok { OnOk result (Takes self.old bytes.now self.new) }
+        ensures err { OnErr result (TakesSome self.old bytes.now self.new) }
+        ensures none { self.new.waiting ≡ [] }
+        ensures end { OnOk result (end_of self.new ≡ end_of self.old + length bytes.now) }
+    {
+        let mesh = Mesh {
+            places: &self.places,
+            sieve: &self.sieve,
+        };
+        let offset = self.head + 8 * self.words.len() as u64;
+        let words = sift_parts(sifters, &mesh, offset, bytes, count)?;
+        self.words.append(&words)
     }
 }

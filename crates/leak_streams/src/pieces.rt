@@ -15,7 +15,7 @@ use std::marker::Model;
 const MOST_INTERRUPTIONS: u32 = 1_000_000;
 
 /// How many bytes are asked for at a time.
-const PIECE: usize = 262_144;
+const PIECE: usize = 1_048_576;
 
 /// A reading in progress: its caller asks for one piece after another, and may do other work between them.
 ///
@@ -40,7 +40,7 @@ impl Model for Reading {
         record { taken = r.taken; interruptions = r.interruptions; piece = take r.count r.buffer.items } };
 
     ghost invariant = { λ r.
-        (length r.buffer.items ≡ 262144) × (r.count ≤ 262144) × (r.interruptions < 1000000) };
+        (length r.buffer.items ≡ 1048576) × (r.count ≤ 1048576) × (r.interruptions < 1000000) };
 }
 
 impl Reading {

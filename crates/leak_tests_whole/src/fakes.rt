@@ -86,6 +86,30 @@ impl Read for Source {
     }
 }
 
+/// A reader over bytes that it doesn't copy first.
+#[derive(Drop)]
+pub struct Steps<'a> {
+    left: &'a [u8],
+    step: usize,
+}
+
+impl<'a> Steps<'a> {
+    /// A reader that gives this many bytes at a time.
+    pub fn of(bytes: &'a [u8], step: usize) -> Steps<'a> {
+        Steps { left: bytes, step }
+    }
+}
+
+impl Read for Steps<'_> {
+    fn read(&mut self, buf: &mut [u8]) -> io::Result<usize> {
+        let count = buf.len().min(self.step).min(self.left.len());
+        let (given, left) = self.left.split_at(count);
+        buf[..count].copy_from_slice(given);
+        self.left = left;
+        Ok(count)
+    }
+}
+
 /// A writer with room for some bytes, which fails when it is full.
 #[derive(Drop)]
 pub struct Sink {

@@ -10,7 +10,7 @@ returns-in-Whole-clause-ok g c = λ first is. record {
 }
 
 pub sift_by_log-requires : goal.sift_by_log-requires
-sift_by_log-requires g c = (c.requires.0, rw c.in-Head.is at c.requires.1)
+sift_by_log-requires g c = (c.type_bounds.sync-T, (c.requires.0, rw c.in-Head.is at c.requires.1))
 
 pub returns-in-Head-clause-ok : goal.returns-in-Head-clause-ok
 returns-in-Head-clause-ok g c = rw c.in-Head.is c.sift_by_log.ensures.ok

@@ -25,7 +25,7 @@ returns-in_err-take-clause-refused g c =
     rw (p.1, p.2) (λ first at. (_, at.come.come))
 
 pub sift_pieces-requires : goal.sift_pieces-requires
-sift_pieces-requires g c = (c.requires.0, c.args.front.held.items, c.requires.1.come)
+sift_pieces-requires g c = (c.type_bounds.sync-T, (c.requires.0, c.args.front.held.items, c.requires.1.come))
 
 pub returns-in_err-sift_pieces-clause-refused : goal.returns-in_err-sift_pieces-clause-refused
 returns-in_err-sift_pieces-clause-refused g c =

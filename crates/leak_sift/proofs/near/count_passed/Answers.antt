@@ -5,11 +5,10 @@ use Rattle.std.proofs.lemmas.Bool.{leb-true, leb-false}
 use Rattle.std.proofs.lemmas.List.Sorted.{IsPartitionPoint-from_clause, IsPartitionedBy-leb}
 use Rattle.leak_blocks.specs.declared.block.Block.{Block}
 use Rattle.leak_sift.proofs.NearLemmas.{after_first, before_last, rising}
-use Rattle.leak_sift.proofs.near.count_passed.Goals.{else-guess-gt0-via-then-guess-gt0+else-place-size_place, else-guess-gt0-via-else-guess-gt0}
 use Rattle.leak_sift.proofs.near.count_passed.Goals as goal
 
-pub returns-then-place-size_place : goal.returns-then-place-size_place
-returns-then-place-size_place c =
+pub returns-then-not-is_soon_after : goal.returns-then-not-is_soon_after
+returns-then-not-is_soon_after c =
     let point = IsPartitionPoint-from_clause (λ (b : Block). leb (b.start - 8) c.args.place) _ _ c.partition_point.ensures.partitioned (IsPartitionedBy-leb (λ (b : Block). b.start - 8) _ _ (rising _ c.requires.disjoint)) (λ a r q k. search rules) in
     record {
       bound = c.partition_point.ensures.bound;
@@ -18,11 +17,7 @@ returns-then-place-size_place c =
     }
 
 pub loop-count-init : goal.loop-count-init
-loop-count-init c = before_last c.args.blocks.now c.args.place c.requires.disjoint c.args.guess c.requires.guessed (λ some.
-    elim c.else-guess-gt0.branch [
-      | else-guess-gt0-via-then-guess-gt0+else-place-size_place w ↦ omega arith
-      | else-guess-gt0-via-else-guess-gt0 w ↦ omega arith
-    ])
+loop-count-init c = before_last c.args.blocks.now c.args.place c.requires.disjoint c.args.guess c.requires.guessed (c.is_soon_after.ensures (search rules))
 
 pub returns-else-size_place-place : goal.returns-else-size_place-place
 returns-else-size_place-place c = after_first c.args.blocks.now c.args.place c.requires.disjoint c.loop-count.count c.loop-count.invariant (λ more. omega arith)
