@@ -6,13 +6,15 @@ bodies; and of the crates of the repository below it, as `rt ci` left them in ou
 line no longer speaks of the crate.
 
 What is named is found by words, so in whatever form: a function's head with its clauses, if its name is a word of the crate's own
-text, and so are its library's and its type's, or, where it takes a value of the type, the type is known; a type, a trait, a renaming
-and what is said of a type, if the name is a word of anything read so far; a module of definitions, if its path stands there. A name
-that means something else is followed too, which only tries a crate again that need not be.
+text, and so are its library's and its type's, or, where it takes a value of the type, the name stands behind a dot or a path there,
+and the type is known; a type, a trait, a renaming and what is said of a type, if the name is a word of anything read so far; of a
+module of definitions whose path stands there, those that stand behind it, and those that these name. A name that means something
+else is followed too, which only tries a crate again that need not be.
 
 A body that is wrong by a contract stays so whatever becomes of bodies, inner functions and lemmas of the crates below, so these
 count nowhere, nor does a crate that declares nothing, as one of lemmas alone; nor do lines that are comments, but in wrong bodies.
 """
+import functools
 import hashlib
 import os
 import re
@@ -24,12 +26,16 @@ JUDGES = ("edits.py", "judging.py", "wrong_bodies.py")
 FILE = "gate/refused.txt"
 COMMENT = {".rt": "//", ".antt": "--"}
 WORD = re.compile(r"\w+")
-# The path of a module of definitions, as .antt texts and clauses write it, or as Rust's paths are written.
-PATH = re.compile(r"\b(\w+)(?:\.|\s*::\s*)specs((?:(?:\.|\s*::\s*)\w+)+)")
+# The path of a module of definitions, as .antt texts and clauses write it, or as Rust's paths are written, and the names behind it.
+PATH = re.compile(r"\b(\w+)(?:\.|\s*::\s*)specs((?:(?:\.|\s*::\s*)\w+)+)(?:\.\{([^}]*)\})?")
+# In such a module: an import, and the first line of a definition, or of what else it has.
+BRINGS = re.compile(r"(?:pub )?use ")
+DEFINES = re.compile(r"(?:(?:abbrev|unfoldable|pub|record|data|mod) )*(\S+)")
 # A line that imports definitions under names; the heads of a function, of a type and of what is said of one.
 IMPORT = re.compile(r"\bghost use [\w.]+(?:\.\{([^}]*)\}| as (\w+));")
 FUNCTION = re.compile(r"(?:^| )fn (\w+)")
 TYPE = re.compile(r"^(?:# \[.*\] )?(?:pub (?:\( [\w :]+ \) )?)?(?:struct|enum|union|trait|type|const|static) (?!fn\b)(\w+)")
+CALLED = re.compile(r"(?:\.|::)\s*(\w+)")
 SELF = re.compile(r"\( (?:& (?:'\w+ )?)?(?:mut )?self\b")
 PASSED_ON = re.compile(r"^pub use (.*)$", re.M)
 RENAMED = re.compile(r"^pub (?:use [\w :]+ as (\w+) ;|type (\w+) )")
@@ -103,7 +109,7 @@ def items_of(lines, heads, of=None):
 
 
 def imports_of(file, item):
-    """Returns what a file's imports say of the names in one of its items: the modules, each with these names alone."""
+    """Returns what a file's imports say of the names in one of its items: an import of each name, however they are put together."""
     words, is_type = set(WORD.findall(item)), TYPE.search(item.partition("\n")[0])
 
     def is_named(name):
@@ -112,10 +118,11 @@ def imports_of(file, item):
         # (an operator of signs alone, as ◌≡◌, is named by them; a type has no clauses, only arguments in < and >)
         return not is_type and all(f" {sign} " in item for sign in name.split("◌") if sign)
 
+    found = set()
     for it in IMPORT.finditer(file):
         names = [name for name in (part.strip() for part in (it[1] or it[2]).split(",")) if is_named(name)]
-        if names:
-            yield f"{it[0][:it.start(1) - it.start()] if it[1] else it[0]}{', '.join(names)}"
+        found |= {f"{it[0][:it.start(1) - it.start()]}{name}}}" for name in names} if it[1] else set(names and [it[0]])
+    return sorted(found)
 
 
 def items_in(root, name):
@@ -130,15 +137,60 @@ def items_in(root, name):
             yield item._replace(text="\n".join([item.text, *imports_of(whole, item.text)]), library=name)
 
 
+@functools.lru_cache(maxsize=None)
+def definitions_in(module):
+    """Returns the imports of a module and its definitions, each by the names that it gives; None if it has anything else."""
+    imports, found, name = [], [], None
+    for line in module.split("\n"):
+        if BRINGS.match(line):
+            imports.append(line)
+        elif line[:1].strip():
+            first = DEFINES.match(line)[1]
+            if first != name and (first == DEFINES.match(line)[0] or not WORD.fullmatch(first)):
+                return None
+            if first != name:
+                name, is_data = first, line.startswith("pub data ")
+                found.append(({name}, []))
+            found[-1][1].append(line)
+        elif line.strip() and found:
+            found[-1][1].append(line)
+            found[-1][0].update(WORD.findall(line)[:1] if is_data else ())
+    return imports, [(names, "\n".join(lines)) for names, lines in found]
+
+
+@functools.lru_cache(maxsize=None)
+def definitions_of(module, names):
+    """Returns of a module what these names stand for: definitions, those that they name there, and the imports of their names."""
+    parts, wanted, found = definitions_in(module), set(names), []
+    if not (names and parts):
+        return {module}
+    imports, left = parts
+    brought = {name.strip() for line in imports for name in line.partition("{")[2].rstrip("}").split(",")}
+    if not wanted <= {it for given, _ in left for it in given} | {it.rpartition(" as ")[2] for it in brought}:
+        return {module}
+    while new := [it for it in left if it[0] & wanted]:
+        left = [it for it in left if it not in new]
+        found += (text for _, text in new)
+        wanted.update(word for _, text in new for word in WORD.findall(text))
+    whole = "\n".join(found)
+    # (an operator of signs alone is named by them)
+    is_named = lambda it: wanted & set(WORD.findall(it)) if WORD.search(it) else all(sign in whole for sign in it.strip().split("◌"))
+    for line in imports:
+        head, _, tail = line.partition("{")
+        found += (f"{head}{{{it.strip()}}}" for it in tail.rstrip("}").split(",") if is_named(it))
+    return set(found)
+
+
 def definitions_at(root, below, text):
-    """Returns the modules of definitions of the crates below whose paths stand in a text, by their files."""
+    """Returns what a text names of the modules of definitions of the crates below, by their files."""
     found = {}
-    for crate, path in PATH.findall(text):
+    for crate, path, names in PATH.findall(text):
         parts = WORD.findall(path) if crate in below else []
-        files = (f"{root}/crates/{crate}/specs/{'/'.join(parts[:end])}.antt" for end in range(len(parts), 0, -1))
-        file = next((it for it in files if os.path.isfile(it)), None)
-        if file:
-            found[file] = text_of(file)
+        ends = [end for end in range(len(parts), 0, -1) if os.path.isfile(f"{root}/crates/{crate}/specs/{'/'.join(parts[:end])}.antt")]
+        if ends:
+            file = f"{root}/crates/{crate}/specs/{'/'.join(parts[:ends[0]])}.antt"
+            wanted = parts[ends[0]:][:1] or [it.partition(" as ")[0].strip() for it in names.split(",") if it.strip()]
+            found[file] = found.get(file, set()) | definitions_of(text_of(file), tuple(wanted))
     return found
 
 
@@ -155,25 +207,25 @@ def libraries_named(root, below, called):
 
 
 def named_in(root, below, own):
-    """Returns the texts that a crate's own text names in the crates below, and the files of definitions, with those that these name in turn."""
+    """Returns the texts that a crate's own text names in the crates below, and those of definitions, with those that these name in turn."""
     items = [it for name in sorted(below) for it in items_in(root, name)]
-    waiting, found, words, files = [own], [], set(), {}
+    waiting, found, words, files, calls = [own], [], set(), {}, set(CALLED.findall(own))
     called = set(WORD.findall(own)).union(*(WORD.findall(it.text) for it in items if RENAMED.search(it.text)))
     libraries = libraries_named(root, below, called)
     # (a function that takes no value of its type is called by a path, from its library and that type)
     is_of_path = lambda it: it.library in libraries and it.type in called | {None}
-    is_called = lambda it: it.name in called and (it.type in words if SELF.search(it.text) else is_of_path(it))
+    is_called = lambda it: it.name in calls and it.type in words if SELF.search(it.text) else it.name in called and is_of_path(it)
     while waiting:
         text = waiting.pop()
         words.update(WORD.findall(text))
-        new = {file: it for file, it in definitions_at(root, below, text).items() if file not in files}
+        new = {file: it - files.get(file, set()) for file, it in definitions_at(root, below, text).items()}
         is_reached = lambda it: is_called(it) if it.is_function else it.name in words
         reached = [it for it in items if is_reached(it)]
         items = [it for it in items if not is_reached(it)]
-        files |= new
+        files |= {file: it | files.get(file, set()) for file, it in new.items()}
         found += (it.text for it in reached)
-        waiting += [*new.values(), *(it.text for it in reached)]
-    return sorted(found), files
+        waiting += [*(part for it in new.values() for part in it), *(it.text for it in reached)]
+    return sorted(found), {file: "\n".join(sorted(it)) for file, it in files.items()}
 
 
 def judge():

@@ -55,9 +55,11 @@ pub fn size ( & self ) -> u32
 INNER = "fn inner ( )\n    ensures { IsTwo } ;\n"
 PUBLIC = re.sub(r"(ensures(?: \w+)?) \{[^}]*\}", r"\1 { }", re.sub(r"ghost use .*\n", "", WHOLE.replace(INNER, "")))
 FILES = {f"{LOW}/interface/lang/src/lib.rt": PUBLIC, f"{LOW}/lang/src/lib.rt": WHOLE,
-         "crates/low/specs/A.antt": "use Rattle.low.specs.B.{one}\nuse Rattle.low.specs.declared.lib.Inner.{Inner}\n",
+         "crates/low/specs/A.antt": "use Rattle.low.specs.B.{one, two}\nuse Rattle.low.specs.C.{three}\n"
+                                    "use Rattle.low.specs.declared.lib.Inner.{Inner}\nabbrev pub IsOne : Inner → ℕ\nIsOne n = one n half\n"
+                                    "abbrev pub half : ℕ\nhalf = 1\npub record IsThree (n : ℕ) : Type 0 where\n  pub is : three n\n",
          "crates/low/specs/B.antt": "b\n", "crates/low/specs/C.antt": "c\n", "crates/low/specs/D/E.antt": "e\n",
-         "crates/sums/src/lib.rt": "fn all(it: impl Calls) { low::one(it).size(); low::shown(); low::Maker::made(); } // unfolding(low::specs::D::E::e)\n",
+         "crates/sums/src/lib.rt": "fn all(it: impl Calls) { low::one(it).size(); low::shown(); low::Maker::made(); let left = 1; } // unfolding(low::specs::D::E::e)\n",
          "crates/sums/specs/F.antt": "f\n", "crates/sums/proofs/f/Answers.antt": "f\n", "crates/sums/wrong/f.edit": "f\n",
          "crates.txt": "sums: low\nlow:\nother: sums\n"}
 # Files, and what is written in them in the place of what: what a check of `sums` reads,
@@ -72,16 +74,19 @@ READ = [
     (f"{LOW}/*/src/lib.rt", "Kind { pub size : u64", "Kind { pub size : u32"),
     (f"{LOW}/*/src/lib.rt", "{ 8 }", "{ 9 }"), (f"{LOW}/*/src/lib.rt", "{ 9 }", "{ 10 }"),
     (f"{LOW}/*/src/lib.rt", "Inner { pub kind : u64", "Inner { pub kind : u32"),  # a type that a definition names
-    ("crates/low/specs/A.antt", "B.{one}", "B.{two}"),  # definitions of a clause, and of definitions, and by a path of Rust's
+    ("crates/low/specs/A.antt", "B.{one", "C.{one"),  # definitions of a clause, and of definitions, and by a path of Rust's
+    ("crates/low/specs/A.antt", "half = 1", "half = 2"),  # one that another names in the same module
     ("crates/low/specs/B.antt", "b", "c"), ("crates/low/specs/D/E.antt", "e", "f")]
 # and what none reads.
 UNREAD = [
     (f"{LOW}/lang/src/lib.rt", "A.{IsOne}", "A.{◌≢◌, IsOne, IsThree}"),  # names that others have from there
+    (f"{LOW}/lang/src/lib.rt", "A.{IsOne}", "A.{IsThree};\nghost use Rattle.low.specs.A.{IsOne}"),  # how imports are put together
+    ("crates/low/specs/A.antt", "is : three", "is : 3 + three"), ("crates/low/specs/A.antt", "one, two", "two, one"),  # other definitions
     (f"{LOW}/lang/src/lib.rt", "fn inner ( )\n    ensures { IsTwo }", "fn inner ( )\n    ensures { IsTwo 2 }"),
     (f"{LOW}/lang/src/lib.rt", "Other )\n    ensures { IsTwo }", "Other )\n    ensures { IsTwo 2 }"),
     (f"{LOW}/*/src/lib.rt", "Other { pub size : u64", "Other { pub size : u32"),
     (f"{LOW}/lang/src/lib.rt", "11 ≤", "12 ≤"), (f"{LOW}/lang/src/lib.rt", "≡ 6", "≡ 7"), (f"{LOW}/lang/src/lib.rt", "≡ 7", "≡ 8"),
-    ("crates/low/specs/C.antt", "c", "d"), ("crates/low/specs/A.antt", "{one}", "{one}\n-- three"),
+    ("crates/low/specs/C.antt", "c", "d"), ("crates/low/specs/A.antt", "{three}", "{three}\n-- three"),
     ("crates/sums/src/lib.rt", "fn all", "    /// three\nfn all"), ("crates/sums/specs/F.antt", "f", "-- three\nf"),
     ("crates.txt", "sums: low", "lemmas:\nsums: low lemmas"), ("crates.txt", "\nlow:", "\nlow: more")]
 NEW = ("crates/other/src/lib.rt", "README.md", "crates/sums/out/a", "crates/low/wrong/a.edit", "crates/low/src/lib.rt",
