@@ -10,6 +10,9 @@
 /* Offsets in mi_tld_t. */
 enum { TO_HEAP = 16, TO_SEGMENT_COUNT = 896 };
 
+/* The size of a heap's first queue, and where it is in mi_heap_t. */
+enum { FIRST_SIZE = 8, TO_FIRST_SIZE = TO_QUEUES + QUEUE_BYTES + 16 };
+
 static struct mi_heap *mi_heap_at(const struct mimalloc *mi, uint64_t start)
 {
     return mi->heap_count ? bsearch(&start, mi->heaps, mi->heap_count, sizeof *mi->heaps, by_start) : NULL;
@@ -53,17 +56,28 @@ struct mi_heap *known_heap(struct mimalloc *mi, uint64_t start)
     return mi_heap_at(mi, start);
 }
 
-/* Finds the first heap of each thread. */
+/* Adds the first heap of a thread, if one begins here. */
+static void try_heap(struct mimalloc *mi, uint64_t start)
+{
+    uint64_t data, back;
+
+    if (has_queues(mi, start) && read_word(mi->heap, start, &data) && data % 8 == 0 && data >> 47 == 0
+        && read_word(mi->heap, data + TO_HEAP, &back) && back == start)
+        add_heap(mi, start, data);
+}
+
+/* Finds the first heap of each thread, by the size of its first queue: few words are 8. Most words of another allocator's heap lead somewhere, so to ask
+ * each whether it leads to a thread's data would read all over the core. */
 static void find_heaps(struct mimalloc *mi)
 {
     const struct segment *s;
     size_t next = 0;
-    uint64_t data, back;
+    uint64_t size;
 
     while ((s = next_writable(mi->heap, &next)))
-        for (uint64_t at = (s->start + 7) & -(uint64_t)8; next_word(mi->heap, &at, s->start + s->size, &data); at += 8)
-            if (data % 8 == 0 && data >> 47 == 0 && word(mi->heap->core, data + TO_HEAP, &back) && back == at && has_queues(mi, at))
-                add_heap(mi, at, data);
+        for (uint64_t at = (s->start + 7) & -(uint64_t)8; next_word(mi->heap, &at, s->start + s->size, &size); at += 8)
+            if (size == FIRST_SIZE)
+                try_heap(mi, at - TO_FIRST_SIZE);
 }
 
 /* Whether each heap has as many pages as it counts, and each thread as many segments. A thread that has ended counts none, and its number may be another's

@@ -3,13 +3,14 @@ or log. top: the heap's top chunk says that it has 2^46 bytes. notes: each progr
 segments: each names the same memory. threads: threads whose registers have chunks' addresses, arenas, and pages that
 look like the begin of a heap. pages: such pages and arenas alone. path: each block is an object of a class in a file
 whose path has 400 KB. long: in files whose paths are as long as a path can be. names: a file's path has control
-characters. sparse: 64 GiB of zeros, without a block of its disk. headers: an ELF header with 65,535 program headers,
-which each of the mapped files begins with. small: nothing of that, for a fuzzer to begin with: blocks, a free chunk in
-a list, a block with a mapping of its own, two threads, a file. hostile_cores.py table TABLE CORE: a table of leak_trace
-of 256 GiB, sparse, and a core of its process. hostile_cores.py few TABLE CORE: a table of three blocks and a leaf, for
-a fuzzer too, and a core of its process. hostile_cores.py paths TABLE CORE: a table whose blocks each have 32 callers in
-a file with a long path. hostile_cores.py leaves TABLE CORE: a table that tells of freed memory, of 65 MB that the core
-lacks, and 1,000 times of 64 KiB that it has."""
+characters. sparse: 64 GiB of zeros, without a block of its disk. far: 4 MiB of blocks whose words lead all over the
+heap. headers: an ELF header with 65,535 program headers, which each of the mapped files begins with. small: nothing of
+that, for a fuzzer to begin with: blocks, a free chunk in a list, a block with a mapping of its own, two threads, a
+file. hostile_cores.py table TABLE CORE: a table of leak_trace of 256 GiB, sparse, and a core of its process.
+hostile_cores.py few TABLE CORE: a table of three blocks and a leaf, for a fuzzer too, and a core of its process.
+hostile_cores.py paths TABLE CORE: a table whose blocks each have 32 callers in a file with a long path.
+hostile_cores.py leaves TABLE CORE: a table that tells of freed memory, of 65 MB that the core lacks, and 1,000 times of
+64 KiB that it has."""
 import struct
 import sys
 
@@ -120,9 +121,22 @@ def small():
                 threads + files([(FILE, FILE + PAGE, b'/lib/x')]))
 
 
+def far():
+    """Each block leads 64 KiB further than the one before."""
+    count = 1 << 17
+    (at, arena_bytes), (heap, data) = heap_of(count, 0)
+    words = bytearray(data)
+    for i in range(count):
+        led_to = heap + 0x10010 * i % (32 * count)
+        struct.pack_into('<QQQQ', words, 32 * i, led_to, 0x21, led_to, led_to)
+    return core([(at, arena_bytes), (heap, bytes(words))], b'')
+
+
 def made(kind):
     if kind == 'small':
         return small()
+    if kind == 'far':
+        return far()
     if kind == 'top':
         return core(heap_of(30000, 0, 1 << 46), b'')
     if kind == 'notes':
