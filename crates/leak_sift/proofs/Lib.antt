@@ -1,6 +1,7 @@
 -- The lemmas of this crate, by subject.
 pub mod BehindLemmas
 pub mod NearLemmas
+pub mod CalmLemmas
 pub mod PlaceLemmas
 pub mod WordLemmas
 pub mod RunLemmas

@@ -23,7 +23,7 @@ no_distance : (links : Bool) (place b : ℕ) → ((d : ℕ) → d ≤ 32 → ¬ 
 no_distance true place b h = rw (ne_eqb place (b + 0) (h 0 (omega arith)), ne_eqb place (b + 8) (h 8 (omega arith)), ne_eqb place (b + 16) (h 16 (omega arith)), ne_eqb place (b + 32) (h 32 (omega arith))) refl
 no_distance false place b h = rw (ne_eqb place (b + 0) (h 0 (omega arith)), ne_eqb place (b + 16) (h 16 (omega arith)), ne_eqb place (b + 32) (h 32 (omega arith))) refl
 
-not_near : (links : Bool) (place : ℕ) (b : Block) → ¬ (place ≡ b.start - 8) → ((d : ℕ) → d ≤ 32 → ¬ (place ≡ b.start + least_chunk b.size - 8 + d)) → is_near_block links place b ≡ false
+pub not_near : (links : Bool) (place : ℕ) (b : Block) → ¬ (place ≡ b.start - 8) → ((d : ℕ) → d ≤ 32 → ¬ (place ≡ b.start + least_chunk b.size - 8 + d)) → is_near_block links place b ≡ false
 not_near links place b own past = rw (ne_eqb place (b.start - 8) own) (no_distance links place (b.start + least_chunk b.size - 8) past)
 
 pub far_behind : (links : Bool) (place : ℕ) (b c : Block) → span_end b ≤ c.start → c.start + 56 ≤ place → is_near_block links place b ≡ false

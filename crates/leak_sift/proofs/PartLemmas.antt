@@ -34,7 +34,7 @@ module _ (before more words : List ℕ) (done : ℕ) (so_far : words ≡ before 
 
 -- ---- words in a part of the bytes
 
-number_part : (bytes : List ℕ) (from to at : ℕ) → from + at + 8 ≤ to → number_at w64 (slice_range bytes from to) at ≡ number_at w64 bytes (from + at)
+pub number_part : (bytes : List ℕ) (from to at : ℕ) → from + at + 8 ≤ to → number_at w64 (slice_range bytes from to) at ≡ number_at w64 bytes (from + at)
 unfolding number_at
 number_part bytes from to at h =
     let width : from + at + 8 - (from + at) ≡ at + 8 - at = omega arith in

@@ -1,51 +1,44 @@
--- Words are appended one by one, those of 0 together.
-use Rattle.std.proofs.Common.{◌≡◌, ℕ, zero, suc, ◌+◌, ◌-◌, ◌<◌, ◌≤◌, List, [], ◌∷◌, ◌++◌, length, take, replicate, get_or, Ok, Err, refl, sym, ap, ◌∙◌, arith}
+-- Words are appended one by one, and those of 0 before each of them together.
+use Rattle.std.proofs.Common.{◌≡◌, ℕ, ◌+◌, ◌-◌, ◌<◌, ◌≤◌, List, [], ◌∷◌, ◌++◌, length, take, replicate, get_or, Ok, Err, sym, ap, ◌∙◌, arith}
 use Rattle.std.specs.Prelude.{Result, OnErr}
-use Rattle.std.proofs.lemmas.List.{append_assoc, append-nil, length-append, length-replicate, length-take-le, replicate-append-replicate, take-take, take_all, take_more}
-use Rattle.std.proofs.Math.Seq.{take-append-add}
-use Rattle.leak_sift.specs.Sifted.{AreSomeAppended}
+use Rattle.std.proofs.lemmas.List.{append_assoc, get_or-append_right, get_or-replicate, get_or-take, get_or_append_left, length-append, length-replicate, length-take-le, same_lists, take_all, take_more}
+use Rattle.leak_index.proofs.Near.{either}
+use Rattle.leak_lemmas.proofs.Lists.{any_default}
+use Rattle.leak_sift.specs.Sifted.{AreZero}
 
 -- what holds at an error, if it holds anyway
 pub on_err : {T E : Type 0} (r : Result T E) (P : Type 0) → P → OnErr r P
 on_err (Ok x) P p = tt
 on_err (Err e) P p = p
 
-pub take-replicate : (c z : ℕ) → c ≤ z → take {A = ℕ} c (replicate z 0) ≡ replicate c 0
-take-replicate zero z h = refl
-take-replicate (suc c) zero h = absurd (omega arith)
-take-replicate (suc c) (suc z) h = ap (λ (l : List ℕ). 0 ∷ l) (take-replicate c z (omega arith))
+-- words that are 0 are so many of 0
+module _ (words : List ℕ) (from to : ℕ) (order : from ≤ to) (within : to ≤ length words) (zero : AreZero words from to) where
+  lengths : length (take to words) ≡ length (take from words ++ replicate (to - from) 0)
+  lengths = omega (arith, length-take-le to words within, length-append (take from words) (replicate (to - from) 0), length-take-le from words (omega arith), length-replicate {A = ℕ} (to - from) 0)
 
--- the words, and so many of 0 that wait, are the first of more words after those before
-module _ (before more words : List ℕ) (zeros number : ℕ) (so_far : words ++ replicate zeros 0 ≡ before ++ take number more) where
-  next : (word : ℕ) → number < length more → word ≡ get_or more number 0 → (words ++ replicate zeros 0) ++ word ∷ [] ≡ before ++ take (number + 1) more
-  next word inside is =
-      ap (λ (l : List ℕ). l ++ word ∷ []) so_far ∙ append_assoc before (take number more) (word ∷ [])
-      ∙ ap (λ (w : ℕ). before ++ (take number more ++ w ∷ [])) is ∙ ap (λ (l : List ℕ). before ++ l) (sym (take_more more number 0 inside))
+  each : (k d : ℕ) → k < to → get_or (take to words) k d ≡ get_or (take from words ++ replicate (to - from) 0) k d
+  each k d h = get_or-take to words k d h ∙ either k from (get_or words k d ≡ get_or (take from words ++ replicate (to - from) 0) k d)
+      (λ before. sym (get_or_append_left (take from words) (replicate (to - from) 0) d k (omega (arith, length-take-le from words (omega arith))) ∙ get_or-take from words k d before))
+      (λ after. any_default words k d 0 (omega arith) ∙ zero.each k after h
+      ∙ sym (get_or-append_right (take from words) (replicate (to - from) 0) from k d (length-take-le from words (omega arith)) after ∙ get_or-replicate (to - from) (k - from) 0 d (omega arith)))
 
-  pub next_zero : (word : ℕ) → number < length more → word ≡ get_or more number 0 → word ≡ 0 → words ++ replicate (zeros + 1) 0 ≡ before ++ take (number + 1) more
-  next_zero word inside is none =
-      ap (λ (l : List ℕ). words ++ l) (sym (replicate-append-replicate zeros 1 0)) ∙ sym (append_assoc words (replicate zeros 0) (0 ∷ []))
-      ∙ ap (λ (w : ℕ). (words ++ replicate zeros 0) ++ w ∷ []) (sym none) ∙ next word inside is
+  pub take_zeros : take to words ≡ take from words ++ replicate (to - from) 0
+  take_zeros = same_lists (take to words) (take from words ++ replicate (to - from) 0) lengths (λ k d l. each k d (omega (arith, length-take-le to words within)))
 
-  pub next_kept : (word : ℕ) (padded after : List ℕ) → number < length more → word ≡ get_or more number 0 → padded ≡ words ++ replicate zeros 0 → after ≡ padded ++ word ∷ []
-      → after ++ replicate 0 0 ≡ before ++ take (number + 1) more
-  next_kept word padded after inside is e f = append-nil after ∙ f ∙ ap (λ (l : List ℕ). l ++ word ∷ []) e ∙ next word inside is
+-- the words so far are the first of more words after those before
+module _ (before more words : List ℕ) (done : ℕ) (so_far : words ≡ before ++ take done more) where
+  -- with those of 0 behind them
+  pub padded_to : (number : ℕ) → done ≤ number → number ≤ length more → AreZero more done number → (padded : List ℕ) → padded ≡ words ++ replicate (number - done) 0
+      → padded ≡ before ++ take number more
+  padded_to number order within zero padded e =
+      e ∙ ap (λ (l : List ℕ). l ++ replicate (number - done) 0) so_far ∙ append_assoc before (take done more) (replicate (number - done) 0)
+      ∙ ap (λ (l : List ℕ). before ++ l) (sym (take_zeros more done number order within zero))
 
-  pub all_appended : length more ≤ number → (after : List ℕ) → after ≡ words ++ replicate zeros 0 → after ≡ before ++ more
-  all_appended all after e = e ∙ so_far ∙ ap (λ (l : List ℕ). before ++ l) (take_all number more all)
+  -- with one more
+  pub one_more : (word : ℕ) → done < length more → word ≡ get_or more done 0 → (after : List ℕ) → after ≡ words ++ word ∷ [] → after ≡ before ++ take (done + 1) more
+  one_more word inside is after e =
+      e ∙ ap (λ (l : List ℕ). l ++ word ∷ []) so_far ∙ append_assoc before (take done more) (word ∷ [])
+      ∙ ap (λ (w : ℕ). before ++ (take done more ++ w ∷ [])) is ∙ ap (λ (l : List ℕ). before ++ l) (sym (take_more more done 0 inside))
 
-  pub cut_short : number ≤ length more → zeros ≤ number → (done : ℕ) → done ≤ zeros → number - zeros + done < length more → (after : List ℕ) → after ≡ words ++ replicate done 0 → AreSomeAppended before more after
-  cut_short inside few done within fewer after e = record {
-    count = number - zeros + done;
-    fewer = fewer;
-    words = e ∙ left ∙ ap (take {A = ℕ} (length words + done)) so_far ∙ ap (λ (n : ℕ). take n (before ++ take number more)) lengths ∙ right;
-  }
-    where
-      lengths : length words + done ≡ length before + (number - zeros + done)
-      lengths = omega (arith, ap length so_far, length-append words (replicate zeros 0), length-replicate {A = ℕ} zeros 0, length-append before (take number more), length-take-le number more inside)
-
-      left : words ++ replicate done 0 ≡ take (length words + done) (words ++ replicate zeros 0)
-      left = ap (λ (l : List ℕ). words ++ l) (sym (take-replicate done zeros within)) ∙ sym (take-append-add words (replicate zeros 0) done)
-
-      right : take (length before + (number - zeros + done)) (before ++ take number more) ≡ before ++ take (number - zeros + done) more
-      right = take-append-add before (take number more) (number - zeros + done) ∙ ap (λ (l : List ℕ). before ++ l) (take-take (number - zeros + done) number more (omega arith))
+  pub all_appended : length more ≤ done → words ≡ before ++ more
+  all_appended all = so_far ∙ ap (λ (l : List ℕ). before ++ l) (take_all done more all)

@@ -1,12 +1,9 @@
 //! Appends what is kept of words.
 ghost use Rattle.std.specs.Prelude.{◌≡◌, ◌+◌, ◌++◌, ◌%◌, ◌^◌, ◌<◌, ◌≤◌, length, OnErr, OnOk};
-ghost use Rattle.std.specs.Int.{w64};
-ghost use Rattle.leak_elf.specs.Fields.{number_at};
 ghost use Rattle.leak_sift.specs.Sifted.{AreSomeAppended, run_of, sifted};
 
 use crate::places::Places;
 use crate::sieve::Sieve;
-use byteorder::{ByteOrder, LittleEndian};
 use leak_sparse::SparseWords;
 use std::alloc::AllocError;
 
@@ -53,30 +50,15 @@ pub(crate) fn append_run(
         (AreSomeAppended words.old (run_of sieve.old place bytes.now) words.new) }
     ensures same { sieve.new ≡ sieve.old }
 {
-    // how many words of 0 wait to be appended together
-    let mut zeros = 0;
-    for number in 0..bytes.len() / 8 {
-        let at = 8 * number;
-        let word = sieve.kept(place + at as u64, word_at(bytes, at));
-        if word == 0 {
-            zeros += 1;
-        } else {
-            words.push_zeros(zeros)?;
-            words.push(word)?;
-            zeros = 0;
-        }
+    let count = bytes.len() / 8;
+    let mut done = 0;
+    while let Some((number, word)) = sieve.next_kept(place, bytes, done) {
+        words.push_zeros(number - done)?;
+        words.push(word)?;
+        done = number + 1;
     }
-    if zeros > 0 {
-        words.push_zeros(zeros)?;
+    if done < count {
+        words.push_zeros(count - done)?;
     }
     Ok(())
-}
-
-/// The word that the 8 bytes from the place on are.
-#[tactic(auto, unfolding(leak_elf::specs::Fields::number_at))]
-fn word_at(bytes: &[u8], at: usize) -> u64
-    requires { at + 8 ≤ length bytes.now }
-    ensures { result ≡ number_at w64 bytes.now at }
-{
-    LittleEndian::read_u64(&bytes[at..at + 8])
 }

@@ -26,6 +26,7 @@ mod sieve;
 mod sifting;
 mod threads;
 mod waiting;
+mod words;
 
 pub use behind::Behind;
 pub use laws::{worked_siftings, worked_words};

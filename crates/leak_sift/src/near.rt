@@ -1,10 +1,10 @@
 //! Whether a place is near a live block.
-ghost use Rattle.std.specs.Prelude.{◌≡◌, ◌+◌, ◌-◌, ◌<◌, ◌≤◌, length, slice_index_or, IsTrue};
+ghost use Rattle.std.specs.Prelude.{◌≡◌, ◌+◌, ◌-◌, ◌<◌, ◌≤◌, length, slice_index_or, Bool, IsTrue};
 ghost use Rattle.leak_blocks.specs.Span.{AreDisjoint};
 ghost use Rattle.leak_chunks.specs.Fit.{least_chunk};
 ghost use Rattle.leak_index.specs.Ranks.{none};
 ghost use Rattle.leak_sift.specs.Kept.{is_near, is_near_block};
-ghost use Rattle.leak_sift.specs.Passed.{IsPassed};
+ghost use Rattle.leak_sift.specs.Passed.{AreBehind, AreCalm, IsPassed};
 
 use leak_blocks::Block;
 
@@ -69,6 +69,43 @@ pub(crate) fn is_near(blocks: &[Block], links: bool, count: usize, place: u64) -
         }
     }
     false
+}
+
+/// Up to which place, that one excluded, no place from this one on is near a block, given how many have their size word
+/// there or before it. Close to the start of a block or behind its end it looks no further, and gives the place.
+pub(crate) fn calm_end(blocks: &[Block], count: usize, place: u64) -> u64
+    requires disjoint { AreDisjoint blocks.now }
+    requires passed { IsPassed blocks.now place count }
+    ensures { (links : Bool) → AreCalm blocks.now links place result }
+{
+    let next = next_size_place(blocks, count);
+    if count == 0 {
+        return next;
+    }
+    let last = blocks[count - 1];
+    if place.saturating_sub(last.start) < FARTHEST {
+        return place;
+    }
+    let end = last.start.saturating_add(last.size);
+    if place < end {
+        return end.min(next);
+    }
+    if place - end <= FARTHEST {
+        return place;
+    }
+    next
+}
+
+/// Where the size word of the first block behind so many is. If there is none, the last place of all.
+fn next_size_place(blocks: &[Block], count: usize) -> u64
+    requires disjoint { AreDisjoint blocks.now }
+    ensures { AreBehind blocks.now count result }
+{
+    if count < blocks.len() {
+        size_place(&blocks[count])
+    } else {
+        u64::MAX
+    }
 }
 
 /// Whether the place is near the block.

@@ -1,10 +1,14 @@
 //! The sieve for words of a core.
-ghost use Rattle.std.specs.Prelude.{◌≡◌};
+ghost use Rattle.std.specs.Prelude.{◌≡◌, ◌*◌, ◌+◌, ◌/◌, ◌^◌, ◌<◌, ◌≤◌, ℕ, length};
+ghost use Rattle.std.specs.Int.{w64};
 ghost use Rattle.leak_blocks.specs.Span.{AreAddressed};
-ghost use Rattle.leak_sift.specs.Kept.{kept_of};
+ghost use Rattle.leak_elf.specs.Fields.{number_at};
+ghost use Rattle.leak_sift.specs.Kept.{is_near, kept_of};
 ghost use Rattle.leak_sift.specs.Passed.{IsRange};
+ghost use Rattle.leak_sift.specs.Sifted.{IsNextKept, run_of};
 
-use crate::near::{count_passed, is_near};
+use crate::near::{calm_end, count_passed, is_near};
+use crate::words::{count_outside, word_at};
 use leak_blocks::{Block, Live};
 use std::marker::Model;
 
@@ -20,18 +24,22 @@ pub struct Sieve<'a> {
     high: u64,
     /// How many blocks have their size word at the last place or before it.
     passed: usize,
+    /// From the first of these places up to the second, that one excluded, no place is near a block.
+    calm: (u64, u64),
 }
 
 impl<'a> Model for Sieve<'a> {
     ghost use Rattle.std.specs.Prelude.{◌≤◌, length};
     ghost use Rattle.leak_sift.specs.Kept.{Rule};
-    ghost use Rattle.leak_sift.specs.Passed.{IsSieve};
+    ghost use Rattle.leak_sift.specs.Passed.{AreCalm, IsSieve};
 
     ghost Value = { Rule };
 
     ghost view = { λ sieve. record { blocks = sieve.blocks.now; links = sieve.links } };
 
-    ghost invariant = { λ sieve. IsSieve sieve.blocks.now sieve.low sieve.high sieve.passed };
+    ghost invariant = { λ sieve.
+        IsSieve sieve.blocks.now sieve.low sieve.high sieve.passed
+        × AreCalm sieve.blocks.now sieve.links sieve.calm.0 sieve.calm.1 };
 }
 
 impl<'a> Sieve<'a> {
@@ -47,6 +55,7 @@ impl<'a> Sieve<'a> {
             low,
             high,
             passed: 0,
+            calm: (0, 0),
         }
     }
 
@@ -60,6 +69,7 @@ impl<'a> Sieve<'a> {
             low: self.low,
             high: self.high,
             passed: self.passed,
+            calm: self.calm,
         }
     }
 
@@ -72,12 +82,66 @@ impl<'a> Sieve<'a> {
         if word == 0 || (self.low <= word && word <= self.high) {
             return word;
         }
+        if self.is_near(place) { word } else { 0 }
+    }
+
+    /// The first word from the number on that is kept and isn't 0, with its number. The bytes are the words, 8 each, and
+    /// the first of them is at the place.
+    pub(crate) fn next_kept(
+        &mut self,
+        place: u64,
+        bytes: &[u8],
+        from: usize,
+    ) -> Option<(usize, u64)>
+        requires fits { place + length bytes.now < 2 ^ 64 + 8 }
+        requires within { from ≤ length bytes.now / 8 }
+        ensures next { IsNextKept (run_of self.old place bytes.now) from result }
+        ensures same { self.new ≡ self.old }
+    {
+        let count = bytes.len() / 8;
+        let mut number = from;
+        while number < count {
+            let at = 8 * number;
+            let dropped = self.count_dropped(place + at as u64, &bytes[at..]);
+            if dropped > 0 {
+                number += dropped;
+                continue;
+            }
+            let word = self.kept(place + at as u64, word_at(bytes, at));
+            if word != 0 {
+                return Some((number, word));
+            }
+            number += 1;
+        }
+        None
+    }
+
+    /// How many of the first words are 0 or left out, as far as that is known at once. The bytes are the words, 8 each,
+    /// and the first of them is at the place.
+    fn count_dropped(&self, place: u64, bytes: &[u8]) -> usize
+        ensures within { result ≤ length bytes.now / 8 }
+        ensures dropped { (k : ℕ) → k < result → kept_of self.now.blocks self.now.links
+            (place + 8 * k) (number_at w64 bytes.now (8 * k)) ≡ 0 }
+    {
+        if place < self.calm.0 || self.calm.1 <= place {
+            return 0;
+        }
+        let calm = (self.calm.1 - place).div_ceil(8);
+        let most = calm.min(bytes.len() as u64 / 8) as usize;
+        count_outside(bytes, most, self.low, self.high)
+    }
+
+    /// Whether the place is near a block. If not, it finds out up to where the next places aren't either.
+    fn is_near(&mut self, place: u64) -> bool
+        ensures near { result ≡ is_near self.old.blocks self.old.links place }
+        ensures same { self.new ≡ self.old }
+    {
         self.passed = count_passed(self.blocks, place, self.passed);
         if is_near(self.blocks, self.links, self.passed, place) {
-            word
-        } else {
-            0
+            return true;
         }
+        self.calm = (place, calm_end(self.blocks, self.passed, place));
+        false
     }
 }
 

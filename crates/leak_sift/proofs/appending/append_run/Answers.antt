@@ -1,83 +1,89 @@
--- One word more, or an error that leaves some of them.
-use Rattle.std.proofs.Common.{◌≡◌, ◌+◌, ◌*◌, ◌/◌, ◌<◌, ◌++◌, ℕ, List, length, replicate, get_or, sym, ap, ◌∙◌, append-nil, arith}
-use Rattle.std.specs.Int.{w64}
-use Rattle.leak_elf.specs.Fields.{number_at}
+-- The words up to the next one that is kept, or an error that leaves some of them.
+use Rattle.std.proofs.Common.{◌≡◌, ◌+◌, ◌-◌, ◌/◌, ◌++◌, ◌≤◌, ℕ, List, length, take, replicate, get_or, subst, ap, ◌∙◌, arith}
 use Rattle.leak_sift.specs.Kept.{Rule, kept_of}
-use Rattle.leak_sift.specs.Sifted.{run_of}
-use Rattle.leak_sift.proofs.RunLemmas.{all_appended, cut_short, next_kept, next_zero, on_err}
-use Rattle.leak_sift.proofs.WordLemmas.{get-by_words, length-by_words}
-use Rattle.leak_sift.proofs.appending.append_run.Goals.{then-word-eq0, else-word-eq0+in_ok-push_zeros+in_ok-push}
+use Rattle.leak_sift.specs.Sifted.{AreZero, run_of}
+use Rattle.leak_sift.proofs.PartLemmas.{none_appended}
+use Rattle.leak_sift.proofs.RunLemmas.{all_appended, on_err, one_more, padded_to}
+use Rattle.leak_sift.proofs.WordLemmas.{length-by_words}
 use Rattle.leak_sift.proofs.appending.append_run.Goals as goal
 
 -- how many words the run has
 count : (rule : Rule) (place : ℕ) (bytes : List ℕ) → length (run_of rule place bytes) ≡ length bytes / 8
 count rule place bytes = length-by_words (λ distance word. kept_of rule.blocks rule.links (place + distance) word) bytes
 
--- and one of them
-number : (rule : Rule) (place : ℕ) (bytes : List ℕ) (k : ℕ) → k < length bytes / 8 → get_or (run_of rule place bytes) k 0 ≡ kept_of rule.blocks rule.links (place + 8 * k) (number_at w64 bytes (8 * k))
-number rule place bytes k h = get-by_words (λ distance word. kept_of rule.blocks rule.links (place + distance) word) bytes k 0 h
+-- words of 0 behind the words so far, where the rule gives them
+padded : (rule same : Rule) (place : ℕ) (bytes before words after : List ℕ) (done number : ℕ) → same ≡ rule → words ≡ before ++ take done (run_of rule place bytes)
+    → done ≤ number → number ≤ length bytes / 8 → AreZero (run_of same place bytes) done number → after ≡ words ++ replicate (number - done) 0
+    → after ≡ before ++ take number (run_of rule place bytes)
+padded rule same place bytes before words after done number e so_far order within zero is =
+    padded_to before (run_of rule place bytes) words done so_far number order (omega (arith, count rule place bytes)) (subst (λ (r : Rule). AreZero (run_of r place bytes) done number) e zero) after is
 
 pub returns-in_err-push_zeros-clause-err : goal.returns-in_err-push_zeros-clause-err
 returns-in_err-push_zeros-clause-err c =
     let more = run_of c.args.sieve.now c.args.place c.args.bytes.now in
     let all = count c.args.sieve.now c.args.place c.args.bytes.now in
-    let so_far = c.loop-number.invariant in
+    let next = c.in-Some.ensures.next in
+    let same = count c.loop-number.sieve c.args.place c.args.bytes.now in
     on_err c.from_residual.result _
-    (cut_short c.args.words.now more c.loop-number.words c.loop-number.zeros c.loop-number.number so_far.words (omega (arith, all)) so_far.few 0 (omega arith) (omega (arith, all)) c.push_zeros.new.self
-    (c.in_err-push_zeros.ensures.err ∙ sym (append-nil c.loop-number.words)))
+    (none_appended c.args.words.now more c.loop-number.words c.loop-number.done c.loop-number.invariant.words c.push_zeros.new.self (omega (arith, all, same, next.0, next.1)) c.in_err-push_zeros.ensures.err)
 
 pub returns-in_err-push-clause-err : goal.returns-in_err-push-clause-err
 returns-in_err-push-clause-err c =
-    let more = run_of c.args.sieve.now c.args.place c.args.bytes.now in
-    let all = count c.args.sieve.now c.args.place c.args.bytes.now in
-    let so_far = c.loop-number.invariant in
+    let rule = c.args.sieve.now in
+    let place = c.args.place in
+    let bytes = c.args.bytes.now in
+    let all = count rule place bytes in
+    let same = count c.loop-number.sieve place bytes in
+    let next = c.in-Some.ensures.next in
     on_err c.from_residual-in_err-push.result _
-    (cut_short c.args.words.now more c.loop-number.words c.loop-number.zeros c.loop-number.number so_far.words (omega (arith, all)) so_far.few c.loop-number.zeros (omega arith) (omega (arith, all)) c.push.new.self
-    (c.in_err-push.ensures.err ∙ c.in_ok-push_zeros.ensures.ok))
+    (none_appended c.args.words.now (run_of rule place bytes) c.push_zeros.new.self c.in-Some.number
+    (padded rule c.loop-number.sieve place bytes c.args.words.now c.loop-number.words c.push_zeros.new.self c.loop-number.done c.in-Some.number c.loop-number.invariant.same c.loop-number.invariant.words next.0 (omega (arith, same, next.1)) next.3 c.in_ok-push_zeros.ensures.ok)
+    c.push.new.self (omega (arith, all, same, next.1)) c.in_err-push.ensures.err)
+
+pub overflow_add-done : goal.overflow_add-done
+overflow_add-done c = let next = c.in-Some.ensures.next in let same = count c.loop-number.sieve c.args.place c.args.bytes.now in omega (arith, same, next.1)
+
+pub loop-number-smaller : goal.loop-number-smaller
+loop-number-smaller c = let next = c.in-Some.ensures.next in let same = count c.loop-number.sieve c.args.place c.args.bytes.now in omega (arith, same, next.0, next.1)
 
 pub loop-number-preserved : goal.loop-number-preserved
 loop-number-preserved c =
     let rule = c.args.sieve.now in
+    let place = c.args.place in
     let bytes = c.args.bytes.now in
-    let more = run_of rule c.args.place bytes in
-    let all = count rule c.args.place bytes in
+    let more = run_of rule place bytes in
     let so_far = c.loop-number.invariant in
-    let inside : c.loop-number.number < length more = omega (arith, all) in
-    let is : c.kept-word.result ≡ get_or more c.loop-number.number 0 =
-    c.kept-word.ensures.kept ∙ ap (λ (r : Rule). kept_of r.blocks r.links (c.args.place + 8 * c.loop-number.number) c.word_at.result) so_far.same
-    ∙ ap (kept_of rule.blocks rule.links (c.args.place + 8 * c.loop-number.number)) c.word_at.ensures ∙ sym (number rule c.args.place bytes c.loop-number.number (omega arith)) in
-    elim c.if-word-eq0.branch [
-      | then-word-eq0 w ↦ record {
-        few = omega arith;
-        words = rw (w.words-is, w.zeros-is) (next_zero c.args.words.now more c.loop-number.words c.loop-number.zeros c.loop-number.number so_far.words c.kept-word.result inside is w.if-word-eq0.true);
-        same = c.kept-word.ensures.same ∙ so_far.same;
-      }
-      | else-word-eq0+in_ok-push_zeros+in_ok-push w ↦ record {
-        few = omega arith;
-        words = rw (w.words-is, w.zeros-is) (next_kept c.args.words.now more c.loop-number.words c.loop-number.zeros c.loop-number.number so_far.words c.kept-word.result w.push_zeros.new.self w.push.new.self inside is w.in_ok-push_zeros.ensures.ok w.in_ok-push.ensures.ok);
-        same = c.kept-word.ensures.same ∙ so_far.same;
-      }
-    ]
+    let done = c.loop-number.done in
+    let next = c.in-Some.ensures.next in
+    let all = count rule place bytes in
+    let same = count c.loop-number.sieve place bytes in
+    let so = padded rule c.loop-number.sieve place bytes c.args.words.now c.loop-number.words c.push_zeros.new.self done c.in-Some.number so_far.same so_far.words next.0 (omega (arith, same, next.1)) next.3 c.in_ok-push_zeros.ensures.ok in
+    record {
+      within = omega (arith, same, next.1);
+      words = one_more c.args.words.now more c.push_zeros.new.self c.in-Some.number so c.in-Some.word (omega (arith, all, same, next.1)) (next.2 ∙ ap (λ (r : Rule). get_or (run_of r place bytes) c.in-Some.number 0) so_far.same) c.push.new.self c.in_ok-push.ensures.ok;
+      same = c.next_kept.ensures.same ∙ so_far.same;
+    }
 
 pub returns-in_err-push_zeros-2-clause-err : goal.returns-in_err-push_zeros-2-clause-err
 returns-in_err-push_zeros-2-clause-err c =
     let more = run_of c.args.sieve.now c.args.place c.args.bytes.now in
     let all = count c.args.sieve.now c.args.place c.args.bytes.now in
-    let so_far = c.loop-number.invariant in
     on_err c.from_residual-in_err-push_zeros-2.result _
-    (cut_short c.args.words.now more c.loop-number.words c.loop-number.zeros c.loop-number.number so_far.words (omega (arith, all)) so_far.few 0 (omega arith) (omega (arith, all)) c.push_zeros-then-zeros-gt0.new.self
-    (c.in_err-push_zeros-2.ensures.err ∙ sym (append-nil c.loop-number.words)))
+    (none_appended c.args.words.now more c.loop-number.words c.loop-number.done c.loop-number.invariant.words c.push_zeros-then-done-count.new.self (omega (arith, all)) c.in_err-push_zeros-2.ensures.err)
 
 pub returns-in_ok-push_zeros-2-clause-ok : goal.returns-in_ok-push_zeros-2-clause-ok
 returns-in_ok-push_zeros-2-clause-ok c =
-    let more = run_of c.args.sieve.now c.args.place c.args.bytes.now in
-    let all = count c.args.sieve.now c.args.place c.args.bytes.now in
-    all_appended c.args.words.now more c.loop-number.words c.loop-number.zeros c.loop-number.number c.loop-number.invariant.words (omega (arith, all)) c.push_zeros-then-zeros-gt0.new.self c.in_ok-push_zeros-2.ensures.ok
+    let rule = c.args.sieve.now in
+    let place = c.args.place in
+    let bytes = c.args.bytes.now in
+    let all = count rule place bytes in
+    let same = count c.loop-number.sieve place bytes in
+    let rest : AreZero (run_of c.loop-number.sieve place bytes) c.loop-number.done (length bytes / 8) = subst (AreZero (run_of c.loop-number.sieve place bytes) c.loop-number.done) same c.in_default.ensures.next in
+    all_appended c.args.words.now (run_of rule place bytes) c.push_zeros-then-done-count.new.self (length bytes / 8)
+    (padded rule c.loop-number.sieve place bytes c.args.words.now c.loop-number.words c.push_zeros-then-done-count.new.self c.loop-number.done (length bytes / 8) c.loop-number.invariant.same c.loop-number.invariant.words c.loop-number.invariant.within (omega arith) rest c.in_ok-push_zeros-2.ensures.ok)
+    (omega (arith, all))
 
-pub returns-else-zeros-gt0-clause-ok : goal.returns-else-zeros-gt0-clause-ok
-returns-else-zeros-gt0-clause-ok c =
-    let more = run_of c.args.sieve.now c.args.place c.args.bytes.now in
+pub returns-else-done-count-clause-ok : goal.returns-else-done-count-clause-ok
+returns-else-done-count-clause-ok c =
     let all = count c.args.sieve.now c.args.place c.args.bytes.now in
-    let none : c.loop-number.zeros ≡ 0 = omega arith in
-    all_appended c.args.words.now more c.loop-number.words c.loop-number.zeros c.loop-number.number c.loop-number.invariant.words (omega (arith, all)) c.loop-number.words
-    (sym (append-nil c.loop-number.words) ∙ ap (λ (n : ℕ). c.loop-number.words ++ replicate n 0) (sym none))
+    all_appended c.args.words.now (run_of c.args.sieve.now c.args.place c.args.bytes.now) c.loop-number.words c.loop-number.done c.loop-number.invariant.words (omega (arith, all))

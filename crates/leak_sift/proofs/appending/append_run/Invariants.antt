@@ -1,11 +1,14 @@
--- The words so far, with those of 0 that wait.
-use Rattle.std.proofs.Common.{◌≡◌, ◌≤◌, ◌++◌, replicate, take}
+-- The words so far.
+use Rattle.std.proofs.Common.{◌≡◌, ◌-◌, ◌≤◌, ◌++◌, take}
 use Rattle.leak_sift.specs.Sifted.{run_of}
 use Rattle.leak_sift.proofs.appending.append_run.Given as goal
 
 abbrev pub invariant-loop-number : goal.invariant-loop-number
 invariant-loop-number l = record {
-  few : l.zeros ≤ l.number;
-  words : l.words ++ replicate l.zeros 0 ≡ l.initial.words ++ take l.number (run_of l.initial.sieve l.place l.bytes);
+  within : l.done ≤ l.count;
+  words : l.words ≡ l.initial.words ++ take l.done (run_of l.initial.sieve l.place l.bytes);
   same : l.sieve ≡ l.initial.sieve;
 }
+
+abbrev pub decreases-loop-number : goal.decreases-loop-number
+decreases-loop-number l = l.count - l.done

@@ -1,5 +1,5 @@
 -- From the lemmas of BehindLemmas.
-use Rattle.std.proofs.Common.{◌<◌, ◌/◌, ◌∙◌, List, ℕ, ◌*◌, length, subst, sym, arith}
+use Rattle.std.proofs.Common.{◌<◌, ◌/◌, List, ℕ, ◌*◌, length, subst, arith}
 use Rattle.leak_elf.specs.Head.{AreZerosUpTo}
 use Rattle.leak_sift.proofs.BehindLemmas.{zeros_to}
 use Rattle.leak_sift.proofs.behind.BehindRest.skip_zeros.Goals as goal

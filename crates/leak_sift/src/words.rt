@@ -1,0 +1,32 @@
+//! The words that bytes are.
+ghost use Rattle.std.specs.Prelude.{◌≡◌, ◌*◌, ◌+◌, ◌/◌, ◌<◌, ◌≤◌, ℕ, length};
+ghost use Rattle.std.specs.Int.{w64};
+ghost use Rattle.leak_elf.specs.Fields.{number_at};
+ghost use Rattle.leak_sift.specs.Passed.{IsOutside};
+
+/// The word that the 8 bytes from the place on are.
+#[tactic(auto, unfolding(leak_elf::specs::Fields::number_at))]
+pub(crate) fn word_at(bytes: &[u8], at: usize) -> u64
+    requires { at + 8 ≤ length bytes.now }
+    ensures { result ≡ number_at w64 bytes.now at }
+{
+    // (compiled to one load, unlike a reading of each byte in its place)
+    let mut word = [0; 8];
+    word.copy_from_slice(&bytes[at..at + 8]);
+    u64::from_le_bytes(word)
+}
+
+/// How many of the first words, of so many at most, are 0, below the lowest or above the highest.
+pub(crate) fn count_outside(bytes: &[u8], most: usize, low: u64, high: u64) -> usize
+    requires { most ≤ length bytes.now / 8 }
+    ensures bound { result ≤ most }
+    ensures each { (k : ℕ) → k < result → IsOutside low high (number_at w64 bytes.now (8 * k)) }
+{
+    for number in 0..most {
+        let word = word_at(bytes, 8 * number);
+        if low <= word && word <= high && word != 0 {
+            return number;
+        }
+    }
+    most
+}
