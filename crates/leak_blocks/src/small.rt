@@ -115,14 +115,15 @@ fn block_spans(alloc: Global, blocks: &[Block]) -> Result<Vec<Span>, AllocError>
     Ok(spans)
 }
 
-/// Sorts the spans by ascending first address.
-fn sort(spans: &mut Vec<Span>)
+/// Sorts the spans by ascending first address. Most logs by capture have them nearly so, and the stable sort keeps what is.
+fn sort(spans: &mut Vec<Span>) -> Result<(), AllocError>
     requires { AreSpans spans.old.items }
-    ensures ascending { IsNonDecreasingBy (λ s. s.first) spans.new.items }
+    ensures ascending { OnOk result (IsNonDecreasingBy (λ s. s.first) spans.new.items) }
     ensures spans { AreSpans spans.new.items }
     ensures same { CoverSame spans.new.items spans.old.items }
 {
-    spans.sort_unstable_by_key(|span| span.first);
+    spans.sort_by_key(|span| span.first)?;
+    Ok(())
 }
 
 /// The addresses of the spans as ranges that are apart, from spans by ascending first address.
@@ -155,7 +156,7 @@ pub fn joined(alloc: Global, spans: Vec<Span>) -> Result<SmallSpans, AllocError>
     ensures { IfOk result (λ ranges. CoverSame ranges spans.items) }
 {
     let mut spans = spans;
-    sort(&mut spans);
+    sort(&mut spans)?;
     let ranges = merged(alloc, &spans)?;
     Ok(SmallSpans { ranges })
 }
