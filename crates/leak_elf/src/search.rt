@@ -169,7 +169,8 @@ pub(crate) fn find_run<'a, R: Rest>(
     requires { AreSplit held.now (R.bytes rest.now) segments.now }
     ensures { IsRun (word_in (held.now ++ R.bytes rest.now) segments.now) from result.now }
 {
-    if from % 8 != 0 {
+    // If no dumped byte is held, as of a core that is passed, no segment is searched for.
+    if from % 8 != 0 || segments.is_empty() || held.len() as u64 <= segments[0].offset {
         return &[];
     }
     let count = count_up_to(segments, from);
