@@ -152,13 +152,16 @@ def of_stacks():
 
 
 def of_long():
-    """One block, in a core of 1 MiB and 16 KiB. The first MiB is read at once, and each worker, the caller among them,
-    sifts a part of it; the caller alone sifts the 16 KiB. The first round has some 260 items, so each worker has some.
-    A core that is held is not sifted."""
+    """One block, in a core of 2 MiB and 16 KiB. It is read in pieces of 512 KiB for each worker, of which each worker, the
+    caller among them, sifts a part; the caller alone sifts the last 16 KiB. So two workers read two pieces before these, three
+    read one of 1.5 MiB and the rest, and four read one of 2 MiB. Sixteen or more read pieces of 8 MiB, and 64 cut the core
+    into 16 parts of 128 KiB. The first round has some 516 items, so each worker has some. A core that is held is not sifted."""
     return [
         ("a long core by a worker alone", "--workers 1", 0),
-        ("a long core by two workers", "--workers 2", 1 + 1),
+        ("a long core by two workers", "--workers 2", 2 * 1 + 1),
+        ("a long core by three workers", "--workers 3", 2 * 2 + 2),
         ("a long core by four workers, if none are asked for", "", 3 + 3),
+        ("a long core by 64 workers", "--workers 64", 15 + 63),
         ("a long core that is held", "--workers 4 --skip-dead-stack", 3),
     ]
 
@@ -203,7 +206,7 @@ def cases():
     block, lines = core(word(0x10008, 0x10100)), b"+ 0x10100 0x20\n"
     star, star_lines = wide_star()
     one, few = {"core.k": block, "trace.log": lines}, {"core.k": star, "trace.log": star_lines}
-    sizes = (0x104000, 0x40000)
+    sizes = (0x204000, 0x40000)
     long, short = [{"core.k": core_of(size, word(0x10008, 0x10100)), "trace.log": lines} for size in sizes]
     pair = {"core.1": block, "log.1": lines, "core.2": block, "log.2": lines}
     stars = {"core.1": wide_core(), "log.1": star_lines, "core.2": star, "log.2": star_lines}

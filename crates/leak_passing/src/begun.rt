@@ -212,12 +212,14 @@ fn begin_at<R: ReadCalls>(
     }
 }
 
-/// Begins to read a core, which is said to have so many bytes: up to its head, or whole if it can't be sifted.
+/// Begins to read a core, which is said to have so many bytes: up to its head, in pieces of at most `piece` bytes, or
+/// whole if it can't be sifted.
 pub(crate) fn begin_core<R: ReadCalls>(
     alloc: Global,
     reader: &mut R,
     limit: u64,
     size: u64,
+    piece: usize,
     skip: Skip,
 ) -> Result<Begun, ReadFault>
     ensures ok { IfOk result (IsBegun R.calls limit reader.old reader.new skip) }
@@ -227,7 +229,7 @@ pub(crate) fn begin_core<R: ReadCalls>(
         let whole = read_sized(alloc, reader, limit, size)?;
         return Ok(Begun::Whole(whole));
     }
-    let mut reading = Reading::begin::<R>(alloc)?;
+    let mut reading = Reading::begin::<R>(alloc, piece)?;
     let mut held = Vec::new(alloc);
     let search = find_head(&mut reading, reader, limit, &mut held)?;
     match search {

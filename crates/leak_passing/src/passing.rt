@@ -1,6 +1,6 @@
 //! A core and its log are read in one pass.
 
-ghost use Rattle.std.specs.Prelude.{◌≡◌, length, IfOk, IfErr};
+ghost use Rattle.std.specs.Prelude.{◌≡◌, ◌*◌, min, max, length, IfOk, IfErr};
 ghost use Rattle.leak_passing.specs.Passed.{AreTwo, IsPassingFault, Passes};
 
 use crate::begun::begin_core;
@@ -13,6 +13,13 @@ use leak_sift::Sifters;
 use leak_streams::{ReadCalls, read_sized};
 use std::thread::Threads;
 
+/// How many bytes of a piece are for each sifter: 512 KiB. Own rule: they fit a processor's second cache, and take some
+/// times as long as the start of a thread.
+const PART: usize = 524_288;
+
+/// How many bytes a piece has at most, since all of it is held: 8 MiB.
+const MOST_PIECE: usize = 8_388_608;
+
 /// How many bytes a core and its log may have.
 #[derive(Clone, Copy, Debug, PartialEq, Eq)]
 pub struct Limits {
@@ -23,6 +30,13 @@ pub struct Limits {
     /// How many bytes the core is said to have, or 0, as of the log. These sizes change only time and memory.
     pub core_size: u64,
     pub log_size: u64,
+}
+
+/// How many bytes of a core are read at a time, if so many threads sift them.
+fn piece_size(count: u32) -> usize
+    ensures { result ≡ min (max 1 count * PART) MOST_PIECE }
+{
+    (count.max(1) as usize * PART).min(MOST_PIECE)
 }
 
 /// Reads a core and its log, in one pass over each: the core's head, the log, and then the rest of the core, of which
@@ -50,7 +64,8 @@ pub fn read_passing<T: Threads + Sync, R: ReadCalls>(
 {
     let alloc = sifters.alloc;
     let (limit, size) = (limits.core, limits.core_size);
-    let begun = match begin_core(alloc, &mut readers[0], limit, size, skip) {
+    let piece = piece_size(sifters.count);
+    let begun = match begin_core(alloc, &mut readers[0], limit, size, piece, skip) {
         Ok(begun) => begun,
         Err(fault) => return Err(PassingFault::Core(fault)),
     };

@@ -22,10 +22,10 @@
 //! assert_eq!(rt; read_all(alloc, &mut five, 4).err(), Some(ReadFault::TooLong));
 //! ```
 //!
-//! A function `f` is given all bytes within a limit, piece by piece:
+//! A function `f` is given all bytes within a limit, in pieces of at most `size` bytes:
 //!
 //! ```text
-//! let mut reading = Reading::begin::<R>(alloc)?;
+//! let mut reading = Reading::begin::<R>(alloc, size)?;
 //! while reading.next_piece(&mut reader, limit)? {
 //!     f(reading.piece());
 //! }

@@ -14,9 +14,6 @@ use std::marker::Model;
 /// How many interrupted reads end a reading.
 const MOST_INTERRUPTIONS: u32 = 1_000_000;
 
-/// How many bytes are asked for at a time.
-const PIECE: usize = 1_048_576;
-
 /// A reading in progress: its caller asks for one piece after another, and may do other work between them.
 ///
 /// Contracts see how many bytes were taken, how many reads were interrupted, and the piece that was read last. A reading is of
@@ -40,18 +37,19 @@ impl Model for Reading {
         record { taken = r.taken; interruptions = r.interruptions; piece = take r.count r.buffer.items } };
 
     ghost invariant = { λ r.
-        (length r.buffer.items ≡ 1048576) × (r.count ≤ 1048576) × (r.interruptions < 1000000) };
+        (0 < length r.buffer.items) × (r.count ≤ length r.buffer.items)
+        × (r.interruptions < 1000000) };
 }
 
 impl Reading {
-    /// Begins a reading, of any reader.
-    pub fn begin<R: ReadCalls>(alloc: Global) -> Result<Reading, AllocError>
+    /// Begins a reading, of any reader. A piece has at most `size` bytes, or one if that is 0.
+    pub fn begin<R: ReadCalls>(alloc: Global, size: usize) -> Result<Reading, AllocError>
         ensures nothing { IfOk result (λ r. r ≡ nothing_read) }
         ensures come { IfOk result (λ r.
             (limit : ℕ) (reader : R) → HasComeTo R.calls limit reader reader r []) }
     {
         Ok(Reading {
-            buffer: vec![in alloc; 0u8; PIECE]?,
+            buffer: vec![in alloc; 0u8; size.max(1)]?,
             count: 0,
             taken: 0,
             interruptions: 0,

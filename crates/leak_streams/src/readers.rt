@@ -11,6 +11,9 @@ use std::alloc::Global;
 use std::io;
 use std::io::Read;
 
+/// How many bytes are asked for at a time: 256 KiB. Own rule: they and their copy fit a processor's second cache.
+const PIECE: usize = 262_144;
+
 /// A reader, by its single reads. Everything that is [`Read`] is one.
 ///
 /// Its one ghost member says what a read does. A function that is generic over readers learns nothing else of them, so its contract
@@ -59,7 +62,7 @@ pub fn read_sized<R: ReadCalls>(
     ensures ok { IfOk result (λ v. IsReadWhole R.calls limit reader.old reader.new v.items) }
     ensures refused { IfErr result (IsGivenUp R.calls limit reader.old reader.new) }
 {
-    let mut reading = Reading::begin::<R>(alloc)?;
+    let mut reading = Reading::begin::<R>(alloc, PIECE)?;
     let mut bytes = list_for(alloc, size.min(limit));
     'pieces: while reading.next_piece(reader, limit)? {
         bytes.extend_from_slice(reading.piece())?;

@@ -97,14 +97,15 @@ fn the_input_that_is_too_long_is_told(rt: HostRuntime) -> Result<(), Fail> {
     Ok(())
 }
 
-/// How many bytes the segment of the wide core has. It is read in two pieces, each long enough for two threads.
-const WIDE: u64 = 0x16_0000;
+/// How many bytes the segment of the wide core has. By two to four sifters it is read in two or three pieces, each long
+/// enough for two threads.
+const WIDE: u64 = 0x26_0000;
 
 /// How many words are behind the head of the wide core, of which the first 445 are before the segment.
-const WIDE_WORDS: usize = 180_669;
+const WIDE_WORDS: usize = 311_741;
 
 /// How many of these are kept.
-const WIDE_KEPT: usize = 68;
+const WIDE_KEPT: usize = 116;
 
 /// A word that leads nowhere. It is kept where a block's size word is.
 const SIZE_WORD: u64 = 0x31;
@@ -135,7 +136,7 @@ fn push_rows(rows: &mut Vec<(usize, u64)>, first: usize, last: usize) -> Result<
 fn wide_rows(alloc: Global) -> Result<Vec<(usize, u64)>, Fail> {
     let mut rows = Vec::new(alloc);
     rows.push((445, word_at(445)))?;
-    for number in 1..=11usize {
+    for number in 1..=19usize {
         let multiple = 16_384 * number;
         push_rows(&mut rows, multiple - 68, multiple - 67)?;
         push_rows(&mut rows, multiple - 1, multiple + 1)?;
@@ -149,7 +150,7 @@ fn wide_rows(alloc: Global) -> Result<Vec<(usize, u64)>, Fail> {
 /// A log with a block after each multiple.
 fn wide_log(alloc: Global) -> Result<String, Fail> {
     let mut log = String::new(alloc);
-    for number in 1..=11usize {
+    for number in 1..=19usize {
         let start = address_of(16_384 * number + 5);
         writeln!(log, "+ 0x{start:x} 0x20")?;
     }
