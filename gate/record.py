@@ -7,9 +7,10 @@ line no longer speaks of the crate.
 
 What is named is found by words, so in whatever form: a function's head with its clauses, if its name is a word of the crate's own
 text, and so are its library's and its type's, or, where it takes a value of the type, the name stands behind a dot or a path there,
-and the type is known; a type, a trait, a renaming and what is said of a type, if the name is a word of anything read so far; of a
-module of definitions whose path stands there, those that stand behind it, and those that these name. A name that means something
-else is followed too, which only tries a crate again that need not be.
+and the type is known; a type, a trait, a renaming and what is said of a type, if the name is a word of anything read so far, but of
+a trait's functions that have a body by default only those that the crate's Rust calls or writes, and a type that isn't public only if
+a definition names it, or another such type; of a module of definitions whose path stands there, those that stand behind it, and those
+that these name. A name that means something else is followed too, which only tries a crate again that need not be.
 
 A body that is wrong by a contract stays so whatever becomes of bodies, inner functions and lemmas of the crates below, so these
 count nowhere, nor does a crate that declares nothing, as one of lemmas alone; nor do lines that are comments, but in wrong bodies.
@@ -19,122 +20,23 @@ import hashlib
 import os
 import re
 import subprocess
-from typing import NamedTuple
+
+from declared import RENAMED, WORD, files_below, items_in, text_of
 
 PARTS = ("src", "specs", "proofs")
 JUDGES = ("edits.py", "judging.py", "wrong_bodies.py")
 FILE = "gate/refused.txt"
-COMMENT = {".rt": "//", ".antt": "--"}
-WORD = re.compile(r"\w+")
 # The path of a module of definitions, as .antt texts and clauses write it, or as Rust's paths are written, and the names behind it.
 PATH = re.compile(r"\b(\w+)(?:\.|\s*::\s*)specs((?:(?:\.|\s*::\s*)\w+)+)(?:\.\{([^}]*)\})?")
 # In such a module: an import, and the first line of a definition, or of what else it has.
 BRINGS = re.compile(r"(?:pub )?use ")
 DEFINES = re.compile(r"(?:(?:abbrev|unfoldable|pub|record|data|mod) )*(\S+)")
-# A line that imports definitions under names; the heads of a function, of a type and of what is said of one.
-IMPORT = re.compile(r"\bghost use [\w.]+(?:\.\{([^}]*)\}| as (\w+));")
-FUNCTION = re.compile(r"(?:^| )fn (\w+)")
-TYPE = re.compile(r"^(?:# \[.*\] )?(?:pub (?:\( [\w :]+ \) )?)?(?:struct|enum|union|trait|type|const|static) (?!fn\b)(\w+)")
+# By what path definitions name a type of Rust's.
+DECLARED = re.compile(r"\bspecs\.declared((?:\.\w+)+)")
 CALLED = re.compile(r"(?:\.|::)\s*(\w+)")
+WRITTEN = re.compile(r"\bfn (\w+)")
 SELF = re.compile(r"\( (?:& (?:'\w+ )?)?(?:mut )?self\b")
 PASSED_ON = re.compile(r"^pub use (.*)$", re.M)
-RENAMED = re.compile(r"^pub (?:use [\w :]+ as (\w+) ;|type (\w+) )")
-IMPL = re.compile(r"\bimpl (.*?)(?: where | as | ?\{|$)")
-
-
-class Item(NamedTuple):
-    """A declaration of a library: its name, the type that it is a function of, whether it is a function, its text, and whose it is."""
-    name: str
-    type: str | None
-    is_function: bool
-    text: str
-    library: str = ""
-
-
-def files_below(folder):
-    """Returns the files of a folder and of those in it, in order."""
-    return sorted(os.path.join(at, it) for at, _, files in os.walk(folder) for it in files)
-
-
-def text_of(path):
-    """Returns the text of a file without the lines that are comments."""
-    sign = COMMENT.get(os.path.splitext(path)[1])
-    with open(path, encoding="utf-8", errors="surrogateescape") as it:
-        return "".join(line for line in it if not (sign and line.lstrip().startswith(sign)))
-
-
-def clauses_of(head, lines):
-    """Returns the lines of the clauses that stand behind each line that is this head of a function."""
-    found = []
-    for at in (at for at, line in enumerate(lines) if line == head):
-        found += lines[at + 1:next((end for end in range(at, len(lines)) if lines[end].rstrip().endswith(";")), at) + 1]
-    return found
-
-
-def declarations(lines):
-    """Returns the declarations that stand one behind the other in these lines, each as its own lines."""
-    found, depth = [[]], 0
-    for line in lines:
-        found[-1].append(line)
-        depth += line.count("{") - line.count("}")
-        ends = ";" if FUNCTION.search(found[-1][0]) else (";", "}")
-        if depth <= 0 and line.rstrip().endswith(ends):
-            found.append([])
-    return [it for it in found if "".join(it).strip()]
-
-
-def impl_of(head):
-    """Returns whether an impl's head names a trait, and what it is of: its type, or its trait if it is for every type."""
-    told, depth, end = IMPL.search(head)[1], 0, 0
-    if told.startswith("<"):
-        end = next(at for at, it in enumerate(told) if (depth := depth + (it == "<") - (it == ">")) == 0)
-    trait, is_of_trait, of = told[end:].rpartition(" for ")
-    trait, of = (WORD.findall(re.sub(r"<.*", "", it)) for it in (trait, of.lstrip("> ")))
-    return bool(is_of_trait), (trait if is_of_trait and of[-1] in WORD.findall(told[:end]) else of)[-1]
-
-
-def items_of(lines, heads, of=None):
-    """Returns the items of one declaration; `heads` has the clauses of functions."""
-    head, text = lines[0], "\n".join(lines)
-    if IMPL.search(head):
-        is_of_trait, name = impl_of(head)
-        parts = [] if is_of_trait else [it for part in declarations(lines[1:-1]) for it in items_of(part, heads, name)]
-        return [it._replace(text=f"{head}\n{it.text}") for it in parts] or [Item(name, None, False, text)]
-    if TYPE.search(head):
-        return [Item(TYPE.search(head)[1], None, False, text)]
-    if FUNCTION.search(head):
-        return [Item(FUNCTION.search(head)[1], of, True, "\n".join([text, *clauses_of(head, heads)]))]
-    renamed = RENAMED.search(head)
-    return [Item(renamed[1] or renamed[2], None, False, text)] if renamed else []
-
-
-def imports_of(file, item):
-    """Returns what a file's imports say of the names in one of its items: an import of each name, however they are put together."""
-    words, is_type = set(WORD.findall(item)), TYPE.search(item.partition("\n")[0])
-
-    def is_named(name):
-        if WORD.search(name):
-            return bool(words & set(WORD.findall(name)))
-        # (an operator of signs alone, as ◌≡◌, is named by them; a type has no clauses, only arguments in < and >)
-        return not is_type and all(f" {sign} " in item for sign in name.split("◌") if sign)
-
-    found = set()
-    for it in IMPORT.finditer(file):
-        names = [name for name in (part.strip() for part in (it[1] or it[2]).split(",")) if is_named(name)]
-        found |= {f"{it[0][:it.start(1) - it.start()]}{name}}}" for name in names} if it[1] else set(names and [it[0]])
-    return sorted(found)
-
-
-def items_in(root, name):
-    """Returns what a built library declares to others, and the types that its definitions can name, each with the imports of what it names."""
-    library = f"{root}/crates/{name}/out/rlib/{name}.rlib"
-    for path in files_below(f"{library}/lang/src"):
-        whole, public = text_of(path), path.replace(".rlib/lang/", ".rlib/interface/lang/")
-        heads = whole.split("\n")
-        declared = declarations(text_of(public).split("\n")) if os.path.isfile(public) else []
-        types = [it for it in declarations(heads) if TYPE.search(it[0]) and it not in declared]
-        for item in (it for lines in declared + types for it in items_of(lines, heads)):
-            yield item._replace(text="\n".join([item.text, *imports_of(whole, item.text)]), library=name)
 
 
 @functools.lru_cache(maxsize=None)
@@ -206,10 +108,12 @@ def libraries_named(root, below, called):
     return named
 
 
-def named_in(root, below, own):
-    """Returns the texts that a crate's own text names in the crates below, and those of definitions, with those that these name in turn."""
+def named_in(root, below, own, rust):
+    """Returns the texts that a crate's own text, of which `rust` is Rust, names in the crates below, and those of definitions, with those
+    that these name in turn."""
     items = [it for name in sorted(below) for it in items_in(root, name)]
     waiting, found, words, files, calls = [own], [], set(), {}, set(CALLED.findall(own))
+    taken, declared = set(CALLED.findall(rust)) | set(WRITTEN.findall(rust)), set()
     called = set(WORD.findall(own)).union(*(WORD.findall(it.text) for it in items if RENAMED.search(it.text)))
     libraries = libraries_named(root, below, called)
     # (a function that takes no value of its type is called by a path, from its library and that type)
@@ -218,11 +122,16 @@ def named_in(root, below, own):
     while waiting:
         text = waiting.pop()
         words.update(WORD.findall(text))
+        declared.update(name for path in DECLARED.findall(text) for name in WORD.findall(path))
         new = {file: it - files.get(file, set()) for file, it in definitions_at(root, below, text).items()}
-        is_reached = lambda it: is_called(it) if it.is_function else it.name in words
+        is_taken = lambda it: it.name in taken and it.type in words
+        is_known = lambda it: it.name in (declared if it.is_inner else words)
+        is_reached = lambda it: is_taken(it) if it.is_default else is_called(it) if it.is_function else is_known(it)
         reached = [it for it in items if is_reached(it)]
         items = [it for it in items if not is_reached(it)]
         files |= {file: it | files.get(file, set()) for file, it in new.items()}
+        # (what an inner type consists of)
+        declared.update(name for it in reached if it.is_inner for name in WORD.findall(it.text))
         found += (it.text for it in reached)
         waiting += [*(part for it in new.values() for part in it), *(it.text for it in reached)]
     return sorted(found), {file: "\n".join(sorted(it)) for file, it in files.items()}
@@ -247,7 +156,8 @@ def sum_of(root, crate, libraries, below):
     own = {it: text_of(it) for part in (*PARTS, "wrong") for it in files_below(f"{root}/crates/{crate}/{part}")}
     silent = {it for it in below if not any(items_in(root, it))}
     add(" ".join([crate, *(it for it in libraries[crate] if it not in silent)]))
-    named, files = named_in(root, below, "\n".join(own.values()))
+    rust = "\n".join(text for path, text in own.items() if path.endswith((".rt", ".edit")))
+    named, files = named_in(root, below, "\n".join(own.values()), rust)
     add(*named)
     for path, text in sorted((own | files).items()):
         add(os.path.relpath(path, root), text)
