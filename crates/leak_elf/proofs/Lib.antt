@@ -14,3 +14,4 @@ pub mod Samples
 pub mod Sorted
 pub mod Split
 pub mod Zeros
+pub mod KeptWords

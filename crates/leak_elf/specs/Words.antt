@@ -1,5 +1,5 @@
 -- Words of memory: maps from addresses to words, and the words of a core file.
-use Rattle.std.specs.Prelude.{◌≡◌, false, true, ℕ, ◌-◌, ◌+◌, ◌*◌, ◌%◌, length, ◌<◌, ◌≤◌, Bool, ◌&&◌, nat_le, ◌==◌, if◌then◌else◌, find, List, Option, Some, None, IsSome, IfSome, option_map, slice_index_or}
+use Rattle.std.specs.Prelude.{◌≡◌, false, true, ℕ, zero, suc, ◌-◌, ◌+◌, ◌*◌, ◌%◌, length, ◌<◌, ◌≤◌, Bool, ◌&&◌, nat_le, ◌==◌, if◌then◌else◌, find, List, [], ◌∷◌, ◌++◌, Option, Some, None, IsSome, IfSome, option_map, slice_index_or}
 use Rattle.std.specs.Int.{w64}
 use Rattle.std.specs.List.{range_with_len, filter_map}
 use Rattle.leak_elf.specs.declared.segment.Segment.{Segment}
@@ -31,6 +31,17 @@ words_between word_at from to = filter_map word_at (places from to)
 -- each complete group of 8 bytes is the word at its address
 abbrev pub IsRun : (ℕ → Option ℕ) → ℕ → List ℕ → Type 0
 IsRun word_at from bytes = (k : ℕ) → 8 * k + 8 ≤ length bytes → word_at (from + 8 * k) ≡ Some (number_at w64 bytes (8 * k))
+
+-- the word, if it is there and isn't 0
+abbrev pub nonzero : Option ℕ → List ℕ
+nonzero None = []
+nonzero (Some zero) = []
+nonzero (Some (suc n)) = suc n ∷ []
+
+-- of the words at so many addresses from the first on, each 8 after the one before it, those that aren't 0
+abbrev pub kept_words : (ℕ → Option ℕ) → ℕ → ℕ → List ℕ
+kept_words word_at from zero = []
+kept_words word_at from (suc count) = nonzero (word_at from) ++ kept_words word_at (from + 8) count
 
 -- the 8 bytes from the address on lie in the dumped part
 abbrev pub holds_word : ℕ → Segment → Bool

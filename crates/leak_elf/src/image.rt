@@ -13,7 +13,7 @@ use crate::fields::bytes_from;
 use crate::header::read_headers;
 use crate::refusal::{check_file, check_headers};
 use crate::rest::{NoRest, Rest};
-use crate::search::{find_holders, find_next, find_past_zeros, find_run, find_word};
+use crate::search::{find_holders, find_kept, find_next, find_past_zeros, find_run, find_word};
 use crate::segment::{NotePart, Segment, kept_parts, sum_undumped};
 use crate::words::Words;
 use std::alloc::Global;
@@ -74,6 +74,12 @@ impl<'a, R: Rest> Words for Image<'a, R> {
     #[tactic(auto, unfolding(crate::specs::Words::word_of))]
     fn run(&self, from: u64) -> &[u8] {
         find_run(self.held, &self.rest, self.segments.as_slice(), from)
+    }
+
+    #[tactic(auto, unfolding(crate::specs::Words::word_of))]
+    fn kept(&self, from: u64, count: u64) -> Option<&[u64]> {
+        let segments = self.segments.as_slice();
+        find_kept(self.held, &self.rest, segments, from, count)
     }
 
     ghost aligned = { aligned_words };

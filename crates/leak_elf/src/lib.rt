@@ -7,8 +7,8 @@
 //! of one segment, is for libraries and tests.
 //!
 //! [`Image::passed`] does the same where only the head of a file is held: its first bytes, with all headers and notes.
-//! What is behind them is a [`Rest`], which gives the file's words alone, and may pass over zeros. [`head_of`] says how
-//! long the head is, and [`segments_in`] which segments the file has.
+//! What is behind them is a [`Rest`], which gives the file's words alone, and may pass over zeros, or leave them out.
+//! [`head_of`] says how long the head is, and [`segments_in`] which segments the file has.
 //!
 //! The rules are those of the System V gABI and elf(5). Bytes past the file size of a segment are
 //! not in the file, so they are no words, and no zeros are made up for them. Of section headers only

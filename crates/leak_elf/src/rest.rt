@@ -1,7 +1,8 @@
 //! What a file has behind the bytes that are held.
 
-ghost use Rattle.std.specs.Prelude.{◌≡◌, ◌<◌, ◌%◌, ◌^◌, ℕ, List, [], length};
+ghost use Rattle.std.specs.Prelude.{◌≡◌, ◌<◌, ◌%◌, ◌^◌, ℕ, List, [], length, IfSome};
 ghost use Rattle.leak_elf.specs.Head.{aligned_number_at, AreZerosUpTo};
+ghost use Rattle.leak_elf.specs.Words.{kept_words};
 
 /// What a file has behind the bytes that are held. Of those bytes only words are asked for.
 pub trait Rest: Drop {
@@ -23,6 +24,15 @@ pub trait Rest: Drop {
         ensures { AreZerosUpTo (bytes self.now) at result }
     {
         at
+    }
+
+    /// Of the words at `count` offsets from this one on, each 8 after the one before it, those that aren't 0, if that
+    /// can be told at once. By default it can't.
+    fn kept(&self, at: usize, count: usize) -> Option<&[u64]>
+        ensures { IfSome result (λ kept.
+            kept.now ≡ kept_words (aligned_number_at (bytes self.now)) at count) }
+    {
+        None
     }
 }
 

@@ -1,10 +1,10 @@
 //! Searches among segments by ascending address.
 
-ghost use Rattle.std.specs.Prelude.{◌≡◌, ◌≤◌, ◌+◌, ◌<◌, ◌%◌, ◌^◌, ◌++◌, ℕ, [], ◌∷◌, length, slice_index_or, IfSome, IfOk, IsSome, IsTrue};
+ghost use Rattle.std.specs.Prelude.{◌≡◌, ◌≤◌, ◌+◌, ◌*◌, ◌<◌, ◌%◌, ◌^◌, ◌++◌, ℕ, [], ◌∷◌, length, slice_index_or, IfSome, IfOk, IsSome, IsTrue};
 ghost use Rattle.leak_elf.specs.declared.segment.Segment.{Segment};
 ghost use Rattle.leak_elf.specs.Head.{AreSplit};
 ghost use Rattle.leak_elf.specs.Segments.{IsAscending, IsKeptSegment, AreKeptSegments};
-ghost use Rattle.leak_elf.specs.Words.{IsRun, word_in, IsNextHeld, IsPastZeros, AreHolders, AreZeros};
+ghost use Rattle.leak_elf.specs.Words.{IsRun, word_in, IsNextHeld, IsPastZeros, AreHolders, AreZeros, kept_words};
 
 use crate::fields::u64_at;
 use crate::rest::Rest;
@@ -187,4 +187,37 @@ pub(crate) fn find_run<'a, R: Rest>(
         return &[];
     }
     &held[start..held.len().min(start + (end - from) as usize)]
+}
+
+/// Of the words at `count` addresses from this one on, each 8 after the one before it, those that aren't 0, if one
+/// segment has them all behind the bytes that are held, and the rest tells them at once.
+pub(crate) fn find_kept<'a, R: Rest>(
+    held: &[u8],
+    rest: &'a R,
+    segments: &[Segment],
+    from: u64,
+    count: u64,
+) -> Option<&'a [u64]>
+    requires { AreSplit held.now (R.bytes rest.now) segments.now }
+    ensures kept { let word_at = word_in (held.now ++ R.bytes rest.now) segments.now in
+        IfSome result (λ kept. kept.now ≡ kept_words word_at from count) }
+    ensures place { IfSome result (λ _. (from % 8 ≡ 0) × (from + 8 * count < 2 ^ 64)) }
+{
+    if from % 8 != 0 {
+        return None;
+    }
+    let before = count_up_to(segments, from);
+    if before == 0 {
+        return None;
+    }
+    let segment = segments[before - 1];
+    let end = segment.vaddr + segment.filesz;
+    if end.saturating_sub(from) / 8 < count.max(1) {
+        return None;
+    }
+    let at = (segment.offset + (from - segment.vaddr)) as usize;
+    if at < held.len() {
+        return None;
+    }
+    rest.kept(at - held.len(), count as usize)
 }

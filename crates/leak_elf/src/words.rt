@@ -1,7 +1,7 @@
 //! Memory as a map from addresses to words.
 
-ghost use Rattle.std.specs.Prelude.{◌≡◌, ◌+◌, ◌≤◌, ◌%◌, ◌^◌, ℕ, Option, IfSome, IsSome};
-ghost use Rattle.leak_elf.specs.Words.{IsNextReadable, IsPastZeros, IsRun};
+ghost use Rattle.std.specs.Prelude.{◌≡◌, ◌+◌, ◌*◌, ◌<◌, ◌≤◌, ◌%◌, ◌^◌, ℕ, Option, IfSome, IsSome};
+ghost use Rattle.leak_elf.specs.Words.{IsNextReadable, IsPastZeros, IsRun, kept_words};
 
 /// A map from addresses to words of 8 bytes. Only multiples of 8 have a word.
 pub trait Words {
@@ -33,6 +33,16 @@ pub trait Words {
         ensures { IsRun (word_at self.now) from result.now }
     {
         &[]
+    }
+
+    /// Of the words at `count` addresses from this one on, each 8 after the one before it, those that aren't 0, if that
+    /// can be told at once. By default it can't.
+    fn kept(&self, from: u64, count: u64) -> Option<&[u64]>
+        ensures kept { IfSome result (λ kept.
+            kept.now ≡ kept_words (word_at self.now) from count) }
+        ensures place { IfSome result (λ _. (from % 8 ≡ 0) × (from + 8 * count < 2 ^ 64)) }
+    {
+        None
     }
 
     /// Only multiples of 8 have a word.

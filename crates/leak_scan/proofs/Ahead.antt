@@ -36,6 +36,12 @@ list_hit index f list others run hits from count h =
     targets_append index list left ∙ ap (λ ts. ts ++ targets_of index left) h ∙ append_assoc hits (targets_of index others) (targets_of index left)
     ∙ ap (λ ts. hits ++ ts) (sym (targets_append index others left))
 
+-- no word of it does
+pub list_passed : (index : Index) (f : ℕ → Option ℕ) (list others run : List ℕ) (from count : ℕ) (hits : Hits) → targets_of index list ≡ hits_in hits ++ targets_of index others → hits ≡ Zero →
+    targets_of index (words_left f list run from count) ≡ targets_of index (words_left f others run from count)
+list_passed index f list others run from count hits h z =
+    list_hit index f list others run (hits_in hits) from count h ∙ ap (λ x. hits_in x ++ targets_of index (words_left f others run from count)) z
+
 -- a word of the run does
 pub run_hit : (index : Index) (f : ℕ → Option ℕ) (list run others hits : List ℕ) (from count : ℕ) → list ≡ [] → targets_of index (words_in run) ≡ hits ++ targets_of index (words_in others) →
     targets_of index (words_left f list run from count) ≡ hits ++ targets_of index (words_left f list others from count)
@@ -65,6 +71,14 @@ unfolding words_left
 found_run index f list run other found from count later left e d h o =
     ap (targets_of index) (addresses_left f list run from count e d) ∙ h ∙ sym (targets_append index found (words_from f later left))
     ∙ ap (λ ws. targets_of index (ws ++ words_from f later left)) (sym o) ∙ ap (λ ws. targets_of index (ws ++ (words_in other ++ words_from f later left))) (sym e)
+
+-- or in a list
+pub found_list : (index : Index) (f : ℕ → Option ℕ) (list run found : List ℕ) (from count later left : ℕ) → list ≡ [] → words_in run ≡ [] → targets_of index (words_from f from count) ≡ targets_of index found ++ targets_of index (words_from f later left) →
+    targets_of index (words_left f list run from count) ≡ targets_of index (words_left f found run later left)
+unfolding words_left
+found_list index f list run found from count later left e d h =
+    ap (targets_of index) (addresses_left f list run from count e d) ∙ h ∙ sym (targets_append index found (words_from f later left))
+    ∙ ap (λ ws. targets_of index (found ++ (ws ++ words_from f later left))) (sym d)
 
 -- one word was
 pub found_word : (index : Index) (f : ℕ → Option ℕ) (list run : List ℕ) (from count later left w : ℕ) → list ≡ [] → words_in run ≡ [] → targets_of index (words_from f from count) ≡ targets_of index (w ∷ []) ++ targets_of index (words_from f later left) →

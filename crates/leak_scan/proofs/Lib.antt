@@ -4,6 +4,7 @@ pub mod Runs
 pub mod Ahead
 pub mod Leading
 pub mod Reached
+pub mod KeptWords
 pub mod Advance
 pub mod Listing
 pub mod Held

@@ -16,7 +16,7 @@ no_word : (index : Index) (x : Option ℕ) → x ≡ None → LeadsNowhere index
 no_word index x e = subst (LeadsNowhere index) (sym e) tt
 
 -- an address where there can be no word
-apart : (index : Index) (word_at : ℕ → Option ℕ) (a : ℕ) → IsAligned word_at → (a % 8 ≡ 0 → ⊥) → LeadsNowhere index (word_at a)
+pub apart : (index : Index) (word_at : ℕ → Option ℕ) (a : ℕ) → IsAligned word_at → (a % 8 ≡ 0 → ⊥) → LeadsNowhere index (word_at a)
 apart index word_at a aligned h = nowhere index (word_at a) (λ s. h (aligned a s))
 
 -- the complete words of a run that are in the window

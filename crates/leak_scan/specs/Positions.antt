@@ -8,7 +8,7 @@ use Rattle.leak_index.specs.declared.hits.Hits.{Hits}
 use Rattle.leak_index.specs.declared.hits.Hits.TheVariants.{Zero}
 use Rattle.leak_scan.specs.declared.position.Position.{Position}
 use Rattle.leak_scan.specs.declared.reading.ReadWords.{ReadWords}
-use Rattle.leak_scan.specs.declared.reading.ReadWords.TheVariants.{Nothing, Word, Bytes}
+use Rattle.leak_scan.specs.declared.reading.ReadWords.TheVariants.{Nothing, Word, Bytes, Kept}
 use Rattle.leak_scan.specs.Targets.{is_on, targets_of}
 
 -- this many words, each of 8 bytes, from the first byte on
@@ -37,6 +37,7 @@ abbrev pub words_found : ReadWords → List ℕ
 words_found Nothing = []
 words_found (Word word) = word ∷ []
 words_found (Bytes bytes) = words_in bytes.now
+words_found (Kept words) = words.now
 
 -- the words of a list, then those of a run, then those at `count` addresses
 unfoldable pub words_left : (ℕ → Option ℕ) → List ℕ → List ℕ → ℕ → ℕ → List ℕ

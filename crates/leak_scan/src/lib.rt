@@ -7,7 +7,8 @@
 //!
 //! It takes words in runs if the memory has them, and steps from word to word otherwise, so that a block of 2^60
 //! bytes of which a page is dumped costs no more than that page. A word that leads nowhere yields nothing; if 0 is one,
-//! the steps pass over zeros as far as the memory can.
+//! it takes the words of a range without zeros if the memory has them so, and else the steps pass over zeros as far as
+//! the memory can.
 //!
 //! Who lists what all blocks lead to takes the bytes of one block after another from [`BlockRuns`], and what their words lead
 //! to from [`list_run`]. [`heads`] tells which of the leaked blocks no other leads to. [`Pages::numbers`] and [`Pages::has`] are for

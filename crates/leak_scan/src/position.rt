@@ -88,13 +88,14 @@ pub(crate) fn next_hits<'a, W: Words, L: Lookup>(
     ensures { let f = listed_word (W.word_at words.now) (option_copied pages.entry) in
         AreNextHits f (L.index lookup.now) position.entry result.0 result.1 }
 {
-    let (hits, list) = first_of_list(lookup, position.list);
-    let mut position = Position { list, ..position };
-    match hits {
-        Hits::Zero => {}
-        hits => return (hits, position),
-    }
+    let mut position = position;
     loop {
+        let (hits, list) = first_of_list(lookup, position.list);
+        position.list = list;
+        match hits {
+            Hits::Zero => {}
+            hits => return (hits, position),
+        }
         let (hits, run) = first_of_run(lookup, position.run);
         position.run = run;
         match hits {
@@ -110,6 +111,7 @@ pub(crate) fn next_hits<'a, W: Words, L: Lookup>(
         match step.found {
             ReadWords::Nothing => {}
             ReadWords::Bytes(run) => position.run = run,
+            ReadWords::Kept(list) => position.list = list,
             ReadWords::Word(word) => match lookup.hits(word) {
                 Hits::Zero => {}
                 hits => return (hits, position),

@@ -13,6 +13,8 @@ pub(crate) enum ReadWords<'a> {
     Word(u64),
     /// The bytes of one word or more.
     Bytes(&'a [u8]),
+    /// Those of some words that aren't 0.
+    Kept(&'a [u64]),
 }
 
 /// The first words from the address on, without some that lead nowhere, and the address up to which the memory has no
@@ -36,12 +38,35 @@ pub(crate) fn read_on<'a, W: Words, L: Lookup>(
         let (front, _) = run.split_at(8 * whole as usize);
         return Some((ReadWords::Bytes(front), from.saturating_add(8 * whole)));
     }
+    if let Some(kept) = kept_on(words, lookup, from, window) {
+        return Some(kept);
+    }
     let next = next_word(words, lookup, from)?;
     if next - from >= window {
         return Some((ReadWords::Nothing, next));
     }
     let word = words.word(next)?;
     Some((ReadWords::Word(word), next.saturating_add(8)))
+}
+
+/// The words of the window without those that are 0, and the address after it, if these lead nowhere and the memory
+/// tells the others at once.
+fn kept_on<'a, W: Words, L: Lookup>(
+    words: &'a W,
+    lookup: &L,
+    from: u64,
+    window: u64,
+) -> Option<(ReadWords<'a>, u64)>
+    requires { 0 < window }
+    ensures { IfSome result (λ r.
+        IsRead (W.word_at words.now) (L.index lookup.now) from window r.0 r.1) }
+{
+    let Hits::Zero = lookup.hits(0) else {
+        return None;
+    };
+    let count = window.div_ceil(8);
+    let kept = words.kept(from, count)?;
+    Some((ReadWords::Kept(kept), from + 8 * count))
 }
 
 /// The next address from `from` on that has a word, past zeros if those lead nowhere.

@@ -1,5 +1,6 @@
 -- The lemmas of this crate, by subject.
 pub mod BehindLemmas
+pub mod KeptLemmas
 pub mod NearLemmas
 pub mod CalmLemmas
 pub mod PlaceLemmas

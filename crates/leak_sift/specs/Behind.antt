@@ -1,5 +1,5 @@
 -- The bytes of a core file behind those that are held, by their words.
-use Rattle.std.specs.Prelude.{ℕ, ◌+◌, ◌-◌, ◌*◌, ◌^◌, ◌<◌, ◌≤◌, List, ◌++◌, length, flat_map, replicate}
+use Rattle.std.specs.Prelude.{ℕ, ◌+◌, ◌-◌, ◌*◌, ◌^◌, ◌<◌, ◌≤◌, List, ◌++◌, length, flat_map, replicate, slice_index}
 use Rattle.std.specs.Int.{w64, to_le_bytes}
 
 -- the bytes of the words, 8 each, and then zeros: so many in all
@@ -15,3 +15,7 @@ pub record HasWords (words : List ℕ) (len : ℕ) : Type 0 where
 pub record IsBehind (words : List ℕ) (len : ℕ) : Type 0 where
   pub words_of : HasWords words len
   pub small : len < 2 ^ 63
+
+-- each number of the list is a word
+abbrev pub AreWords : List ℕ → Type 0
+AreWords words = (k : ℕ) → slice_index words k < 2 ^ 64

@@ -1,6 +1,6 @@
 //! What a core file has behind the bytes that are held.
 ghost use Rattle.std.specs.Prelude.{◌≡◌, [], IfOk};
-ghost use Rattle.leak_sift.specs.Behind.{HasWords, bytes_behind};
+ghost use Rattle.leak_sift.specs.Behind.{AreWords, HasWords, bytes_behind};
 
 use leak_elf::Rest;
 use leak_sparse::SparseWords;
@@ -53,6 +53,13 @@ impl Behind {
     }
 }
 
+/// A law, for proofs: each number in a slice of words is below 2^64.
+fn are_words(words: &[u64])
+    ensures { AreWords words.now }
+{
+    let _words = words;
+}
+
 impl Rest for Behind {
     ghost bytes = { λ behind. behind };
 
@@ -75,5 +82,17 @@ impl Rest for Behind {
             return at;
         }
         8 * self.words.skip_zeros(place)
+    }
+
+    #[tactic(auto, unfolding(leak_elf::specs::Head::aligned_number_at))]
+    fn kept(&self, at: usize, count: usize) -> Option<&[u64]> {
+        let place = at / 8;
+        let left = self.words.len().checked_sub(place)?;
+        if at % 8 != 0 || left < count {
+            return None;
+        }
+        let kept = self.words.kept_between(place, place + count);
+        are_words(kept);
+        Some(kept)
     }
 }

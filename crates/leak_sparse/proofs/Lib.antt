@@ -4,6 +4,7 @@ pub mod RankLemmas
 pub mod LowestLemmas
 pub mod ViewLemmas
 pub mod NextLemmas
+pub mod RangeLemmas
 pub mod ChangeLemmas
 pub mod BitChangeLemmas
 pub mod PushLemmas

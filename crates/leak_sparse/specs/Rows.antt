@@ -2,7 +2,7 @@
 use Rattle.std.specs.Prelude.{◌≡◌, ℕ, ◌^◌, List, [], ◌∷◌}
 use Rattle.leak_sparse.specs.declared.group.Group.{Group}
 use Rattle.leak_sparse.specs.Groups.{covered, empty, kept_in, moved, word_at, words_of}
-use Rattle.leak_sparse.specs.Words.{AreZerosTo, HasRoom, IsNextKept, NoneKeptFrom, kept_of}
+use Rattle.leak_sparse.specs.Words.{AreZerosTo, HasRoom, IsNextKept, NoneKeptFrom, kept_from, kept_of}
 
 -- a group by its bits
 abbrev pub group : ℕ → ℕ → Group
@@ -45,6 +45,10 @@ pub record AreWorkedGroups : Type 0 where
 pub record AreWorkedLists : Type 0 where
   pub none : kept_of (0 ∷ 0 ∷ []) ≡ 0
   pub some : kept_of gaps ≡ 2
+  pub all_from : kept_from gaps 0 4 ≡ 7 ∷ 9 ∷ []
+  pub last_from : kept_from gaps 2 2 ≡ 9 ∷ []
+  pub first_from : kept_from gaps 0 3 ≡ 7 ∷ []
+  pub none_from : kept_from gaps 2 1 ≡ []
   pub itself : IsNextKept gaps 1 1
   pub later : IsNextKept gaps 2 3
   pub not_second : ¬ IsNextKept gaps 0 3

@@ -1,10 +1,14 @@
 -- Words that aren't 0, in a list, and room for more words.
-use Rattle.std.specs.Prelude.{◌≡◌, ◌≢◌, ℕ, ◌+◌, ◌/◌, ◌*◌, ◌^◌, ◌<◌, ◌≤◌, ◌==◌, min, not, List, length, slice_index}
+use Rattle.std.specs.Prelude.{◌≡◌, ◌≢◌, ℕ, ◌+◌, ◌/◌, ◌*◌, ◌^◌, ◌<◌, ◌≤◌, ◌==◌, min, not, List, length, slice_index, filter, take, drop}
 use Rattle.std.specs.List.{count_by}
 
 -- how many words aren't 0
 abbrev pub kept_of : List ℕ → ℕ
 kept_of words = count_by (λ word. not (word == 0)) words
+
+-- of so many words from a place on, those that aren't 0
+abbrev pub kept_from : List ℕ → ℕ → ℕ → List ℕ
+kept_from words from count = filter (λ word. not (word == 0)) (take count (drop from words))
 
 -- each word from a place on is 0
 pub record NoneKeptFrom (words : List ℕ) (from : ℕ) : Type 0 where

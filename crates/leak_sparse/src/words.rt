@@ -1,7 +1,7 @@
 //! The list of words.
-ghost use Rattle.std.specs.Prelude.{◌≡◌, ◌<◌, ◌%◌, ◌∷◌, [], ◌++◌, length, replicate, slice_get};
+ghost use Rattle.std.specs.Prelude.{◌≡◌, ◌<◌, ◌≤◌, ◌-◌, ◌%◌, ◌∷◌, [], ◌++◌, length, replicate, slice_get, take};
 ghost use Rattle.std.specs.Prelude.{MatchOption, OnOk, OnErr, IsOk};
-ghost use Rattle.leak_sparse.specs.Words.{AreZerosTo, HasRoom, IsNextKept, NoneKeptFrom, kept_of};
+ghost use Rattle.leak_sparse.specs.Words.{AreZerosTo, HasRoom, IsNextKept, NoneKeptFrom, kept_from, kept_of};
 
 use crate::group::{Group, add_groups, cover, has, lowest_from, ones_below};
 use std::alloc::{AllocError, Global};
@@ -127,6 +127,30 @@ impl SparseWords {
             return Some(0);
         }
         Some(self.kept[group.before + ones_below(group.bits, bit)])
+    }
+
+    /// Of the words from a place on and before another, those that aren't 0. They are kept one behind another, so it
+    /// takes constant time.
+    pub fn kept_between(&self, from: usize, to: usize) -> &[u64]
+        requires order { from ≤ to }
+        requires within { to ≤ length self.now }
+        ensures { result.now ≡ kept_from self.now from (to - from) }
+    {
+        let before = self.rank(from);
+        let (_, rest) = self.kept.as_slice().split_at(before);
+        let (words, _) = rest.split_at(self.rank(to) - before);
+        words
+    }
+
+    /// How many of the words before a place aren't 0.
+    fn rank(&self, place: usize) -> usize
+        requires { place ≤ length self.now }
+        ensures { result ≡ kept_of (take place self.now) }
+    {
+        match self.groups.get(place / 64) {
+            Some(group) => group.before + ones_below(group.bits, place % 64),
+            None => self.kept.len(),
+        }
     }
 
     /// The first place at or after `from` whose word isn't 0.

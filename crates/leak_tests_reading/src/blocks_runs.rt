@@ -107,3 +107,75 @@ fn runs_one_after_another(rt: HostRuntime) -> Result<(), Fail> {
     in_regions(&mut text)?;
     has_counts(&rt, rt.alloc(), text.as_str(), 20 * 19, (20, 40, 0))
 }
+
+/// Blocks of which others between them were given back.
+static GIVEN_BACK_BETWEEN: [Case; 4] = [
+    // by ascending address
+    (
+        "+ 0x100 0x10\n- 0x100\n+ 0x110 0x10\n+ 0x120 0x10\n- 0x120\n+ 0x130 0x10\n",
+        &[(0x110, 16, 3), (0x130, 16, 6)],
+        (0, 0, 0),
+    ),
+    // the last two by descending address, and none before its place
+    (
+        "+ 0x500 0x10\n+ 0x400 0x10\n- 0x500\n- 0x400\n+ 0x300 0x8\n+ 0x200 0x20\n",
+        &[(0x200, 32, 6), (0x300, 8, 5)],
+        (0, 0, 0),
+    ),
+    // the first allocation is the last block
+    (
+        "+ 0x300 0x10\n+ 0x200 0x10\n+ 0x100 0x8\n- 0x200\n",
+        &[(0x100, 8, 3), (0x300, 16, 1)],
+        (0, 0, 0),
+    ),
+    // the first block is at its place, and the others change theirs
+    (
+        "+ 0x100 0x10\n+ 0x200 0x10\n+ 0x400 0x8\n+ 0x300 0x20\n- 0x200\n",
+        &[(0x100, 16, 1), (0x300, 32, 4), (0x400, 8, 3)],
+        (0, 0, 0),
+    ),
+];
+
+#[test]
+fn blocks_between_which_others_were_given_back(rt: HostRuntime) -> Result<(), Fail> {
+    replays(&rt, rt.alloc(), &GIVEN_BACK_BETWEEN)
+}
+
+/// Appends a remark that is longer than the part of a log by which its lines are guessed.
+fn long_remark(text: &mut String) -> Result<(), Fail> {
+    text.push_str("= ")?;
+    for _ in 0..7_000u64 {
+        text.push_str("0123456789")?;
+    }
+    text.push('\n')?;
+    Ok(())
+}
+
+/// Appends blocks in four regions: of each every second block is given back.
+fn every_second(text: &mut String) -> Result<(), Fail> {
+    for region in 1..=4u64 {
+        allocate(text, region * 0x1_0000_0000, 0x20, 1000, 0x20)?;
+        give_back(text, region * 0x1_0000_0000, 0x40, 500)?;
+    }
+    Ok(())
+}
+
+/// The lines are far more than the log's front lets expect, and the blocks ascend.
+#[test]
+fn ascending_blocks_after_a_long_line(rt: HostRuntime) -> Result<(), Fail> {
+    let mut text = String::new(rt.alloc());
+    long_remark(&mut text)?;
+    every_second(&mut text)?;
+    has_counts(&rt, rt.alloc(), text.as_str(), 4 * 500, (0, 0, 0))
+}
+
+/// The same, and some blocks descend or are displaced.
+#[test]
+fn descending_blocks_after_a_long_line(rt: HostRuntime) -> Result<(), Fail> {
+    let mut text = String::new(rt.alloc());
+    long_remark(&mut text)?;
+    allocate(&mut text, 0x9000_0000, 0x40u64.wrapping_neg(), 1500, 0x20)?;
+    every_second(&mut text)?;
+    allocate(&mut text, 0x9000_0010, 0x40u64.wrapping_neg(), 100, 0x20)?;
+    has_counts(&rt, rt.alloc(), text.as_str(), 1500 + 2000, (0, 100, 0))
+}

@@ -1,5 +1,6 @@
 //! The addresses of small allocations, as ranges.
 
+use crate::blocks::allocate;
 use crate::comparisons::same_in;
 use leak_blocks::{SmallSpans, Span, replay_with_spans, small_spans};
 use leak_mtrace::Log;
@@ -86,4 +87,34 @@ static NONE_SMALL: [Ranges; 4] = [
 fn logs_without_a_small_allocation(rt: HostRuntime) -> Result<(), Fail> {
     assert!(rt; SmallSpans::none(rt.alloc()).ranges().is_empty());
     have_ranges(&rt, rt.alloc(), &NONE_SMALL)
+}
+
+/// Ends the test if the log has other ranges than these: as many of the size, each 0x40 after the one before it.
+fn are_ranges_of(
+    rt: &impl Abort,
+    alloc: Global,
+    text: &str,
+    first: u64,
+    count: usize,
+    size: u64,
+) -> Result<(), Fail> {
+    let (_, spans) = replay_with_spans(alloc, text.as_bytes())?;
+    same_in(rt, &"long log", spans.ranges().len(), count);
+    for (range, i) in spans.ranges().iter().zip(0u64..) {
+        let start = first.wrapping_add(i.wrapping_mul(0x40));
+        let last = start.wrapping_add(size).wrapping_sub(1);
+        same_in(rt, &i, (range.first, range.last), (start, last));
+    }
+    Ok(())
+}
+
+/// Many allocations from the highest down: first each is apart from the others, and then all are one range.
+#[test]
+fn many_small_allocations(rt: HostRuntime) -> Result<(), Fail> {
+    let mut text = String::new(rt.alloc());
+    allocate(&mut text, 0x10fc0, 0x40u64.wrapping_neg(), 64, 0x20)?;
+    allocate(&mut text, 0x10000, 0x40, 64, 0x10)?;
+    are_ranges_of(&rt, rt.alloc(), text.as_str(), 0x10000, 64, 0x20)?;
+    allocate(&mut text, 0x10020, 0x40, 64, 0x20)?;
+    are_ranges_of(&rt, rt.alloc(), text.as_str(), 0x10000, 1, 0x1000)
 }

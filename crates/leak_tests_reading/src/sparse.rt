@@ -75,6 +75,46 @@ fn the_next_word_that_is_not_0(rt: HostRuntime) -> Result<(), Fail> {
     Ok(())
 }
 
+/// Ranges of 203 words: none, within a group, up to the end of one, over several, and up to the last word.
+const RANGES: [(usize, usize); 11] = [
+    (0, 203),
+    (0, 0),
+    (203, 203),
+    (3, 4),
+    (4, 8),
+    (63, 65),
+    (64, 128),
+    (0, 192),
+    (128, 192),
+    (130, 203),
+    (199, 203),
+];
+
+/// The words of a range that aren't 0. Ends the test if the list is shorter.
+fn kept_between<'a>(rt: &impl Abort, words: &'a SparseWords, from: usize, to: usize) -> &'a [u64] {
+    assert!(rt; from <= to && to <= words.len(), "{from} {to}");
+    words.kept_between(from, to)
+}
+
+#[test]
+fn words_of_a_range_that_are_not_0(rt: HostRuntime) -> Result<(), Fail> {
+    let words = listed(rt.alloc(), 0, 203)?;
+    for (from, to) in RANGES {
+        let mut wanted = Vec::new(rt.alloc());
+        for word in &fifths(rt.alloc(), from as u64, to as u64)? {
+            if *word != 0 {
+                wanted.push(*word)?;
+            }
+        }
+        let kept = kept_between(&rt, &words, from, to);
+        same_in(&rt, &(from, to), kept, wanted.as_slice());
+    }
+    let full = listed(rt.alloc(), 0, 192)?;
+    same(&rt, kept_between(&rt, &full, 190, 192).len(), 0);
+    same(&rt, kept_between(&rt, &full, 188, 192), [188].as_slice());
+    Ok(())
+}
+
 #[test]
 fn zeros_of_one_group_are_skipped(rt: HostRuntime) -> Result<(), Fail> {
     let mut words = SparseWords::new(rt.alloc());

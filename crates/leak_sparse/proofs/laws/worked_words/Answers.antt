@@ -43,6 +43,10 @@ returns c = record {
   lists = record {
     none = refl;
     some = refl;
+    all_from = refl;
+    last_from = refl;
+    first_from = refl;
+    none_from = refl;
     itself = record { at_or_after = omega arith; inside = omega arith; kept = λ e. zero_not 6 e; least = λ k l h. absurd (omega (arith, l, h)) };
     later = record { at_or_after = omega arith; inside = omega arith; kept = λ e. zero_not 8 e; least = before_last };
     not_second = λ next. zero_not 6 (next.least 1 (omega arith) (omega arith));
