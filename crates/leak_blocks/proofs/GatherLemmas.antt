@@ -1,9 +1,10 @@
 -- The list of blocks that is gathered by their numbers.
-use Rattle.std.proofs.Common.{◌≡◌, ◌<◌, ◌≤◌, ℕ, zero, suc, ◌+◌, ◌-◌, refl, sym, subst, ap, ◌∙◌, List, [], ◌∷◌, ◌++◌, length, map, take, drop, Some, slice_get, append_assoc, append-nil, length-append}
-use Rattle.std.proofs.lemmas.List.{take-append-drop, take-map, drop-map, length-take-le, length-drop}
-use Rattle.std.proofs.lemmas.Option.{slice_get_within}
+use Rattle.std.proofs.Common.{◌≡◌, ◌<◌, ◌≤◌, ℕ, zero, suc, ◌+◌, ◌-◌, refl, sym, subst, ap, ◌∙◌, List, [], ◌∷◌, ◌++◌, length, map, take, drop, set, get_or, Some, slice_get, arith, append_assoc, append-nil, length-append}
+use Rattle.std.proofs.lemmas.List.{take-append-drop, take-map, drop-map, length-take-le, length-drop, drop_more, get_or-drop, take_more_set, drop-set-lt, drop-drop}
+use Rattle.std.proofs.lemmas.Option.{slice_get_within, get_or_from_slice_get}
 use Rattle.leak_blocks.specs.declared.block.Block.{Block}
-use Rattle.leak_blocks.specs.Numbers.{AreNumbersOf, AreNumbered, CountUp}
+use Rattle.leak_blocks.specs.Numbers.{AreNumbersOf, AreNumbered, AreBehind, CountUp}
+use Rattle.leak_blocks.proofs.BuildLemmas.{none_left}
 use Rattle.leak_blocks.proofs.NumberedLemmas.{same_length}
 
 -- the blocks that are gathered, and those whose numbers are left
@@ -45,6 +46,50 @@ gathered_at_last allocated blocks gathered numbers g e = go g.left.numbered g.re
     go [] [] h l w = sym (w ∙ append-nil gathered)
     go [] (c ∷ cs) h l w = elim h [ ]
     go (b ∷ bs) cs h l w = absurd cc
+
+-- ---- in place
+
+-- the first k blocks are gathered at the front of all, and those from there on are untouched
+pub record AreForward (allocated now : List Block) (numbers : List ℕ) (k : ℕ) : Type 0 where
+  pub front : (blocks : List Block) → AreNumbered allocated numbers blocks → AreGathered allocated blocks (take k now) (drop k numbers)
+  pub rest : drop k now ≡ drop k allocated
+
+-- the next place and the number there are those of blocks
+pub record AreInside (allocated : List Block) (numbers : List ℕ) (k : ℕ) : Type 0 where
+  pub place : k < length allocated
+  pub number : get_or numbers k 0 < length allocated
+  pub behind : k ≤ get_or numbers k 0
+
+pub forward_inside : (allocated now : List Block) (numbers : List ℕ) (k : ℕ) → (blocks : List Block) × AreNumbered allocated numbers blocks → AreBehind numbers → AreForward allocated now numbers k → k < length numbers → AreInside allocated numbers k
+forward_inside allocated now numbers k held all f h =
+    let inside : get_or numbers k 0 < length allocated = (next_gathered allocated held.0 (take k now) (drop k numbers) _ _ (f.front held.0 held.1) (drop_more numbers k 0 h)).inside in
+    let behind : k ≤ get_or numbers k 0 = all k h in
+    record { place = omega arith; number = inside; behind = behind }
+
+untouched : (allocated now : List Block) (k n : ℕ) (d : Block) → drop k now ≡ drop k allocated → k ≤ n → get_or now n d ≡ get_or allocated n d
+untouched allocated now k n d rest h =
+    let there : k + (n - k) ≡ n = omega arith in
+    ap (λ (i : ℕ). get_or now i d) (sym there)
+    ∙ sym (get_or-drop k now (n - k) d)
+    ∙ ap (λ (l : List Block). get_or l (n - k) d) rest
+    ∙ get_or-drop k allocated (n - k) d
+    ∙ ap (λ (i : ℕ). get_or allocated i d) there
+
+pub forward_next : (allocated now : List Block) (numbers : List ℕ) (k : ℕ) (d : Block) → AreForward allocated now numbers k → AreInside allocated numbers k → length now ≡ length allocated → k < length numbers → AreForward allocated (set now k (get_or now (get_or numbers k 0) d)) numbers (k + 1)
+forward_next allocated now numbers k d f i long h = record {
+  front = λ blocks of.
+      let n : IsNextOf allocated blocks (take k now) (get_or numbers k 0) (drop (k + 1) numbers) =
+      next_gathered allocated blocks (take k now) (drop k numbers) _ _ (f.front blocks of) (drop_more numbers k 0 h) in
+      let same : get_or now (get_or numbers k 0) d ≡ n.block = untouched allocated now k (get_or numbers k 0) d f.rest i.behind ∙ get_or_from_slice_get allocated _ n.block _ n.at in
+      let inside : k < length now = omega arith in
+      subst (λ (l : List Block). AreGathered allocated blocks l (drop (k + 1) numbers)) (sym (take_more_set now k _ inside ∙ ap (λ (b : Block). take k now ++ b ∷ []) same)) n.later;
+  rest = drop-set-lt (k + 1) now k _ (omega arith) ∙ sym (drop-drop 1 k now) ∙ ap (drop 1) f.rest ∙ drop-drop 1 k allocated;
+}
+
+pub forward_all : (allocated now blocks : List Block) (numbers : List ℕ) (k : ℕ) → AreForward allocated now numbers k → k ≡ length numbers → AreNumbered allocated numbers blocks → take (length numbers) now ≡ blocks
+forward_all allocated now blocks numbers k f e of =
+    ap (λ (n : ℕ). take n now) (sym e)
+    ∙ gathered_at_last allocated blocks (take k now) (drop k numbers) (f.front blocks of) (ap (λ (n : ℕ). drop n numbers) e ∙ none_left numbers)
 
 -- ---- all of them
 

@@ -1,9 +1,9 @@
 -- Spans of allocations, and their addresses as ranges that are apart.
-use Rattle.std.proofs.Common.{◌≡◌, ℕ, ◌+◌, ◌<◌, ◌≤◌, max, leb, Bool, true, false, cond, ◌||◌, List, [], ◌∷◌, ◌++◌, length, map, filter, take, get_or, slice_get, Some, zero, suc, inl, inr, refl, sym, ap, subst, ◌∙◌, append-nil, arith}
+use Rattle.std.proofs.Common.{◌≡◌, ℕ, ◌+◌, ◌<◌, ◌≤◌, max, leb, Bool, true, false, cond, ◌||◌, List, [], ◌∷◌, ◌++◌, length, map, filter, take, drop, set, get_or, zero, suc, inl, inr, refl, sym, ap, subst, ◌∙◌, append-nil, arith}
 use Rattle.std.specs.List.{AllByRecursion, list_any}
 use Rattle.std.specs.List.Sorted.{IsPermutation, IsNonDecreasingBy}
 use Rattle.std.proofs.lemmas.Bool.{le-leb, lt-leb, cases_lt}
-use Rattle.std.proofs.lemmas.List.{map-append, take_all}
+use Rattle.std.proofs.lemmas.List.{map-append, take_all, get_or-drop, drop-drop, drop-set-lt, take_more_set}
 use Rattle.std.proofs.lemmas.List.Elements.{filter_more}
 use Rattle.std.proofs.lemmas.List.Folds.{list_any-append, list_any_more}
 use Rattle.std.proofs.lemmas.List.Sorted.{list_any-IsPermutation}
@@ -95,7 +95,7 @@ pub record AreMerged (spans : List Span) (first : Span) (i : ℕ) (ranges : List
   pub same : (a : ℕ) → is_covered (ranges ++ open' ∷ []) a ≡ (holds a first || is_covered (take i spans) a)
   pub low : (k : ℕ) (d : Span) → i ≤ k → k < length spans → open'.first ≤ (get_or spans k d).first
 
-pub merged_first : (spans : List Span) (first : Span) → AreSpans spans → IsNonDecreasingBy (λ s. s.first) spans → 0 < length spans → first ≡ get_or spans 0 first → AreMerged spans first 0 [] first
+merged_first : (spans : List Span) (first : Span) → AreSpans spans → IsNonDecreasingBy (λ s. s.first) spans → 0 < length spans → first ≡ get_or spans 0 first → AreMerged spans first 0 [] first
 unfolding is_covered
 merged_first spans first each ascending some is = record {
   apart = (let e = each 0 first some in subst (λ (s : Span). s.first ≤ s.last) (sym is) e, tt, tt);
@@ -104,7 +104,7 @@ merged_first spans first each ascending some is = record {
 }
 
 -- the next span meets or touches the open one
-pub merged_wider : (spans : List Span) (first : Span) (i : ℕ) (ranges : List Span) (open' later : Span) (d : Span) → AreMerged spans first i ranges open' → i < length spans → (get_or spans i d).first ≤ open'.last + 1
+merged_wider : (spans : List Span) (first : Span) (i : ℕ) (ranges : List Span) (open' later : Span) (d : Span) → AreMerged spans first i ranges open' → i < length spans → (get_or spans i d).first ≤ open'.last + 1
     → later.first ≡ open'.first → later.last ≡ max open'.last (get_or spans i d).last → AreMerged spans first (i + 1) ranges later
 merged_wider spans first i ranges open' later d merged h near f l =
     let s = get_or spans i d in
@@ -120,7 +120,7 @@ merged_wider spans first i ranges open' later d merged h near f l =
     }
 
 -- the next span begins after it
-pub merged_next : (spans : List Span) (first : Span) (i : ℕ) (ranges : List Span) (open' : Span) (d : Span) → AreMerged spans first i ranges open' → AreSpans spans → IsNonDecreasingBy (λ s. s.first) spans → i < length spans
+merged_next : (spans : List Span) (first : Span) (i : ℕ) (ranges : List Span) (open' : Span) (d : Span) → AreMerged spans first i ranges open' → AreSpans spans → IsNonDecreasingBy (λ s. s.first) spans → i < length spans
     → open'.last + 1 < (get_or spans i d).first → AreMerged spans first (i + 1) (ranges ++ open' ∷ []) (get_or spans i d)
 merged_next spans first i ranges open' d merged each ascending h far =
     let s = get_or spans i d in
@@ -138,21 +138,78 @@ unfolding is_covered
 covered_all [] first a some is = absurd (omega arith)
 covered_all (s ∷ spans) first a some is = rw is (or_twice (holds a s) (list_any (holds a) spans))
 
-pub merged_all : (spans : List Span) (first : Span) (i : ℕ) (ranges : List Span) (open' : Span) → AreMerged spans first i ranges open' → 0 < length spans → first ≡ get_or spans 0 first → length spans ≤ i → CoverSame (ranges ++ open' ∷ []) spans
+merged_all : (spans : List Span) (first : Span) (i : ℕ) (ranges : List Span) (open' : Span) → AreMerged spans first i ranges open' → 0 < length spans → first ≡ get_or spans 0 first → length spans ≤ i → CoverSame (ranges ++ open' ∷ []) spans
 merged_all spans first i ranges open' merged some is all a =
     merged.same a ∙ ap (λ (xs : List Span). holds a first || is_covered xs a) (take_all i spans all) ∙ covered_all spans first a some is
 
+-- ---- merging in place
+
+-- the ranges that were closed are at the front, and the spans from the next one on are untouched
+pub record AreMergedAt (spans now : List Span) (first : Span) (next closed : ℕ) (open' : Span) : Type 0 where
+  pub merged : AreMerged spans first next (take closed now) open'
+  pub rest : drop next now ≡ drop next spans
+  pub behind : closed < next
+
+pub merged_at_first : (spans : List Span) (first : Span) → AreSpans spans → IsNonDecreasingBy (λ s. s.first) spans → 0 < length spans → first ≡ get_or spans 0 first → AreMergedAt spans spans first 1 0 first
+merged_at_first spans first each ascending some is =
+    let one : (get_or spans 0 first).first ≤ (get_or spans 0 first).last = each 0 first some in
+    let begins : (get_or spans 0 first).first ≡ first.first = ap (λ (s : Span). s.first) (sym is) in
+    let ends : (get_or spans 0 first).last ≡ first.last = ap (λ (s : Span). s.last) (sym is) in
+    record {
+      merged = merged_wider spans first 0 [] first first first (merged_first spans first each ascending some is) some (omega arith) refl (omega arith);
+      rest = refl;
+      behind = omega arith;
+    }
+
+same_next : (spans now : List Span) (i : ℕ) (d : Span) → drop i now ≡ drop i spans → get_or now i d ≡ get_or spans i d
+same_next spans now i d rest =
+    let there : i + 0 ≡ i = omega arith in
+    ap (λ (k : ℕ). get_or now k d) (sym there) ∙ sym (get_or-drop i now 0 d) ∙ ap (λ (l : List Span). get_or l 0 d) rest ∙ get_or-drop i spans 0 d ∙ ap (λ (k : ℕ). get_or spans k d) there
+
+same_rest : (spans now : List Span) (i : ℕ) → drop i now ≡ drop i spans → drop (i + 1) now ≡ drop (i + 1) spans
+same_rest spans now i rest = sym (drop-drop 1 i now) ∙ ap (drop 1) rest ∙ drop-drop 1 i spans
+
+pub merged_at_wider : (spans now : List Span) (first : Span) (i closed : ℕ) (open' later : Span) (d : Span) → AreMergedAt spans now first i closed open' → i < length spans → (get_or now i d).first ≤ open'.last + 1
+    → later.first ≡ open'.first → later.last ≡ max open'.last (get_or now i d).last → AreMergedAt spans now first (i + 1) closed later
+merged_at_wider spans now first i closed open' later d m h near f l =
+    let same : get_or now i d ≡ get_or spans i d = same_next spans now i d m.rest in
+    record {
+      merged = merged_wider spans first i (take closed now) open' later d m.merged h (subst (λ (s : Span). s.first ≤ open'.last + 1) same near) f (l ∙ ap (λ (s : Span). max open'.last s.last) same);
+      rest = same_rest spans now i m.rest;
+      behind = let b = m.behind in omega arith;
+    }
+
+pub merged_at_next : (spans now : List Span) (first : Span) (i closed : ℕ) (open' : Span) (d : Span) → AreMergedAt spans now first i closed open' → AreSpans spans → IsNonDecreasingBy (λ s. s.first) spans → i < length spans → length now ≡ length spans
+    → open'.last + 1 < (get_or now i d).first → AreMergedAt spans (set now closed open') first (i + 1) (closed + 1) (get_or now i d)
+merged_at_next spans now first i closed open' d m each ascending h long far =
+    let same : get_or now i d ≡ get_or spans i d = same_next spans now i d m.rest in
+    let b : closed < i = m.behind in
+    let inside : closed < length now = omega arith in
+    let next : AreMerged spans first (i + 1) (take closed now ++ open' ∷ []) (get_or spans i d) =
+    merged_next spans first i (take closed now) open' d m.merged each ascending h (subst (λ (s : Span). open'.last + 1 < s.first) same far) in
+    record {
+      merged = subst (λ (l : List Span). AreMerged spans first (i + 1) l (get_or now i d)) (sym (take_more_set now closed open' inside)) (subst (λ (s : Span). AreMerged spans first (i + 1) (take closed now ++ open' ∷ []) s) (sym same) next);
+      rest = drop-set-lt (i + 1) now closed open' (omega arith) ∙ same_rest spans now i m.rest;
+      behind = omega arith;
+    }
+
+-- the last range is put behind the others
+pub record AreRanges (spans ranges : List Span) : Type 0 where
+  pub apart : AreApart ranges
+  pub same : CoverSame ranges spans
+
+pub merged_at_last : (spans now : List Span) (first : Span) (next closed : ℕ) (open' : Span) → AreMergedAt spans now first next closed open' → 0 < length spans → first ≡ get_or spans 0 first → next ≡ length spans → length now ≡ length spans
+    → AreRanges spans (take (closed + 1) (set now closed open'))
+merged_at_last spans now first next closed open' m some is all long =
+    let b : closed < next = m.behind in
+    let inside : closed < length now = omega arith in
+    subst (AreRanges spans) (sym (take_more_set now closed open' inside)) (record {
+      apart = m.merged.apart;
+      same = merged_all spans first next (take closed now) open' m.merged some is (omega arith);
+    })
+
 unfoldable pub no_span : Span
 no_span = record { first = 0; last = 0 }
-
--- what the first of a list is
-pub record IsFirst (spans : List Span) (s : Span) : Type 0 where
-  pub some : 0 < length spans
-  pub is : s ≡ get_or spans 0 s
-
-pub is_first : (spans : List Span) (s : Span) → slice_get spans 0 ≡ Some s → IsFirst spans s
-is_first [] s e = cc
-is_first (x ∷ spans) s e = record { some = omega arith; is = cc }
 
 -- ---- listing
 

@@ -1,6 +1,6 @@
 -- The state of a replay between two lines: the blocks of all allocations so far, and a map from the start of each live one to the
 -- number of its allocation, counted from 0. A numbered block stands for a block: it has the number in place of the line.
-use Rattle.std.specs.Prelude.{◌≡◌, ◌+◌, ℕ, ⊤, true, false, List, [], ◌∷◌, map, Option, Some, None, filter, not, count_by, slice_get}
+use Rattle.std.specs.Prelude.{◌≡◌, ◌+◌, ◌≤◌, ℕ, ⊤, true, false, List, [], ◌∷◌, map, Option, Some, None, filter, not, count_by, slice_get, slice_index, EachIndex}
 use Rattle.std.specs.List.{AllByRecursion, list_any}
 use Rattle.leak_mtrace.specs.declared.line.Line.{Line}
 use Rattle.leak_blocks.specs.declared.block.Block.{Block}
@@ -83,6 +83,10 @@ HaveBlocks allocated numbers = (blocks : List Block) × AreNumbered allocated nu
 -- the built blocks are those with these numbers
 abbrev pub AreBlocksOf : List Block → List ℕ → List Block → Type 0
 AreBlocksOf allocated numbers built = (blocks : List Block) → AreNumbered allocated numbers blocks → built ≡ blocks
+
+-- no number is below its own index
+abbrev pub AreBehind : List ℕ → Type 0
+AreBehind numbers = EachIndex numbers (λ k. k ≤ slice_index numbers k)
 
 -- each number is by one greater than the one before it
 abbrev pub CountUp : ℕ → List ℕ → Type 0

@@ -119,18 +119,38 @@ pub struct Replayed {
     pub whole_len: usize,
 }
 
+/// The bytes at a log's front by which its lines are guessed.
+const FRONT_BYTES: usize = 65_536;
+
+/// The fewest bytes of a line that allocates: `+ 0x1 0` and a line feed.
+const LEAST_BYTES: usize = 8;
+
+/// A guess of how many lines of the log allocate a block: the lines of its front, for its length, and an eighth more.
+///
+/// Only memory depends on it. If there are more, lists grow and the arena is replaced.
+fn guessed_allocations(bytes: &[u8]) -> usize {
+    let front = &bytes[..bytes.len().min(FRONT_BYTES)];
+    let lines = memchr_iter(b'\n', front).count();
+    let fronts = bytes.len().div_ceil(FRONT_BYTES);
+    let all = lines.saturating_mul(fronts);
+    all.saturating_add(all / 8).min(bytes.len() / LEAST_BYTES)
+}
+
 /// Reads a log and goes over all its lines. Returns the replay and the reader, which have come to its end.
 fn go_through(alloc: Global, bytes: &[u8]) -> Result<(Stage, Reader<'_>), LogError>
     ensures bytes { IfOk result (λ ended. ended.1.bytes ≡ bytes.now) }
     ensures after { IfOk result (λ ended. AreAtEnd ended.1 ended.0) }
     ensures refused { IfErr result (λ e. e ≢ LogError.NoMemory → IsFirstFault bytes.now e) }
 {
-    let lines = memchr_iter(b'\n', bytes).count();
+    let guess = guessed_allocations(bytes);
     let mut reader = Reader::new(bytes);
-    let mut stage = Stage::new(alloc, lines)?;
+    let mut stage = Stage::new(alloc, guess)?;
     let mut more = true;
     while more {
-        let arena = Bump::try_with_capacity(alloc, arena_bytes(lines))?;
+        // All live blocks are placed in a further arena. It has room for twice as many, so that it takes about as many
+        // lines until the next one is needed, however small the guess was.
+        let allocations = guess.max(stage.numbers.len().saturating_mul(2));
+        let arena = Bump::try_with_capacity(alloc, arena_bytes(allocations))?;
         let mut ongoing = stage.begin(&arena)?;
         more = ongoing.read_on(&arena, &mut reader)?;
         stage = ongoing.end()?;
@@ -164,7 +184,8 @@ pub fn replay_bytes(alloc: Global, bytes: &[u8]) -> Result<Replayed, LogError>
 /// [`replay_bytes`], and with it the addresses of the log's small allocations, as [`small_spans`](crate::small_spans) finds them:
 /// they are made of the blocks of all allocations, so that no lines are kept here either.
 ///
-/// While they are found it takes 16 bytes for each allocation, and as much again for each small one.
+/// While they are found it takes 16 bytes for each allocation, and as much again for each small one unless these
+/// ascend.
 pub fn replay_with_spans(alloc: Global, bytes: &[u8]) -> Result<(Replayed, SmallSpans), LogError>
     ensures ok { IfOk result (IsSpannedReplayOf bytes.now) }
     ensures refused { IfErr result (λ e. e ≢ LogError.NoMemory → IsFirstFault bytes.now e) }

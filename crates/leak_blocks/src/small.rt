@@ -1,6 +1,6 @@
 //! The addresses of small allocations, live or given back.
 
-ghost use Rattle.std.specs.Prelude.{◌≡◌, ◌+◌, ◌^◌, ◌<◌, ◌≤◌, ◌||◌, ℕ, IfOk, OnOk, List, []};
+ghost use Rattle.std.specs.Prelude.{◌≡◌, ◌+◌, ◌^◌, ◌<◌, ◌≤◌, ◌||◌, ℕ, IfOk, OnOk, List, [], length, take};
 ghost use Rattle.std.specs.List.Sorted.{IsNonDecreasingBy};
 ghost use Rattle.leak_mtrace.specs.Log.{LinesFit};
 ghost use Rattle.leak_mtrace.specs.declared.line.Line.{Line};
@@ -115,49 +115,55 @@ fn block_spans(alloc: Global, blocks: &[Block]) -> Result<Vec<Span>, AllocError>
     Ok(spans)
 }
 
-/// Sorts the spans by ascending first address. Most logs by capture have them nearly so, and the stable sort keeps what is.
-fn sort(spans: &mut Vec<Span>) -> Result<(), AllocError>
-    requires { AreSpans spans.old.items }
-    ensures ascending { OnOk result (IsNonDecreasingBy (λ s. s.first) spans.new.items) }
-    ensures spans { AreSpans spans.new.items }
-    ensures same { CoverSame spans.new.items spans.old.items }
+/// Sorts the spans by ascending first address. Most logs by capture have them nearly so, and the stable sort keeps what
+/// is.
+fn sort(alloc: Global, spans: &mut [Span]) -> Result<(), AllocError>
+    requires { AreSpans spans.old }
+    ensures ascending { OnOk result (IsNonDecreasingBy (λ s. s.first) spans.new) }
+    ensures spans { AreSpans spans.new }
+    ensures same { CoverSame spans.new spans.old }
 {
-    spans.sort_by_key(|span| span.first)?;
+    spans.sort_by_key(alloc, |span| span.first)?;
     Ok(())
 }
 
-/// The addresses of the spans as ranges that are apart, from spans by ascending first address.
-fn merged(alloc: Global, spans: &[Span]) -> Result<Vec<Span>, AllocError>
-    requires ascending { IsNonDecreasingBy (λ s. s.first) spans.now }
-    requires spans { AreSpans spans.now }
-    ensures apart { IfOk result (λ ranges. AreApart ranges.items) }
-    ensures same { IfOk result (λ ranges. CoverSame ranges.items spans.now) }
+/// Makes ranges that are apart of spans by ascending first address, at the front. Returns how many they are.
+fn merge(spans: &mut [Span]) -> usize
+    requires ascending { IsNonDecreasingBy (λ s. s.first) spans.old }
+    requires spans { AreSpans spans.old }
+    ensures within { result ≤ length spans.old }
+    ensures apart { AreApart (take result spans.new) }
+    ensures same { CoverSame (take result spans.new) spans.old }
 {
-    let mut ranges = Vec::with_capacity(alloc, spans.len())?;
-    let Some(first) = spans.first() else {
-        return Ok(ranges);
-    };
-    let mut open = *first;
-    for span in spans {
+    if spans.is_empty() {
+        return 0;
+    }
+    let mut open = spans[0];
+    let mut closed = 0;
+    for next in 1..spans.len() {
+        let span = spans[next];
         if span.first <= open.last.saturating_add(1) {
             open.last = open.last.max(span.last);
         } else {
-            ranges.push(open)?;
-            open = *span;
+            spans[closed] = open;
+            closed += 1;
+            open = span;
         }
     }
-    ranges.push(open)?;
-    Ok(ranges)
+    spans[closed] = open;
+    closed + 1
 }
 
-/// The addresses of the spans as ranges that are apart.
+/// The addresses of the spans as ranges that are apart, in the memory of the spans. The rest of it is given back.
 pub fn joined(alloc: Global, spans: Vec<Span>) -> Result<SmallSpans, AllocError>
     requires { AreSpans spans.items }
     ensures { IfOk result (λ ranges. CoverSame ranges spans.items) }
 {
-    let mut spans = spans;
-    sort(&mut spans)?;
-    let ranges = merged(alloc, &spans)?;
+    let mut ranges = spans;
+    sort(alloc, ranges.as_mut_slice())?;
+    let count = merge(ranges.as_mut_slice());
+    ranges.truncate(count);
+    ranges.shrink_to_fit();
     Ok(SmallSpans { ranges })
 }
 
@@ -194,8 +200,8 @@ impl SmallSpans {
 /// The addresses of the log's small allocations: each span of fewer than 131,072 bytes, whether its block is live, was
 /// given back or was displaced.
 ///
-/// While they are found it takes 16 bytes for each line, and as much again for each small allocation. It is for libraries and
-/// tests: the program goes by [`replay_with_spans`](crate::replay_with_spans).
+/// While they are found it takes 16 bytes for each line, and as much again for each small allocation unless these
+/// ascend. It is for libraries and tests: the program goes by [`replay_with_spans`](crate::replay_with_spans).
 pub fn small_spans(alloc: Global, log: &Log) -> Result<SmallSpans, AllocError>
     ensures { IfOk result (λ spans. CoverSame spans (small_spans_of log.now.lines)) }
 {

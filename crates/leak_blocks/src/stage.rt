@@ -1,9 +1,9 @@
 //! A replay between two arenas.
-ghost use Rattle.std.specs.Prelude.{◌≡◌, ◌≤◌, ◌++◌, [], List, length, drop, IfOk};
+ghost use Rattle.std.specs.Prelude.{◌≡◌, ◌≤◌, ◌↔◌, ◌++◌, [], List, length, take, drop, IfOk, IsTrue};
 ghost use Rattle.leak_mtrace.specs.declared.line.Line.{Line};
 ghost use Rattle.leak_mtrace.specs.Log.{LinesFit};
 ghost use Rattle.leak_blocks.specs.Live.{replay_of};
-ghost use Rattle.leak_blocks.specs.Numbers.{HaveBlocks, AreBlocksOf, CountUp, IsStageAfter};
+ghost use Rattle.leak_blocks.specs.Numbers.{HaveBlocks, AreBlocksOf, AreBehind, CountUp, IsStageAfter};
 ghost use Rattle.leak_blocks.specs.Runs.{IsOngoingAfter};
 
 use crate::block::Block;
@@ -145,6 +145,42 @@ fn replace_first(blocks: &mut [Block], first: &[Block])
     blocks[..first.len()].copy_from_slice(first);
 }
 
+/// Whether no number is below its own place in the list, as where the numbers ascend.
+fn are_behind(numbers: &[usize]) -> bool
+    ensures { IsTrue result ↔ AreBehind numbers.now }
+{
+    for (place, number) in numbers.iter().enumerate() {
+        if *number < place {
+            return false;
+        }
+    }
+    true
+}
+
+/// Puts the blocks of the allocations with these numbers at the front. None of them is overwritten before it is moved.
+fn bring_forward(allocated: &mut [Block], numbers: &[usize])
+    requires held { HaveBlocks allocated.old numbers.now }
+    requires behind { AreBehind numbers.now }
+    ensures { AreBlocksOf allocated.old numbers.now (take (length numbers.now) allocated.new) }
+{
+    for (place, number) in numbers.iter().enumerate() {
+        allocated[place] = allocated[*number];
+    }
+}
+
+/// The blocks of the allocations with these numbers, in the memory of all. The rest of it is given back.
+fn brought_forward(allocated: Vec<Block>, numbers: &[usize]) -> Vec<Block>
+    requires held { HaveBlocks allocated.items numbers.now }
+    requires behind { AreBehind numbers.now }
+    ensures { AreBlocksOf allocated.items numbers.now result.items }
+{
+    let mut blocks = allocated;
+    bring_forward(blocks.as_mut_slice(), numbers);
+    blocks.truncate(numbers.len());
+    blocks.shrink_to_fit();
+    blocks
+}
+
 /// The blocks of the allocations with these numbers. If all are live, only those that aren't at their places are copied.
 fn blocks_of(
     alloc: Global,
@@ -155,6 +191,9 @@ fn blocks_of(
     ensures { IfOk result (λ v. AreBlocksOf allocated.items numbers.now v.items) }
 {
     if numbers.len() != allocated.len() {
+        if are_behind(numbers) {
+            return Ok(brought_forward(allocated, numbers));
+        }
         return gathered(alloc, allocated.as_slice(), numbers);
     }
     let moved = moved(numbers);

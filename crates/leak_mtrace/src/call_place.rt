@@ -19,17 +19,18 @@ fn is_spot(text: &[u8], at: usize) -> bool
     text[at] == b' ' && is_call_sign(text[at + 1]) && text[at + 2] == b' '
 }
 
-/// The last space that a sign and a space follow.
+/// The last space that a sign and a space follow. It is searched for from the end: most lines have it near theirs.
 fn last_spot(text: &[u8]) -> Option<usize>
     ensures { IsLastSpot text.now result }
 {
-    let mut found = None;
-    for at in 0..text.len().saturating_sub(2) {
-        if is_spot(text, at) {
-            found = Some(at);
+    let mut end = text.len().saturating_sub(2);
+    while end > 0 {
+        end -= 1;
+        if is_spot(text, end) {
+            return Some(end);
         }
     }
-    found
+    None
 }
 
 /// Where the place ends, in the line's text after `@ `.
