@@ -120,6 +120,14 @@ def wide_star():
     return wide_core(word(0x10008, 0x11000), *links), log.encode()
 
 
+def many_blocks(count):
+    """A core and a log: a root word leads to the first of so many blocks of 8 bytes, and each of them to the next."""
+    starts = [0x14000 + 8 * place for place in range(count)]
+    links = [word(place, start) for place, start in zip([0x10008, *starts], starts)]
+    log = "".join(f"+ {start:#x} 0x8\n" for start in starts)
+    return {"core.k": core_of(0x26000, *links), "trace.log": log.encode()}
+
+
 def of_pieces():
     """One block. Its links are listed by one worker. The items of the first round are pieces of 27 register words, and of 32 and 476
     words around the block, and each worker but the caller that has an item is a thread."""
@@ -164,6 +172,21 @@ def of_long():
         ("a long core by 64 workers", "--workers 64", 15 + 63),
         ("a long core that is held", "--workers 4 --skip-dead-stack", 3),
     ]
+
+
+def of_many():
+    """16,384 blocks, so their root words are found by a thread unless one worker does all. Then each worker lists links, and in the
+    first round each scans pieces."""
+    return [
+        ("16,384 blocks by a worker alone", "--workers 1", 0),
+        ("16,384 blocks by two workers", "--workers 2", 1 + 1 + 1),
+        ("16,384 blocks by four workers", "--workers 4", 1 + 3 + 3),
+    ]
+
+
+def of_fewer():
+    """One block fewer: the caller finds the root words."""
+    return [("16,383 blocks by two workers", "--workers 2", 1 + 1), ("16,383 blocks by four workers", "--workers 4", 3 + 3)]
 
 
 def of_long_holders():
@@ -214,7 +237,8 @@ def cases():
     tables = [(of_pieces(), of_one, one), (of_stacks(), of_one, few), (of_two(), of_both, pair), (of_two_stacks(), of_both, stars),
               (of_holders(), "holders core.k trace.log", few), (of_long(), of_one, long),
               (of_long_holders(), "holders core.k trace.log", long),
-              (of_short_holders(), "holders core.k trace.log", short)]
+              (of_short_holders(), "holders core.k trace.log", short), (of_many(), of_one, many_blocks(0x4000)),
+              (of_fewer(), of_one, many_blocks(0x3fff))]
     return [(name, f"{line} {options} --other-heap", files, wanted) for table, line, files in tables for name, options, wanted in table]
 
 

@@ -9,7 +9,6 @@ use Rattle.leak_search.specs.declared.error.FindError.TheVariants.{NoMemory}
 use Rattle.leak_search.specs.declared.why.WhyError.{WhyError}
 use Rattle.leak_search.specs.declared.why.WhyError.TheVariants.{Find as Refused, NoBlock as Missing}
 use Rattle.leak_passing.specs.Passed.{Passes}
-use Rattle.leak_passing.specs.declared.passed.Passed.{Passed}
 use Rattle.leak_find.specs.Answers.{IsNotHeld, IsUntold, Tells, TellsHolding, at_why}
 use Rattle.leak_find.specs.declared.answer.Answer.{Answer}
 use Rattle.leak_find.specs.declared.fault.RunFault.{RunFault}
@@ -37,10 +36,10 @@ pass_refused source o question before after (Find f) refusal = absurd refusal
 pass_refused source o question before after (NoBlock a) refusal = absurd refusal
 pass_refused source o question before after (Write f) refusal = absurd refusal
 
-module _ {R : Type 0} (calls : Calls R) (o : Options) (question : Option Question) (passed : Passed) (before mid after : List R)
-    (same : length mid ≡ length before) (two : AreFirstTwo before mid (Passes calls (limits_in o) o.skip passed)) where
+module _ {R : Type 0} (calls : Calls R) (o : Options) (question : Option Question) (IsOf : List ℕ → List ℕ → Type 0) (before mid after : List R)
+    (same : length mid ≡ length before) (two : AreFirstTwo before mid (Passes calls (limits_in o) IsOf)) where
   so_far : AreRead (by_reads calls) (limit_beside o) before mid (two.holds.core ∷ two.holds.log ∷ [])
-  so_far = both_read calls o o.skip passed (limit_beside o) before mid refl refl two
+  so_far = both_read calls o IsOf (limit_beside o) before mid refl refl two
 
   pub earlier_refused : (e : RunFault) → 3 ≤ length mid → IsReaderFault (by_reads calls) 2 o.log_limit mid after e
       → IsUnanswered (by_reads calls) (Holders o question) before after e
@@ -101,15 +100,15 @@ module _ (o : Options) (question : Option Question) (core log : List ℕ) where
   untold_holding (Some s) (Missing a) refused = refused (λ same. cc)
 
 -- all were read to their ends, and what they held gives no answer for this reason
-pub unheld : {R : Type 0} (calls : Calls R) (o : Options) (question : Option Question) (passed : Passed) (before mid after : List R) → length mid ≡ length before
-    → (two : AreFirstTwo before mid (Passes calls (limits_in o) o.skip passed)) → (earlier : Option (Vec ℕ Global)) (e : WhyError)
+pub unheld : {R : Type 0} (calls : Calls R) (o : Options) (question : Option Question) (IsOf : List ℕ → List ℕ → Type 0) (before mid after : List R) → length mid ≡ length before
+    → (two : AreFirstTwo before mid (Passes calls (limits_in o) IsOf)) → (earlier : Option (Vec ℕ Global)) (e : WhyError)
     → TakesInputs (Holders o question) (length before)
     → MatchOption earlier ((length mid ≤ 2) × (after ≡ mid)) (λ v. (3 ≤ length mid) × IsReadAt (by_reads calls) 2 o.log_limit mid after v.items)
     → (e ≢ Refused NoMemory → IsNotHeld question two.holds.core two.holds.log (option_map (λ v. v.items) earlier) e)
     → IsUnanswered (by_reads calls) (Holders o question) before after (at_why e)
-unheld calls o question passed before mid after same two earlier (Refused e) takes read refused =
-    holders_read calls o question passed before mid after same two (λ inputs. IsUntold (Holders o question) inputs (Find e)) earlier takes read
+unheld calls o question IsOf before mid after same two earlier (Refused e) takes read refused =
+    holders_read calls o question IsOf before mid after same two (λ inputs. IsUntold (Holders o question) inputs (Find e)) earlier takes read
     (untold_holding o question two.holds.core two.holds.log (option_map (λ v. v.items) earlier) (Refused e) refused)
-unheld calls o question passed before mid after same two earlier (Missing a) takes read refused =
-    holders_read calls o question passed before mid after same two (λ inputs. IsUntold (Holders o question) inputs (NoBlock a)) earlier takes read
+unheld calls o question IsOf before mid after same two earlier (Missing a) takes read refused =
+    holders_read calls o question IsOf before mid after same two (λ inputs. IsUntold (Holders o question) inputs (NoBlock a)) earlier takes read
     (untold_holding o question two.holds.core two.holds.log (option_map (λ v. v.items) earlier) (Missing a) refused)

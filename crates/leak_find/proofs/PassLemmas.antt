@@ -6,7 +6,6 @@ use Rattle.leak_streams.specs.Reads.{Calls}
 use Rattle.leak_index.specs.Readings.{distances_of}
 use Rattle.leak_request.specs.Requests.{file_count}
 use Rattle.leak_request.specs.declared.options.Options.{Options}
-use Rattle.leak_roots.specs.declared.skip.Skip.{Skip}
 use Rattle.leak_search.specs.Inputs.{IsFaultOfOne}
 use Rattle.leak_search.specs.Search.{FindsOne}
 use Rattle.leak_search.specs.Signs.{AreSigns}
@@ -14,10 +13,10 @@ use Rattle.leak_search.specs.declared.error.FindError.{FindError}
 use Rattle.leak_search.specs.declared.error.FindError.TheVariants.{NoMemory as NoMemoryToFind}
 use Rattle.leak_search.specs.declared.found.Found.{Found}
 use Rattle.leak_search.specs.declared.rules.Rules.{Rules}
-use Rattle.leak_passing.specs.Passed.{AreTwo, IsPassed, IsPassingFault, OfPassed, IsReadOrNot, IsReadSomeWay, Pair, Passes, readers_of}
+use Rattle.leak_passing.specs.Passed.{AreTwo, IsPassedByTexts, IsPassingFault, OfPassedByTexts, IsReadOrNot, IsReadSomeWay, Pair, Passes, readers_of}
 use Rattle.leak_passing.specs.declared.fault.PassingFault.{PassingFault}
 use Rattle.leak_passing.specs.declared.fault.PassingFault.TheVariants.{Core, Log}
-use Rattle.leak_passing.specs.declared.passed.Passed.{Passed}
+use Rattle.leak_passing.specs.declared.passed.PassedByTexts.{PassedByTexts}
 use Rattle.leak_passing.specs.declared.passing.Limits.{Limits}
 use Rattle.leak_find.specs.Answers.{Finds, IsFaultOf, IsUntold, Tells}
 use Rattle.leak_find.specs.Rules.{rules_in}
@@ -43,9 +42,9 @@ unread source task before after (Write f) held refusal = absurd refusal
 -- ---- the first two readers
 
 -- by the limits of the options
-limited : {R : Type 0} (calls : Calls R) (o : Options) (limits : Limits) (skip : Skip) (passed : Passed) (was is : Pair R)
-    → limits.core ≡ o.core_limit → limits.log ≡ o.log_limit → Passes calls limits skip passed was is → Passes calls (limits_in o) skip passed was is
-limited calls o limits skip passed was is core_is log_is both = record {
+limited : {R : Type 0} (calls : Calls R) (o : Options) (limits : Limits) (IsOf : List ℕ → List ℕ → Type 0) (was is : Pair R)
+    → limits.core ≡ o.core_limit → limits.log ≡ o.log_limit → Passes calls limits IsOf was is → Passes calls (limits_in o) IsOf was is
+limited calls o limits IsOf was is core_is log_is both = record {
   core = both.core;
   log = both.log;
   core_read = rw (← core_is) both.core_read;
@@ -83,11 +82,11 @@ module _ {R : Type 0} (calls : Calls R) (o : Options) (limits : Limits) (core_is
   log_stopped : (f : ReadFault) (was is : Pair R) → IsPassingFault calls limits (Log f) was is → IsStoppedOf (by_reads calls) (limit_beside o) 2 f was is
   log_stopped f was is stopped = inr (refl, rw (← log_is) stopped.0, rw (← core_is) (core_read limits.core was is stopped.1))
 
-  pub passed_both : (skip : Skip) (passed : Passed) (before mid : List R) → AreTwo (take 2 before) mid (Passes calls limits skip passed)
-      → AreFirstTwo before (mid ++ drop 2 before) (Passes calls (limits_in o) skip passed)
-  passed_both skip passed before mid two =
-      first_two (Passes calls (limits_in o) skip passed) before mid
-      (weaker (Passes calls limits skip passed) (Passes calls (limits_in o) skip passed) (take 2 before) mid (λ was is. limited calls o limits skip passed was is core_is log_is) two)
+  pub passed_both : (IsOf : List ℕ → List ℕ → Type 0) (before mid : List R) → AreTwo (take 2 before) mid (Passes calls limits IsOf)
+      → AreFirstTwo before (mid ++ drop 2 before) (Passes calls (limits_in o) IsOf)
+  passed_both IsOf before mid two =
+      first_two (Passes calls (limits_in o) IsOf) before mid
+      (weaker (Passes calls limits IsOf) (Passes calls (limits_in o) IsOf) (take 2 before) mid (λ was is. limited calls o limits IsOf was is core_is log_is) two)
 
   pub passed_not : (fault : PassingFault) (before mid : List R) → AreTwo (take 2 before) mid (IsPassingFault calls limits fault)
       → IsPassRefusal (by_reads calls) (limit_beside o) before (mid ++ drop 2 before) (at_passing fault)
@@ -99,10 +98,10 @@ module _ {R : Type 0} (calls : Calls R) (o : Options) (limits : Limits) (core_is
       (weaker (IsPassingFault calls limits (Log f)) (IsStoppedOf (by_reads calls) (limit_beside o) 2 f) (take 2 before) mid (log_stopped f) two)
 
 -- both were read to their ends
-pub both_read : {R : Type 0} (calls : Calls R) (o : Options) (skip : Skip) (passed : Passed) (limit : ℕ → ℕ) (before after : List R)
-    → limit 0 ≡ o.core_limit → limit 1 ≡ o.log_limit → (two : AreFirstTwo before after (Passes calls (limits_in o) skip passed))
+pub both_read : {R : Type 0} (calls : Calls R) (o : Options) (IsOf : List ℕ → List ℕ → Type 0) (limit : ℕ → ℕ) (before after : List R)
+    → limit 0 ≡ o.core_limit → limit 1 ≡ o.log_limit → (two : AreFirstTwo before after (Passes calls (limits_in o) IsOf))
     → AreRead (by_reads calls) limit before after (two.holds.core ∷ two.holds.log ∷ [])
-both_read {R = R} calls o skip passed limit before after core_is log_is two =
+both_read {R = R} calls o IsOf limit before after core_is log_is two =
     let inputs : List (List ℕ) = two.holds.core ∷ two.holds.log ∷ [] in
     subst (λ (rs : List R). AreRead (by_reads calls) limit rs after inputs) (sym two.were)
     (subst (λ (rs : List R). AreRead (by_reads calls) limit (readers_of two.was ++ two.others) rs inputs) (sym two.are)
@@ -119,25 +118,25 @@ search_refused source o before after (NoBlock a) one refusal = absurd refusal
 search_refused source o before after (Write f) one refusal = absurd refusal
 
 -- both were read to their ends, and this is so of what they held
-pub search_read : {R : Type 0} (calls : Calls R) (o : Options) (skip : Skip) (passed : Passed) (Holds : List (List ℕ) → Type 0) (before after : List R)
-    → o.two ≡ false → length before ≡ 2 → (two : AreFirstTwo before after (Passes calls (limits_in o) skip passed))
+pub search_read : {R : Type 0} (calls : Calls R) (o : Options) (IsOf : List ℕ → List ℕ → Type 0) (Holds : List (List ℕ) → Type 0) (before after : List R)
+    → o.two ≡ false → length before ≡ 2 → (two : AreFirstTwo before after (Passes calls (limits_in o) IsOf))
     → Holds (two.holds.core ∷ two.holds.log ∷ []) → OfInputs (by_reads calls) (Search o) before after Holds
-search_read calls o skip passed Holds before after one count two holds = record {
+search_read calls o IsOf Holds before after one count two holds = record {
   inputs = two.holds.core ∷ two.holds.log ∷ [];
   takes = ap file_count (sym one);
-  read = record { count = sym count; read = both_read calls o skip passed (limit_at (Search o)) before after refl refl two };
+  read = record { count = sym count; read = both_read calls o IsOf (limit_at (Search o)) before after refl refl two };
   holds = holds;
 }
 
 -- ---- the answer for what was passed
 
-module _ (o : Options) (rules : Rules) (passed : Passed) (core log : List ℕ) (one : o.two ≡ false) (rules_are : rules ≡ rules_in o) (is : IsPassed core log o.skip passed) where
-  here : IsPassed core log rules.skip passed
-  here = subst (λ (r : Rules). IsPassed core log r.skip passed) (sym rules_are) is
+module _ (o : Options) (rules : Rules) (passed : PassedByTexts) (core log : List ℕ) (one : o.two ≡ false) (rules_are : rules ≡ rules_in o) (is : IsPassedByTexts core log o.skip passed) where
+  here : IsPassedByTexts core log rules.skip passed
+  here = subst (λ (r : Rules). IsPassedByTexts core log r.skip passed) (sym rules_are) is
 
   pub tells_leaks : (found : Found) (answer : Answer)
-      → OfPassed rules.skip passed (λ core log. FindsOne core log (distances_of rules.reading) rules.skip o.check o.plan.workers found)
-      → OfPassed rules.skip passed (λ core log. AreSigns rules.other_heap (core ∷ log ∷ []) found.signs.items)
+      → OfPassedByTexts rules.skip passed (λ core log. FindsOne core log (distances_of rules.reading) rules.skip o.check o.plan.workers found)
+      → OfPassedByTexts rules.skip passed (λ core log. AreSigns rules.other_heap (core ∷ log ∷ []) found.signs.items)
       → answer ≡ record { text = found.report; leaked = found.leaked; signs = found.signs } → Tells (Search o) (core ∷ log ∷ []) answer
   tells_leaks found answer finds signs same = record {
     found = found;
@@ -148,5 +147,5 @@ module _ (o : Options) (rules : Rules) (passed : Passed) (core log : List ℕ) (
     signs = rw same (subst (λ (r : Rules). AreSigns r.other_heap (core ∷ log ∷ []) found.signs.items) rules_are (signs core log here));
   }
 
-  pub untold : (e : FindError) → (e ≢ NoMemoryToFind → OfPassed rules.skip passed (λ core log. IsFaultOfOne core log e)) → IsUntold (Search o) (core ∷ log ∷ []) (Find e)
+  pub untold : (e : FindError) → (e ≢ NoMemoryToFind → OfPassedByTexts rules.skip passed (λ core log. IsFaultOfOne core log e)) → IsUntold (Search o) (core ∷ log ∷ []) (Find e)
   untold e refused other = subst (λ (b : Bool). IsFaultOf b (core ∷ log ∷ []) e) (sym one) (refused other core log here)

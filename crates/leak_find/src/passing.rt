@@ -1,7 +1,7 @@
 //! A core that is passed: of its bytes only what a search needs is kept.
 
 ghost use Rattle.std.specs.Prelude.{◌≡◌, ◌≤◌, false, length, IfOk, IfErr};
-ghost use Rattle.leak_passing.specs.Passed.{Passes};
+ghost use Rattle.leak_passing.specs.Passed.{IsPassed, IsPassedByTexts, Passes};
 ghost use Rattle.leak_find.specs.Passing.{AreFirstTwo, IsPassRefusal, at_passing, limits_in};
 ghost use Rattle.leak_find.specs.Run.{HasAnswered, IsUnanswered};
 ghost use Rattle.leak_find.specs.Streams.{by_reads};
@@ -12,7 +12,9 @@ use crate::answer::{Answer, Context, answer_of};
 use crate::fault::RunFault;
 use crate::rules::rules_of;
 use leak_holder_search::Progress;
-use leak_passing::{Limits, Passed, PassingFault, find_passed, read_passing};
+use leak_passing::{
+    Limits, Passed, PassedByTexts, PassingFault, find_passed, read_passing, read_passing_by_texts,
+};
 use leak_pool::Open;
 use leak_request::Options;
 use leak_search::Workers;
@@ -30,8 +32,36 @@ fn at_passing(fault: PassingFault) -> RunFault
     }
 }
 
+/// How many bytes a core and its log may have by the options. The sizes are those that the readers are said to have;
+/// one that is missing counts as 0.
+fn limits(options: &Options, sizes: &[u64]) -> Limits
+    ensures core { result.core ≡ options.now.core_limit }
+    ensures log { result.log ≡ options.now.log_limit }
+{
+    Limits {
+        core: options.core_limit,
+        log: options.log_limit,
+        core_size: sizes.first().copied().unwrap_or(0),
+        log_size: sizes.get(1).copied().unwrap_or(0),
+    }
+}
+
+/// The threads that sift a core: as many as workers.
+fn sifters<'a, T: Threads + Sync, P: Progress>(
+    context: &Context<'a, T, P>,
+    options: &Options,
+) -> Sifters<'a, T>
+    ensures { result.count ≡ options.now.plan.workers }
+{
+    Sifters {
+        rt: context.rt,
+        alloc: context.alloc,
+        count: options.plan.workers(),
+    }
+}
+
 /// Reads a core and its log in one pass, of the first two readers. The sizes are those that the readers are said to
-/// have; one that is missing counts as 0.
+/// have.
 pub(crate) fn read_passed<T: Threads + Sync, P: Progress, R: ReadCalls>(
     context: &Context<'_, T, P>,
     readers: &mut [R],
@@ -40,24 +70,38 @@ pub(crate) fn read_passed<T: Threads + Sync, P: Progress, R: ReadCalls>(
 ) -> Result<Passed, RunFault>
     requires { 2 ≤ length readers.old }
     ensures ok { IfOk result (λ passed. AreFirstTwo readers.old readers.new
-        (Passes R.calls (limits_in options.now) options.now.skip passed)) }
+        (Passes R.calls (limits_in options.now)
+        (λ core log. IsPassed core log options.now.skip passed))) }
     ensures refused { IfErr result (IsPassRefusal (by_reads R.calls)
         (limit_beside options.now) readers.old readers.new) }
     ensures count { length readers.new ≡ length readers.old }
 {
-    let limits = Limits {
-        core: options.core_limit,
-        log: options.log_limit,
-        core_size: sizes.first().copied().unwrap_or(0),
-        log_size: sizes.get(1).copied().unwrap_or(0),
-    };
-    let sifters = Sifters {
-        rt: context.rt,
-        alloc: context.alloc,
-        count: options.plan.workers(),
-    };
+    let limits = limits(options, sizes);
     let first = &mut readers[..2];
-    match read_passing(&sifters, first, limits, options.skip) {
+    match read_passing(&sifters(context, options), first, limits, options.skip) {
+        Ok(passed) => Ok(passed),
+        Err(fault) => Err(at_passing(fault)),
+    }
+}
+
+/// Reads a core and its log as [`read_passed`] does, and keeps the texts of callers in place of the log.
+fn read_passed_by_texts<T: Threads + Sync, P: Progress, R: ReadCalls>(
+    context: &Context<'_, T, P>,
+    readers: &mut [R],
+    sizes: &[u64],
+    options: &Options,
+) -> Result<PassedByTexts, RunFault>
+    requires { 2 ≤ length readers.old }
+    ensures ok { IfOk result (λ passed. AreFirstTwo readers.old readers.new
+        (Passes R.calls (limits_in options.now)
+        (λ core log. IsPassedByTexts core log options.now.skip passed))) }
+    ensures refused { IfErr result (IsPassRefusal (by_reads R.calls)
+        (limit_beside options.now) readers.old readers.new) }
+    ensures count { length readers.new ≡ length readers.old }
+{
+    let limits = limits(options, sizes);
+    let first = &mut readers[..2];
+    match read_passing_by_texts(&sifters(context, options), first, limits, options.skip) {
         Ok(passed) => Ok(passed),
         Err(fault) => Err(at_passing(fault)),
     }
@@ -77,7 +121,7 @@ pub(crate) fn search_passing<T: Threads + Sync, P: Progress, R: ReadCalls>(
     ensures refused { IfErr result
         (IsUnanswered (by_reads R.calls) (Search options.now) readers.old readers.new) }
 {
-    let passed = read_passed(context, readers, sizes, options)?;
+    let passed = read_passed_by_texts(context, readers, sizes, options)?;
     let workers = Workers {
         rt: context.rt,
         plan: options.plan,

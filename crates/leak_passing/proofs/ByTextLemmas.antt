@@ -26,11 +26,11 @@ use Rattle.leak_search.specs.declared.found.Searched.{Searched}
 use Rattle.leak_search.specs.declared.inputs.Input.{Input}
 use Rattle.leak_search.proofs.InputLemmas.{input_blocks, own_core}
 use Rattle.leak_search.proofs.SearchedLemmas.{finds_searched}
-use Rattle.leak_passing.specs.declared.passed.Passed.{Passed}
+use Rattle.leak_passing.specs.declared.passed.PassedByTexts.{PassedByTexts}
 use Rattle.leak_passing.specs.declared.texts.KeptTexts.{KeptTexts}
-use Rattle.leak_passing.specs.ByTexts.{IsLogOf}
+use Rattle.leak_passing.specs.ByTexts.{AreTextsOf, IsLogOf}
 use Rattle.leak_passing.specs.Kept.{blocks_of}
-use Rattle.leak_passing.specs.Passed.{IsPassed}
+use Rattle.leak_passing.specs.Passed.{IsPassedByTexts}
 use Rattle.leak_passing.proofs.FoundLemmas.{lines_of}
 
 -- ---- the report
@@ -56,23 +56,19 @@ callers_read log skip (Ok parts) read =
 callers_read log skip (Err e) read = tt
 
 -- what was read of it
-pub read_as : (core log : List ℕ) (skip : Skip) (passed : Passed) → IsPassed core log skip passed → IsReadAs skip log passed.read
+pub read_as : (core log : List ℕ) (skip : Skip) (passed : PassedByTexts) → IsPassedByTexts core log skip passed → IsReadAs skip log passed.read
 read_as core log skip passed is = record { read = is.read; unread = is.unread }
 
 -- the input of a core and of what was read of a log has its blocks, and so its texts
-pub is_log_of : (core log file bytes : List ℕ) (skip : Skip) (passed : Passed) (input : Input) (kept : KeptTexts) → IsPassed core log skip passed → (passed.read ≡ Err NoMemory → ⊥)
-    → IsRead file log input → bytes ≡ passed.log.items
-    → (length (blocks_of passed.read) < 2 ^ 32 → HaveTextsAt bytes kept.bytes.items kept.places.items kept.numbers.items (blocks_of passed.read))
-    → IsLogOf input kept log
-is_log_of core log file bytes skip passed input kept is full read same texts =
+pub is_log_of : (core log file : List ℕ) (skip : Skip) (passed : PassedByTexts) (input : Input) → IsPassedByTexts core log skip passed → (passed.read ≡ Err NoMemory → ⊥)
+    → IsRead file log input → IsLogOf input passed.texts log
+is_log_of core log file skip passed input is full read =
     let lines = lines_of log skip passed.read is.read is.unread full read.0 read.1.is_log in
     let blocks : blocks_of passed.read ≡ input.live.blocks =
     lines.2 ∙ ap live_of (logs_are_one log lines.0 read.0 lines.1 read.1.is_log) ∙ sym (input_blocks file log read.0 input read.1) in
     record {
       read = (read.0, own_core file log read.0 input read.1);
-      texts = λ few. subst (λ (l : List ℕ). HaveTextsAt l kept.bytes.items kept.places.items kept.numbers.items input.live.blocks) (same ∙ is.text)
-          (subst (λ (bs : List Block). HaveTextsAt bytes kept.bytes.items kept.places.items kept.numbers.items bs) blocks
-          (texts (subst (λ (bs : List Block). length bs < 2 ^ 32) (sym blocks) few)));
+      texts = subst (λ (bs : List Block). AreTextsOf log bs passed.texts) blocks is.texts;
     }
 
 -- ---- the search

@@ -24,9 +24,9 @@ use Rattle.leak_search.specs.Signs.{AreSigns}
 use Rattle.leak_search.specs.declared.error.FindError.{FindError}
 use Rattle.leak_search.specs.declared.found.Found.{Found}
 use Rattle.leak_alike.specs.SiftedCores.{SearchesOfSiftedAreOne, SignsOfSiftedAreOne, RefusedOfSiftedAreOne, rule_of, sifted_core}
-use Rattle.leak_passing.specs.declared.passed.Passed.{Passed}
+use Rattle.leak_passing.specs.declared.passed.PassedByTexts.{PassedByTexts}
 use Rattle.leak_passing.specs.Kept.{IsHeld, IsKept, IsSifted, blocks_of, rule_by}
-use Rattle.leak_passing.specs.Passed.{IsPassed}
+use Rattle.leak_passing.specs.Passed.{IsPassedByTexts}
 
 -- ---- results
 
@@ -78,7 +78,7 @@ lines_of log skip (Err e) read unread full lines is = absurd (no_fault log lines
 
 -- ---- a search
 
-module _ (core log : List ℕ) (skip : Skip) (passed : Passed) (is : IsPassed core log skip passed) where
+module _ (core log : List ℕ) (skip : Skip) (passed : PassedByTexts) (is : IsPassedByTexts core log skip passed) where
   abbrev file : List ℕ
   file = passed.held.items ++ bytes_behind passed.words passed.len
 

@@ -13,7 +13,7 @@ use Rattle.leak_roots.specs.declared.skip.Skip.{Skip}
 use Rattle.leak_sift.specs.Behind.{bytes_behind}
 use Rattle.leak_sift.specs.Kept.{Rule}
 use Rattle.leak_holders.specs.declared.question.Question.{Question}
-use Rattle.leak_search.specs.Inputs.{IsInputFault, at_core}
+use Rattle.leak_search.specs.Inputs.{IsInputFault, IsReadAs, at_core}
 use Rattle.leak_search.specs.Signs.{AreSigns}
 use Rattle.leak_search.specs.declared.error.FindError.{FindError}
 use Rattle.leak_search.specs.declared.error.FindError.TheVariants.{NoMemory as NoMemoryForAll}
@@ -27,6 +27,10 @@ use Rattle.leak_passing.specs.declared.passed.Passed.{Passed}
 use Rattle.leak_passing.specs.Kept.{IsKept, blocks_of, rule_by}
 use Rattle.leak_passing.specs.Passed.{IsPassed}
 use Rattle.leak_passing.proofs.FoundLemmas.{lines_of, sifted_file, whole_file}
+
+-- what was read of the log
+pub read_as : (core log : List ℕ) (skip : Skip) (passed : Passed) → IsPassed core log skip passed → IsReadAs skip log passed.read
+read_as core log skip passed is = record { read = is.read; unread = is.unread }
 
 -- the core with what is kept of its words
 abbrev pub file_of : Passed → List ℕ

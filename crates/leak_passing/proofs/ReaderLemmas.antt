@@ -1,20 +1,16 @@
 -- Two readers in a list.
 use Rattle.std.proofs.Common.{◌≡◌, ℕ, inl, inr, List, [], ◌∷◌, length, get_or, set, refl, arith}
-use Rattle.std.specs.Prelude.{IfOk, IfErr, ◌≢◌}
-use Rattle.leak_mtrace.specs.declared.error.LogError.TheVariants.{NoMemory}
-use Rattle.leak_mtrace.specs.Log.{IsFirstFault}
+use Rattle.leak_blocks.specs.declared.block.Block.{Block}
 use Rattle.leak_roots.specs.declared.skip.Skip.{Skip}
-use Rattle.leak_search.specs.Inputs.{IsReadLog}
 use Rattle.leak_streams.specs.declared.fault.ReadFault.{ReadFault}
 use Rattle.leak_streams.specs.Reads.{Calls, IsReadWhole, IsGivenUp}
 use Rattle.leak_passing.specs.declared.begun.Begun.{Begun}
 use Rattle.leak_passing.specs.declared.begun.Begun.TheVariants.{Whole, Head}
 use Rattle.leak_passing.specs.declared.fault.PassingFault.TheVariants.{Core, Log}
-use Rattle.leak_passing.specs.declared.passed.Passed.{Passed}
 use Rattle.leak_passing.specs.declared.passing.Limits.{Limits}
 use Rattle.leak_passing.specs.Begun.{IsBegun}
-use Rattle.leak_passing.specs.Kept.{Keeps, blocks_of}
-use Rattle.leak_passing.specs.Passed.{AreTwo, IsPassingFault, IsReadSomeWay, Passes}
+use Rattle.leak_passing.specs.Kept.{IsKept, Keeps}
+use Rattle.leak_passing.specs.Passed.{AreTwo, BeginsBoth, IsPassingFault, IsReadSomeWay, Passes}
 
 -- the first reader was read some way, and the second not
 module _ {R : Type 0} (calls : Calls R) (limits : Limits) (skip : Skip) where
@@ -50,44 +46,52 @@ module _ {R : Type 0} (calls : Calls R) (limits : Limits) (skip : Skip) where
   }
   log_refused (x ∷ (y ∷ (z ∷ zs))) d e a b begun f two is up = absurd (omega (arith, two))
 
-  -- and the core, when the log was read
-  pub rest_refused : (readers : List R) (d e h a b k : R) (begun : Begun) (log : List ℕ) (f : ReadFault) → length readers ≡ 2 → IsBegun calls limits.core (get_or readers 0 d) a skip begun
-      → IsReadWhole calls limits.log (get_or (set readers 0 a) 1 e) b log
-      → ((first : R) → IsBegun calls limits.core first (get_or (set (set readers 0 a) 1 b) 0 h) skip begun → IsGivenUp calls limits.core first k f)
-      → AreTwo readers (set (set (set readers 0 a) 1 b) 0 k) (IsPassingFault calls limits (Core f))
-  rest_refused [] d e h a b k begun log f two is whole up = absurd (omega (arith, two))
-  rest_refused (x ∷ []) d e h a b k begun log f two is whole up = absurd (omega (arith, two))
-  rest_refused (x ∷ (y ∷ [])) d e h a b k begun log f two is whole up = record {
+  -- or the log was read
+  pub begins_both : (readers : List R) (d e a b : R) (begun : Begun) (log : List ℕ) → length readers ≡ 2 → IsBegun calls limits.core (get_or readers 0 d) a skip begun
+      → IsReadWhole calls limits.log (get_or (set readers 0 a) 1 e) b log → AreTwo readers (set (set readers 0 a) 1 b) (BeginsBoth calls limits skip begun log)
+  begins_both [] d e a b begun log two is whole = absurd (omega (arith, two))
+  begins_both (x ∷ []) d e a b begun log two is whole = absurd (omega (arith, two))
+  begins_both (x ∷ (y ∷ [])) d e a b begun log two is whole = record {
     was = record { core = x; log = y };
-    is = record { core = k; log = b };
+    is = record { core = a; log = b };
     were = refl;
     are = refl;
-    holds = (up x is, inr (log, whole));
+    holds = record { core_begun = is; log_read = whole };
   }
-  rest_refused (x ∷ (y ∷ (z ∷ zs))) d e h a b k begun log f two is whole up = absurd (omega (arith, two))
+  begins_both (x ∷ (y ∷ (z ∷ zs))) d e a b begun log two is whole = absurd (omega (arith, two))
 
-  -- both were read to their ends
-  pub both_read : (readers : List R) (d e h a b k : R) (begun : Begun) (passed : Passed) → length readers ≡ 2 → IsBegun calls limits.core (get_or readers 0 d) a skip begun
-      → IsReadWhole calls limits.log (get_or (set readers 0 a) 1 e) b passed.log.items
-      → ((first : R) → IsBegun calls limits.core first (get_or (set (set readers 0 a) 1 b) 0 h) skip begun
-      → Keeps calls limits.core first k skip (blocks_of passed.read) passed.held.items passed.words passed.len)
-      → IfOk passed.read (IsReadLog skip passed.log.items) → IfErr passed.read (λ fault. fault ≢ NoMemory → IsFirstFault passed.log.items fault)
-      → AreTwo readers (set (set (set readers 0 a) 1 b) 0 k) (Passes calls limits skip passed)
-  both_read [] d e h a b k begun passed two is whole keeps read unread = absurd (omega (arith, two))
-  both_read (x ∷ []) d e h a b k begun passed two is whole keeps read unread = absurd (omega (arith, two))
-  both_read (x ∷ (y ∷ [])) d e h a b k begun passed two is whole keeps read unread =
-      let kept = keeps x is in
-      record {
-        was = record { core = x; log = y };
-        is = record { core = k; log = b };
-        were = refl;
-        are = refl;
-        holds = record {
-          core = kept.core;
-          log = passed.log.items;
-          core_read = kept.whole;
-          log_read = whole;
-          passed_is = record { text = refl; read = read; unread = unread; kept = kept.kept };
-        };
-      }
-  both_read (x ∷ (y ∷ (z ∷ zs))) d e h a b k begun passed two is whole keeps read unread = absurd (omega (arith, two))
+  module _ (readers mid : List R) (h : R) (begun : Begun) (log : List ℕ) (two : AreTwo readers mid (BeginsBoth calls limits skip begun log)) where
+    -- the core is the first of the two still
+    pub core_begun : IsBegun calls limits.core two.was.core (get_or mid 0 h) skip begun
+    core_begun = rw (two.are) two.holds.core_begun
+
+    -- then it was given up,
+    pub rest_refused : (k : R) (f : ReadFault) → ((first : R) → IsBegun calls limits.core first (get_or mid 0 h) skip begun → IsGivenUp calls limits.core first k f)
+        → AreTwo readers (set mid 0 k) (IsPassingFault calls limits (Core f))
+    rest_refused k f up = record {
+      was = two.was;
+      is = record { core = k; log = two.is.log };
+      were = two.were;
+      are = rw (two.are) refl;
+      holds = (up two.was.core core_begun, inr (log, two.holds.log_read));
+    }
+
+    -- or both were read to their ends
+    pub both_read : (k : R) (IsOf : List ℕ → List ℕ → Type 0) (blocks : List Block) (held words : List ℕ) (len : ℕ)
+        → ((first : R) → IsBegun calls limits.core first (get_or mid 0 h) skip begun → Keeps calls limits.core first k skip blocks held words len)
+        → ((core : List ℕ) → IsKept core skip blocks held words len → IsOf core log) → AreTwo readers (set mid 0 k) (Passes calls limits IsOf)
+    both_read k IsOf blocks held words len keeps passes =
+        let kept = keeps two.was.core core_begun in
+        record {
+          was = two.was;
+          is = record { core = k; log = two.is.log };
+          were = two.were;
+          are = rw (two.are) refl;
+          holds = record {
+            core = kept.core;
+            log = log;
+            core_read = kept.whole;
+            log_read = two.holds.log_read;
+            passed_is = passes kept.core kept.kept;
+          };
+        }

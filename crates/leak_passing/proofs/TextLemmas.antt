@@ -125,3 +125,12 @@ have_texts log kept places texts numbers blocks in_log are stand =
       inside = stand.inside;
       same = texts_there kept places texts stand have numbers are.below ∙ are.same;
     }
+
+-- of no block no text is asked
+pub no_texts : (log kept : List ℕ) (places : List (ℕ × ℕ)) (numbers : List ℕ) → kept ≡ [] → places ≡ [] → numbers ≡ [] → HaveTextsAt log kept places numbers []
+no_texts log kept places numbers no_bytes no_places no_numbers = rw (no_bytes, no_places, no_numbers) (record {
+  one_each = refl;
+  within = All-nil (λ n. n < 0);
+  inside = All-nil (IsIn []);
+  same = refl;
+})

@@ -3,6 +3,6 @@ pub mod Underway
 pub mod Begun
 pub mod Sifting
 pub mod Kept
-pub mod Passed
 pub mod Texts
 pub mod ByTexts
+pub mod Passed

@@ -7,13 +7,25 @@ use Rattle.leak_search.specs.Inputs.{IsReadLog}
 use Rattle.leak_streams.specs.Reads.{Calls, ReadSoFar, HasCome, IsReadWhole, IsGivenUp}
 use Rattle.leak_passing.specs.declared.fault.PassingFault.{PassingFault}
 use Rattle.leak_passing.specs.declared.fault.PassingFault.TheVariants.{Core, Log}
+use Rattle.leak_passing.specs.declared.begun.Begun.{Begun}
 use Rattle.leak_passing.specs.declared.passed.Passed.{Passed}
+use Rattle.leak_passing.specs.declared.passed.PassedByTexts.{PassedByTexts}
 use Rattle.leak_passing.specs.declared.passing.Limits.{Limits}
+use Rattle.leak_passing.specs.Begun.{IsBegun}
+use Rattle.leak_passing.specs.ByTexts.{AreTextsOf}
 use Rattle.leak_passing.specs.Kept.{IsKept, blocks_of}
 
 -- what was read of a core and of its log: the log as it is, and of the core the whole, or its head and what a search needs
 pub record IsPassed (core log : List ℕ) (skip : Skip) (passed : Passed) : Type 0 where
   pub text : passed.log.items ≡ log
+  pub read : IfOk passed.read (IsReadLog skip log)
+  pub unread : IfErr passed.read (λ e. e ≢ NoMemory → IsFirstFault log e)
+  pub kept : IsKept core skip (blocks_of passed.read) passed.held.items passed.words passed.len
+
+-- The same where the log was let go: in its place are the texts of its live blocks' callers. A log of which there was no memory for
+-- these is one that was not read for want of memory.
+pub record IsPassedByTexts (core log : List ℕ) (skip : Skip) (passed : PassedByTexts) : Type 0 where
+  pub texts : AreTextsOf log (blocks_of passed.read) passed.texts
   pub read : IfOk passed.read (IsReadLog skip log)
   pub unread : IfErr passed.read (λ e. e ≢ NoMemory → IsFirstFault log e)
   pub kept : IsKept core skip (blocks_of passed.read) passed.held.items passed.words passed.len
@@ -34,13 +46,18 @@ pub record AreTwo {R : Type 0} (before after : List R) (Holds : Pair R → Pair 
   pub are : after ≡ readers_of is
   pub holds : Holds was is
 
--- each was read to its end, and this was read of them
-pub record Passes {R : Type 0} (calls : Calls R) (limits : Limits) (skip : Skip) (passed : Passed) (was is : Pair R) : Type 0 where
+-- the core was begun, and the log was read to its end
+pub record BeginsBoth {R : Type 0} (calls : Calls R) (limits : Limits) (skip : Skip) (begun : Begun) (log : List ℕ) (was is : Pair R) : Type 0 where
+  pub core_begun : IsBegun calls limits.core was.core is.core skip begun
+  pub log_read : IsReadWhole calls limits.log was.log is.log log
+
+-- each was read to its end, and what was kept is of this core and this log
+pub record Passes {R : Type 0} (calls : Calls R) (limits : Limits) (IsOf : List ℕ → List ℕ → Type 0) (was is : Pair R) : Type 0 where
   pub core : List ℕ
   pub log : List ℕ
   pub core_read : IsReadWhole calls limits.core was.core is.core core
   pub log_read : IsReadWhole calls limits.log was.log is.log log
-  pub passed_is : IsPassed core log skip passed
+  pub passed_is : IsOf core log
 
 -- an input was not read, or to its end
 abbrev pub IsReadOrNot : {R : Type 0} → Calls R → ℕ → R → R → Type 0
@@ -61,3 +78,6 @@ IsPassingFault calls limits (Log f) was is =
 -- this is so of each core and log of which this was read
 abbrev pub OfPassed : Skip → Passed → (List ℕ → List ℕ → Type 0) → Type 0
 OfPassed skip passed Holds = (core log : List ℕ) → IsPassed core log skip passed → Holds core log
+
+abbrev pub OfPassedByTexts : Skip → PassedByTexts → (List ℕ → List ℕ → Type 0) → Type 0
+OfPassedByTexts skip passed Holds = (core log : List ℕ) → IsPassedByTexts core log skip passed → Holds core log

@@ -1,50 +1,21 @@
 //! A core and its log that were read in one pass are searched.
 
-ghost use Rattle.std.specs.Prelude.{◌≡◌, ◌≢◌, ◌<◌, ◌^◌, ℕ, List, [], ◌∷◌, length, IfOk, IfErr};
+ghost use Rattle.std.specs.Prelude.{◌≡◌, ◌≢◌, ℕ, List, [], ◌∷◌, IfOk, IfErr};
 ghost use Rattle.leak_index.specs.Readings.{distances_of};
-ghost use Rattle.leak_report.specs.Elsewhere.{HaveTextsAt};
-ghost use Rattle.leak_report.specs.Totals.{HaveCallersIn};
 ghost use Rattle.leak_search.specs.Inputs.{IsFaultOfOne};
 ghost use Rattle.leak_search.specs.Search.{FindsOne};
 ghost use Rattle.leak_search.specs.Signs.{AreSigns};
 ghost use Rattle.leak_passing.specs.ByTexts.{IsLogOf, OfLog};
-ghost use Rattle.leak_passing.specs.Kept.{blocks_of};
-ghost use Rattle.leak_passing.specs.Passed.{IsPassed, OfPassed};
+ghost use Rattle.leak_passing.specs.Passed.{IsPassedByTexts, OfPassedByTexts};
 
 use crate::opening::input_of_passed;
-use crate::passed::Passed;
+use crate::passed::PassedByTexts;
 use crate::reporting::found_by_texts;
-use crate::texts::{KeptTexts, keep_texts};
+use crate::texts::KeptTexts;
 use leak_alike::searches_of_sifted_cores;
-use leak_blocks::{Live, Replayed, SmallSpans};
-use leak_mtrace::LogError;
 use leak_pool::Gate;
 use leak_search::{FindError, Found, Input, Rules, Workers, search_in};
-use std::alloc::{AllocError, Global};
-
-/// Keeps the texts of the callers of the live blocks that were read of the log. If it has a fault, there are none.
-fn texts_of(
-    alloc: Global,
-    read: &Result<(Replayed, SmallSpans), LogError>,
-    log: &[u8],
-) -> Result<KeptTexts, AllocError>
-    requires { HaveCallersIn log.now (blocks_of read.now) }
-    ensures { IfOk result (λ kept. length (blocks_of read.now) < 2 ^ 32
-        → HaveTextsAt log.now kept.bytes.items kept.places.items kept.numbers.items
-        (blocks_of read.now)) }
-{
-    match read {
-        Ok((replayed, _)) => keep_texts(alloc, replayed.live.blocks(), log),
-        Err(_) => keep_texts(alloc, &[], log),
-    }
-}
-
-/// The live blocks of an input of which nothing else is asked any more.
-fn into_live(input: Input) -> Live
-    ensures { result ≡ input.entry.live }
-{
-    input.live
-}
+use std::alloc::Global;
 
 /// Searches an input by the rules and by the workers, without its log, of which the texts of callers were kept.
 fn find_kept<R: std::thread::Threads + Sync, G: Gate + Sync>(
@@ -65,8 +36,8 @@ fn find_kept<R: std::thread::Threads + Sync, G: Gate + Sync>(
     ensures refused { IfErr result (λ e. e ≢ FindError.NoMemory
         → OfLog input.entry kept (λ log. IsFaultOfOne input.entry.image log e)) }
 {
-    let searched = search_in(workers, alloc, &input, rules, lists_misfits)?;
-    found_by_texts(alloc, into_live(input), searched, kept)
+    let (live, searched) = search_in(workers, alloc, input, rules, lists_misfits)?;
+    found_by_texts(alloc, live, searched, kept)
 }
 
 /// Searches a core and its log that were read in one pass by these rules. It gives what
@@ -78,30 +49,28 @@ fn find_kept<R: std::thread::Threads + Sync, G: Gate + Sync>(
 pub fn find_passed<R: std::thread::Threads + Sync, G: Gate + Sync>(
     workers: &Workers<'_, R, G>,
     alloc: Global,
-    passed: Passed,
+    passed: PassedByTexts,
     rules: Rules,
     lists_misfits: bool,
 ) -> Result<Found, FindError>
-    requires { (core : List ℕ) × (log : List ℕ) × IsPassed core log rules.skip passed }
-    ensures ok { IfOk result (λ found. OfPassed rules.skip passed (λ core log.
+    requires { (core : List ℕ) × (log : List ℕ) × IsPassedByTexts core log rules.skip passed }
+    ensures ok { IfOk result (λ found. OfPassedByTexts rules.skip passed (λ core log.
         FindsOne core log (distances_of rules.reading) rules.skip lists_misfits
         workers.now.plan.workers found)) }
-    ensures signs { IfOk result (λ found. OfPassed rules.skip passed (λ core log.
+    ensures signs { IfOk result (λ found. OfPassedByTexts rules.skip passed (λ core log.
         AreSigns rules.other_heap (core ∷ log ∷ []) found.signs.items)) }
     ensures refused { IfErr result (λ e. e ≢ FindError.NoMemory
-        → OfPassed rules.skip passed (λ core log. IsFaultOfOne core log e)) }
+        → OfPassedByTexts rules.skip passed (λ core log. IsFaultOfOne core log e)) }
 {
     // (a law, for the proof: a sifted core has the answers of the whole one)
     searches_of_sifted_cores();
-    let Passed {
+    let PassedByTexts {
         held,
         words,
         len,
-        log,
+        texts,
         read,
     } = passed;
-    let kept = texts_of(alloc, &read, log.as_slice())?;
-    drop(log); // the texts are all that is asked of it from here on
     let input = input_of_passed(alloc, rules.skip, held.as_slice(), (words, len), read)?;
-    find_kept(workers, alloc, input, kept, rules, lists_misfits)
+    find_kept(workers, alloc, input, texts, rules, lists_misfits)
 }

@@ -1,12 +1,13 @@
 //! A core and its log are read in one pass.
 
 ghost use Rattle.std.specs.Prelude.{◌≡◌, ◌*◌, min, max, length, IfOk, IfErr};
-ghost use Rattle.leak_passing.specs.Passed.{AreTwo, IsPassingFault, Passes};
+ghost use Rattle.leak_passing.specs.Passed.{AreTwo, BeginsBoth, IsPassed, IsPassedByTexts, IsPassingFault, Passes};
 
-use crate::begun::begin_core;
+use crate::begun::{Begun, begin_core};
 use crate::fault::PassingFault;
 use crate::keeping::keep_core;
-use crate::passed::Passed;
+use crate::passed::{Passed, PassedByTexts};
+use crate::texts::read_by_texts;
 use leak_roots::Skip;
 use leak_search::read_log;
 use leak_sift::Sifters;
@@ -39,6 +40,32 @@ fn piece_size(count: u32) -> usize
     (count.max(1) as usize * PART).min(MOST_PIECE)
 }
 
+/// Begins to read a core, and reads its log.
+fn begin_both<T: Threads + Sync, R: ReadCalls>(
+    sifters: &Sifters<'_, T>,
+    readers: &mut [R],
+    limits: Limits,
+    skip: Skip,
+) -> Result<(Begun, Vec<u8>), PassingFault>
+    requires { length readers.old ≡ 2 }
+    ensures ok { IfOk result (λ both. AreTwo readers.old readers.new
+        (BeginsBoth R.calls limits skip both.0 both.1.items)) }
+    ensures refused { IfErr result (λ fault.
+        AreTwo readers.old readers.new (IsPassingFault R.calls limits fault)) }
+{
+    let alloc = sifters.alloc;
+    let (limit, size) = (limits.core, limits.core_size);
+    let piece = piece_size(sifters.count);
+    let begun = match begin_core(alloc, &mut readers[0], limit, size, piece, skip) {
+        Ok(begun) => begun,
+        Err(fault) => return Err(PassingFault::Core(fault)),
+    };
+    match read_sized(alloc, &mut readers[1], limits.log, limits.log_size) {
+        Ok(log) => Ok((begun, log)),
+        Err(fault) => Err(PassingFault::Log(fault)),
+    }
+}
+
 /// Reads a core and its log, in one pass over each: the core's head, the log, and then the rest of the core, of which
 /// only the words are kept that a search needs. The first reader has the core, the second the log. How many sifters there
 /// are changes nothing of what is read and kept.
@@ -57,29 +84,53 @@ pub fn read_passing<T: Threads + Sync, R: ReadCalls>(
     skip: Skip,
 ) -> Result<Passed, PassingFault>
     requires { length readers.old ≡ 2 }
-    ensures ok { IfOk result (λ passed.
-        AreTwo readers.old readers.new (Passes R.calls limits skip passed)) }
+    ensures ok { IfOk result (λ passed. AreTwo readers.old readers.new
+        (Passes R.calls limits (λ core log. IsPassed core log skip passed))) }
     ensures refused { IfErr result (λ fault.
         AreTwo readers.old readers.new (IsPassingFault R.calls limits fault)) }
 {
-    let alloc = sifters.alloc;
-    let (limit, size) = (limits.core, limits.core_size);
-    let piece = piece_size(sifters.count);
-    let begun = match begin_core(alloc, &mut readers[0], limit, size, piece, skip) {
-        Ok(begun) => begun,
-        Err(fault) => return Err(PassingFault::Core(fault)),
-    };
-    let log = match read_sized(alloc, &mut readers[1], limits.log, limits.log_size) {
-        Ok(log) => log,
-        Err(fault) => return Err(PassingFault::Log(fault)),
-    };
-    let read = read_log(alloc, skip, log.as_slice());
+    let (begun, log) = begin_both(sifters, readers, limits, skip)?;
+    let read = read_log(sifters.alloc, skip, log.as_slice());
     match keep_core(sifters, begun, &mut readers[0], limits.core, &read, skip) {
         Ok((held, words, len)) => Ok(Passed {
             held,
             words,
             len,
             log,
+            read,
+        }),
+        Err(fault) => Err(PassingFault::Core(fault)),
+    }
+}
+
+/// Reads a core and its log as [`read_passing`] does, but lets go of the log before the rest of the core is read: it
+/// keeps the texts of the live blocks' callers in its place.
+///
+/// # Errors
+///
+/// Those of [`read_passing`]. Want of memory for the texts refuses nothing here: it counts as want of memory for the
+/// log.
+pub fn read_passing_by_texts<T: Threads + Sync, R: ReadCalls>(
+    sifters: &Sifters<'_, T>,
+    readers: &mut [R],
+    limits: Limits,
+    skip: Skip,
+) -> Result<PassedByTexts, PassingFault>
+    requires { length readers.old ≡ 2 }
+    ensures ok { IfOk result (λ passed. AreTwo readers.old readers.new
+        (Passes R.calls limits (λ core log. IsPassedByTexts core log skip passed))) }
+    ensures refused { IfErr result (λ fault.
+        AreTwo readers.old readers.new (IsPassingFault R.calls limits fault)) }
+{
+    let (begun, log) = begin_both(sifters, readers, limits, skip)?;
+    let (read, texts) = read_by_texts(sifters.alloc, skip, log.as_slice());
+    drop(log); // the texts are all that is asked of it from here on
+    match keep_core(sifters, begun, &mut readers[0], limits.core, &read, skip) {
+        Ok((held, words, len)) => Ok(PassedByTexts {
+            held,
+            words,
+            len,
+            texts,
             read,
         }),
         Err(fault) => Err(PassingFault::Core(fault)),

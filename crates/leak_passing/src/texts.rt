@@ -1,24 +1,29 @@
 //! The texts of the callers of blocks, kept in place of the log that has them.
 
-ghost use Rattle.std.specs.Prelude.{◌≡◌, ◌-◌, ◌^◌, ◌<◌, length, min, sum_by, IfOk};
+ghost use Rattle.std.specs.Prelude.{◌≡◌, ◌-◌, ◌^◌, ℕ, List, [], length, min, sum_by, IfOk};
 ghost use Rattle.leak_report.specs.Totals.{HaveCallersIn};
 ghost use Rattle.leak_report.specs.Numbered.{bytes_each};
-ghost use Rattle.leak_report.specs.Elsewhere.{HaveTextsAt};
+ghost use Rattle.leak_search.specs.Inputs.{IsReadAs};
+ghost use Rattle.leak_passing.specs.Kept.{blocks_of};
+ghost use Rattle.leak_passing.specs.ByTexts.{AreTextsOf};
 ghost use Rattle.leak_passing.specs.Texts.{StandAt};
 
-use leak_blocks::Block;
+use leak_blocks::{Block, Replayed, SmallSpans};
+use leak_mtrace::LogError;
 use leak_report::{Texts, number_texts};
+use leak_roots::Skip;
+use leak_search::read_log;
 use std::alloc::{AllocError, Global};
 
 /// The texts of the callers of blocks, each once.
 #[derive(Drop)]
-pub(crate) struct KeptTexts {
+pub struct KeptTexts {
     /// The texts, one after another.
-    pub(crate) bytes: Vec<u8>,
+    pub bytes: Vec<u8>,
     /// For each text its range of these bytes, with its end excluded.
-    pub(crate) places: Vec<(usize, usize)>,
+    pub places: Vec<(usize, usize)>,
     /// For each block which of the places its text has.
-    pub(crate) numbers: Vec<u32>,
+    pub numbers: Vec<u32>,
 }
 
 /// How many bytes texts have together, as far as a number can tell.
@@ -47,23 +52,27 @@ fn copied(alloc: Global, texts: &[&[u8]]) -> Result<(Vec<u8>, Vec<(usize, usize)
     Ok((bytes, places))
 }
 
-/// Keeps the texts of the callers of blocks, whose ranges are of the log. Of 2^32 blocks and more it keeps none: no
-/// search takes so many.
-pub(crate) fn keep_texts(
-    alloc: Global,
-    blocks: &[Block],
-    log: &[u8],
-) -> Result<KeptTexts, AllocError>
-    requires { HaveCallersIn log.now blocks.now }
-    ensures { IfOk result (λ kept. length blocks.now < 2 ^ 32
-        → HaveTextsAt log.now kept.bytes.items kept.places.items kept.numbers.items blocks.now) }
-{
-    if blocks.len() > u32::MAX as usize {
-        return Ok(KeptTexts {
+impl KeptTexts {
+    /// Those of no block.
+    fn none(alloc: Global) -> KeptTexts
+        ensures { (log : List ℕ) → AreTextsOf log [] result }
+    {
+        KeptTexts {
             bytes: Vec::new(alloc),
             places: Vec::new(alloc),
             numbers: Vec::new(alloc),
-        });
+        }
+    }
+}
+
+/// Keeps the texts of the callers of blocks, whose ranges are of the log. Of 2^32 blocks and more it keeps none: no
+/// search takes so many.
+fn keep_texts(alloc: Global, blocks: &[Block], log: &[u8]) -> Result<KeptTexts, AllocError>
+    requires { HaveCallersIn log.now blocks.now }
+    ensures { IfOk result (AreTextsOf log.now blocks.now) }
+{
+    if blocks.len() > u32::MAX as usize {
+        return Ok(KeptTexts::none(alloc));
     }
     let Texts { texts, numbers } = number_texts(alloc, blocks, log)?;
     let (bytes, places) = copied(alloc, texts.as_slice())?;
@@ -72,4 +81,24 @@ pub(crate) fn keep_texts(
         places,
         numbers,
     })
+}
+
+/// Reads a log, and keeps the texts of its live blocks' callers, so that it can be let go. If there is no memory for
+/// them, the log is one that was not read for want of memory.
+pub(crate) fn read_by_texts(
+    alloc: Global,
+    skip: Skip,
+    log: &[u8],
+) -> (Result<(Replayed, SmallSpans), LogError>, KeptTexts)
+    ensures read { IsReadAs skip log.now result.0 }
+    ensures texts { AreTextsOf log.now (blocks_of result.0) result.1 }
+{
+    let read = match read_log(alloc, skip, log) {
+        Ok(read) => read,
+        Err(error) => return (Err(error), KeptTexts::none(alloc)),
+    };
+    match keep_texts(alloc, read.0.live.blocks(), log) {
+        Ok(texts) => (Ok(read), texts),
+        Err(_) => (Err(LogError::NoMemory), KeptTexts::none(alloc)),
+    }
 }

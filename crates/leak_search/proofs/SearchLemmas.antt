@@ -1,5 +1,5 @@
 -- From what was read and marked to what a search comes to.
-use Rattle.std.proofs.Common.{◌≡◌, ℕ, ◌-◌, ◌≤◌, ◌<◌, ◌^◌, List, [], length, Bool, Option, Some, None, Result, Ok, Err, IfOk, refl, ap, subst, sym, ◌∙◌, arith, inr}
+use Rattle.std.proofs.Common.{◌≡◌, ℕ, ◌-◌, ◌≤◌, ◌<◌, ◌^◌, List, [], length, Bool, Option, Some, None, Result, Ok, Err, IfOk, refl, ap, subst, sym, arith, inr}
 use Rattle.std.specs.Prelude.{if◌then◌else◌}
 use Rattle.leak_elf.specs.Segments.{undumped_of}
 use Rattle.leak_mtrace.specs.Log.{torn_of}
@@ -11,31 +11,23 @@ use Rattle.leak_blocks.specs.declared.block.Block.{Block}
 use Rattle.leak_blocks.specs.Live.{live_of, replay_of}
 use Rattle.leak_index.specs.Leads.{Distances}
 use Rattle.leak_index.specs.Hits.{Index}
-use Rattle.leak_scan.specs.Heads.{heads_of}
 use Rattle.leak_notes.specs.Threads.{registers_of}
 use Rattle.leak_roots.specs.Places.{Places}
 use Rattle.leak_roots.specs.LeftOut.{LeftOut}
 use Rattle.leak_roots.specs.Roots.{AreRootsOf, root_places}
 use Rattle.leak_search.specs.LeftOut.{dead_told, freed_told, left_out}
 use Rattle.leak_roots.specs.declared.skip.Skip.{Skip}
-use Rattle.leak_marks.specs.Reach.{Graph, Reach}
-use Rattle.leak_marks.specs.Partition.{Partitions}
 use Rattle.leak_pool.specs.declared.marked.Marked.{Marked}
-use Rattle.leak_pool.specs.Marking.{IsSet, MarksFromRoots, graph_of, led_by_roots, led_from, lists_of}
-use Rattle.leak_report.specs.declared.head.Head.{Head}
-use Rattle.leak_report.specs.Totals.{leaked_in}
-use Rattle.leak_report.specs.Report.{text_of}
+use Rattle.leak_pool.specs.Marking.{graph_of, led_by_roots, led_from}
 use Rattle.leak_search.specs.declared.error.FindError.{FindError}
 use Rattle.leak_search.specs.declared.error.FindError.TheVariants.{TooMany, NoMemory}
 use Rattle.leak_pool.specs.declared.error.PoolError.{PoolError}
 use Rattle.leak_pool.specs.declared.error.PoolError.TheVariants.{TooMany as TooManyForPool, NoMemory as NoMemoryForPool}
-use Rattle.leak_search.specs.declared.found.Found.{Found}
 use Rattle.leak_search.specs.declared.inputs.Input.{Input}
-use Rattle.leak_search.specs.Inputs.{AreRootsFor, IsReadOf, IsRead, at_marking, IsFaultOfOne}
+use Rattle.leak_search.specs.Inputs.{IsReadOf, IsRead, at_marking, IsFaultOfOne}
 use Rattle.leak_search.specs.Report.{head_with}
-use Rattle.leak_search.proofs.InputLemmas.{fits_are, input_blocks}
-use Rattle.leak_search.specs.Search.{FindsOne, graph_of_one, index_of}
-use Rattle.leak_search.specs.Signs.{fits_told, fits_with}
+use Rattle.leak_search.proofs.InputLemmas.{input_blocks}
+use Rattle.leak_search.specs.Search.{graph_of_one, index_of}
 
 -- too many blocks is a fault of an input that was read
 pub too_many : (core log : List ℕ) (input : Input) → IsRead core log input → 2 ^ 32 - 1 < length input.live.blocks → IsFaultOfOne core log TooMany

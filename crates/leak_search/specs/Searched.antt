@@ -3,7 +3,9 @@ use Rattle.std.specs.Prelude.{◌≡◌, ℕ, ◌^◌, ◌<◌, Bool, List, map,
 use Rattle.leak_elf.specs.Words.{word_of}
 use Rattle.leak_mtrace.specs.declared.line.Line.{Line}
 use Rattle.leak_blocks.specs.Live.{live_of}
+use Rattle.leak_blocks.specs.declared.small.Span.{Span}
 use Rattle.leak_index.specs.Leads.{Distances}
+use Rattle.leak_roots.specs.Places.{Places}
 use Rattle.leak_roots.specs.declared.skip.Skip.{Skip}
 use Rattle.leak_scan.specs.Heads.{heads_of}
 use Rattle.leak_marks.specs.Reach.{Reach}
@@ -11,13 +13,20 @@ use Rattle.leak_marks.specs.Partition.{Partitions}
 use Rattle.leak_pool.specs.Marking.{IsSet}
 use Rattle.leak_search.specs.declared.found.Searched.{Searched}
 use Rattle.leak_search.specs.declared.inputs.Input.{Input}
-use Rattle.leak_search.specs.Inputs.{IsReadOf}
+use Rattle.leak_search.specs.Inputs.{AreRootsFor, IsReadOf}
 use Rattle.leak_search.specs.Search.{graph_of_one, head_of_one, index_of}
 use Rattle.leak_search.specs.Signs.{fits_told}
 
 -- this is so of each log of which the input was read, and of its lines
 abbrev pub OfLogs : Input → (List ℕ → List Line → Type 0) → Type 0
 OfLogs input Holds = (log : List ℕ) (lines : List Line) → IsReadOf input.image log lines input → Holds log lines
+
+-- The same, if these are the places of its root words. They are all that is asked of the spans whose freed places are left out: with
+-- some spans it was read, which it needn't have any more.
+abbrev pub OfRoots : Input → Places → (List ℕ → List Line → Type 0) → Type 0
+OfRoots input places Holds = (log : List ℕ) (lines : List Line) (spans : List Span)
+    → IsReadOf input.image log lines (record input { heap_spans = spans })
+    → AreRootsFor lines (record input { heap_spans = spans }) places → Holds log lines
 
 -- the lists of claims, worker by worker
 abbrev pub claims_in : Searched → List (List ℕ)

@@ -44,6 +44,7 @@ mod laws;
 mod marking;
 mod one_core;
 mod pairs;
+mod preparing;
 mod reporting;
 mod rules;
 mod signing;

@@ -1,16 +1,19 @@
 //! The search of one core by worker threads.
 
-ghost use Rattle.std.specs.Prelude.{◌≡◌, ◌≢◌, [], ◌∷◌, IfOk, IfErr};
+ghost use Rattle.std.specs.Prelude.{◌≡◌, ◌≢◌, Bool, [], ◌∷◌, IfOk, IfErr, option_map};
 ghost use Rattle.leak_index.specs.Readings.{distances_of};
 ghost use Rattle.leak_search.specs.Inputs.{IsFaultOfOne, IsRead};
 ghost use Rattle.leak_search.specs.Search.{FindsOne};
-ghost use Rattle.leak_search.specs.Searched.{OfLogs, SearchesOne};
-ghost use Rattle.leak_search.specs.Signs.{AreSigns};
+ghost use Rattle.leak_search.specs.Searched.{OfLogs, OfRoots, SearchesOne};
+ghost use Rattle.leak_search.specs.Signs.{AreSigns, fits_with};
 
+use crate::preparing::{Prepared, prepare};
 use crate::{
-    FindError, Found, Input, Rules, Searched, Workers, consistency_of_one, find_roots_and_index,
-    found_of, head_of, mark_input, read_input, searched_of,
+    FindError, Found, Input, RootsAndIndex, Rules, Searched, Workers, found_of, head_of,
+    mark_input, read_input, searched_of,
 };
+use leak_blocks::{Live, SmallSpans};
+use leak_index::Paged;
 use leak_pool::Gate;
 use std::alloc::Global;
 
@@ -69,11 +72,14 @@ pub fn find_in<R: std::thread::Threads + Sync, G: Gate + Sync>(
     ensures refused { IfErr result (λ e. e ≢ FindError.NoMemory
         → IsFaultOfOne input.now.image log.now e) }
 {
-    let searched = search_in(workers, alloc, input, rules, lists_misfits)?;
+    let prepared = prepare(workers, alloc, input, lists_misfits, rules.other_heap)?;
+    let searched = search_from(workers, alloc, input, prepared, rules)?;
     found_of(alloc, &input.live, searched, log)
 }
 
-/// Does all of [`find_in`] but write the report, which [`found_of`] does. So it needs none of the log's bytes.
+/// Does all of [`find_in`] but write the report, which [`found_of`] does of the live blocks that it gives back. So it
+/// needs none of the log's bytes. As soon as the root words are found it lets go of the spans whose freed places are left
+/// out.
 ///
 /// # Errors
 ///
@@ -81,22 +87,52 @@ pub fn find_in<R: std::thread::Threads + Sync, G: Gate + Sync>(
 pub fn search_in<R: std::thread::Threads + Sync, G: Gate + Sync>(
     workers: &Workers<'_, R, G>,
     alloc: Global,
-    input: &Input,
+    mut input: Input,
     rules: Rules,
     lists_misfits: bool,
+) -> Result<(Live, Searched), FindError>
+    requires skip { input.skip ≡ rules.skip }
+    ensures ok { IfOk result (λ found. OfLogs input.entry (λ log lines.
+        SearchesOne input.entry.image log lines (distances_of rules.reading) rules.skip
+        lists_misfits workers.now.plan.workers found.1)) }
+    ensures live { IfOk result (λ found. found.0 ≡ input.entry.live) }
+    ensures signs { IfOk result (λ found. OfLogs input.entry (λ log lines.
+        AreSigns rules.other_heap (input.entry.image ∷ log ∷ []) found.1.signs.items)) }
+    ensures refused { IfErr result (λ e. e ≢ FindError.NoMemory
+        → OfLogs input.entry (λ log lines. IsFaultOfOne input.entry.image log e)) }
+{
+    let prepared = prepare(workers, alloc, &input, lists_misfits, rules.other_heap)?;
+    input.heap_spans = SmallSpans::none(alloc); // the roots are all that they tell of
+    let searched = search_from(workers, alloc, &input, prepared, rules)?;
+    Ok((input.live, searched))
+}
+
+/// Searches an input from what was found before it is marked. The root words are let go when the blocks are marked.
+/// Which spans the input still has is all one.
+fn search_from<R: std::thread::Threads + Sync, G: Gate + Sync>(
+    workers: &Workers<'_, R, G>,
+    alloc: Global,
+    input: &Input,
+    prepared: Prepared,
+    rules: Rules,
 ) -> Result<Searched, FindError>
     requires skip { input.now.skip ≡ rules.skip }
-    ensures ok { IfOk result (λ searched. OfLogs input.now (λ log lines.
+    ensures ok { (check : Bool) → option_map (λ v. v.items) prepared.consistency.fits
+        ≡ fits_with check input.now
+        → IfOk result (λ searched. OfRoots input.now prepared.roots (λ log lines.
         SearchesOne input.now.image log lines (distances_of rules.reading) rules.skip
-        lists_misfits workers.now.plan.workers searched)) }
-    ensures signs { IfOk result (λ searched. OfLogs input.now (λ log lines.
-        AreSigns rules.other_heap (input.now.image ∷ log ∷ []) searched.signs.items)) }
+        check workers.now.plan.workers searched)) }
+    ensures signs { IfOk result (λ searched.
+        searched.signs.items ≡ prepared.consistency.signs.items) }
     ensures refused { IfErr result (λ e. e ≢ FindError.NoMemory
-        → OfLogs input.now (λ log lines. IsFaultOfOne input.now.image log e)) }
+        → OfRoots input.now prepared.roots (λ log lines. IsFaultOfOne input.now.image log e)) }
 {
-    let consistency = consistency_of_one(alloc, input, lists_misfits, rules.other_heap)?;
-    let indexed = find_roots_and_index(alloc, input, rules.reading)?;
+    let Prepared { consistency, roots } = prepared;
+    let lookup = Paged::new(alloc, &input.live, rules.reading)?;
+    let indexed = RootsAndIndex { roots, lookup };
     let marked = mark_input(workers, alloc, input, &indexed)?;
-    let head = head_of(input, &indexed.roots, None);
-    Ok(searched_of(alloc, input, &indexed.lookup, marked, head, consistency)?)
+    let RootsAndIndex { roots, lookup } = indexed;
+    let head = head_of(input, &roots, None);
+    drop(roots); // the heads are told by the words of blocks alone
+    Ok(searched_of(alloc, input, &lookup, marked, head, consistency)?)
 }

@@ -6,7 +6,9 @@ use crate::fakes::Steps;
 use crate::samples::{core_of, set};
 use leak_elf::core_k;
 use leak_find::{ReadFault, Skip};
-use leak_passing::{Limits, Passed, PassingFault, read_passing};
+use leak_passing::{
+    Limits, Passed, PassedByTexts, PassingFault, read_passing, read_passing_by_texts,
+};
 use leak_sift::Sifters;
 use std::alloc::Global;
 use std::process::Abort;
@@ -51,6 +53,21 @@ fn pass<T: AllocGlobal + Threads + Sync>(
     Ok(pass_core(&sifters, core.as_slice(), step, ONE_BLOCK, limits, skip))
 }
 
+/// Reads the same, and keeps texts in place of the log.
+fn pass_by_texts<T: AllocGlobal + Threads + Sync>(
+    rt: &T,
+    count: u32,
+    step: usize,
+    limits: Limits,
+) -> Result<Result<PassedByTexts, PassingFault>, Fail> {
+    let alloc = rt.alloc();
+    let core = core_k(alloc, &WORDS)?;
+    let sifters = Sifters { rt, alloc, count };
+    let log = ONE_BLOCK.as_bytes();
+    let mut readers = [Steps::of(core.as_slice(), step), Steps::of(log, usize::MAX)];
+    Ok(read_passing_by_texts(&sifters, &mut readers, limits, Skip::usual()))
+}
+
 #[test]
 fn the_head_and_few_words_are_kept(rt: HostRuntime) -> Result<(), Fail> {
     for count in [1, 2, 4] {
@@ -62,6 +79,24 @@ fn the_head_and_few_words_are_kept(rt: HostRuntime) -> Result<(), Fail> {
             same(&rt, passed.words.kept(), 1);
             same(&rt, passed.log.as_slice(), ONE_BLOCK.as_bytes());
         }
+    }
+    Ok(())
+}
+
+#[test]
+fn the_text_of_the_caller_is_kept_in_place_of_the_log(rt: HostRuntime) -> Result<(), Fail> {
+    for (count, step) in [(1, 1), (2, 7), (4, 8192)] {
+        let passed = pass_by_texts(&rt, count, step, ENOUGH)??;
+        same(&rt, passed.held.len(), 536);
+        same(&rt, passed.len, 7656);
+        same(&rt, passed.words.kept(), 1);
+        same(
+            &rt,
+            passed.texts.bytes.as_slice(),
+            "./a.out:[0x401136]".as_bytes(),
+        );
+        same(&rt, passed.texts.places.first().copied(), Some((0, 18)));
+        same(&rt, passed.texts.numbers.first().copied(), Some(0));
     }
     Ok(())
 }
@@ -93,6 +128,8 @@ fn the_input_that_is_too_long_is_told(rt: HostRuntime) -> Result<(), Fail> {
     for (limits, fault) in cases {
         let passed = pass(&rt, 1, 100, limits, Skip::usual())?;
         same(&rt, passed.err(), Some(fault));
+        let by_texts = pass_by_texts(&rt, 1, 100, limits)?;
+        same(&rt, by_texts.err(), Some(fault));
     }
     Ok(())
 }

@@ -1,6 +1,7 @@
 -- From the lemmas of AnswerLemmas and HolderLemmas.
 use Rattle.std.proofs.Common.{refl}
 use Rattle.std.proofs.lemmas.Result.{err_from_is_err_and}
+use Rattle.leak_passing.specs.Passed.{IsPassed}
 use Rattle.leak_find.specs.Streams.{by_reads}
 use Rattle.leak_find.proofs.AnswerLemmas.{holding_told}
 use Rattle.leak_find.proofs.HolderLemmas.{earlier_refused, holders_read, pass_refused, tells_holding, unheld}
@@ -14,14 +15,14 @@ returns-in_err-passed-clause-refused g c =
 pub returns-in_err-earlier-clause-refused : goal.returns-in_err-earlier-clause-refused
 returns-in_err-earlier-clause-refused g c =
     let p = err_from_is_err_and c.from_residual-in_err-earlier.result c.from_residual-in_err-earlier.ensures.1 in
-    rw (p.1, p.2) (earlier_refused g.R.ReadCalls.calls c.args.options.now c.args.question c.in_ok-passed.passed c.args.readers.now c.read_passed.new.readers c.read_earlier.new.readers
+    rw (p.1, p.2) (earlier_refused g.R.ReadCalls.calls c.args.options.now c.args.question (λ core log. IsPassed core log c.args.options.now.skip c.in_ok-passed.passed) c.args.readers.now c.read_passed.new.readers c.read_earlier.new.readers
     c.read_passed.ensures.count c.in_ok-passed.ensures.ok _ c.in_err-earlier.ensures.refused.0 c.in_err-earlier.ensures.refused.1)
 
 pub returns-in-Ok-clause-ok : goal.returns-in-Ok-clause-ok
 returns-in-Ok-clause-ok g c =
     let both = c.in_ok-passed.ensures.ok in
     let o = c.args.options.now in
-    holders_read g.R.ReadCalls.calls o c.args.question c.in_ok-passed.passed c.args.readers.now c.read_passed.new.readers c.read_earlier.new.readers
+    holders_read g.R.ReadCalls.calls o c.args.question (λ core log. IsPassed core log c.args.options.now.skip c.in_ok-passed.passed) c.args.readers.now c.read_passed.new.readers c.read_earlier.new.readers
     c.read_passed.ensures.count both _ c.in_ok-earlier.earlier c.requires c.in_ok-earlier.ensures.ok
     (tells_holding o c.args.question both.holds.core both.holds.log _ c.without_leaks.result
     (holding_told o c.args.question both.holds.core both.holds.log both.holds.core both.holds.log _ _ c.in-Ok.held c.without_leaks.result refl refl c.bytes.ensures
@@ -31,6 +32,6 @@ pub returns-clause-refused : goal.returns-clause-refused
 returns-clause-refused g c =
     let both = c.in_ok-passed.ensures.ok in
     let o = c.args.options.now in
-    rw (c.at_why.ensures) (unheld g.R.ReadCalls.calls o c.args.question c.in_ok-passed.passed c.args.readers.now c.read_passed.new.readers c.read_earlier.new.readers
+    rw (c.at_why.ensures) (unheld g.R.ReadCalls.calls o c.args.question (λ core log. IsPassed core log c.args.options.now.skip c.in_ok-passed.passed) c.args.readers.now c.read_passed.new.readers c.read_earlier.new.readers
     c.read_passed.ensures.count both c.in_ok-earlier.earlier c.in-Err.error c.requires c.in_ok-earlier.ensures.ok
     (λ other. rw (← c.bytes.ensures) (c.in-Err.ensures.refused other both.holds.core both.holds.log both.holds.passed_is)))

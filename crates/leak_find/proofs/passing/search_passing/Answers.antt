@@ -1,5 +1,6 @@
 -- From the lemmas of PassLemmas.
 use Rattle.std.proofs.lemmas.Result.{err_from_is_err_and}
+use Rattle.leak_passing.specs.Passed.{IsPassedByTexts}
 use Rattle.leak_find.specs.Streams.{by_reads}
 use Rattle.leak_find.proofs.PassLemmas.{search_read, search_refused, tells_leaks, untold}
 use Rattle.leak_find.proofs.passing.search_passing.Goals as goal
@@ -7,18 +8,18 @@ use Rattle.leak_find.proofs.passing.search_passing.Goals as goal
 pub returns-in_err-passed-clause-refused : goal.returns-in_err-passed-clause-refused
 returns-in_err-passed-clause-refused g c =
     let p = err_from_is_err_and c.from_residual.result c.from_residual.ensures.1 in
-    rw (p.1, p.2) (search_refused (by_reads g.R.ReadCalls.calls) c.args.options.now c.args.readers.now c.read_passed.new.readers _ c.requires.one c.in_err-passed.ensures.refused)
+    rw (p.1, p.2) (search_refused (by_reads g.R.ReadCalls.calls) c.args.options.now c.args.readers.now c.read_passed_by_texts.new.readers _ c.requires.one c.in_err-passed.ensures.refused)
 
 pub returns-in-Ok-clause-ok : goal.returns-in-Ok-clause-ok
 returns-in-Ok-clause-ok g c =
     let both = c.in_ok-passed.ensures.ok in
-    search_read g.R.ReadCalls.calls c.args.options.now c.args.options.now.skip c.in_ok-passed.passed _ c.args.readers.now c.read_passed.new.readers c.requires.one c.requires.readers both
+    search_read g.R.ReadCalls.calls c.args.options.now (λ core log. IsPassedByTexts core log c.args.options.now.skip c.in_ok-passed.passed) _ c.args.readers.now c.read_passed_by_texts.new.readers c.requires.one c.requires.readers both
     (tells_leaks c.args.options.now c.rules_of-rules.result c.in_ok-passed.passed both.holds.core both.holds.log c.requires.one c.rules_of-rules.ensures both.holds.passed_is
     c.in-Ok.found c.answer_of.result c.in-Ok.ensures.ok c.in-Ok.ensures.signs c.answer_of.ensures)
 
 pub returns-in-Err-clause-refused : goal.returns-in-Err-clause-refused
 returns-in-Err-clause-refused g c =
     let both = c.in_ok-passed.ensures.ok in
-    search_read g.R.ReadCalls.calls c.args.options.now c.args.options.now.skip c.in_ok-passed.passed _ c.args.readers.now c.read_passed.new.readers c.requires.one c.requires.readers both
+    search_read g.R.ReadCalls.calls c.args.options.now (λ core log. IsPassedByTexts core log c.args.options.now.skip c.in_ok-passed.passed) _ c.args.readers.now c.read_passed_by_texts.new.readers c.requires.one c.requires.readers both
     (untold c.args.options.now c.rules_of-rules.result c.in_ok-passed.passed both.holds.core both.holds.log c.requires.one c.rules_of-rules.ensures both.holds.passed_is
     c.in-Err.error c.in-Err.ensures.refused)

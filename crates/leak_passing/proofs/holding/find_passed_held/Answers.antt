@@ -6,12 +6,11 @@ use Rattle.leak_sift.specs.Behind.{bytes_behind}
 use Rattle.leak_search.specs.Signs.{AreSigns}
 use Rattle.leak_search.specs.Inputs.{IsInputFault, IsReadOf}
 use Rattle.leak_search.proofs.InputLemmas.{own_core}
-use Rattle.leak_passing.proofs.ByTextLemmas.{read_as}
 use Rattle.leak_search.specs.declared.why.WhyError.TheVariants.{Find}
 use Rattle.leak_holder_search.specs.Held.{FindsHeld, IsHeldFault}
 use Rattle.leak_holder_search.specs.Since.{earlier}
 use Rattle.leak_passing.proofs.FoundLemmas.{both_ok, has_words, moved, whole_or_head}
-use Rattle.leak_passing.proofs.HoldingLemmas.{held_core, refused_held, signs_of_held}
+use Rattle.leak_passing.proofs.HoldingLemmas.{held_core, read_as, refused_held, signs_of_held}
 use Rattle.leak_passing.proofs.holding.find_passed_held.Goals as goal
 
 pub input_of_passed-requires-clause-words : goal.input_of_passed-requires-clause-words

@@ -6,11 +6,10 @@ use Rattle.leak_sift.specs.Behind.{bytes_behind}
 use Rattle.leak_search.specs.Signs.{AreSigns}
 use Rattle.leak_search.specs.Inputs.{IsInputFault, IsReadOf}
 use Rattle.leak_search.proofs.InputLemmas.{own_core}
-use Rattle.leak_passing.proofs.ByTextLemmas.{read_as}
 use Rattle.leak_holder_search.specs.Holders.{FindsHolders, IsFaultOfHolders}
 use Rattle.leak_holder_search.specs.Since.{earlier}
 use Rattle.leak_passing.proofs.FoundLemmas.{both_ok, has_words, moved, whole_or_head}
-use Rattle.leak_passing.proofs.HoldingLemmas.{holders_core, refused_holders, signs_of_holders}
+use Rattle.leak_passing.proofs.HoldingLemmas.{holders_core, read_as, refused_holders, signs_of_holders}
 use Rattle.leak_passing.proofs.holding.find_passed_holders.Goals as goal
 
 pub input_of_passed-requires-clause-words : goal.input_of_passed-requires-clause-words

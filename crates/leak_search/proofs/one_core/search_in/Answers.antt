@@ -1,25 +1,19 @@
--- From the lemmas of SearchLemmas, SearchedLemmas and SignLemmas.
-use Rattle.std.proofs.Common.{◌∙◌, ap, Err, Vec, Global, List}
+-- The input was read with the spans that it had before.
+use Rattle.std.proofs.Common.{◌∙◌}
 use Rattle.std.proofs.lemmas.Result.{err_from_is_err_and}
-use Rattle.leak_report.specs.declared.signs.Signs.{Signs}
-use Rattle.leak_search.proofs.SignLemmas.{are_of_one}
-use Rattle.leak_search.proofs.SearchLemmas.{marking_refused}
-use Rattle.leak_search.proofs.SearchedLemmas.{searches_read, fits_as}
 use Rattle.leak_search.proofs.InputLemmas.{as_input}
+use Rattle.leak_search.proofs.SignLemmas.{are_of_one}
 use Rattle.leak_search.proofs.one_core.search_in.Goals as goal
 
-pub returns-in_err-marked-clause-refused : goal.returns-in_err-marked-clause-refused
-returns-in_err-marked-clause-refused g c =
-    let p = err_from_is_err_and c.from_residual-in_err-marked.result c.from_residual-in_err-marked.ensures.1 in
-    rw (p.1) (λ other log lines read. marking_refused _ log c.args.input.now _ _ (lines, read) p.2 (λ e. c.in_err-marked.ensures.many.0 (ap Err e)) other)
+pub returns-in_err-searched-clause-refused : goal.returns-in_err-searched-clause-refused
+returns-in_err-searched-clause-refused g c =
+    let p = err_from_is_err_and c.from_residual-in_err-searched.result c.from_residual-in_err-searched.ensures.1 in
+    rw (p.1, p.2) (λ other log lines read. c.in_err-searched.ensures.refused other log lines c.args.input.heap_spans read (c.in_ok-prepared.ensures.roots lines (as_input _ log lines _ read)))
 
 pub returns-clause-ok : goal.returns-clause-ok
 returns-clause-ok g c = λ log lines read.
-    searches_read log lines _ _ _ _ c.args.input.now _ _ c.in_ok-marked.marked _ read c.requires.skip c.in_ok-marked.ensures.many.1
-    c.in_ok-indexed.ensures.lookup (c.in_ok-indexed.ensures.roots lines (as_input _ log lines _ read)) c.in_ok-marked.ensures.marks
-    (c.in_ok-searched_of.ensures.head ∙ c.head_of-head.ensures) (fits_as c.in_ok-searched_of.ensures.fits c.in_ok-consistency.ensures.fits)
-    c.in_ok-searched_of.ensures.set c.in_ok-searched_of.ensures.heads c.in_ok-searched_of.ensures.claims
+    c.in_ok-searched.ensures.ok c.args.lists_misfits c.in_ok-prepared.ensures.fits log lines c.args.input.heap_spans read (c.in_ok-prepared.ensures.roots lines (as_input _ log lines _ read))
 
 pub returns-clause-signs : goal.returns-clause-signs
 returns-clause-signs g c = λ log lines read.
-    are_of_one _ _ log c.args.input.now _ (lines, read) (ap (λ (v : Vec Signs Global). v.items) c.in_ok-searched_of.ensures.signs ∙ c.in_ok-consistency.ensures.signs)
+    are_of_one _ _ log c.args.input _ (lines, read) (c.in_ok-searched.ensures.signs ∙ c.in_ok-prepared.ensures.signs)
