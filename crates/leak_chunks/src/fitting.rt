@@ -19,25 +19,30 @@ pub fn fits<W: Words>(alloc: Global, words: &W, live: &Live) -> Result<Vec<bool>
     let mut fits = Vec::with_capacity(alloc, blocks.len())?;
     let mut near = Near::new(words);
     for block in blocks {
-        near.go_to(block.start.saturating_sub(8));
-        fits.push(fits_core(&near, block))?;
+        fits.push(fits_core(&mut near, block))?;
     }
     Ok(fits)
 }
 
-/// Whether the memory has a chunk in use of the block's size.
+/// Whether the memory has a chunk in use of the block's size. It looks last at the next chunk's size word, which most
+/// often is the size word of the next block.
 #[tactic(auto, unfolding(crate::specs::Fit::fits_core))]
-fn fits_core<W: Words>(words: &W, block: &Block) -> bool
+fn fits_core<W: Words>(near: &mut Near<'_, W>, block: &Block) -> bool
     requires { 0 < block.now.start }
-    ensures { result ≡ fits_core (W.word_at words.now) block.now }
+    ensures fits { result ≡ fits_core (W.word_at near.old.words.now) block.now }
+    ensures same { near.new.words.now ≡ near.old.words.now }
 {
     if block.start % 16 != 0 {
         return false;
     }
-    match words.word(block.start - 8) {
-        Some(word) => fits_word(words, block, SizeWord(word)),
-        None => false,
-    }
+    let place = block.start - 8;
+    near.go_to(place);
+    let Some(word) = near.word(place) else {
+        return false;
+    };
+    let word = SizeWord(word);
+    near.look_at(place.saturating_add(word.chunk_size()));
+    fits_word(near, block, word)
 }
 
 /// Whether the size word, which is the word before the block, is that of a chunk in use of the block's size.

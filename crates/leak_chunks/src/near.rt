@@ -6,14 +6,18 @@ ghost use Rattle.leak_elf.specs.Words.{IsRun};
 
 use leak_elf::Words;
 
-/// Words of memory. It keeps a run of them, and searches no segment for a word of the run.
+/// Words of memory. It keeps a run of them and, where memory has no runs, the last word that was looked at. For these
+/// it searches no segment.
 #[derive(Drop)]
 pub(crate) struct Near<'a, W: Words> {
     pub(crate) words: &'a W,
     /// Where the kept run begins.
     from: u64,
     run: &'a [u8],
+    /// The place that was looked at last, and what is there.
+    last: (u64, Option<u64>),
     ghost kept: { IsRun (W.word_at words.now) from run.now },
+    ghost looked: { last.1 ≡ W.word_at words.now last.0 },
 }
 
 impl<'a, W: Words> Near<'a, W> {
@@ -25,22 +29,40 @@ impl<'a, W: Words> Near<'a, W> {
             words,
             from: 0,
             run: &[],
+            last: (0, words.word(0)),
         }
     }
 
-    /// Keeps the run from the address on, unless the kept one goes on past it.
+    /// Keeps the run from the address on, unless the kept one goes on past it, or the word there was looked at last.
     pub(crate) fn go_to(&mut self, addr: u64)
         ensures { self.new.words.now ≡ self.old.words.now }
     {
-        let distance = addr.saturating_sub(self.from);
-        if addr < self.from || distance >= self.run.len() as u64 {
-            let words = self.words;
-            *self = Near {
-                words,
-                from: addr,
-                run: words.run(addr),
-            };
+        if self.has(addr) || addr == self.last.0 {
+            return;
         }
+        let words = self.words;
+        *self = Near {
+            words,
+            from: addr,
+            run: words.run(addr),
+            last: self.last,
+        };
+    }
+
+    /// Looks at the word at the address, unless the kept run has that address.
+    pub(crate) fn look_at(&mut self, addr: u64)
+        ensures { self.new.words.now ≡ self.old.words.now }
+    {
+        if !self.has(addr) {
+            let words = self.words;
+            self.last = (addr, words.word(addr));
+        }
+    }
+
+    /// Whether the kept run has the byte at the address.
+    fn has(&self, addr: u64) -> bool {
+        let distance = addr.saturating_sub(self.from);
+        self.from <= addr && distance < self.run.len() as u64
     }
 }
 
@@ -48,6 +70,9 @@ impl<'a, W: Words> Words for Near<'a, W> {
     ghost word_at = { λ near. W.word_at near.words.now };
 
     fn word(&self, addr: u64) -> Option<u64> {
+        if addr == self.last.0 {
+            return self.last.1;
+        }
         match word_of_run(self.run, self.from, addr) {
             Some(word) => Some(word),
             None => self.words.word(addr),

@@ -79,5 +79,6 @@ IsPassingFault calls limits (Log f) was is =
 abbrev pub OfPassed : Skip → Passed → (List ℕ → List ℕ → Type 0) → Type 0
 OfPassed skip passed Holds = (core log : List ℕ) → IsPassed core log skip passed → Holds core log
 
+-- and where the texts were kept in place of the log
 abbrev pub OfPassedByTexts : Skip → PassedByTexts → (List ℕ → List ℕ → Type 0) → Type 0
 OfPassedByTexts skip passed Holds = (core log : List ℕ) → IsPassedByTexts core log skip passed → Holds core log

@@ -1,7 +1,5 @@
 -- A live block's caller is that of its line.
-use Rattle.std.proofs.Common.{◌≡◌, ◌-◌, ℕ, suc, zero, List, [], ◌∷◌, Some, sym, ap, subst}
-use Rattle.std.specs.Prelude.{slice_get}
-use Rattle.std.specs.List.{AllByRecursion}
+use Rattle.std.proofs.Common.{◌-◌, ℕ, List, sym, ap, subst}
 use Rattle.leak_mtrace.specs.declared.line.Line.{Line}
 use Rattle.leak_mtrace.specs.Log.{IsCallerIn, CallersAreIn}
 use Rattle.leak_blocks.specs.declared.block.Block.{Block}

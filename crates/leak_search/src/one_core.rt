@@ -78,8 +78,8 @@ pub fn find_in<R: std::thread::Threads + Sync, G: Gate + Sync>(
 }
 
 /// Does all of [`find_in`] but write the report, which [`found_of`] does of the live blocks that it gives back. So it
-/// needs none of the log's bytes. As soon as the root words are found it lets go of the spans whose freed places are left
-/// out.
+/// needs none of the log's bytes. As soon as the root words are found it lets go of the spans whose freed places are
+/// left out.
 ///
 /// # Errors
 ///
@@ -108,7 +108,7 @@ pub fn search_in<R: std::thread::Threads + Sync, G: Gate + Sync>(
 }
 
 /// Searches an input from what was found before it is marked. The root words are let go when the blocks are marked.
-/// Which spans the input still has is all one.
+/// The result does not depend on the spans that the input still has.
 fn search_from<R: std::thread::Threads + Sync, G: Gate + Sync>(
     workers: &Workers<'_, R, G>,
     alloc: Global,

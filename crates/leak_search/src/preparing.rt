@@ -14,7 +14,7 @@ use std::alloc::{AllocError, Global};
 use std::thread::{Threads, join};
 
 /// How many live blocks an input has at least, if a thread is started for its root words. Own rule: to ask so many
-/// blocks whether they fit takes some times as long as the start of a thread.
+/// blocks whether they fit takes several times as long as the start of a thread.
 const MANY: usize = 16_384;
 
 /// What is found of an input before its blocks are marked.

@@ -160,7 +160,7 @@ fn every_second(text: &mut String) -> Result<(), Fail> {
     Ok(())
 }
 
-/// The lines are far more than the log's front lets expect, and the blocks ascend.
+/// The log has far more lines than its front suggests, and the blocks ascend.
 #[test]
 fn ascending_blocks_after_a_long_line(rt: HostRuntime) -> Result<(), Fail> {
     let mut text = String::new(rt.alloc());

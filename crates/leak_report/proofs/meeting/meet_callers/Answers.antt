@@ -19,10 +19,10 @@ loop-block-preserved c =
     let more : texts_of log (take (i + 1) blocks) ≡ texts_of log (take i blocks) ++ c.caller_text-text.result.now ∷ [] =
     map_more (λ (b : Block). text_at log b.caller) blocks i none c.loop-block-test.true
     ∙ ap (λ (t : List ℕ). texts_of log (take i blocks) ++ t ∷ []) (sym c.caller_text-text.ensures) in
-    let so : AreSoFar (texts_of log (take i blocks) ++ c.caller_text-text.result.now ∷ []) (bytes_each c.meet.new.texts.items) (c.loop-block.numbers.items ++ c.in_ok-meet.field-0 ∷ []) =
-    so_far_more (texts_of log (take i blocks)) (bytes_each c.loop-block.texts.items) (bytes_each c.meet.new.texts.items) c.loop-block.numbers.items c.caller_text-text.result.now c.in_ok-meet.field-0
-    c.loop-block.invariant.1 c.in_ok-meet.ensures.number in
-    (c.in_ok-meet.ensures.more, rw (more, c.in_ok-push.ensures.items) so)
+    let so : AreSoFar (texts_of log (take i blocks) ++ c.caller_text-text.result.now ∷ []) (bytes_each c.meet_again.new.texts.items) (c.loop-block.numbers.items ++ c.in_ok-number.number ∷ []) =
+    so_far_more (texts_of log (take i blocks)) (bytes_each c.loop-block.texts.items) (bytes_each c.meet_again.new.texts.items) c.loop-block.numbers.items c.caller_text-text.result.now c.in_ok-number.number
+    c.loop-block.invariant.1 c.in_ok-number.ensures.number in
+    (c.in_ok-number.ensures.more, rw (more, c.in_ok-push.ensures.items) so)
 
 pub returns : goal.returns
 returns c =
