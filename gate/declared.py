@@ -12,7 +12,7 @@ TYPE = re.compile(r"^(?:# \[.*\] )?(?:pub (?:\( [\w :]+ \) )?)?(?:struct|enum|un
 # A trait's head; the first line of what it has, and the end of a function of it that has a body. A head of a function alone.
 TRAIT = re.compile(r"\btrait \w+")
 HEAD = re.compile(r"fn .* ;$")
-MEMBER = re.compile(r"fn |    \S")
+MEMBER = re.compile(r"\S|    \S")
 BODY = "{ }"
 RENAMED = re.compile(r"^pub (?:use [\w :]+ as (\w+) ;|type (\w+) )")
 IMPL = re.compile(r"\bimpl (.*?)(?: where | as | ?\{|$)")
@@ -20,7 +20,7 @@ IMPL = re.compile(r"\bimpl (.*?)(?: where | as | ?\{|$)")
 
 class Item(NamedTuple):
     """A declaration of a library: its name, the type that it is a function of, whether it is a function, its text, whose it is, and
-    whether it is a trait's function that has a body, or a type that only definitions can name."""
+    whether it is a trait's function that has a body, or a type or constant that only definitions and clauses can name."""
     name: str
     type: str | None
     is_function: bool
@@ -79,7 +79,7 @@ def items_of_trait(lines, name):
         if MEMBER.match(line):
             members.append([])
         members[-1].append(line)
-    functions = [it for it in members if it and it[0].startswith("fn ") and it[-1].rstrip().endswith(BODY)]
+    functions = [it for it in members if it and FUNCTION.search(it[0]) and it[-1].rstrip().endswith(BODY)]
     others = [line for it in members if it not in functions for line in it]
     trait = Item(name, None, False, "\n".join([lines[0], *others, lines[-1]]))
     return [trait, *(Item(FUNCTION.search(it[0])[1], name, True, "\n".join([lines[0], *it]), is_default=True) for it in functions)]
@@ -122,7 +122,8 @@ def imports_of(file, item):
 
 
 def items_in(root, name):
-    """Returns what a built library declares to others, and the types that its definitions can name, each with the imports of what it names."""
+    """Returns what a built library declares to others, and the types and constants that its definitions can name, each with the imports of
+    what it names."""
     library = f"{root}/crates/{name}/out/rlib/{name}.rlib"
     for path in files_below(f"{library}/lang/src"):
         whole, public = text_of(path), path.replace(".rlib/lang/", ".rlib/interface/lang/")

@@ -9,8 +9,9 @@ What is named is found by words, so in whatever form: a function's head with its
 text, and so are its library's and its type's, or, where it takes a value of the type, the name stands behind a dot or a path there,
 and the type is known; a type, a trait, a renaming and what is said of a type, if the name is a word of anything read so far, but of
 a trait's functions that have a body by default only those that the crate's Rust calls or writes, and a type that isn't public only if
-a definition names it, or another such type; of a module of definitions whose path stands there, those that stand behind it, and those
-that these name. A name that means something else is followed too, which only tries a crate again that need not be.
+a definition names it, or another such type, as with a constant that isn't, which a clause can name too; of a module of definitions
+whose path stands there, those that stand behind it, and those that these name. A name that means something else is followed too, which
+only tries a crate again that need not be.
 
 A body that is wrong by a contract stays so whatever becomes of bodies, inner functions and lemmas of the crates below, so these
 count nowhere, nor does a crate that declares nothing, as one of lemmas alone; nor do lines that are comments, but in wrong bodies.
@@ -31,8 +32,9 @@ PATH = re.compile(r"\b(\w+)(?:\.|\s*::\s*)specs((?:(?:\.|\s*::\s*)\w+)+)(?:\.\{(
 # In such a module: an import, and the first line of a definition, or of what else it has.
 BRINGS = re.compile(r"(?:pub )?use ")
 DEFINES = re.compile(r"(?:(?:abbrev|unfoldable|pub|record|data|mod) )*(\S+)")
-# By what path definitions name a type of Rust's.
-DECLARED = re.compile(r"\bspecs\.declared((?:\.\w+)+)")
+# By what path definitions name a type of Rust's, or constants, which are in braces; a constant as a clause names it.
+DECLARED = re.compile(r"\bspecs\.declared((?:\.\w+)+(?:(?<=\.TheConstants)\.\{[^}]*\})?)")
+CONSTANT = re.compile(r"\b[A-Z][A-Z0-9_]*\b")
 CALLED = re.compile(r"(?:\.|::)\s*(\w+)")
 WRITTEN = re.compile(r"\bfn (\w+)")
 SELF = re.compile(r"\( (?:& (?:'\w+ )?)?(?:mut )?self\b")
@@ -113,25 +115,28 @@ def named_in(root, below, own, rust):
     that these name in turn."""
     items = [it for name in sorted(below) for it in items_in(root, name)]
     waiting, found, words, files, calls = [own], [], set(), {}, set(CALLED.findall(own))
-    taken, declared = set(CALLED.findall(rust)) | set(WRITTEN.findall(rust)), set()
+    # (named: the types and constants of Rust's that definitions name, or clauses)
+    taken, named = set(CALLED.findall(rust)) | set(WRITTEN.findall(rust)), set()
     called = set(WORD.findall(own)).union(*(WORD.findall(it.text) for it in items if RENAMED.search(it.text)))
     libraries = libraries_named(root, below, called)
     # (a function that takes no value of its type is called by a path, from its library and that type)
     is_of_path = lambda it: it.library in libraries and it.type in called | {None}
     is_called = lambda it: it.name in calls and it.type in words if SELF.search(it.text) else it.name in called and is_of_path(it)
+    is_taken = lambda it: it.name in taken and it.type in words
+    is_known = lambda it: it.name in (named if it.is_inner else words)
+    is_reached = lambda it: is_taken(it) if it.is_default else is_called(it) if it.is_function else is_known(it)
     while waiting:
         text = waiting.pop()
         words.update(WORD.findall(text))
-        declared.update(name for path in DECLARED.findall(text) for name in WORD.findall(path))
+        named.update(name for path in DECLARED.findall(text) for name in WORD.findall(path))
+        # (what the crate's own text has in capitals are its own constants, or public ones)
+        named.update(CONSTANT.findall(text) if text is not own else ())
         new = {file: it - files.get(file, set()) for file, it in definitions_at(root, below, text).items()}
-        is_taken = lambda it: it.name in taken and it.type in words
-        is_known = lambda it: it.name in (declared if it.is_inner else words)
-        is_reached = lambda it: is_taken(it) if it.is_default else is_called(it) if it.is_function else is_known(it)
         reached = [it for it in items if is_reached(it)]
         items = [it for it in items if not is_reached(it)]
         files |= {file: it | files.get(file, set()) for file, it in new.items()}
         # (what an inner type consists of)
-        declared.update(name for it in reached if it.is_inner for name in WORD.findall(it.text))
+        named.update(name for it in reached if it.is_inner for name in WORD.findall(it.text))
         found += (it.text for it in reached)
         waiting += [*(part for it in new.values() for part in it), *(it.text for it in reached)]
     return sorted(found), {file: "\n".join(sorted(it)) for file, it in files.items()}

@@ -22,13 +22,18 @@ pub struct Inner { pub kind : u64 , }
 pub ( crate ) struct Secret { pub part : Part , }
 struct Part { size : u64 , }
 struct Step { size : u64 , }
+const LEAST : u64 = 31 ;
+# [ read_as = "3" ] const MOST : u64 = 32 ;
+const STEPS : u64 = 33 ;
+const FRONT : u64 = 34 ;
 pub fn one ( kind : Kind )
     ensures { IsOne result } ;
 pub fn two ( other : Other )
     ensures { IsTwo } ;
 pub fn hidden ( ) -> u64
     ensures least { 3 ≤ result }
-    ensures most { result ≤ 4 } ;
+    ensures most { result ≤ 4 }
+    ensures limit { result ≤ MOST } ;
 fn inner ( )
     ensures { IsTwo } ;
 impl Kind {
@@ -48,6 +53,8 @@ pub trait Calls {
     ghost count: { Self → ℕ };
 fn next ( & self ) -> u64
         ensures { 13 ≤ result } ;
+# [ cold ] # [ inline ( always ) ] fn second ( & self ) -> u64
+        ensures { 18 ≤ result } { }
 fn first ( & self ) -> u64
         ensures { 14 ≤ result } { }
 fn last ( & self ) -> u64
@@ -69,15 +76,18 @@ fn next ( & mut self ) -> u64 ;
 }
 """
 INNER = "fn inner ( )\n    ensures { IsTwo } ;\n"
-HIDDEN = r"^(?:ghost use|pub \( crate \)|struct) .*\n"
+HIDDEN = r"^(?:ghost use|pub \( crate \)|struct|(?:# \[ read_as = \S+ \] )?const) .*\n"
 PUBLIC = re.sub(r"(ensures(?: \w+)?) \{[^}]*\}", r"\1 { }", re.sub(HIDDEN, "", WHOLE.replace(INNER, ""), flags=re.M))
 FILES = {f"{LOW}/interface/lang/src/lib.rt": PUBLIC, f"{LOW}/lang/src/lib.rt": WHOLE,
          "crates/low/specs/A.antt": "use Rattle.low.specs.B.{one, two}\nuse Rattle.low.specs.C.{three}\n"
                                     "use Rattle.low.specs.declared.lib.Inner.{Inner}\nuse Rattle.low.specs.declared.lib.Secret.{Secret}\n"
-                                    "abbrev pub IsOne : Inner → Secret → ℕ\nIsOne n m = one n half\n"
+                                    "use Rattle.low.specs.declared.lib.TheConstants.{LEAST}\n"
+                                    "abbrev pub IsOne : Inner → Secret → ℕ\nIsOne n m = one n half + LEAST\n"
                                     "abbrev pub half : ℕ\nhalf = 1\npub record IsThree (n : ℕ) : Type 0 where\n  pub is : three n\n",
          "crates/low/specs/B.antt": "b\n", "crates/low/specs/C.antt": "c\n", "crates/low/specs/D/E.antt": "e\n",
-         "crates/sums/src/lib.rt": "fn all(it: impl Calls) { low::one(it).size(); low::shown(); low::Maker::made(); let Step = it.first(); } impl Calls for Own { fn last(&self) -> u64 { 15 } } // unfolding(low::specs::D::E::e)\n",
+         "crates/sums/src/lib.rt": "fn all(it: impl Calls) { low::one(it).size(); low::shown(); low::Maker::made(); let Step = it.first() + it.second() + STEPS; } impl Calls for Own { fn last(&self) -> u64 { 15 } } // unfolding(low::specs::D::E::e)\n",
+         "crates/sums/specs/G.antt": "use Rattle.low.specs.declared.lib.TheConstants.{FRONT}\n"
+                                     "use Rattle.low.specs.declared.lib.Ways.TheVariants.{Step}\n",
          "crates/sums/specs/F.antt": "f\n", "crates/sums/proofs/f/Answers.antt": "f\n", "crates/sums/wrong/f.edit": "f\n",
          "crates.txt": "sums: low\nlow:\nother: sums\n"}
 # Files, and what is written in them in the place of what: what a check of `sums` reads,
@@ -90,6 +100,8 @@ READ = [
     (f"{LOW}/lang/src/lib.rt", "≡ 5", "≡ 6"),  # of a type that the head of such a function names
     (f"{LOW}/lang/src/lib.rt", "12 ≤", "11 ≤"),  # of a type that is named, without a value of it
     (f"{LOW}/lang/src/lib.rt", "13 ≤", "12 ≤"),  # of a trait that is named
+    (f"{LOW}/*/src/lib.rt", "fn next ( & self ) -> u64", "fn next ( & self ) -> u32"),  # where a function with attributes stands behind it
+    (f"{LOW}/lang/src/lib.rt", "18 ≤", "17 ≤"),  # of that function, which has a body and is called
     (f"{LOW}/lang/src/lib.rt", "14 ≤", "13 ≤"),  # of a function that it has a body for, and that is called
     (f"{LOW}/lang/src/lib.rt", "15 ≤", "14 ≤"),  # or that is written
     (f"{LOW}/*/src/lib.rt", "Kind { pub size : u64", "Kind { pub size : u32"),
@@ -97,6 +109,9 @@ READ = [
     (f"{LOW}/*/src/lib.rt", "Inner { pub kind : u64", "Inner { pub kind : u32"),  # a type that a definition names
     (f"{LOW}/lang/src/lib.rt", "part : Part", "part : u64"),  # and that isn't public; what it consists of
     (f"{LOW}/lang/src/lib.rt", "Part { size : u64", "Part { size : u32"),
+    (f"{LOW}/lang/src/lib.rt", "= 31", "= 30"),  # a constant that isn't public, and that a definition names
+    (f"{LOW}/lang/src/lib.rt", "= 32", "= 31"),  # or a clause
+    (f"{LOW}/lang/src/lib.rt", "= 34", "= 35"),  # or a definition of the crate's own
     ("crates/low/specs/A.antt", "B.{one", "C.{one"),  # definitions of a clause, and of definitions, and by a path of Rust's
     ("crates/low/specs/A.antt", "half = 1", "half = 2"),  # one that another names in the same module
     ("crates/low/specs/B.antt", "b", "c"), ("crates/low/specs/D/E.antt", "e", "f")]
@@ -109,7 +124,8 @@ UNREAD = [
     (f"{LOW}/lang/src/lib.rt", "Other )\n    ensures { IsTwo }", "Other )\n    ensures { IsTwo 2 }"),
     (f"{LOW}/*/src/lib.rt", "Other { pub size : u64", "Other { pub size : u32"),
     (f"{LOW}/*/src/lib.rt", "fn next ( & mut self ) -> u64 ;\n", ""),  # a head of a trait's function alone, where a type has it
-    (f"{LOW}/lang/src/lib.rt", "Step { size : u64", "Step { size : u32"),  # one that no definition names
+    (f"{LOW}/lang/src/lib.rt", "Step { size : u64", "Step { size : u32"),  # one that no definition names, but a variant
+    (f"{LOW}/lang/src/lib.rt", "= 33", "= 34"),  # a constant likewise, whose name the crate's own text has
     (f"{LOW}/lang/src/lib.rt", "16 ≤", "15 ≤"), (f"{LOW}/*/src/lib.rt", "fn rest ( & self )", "fn rest ( & self , most : u64 )"),
     (f"{LOW}/lang/src/lib.rt", "11 ≤", "12 ≤"), (f"{LOW}/lang/src/lib.rt", "≡ 6", "≡ 7"), (f"{LOW}/lang/src/lib.rt", "≡ 7", "≡ 8"),
     ("crates/low/specs/C.antt", "c", "d"), ("crates/low/specs/A.antt", "{three}", "{three}\n-- three"),
