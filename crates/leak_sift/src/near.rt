@@ -1,5 +1,5 @@
 //! Whether a place is near a live block.
-ghost use Rattle.std.specs.Prelude.{◌≡◌, ◌+◌, ◌-◌, ◌<◌, ◌≤◌, length, slice_index_or, Bool, IsTrue};
+ghost use Rattle.std.specs.Prelude.{◌≡◌, ◌+◌, ◌-◌, ◌<◌, ◌≤◌, ℕ, length, slice_index_or, false, IsTrue};
 ghost use Rattle.leak_blocks.specs.Span.{AreDisjoint};
 ghost use Rattle.leak_chunks.specs.Fit.{least_chunk};
 ghost use Rattle.leak_index.specs.Ranks.{none};
@@ -72,28 +72,48 @@ pub(crate) fn is_near(blocks: &[Block], links: bool, count: usize, place: u64) -
 }
 
 /// Up to which place, that one excluded, no place from this one on is near a block, given how many have their size word
-/// there or before it. Close to the start of a block or behind its end it looks no further, and gives the place.
-pub(crate) fn calm_end(blocks: &[Block], count: usize, place: u64) -> u64
+/// there or before it. Where more than two blocks can be near, it looks no further, and gives the place.
+pub(crate) fn calm_end(blocks: &[Block], links: bool, count: usize, place: u64) -> u64
     requires disjoint { AreDisjoint blocks.now }
     requires passed { IsPassed blocks.now place count }
-    ensures { (links : Bool) → AreCalm blocks.now links place result }
+    ensures { AreCalm blocks.now links place result }
 {
     let next = next_size_place(blocks, count);
     if count == 0 {
         return next;
     }
     let last = blocks[count - 1];
-    if place.saturating_sub(last.start) < FARTHEST {
+    let end = near_from(&last, links, place).min(next);
+    if count == 1 || place.saturating_sub(last.start) >= FARTHEST {
+        return end;
+    }
+    let before = blocks[count - 2];
+    if place.saturating_sub(before.start) < FARTHEST {
         return place;
     }
-    let end = last.start.saturating_add(last.size);
-    if place < end {
-        return end.min(next);
-    }
-    if place - end <= FARTHEST {
+    near_from(&before, links, place).min(end)
+}
+
+/// From the place on, the first place that is near the block. If there is none, the last place of all; up to the block's
+/// size word, the place.
+fn near_from(block: &Block, links: bool, place: u64) -> u64
+    ensures { (other : ℕ) → place ≤ other → other < result
+        → is_near_block links other block.now ≡ false }
+{
+    if place <= size_place(block) {
         return place;
     }
-    next
+    let end = block.start.saturating_add(block.size);
+    let end = end.saturating_add(padding(block.size));
+    if place <= end {
+        return end;
+    }
+    match place - end {
+        1..=8 if links => end.saturating_add(8),
+        1..=16 => end.saturating_add(16),
+        17..=32 => end.saturating_add(32),
+        _ => u64::MAX,
+    }
 }
 
 /// Where the size word of the first block behind so many is. If there is none, the last place of all.

@@ -140,7 +140,8 @@ impl<'a> Sieve<'a> {
         if is_near(self.blocks, self.links, self.passed, place) {
             return true;
         }
-        self.calm = (place, calm_end(self.blocks, self.passed, place));
+        let end = calm_end(self.blocks, self.links, self.passed, place);
+        self.calm = (place, end);
         false
     }
 }
