@@ -109,8 +109,9 @@ settle() {
     echo "process $1 does not come to rest" >&2
 }
 
-# is_program PID: whether leak_trace has become the program, or is gone.
-is_program() { ! grep -qsxE 'leak_trace|bash' "/proc/$1/comm"; }
+# is_program PID: whether the shell of the tests has become leak_trace, and that the program, or is gone.
+own_name=$(cat /proc/$$/comm)
+is_program() { ! grep -qsxE "leak_trace|bash|$own_name" "/proc/$1/comm"; }
 
 # start PROGRAM ARGS..: runs it traced in the background, gives its id in `process`, and waits until it rests, or as
 # many seconds as `wait` says.
@@ -129,7 +130,7 @@ be_ready() {
     "${@:2}" > "$1.out" 2>&1 &
     process=$!
     started[$process]=1
-    until_true 30 grep -qsx ready "$1.out" || echo "no sign of $1: $(cat "$1.out")" >&2
+    until_true 60 grep -qsx ready "$1.out" || echo "no sign of $1: $(cat "$1.out")" >&2
     sleep 0.1
 }
 

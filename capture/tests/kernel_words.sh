@@ -5,14 +5,14 @@ build kernel_threads.c
 build_faulty faulty_calls
 words_of() { python3 "$kit/tests/kernel_words.py" "$1"; }
 
-# ready NAME PROGRAM WORD..: runs it, its output in NAME.out, until it says that it is ready. Its id is in `process`.
+# ready NAME PROGRAM WORD..: runs it, its output in NAME.out, until it says that it is ready, and its first thread
+# waits. Its id is in `process`.
 ready() {
-    "${@:2}" > "$1.out" 2>&1 &
-    process=$!
-    started[$process]=1
-    until_true 60 grep -qsx ready "$1.out" || echo "no sign of $1: $(cat "$1.out")" >&2
-    sleep 0.2
+    be_ready "$@"
+    until_true 60 waits "$process"
 }
+# waits PID: whether the first thread waits in the kernel.
+waits() { ! grep -qs '^running' "/proc/$1/syscall"; }
 
 # lost_by NAME [OPTION..]: a dump by these options, and the sizes that its report names. NAME.said has what leak_core
 # says.
@@ -111,7 +111,7 @@ unusual() {
     local before
     before=$(wc -l < states.out)
     kill -USR1 "$process"
-    until_true 30 has_lines "$((before + 1))"
+    until_true 60 has_lines "$((before + 1))"
     tail -n 1 states.out
 }
 has_lines() { [ "$(wc -l < states.out)" -ge "$1" ]; }
