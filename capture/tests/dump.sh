@@ -9,7 +9,9 @@ states() { cat /proc/"$1"/task/*/status | awk '/^State:/ { state = $2 } /^Tracer
     uniq -c | xargs; }
 # has_states PID STATES, for until_true; is_as_it_was: the same in words.
 has_states() { [ "$(states "$1")" = "$2" ]; }
-is_as_it_was() { until_true 5 has_states "$1" "$2" && echo same || states "$1"; }
+is_as_it_was() { until_true 60 has_states "$1" "$2" && echo same || states "$1"; }
+# all_pause PID: whether each of its threads is in pause().
+all_pause() { ! awk '{ print $1 }' "/proc/$1"/task/*/syscall | grep -qvx 34; }
 
 # bytes_there PID: what is in memory or swapped out.
 bytes_there() { awk '/^(Rss|Swap):/ { kilobytes += $2 } END { print kilobytes * 1024 }' "/proc/$1/smaps_rollup"; }
@@ -23,10 +25,11 @@ be_ready vfork ./dump_many vfork
 vfork=$process
 verdict 'a parent by vfork is refused, in time' \
     "leak_core: thread $vfork of process $vfork does not stop (state D): it waits in the \
-kernel for a device, or by vfork for a child; try again later" "$(limited 5 "$kit/leak_core" "$vfork" vfork.core 2>&1)"
+kernel for a device, or by vfork for a child; try again later" "$(limited 60 "$kit/leak_core" "$vfork" vfork.core 2>&1)"
 printf 'a table' > table.file
 be_ready kinds ./dump_kinds table.file
 kinds=$process
+until_true 60 all_pause "$kinds"
 before=$(states "$kinds")
 size=$("$kit/leak_core" --size "$kinds")
 core_of "$kinds" kinds.core
@@ -69,13 +72,13 @@ wait_at() {
     : > said
     LEAK_CORE_WAIT=$1 ./faulty "${@:2}" 2> said &
     dumper=$!
-    until_true 10 dumper_waits
+    until_true 60 dumper_waits
 }
 dumper_waits() { grep -q '^waits' said || [ ! -d "/proc/$dumper" ] || grep -q '^State:.*Z' "/proc/$dumper/status"; }
 # try_step HOW N: a dump that ends badly at the step N. Says what is wrong then.
 try_step() {
     case $1 in
-    fail) LEAK_CORE_FAIL=$2 limited 20 ./faulty --copy table.file bad.table "$kinds" bad.core 2> said; status=$? ;;
+    fail) LEAK_CORE_FAIL=$2 limited 60 ./faulty --copy table.file bad.table "$kinds" bad.core 2> said; status=$? ;;
     *) wait_at "$2" --copy table.file bad.table "$kinds" bad.core
         kill -"$1" $dumper
         { wait $dumper; } 2> /dev/null
@@ -131,7 +134,7 @@ verdict 'no process' 'leak_core: no process 4194304' "$("$kit/leak_core" 4194304
         "$("$kit/leak_core" 2 none.core 2>&1)"
 verdict 'no number' "leak_core: '12x' is not a PID" "$("$kit/leak_core" 12x none.core 2>&1)"
 kill -STOP "$kinds"
-until_true 5 has_states "$kinds" "$(echo "$before" | tr S T)"
+until_true 60 has_states "$kinds" "$(echo "$before" | tr S T)"
 core_of "$kinds" stopped.core
 verdict 'a stopped process stays stopped' same "$(sleep 0.2; is_as_it_was "$kinds" "$(echo "$before" | tr S T)")"
 kill -CONT "$kinds"
@@ -141,10 +144,15 @@ stop "$kinds"
 section many threads, mappings, signals
 be_ready signals ./dump_many signals
 signals=$process dumps_taken=0
-while ! grep -qs taken signals.out && [ $dumps_taken -lt 500 ] && [ -d "/proc/$signals" ]; do
+for _ in {1..500}; do
     "$kit/leak_core" "$signals" signals.core 2> said && dumps_taken=$((dumps_taken + 1))
+    [ $dumps_taken -lt 2 ] || touch enough
+    ! grep -qs taken signals.out && [ -d "/proc/$signals" ] || break
 done
-verdict 'no signal is lost' 'taken 2000' "$(tail -n 1 signals.out)"
+touch enough
+until_true 120 grep -qs taken signals.out
+verdict 'no signal is lost' all \
+    "$(awk '/taken/ { print ($2 >= 2000 && $4 == $2 ? "all" : $0) }' signals.out)"
 verdict 'dumps were taken while signals came' yes "$([ $dumps_taken -ge 2 ] && echo yes)"
 be_ready threads ./dump_many threads
 core_of "$process" threads.core
@@ -169,7 +177,7 @@ verdict 'a process whose first thread has ended' 1 "$(reads notes headless.core 
 stop "$process"
 be_ready storm ./dump_many storm
 for i in 1 2 3 4 5 6 7 8; do
-    limited 30 "$kit/leak_core" "$process" storm.core 2> storm.core.said || cat storm.core.said
+    limited 60 "$kit/leak_core" "$process" storm.core 2> storm.core.said || cat storm.core.said
     reads notes storm.core | tr ' ' '\n' |
         awk '/^0x1$/ { threads++ } /^0x202$/ { sets++ } END { print (threads >= 5 && threads == sets) }'
 done > storms
@@ -201,7 +209,8 @@ if [ "$limit" -gt 70100 ] || echo 100000 2> /dev/null > /proc/sys/vm/max_map_cou
 else
     leave_out "70,000 mappings: vm.max_map_count is $limit"
 fi
-until_true 10 grep -qs went vfork.out
+kill "$(pgrep -P "$vfork")"
+until_true 60 grep -qs went vfork.out
 verdict 'the parent by vfork goes on' 'went on' "$(tail -n 1 vfork.out)"
 
 section which way leak_dump goes

@@ -7,6 +7,7 @@
 #include <stdlib.h>
 #include <string.h>
 #include <sys/mman.h>
+#include <sys/prctl.h>
 #include <sys/wait.h>
 #include <unistd.h>
 
@@ -110,32 +111,41 @@ static void take(int number)
     taken++;
 }
 
-/* A child sends signals that queue; the process counts those that it takes. */
+/* Signals that queue, SIGNALS of them, and more until the file `enough` is there. */
+static void send_signals(volatile int *sent)
+{
+    prctl(PR_SET_PDEATHSIG, SIGKILL);
+    for (; *sent < SIGNALS || access("enough", F_OK); ++*sent) {
+        while (sigqueue(getppid(), SIGRTMIN, (union sigval){ .sival_int = *sent }))
+            usleep(1000);
+        usleep(500);
+    }
+    _exit(0);
+}
+
+/* The process counts those that it takes. */
 static void signals(void)
 {
+    volatile int *sent = mmap(NULL, PAGE, PROT_READ | PROT_WRITE, MAP_SHARED | MAP_ANONYMOUS, -1, 0);
+
     signal(SIGRTMIN, take);
     pid_t child = fork();
-    if (!child) {
-        for (int i = 0; i < SIGNALS; i++) {
-            while (sigqueue(getppid(), SIGRTMIN, (union sigval){ .sival_int = i }))
-                usleep(1000);
-            usleep(500);
-        }
-        _exit(0);
-    }
+    if (!child)
+        send_signals(sent);
     ready();
     while (waitpid(child, NULL, 0) != child)
         continue;
-    printf("taken %d\n", (int)taken);
+    printf("sent %d taken %d\n", *sent, (int)taken);
     exit(0);
 }
 
-/* While its child sleeps, a parent by vfork waits where no tracer can stop it. */
+/* Until its child is killed, a parent by vfork waits where no tracer can stop it. The child says that it is so. */
 static void held_by_vfork(void)
 {
-    ready();
     if (!vfork()) {
-        sleep(7);
+        prctl(PR_SET_PDEATHSIG, SIGKILL);
+        ready();
+        pause();
         _exit(0);
     }
     wait(NULL);
