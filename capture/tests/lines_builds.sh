@@ -108,9 +108,9 @@ verdict 'one with a build-id is another' '' "$(names_in unknown.lines)"
 
 # Two million files of the worst kind: 64 MB more of a core take seconds, and a log that is no longer than they are.
 python3 -B "$kit/tests/builds_hostile.py" walked.core hostile.core 2000000 || exit 1
-before=$SECONDS
-limited 300 "$kit/leak_walk" --quiet hostile.core 2> /dev/null | wc -c > hostile.bytes
-verdict 'a hostile core: bounded time' yes "$([ $((SECONDS - before)) -lt 120 ] && echo yes)"
+(ulimit -t 120; limited 600 "$kit/leak_walk" --quiet hostile.core 2> /dev/null; echo $? > hostile.status) |
+    wc -c > hostile.bytes
+verdict 'a hostile core: at most 120 s of processor time' 0 "$(cat hostile.status)"
 verdict 'a hostile core: a bounded log' yes \
     "$([ "$(cat hostile.bytes)" -gt 40000000 ] && [ "$(cat hostile.bytes)" -lt "$(stat -c %s hostile.core)" ] &&
     echo yes)"
