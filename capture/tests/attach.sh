@@ -179,14 +179,21 @@ verdict 'the program itself does' yes "$(until_true 30 test -e "table.$process" 
 detach $process
 stop $process
 
+# attach_fed: attaches a shell that allocates for each line that it reads, and gives it lines meanwhile.
+attach_fed() {
+    (while :; do echo more > in; sleep 0.2; done) &
+    feeder=$!
+    started[$feeder]=1
+    attach $process
+    stop $feeder
+}
 rm -f in && mkfifo in
 (exec 3<> in; exec bash -c 'while read -r x; do [ "$x" != go ] || exec sleep 60; y=$y$x; done' <&3 3>&-) &
 process=$!
 started[$process]=1
 until_true 30 grep -qs bash /proc/$process/comm
 settle $process
-(sleep 1; for _ in 1 2 3; do echo more > in; done) &
-attach $process
+attach_fed
 verdict 'a shell is attached' 1 "$(grep -c 'its blocks have callers from now on' attach.said)"
 echo go > in
 until_true 30 grep -qs sleep /proc/$process/comm
@@ -206,8 +213,7 @@ process=$!
 started[$process]=1
 until_true 30 grep -qs bash /proc/$process/comm
 settle $process
-(sleep 1; echo more > in) &
-attach $process
+attach_fed
 echo fork > in
 until_true 30 test -s child
 child=$(cat child)

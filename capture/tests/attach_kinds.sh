@@ -5,7 +5,7 @@ build kinds.c
 rm -f table.*
 gcc -shared -fPIC -O1 -g -o module.so "$kit/tests/module.c"
 # asks PID: has it do what it does at SIGUSR1.
-asks() { kill -USR1 "$1" && until_true 30 grep -qsx done kinds.out || echo "it does not: $(cat kinds.out)"; }
+asks() { kill -USR1 "$1" && until_true 60 grep -qsx done kinds.out || echo "it does not: $(cat kinds.out)"; }
 # told WORDS: how often attaching said so.
 told() { grep -c "$1" attach.said; }
 # first_table: whose the first table is, and whether that process lives.
@@ -37,8 +37,7 @@ stop "$process"
 
 be_ready kinds ./kinds bind ./module.so
 attach "$process"
-kill -USR1 "$process"
-sleep 1
+asks "$process"
 limited 120 "$kit/leak_dump" "$process" "$work/bind" 2> bind.said
 search bind
 verdict 'RTLD_DEEPBIND: what its module loses has callers there' yes \
@@ -136,9 +135,9 @@ in_namespace() {
     rm -f kinds.out
     unshare "$@" > kinds.out 2>&1 & outside=$!
     started[$outside]=1
-    until_true 30 grep -qsx ready kinds.out
+    until_true 60 grep -qsx ready kinds.out
     process=$(pgrep -x kinds -P $outside)
-    started[$process]=1
+    [ ! "$process" ] || started[$process]=1
 }
 if [ "$(id -u)" = 0 ] && unshare -p -m -f --mount-proc true 2> /dev/null; then
     in_namespace -p -m -f --mount-proc ./kinds
@@ -152,11 +151,12 @@ if [ "$(id -u)" = 0 ] && unshare -p -m -f --mount-proc true 2> /dev/null; then
     in_namespace -p -m -f ./kinds
     goes 'a pid namespace with the /proc of the outer one'
     stop "$process" $outside
-    mkdir -p other
-    in_namespace -m sh -c 'unshare -p -f sh -c "mount -t proc proc other && exec sleep 600" &
-        until [ -e other/1/comm ]; do sleep 0.1; done
-        exec unshare -p -f sh -c "mount --bind other /proc && exec ./kinds"'
-    started[$(pgrep -P "$(pgrep -x unshare -P $outside)")]=1
+    mkdir other_proc
+    in_namespace -m sh -c 'unshare -p -f sh -c "mount -t proc proc other_proc && exec sleep 600" &
+        until [ -e other_proc/1/comm ]; do sleep 0.1; done
+        exec unshare -p -f sh -c "mount --bind other_proc /proc && exec ./kinds"'
+    sleeper=$(pgrep -P "$(pgrep -x unshare -P $outside)")
+    [ ! "$sleeper" ] || started[$sleeper]=1
     before=$(whole "$process")
     attach "$process"
     verdict 'a pid namespace with the /proc of another: it is told' \

@@ -1,7 +1,8 @@
 /* Programs that are hard to attach, each of which allocates all the time. At SIGUSR1 some do what they could not have
  * done before, and say `done`.
  *   tls FILE..    loads files until there is no room for thread-local memory that is static
- *   bind FILE     loads a file that finds its symbols in itself first, and has it lose blocks from SIGUSR1 on
+ *   bind FILE     loads a file that finds its symbols in itself first, and has it lose blocks from SIGUSR1 on; `done`
+ *                 after ENOUGH of them
  *   data FILE..   maps files as data
  *   space FILE    loads the file into a namespace of its own, at SIGUSR1
  *   drops         is nobody from then on, at SIGUSR1
@@ -23,7 +24,7 @@
 #include <ucontext.h>
 #include "lose.h"
 
-enum { STACK = 1 << 20, DEPTH = 1 << 20, NAP = 1000 };
+enum { STACK = 1 << 20, DEPTH = 1 << 20, NAP = 1000, ENOUGH = 100 };
 
 static volatile sig_atomic_t is_asked;
 static void (*lose)(void);
@@ -39,11 +40,16 @@ static void say(const char *word)
 /* Allocates until it is asked, if it may be. */
 static void work(int ends)
 {
+    int lost = 0;
+
     while (!ends || !is_asked) {
         void *volatile block = malloc(100);
         free(block);
-        if (lose && is_asked)
+        if (lose && is_asked) {
             lose();
+            if (++lost == ENOUGH)
+                say("done");
+        }
         usleep(NAP);
     }
     is_asked = 0;
@@ -99,6 +105,7 @@ __attribute__((noinline)) static void go_deep(void)
     volatile char room[DEPTH];
     room[0] = 1;
     scrub();        /* below it there is room for a call */
+    say("ready");
     work(0);
     returns_to[1] = room[0] + returns_to[0];
 }
@@ -125,9 +132,9 @@ int main(int count, char **words)
         prctl(PR_SET_NAME, words[2]);
     else if (!strcmp(kind, "sharer"))
         clone(wait_forever, (char *)malloc(STACK) + STACK, CLONE_VM | SIGCHLD, NULL);
-    say("ready");
     if (!strcmp(kind, "deep"))
         go_deep();
+    say("ready");
     work(strcmp(kind, "bind"));
     if (!strcmp(kind, "space"))
         say(dlmopen(LM_ID_NEWLM, words[2], RTLD_NOW) ? "done" : dlerror());
