@@ -52,9 +52,9 @@ fi
 options='-m 1'
 start ./ends rests 1 2> said
 options=
-until_true 20 pgrep -P $process > child
+until_true 60 pgrep -P $process > child
 started[$(cat child)]=1
-until_true 20 eval '"$kit/leak_trace" --list | grep -q "not traced"'
+until_true 60 eval '"$kit/leak_trace" --list | grep -q "not traced"'
 verdict 'a child that has no table is told' "1 children were not traced: ./ends $(cat child)" \
     "$("$kit/leak_trace" --list | tail -n 1)"
 stop $process "$(cat child)"

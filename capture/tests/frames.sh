@@ -21,7 +21,7 @@ callers_of() {
     started[$process]=1
     # gdb rests for long too while it reads what its child iconv says
     [ "${prompt-}" ] && until_true 60 grep -qsF "$prompt" output
-    until_true 10 runs_as "$1"
+    until_true 60 runs_as "$1"
     settle $process
     dump $process "$work/$by" && grep '^@' "$by.log" | sed 's/ + 0x[0-9a-f]* / + /' | sort > "$by.callers"
     stop $process

@@ -45,7 +45,7 @@ ended_by() {
 
 if [ "$attaches" ]; then
     wait=1 start ./grows
-    grown with_calls --for 2s --keep with_calls $process
+    grown with_calls --for 4s --keep with_calls $process
     verdict 'the status' 1 $status
     verdict 'new blocks, and those that are lost' "$(new_of with_calls | cut -d ' ' -f 1,2)" "$(said_of with_calls.out)"
     verdict 'one in four is lost' yes \
@@ -57,7 +57,7 @@ if [ "$attaches" ]; then
     verdict 'what is lost' 1 \
         "$(grep -cE '^ *\+[0-9.]+ KB +[0-9]+ +[0-9.]+ KB +lose_answer +.*grows\.c:[0-9]+$' with_calls.out)"
     verdict 'how long it was' yes "$(sed -n '1s/.* in \([0-9]*\) seconds, .*/\1/p' with_calls.out |
-        awk '$1 >= 2 && $1 < 60 { print "yes" }')"
+        awk '$1 >= 4 && $1 < 120 { print "yes" }')"
     TMPDIR=$work/temporary limited 60 "$kit/leak_lines" --log with_calls/dump.log with_calls/dump.grow > by_lines.out
     grown raw --raw --for 1s $process
     verdict '--raw: the lines of both reports' \

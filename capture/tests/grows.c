@@ -1,11 +1,11 @@
 /* Grows by a list that it holds, and by blocks that it loses: one session of 200 bytes each time, and one answer of 500 bytes at each
- * third, for at most a minute or so. What it loses is wiped from the stack by then. */
+ * third, for at most ten minutes or so. What it loses is wiped from the stack by then. */
 #include <stdio.h>
 #include <stdlib.h>
 #include <string.h>
 #include <unistd.h>
 
-enum { STEPS = 6000, PAUSE_US = 10000 };
+enum { STEPS = 60000, PAUSE_US = 10000 };
 
 struct session {
     struct session *next;

@@ -39,9 +39,9 @@ gcc -std=gnu11 -O2 -g -DFEW_CELLS -fPIC -fvisibility=hidden -ftls-model=initial-
 build exchange.c
 verdict exchange 'wrong 0 others few missed 0' "$(limited 120 few/leak_trace ./exchange "$work/table" 2> /dev/null)"
 build threads.c
-(cd "$work" && exec few/leak_trace -d 2 ./threads) & process=$!
+(cd "$work" && exec few/leak_trace -d 2 ./threads > threads.out) & process=$!
 started[$process]=1
-sleep 1
+until_true 60 grep -qsx ready threads.out
 verdict 'the further cells are there' '8192 kB' \
     "$(awk '$1 == "Size:" && $2 == 8192 { print $2, $3; exit }' "/proc/$process/smaps")"
 dump $process "$work/threads" && search threads

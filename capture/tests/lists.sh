@@ -3,7 +3,7 @@ section the list of tables
 [ -x plain ] || build plain.c
 build ends.c # another test has a script of that name
 rm -f table.*
-list() { limited 20 "$kit/leak_trace" --list "$@"; }
+list() { limited 60 "$kit/leak_trace" --list "$@"; }
 
 # What is no regular file is not opened.
 mkfifo table.5
@@ -30,7 +30,7 @@ END
 (cd "$work" && exec "$kit/leak_trace" bash renamed.sh) &
 process=$!
 started[$process]=1
-until_true 20 eval 'list | grep -q bad'
+until_true 60 eval 'list | grep -q bad'
 settle $process
 verdict 'the name of a program is escaped' "bad\\x1b[2J\\nname," "$(list | awk 'NR == 2 { print $4 }')"
 stop $process
@@ -69,11 +69,11 @@ if [ "$(id -u)" = 0 ] && (apart true) 2> /dev/null; then
     (apart "$kit/leak_trace" ./plain) &
     first=$!
     started[$first]=1
-    until_true 20 test -s table.1
+    until_true 60 test -s table.1
     (apart "$kit/leak_trace" ./plain) &
     second=$!
     started[$second]=1
-    until_true 20 eval 'list | grep -c live | grep -qx 2'
+    until_true 60 eval 'list | grep -c live | grep -qx 2'
     verdict 'two have the number 1: each has a table' '2 live' \
         "$(list | awk 'NR > 1 { print $2 }' | sort | uniq -c | awk '{ print $1, $2 }')"
     verdict 'they are told by their numbers here' "$(pgrep -P $first,$second -x plain | sort -n | paste -s)" \
@@ -91,7 +91,7 @@ if [ "$(id -u)" = 0 ] && (apart true) 2> /dev/null; then
     (apart sh -c "kill -0 1; exec '$kit/leak_trace' -o '$work/table.%p' true")
     verdict 'another process of that number leaves it alone' live "$(list | awk -v pid="$pid" '$1 == pid { print $2 }')"
     stop $first $second
-    until_true 20 eval '! pgrep -x plain > /dev/null'
+    until_true 60 eval '! pgrep -x plain > /dev/null'
     if [ "$(stat -L -c %i /proc/self/ns/pid)" = 4026531836 ] && cat /proc/[0-9]*/maps > /dev/null 2> unseen; then
         "$kit/leak_trace" --remove > /dev/null
         verdict 'where all processes are seen, the dead ones are removed' 0 "$(ls table.* 2> /dev/null | wc -l)"

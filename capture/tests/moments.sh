@@ -3,7 +3,8 @@ section six busy threads
 moments=${MOMENTS:-20}
 [ "$quick" ] && moments=4
 build threads.c
-wait=1 start ./threads
+wait=0 start ./threads > threads.out
+until_true 60 grep -qsx ready threads.out
 busy=$process
 strangers() { named "$1" | tr ' ' '\n' | grep -vxE '45|61|77|93|109|125|' | tr '\n' ' '; }
 wrong=0

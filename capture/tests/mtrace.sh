@@ -12,7 +12,8 @@ both() {
         LD_PRELOAD="$kit/leak_trace.so $work/mtrace_on.so libc_malloc_debug.so.0" "$@" <&3 > "$name.out" 2>&1 3>&-) &
     process=$!
     started[$process]=1
-    sleep 1
+    until_true 60 is_program $process
+    settle $process
 }
 
 # compare NAME [EARLIER [STACKS]]: this many blocks may be in the table alone, which were there before mtrace() was
@@ -20,7 +21,7 @@ both() {
 # them.
 compare() {
     local name=$1 table=$work/table.$process said
-    sleep 1
+    settle $process
     limited 120 gdb -nx --batch -p $process -ex 'call (void)muntrace()' -ex "generate-core-file $name.core" \
         -ex "shell cp --sparse=always $table $name.table; cp $name.mlog $name.mcopy" -ex detach > "$name.gdb" 2>&1
     "$kit/leak_log" "$name.core" "$name.table" > "$name.log"

@@ -27,7 +27,7 @@ loses() {
     ask "$port" "$text"
     : > lose
     ask "$port" "$text"
-    sleep 0.5
+    settle $process
     if limited 60 "$kit/leak_dump" $process "$work/planted" 2> planted.said; then
         find_leaks one --skip-freed --skip-links planted.core planted.log > planted.report 2>&1
         verdict "$name: lists, blocks" '61 183' "$(awk '$1 == "leak" && $3 == 1240 { blocks++; heads += $5 == "head" }

@@ -3,6 +3,8 @@
 section daemons
 chmod 755 . && mkdir -p www && head -c 20000 /dev/zero > www/x && chmod 755 www
 
+# has_written FILE: waits until the daemon has written its number there, and rests.
+has_written() { until_true 60 test -s "$1" && settle "$(cat "$1")"; }
 # daemon NAME PID: its table has its id, and is in order.
 daemon() {
     verdict "$1: its table" "$work/table.$2" "$(ls "$work/table.$2" 2> /dev/null)"
@@ -14,7 +16,7 @@ daemon() {
 if command -v nginx > /dev/null; then
     printf 'pid %s/nginx.pid; error_log %s/e.log; worker_processes 2;\nevents {}\nhttp { access_log off; server { listen 127.0.0.1:28181; root %s/www; } }\n' "$work" "$work" "$work" > n2.conf
     limited 60 "$kit/leak_trace" nginx -c "$work/n2.conf"
-    sleep 1
+    until_true 60 test -s nginx.pid
     fetch 28181
     master=$(cat nginx.pid)
     started[$master]=1
@@ -25,20 +27,20 @@ fi
 if command -v lighttpd > /dev/null; then
     printf 'server.document-root="%s/www"\nserver.port=28180\nserver.bind="127.0.0.1"\nserver.pid-file="%s/lighttpd.pid"\n' "$work" "$work" > l2.conf
     limited 60 "$kit/leak_trace" lighttpd -f l2.conf
-    sleep 1
+    has_written lighttpd.pid
     started[$(cat lighttpd.pid)]=1
     daemon lighttpd "$(cat lighttpd.pid)"
 fi
 if command -v memcached > /dev/null; then
     limited 60 "$kit/leak_trace" memcached -d -u root -l 127.0.0.1 -p 28182 -P "$work/memcached.pid"
-    sleep 1
+    has_written memcached.pid
     started[$(cat memcached.pid)]=1
     daemon memcached "$(cat memcached.pid)"
 fi
 if command -v redis-server > /dev/null; then
     limited 60 "$kit/leak_trace" redis-server --port 28183 --bind 127.0.0.1 --daemonize yes --dir "$work" \
         --pidfile "$work/redis.pid" > /dev/null
-    sleep 1
+    has_written redis.pid
     started[$(cat redis.pid)]=1
     limited 120 redis-benchmark -p 28183 -n 20000 -r 20000 -q -t set > /dev/null
     limited 60 redis-cli -p 28183 bgsave > /dev/null
@@ -53,7 +55,7 @@ if command -v redis-server > /dev/null; then
         --appendonly no > loaded.out 2>&1 &
     process=$!
     started[$process]=1
-    sleep 1
+    until_true 60 redis-cli -p 28184 ping > /dev/null 2>&1
     redis-benchmark -p 28184 -n 100000000 -r 20000 -d 100 -P 4 -q -t set,get,lpush,lpop,sadd,hset,spop,zadd,zpopmin \
         > /dev/null 2>&1 &
     load=$!

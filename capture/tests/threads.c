@@ -1,14 +1,19 @@
-/* Six threads that allocate and free; what a thread holds is in `slots`, set after malloc and cleared before free. */
+/* Six threads that allocate and free; what a thread holds is in `slots`, set after malloc and cleared before free. Says "ready" when
+ * all have lost what they lose. */
 #include <pthread.h>
+#include <stdatomic.h>
 #include "lose.h"
 enum { THREADS = 6, SLOTS = 512 };
 struct slot { void *volatile block; volatile size_t size; } slots[THREADS][SLOTS];
+static atomic_int losing = THREADS;
 static void *work(void *which)
 {
     struct slot *own = slots[(long)which];
     unsigned x = 1 + (unsigned)(long)which;
     for (int i = 0; i < 100; i++)
         LOSE(malloc(45 + 16 * (long)which));
+    if (--losing == 0 && write(STDOUT_FILENO, "ready\n", 6) != 6)
+        return NULL;
     for (;;) {
         x = x * 1664525 + 1013904223;
         struct slot *s = own + (x >> 16) % SLOTS;
