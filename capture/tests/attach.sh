@@ -73,7 +73,7 @@ verdict 'attached and detached 40 times' 0 $wrong
 stop $process
 
 section what is lost after
-rm -f in && mkfifo in
+rm -f in union.out && mkfifo in
 (exec 3<> in; exec ./union <&3 > union.out 3>&-) &
 process=$!
 started[$process]=1
@@ -206,7 +206,7 @@ limited 60 "$trace" --remove > /dev/null
 verdict 'its table can be removed' 0 "$(ls table.* 2> /dev/null | wc -l)"
 
 section a child by fork
-rm -f in && mkfifo in
+rm -f in child && mkfifo in
 (exec 3<> in; exec bash -c 'work() { while :; do y=$RANDOM$y; y=${y:0:99}; read -r -t 0.05 x <> <(:); done; }
     while read -r x; do y=$y$x; [ "$x" != fork ] || { work & echo $! > child; }; done' <&3 3>&-) &
 process=$!

@@ -130,7 +130,7 @@ be_ready() {
     "${@:2}" > "$1.out" 2>&1 &
     process=$!
     started[$process]=1
-    until_true 60 grep -qsx ready "$1.out" || echo "no sign of $1: $(cat "$1.out")" >&2
+    until_true 120 grep -qsx ready "$1.out" || echo "no sign of $1: $(cat "$1.out")" >&2
     sleep 0.1
 }
 

@@ -22,7 +22,7 @@ differ() {
 
 # traced_union [VARIABLE=VALUE]: runs the program, traced, until it rests.
 traced_union() {
-    rm -f in && mkfifo in
+    rm -f in union.out && mkfifo in
     (exec 3<> in; exec env "$@" "$kit/leak_trace" -d 2 ./union <&3 > union.out 3>&-) &
     process=$!
     started[$process]=1
