@@ -10,11 +10,18 @@ declare -A started
 export LEAK_TRACE=$work/table.%p
 ulimit -c unlimited
 
+# is_ours PID: whether the process is a child of this shell, or works in our folder, or has it in its environment. One
+# that ended may have left its number to a stranger, soon where threads start all the time.
+is_ours() {
+    grep -qsx "PPid:[[:space:]]*$$" "/proc/$1/status" || [[ $(readlink "/proc/$1/cwd") == "$work"* ]] ||
+        grep -qszF "$work" "/proc/$1/environ"
+}
+
 # stop PID..: kills processes that were started here, and waits for them.
 stop() {
     local pid
     for pid in "$@"; do
-        { kill -9 "$pid" && wait "$pid"; } 2> /dev/null
+        { is_ours "$pid" && kill -9 "$pid" && wait "$pid"; } 2> /dev/null
         unset "started[$pid]"
     done
 }
