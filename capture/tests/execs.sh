@@ -40,8 +40,10 @@ if command -v musl-gcc > /dev/null && musl-gcc "$kit/tests/hello.c" -o hello_mus
     printf '#! %s/hello_musl -x\n' "$work" > by_musl && chmod +x by_musl
     # ran COMMAND..: what a traced program prints that runs others, its status and what it says.
     ran() {
-        PATH=$work:$PATH limited 60 "$kit/leak_trace" $options "$@" > ran.out 2> ran.said
-        echo "$(paste -s -d ' ' ran.out) $? $(cat ran.said)"
+        local status # $? would be that of paste
+        PATH=$work:$PATH limited 300 "$kit/leak_trace" $options "$@" > ran.out 2> ran.said
+        status=$?
+        echo "$(paste -s -d ' ' ran.out) $status $(cat ran.said)"
     }
     for options in '' -e; do
         verdict "musl by a shell, and by a script, $options" 'hello hello hello 0 ' \
