@@ -106,7 +106,8 @@ static bool get_answer(int from, struct code *code)
         if (poll(&(struct pollfd){ .fd = from, .events = POLLIN }, 1, LOOK_MS) > 0)
             return read(from, code, sizeof *code) == sizeof *code;
     }
-    fprintf(stderr, "leak_core: the code of the process could not be read in %d s: its disk does not answer\n", SEARCH_MS / 1000);
+    fprintf(stderr, "%s: the code of the process could not be read in %d s: its disk does not answer\n", tracer_name,
+            SEARCH_MS / 1000);
     return false;
 }
 
