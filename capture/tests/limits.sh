@@ -39,6 +39,7 @@ gcc -std=gnu11 -O2 -g -DFEW_CELLS -fPIC -fvisibility=hidden -ftls-model=initial-
 build exchange.c
 verdict exchange 'wrong 0 others few missed 0' "$(limited 120 few/leak_trace ./exchange "$work/table" 2> /dev/null)"
 build threads.c
+rm -f threads.out # of one before, which was ready too
 (cd "$work" && exec few/leak_trace -d 2 ./threads > threads.out) & process=$!
 started[$process]=1
 until_true 60 grep -qsx ready threads.out
