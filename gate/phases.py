@@ -49,6 +49,8 @@ class Phase(NamedTuple):
 # wrong bodies stand.
 BUILT = rb"rt: leak_cli (proved|is kept)\b"
 LIBRARIES_BUILT = rb"rt: leak_find (proved|is kept)\b"
+# From here on one crate waits for another, leak_pool first, and processors are free; up to here proofs take all there are.
+CHAIN_BEGUN = rb"rt: leak_scan (proved|is kept)\b"
 # Proofs and wrong bodies give way, for what runs programs goes by the clock.
 PHASES = (
     Phase("proofs", 110, (), (Step(f"{GIVE_WAY} rt ci", ""),)),
@@ -68,7 +70,7 @@ PHASES = (
         Step(f"examples/run.sh $PWD/{OUT}/leak_cli", "examples: "))),
     Phase("capture", 45, (), (
         Step("make -j $(nproc) -C capture"),
-        Step("gate/capture.sh", "capture: ")), beside=True),
+        Step("gate/capture.sh", "capture: ")), beside=True, after=CHAIN_BEGUN),
     Phase("wrong", 90, ("crates/*/out/rlib",), (
         Step(f"{GIVE_WAY} python3 gate/wrong_bodies.py{RECORDED}", "wrong bodies: "),), beside=True, after=LIBRARIES_BUILT),
     Phase("script", 20, (), (Step(f"{GIVE_WAY} python3 gate/wrong_bodies_test.py", "test of the script: "),), beside=True),
