@@ -1,8 +1,9 @@
 -- Words of bytes, part by part.
-use Rattle.std.proofs.Common.{◌≡◌, ℕ, ◌+◌, ◌-◌, ◌*◌, ◌/◌, ◌<◌, ◌≤◌, List, [], ◌∷◌, ◌++◌, length, map, take, drop, replicate, get_or, sym, ap, ◌∙◌, arith}
+use Rattle.std.proofs.Common.{◌≡◌, ℕ, ◌+◌, ◌-◌, ◌*◌, ◌/◌, ◌<◌, ◌≤◌, zero, suc, List, [], ◌∷◌, ◌++◌, length, map, take, drop, replicate, get_or, refl, sym, ap, ◌∙◌, arith}
 use Rattle.std.specs.Int.{w64, from_le_bytes}
 use Rattle.std.specs.List.{range_with_len}
-use Rattle.std.proofs.lemmas.List.{drop-append-le, take-append-le, length-append, length-drop, same_lists, get_or_append_left, get_or-append_right, get_or-replicate, length-replicate}
+use Rattle.std.specs.Simd.{first_chunks}
+use Rattle.std.proofs.lemmas.List.{drop-append-le, drop-drop, take-append-le, length-append, length-drop, same_lists, get_or_append_left, get_or-append_right, get_or-replicate, length-replicate}
 use Rattle.std.proofs.lemmas.List.FromFn.{length-map-range_with_len, get_or-map-range_with_len}
 use Rattle.std.proofs.Math.Seq.{drop-append-add}
 use Rattle.leak_elf.specs.Fields.{number_at}
@@ -24,6 +25,22 @@ number_right xs ys at =
     let w : length xs + at + 8 - (length xs + at) ≡ at + 8 - at = omega arith in
     ap (λ (l : List ℕ). from_le_bytes w64 (take (length xs + at + 8 - (length xs + at)) l)) (drop-append-add xs ys at)
     ∙ ap (λ (n : ℕ). from_le_bytes w64 (take n (drop at ys))) w
+
+chunk_number : (bytes : List ℕ) (n k : ℕ) (d : List ℕ) → k < n → from_le_bytes w64 (get_or (first_chunks 8 n bytes) k d) ≡ number_at w64 bytes (8 * k)
+unfolding number_at
+chunk_number bytes zero k d h = elim h [ ]
+chunk_number bytes (suc n) zero d h = refl
+chunk_number bytes (suc n) (suc k) d h =
+    let at : 8 + 8 * k ≡ 8 * suc k = omega arith in
+    let width : 8 * k + 8 - 8 * k ≡ 8 * suc k + 8 - 8 * suc k = omega arith in
+    chunk_number (drop 8 bytes) n k d (omega arith)
+    ∙ ap (λ (l : List ℕ). from_le_bytes w64 (take (8 * k + 8 - 8 * k) l)) (drop-drop (8 * k) 8 bytes ∙ ap (λ (m : ℕ). drop m bytes) at)
+    ∙ ap (λ (m : ℕ). from_le_bytes w64 (take m (drop (8 * suc k) bytes))) width
+
+-- one of the groups of 8 bytes that bytes are
+pub number_of_chunk : (bytes : List ℕ) (chunks : List (List ℕ)) (k : ℕ) (d : List ℕ) → chunks ≡ first_chunks 8 (length bytes / 8) bytes → k < length bytes / 8
+    → from_le_bytes w64 (get_or chunks k d) ≡ number_at w64 bytes (8 * k)
+number_of_chunk bytes chunks k d e h = ap (λ (c : List (List ℕ)). from_le_bytes w64 (get_or c k d)) e ∙ chunk_number bytes (length bytes / 8) k d h
 
 -- ---- words
 

@@ -1,8 +1,15 @@
 //! The words that bytes are.
 ghost use Rattle.std.specs.Prelude.{◌≡◌, ◌*◌, ◌+◌, ◌/◌, ◌<◌, ◌≤◌, ℕ, length};
-ghost use Rattle.std.specs.Int.{w64};
+ghost use Rattle.std.specs.Int.{w64, from_le_bytes};
 ghost use Rattle.leak_elf.specs.Fields.{number_at};
 ghost use Rattle.leak_sift.specs.Passed.{IsOutside};
+
+/// The word that 8 bytes are.
+fn word_of(bytes: &[u8; 8]) -> u64
+    ensures { result ≡ from_le_bytes w64 bytes.now }
+{
+    u64::from_le_bytes(*bytes)
+}
 
 /// The word that the 8 bytes from the place on are.
 #[tactic(auto, unfolding(leak_elf::specs::Fields::number_at))]
@@ -11,9 +18,8 @@ pub(crate) fn word_at(bytes: &[u8], at: usize) -> u64
     ensures { result ≡ number_at w64 bytes.now at }
 {
     // (compiled to one load, unlike a reading of each byte in its place)
-    let mut word = [0; 8];
-    word.copy_from_slice(&bytes[at..at + 8]);
-    u64::from_le_bytes(word)
+    let (words, _) = bytes[at..at + 8].as_chunks::<8>();
+    word_of(&words[0])
 }
 
 /// How many of the first words, of so many at most, are 0, below the lowest or above the highest.
@@ -22,8 +28,9 @@ pub(crate) fn count_outside(bytes: &[u8], most: usize, low: u64, high: u64) -> u
     ensures bound { result ≤ most }
     ensures each { (k : ℕ) → k < result → IsOutside low high (number_at w64 bytes.now (8 * k)) }
 {
+    let (words, _) = bytes.as_chunks::<8>();
     for number in 0..most {
-        let word = word_at(bytes, 8 * number);
+        let word = word_of(&words[number]);
         if low <= word && word <= high && word != 0 {
             return number;
         }
