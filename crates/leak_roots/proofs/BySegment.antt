@@ -1,5 +1,5 @@
 -- The root words of the segments that have some, one segment after another.
-use Rattle.std.proofs.Common.{◌≡◌, ℕ, ◌+◌, ◌-◌, ◌%◌, ◌<◌, ◌≤◌, ◌^◌, Bool, true, false, ◌&&◌, eqb, List, [], ◌∷◌, ◌++◌, length, get_or, take, filter, flat_map, None, is_some, inl, inr, refl, sym, ap, ◌∙◌, append-nil, arith}
+use Rattle.std.proofs.Common.{◌≡◌, ℕ, ◌+◌, ◌-◌, ◌%◌, ◌<◌, ◌≤◌, ◌^◌, Bool, true, false, ◌&&◌, eqb, List, [], ◌∷◌, ◌++◌, length, get_or, take, filter, flat_map, None, is_some, inl, inr, refl, ap, ◌∙◌, append-nil, arith}
 use Rattle.std.specs.List.{list_all}
 use Rattle.std.proofs.lemmas.Bool.{cases_eq, eq-eqb, ne_eqb}
 use Rattle.std.proofs.lemmas.Grind.{flat_map-append}
@@ -14,9 +14,13 @@ use Rattle.leak_elf.specs.Words.{places, word_of}
 use Rattle.leak_elf.proofs.Accepted.{accepted, no_first}
 use Rattle.leak_elf.proofs.Held.{word_some, word_odd}
 use Rattle.leak_blocks.specs.declared.block.Block.{Block}
-use Rattle.leak_roots.specs.Places.{AreRanges, EndBy, memory_places}
+use Rattle.leak_blocks.specs.declared.small.Span.{Span}
+use Rattle.leak_blocks.specs.Small.{AreApart}
+use Rattle.leak_roots.specs.declared.inside.Kept.{Kept}
+use Rattle.leak_roots.specs.Kept.{Adds, LiesBefore}
+use Rattle.leak_roots.specs.Places.{AreRanges}
 use Rattle.leak_roots.specs.Roots.{has_roots, is_apart, is_free, outside_places, outside_places_in}
-use Rattle.leak_roots.proofs.Ranges.{end_later}
+use Rattle.leak_roots.proofs.LeftOut.{HasNone, none_before, adds_none, adds_more, before_later}
 
 -- the segments of an accepted file
 pub are_segments : (file : List ℕ) → fault_of file ≡ None → AreSegments file (segments_of file)
@@ -39,11 +43,11 @@ places_of_segment file bs i d kept h =
     filter_same (λ (a : ℕ). is_some (word_of file a) && list_all (is_apart a) bs) (is_free bs) s.vaddr (s.vaddr + s.filesz - 7 - s.vaddr)
     (λ a l m. ap (λ (b : Bool). b && list_all (is_apart a) bs) (has_word file i a d kept h l (omega arith)))
 
--- the root words of the first segments were found
-pub record AreFound (u : Bool) (file : List ℕ) (bs : List Block) (i : ℕ) (memory : List (ℕ × ℕ)) : Type 0 where
-  pub ranges : AreRanges memory
-  pub ends : (k : ℕ) (d : Segment) → i ≤ k → k < length (segments_of file) → EndBy (get_or (segments_of file) k d).vaddr memory
-  pub found : memory_places memory ≡ flat_map (outside_places_in file bs) (filter (has_roots u) (take i (segments_of file)))
+-- the root words of the first segments were added
+pub record AreFound (u : Bool) (file : List ℕ) (bs : List Block) (i : ℕ) (first kept : Kept) : Type 0 where
+  pub ranges : AreRanges kept.memory.items
+  pub before : (k : ℕ) (d : Segment) → i ≤ k → k < length (segments_of file) → LiesBefore (get_or (segments_of file) k d).vaddr kept
+  pub adds : Adds (flat_map (outside_places_in file bs) (filter (has_roots u) (take i (segments_of file)))) first kept
 
 one_taken : (u : Bool) (file : List ℕ) (bs : List Block) (s : Segment) → has_roots u s ≡ true → flat_map (outside_places_in file bs) (filter (has_roots u) (s ∷ [])) ≡ outside_places_in file bs s
 one_taken u file bs s w = rw w (append-nil (outside_places_in file bs s))
@@ -61,15 +65,15 @@ segment_more u file bs i d h =
     ∙ ap (flat_map (outside_places_in file bs)) (filter-append w (take i segs) (get_or segs i d ∷ []))
     ∙ flat_map-append (outside_places_in file bs) (filter w (take i segs)) (filter w (get_or segs i d ∷ []))
 
-pub found_more : (u : Bool) (file : List ℕ) (bs : List Block) (i : ℕ) (d : Segment) (memory more : List (ℕ × ℕ)) → AreKeptSegments (segments_of file) → i < length (segments_of file) → has_roots u (get_or (segments_of file) i d) ≡ true → AreFound u file bs i memory
-    → memory_places more ≡ memory_places memory ++ filter (is_free bs) (places (get_or (segments_of file) i d).vaddr ((get_or (segments_of file) i d).vaddr + (get_or (segments_of file) i d).filesz)) → AreRanges more → EndBy ((get_or (segments_of file) i d).vaddr + (get_or (segments_of file) i d).filesz) more
-    → AreFound u file bs (i + 1) more
-found_more u file bs i d memory more kept h w found places' ranges' ends' =
+pub found_more : (u : Bool) (file : List ℕ) (bs : List Block) (i : ℕ) (d : Segment) (first kept more : Kept) → AreKeptSegments (segments_of file) → i < length (segments_of file) → has_roots u (get_or (segments_of file) i d) ≡ true → AreFound u file bs i first kept
+    → Adds (filter (is_free bs) (places (get_or (segments_of file) i d).vaddr ((get_or (segments_of file) i d).vaddr + (get_or (segments_of file) i d).filesz))) kept more
+    → LiesBefore ((get_or (segments_of file) i d).vaddr + (get_or (segments_of file) i d).filesz) more → AreFound u file bs (i + 1) first more
+found_more u file bs i d first kept more segs h w found adds' before' =
     let s = get_or (segments_of file) i d in
     record {
-      ranges = ranges';
-      ends = λ k e l m. end_later (s.vaddr + s.filesz) (get_or (segments_of file) k e).vaddr more (behind file i k d e kept (omega arith) m) ends';
-      found = places' ∙ (rw (found.found, ← places_of_segment file bs i d kept h, segment_more u file bs i d h, one_taken u file bs s w) refl);
+      ranges = before'.ranges;
+      before = λ k e l m. before_later (s.vaddr + s.filesz) (get_or (segments_of file) k e).vaddr more (behind file i k d e segs (omega arith) m) before';
+      adds = (rw (segment_more u file bs i d h, one_taken u file bs s w, places_of_segment file bs i d segs h) (adds_more _ _ first kept more found.adds adds'));
     }
   where
     behind : (file : List ℕ) (i k : ℕ) (d e : Segment) → AreKeptSegments (segments_of file) → i < k → k < length (segments_of file) → (get_or (segments_of file) i d).vaddr + (get_or (segments_of file) i d).filesz ≤ (get_or (segments_of file) k e).vaddr
@@ -79,34 +83,38 @@ found_more u file bs i d memory more kept h w found places' ranges' ends' =
         let same = ap (λ (t : Segment). t.vaddr) (get_or_default (segments_of file) k d e m) in
         omega arith
 
-pub found_same : (u : Bool) (file : List ℕ) (bs : List Block) (i : ℕ) (d : Segment) (memory : List (ℕ × ℕ)) → i < length (segments_of file) → has_roots u (get_or (segments_of file) i d) ≡ false → AreFound u file bs i memory → AreFound u file bs (i + 1) memory
-found_same u file bs i d memory h w found = record {
+pub found_same : (u : Bool) (file : List ℕ) (bs : List Block) (i : ℕ) (d : Segment) (first kept : Kept) → i < length (segments_of file) → has_roots u (get_or (segments_of file) i d) ≡ false → AreFound u file bs i first kept → AreFound u file bs (i + 1) first kept
+found_same u file bs i d first kept h w found = record {
   ranges = found.ranges;
-  ends = λ k e l m. found.ends k e (omega arith) m;
-  found = found.found ∙ (rw (segment_more u file bs i d h, one_other u file bs (get_or (segments_of file) i d) w) (sym (append-nil _)));
+  before = λ k e l m. found.before k e (omega arith) m;
+  adds = (rw (segment_more u file bs i d h, one_other u file bs (get_or (segments_of file) i d) w) (adds_more _ _ first kept kept found.adds (adds_none kept)));
 }
 
-pub found_first : (u : Bool) (file : List ℕ) (bs : List Block) → AreFound u file bs 0 []
-found_first u file bs = record { ranges = tt; ends = λ k d l m. tt; found = refl }
-
-pub found_all : (u : Bool) (file : List ℕ) (bs : List Block) (i : ℕ) (memory : List (ℕ × ℕ)) → length (segments_of file) ≤ i → AreFound u file bs i memory → memory_places memory ≡ outside_places u file bs
-unfolding outside_places
-found_all u file bs i memory h found =
-    let all : take i (segments_of file) ≡ segments_of file = take_all i (segments_of file) h in
-    found.found ∙ (rw all refl)
+pub found_first : (u : Bool) (file : List ℕ) (bs : List Block) (spans : List Span) (first : Kept) → AreApart spans → HasNone spans first → AreFound u file bs 0 first first
+found_first u file bs spans first apart none = record {
+  ranges = rw none.memory tt;
+  before = λ k d l m. none_before spans first (get_or (segments_of file) k d).vaddr apart none;
+  adds = adds_none first;
+}
 
 -- the same for the segments as they are read
-pub read_more : (u : Bool) (file : List ℕ) (bs : List Block) (segs : List Segment) (i : ℕ) (d : Segment) (memory more : List (ℕ × ℕ)) → segs ≡ segments_of file → fault_of file ≡ None → i < length segs → has_roots u (get_or segs i d) ≡ true → AreFound u file bs i memory
-    → memory_places more ≡ memory_places memory ++ filter (is_free bs) (places (get_or segs i d).vaddr ((get_or segs i d).vaddr + (get_or segs i d).filesz)) → AreRanges more → EndBy ((get_or segs i d).vaddr + (get_or segs i d).filesz) more
-    → AreFound u file bs (i + 1) more
-read_more u file bs segs i d memory more e ok h w found places' ranges' ends' =
-    found_more u file bs i d memory more (are_segments file ok).kept (rw e at h) (rw e at w) found (rw e at places') ranges' (rw e at ends')
+pub read_more : (u : Bool) (file : List ℕ) (bs : List Block) (segs : List Segment) (i : ℕ) (d : Segment) (first kept more : Kept) → segs ≡ segments_of file → fault_of file ≡ None → i < length segs → has_roots u (get_or segs i d) ≡ true → AreFound u file bs i first kept
+    → Adds (filter (is_free bs) (places (get_or segs i d).vaddr ((get_or segs i d).vaddr + (get_or segs i d).filesz))) kept more → LiesBefore ((get_or segs i d).vaddr + (get_or segs i d).filesz) more
+    → AreFound u file bs (i + 1) first more
+read_more u file bs segs i d first kept more e ok h w found adds' before' =
+    found_more u file bs i d first kept more (are_segments file ok).kept (rw e at h) (rw e at w) found (rw e at adds') (rw e at before')
 
-pub read_same : (u : Bool) (file : List ℕ) (bs : List Block) (segs : List Segment) (i : ℕ) (d : Segment) (memory : List (ℕ × ℕ)) → segs ≡ segments_of file → i < length segs → has_roots u (get_or segs i d) ≡ false → AreFound u file bs i memory → AreFound u file bs (i + 1) memory
-read_same u file bs segs i d memory e h w found = found_same u file bs i d memory (rw e at h) (rw e at w) found
+pub read_same : (u : Bool) (file : List ℕ) (bs : List Block) (segs : List Segment) (i : ℕ) (d : Segment) (first kept : Kept) → segs ≡ segments_of file → i < length segs → has_roots u (get_or segs i d) ≡ false → AreFound u file bs i first kept → AreFound u file bs (i + 1) first kept
+read_same u file bs segs i d first kept e h w found = found_same u file bs i d first kept (rw e at h) (rw e at w) found
 
-pub read_all : (u : Bool) (file : List ℕ) (bs : List Block) (segs : List Segment) (i : ℕ) (memory : List (ℕ × ℕ)) → segs ≡ segments_of file → length segs ≤ i → AreFound u file bs i memory → memory_places memory ≡ outside_places u file bs
-read_all u file bs segs i memory e h found = found_all u file bs i memory (rw e at h) found
+pub read_all : (u : Bool) (file : List ℕ) (bs : List Block) (segs : List Segment) (i : ℕ) (first kept : Kept) → segs ≡ segments_of file → length segs ≤ i → AreFound u file bs i first kept → Adds (outside_places u file bs) first kept
+unfolding outside_places
+read_all u file bs segs i first kept e h found =
+    let all : take i (segments_of file) ≡ segments_of file = take_all i (segments_of file) (rw e at h) in
+    rw all at found.adds
+
+pub read_before : (u : Bool) (file : List ℕ) (bs : List Block) (segs : List Segment) (i : ℕ) (d : Segment) (first kept : Kept) → segs ≡ segments_of file → i < length segs → AreFound u file bs i first kept → LiesBefore (get_or segs i d).vaddr kept
+read_before u file bs segs i d first kept e h found = rw e (found.before i d (omega arith) (rw e at h))
 
 pub dumped_fits : (file : List ℕ) (segs : List Segment) (i : ℕ) (d : Segment) → segs ≡ segments_of file → fault_of file ≡ None → i < length segs → (get_or segs i d).vaddr + (get_or segs i d).filesz < 2 ^ 64
 dumped_fits file segs i d e ok h =
@@ -115,6 +123,3 @@ dumped_fits file segs i d e ok h =
     let t = one.high in
     let u : (get_or (segments_of file) i d).vaddr + (get_or (segments_of file) i d).filesz < 2 ^ 64 = omega arith in
     rw e u
-
-pub dumped_order : (u : Bool) (file : List ℕ) (bs : List Block) (segs : List Segment) (i : ℕ) (d : Segment) (memory : List (ℕ × ℕ)) → segs ≡ segments_of file → i < length segs → AreFound u file bs i memory → EndBy (get_or segs i d).vaddr memory
-dumped_order u file bs segs i d memory e h found = rw e (found.ends i d (omega arith) (rw e at h))

@@ -1,5 +1,5 @@
 -- How many ranges there are: each block and each span cuts at most one in two.
-use Rattle.std.proofs.Common.{◌≡◌, None, ℕ, zero, suc, ◌+◌, ◌<◌, ◌≤◌, Bool, true, false, cond, leb, List, [], ◌∷◌, length, get_or, take, filter, refl, sym, ap, subst, ⊎_elim, ◌∙◌, ◌-◌, max, min, arith}
+use Rattle.std.proofs.Common.{◌≡◌, None, ℕ, zero, suc, ◌+◌, ◌<◌, ◌≤◌, Bool, true, false, cond, leb, List, [], ◌∷◌, length, get_or, take, filter, refl, inl, inr, ap, ⊎_elim, ◌∙◌, ◌-◌, max, min, arith}
 use Rattle.std.specs.List.{count_by}
 use Rattle.std.proofs.lemmas.Bool.{leb-true, le-leb, lt-leb, cases_lt}
 use Rattle.std.proofs.lemmas.List.{take_more, take_all, get_or_default, length-append, length-take}
@@ -99,9 +99,6 @@ pub record AreAllFew (spans : List Span) (memory : List (ℕ × ℕ)) (i kept : 
   pub ahead : (k : ℕ) (d : ℕ × ℕ) → i ≤ k → k < length memory → kept ≤ i + spans_up_to spans (get_or memory k d).0
   pub all : kept ≤ i + length spans
 
-pub all_few_first : (spans : List Span) (memory : List (ℕ × ℕ)) → AreAllFew spans memory 0 0
-all_few_first spans memory = record { ahead = λ k d l m. omega arith; all = omega arith }
-
 -- of the first ranges all are kept as they are
 pub all_few_ahead : (spans : List Span) (memory : List (ℕ × ℕ)) (i : ℕ) → i ≤ length memory → AreAllFew spans memory i (length (take i memory))
 all_few_ahead spans memory i l =
@@ -120,13 +117,13 @@ all_few_more spans memory i kept more d are h few cuts =
 
 -- ---- ranges between blocks
 
--- of the first segments there are no more ranges than segments with root words, and one more for each block that begins before the next
-pub record AreGapsFew (u : Bool) (segs : List Segment) (bs : List Block) (i memory : ℕ) : Type 0 where
-  pub ahead : (k : ℕ) (d : Segment) → i ≤ k → k < length segs → memory ≤ length (filter (has_roots u) (take i segs)) + blocks_up_to bs (get_or segs k d).vaddr
-  pub all : memory ≤ length (filter (has_roots u) (take i segs)) + length bs
+-- of the first segments there are no more ranges than segments with root words, and one more for each block and each span that begins before the next
+pub record AreGapsFew (u : Bool) (segs : List Segment) (bs : List Block) (spans : List Span) (i memory : ℕ) : Type 0 where
+  pub ahead : (k : ℕ) (d : Segment) → i ≤ k → k < length segs → memory ≤ length (filter (has_roots u) (take i segs)) + blocks_up_to bs (get_or segs k d).vaddr + spans_up_to spans (get_or segs k d).vaddr
+  pub all : memory ≤ length (filter (has_roots u) (take i segs)) + length bs + length spans
 
-pub gaps_few_first : (u : Bool) (segs : List Segment) (bs : List Block) → AreGapsFew u segs bs 0 0
-gaps_few_first u segs bs = record { ahead = λ k d l m. omega arith; all = omega arith }
+pub gaps_few_first : (u : Bool) (segs : List Segment) (bs : List Block) (spans : List Span) (memory : ℕ) → memory ≡ 0 → AreGapsFew u segs bs spans 0 memory
+gaps_few_first u segs bs spans memory none = record { ahead = λ k d l m. omega (arith, none); all = omega (arith, none) }
 
 taken : (u : Bool) (segs : List Segment) (i : ℕ) (d : Segment) → i < length segs → length (filter (has_roots u) (take (i + 1) segs)) ≡ length (filter (has_roots u) (take i segs)) + length (filter (has_roots u) (get_or segs i d ∷ []))
 taken u segs i d h =
@@ -140,55 +137,89 @@ taken_yes u segs i d h w = taken u segs i d h ∙ (rw w refl)
 taken_no : (u : Bool) (segs : List Segment) (i : ℕ) (d : Segment) → i < length segs → has_roots u (get_or segs i d) ≡ false → length (filter (has_roots u) (take (i + 1) segs)) ≡ length (filter (has_roots u) (take i segs)) + 0
 taken_no u segs i d h w = taken u segs i d h ∙ (rw w refl)
 
-segments_apart : (file : List ℕ) (segs : List Segment) (i k : ℕ) (d e : Segment) → segs ≡ segments_of file → AreKeptSegments (segments_of file) → i < k → k < length segs → (get_or segs i d).vaddr + (get_or segs i d).filesz ≤ (get_or segs k e).vaddr
-segments_apart file segs i k d e read kept l m =
-    let in_file : k < length (segments_of file) = rw read at m in
-    let a = kept.apart i k d l in_file in
+segments_apart : (file : List ℕ) (i k : ℕ) (d e : Segment) → AreKeptSegments (segments_of file) → i < k → k < length (segments_of file) → (get_or (segments_of file) i d).vaddr + (get_or (segments_of file) i d).filesz ≤ (get_or (segments_of file) k e).vaddr
+segments_apart file i k d e kept l m =
+    let a = kept.apart i k d l m in
     let s = (kept.each i d (omega arith)).sizes in
-    let same = ap (λ (t : Segment). t.vaddr) (get_or_default (segments_of file) k d e in_file) in
-    let all : (get_or (segments_of file) i d).vaddr + (get_or (segments_of file) i d).filesz ≤ (get_or (segments_of file) k e).vaddr = omega arith in
-    rw read all
+    let same = ap (λ (t : Segment). t.vaddr) (get_or_default (segments_of file) k d e m) in omega arith
 
-pub gaps_few_more : (u : Bool) (file : List ℕ) (segs : List Segment) (bs : List Block) (i memory more : ℕ) (d : Segment) → segs ≡ segments_of file → fault_of file ≡ None → i < length segs → has_roots u (get_or segs i d) ≡ true → AreGapsFew u segs bs i memory
-    → more + blocks_up_to bs (get_or segs i d).vaddr ≤ memory + blocks_up_to bs ((get_or segs i d).vaddr + (get_or segs i d).filesz) + 1 → AreGapsFew u segs bs (i + 1) more
-gaps_few_more u file segs bs i memory more d read ok h w few cuts =
+pub gaps_few_more : (u : Bool) (file : List ℕ) (bs : List Block) (spans : List Span) (i memory more : ℕ) (d : Segment) → fault_of file ≡ None → i < length (segments_of file) → has_roots u (get_or (segments_of file) i d) ≡ true → AreGapsFew u (segments_of file) bs spans i memory
+    → more + blocks_up_to bs (get_or (segments_of file) i d).vaddr + spans_up_to spans (get_or (segments_of file) i d).vaddr
+    ≤ memory + blocks_up_to bs ((get_or (segments_of file) i d).vaddr + (get_or (segments_of file) i d).filesz) + spans_up_to spans ((get_or (segments_of file) i d).vaddr + (get_or (segments_of file) i d).filesz) + 1
+    → AreGapsFew u (segments_of file) bs spans (i + 1) more
+gaps_few_more u file bs spans i memory more d ok h w few cuts =
+    let segs = segments_of file in
     let a = few.ahead i d (omega arith) h in
+    let end = (get_or segs i d).vaddr + (get_or segs i d).filesz in
     let t = taken_yes u segs i d h w in record {
       ahead = λ j e l m.
-          let apart = segments_apart file segs i j d e read (are_segments file ok).kept (omega arith) m in
-          let g = blocks_grow bs ((get_or segs i d).vaddr + (get_or segs i d).filesz) (get_or segs j e).vaddr apart in omega (arith, a, g, cuts, t);
-      all = let c = count_by-le-length (λ (b : Block). leb b.start ((get_or segs i d).vaddr + (get_or segs i d).filesz)) bs in omega (arith, a, c, cuts, t);
+          let apart = segments_apart file i j d e (are_segments file ok).kept (omega arith) m in
+          let g = blocks_grow bs end (get_or segs j e).vaddr apart in
+          let g' = spans_grow spans end (get_or segs j e).vaddr apart in omega (arith, a, g, g', cuts, t);
+      all = let c = count_by-le-length (λ (b : Block). leb b.start end) bs in
+          let c' = count_by-le-length (λ (s : Span). leb s.first end) spans in omega (arith, a, c, c', cuts, t);
     }
 
-pub gaps_few_same : (u : Bool) (segs : List Segment) (bs : List Block) (i memory : ℕ) (d : Segment) → i < length segs → has_roots u (get_or segs i d) ≡ false → AreGapsFew u segs bs i memory → AreGapsFew u segs bs (i + 1) memory
-gaps_few_same u segs bs i memory d h w few =
+pub gaps_few_same : (u : Bool) (segs : List Segment) (bs : List Block) (spans : List Span) (i memory : ℕ) (d : Segment) → i < length segs → has_roots u (get_or segs i d) ≡ false → AreGapsFew u segs bs spans i memory → AreGapsFew u segs bs spans (i + 1) memory
+gaps_few_same u segs bs spans i memory d h w few =
     let t = taken_no u segs i d h w in record {
       ahead = λ j e l m. let a = few.ahead j e (omega arith) m in omega (arith, a, t);
       all = let a = few.all in omega (arith, a, t);
     }
 
--- the same for the segments as they are read
-pub gaps_read_more : (u : Bool) (file : List ℕ) (segs : List Segment) (bs : List Block) (i memory more : ℕ) (d : Segment) → segs ≡ segments_of file → fault_of file ≡ None → i < length segs → has_roots u (get_or segs i d) ≡ true → AreGapsFew u (segments_of file) bs i memory
-    → more + blocks_up_to bs (get_or segs i d).vaddr ≤ memory + blocks_up_to bs ((get_or segs i d).vaddr + (get_or segs i d).filesz) + 1 → AreGapsFew u (segments_of file) bs (i + 1) more
-gaps_read_more u file segs bs i memory more d read ok h w few cuts =
-    subst (λ (s : List Segment). AreGapsFew u s bs (i + 1) more) read
-    (gaps_few_more u file segs bs i memory more d read ok h w (subst (λ (s : List Segment). AreGapsFew u s bs i memory) (sym read) few) cuts)
+pub gaps_few_all : (u : Bool) (segs : List Segment) (bs : List Block) (spans : List Span) (i memory : ℕ) → length segs ≤ i → AreGapsFew u segs bs spans i memory → memory ≤ length (filter (has_roots u) segs) + length bs + length spans
+gaps_few_all u segs bs spans i memory h few = rw (take_all i segs h) at few.all
 
-pub gaps_read_same : (u : Bool) (file : List ℕ) (segs : List Segment) (bs : List Block) (i memory : ℕ) (d : Segment) → segs ≡ segments_of file → i < length segs → has_roots u (get_or segs i d) ≡ false → AreGapsFew u (segments_of file) bs i memory
-    → AreGapsFew u (segments_of file) bs (i + 1) memory
-gaps_read_same u file segs bs i memory d read h w few =
-    subst (λ (s : List Segment). AreGapsFew u s bs (i + 1) memory) read
-    (gaps_few_same u segs bs i memory d h w (subst (λ (s : List Segment). AreGapsFew u s bs i memory) (sym read) few))
+-- one range is added between blocks, if any, and it is cut by spans alone
+pub gap_cut : (spans : List Span) (from to first last new more : ℕ) → from ≤ first → first < last → last ≤ to → more + spans_up_to spans first ≤ new + spans_up_to spans last + 1 → more + spans_up_to spans from ≤ new + spans_up_to spans (max from to) + min (to - from) 1
+gap_cut spans from to first last new more l some m cuts =
+    let a = spans_grow spans from first l in
+    let b = spans_grow spans last (max from to) (omega arith) in omega (arith, a, b, cuts, l, some, m)
 
-pub gaps_read_all : (u : Bool) (file : List ℕ) (segs : List Segment) (bs : List Block) (i memory : ℕ) → segs ≡ segments_of file → length segs ≤ i → AreGapsFew u (segments_of file) bs i memory → memory ≤ length (filter (has_roots u) (segments_of file)) + length bs
-gaps_read_all u file segs bs i memory read h few =
-    let n = ap (λ (s : List Segment). length s) read in
-    subst (λ (s : List Segment). memory ≤ length (filter (has_roots u) s) + length bs) (take_all i (segments_of file) (omega (arith, n, h))) few.all
+pub gap_none : (spans : List Span) (from to new : ℕ) → new + spans_up_to spans from ≤ new + spans_up_to spans (max from to) + min (to - from) 1
+gap_none spans from to new = let a = spans_grow spans from (max from to) (omega arith) in omega (arith, a)
+
+pub gap_first : (spans : List Span) (old up i from to : ℕ) → from ≤ to → old + up + spans_up_to spans from ≤ old + max up i + spans_up_to spans (min from to)
+gap_first spans old up i from to l = let a = spans_grow spans from (min from to) (omega arith) in omega (arith, a)
 
 -- one range more between blocks: none before the first block that begins behind `from`, and one at most for each block from it on
-pub gap_more : (old new more up i start cursor from : ℕ) → new + up ≤ old + max up i → more ≤ new + min (start - cursor) 1 → from ≤ cursor → (i < up → start ≤ from) → more + up ≤ old + max up (i + 1)
-gap_more old new more up i start cursor from few one low before =
-    ⊎_elim (λ less. let b = before less in omega (arith, few, one, low, b, less)) (λ later. omega (arith, few, one, later)) (cases_lt i up)
+pub gap_more : (spans : List Span) (old new more up i start size cursor from to : ℕ) → new + up + spans_up_to spans from ≤ old + max up i + spans_up_to spans (min cursor to)
+    → more + spans_up_to spans cursor ≤ new + spans_up_to spans (max cursor start) + min (start - cursor) 1 → from ≤ cursor → start ≤ to → (i < up → start ≤ from)
+    → more + up + spans_up_to spans from ≤ old + max up (i + 1) + spans_up_to spans (min (max cursor (start + size)) to)
+gap_more spans old new more up i start size cursor from to few one low high before =
+    let end = min (max cursor (start + size)) to in
+    elim (cases_lt cursor start) [
+      | inl some ↦
+          let a : min cursor to ≡ cursor = omega arith in
+          let b : max cursor start ≡ start = omega arith in
+          let f = rw a at few in
+          let o = rw b at one in
+          let g = spans_grow spans start end (omega arith) in
+          let later : up ≤ i = ⊎_elim (λ less. let s = before less in omega (arith, s, low, some)) (λ l. l) (cases_lt i up) in
+          omega (arith, f, o, g, later, some)
+      | inr none ↦
+          let b : max cursor start ≡ cursor = omega arith in
+          let o = rw b at one in
+          let g = spans_grow spans (min cursor to) end (omega arith) in
+          omega (arith, few, o, g, none)
+    ]
+
+-- and one at most after the last
+pub gap_last : (spans : List Span) (old new more up i cursor from to : ℕ) → new + up + spans_up_to spans from ≤ old + max up i + spans_up_to spans (min cursor to)
+    → more + spans_up_to spans cursor ≤ new + spans_up_to spans (max cursor to) + min (to - cursor) 1 → more + up + spans_up_to spans from ≤ old + max up i + spans_up_to spans to + 1
+gap_last spans old new more up i cursor from to few one =
+    elim (cases_lt cursor to) [
+      | inl some ↦
+          let a : min cursor to ≡ cursor = omega arith in
+          let b : max cursor to ≡ to = omega arith in
+          let f = rw a at few in
+          let o = rw b at one in omega (arith, f, o)
+      | inr none ↦
+          let a : min cursor to ≡ to = omega arith in
+          let b : max cursor to ≡ cursor = omega arith in
+          let f = rw a at few in
+          let o = rw b at one in omega (arith, f, o, none)
+    ]
 
 -- the first blocks are counted
 pub blocks_counted : (bs : List Block) (n addr : ℕ) (d : Block) → n ≤ length bs → ((k : ℕ) → k < n → leb (get_or bs k d).start addr ≡ true) → ((k : ℕ) → n ≤ k → k < length bs → leb (get_or bs k d).start addr ≡ false) → n ≡ blocks_up_to bs addr

@@ -1,5 +1,5 @@
 -- The words between the bytes of blocks.
-use Rattle.std.proofs.Common.{◌≡◌, ℕ, zero, suc, ◌+◌, ◌-◌, ◌%◌, ◌<◌, ◌≤◌, ◌^◌, max, min, Bool, true, false, not, ◌&&◌, eqb, ◌⊎◌, inl, inr, List, [], ◌∷◌, ◌++◌, length, get_or, filter, refl, ap, ◌∙◌, append_assoc, arith}
+use Rattle.std.proofs.Common.{◌≡◌, ℕ, zero, suc, ◌+◌, ◌-◌, ◌%◌, ◌<◌, ◌≤◌, ◌^◌, max, min, Bool, true, false, not, ◌&&◌, eqb, ◌⊎◌, inl, inr, List, [], ◌∷◌, ◌++◌, length, get_or, filter, refl, ap, ◌∙◌, arith}
 use Rattle.std.specs.List.{list_all, range_with_len, AllByRecursion}
 use Rattle.std.proofs.lemmas.Bool.{le-ltb, lt-ltb, cases_lt}
 use Rattle.std.proofs.lemmas.List.Elements.{filter-append}
@@ -10,10 +10,12 @@ use Rattle.leak_lemmas.proofs.Ranges.{range-append, filter_same, filter_none}
 use Rattle.leak_elf.specs.Words.{places}
 use Rattle.leak_blocks.specs.declared.block.Block.{Block}
 use Rattle.leak_blocks.specs.Span.{AreAddressed, AreDisjoint, span_end}
-use Rattle.leak_roots.specs.Places.{AreRanges, EndBy, memory_places, aligned_places}
+use Rattle.leak_roots.specs.declared.inside.Kept.{Kept}
+use Rattle.leak_roots.specs.Kept.{Adds, LiesBefore}
+use Rattle.leak_roots.specs.Places.{aligned_places}
 use Rattle.leak_roots.specs.Roots.{AreOrdered, is_apart, is_free}
 use Rattle.leak_roots.proofs.Addresses.{range_same}
-use Rattle.leak_roots.proofs.Ranges.{end_later}
+use Rattle.leak_roots.proofs.LeftOut.{adds_more, before_later}
 
 apart_before : (a : ℕ) (b : Block) → a + 8 ≤ b.start → is_apart a b ≡ true
 apart_before a b h = ap not (le-ltb (max a b.start) (min (a + 8) (b.start + b.size)) (omega arith))
@@ -103,54 +105,53 @@ past_first bs n c ordered l within k d m o = let a = ordered.apart k (k + 1) d (
 pub starts_ascend : (bs : List Block) (j k : ℕ) (d : Block) (c : ℕ) → AreOrdered bs → j ≤ k → k < length bs → (get_or bs k d).start ≤ c → (get_or bs j d).start ≤ c
 starts_ascend bs j k d c ordered l h e = let s = later_start bs j k d ordered l h in omega arith
 
--- The words before the cursor were added, and no range passes it. The words that are left come after it.
-pub record Filled (bs : List Block) (to : ℕ) (all : List ℕ) (memory : List (ℕ × ℕ)) (i cursor : ℕ) : Type 0 where
-  pub ranges : AreRanges memory
-  pub low : EndBy cursor memory
-  pub high : EndBy to memory
+-- The words before the cursor were added: to add those after it is to add all of them.
+pub record Filled (bs : List Block) (to : ℕ) (all : List ℕ) (first now : Kept) (i cursor : ℕ) : Type 0 where
+  pub same : now.spans.now ≡ first.spans.now
+  pub low : LiesBefore cursor now
+  pub high : LiesBefore to now
   pub past : IsPast bs i cursor
-  pub left : memory_places memory ++ filter (is_free bs) (places cursor to) ≡ all
+  pub left : (rest : Kept) → Adds (filter (is_free bs) (places cursor to)) now rest → Adds all first rest
 
 -- a block with bytes is passed
-pub filled_more : (bs : List Block) (to : ℕ) (all : List ℕ) (memory more : List (ℕ × ℕ)) (i cursor : ℕ) (d : Block) → AreOrdered bs → i < length bs → 0 < (get_or bs i d).size → (get_or bs i d).start ≤ to → Filled bs to all memory i cursor
-    → memory_places more ≡ memory_places memory ++ aligned_places cursor (get_or bs i d).start → AreRanges more → ((addr : ℕ) → (get_or bs i d).start ≤ addr → EndBy addr memory → EndBy addr more)
-    → Filled bs to all more (i + 1) (max cursor ((get_or bs i d).start + (get_or bs i d).size))
-filled_more bs to all memory more i cursor d ordered h some low filled places' ranges' ends =
+pub filled_more : (bs : List Block) (to : ℕ) (all : List ℕ) (first now more : Kept) (i cursor : ℕ) (d : Block) → AreOrdered bs → i < length bs → 0 < (get_or bs i d).size → (get_or bs i d).start ≤ to → Filled bs to all first now i cursor
+    → Adds (aligned_places cursor (get_or bs i d).start) now more → ((addr : ℕ) → (get_or bs i d).start ≤ addr → LiesBefore addr now → LiesBefore addr more)
+    → Filled bs to all first more (i + 1) (max cursor ((get_or bs i d).start + (get_or bs i d).size))
+filled_more bs to all first now more i cursor d ordered h some low filled adds before =
     let b = get_or bs i d in
     let e = max cursor (b.start + b.size) in
-    let f = filter (is_free bs) (places e to) in
     record {
-      ranges = ranges';
-      low = ends e (omega arith) (end_later cursor e memory (omega arith) filled.low);
-      high = ends to low filled.high;
+      same = adds.spans ∙ filled.same;
+      low = before e (omega arith) (before_later cursor e now (omega arith) filled.low);
+      high = before to low filled.high;
       past = past_more bs i cursor e d h filled.past (omega arith) (inr (omega arith));
-      left = (rw (places', append_assoc (memory_places memory) (aligned_places cursor b.start) f, ← gap_step bs i cursor to d ordered h filled.past some low) filled.left);
+      left = λ rest after. filled.left rest (rw (gap_step bs i cursor to d ordered h filled.past some low) (adds_more _ _ now more rest adds after));
     }
 
 -- a block without bytes is passed
-pub filled_same : (bs : List Block) (to : ℕ) (all : List ℕ) (memory : List (ℕ × ℕ)) (i cursor : ℕ) (d : Block) → i < length bs → (get_or bs i d).size ≡ 0 → Filled bs to all memory i cursor → Filled bs to all memory (i + 1) cursor
-filled_same bs to all memory i cursor d h none filled = record {
-  ranges = filled.ranges;
+pub filled_same : (bs : List Block) (to : ℕ) (all : List ℕ) (first now : Kept) (i cursor : ℕ) (d : Block) → i < length bs → (get_or bs i d).size ≡ 0 → Filled bs to all first now i cursor → Filled bs to all first now (i + 1) cursor
+filled_same bs to all first now i cursor d h none filled = record {
+  same = filled.same;
   low = filled.low;
   high = filled.high;
   past = past_more bs i cursor cursor d h filled.past (omega arith) (inl none);
   left = filled.left;
 }
 
-pub filled_first : (bs : List Block) (from to n : ℕ) (memory : List (ℕ × ℕ)) → AreOrdered bs → from ≤ to → n ≤ length bs → ((k : ℕ) (d : Block) → k < n → (get_or bs k d).start ≤ from) → AreRanges memory → EndBy from memory
-    → Filled bs to (memory_places memory ++ filter (is_free bs) (places from to)) memory (n - 1) from
-filled_first bs from to n memory ordered l h within ranges' ends = record {
-  ranges = ranges';
-  low = ends;
-  high = end_later from to memory l ends;
+pub filled_first : (bs : List Block) (from to n : ℕ) (first : Kept) → AreOrdered bs → from ≤ to → n ≤ length bs → ((k : ℕ) (d : Block) → k < n → (get_or bs k d).start ≤ from) → LiesBefore from first
+    → Filled bs to (filter (is_free bs) (places from to)) first first (n - 1) from
+filled_first bs from to n first ordered l h within before = record {
+  same = refl;
+  low = before;
+  high = before_later from to first l before;
   past = past_first bs n from ordered h within;
-  left = refl;
+  left = λ rest after. after;
 }
 
 -- all blocks that begin before the end are passed
-pub filled_all : (bs : List Block) (to : ℕ) (all : List ℕ) (memory more : List (ℕ × ℕ)) (i cursor : ℕ) (d : Block) → Filled bs to all memory i cursor → ((k : ℕ) → i ≤ k → k < length bs → to ≤ (get_or bs k d).start)
-    → memory_places more ≡ memory_places memory ++ aligned_places cursor to → memory_places more ≡ all
-filled_all bs to all memory more i cursor d filled high places' = places' ∙ (rw (← gap_end bs i cursor to d filled.past high) filled.left)
+pub filled_all : (bs : List Block) (to : ℕ) (all : List ℕ) (first now more : Kept) (i cursor : ℕ) (d : Block) → Filled bs to all first now i cursor → ((k : ℕ) → i ≤ k → k < length bs → to ≤ (get_or bs k d).start)
+    → Adds (aligned_places cursor to) now more → Adds all first more
+filled_all bs to all first now more i cursor d filled high adds = filled.left more (rw (gap_end bs i cursor to d filled.past high) adds)
 
 -- live blocks are ordered
 ordered_at : (b : Block) (bs : List Block) (k : ℕ) (d : Block) → AllByRecursion (λ c. span_end b ≤ c.start) bs → k < length bs → b.start + b.size ≤ (get_or bs k d).start

@@ -2,12 +2,14 @@
 use Rattle.std.proofs.Common.{◌≡◌, ℕ, zero, suc, ◌+◌, ◌-◌, ◌*◌, ◌/◌, ◌%◌, ◌<◌, ◌≤◌, Bool, true, false, not, inl, inr, List, [], ◌∷◌, ◌++◌, length, get_or, take, map, filter, refl, sym, ap, subst, ◌∙◌, append-nil, append_assoc, arith}
 use Rattle.std.specs.List.{AllByRecursion, list_all, range_with_len}
 use Rattle.std.proofs.lemmas.Bool.{cases_lt}
-use Rattle.std.proofs.lemmas.List.{take_more, take_all, get_or_default, length-map, length-append}
+use Rattle.std.proofs.lemmas.List.{take_more, get_or_default, length-map, length-append}
 use Rattle.std.proofs.lemmas.List.Elements.{filter-append}
 use Rattle.std.proofs.lemmas.List.FromFn.{length-range_with_len}
 use Rattle.leak_lemmas.proofs.Members.{each_push}
 use Rattle.leak_blocks.specs.declared.small.Span.{Span}
 use Rattle.leak_blocks.specs.Small.{AreApart, CoverSame, is_covered}
+use Rattle.leak_roots.specs.declared.inside.Kept.{Kept}
+use Rattle.leak_roots.specs.Kept.{Adds, LiesBefore}
 use Rattle.leak_roots.specs.Places.{IsRange, AreRanges, EndBy, addresses_in, memory_places}
 use Rattle.leak_roots.specs.Roots.{is_inside}
 use Rattle.leak_roots.proofs.Addresses.{addresses_in-split}
@@ -34,89 +36,123 @@ pass_all p from to m h = filter_true p (λ (i : ℕ). from + 8 * i) 0 ((to - fro
 pass_none : (p : ℕ → Bool) (from to : ℕ) → from % 8 ≡ 0 → ((a : ℕ) → from ≤ a → a < to → a % 8 ≡ 0 → p a ≡ false) → filter p (addresses_in (from, to)) ≡ []
 pass_none p from to m h = filter_false p (λ (i : ℕ). from + 8 * i) 0 ((to - from) / 8) (λ k l n. h (from + 8 * k) (omega arith) (omega arith) (omega arith))
 
--- the places of the range before the cursor: those outside the spans were added, and the others counted
-pub record AreKept (spans : List Span) (range : ℕ × ℕ) (old new : List (ℕ × ℕ)) (inside cursor : ℕ) : Type 0 where
+-- ---- places that are added
+
+pub adds_none : (kept : Kept) → Adds [] kept kept
+adds_none kept = record { spans = refl; memory = sym (append-nil (memory_places kept.memory.items)); inside = omega arith }
+
+pub adds_more : (xs ys : List ℕ) (a b c : Kept) → Adds xs a b → Adds ys b c → Adds (xs ++ ys) a c
+adds_more xs ys a b c x y =
+    let out = λ (n : ℕ). not (is_inside a.spans.now n) in
+    let kept : memory_places c.memory.items ≡ memory_places b.memory.items ++ filter out ys = rw x.spans at y.memory in
+    let counted : c.inside ≡ b.inside + length (filter (is_inside a.spans.now) ys) = rw x.spans at y.inside in
+    record {
+      spans = y.spans ∙ x.spans;
+      memory = kept ∙ ap (λ (zs : List ℕ). zs ++ filter out ys) x.memory ∙ append_assoc (memory_places a.memory.items) (filter out xs) (filter out ys)
+          ∙ ap (λ (zs : List ℕ). memory_places a.memory.items ++ zs) (sym (filter-append out xs ys));
+      inside = let m = x.inside in let n = ap length (filter-append (is_inside a.spans.now) xs ys) in
+          let l = length-append (filter (is_inside a.spans.now) xs) (filter (is_inside a.spans.now) ys) in omega (arith, m, counted, n, l);
+    }
+
+-- no place was added yet
+pub record HasNone (spans : List Span) (kept : Kept) : Type 0 where
+  pub memory : kept.memory.items ≡ []
+  pub inside : kept.inside ≡ 0
+  pub same : kept.spans.now ≡ spans
+
+pub none_before : (spans : List Span) (kept : Kept) (addr : ℕ) → AreApart spans → HasNone spans kept → LiesBefore addr kept
+none_before spans kept addr apart none = record { apart = rw none.same apart; ranges = rw none.memory tt; ends = rw none.memory tt; room = let i = none.inside in omega arith }
+
+-- after them those outside the spans are kept, and the others counted
+pub all_kept : (spans : List Span) (places : List ℕ) (first kept : Kept) → HasNone spans first → Adds places first kept → memory_places kept.memory.items ≡ filter (λ a. not (is_inside spans a)) places
+all_kept spans places first kept none adds = rw (none.memory, none.same) at adds.memory
+
+pub all_counted : (spans : List Span) (places : List ℕ) (first kept : Kept) → HasNone spans first → Adds places first kept → kept.inside ≡ length (filter (is_inside spans) places)
+all_counted spans places first kept none adds = let i = none.inside in let a = rw none.same at adds.inside in omega (arith, i, a)
+
+-- a range of places outside the spans
+adds_kept : (old new : Kept) (from to : ℕ) → from % 8 ≡ 0 → ((a : ℕ) → from ≤ a → a < to → a % 8 ≡ 0 → is_inside old.spans.now a ≡ false)
+    → new.spans.now ≡ old.spans.now → new.memory.items ≡ old.memory.items ++ (from, to) ∷ [] → new.inside ≡ old.inside → Adds (addresses_in (from, to)) old new
+adds_kept old new from to f alike same more i = record {
+  spans = same;
+  memory = ap memory_places more ∙ places_push old.memory.items (from, to)
+      ∙ ap (λ (xs : List ℕ). memory_places old.memory.items ++ xs) (sym (pass_all (λ a. not (is_inside old.spans.now a)) from to f (λ a l m n. ap not (alike a l m n))));
+  inside = let z = ap length (pass_none (is_inside old.spans.now) from to f alike) in omega (arith, z, i);
+}
+
+-- a range of places inside the spans
+adds_counted : (old new : Kept) (from to : ℕ) → from % 8 ≡ 0 → ((a : ℕ) → from ≤ a → a < to → a % 8 ≡ 0 → is_inside old.spans.now a ≡ true)
+    → new.spans.now ≡ old.spans.now → new.memory.items ≡ old.memory.items → new.inside ≡ old.inside + (to - from) / 8 → Adds (addresses_in (from, to)) old new
+adds_counted old new from to f alike same more i = record {
+  spans = same;
+  memory = ap memory_places more ∙ sym (append-nil (memory_places old.memory.items))
+      ∙ ap (λ (xs : List ℕ). memory_places old.memory.items ++ xs) (sym (pass_none (λ a. not (is_inside old.spans.now a)) from to f (λ a l m n. ap not (alike a l m n))));
+  inside = let z = ap length (pass_all (is_inside old.spans.now) from to f alike) in let n = length-addresses from to in omega (arith, z, n, i);
+}
+
+pub before_later : (a b : ℕ) (kept : Kept) → a ≤ b → LiesBefore a kept → LiesBefore b kept
+before_later a b kept l k = record { apart = k.apart; ranges = k.ranges; ends = end_later a b kept.memory.items l k.ends; room = let r = k.room in omega arith }
+
+before_kept : (old new : Kept) (from to : ℕ) → IsRange (from, to) → new.spans.now ≡ old.spans.now → new.memory.items ≡ old.memory.items ++ (from, to) ∷ [] → new.inside ≡ old.inside → LiesBefore from old → LiesBefore to new
+before_kept old new from to is same more i k =
+    let s = is.some in record {
+      apart = rw same k.apart;
+      ranges = rw more (ranges_push old.memory.items (from, to) k.ranges k.ends is);
+      ends = rw more (each_push (λ (r : ℕ × ℕ). r.1 ≤ to) old.memory.items (from, to) (end_later from to old.memory.items (omega arith) k.ends) (omega arith));
+      room = let r = k.room in omega arith;
+    }
+
+before_counted : (old new : Kept) (from to : ℕ) → from < to → new.spans.now ≡ old.spans.now → new.memory.items ≡ old.memory.items → new.inside ≡ old.inside + (to - from) / 8 → LiesBefore from old → LiesBefore to new
+before_counted old new from to some same more i k = record {
+  apart = rw same k.apart;
+  ranges = rw more k.ranges;
+  ends = rw more (end_later from to old.memory.items (omega arith) k.ends);
+  room = let r = k.room in omega arith;
+}
+
+-- the places of the range before the cursor were added
+pub record AreKept (range : ℕ × ℕ) (old new : Kept) (cursor : ℕ) : Type 0 where
   pub low : range.0 ≤ cursor
   pub high : cursor ≤ range.1
   pub multiple : cursor % 8 ≡ 0
-  pub ranges : AreRanges new
-  pub ends : EndBy cursor new
-  pub kept : memory_places new ≡ memory_places old ++ filter (λ a. not (is_inside spans a)) (addresses_in (range.0, cursor))
-  pub counted : inside ≡ length (filter (is_inside spans) (addresses_in (range.0, cursor)))
-  pub few : range.0 + 8 * inside ≤ cursor
+  pub adds : Adds (addresses_in (range.0, cursor)) old new
+  pub before : LiesBefore cursor new
 
-pub kept_first : (spans : List Span) (range : ℕ × ℕ) (old : List (ℕ × ℕ)) → IsRange range → AreRanges old → EndBy range.0 old → AreKept spans range old old 0 range.0
-kept_first spans range old is ranges' ends' = record {
+pub kept_first : (range : ℕ × ℕ) (old : Kept) → IsRange range → LiesBefore range.0 old → AreKept range old old range.0
+kept_first range old is k = record {
   low = omega arith;
   high = let s = is.some in omega arith;
   multiple = is.from_multiple;
-  ranges = ranges';
-  ends = ends';
-  kept = let z : (range.0 - range.0) / 8 ≡ 0 = omega arith in rw z (sym (append-nil (memory_places old)));
-  counted = let z : (range.0 - range.0) / 8 ≡ 0 = omega arith in rw z refl;
-  few = omega arith;
+  adds = let z : (range.0 - range.0) / 8 ≡ 0 = omega arith in rw z (adds_none old);
+  before = k;
 }
 
-filter_split : (p : ℕ → Bool) (a b c : ℕ) → a % 8 ≡ 0 → b % 8 ≡ 0 → c % 8 ≡ 0 → a ≤ b → b ≤ c → filter p (addresses_in (a, c)) ≡ filter p (addresses_in (a, b)) ++ filter p (addresses_in (b, c))
-filter_split p a b c x y z l m = ap (filter p) (addresses_in-split a b c x y z l m) ∙ filter-append p (addresses_in (a, b)) (addresses_in (b, c))
+kept_step : (range : ℕ × ℕ) (old new more : Kept) (cursor end : ℕ) → IsRange range → AreKept range old new cursor → cursor < end → end ≤ range.1 → end % 8 ≡ 0
+    → Adds (addresses_in (cursor, end)) new more → LiesBefore end more → AreKept range old more end
+kept_step range old new more cursor end is k some within multiple' adds' before' =
+    let low' = k.low in record {
+      low = omega arith;
+      high = within;
+      multiple = multiple';
+      adds = rw (addresses_in-split range.0 cursor end is.from_multiple k.multiple multiple' low' (omega arith)) (adds_more _ _ old new more k.adds adds');
+      before = before';
+    }
 
 -- places more outside the spans
-pub kept_more : (spans : List Span) (range : ℕ × ℕ) (old new more : List (ℕ × ℕ)) (inside cursor end : ℕ) → IsRange range → AreKept spans range old new inside cursor → cursor < end → end ≤ range.1 → end % 8 ≡ 0
-    → ((a : ℕ) → cursor ≤ a → a < end → a % 8 ≡ 0 → is_inside spans a ≡ false) → more ≡ new ++ (cursor, end) ∷ [] → AreKept spans range old more inside end
-kept_more spans range old new more inside cursor end is k some high' multiple' alike e =
-    let low' = k.low in
-    let f = is.from_multiple in
-    let g = k.multiple in
-    let few' = k.few in
-    let one : IsRange (cursor, end) = record { some = some; from_multiple = g; to_multiple = multiple' } in
-    record {
-      low = omega arith;
-      high = high';
-      multiple = multiple';
-      ranges = rw e (ranges_push new (cursor, end) k.ranges k.ends one);
-      ends = rw e (each_push (λ (r : ℕ × ℕ). r.1 ≤ end) new (cursor, end) (end_later cursor end new (omega arith) k.ends) (omega arith));
-      kept = ap memory_places e ∙ places_push new (cursor, end)
-          ∙ ap (λ (xs : List ℕ). xs ++ addresses_in (cursor, end)) k.kept
-          ∙ append_assoc (memory_places old) (filter (λ a. not (is_inside spans a)) (addresses_in (range.0, cursor))) (addresses_in (cursor, end))
-          ∙ ap (λ (xs : List ℕ). memory_places old ++ xs)
-          (ap (λ (xs : List ℕ). filter (λ a. not (is_inside spans a)) (addresses_in (range.0, cursor)) ++ xs) (sym (pass_all (λ a. not (is_inside spans a)) cursor end g (λ a l m n. ap not (alike a l m n))))
-          ∙ sym (filter_split (λ a. not (is_inside spans a)) range.0 cursor end f g multiple' low' (omega arith)));
-      counted = k.counted
-          ∙ ap length (sym (append-nil (filter (is_inside spans) (addresses_in (range.0, cursor)))))
-          ∙ ap (λ (xs : List ℕ). length (filter (is_inside spans) (addresses_in (range.0, cursor)) ++ xs)) (sym (pass_none (is_inside spans) cursor end g alike))
-          ∙ ap length (sym (filter_split (is_inside spans) range.0 cursor end f g multiple' low' (omega arith)));
-      few = omega arith;
-    }
+pub kept_more : (range : ℕ × ℕ) (old new more : Kept) (cursor end : ℕ) → IsRange range → AreKept range old new cursor → cursor < end → end ≤ range.1 → end % 8 ≡ 0
+    → ((a : ℕ) → cursor ≤ a → a < end → a % 8 ≡ 0 → is_inside new.spans.now a ≡ false) → more.spans.now ≡ new.spans.now → more.memory.items ≡ new.memory.items ++ (cursor, end) ∷ [] → more.inside ≡ new.inside
+    → AreKept range old more end
+kept_more range old new more cursor end is k some within multiple' alike same items i =
+    kept_step range old new more cursor end is k some within multiple' (adds_kept new more cursor end k.multiple alike same items i)
+    (before_kept new more cursor end (record { some = some; from_multiple = k.multiple; to_multiple = multiple' }) same items i k.before)
 
 -- places more inside the spans
-pub kept_less : (spans : List Span) (range : ℕ × ℕ) (old new : List (ℕ × ℕ)) (inside more cursor end : ℕ) → IsRange range → AreKept spans range old new inside cursor → cursor < end → end ≤ range.1 → end % 8 ≡ 0
-    → ((a : ℕ) → cursor ≤ a → a < end → a % 8 ≡ 0 → is_inside spans a ≡ true) → more ≡ inside + (end - cursor) / 8 → AreKept spans range old new more end
-kept_less spans range old new inside more cursor end is k some high' multiple' alike e =
-    let low' = k.low in
-    let f = is.from_multiple in
-    let g = k.multiple in
-    let few' = k.few in
-    record {
-      low = omega arith;
-      high = high';
-      multiple = multiple';
-      ranges = k.ranges;
-      ends = end_later cursor end new (omega arith) k.ends;
-      kept = k.kept
-          ∙ ap (λ (xs : List ℕ). memory_places old ++ xs)
-          (sym (append-nil (filter (λ a. not (is_inside spans a)) (addresses_in (range.0, cursor))))
-          ∙ ap (λ (xs : List ℕ). filter (λ a. not (is_inside spans a)) (addresses_in (range.0, cursor)) ++ xs) (sym (pass_none (λ a. not (is_inside spans a)) cursor end g (λ a l m n. ap not (alike a l m n))))
-          ∙ sym (filter_split (λ a. not (is_inside spans a)) range.0 cursor end f g multiple' low' (omega arith)));
-      counted = e ∙ ap (λ (n : ℕ). n + (end - cursor) / 8) k.counted
-          ∙ ap (λ (n : ℕ). length (filter (is_inside spans) (addresses_in (range.0, cursor))) + n) (sym (length-addresses cursor end))
-          ∙ sym (length-append (filter (is_inside spans) (addresses_in (range.0, cursor))) (addresses_in (cursor, end)))
-          ∙ ap (λ (xs : List ℕ). length (filter (is_inside spans) (addresses_in (range.0, cursor)) ++ xs)) (sym (pass_all (is_inside spans) cursor end g alike))
-          ∙ ap length (sym (filter_split (is_inside spans) range.0 cursor end f g multiple' low' (omega arith)));
-      few = omega arith;
-    }
-
-pub kept_all : (spans : List Span) (range : ℕ × ℕ) (old new : List (ℕ × ℕ)) (inside cursor : ℕ) → range.1 ≤ cursor → AreKept spans range old new inside cursor → AreKept spans range old new inside range.1
-kept_all spans range old new inside cursor end k = let h = k.high in let e : cursor ≡ range.1 = omega arith in subst (λ (c : ℕ). AreKept spans range old new inside c) e k
+pub kept_less : (range : ℕ × ℕ) (old new more : Kept) (cursor end : ℕ) → IsRange range → AreKept range old new cursor → cursor < end → end ≤ range.1 → end % 8 ≡ 0
+    → ((a : ℕ) → cursor ≤ a → a < end → a % 8 ≡ 0 → is_inside new.spans.now a ≡ true) → more.spans.now ≡ new.spans.now → more.memory.items ≡ new.memory.items → more.inside ≡ new.inside + (end - cursor) / 8
+    → AreKept range old more end
+kept_less range old new more cursor end is k some within multiple' alike same items i =
+    kept_step range old new more cursor end is k some within multiple' (adds_counted new more cursor end k.multiple alike same items i)
+    (before_counted new more cursor end some same items i k.before)
 
 -- ---- one range after another
 
@@ -158,11 +194,11 @@ filter_more p memory i d h =
 
 pub all_kept_more : (spans : List Span) (memory : List (ℕ × ℕ)) (i : ℕ) (kept more : List (ℕ × ℕ)) (inside count : ℕ) (d : ℕ × ℕ) → AreRanges memory → i < length memory → AreAllKept spans memory i kept inside
     → memory_places more ≡ memory_places kept ++ filter (λ a. not (is_inside spans a)) (addresses_in (get_or memory i d)) → AreRanges more → EndBy (get_or memory i d).1 more
-    → count ≡ length (filter (is_inside spans) (addresses_in (get_or memory i d))) → (get_or memory i d).0 + 8 * count ≤ (get_or memory i d).1 → AreAllKept spans memory (i + 1) more (inside + count)
+    → count ≡ length (filter (is_inside spans) (addresses_in (get_or memory i d))) → 8 * (inside + count) ≤ (get_or memory i d).1 → AreAllKept spans memory (i + 1) more (inside + count)
 all_kept_more spans memory i kept more inside count d are h k places' ranges' ends' counted' few' = record {
   ranges = ranges';
   ends = λ j e l m. end_later (get_or memory i d).1 (get_or memory j e).0 more (let a = ranges_apart memory i j d are (omega arith) m in let q = get_or_default memory j d e m in rw (← q) a) ends';
-  few = λ j e l m. let a = ranges_apart memory i j d are (omega arith) m in let q = get_or_default memory j d e m in let b = k.few i d (omega arith) h in rw (← q) (omega arith);
+  few = λ j e l m. let a = ranges_apart memory i j d are (omega arith) m in let q = get_or_default memory j d e m in rw (← q) (omega arith);
   places = places' ∙ ap (λ (xs : List ℕ). xs ++ filter (λ a. not (is_inside spans a)) (addresses_in (get_or memory i d))) k.places ∙ sym (filter_more (λ a. not (is_inside spans a)) memory i d h);
   counted = ap (λ (n : ℕ). n + count) k.counted
       ∙ ap (λ (n : ℕ). length (filter (is_inside spans) (memory_places (take i memory))) + n) counted'
@@ -193,18 +229,9 @@ all_kept_ahead spans memory (suc i) are apart l ahead =
     (ranges_push (take i memory) r before.ranges end one)
     (each_push (λ (s : ℕ × ℕ). s.1 ≤ r.1) (take i memory) r (end_later r.0 r.1 (take i memory) (let s = one.some in omega arith) end) (omega arith))
     (sym (ap length (pass_none (is_inside spans) r.0 r.1 one.from_multiple out)))
-    (let s = one.some in omega arith) in
+    (omega arith) in
     let next : i + 1 ≡ suc i = omega arith in
     subst (λ (n : ℕ). AreAllKept spans memory n (take n memory) 0) next (subst (λ (rs : List (ℕ × ℕ)). AreAllKept spans memory (i + 1) rs 0) (sym more) grown)
-
-pub all_kept_all : (spans : List Span) (memory : List (ℕ × ℕ)) (i : ℕ) (kept : List (ℕ × ℕ)) (inside : ℕ) → length memory ≤ i → AreAllKept spans memory i kept inside → AreAllKept spans memory (length memory) kept inside
-all_kept_all spans memory i kept inside h k = record {
-  ranges = k.ranges;
-  ends = λ j d l m. absurd (omega arith);
-  few = λ j d l m. absurd (omega arith);
-  places = k.places ∙ (rw (take_all i memory h, take_all (length memory) memory (omega arith)) refl);
-  counted = k.counted ∙ (rw (take_all i memory h, take_all (length memory) memory (omega arith)) refl);
-}
 
 -- ---- spans with the same addresses
 

@@ -19,15 +19,15 @@ pub freed_places_same : (left : LeftOut) (file : List ℕ) (blocks : List Block)
 unfolding freed_places
 freed_places_same left file blocks others same = filter_alike (is_inside left.freed) (is_inside others) (outside_places left.unwritable file blocks) (λ a. inside_same left.freed others a same)
 
-pub root_places_some : (unwritable : Bool) (file : List ℕ) (blocks : List Block) (spans : List Span) (places : List ℕ) → places ≡ outside_places unwritable file blocks → filter (λ a. not (is_inside spans a)) places ≡ root_places (freed_left_out unwritable spans) file blocks
+pub root_places_some : (unwritable : Bool) (file : List ℕ) (blocks : List Block) (spans : List Span) → filter (λ a. not (is_inside spans a)) (outside_places unwritable file blocks) ≡ root_places (freed_left_out unwritable spans) file blocks
 unfolding root_places kept_places
-root_places_some unwritable file blocks spans places e =
+root_places_some unwritable file blocks spans =
     let unfreed = filter (λ a. not (is_inside spans a)) (outside_places unwritable file blocks) in
-    ap (filter (λ a. not (is_inside spans a))) e ∙ none_left_out [] unfreed refl ∙ none_left_out [] (filter (λ a. not (is_inside [] a)) unfreed) refl
+    none_left_out [] unfreed refl ∙ none_left_out [] (filter (λ a. not (is_inside [] a)) unfreed) refl
 
-pub freed_places_some : (unwritable : Bool) (file : List ℕ) (blocks : List Block) (spans : List Span) (places : List ℕ) → places ≡ outside_places unwritable file blocks → filter (is_inside spans) places ≡ freed_places (freed_left_out unwritable spans) file blocks
+pub freed_places_some : (unwritable : Bool) (file : List ℕ) (blocks : List Block) (spans : List Span) → filter (is_inside spans) (outside_places unwritable file blocks) ≡ freed_places (freed_left_out unwritable spans) file blocks
 unfolding freed_places
-freed_places_some unwritable file blocks spans places e = ap (filter (is_inside spans)) e
+freed_places_some unwritable file blocks spans = refl
 
 -- ---- slack
 

@@ -9,3 +9,4 @@ pub mod Numbers
 pub mod Laws
 pub mod Rows
 pub mod Counts
+pub mod Kept

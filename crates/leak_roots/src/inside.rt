@@ -1,10 +1,11 @@
 //! Leaving out the places inside spans: freed memory, slack and dead stack.
 
-ghost use Rattle.std.specs.Prelude.{◌≡◌, ◌+◌, ◌++◌, ◌<◌, ◌≤◌, ◌*◌, ◌^◌, ◌%◌, ℕ, length, slice_index_or, filter, not, OnOk, IfOk, IsTrue, IsFalse};
+ghost use Rattle.std.specs.Prelude.{◌≡◌, ◌+◌, ◌++◌, ◌<◌, ◌≤◌, ◌*◌, ◌%◌, ℕ, length, slice_index_or, filter, not, OnOk, IfOk, IsTrue, IsFalse};
 ghost use Rattle.leak_blocks.specs.declared.small.Span.{Span};
 ghost use Rattle.leak_blocks.specs.Small.{AreApart};
 ghost use Rattle.leak_roots.specs.Counts.{spans_up_to};
-ghost use Rattle.leak_roots.specs.Places.{memory_places, addresses_in, IsRange, AreRanges, EndBy};
+ghost use Rattle.leak_roots.specs.Kept.{Adds, LiesBefore};
+ghost use Rattle.leak_roots.specs.Places.{memory_places, addresses_in, IsRange, AreRanges};
 ghost use Rattle.leak_roots.specs.Roots.{is_inside};
 
 use leak_blocks::Span;
@@ -95,42 +96,56 @@ fn stretch_from(spans: &[Span], passed: usize, from: u64, to: u64) -> Stretch
     }
 }
 
-/// Adds the places of a range that aren't inside, and counts the others. The spans are passed as the ranges ascend.
-fn push_kept(
-    kept: &mut Vec<(u64, u64)>,
-    range: (u64, u64),
-    spans: &[Span],
-    passed: &mut usize,
-) -> Result<u64, AllocError>
-    requires apart { AreApart spans.now }
-    requires range { IsRange range }
-    requires ranges { AreRanges kept.old.items }
-    requires ends { EndBy range.0 kept.old.items }
-    ensures places { OnOk result (memory_places kept.new.items
-        ≡ memory_places kept.old.items
-        ++ filter (λ a. not (is_inside spans.now a)) (addresses_in range)) }
-    ensures ranges { OnOk result (AreRanges kept.new.items) }
-    ensures ends { OnOk result (EndBy range.1 kept.new.items) }
-    ensures inside { IfOk result (λ inside.
-        inside ≡ length (filter (is_inside spans.now) (addresses_in range))) }
-    ensures few { IfOk result (λ inside. range.0 + 8 * inside ≤ range.1) }
-    ensures fits { IfOk result (λ inside. range.0 + 8 * inside < 2 ^ 64) }
-    ensures cuts { OnOk result (length kept.new.items + spans_up_to spans.now range.0
-        ≤ length kept.old.items + spans_up_to spans.now range.1 + 1) }
-{
-    let (mut from, to) = range;
-    let mut inside = 0;
-    while from < to {
-        let stretch = stretch_from(spans, *passed, from, to);
-        if stretch.inside {
-            inside += (stretch.end - from) / 8;
-        } else {
-            kept.push((from, stretch.end))?;
+/// The places of ranges that are added by ascending address, without those inside the spans.
+#[derive(Drop)]
+pub(crate) struct Kept<'a> {
+    /// The ranges of the places that aren't inside.
+    pub(crate) memory: Vec<(u64, u64)>,
+    /// How many places were inside.
+    pub(crate) inside: u64,
+    spans: &'a [Span],
+    /// How many of the spans the ranges have passed.
+    passed: usize,
+}
+
+impl<'a> Kept<'a> {
+    /// Begins with these ranges, which are kept as they are.
+    pub(crate) fn new(memory: Vec<(u64, u64)>, spans: &'a [Span]) -> Kept<'a>
+        ensures memory { result.memory ≡ memory }
+        ensures inside { result.inside ≡ 0 }
+        ensures spans { result.spans.now ≡ spans.now }
+    {
+        Kept {
+            memory,
+            inside: 0,
+            spans,
+            passed: 0,
         }
-        from = stretch.end;
-        *passed = stretch.passed;
     }
-    Ok(inside)
+
+    /// Adds the places of a range that aren't inside, and counts the others. The spans are passed as the ranges ascend.
+    pub(crate) fn push(&mut self, range: (u64, u64)) -> Result<(), AllocError>
+        requires range { IsRange range }
+        requires ascends { LiesBefore range.0 self.old }
+        ensures adds { OnOk result (Adds (addresses_in range) self.old self.new) }
+        ensures before { OnOk result (LiesBefore range.1 self.new) }
+        ensures cuts { let spans = self.old.spans.now in OnOk result
+            (length self.new.memory.items + spans_up_to spans range.0
+            ≤ length self.old.memory.items + spans_up_to spans range.1 + 1) }
+    {
+        let (mut from, to) = range;
+        while from < to {
+            let stretch = stretch_from(self.spans, self.passed, from, to);
+            if stretch.inside {
+                self.inside += (stretch.end - from) / 8;
+            } else {
+                self.memory.push((from, stretch.end))?;
+            }
+            from = stretch.end;
+            self.passed = stretch.passed;
+        }
+        Ok(())
+    }
 }
 
 /// How many of the ranges end before the first span begins. No place of theirs is inside.
@@ -166,13 +181,11 @@ fn keep_others(
         length found.0.items ≤ length memory.now + length spans.now) }
 {
     let ahead = count_ahead(memory, spans);
-    let mut kept = memory[..ahead].to_vec(alloc)?;
-    let mut inside = 0;
-    let mut passed = 0;
+    let mut kept = Kept::new(memory[..ahead].to_vec(alloc)?, spans);
     for k in ahead..memory.len() {
-        inside += push_kept(&mut kept, memory[k], spans, &mut passed)?;
+        kept.push(memory[k])?;
     }
-    Ok((kept, inside))
+    Ok((kept.memory, kept.inside))
 }
 
 /// The places in the ranges that aren't inside, and how many are. Without spans these are the ranges.

@@ -1,34 +1,34 @@
 //! Ranges of the words in memory outside the live blocks.
 
-ghost use Rattle.std.specs.Prelude.{◌≡◌, ◌+◌, ◌-◌, ◌++◌, ◌<◌, ◌≤◌, ◌^◌, ℕ, min, length, filter, slice_index_or, OnOk, IfOk};
+ghost use Rattle.std.specs.Prelude.{◌≡◌, ◌+◌, ◌-◌, ◌<◌, ◌≤◌, ℕ, max, min, length, filter, not, slice_index_or, OnOk, IfOk};
 ghost use Rattle.leak_elf.specs.Segments.{segments_of};
 ghost use Rattle.leak_elf.specs.Words.{places};
 ghost use Rattle.leak_blocks.specs.declared.block.Block.{Block};
-ghost use Rattle.leak_blocks.specs.Span.{AreAddressed, AreDisjoint};
-ghost use Rattle.leak_roots.specs.Counts.{blocks_up_to};
-ghost use Rattle.leak_roots.specs.Places.{memory_places, aligned_places, AreRanges, EndBy};
-ghost use Rattle.leak_roots.specs.Roots.{AreOrdered, has_roots, is_free, outside_places};
+ghost use Rattle.leak_blocks.specs.Small.{AreApart};
+ghost use Rattle.leak_roots.specs.Counts.{blocks_up_to, spans_up_to};
+ghost use Rattle.leak_roots.specs.Kept.{Adds, LiesBefore};
+ghost use Rattle.leak_roots.specs.Places.{memory_places, aligned_places, AreRanges};
+ghost use Rattle.leak_roots.specs.Roots.{AreOrdered, has_roots, is_free, is_inside, outside_places};
 
-use leak_blocks::Block;
+use crate::inside::Kept;
+use leak_blocks::{Block, Span};
 use leak_elf::{Image, Rest, Segment};
 use std::alloc::{AllocError, Global};
 
-/// Adds the words whose bytes lie between two addresses, as one range after the others.
-fn push_range(memory: &mut Vec<(u64, u64)>, from: u64, to: u64) -> Result<(), AllocError>
-    requires ranges { AreRanges memory.old.items }
-    requires ends { EndBy from memory.old.items }
-    ensures places { OnOk result (memory_places memory.new.items
-        ≡ memory_places memory.old.items ++ aligned_places from to) }
-    ensures ranges { OnOk result (AreRanges memory.new.items) }
-    ensures ends { OnOk result ((addr : ℕ) → to ≤ addr → EndBy addr memory.old.items
-        → EndBy addr memory.new.items) }
-    ensures few { OnOk result
-        (length memory.new.items ≤ length memory.old.items + min (to - from) 1) }
+/// Adds the words whose bytes lie between two addresses, as one range.
+fn push_range(kept: &mut Kept<'_>, from: u64, to: u64) -> Result<(), AllocError>
+    requires { LiesBefore from kept.old }
+    ensures adds { OnOk result (Adds (aligned_places from to) kept.old kept.new) }
+    ensures before { OnOk result ((addr : ℕ) → to ≤ addr → LiesBefore addr kept.old
+        → LiesBefore addr kept.new) }
+    ensures few { let spans = kept.old.spans.now in OnOk result
+        (length kept.new.memory.items + spans_up_to spans from
+        ≤ length kept.old.memory.items + spans_up_to spans (max from to) + min (to - from) 1) }
 {
     let first = from.div_ceil(8);
     let last = to / 8;
     if first < last {
-        memory.push((8 * first, 8 * last))?;
+        kept.push((8 * first, 8 * last))?;
     }
     Ok(())
 }
@@ -47,22 +47,16 @@ fn count_up_to(blocks: &[Block], addr: u64) -> usize
 }
 
 /// Adds the words between two addresses that share no byte with a block.
-fn push_gaps(
-    memory: &mut Vec<(u64, u64)>,
-    from: u64,
-    to: u64,
-    blocks: &[Block],
-) -> Result<(), AllocError>
+fn push_gaps(kept: &mut Kept<'_>, from: u64, to: u64, blocks: &[Block]) -> Result<(), AllocError>
     requires order { from ≤ to }
     requires blocks { AreOrdered blocks.now }
-    requires ranges { AreRanges memory.old.items }
-    requires ends { EndBy from memory.old.items }
-    ensures places { OnOk result (memory_places memory.new.items
-        ≡ memory_places memory.old.items ++ filter (is_free blocks.now) (places from to)) }
-    ensures ranges { OnOk result (AreRanges memory.new.items) }
-    ensures ends { OnOk result (EndBy to memory.new.items) }
-    ensures few { OnOk result (length memory.new.items + blocks_up_to blocks.now from
-        ≤ length memory.old.items + blocks_up_to blocks.now to + 1) }
+    requires ascends { LiesBefore from kept.old }
+    ensures adds { OnOk result
+        (Adds (filter (is_free blocks.now) (places from to)) kept.old kept.new) }
+    ensures before { OnOk result (LiesBefore to kept.new) }
+    ensures few { let spans = kept.old.spans.now in OnOk result
+        (length kept.new.memory.items + blocks_up_to blocks.now from + spans_up_to spans from
+        ≤ length kept.old.memory.items + blocks_up_to blocks.now to + spans_up_to spans to + 1) }
 {
     let first = count_up_to(blocks, from).saturating_sub(1);
     let end = count_up_to(blocks, to);
@@ -70,11 +64,11 @@ fn push_gaps(
     for i in first..end {
         let block = blocks[i];
         if block.size > 0 {
-            push_range(memory, cursor, block.start)?;
+            push_range(kept, cursor, block.start)?;
             cursor = cursor.max(block.start + block.size);
         }
     }
-    push_range(memory, cursor, to)
+    push_range(kept, cursor, to)
 }
 
 /// Whether a segment has root words, with memory that can't be written left out or not.
@@ -85,26 +79,34 @@ fn has_roots(segment: &Segment, unwritable: bool) -> bool
     segment.writable || !unwritable
 }
 
-/// Finds the words that share no byte with a block: of all segments, or without memory that can't be written.
+/// Finds the words that share no byte with a block, of all segments or without memory that can't be written. Gives
+/// those that aren't inside the spans, and how many are. There are as many ranges as gaps between blocks, so each is
+/// cut at the spans as it is found, and no second list is made.
 pub(crate) fn find_ranges<R: Rest>(
     alloc: Global,
     image: &Image<'_, R>,
     blocks: &[Block],
     unwritable: bool,
-) -> Result<Vec<(u64, u64)>, AllocError>
-    requires { AreOrdered blocks.now }
-    ensures places { IfOk result (λ memory.
-        memory_places memory.items ≡ outside_places unwritable image.now blocks.now) }
-    ensures ranges { IfOk result (λ memory. AreRanges memory.items) }
-    ensures few { IfOk result (λ memory. length memory.items
-        ≤ length (filter (has_roots unwritable) (segments_of image.now)) + length blocks.now) }
+    spans: &[Span],
+) -> Result<(Vec<(u64, u64)>, u64), AllocError>
+    requires blocks { AreOrdered blocks.now }
+    requires apart { AreApart spans.now }
+    ensures places { IfOk result (λ found. memory_places found.0.items
+        ≡ filter (λ a. not (is_inside spans.now a))
+        (outside_places unwritable image.now blocks.now)) }
+    ensures ranges { IfOk result (λ found. AreRanges found.0.items) }
+    ensures inside { IfOk result (λ found. found.1
+        ≡ length (filter (is_inside spans.now) (outside_places unwritable image.now blocks.now))) }
+    ensures few { let segments = filter (has_roots unwritable) (segments_of image.now) in
+        IfOk result (λ found. length found.0.items
+        ≤ length segments + length blocks.now + length spans.now) }
 {
-    let mut memory = Vec::new(alloc);
+    let mut kept = Kept::new(Vec::new(alloc), spans);
     for segment in image.segments() {
         if has_roots(segment, unwritable) {
             let end = segment.vaddr + segment.filesz;
-            push_gaps(&mut memory, segment.vaddr, end, blocks)?;
+            push_gaps(&mut kept, segment.vaddr, end, blocks)?;
         }
     }
-    Ok(memory)
+    Ok((kept.memory, kept.inside))
 }

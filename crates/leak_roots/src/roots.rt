@@ -80,8 +80,7 @@ impl Roots {
             ≤ length segments + length live.now.blocks + length small.now) }
     {
         let registers = threads.registers().to_vec(alloc)?;
-        let outside = find_ranges(alloc, image, live.blocks(), unwritable)?;
-        let (memory, freed) = leave_out(alloc, outside, small.ranges())?;
+        let (memory, freed) = find_ranges(alloc, image, live.blocks(), unwritable, small.ranges())?;
         Ok(Roots {
             registers,
             memory,

@@ -1,24 +1,27 @@
--- From the lemmas of Addresses and Ranges.
-use Rattle.std.proofs.Common.{refl, ◌*◌, ◌/◌, ◌∙◌, sym, ap, List, ◌++◌, ℕ, append-nil, arith}
-use Rattle.leak_roots.specs.Places.{memory_places}
+-- From the lemmas of Addresses, LeftOut and Few.
+use Rattle.std.proofs.Common.{refl, ◌*◌, ◌/◌, length, arith}
 use Rattle.leak_roots.proofs.Addresses.{aligned_some, aligned_none}
-use Rattle.leak_roots.proofs.Ranges.{ranges_push, places_push, end_later}
+use Rattle.leak_roots.proofs.LeftOut.{adds_none, before_later}
+use Rattle.leak_roots.proofs.Few.{gap_cut, gap_none}
 use Rattle.leak_roots.proofs.places.push_range.Goals as goal
 
-pub returns-in_ok-push-clause-places : goal.returns-in_ok-push-clause-places
-returns-in_ok-push-clause-places c =
-    let first = c.div_ceil-first.result in
-    ap memory_places c.in_ok-push.ensures.items ∙ places_push c.args.memory.now.items (8 * first, 8 * (c.args.to / 8))
-    ∙ ap (λ (xs : List ℕ). memory_places c.args.memory.now.items ++ xs) (sym (aligned_some c.args.from c.args.to first (c.args.to / 8) (let e = c.div_ceil-first.ensures in omega arith) refl c.if-first-last.true))
+pub push-requires-clause-ascends : goal.push-requires-clause-ascends
+push-requires-clause-ascends c = before_later c.args.from _ c.args.kept.now (let e = c.div_ceil-first.ensures in omega arith) c.requires
 
-pub returns-in_ok-push-clause-ranges : goal.returns-in_ok-push-clause-ranges
-returns-in_ok-push-clause-ranges c =
-    rw c.in_ok-push.ensures.items
-    (ranges_push c.args.memory.now.items (8 * c.div_ceil-first.result, 8 * (c.args.to / 8)) c.requires.ranges
-    (end_later c.args.from (8 * c.div_ceil-first.result) c.args.memory.now.items (let e = c.div_ceil-first.ensures in omega arith) c.requires.ends)
-    (record { some = omega arith; from_multiple = omega arith; to_multiple = omega arith }))
+pub returns-in_ok-push-clause-adds : goal.returns-in_ok-push-clause-adds
+returns-in_ok-push-clause-adds c =
+    rw (aligned_some c.args.from c.args.to c.div_ceil-first.result (c.args.to / 8) (let e = c.div_ceil-first.ensures in omega arith) refl c.if-first-last.true) c.in_ok-push.ensures.adds
 
-pub returns-else-first-last-clause-places : goal.returns-else-first-last-clause-places
-returns-else-first-last-clause-places c =
-    let none = aligned_none c.args.from c.args.to (let e = c.div_ceil-first.ensures in omega arith) in
-    rw none (sym (append-nil _))
+pub returns-in_ok-push-clause-before : goal.returns-in_ok-push-clause-before
+returns-in_ok-push-clause-before c = λ addr l before. before_later (8 * (c.args.to / 8)) addr c.push.new.self (omega arith) c.in_ok-push.ensures.before
+
+pub returns-in_ok-push-clause-few : goal.returns-in_ok-push-clause-few
+returns-in_ok-push-clause-few c =
+    gap_cut c.args.kept.now.spans.now c.args.from c.args.to (8 * c.div_ceil-first.result) (8 * (c.args.to / 8)) (length c.args.kept.now.memory.items) (length c.push.new.self.memory.items)
+    (let e = c.div_ceil-first.ensures in omega arith) (omega arith) (omega arith) c.in_ok-push.ensures.cuts
+
+pub returns-else-first-last-clause-adds : goal.returns-else-first-last-clause-adds
+returns-else-first-last-clause-adds c = rw (aligned_none c.args.from c.args.to (let e = c.div_ceil-first.ensures in omega arith)) (adds_none c.args.kept.now)
+
+pub returns-else-first-last-clause-few : goal.returns-else-first-last-clause-few
+returns-else-first-last-clause-few c = gap_none c.args.kept.now.spans.now c.args.from c.args.to (length c.args.kept.now.memory.items)

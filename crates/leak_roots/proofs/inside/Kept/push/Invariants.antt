@@ -1,13 +1,13 @@
--- The places before the cursor were added or counted.
+-- The places before the cursor were added, in few ranges.
 use Rattle.std.proofs.Common.{◌-◌, length}
 use Rattle.leak_roots.proofs.LeftOut.{AreKept}
 use Rattle.leak_roots.proofs.Few.{AreFew}
-use Rattle.leak_roots.proofs.inside.push_kept.Given as goal
+use Rattle.leak_roots.proofs.inside.Kept.push.Given as goal
 
 abbrev pub invariant-loop-from : goal.invariant-loop-from
 invariant-loop-from l = record {
-  kept : AreKept l.spans l.fn.range l.initial.kept.items l.kept.items l.inside l.from;
-  few : AreFew l.spans l.fn.range (length l.initial.kept.items) (length l.kept.items) l.from;
+  kept : AreKept l.fn.range l.initial.self l.self l.from;
+  few : AreFew l.initial.self.spans.now l.fn.range (length l.initial.self.memory.items) (length l.self.memory.items) l.from;
 }
 
 abbrev pub decreases-loop-from : goal.decreases-loop-from
