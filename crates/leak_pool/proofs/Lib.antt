@@ -23,3 +23,4 @@ pub mod StackSizeLemmas
 pub mod DepthOfCores
 pub mod CourseExample
 pub mod GateLemmas
+pub mod LeadingLemmas

@@ -16,3 +16,4 @@ pub mod Room
 pub mod Edges
 pub mod EdgesLaw
 pub mod Tops
+pub mod Leading

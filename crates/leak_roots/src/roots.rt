@@ -189,6 +189,14 @@ impl Roots {
         })
     }
 
+    /// The same with these ranges in place of those of memory: of multiples of 8, by ascending address.
+    pub fn with_memory(self, memory: Vec<(u64, u64)>) -> Roots
+        requires { AreRanges memory.items }
+        ensures { result ≡ record self { memory = memory.items } }
+    {
+        Roots { memory, ..self }
+    }
+
     /// The same root words, and whether malloc's links to free chunks are left out of what those in memory lead to.
     pub fn skip_links(self, skip: bool) -> Roots
         ensures { result ≡ record self { skips_links = skip } }

@@ -14,7 +14,7 @@ use crate::{
 };
 use leak_blocks::{Live, SmallSpans};
 use leak_index::Paged;
-use leak_pool::Gate;
+use leak_pool::{Gate, leading_roots};
 use std::alloc::Global;
 
 /// Searches a core and its log by the rules and by the workers.
@@ -107,8 +107,8 @@ pub fn search_in<R: std::thread::Threads + Sync, G: Gate + Sync>(
     Ok((input.live, searched))
 }
 
-/// Searches an input from what was found before it is marked. The root words are let go when the blocks are marked.
-/// The result does not depend on the spans that the input still has.
+/// Searches an input from what was found before it is marked. Before that it lets go of the ranges of root words that lead
+/// to no block. The result does not depend on the spans that the input still has.
 fn search_from<R: std::thread::Threads + Sync, G: Gate + Sync>(
     workers: &Workers<'_, R, G>,
     alloc: Global,
@@ -128,11 +128,10 @@ fn search_from<R: std::thread::Threads + Sync, G: Gate + Sync>(
         → OfRoots input.now prepared.roots (λ log lines. IsFaultOfOne input.now.image log e)) }
 {
     let Prepared { consistency, roots } = prepared;
+    let head = head_of(input, &roots, None);
     let lookup = Paged::new(alloc, &input.live, rules.reading)?;
+    let roots = leading_roots(alloc, &input.image, &lookup, roots, &input.live)?;
     let indexed = RootsAndIndex { roots, lookup };
     let marked = mark_input(workers, alloc, input, &indexed)?;
-    let RootsAndIndex { roots, lookup } = indexed;
-    let head = head_of(input, &roots, None);
-    drop(roots); // the heads are told by the words of blocks alone
-    Ok(searched_of(alloc, input, &lookup, marked, head, consistency)?)
+    Ok(searched_of(alloc, input, &indexed.lookup, marked, head, consistency)?)
 }

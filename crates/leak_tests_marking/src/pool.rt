@@ -2,6 +2,7 @@
 
 mod free_links;
 mod gates;
+mod leading;
 mod listings;
 mod meetings;
 mod numbers;

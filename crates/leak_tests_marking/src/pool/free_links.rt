@@ -1,6 +1,6 @@
 //! Roots with malloc's links to free chunks, and without them.
 
-use crate::pool::samples::no_start;
+use crate::pool::samples::{RBX, no_start};
 use crate::samples::{Sample, core_of, sample_of};
 use leak_blocks::Live;
 use leak_elf::Image;
@@ -13,9 +13,6 @@ use leak_scan::Pages;
 use std::alloc::Global;
 use std::test::Fail;
 use std::thread::Threads;
-
-/// Where `rbx` of the sample core's thread is: at byte 348 of the file.
-const RBX: u64 = 0xf15c;
 
 /// Whether each way to mark marks just these blocks, of the words with links to free chunks or without them.
 fn all_mark<R: Threads + Sync>(

@@ -8,6 +8,9 @@ use std::alloc::Global;
 use std::fmt::Write;
 use std::test::Fail;
 
+/// Where `rbx` of the sample core's thread is: at byte 348 of the file.
+pub(crate) const RBX: u64 = 0xf15c;
+
 /// How many turns a worker waits for another, at most.
 pub(crate) const TURNS: u64 = 1_000_000_000;
 
