@@ -25,7 +25,7 @@ use std::rt::Env;
 use std::thread::Threads;
 
 /// The calls, by name.
-static CALLS: [&str; 56] = [
+static CALLS: [&str; 57] = [
     "core_k",
     "Image::read",
     "Threads::read",
@@ -43,6 +43,7 @@ static CALLS: [&str; 56] = [
     "Roots::skip_dead",
     "cut",
     "pieces",
+    "leading_roots",
     "Claims::new",
     "Marks::new",
     "split",
@@ -153,6 +154,7 @@ fn answer_of_roots<R: AllocGlobal + Threads + Sync>(rt: &R, name: &str) -> Optio
         "Roots::skip_dead" => searching::undead_roots(alloc),
         "cut" => searching::cut(alloc),
         "pieces" => searching::pieces(alloc),
+        "leading_roots" => searching::leading(alloc),
         _ => answer_of_marking(rt, name),
     }
 }

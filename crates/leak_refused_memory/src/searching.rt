@@ -4,9 +4,10 @@ use crate::answer::Answer;
 use crate::samples::{ONE_BLOCK, core_of, live_of, stack_core};
 use leak_blocks::{Live, SmallSpans, Span, replay, small_spans};
 use leak_elf::Image;
-use leak_index::{Hits, Lookup, Paged, Reading};
+use leak_index::{Hits, Lookup, Paged, Reading, Sorted};
 use leak_mtrace::Log;
 use leak_notes::Threads;
+use leak_pool::leading_roots;
 use leak_roots::{CutError, Piece, Roots};
 use leak_stacks::dead_spans;
 use std::alloc::{AllocError, Global};
@@ -160,5 +161,18 @@ pub(crate) fn pieces(alloc: Global) -> Option<Answer> {
             pieces.len() == 55 && pieces.at(54) == Piece::Memory(0x10fd0, 0x11000),
         )),
         Err(error) => Some(Answer::of_refusal(error == CutError::NoMemory)),
+    }
+}
+
+/// `leading_roots` of a core of whose words one leads to a block.
+pub(crate) fn leading(alloc: Global) -> Option<Answer> {
+    let core = core_of(alloc, &[(0x10008, 0x10200)])?;
+    let image = Image::read(alloc, core.as_slice()).ok()?;
+    let live = live_of(alloc, "+ 0x10200 0x10\n")?;
+    let roots = find_roots(alloc, &image, &live, &SmallSpans::none(alloc))?.ok()?;
+    let lookup = Sorted::new(&live, Reading::interior());
+    match leading_roots(alloc, &image, &lookup, roots, &live) {
+        Ok(roots) => Some(Answer::of(roots.memory() == [(0x10000u64, 0x10200u64)].as_slice())),
+        Err(_) => Some(Answer::Wanting),
     }
 }
