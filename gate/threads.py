@@ -129,32 +129,34 @@ def many_blocks(count):
 
 
 def of_pieces():
-    """One block. Its links are listed by one worker. The items of the first round are pieces of 27 register words, and of 32 and 476
-    words around the block, and each worker but the caller that has an item is a thread."""
+    """One block. Its links are listed by one worker. The items of the first round are pieces of 27 register words, and of the 476
+    words behind the block, of which one leads to it; the 32 words before it lead nowhere, so they are left out. Each worker that has
+    an item is a thread, but the first of them."""
     return [
         ("a worker alone", "--workers 1 --piece 1", 0),
         ("two workers", "--workers 2 --piece 1", 1),
         ("three workers", "--workers 3 --piece 1", 2),
         ("four workers, if none are asked for", "--piece 1", 3),
         ("64 workers", "--workers 64 --piece 1", 63),
-        ("pieces of 512 words, if none are asked for", "--workers 64", 2),
-        ("a piece of 476 words", "--workers 64 --piece 476", 2),
-        ("pieces of 475 words and of one", "--workers 64 --piece 475", 3),
-        ("pieces of 27 words", "--workers 64 --piece 27", 20),
-        ("pieces of 26 words", "--workers 64 --piece 26", 22),
-        ("pieces of 65536 words", "--workers 64 --piece 65536", 2),
+        ("pieces of 512 words, if none are asked for", "--workers 64", 1),
+        ("a piece of 476 words", "--workers 64 --piece 476", 1),
+        ("pieces of 475 words and of one", "--workers 64 --piece 475", 2),
+        ("pieces of 27 words", "--workers 64 --piece 27", 18),
+        ("pieces of 26 words", "--workers 64 --piece 26", 20),
+        ("pieces of 65536 words", "--workers 64 --piece 65536", 1),
     ]
 
 
 def of_stacks():
-    """The star, by three workers: two threads list its links, and two scan the registers and three ranges of memory. Blocks that a
-    stack has no room for wait. Where 1000 wait besides the first, two threads more scan them."""
+    """The star, by three workers: two threads list its links, and one scans a range of memory beside the registers, since the two
+    other ranges lead nowhere. Blocks that a stack has no room for wait. Where 1000 wait besides the first, two threads more scan
+    them."""
     return [
-        ("no stack", "--workers 3 --stack 0", 4 + 2),
-        ("a stack that leaves 1001 blocks", "--workers 3 --stack 199", 4 + 2),
-        ("a stack that leaves 1000 blocks", "--workers 3 --stack 200", 4),
-        ("a stack of 1024 blocks, if none is asked for", "--workers 3", 4),
-        ("the greatest stack", "--workers 3 --stack 65536", 4),
+        ("no stack", "--workers 3 --stack 0", 3 + 2),
+        ("a stack that leaves 1001 blocks", "--workers 3 --stack 199", 3 + 2),
+        ("a stack that leaves 1000 blocks", "--workers 3 --stack 200", 3),
+        ("a stack of 1024 blocks, if none is asked for", "--workers 3", 3),
+        ("the greatest stack", "--workers 3 --stack 65536", 3),
         ("a worker alone without a stack", "--workers 1 --stack 0", 0),
     ]
 
@@ -226,11 +228,13 @@ def of_holders():
 
 def cases():
     """Each case: its name, its command line, its files, and how many threads it starts."""
-    block, lines = core(word(0x10008, 0x10100)), b"+ 0x10100 0x20\n"
+    # (the root word stands in the long range behind the block)
+    root = word(0x10208, 0x10100)
+    block, lines = core(root), b"+ 0x10100 0x20\n"
     star, star_lines = wide_star()
     one, few = {"core.k": block, "trace.log": lines}, {"core.k": star, "trace.log": star_lines}
     sizes = (0x204000, 0x40000)
-    long, short = [{"core.k": core_of(size, word(0x10008, 0x10100)), "trace.log": lines} for size in sizes]
+    long, short = [{"core.k": core_of(size, root), "trace.log": lines} for size in sizes]
     pair = {"core.1": block, "log.1": lines, "core.2": block, "log.2": lines}
     stars = {"core.1": wide_core(), "log.1": star_lines, "core.2": star, "log.2": star_lines}
     of_one, of_both = "one core.k trace.log", "two core.1 log.1 core.2 log.2"
