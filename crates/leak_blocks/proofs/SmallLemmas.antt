@@ -1,16 +1,21 @@
 -- Spans of allocations, and their addresses as ranges that are apart.
-use Rattle.std.proofs.Common.{◌≡◌, ℕ, ◌+◌, ◌<◌, ◌≤◌, max, leb, Bool, true, false, cond, ◌||◌, List, [], ◌∷◌, ◌++◌, length, map, filter, take, drop, set, get_or, zero, suc, inl, inr, refl, sym, ap, subst, ◌∙◌, append-nil, arith}
+use Rattle.std.proofs.Common.{◌≡◌, ℕ, ◌+◌, ◌<◌, ◌≤◌, ◌==◌, max, leb, Bool, true, false, not, cond, ◌||◌, ◌&&◌, List, [], ◌∷◌, ◌++◌, length, map, filter, take, drop, set, get_or, replicate, All, zero, suc, inl, inr, refl, sym, ap, subst, ◌∙◌, append-nil, true≢false, arith}
 use Rattle.std.specs.List.{AllByRecursion, list_any}
 use Rattle.std.specs.List.Sorted.{IsPermutation, IsNonDecreasingBy}
-use Rattle.std.proofs.lemmas.Bool.{le-leb, lt-leb, cases_lt}
-use Rattle.std.proofs.lemmas.List.{map-append, take_all, get_or-drop, drop-drop, drop-set-lt, take_more_set}
+use Rattle.std.proofs.lemmas.Bool.{le-leb, lt-leb, lt-ltb, eqb-true, eqb-false, cases_lt}
+use Rattle.std.proofs.lemmas.List.{map-append, take_all, get_or-drop, get_or-replicate, get_or-set_other, length-replicate, length-set, drop-drop, drop-set-lt, take_more_set}
+use Rattle.std.proofs.lemmas.Grind.{get_or-set_at}
+use Rattle.std.proofs.lemmas.Option.{get_or_from_slice_get, slice_get_within}
 use Rattle.std.proofs.lemmas.List.Elements.{filter_more}
 use Rattle.std.proofs.lemmas.List.Folds.{list_any-append, list_any_more}
 use Rattle.std.proofs.lemmas.List.Sorted.{list_any-IsPermutation}
 use Rattle.std.proofs.Math.Bool.{and-false, or_assoc, or-false}
 use Rattle.leak_lemmas.proofs.Lists.{any_default}
+use Rattle.leak_lemmas.proofs.Members.{All-from_each}
+use Rattle.leak_blocks.specs.declared.block.Block.{Block}
 use Rattle.leak_blocks.specs.declared.small.Span.{Span}
-use Rattle.leak_blocks.specs.Small.{holds, is_covered, CoverSame, AreSpans, AreApart}
+use Rattle.leak_blocks.specs.Numbers.{AreNumbered, AreNumbersOf}
+use Rattle.leak_blocks.specs.Small.{holds, is_covered, is_listed, is_small_block, block_span, has_byte, CoverSame, IsOutsideMarked, AreMarksOf, AreSpans, AreApart}
 
 -- ---- sorting
 
@@ -281,3 +286,135 @@ module _ {X : Type 0} (pick : X → Bool) (span : X → Span) where
 
   pub listed_all : (xs : List X) (i : ℕ) (spans : List Span) → AreListed pick span xs i spans → length xs ≤ i → CoverSame spans (map span (filter pick xs))
   listed_all xs i spans listed h a = listed.same a ∙ ap (λ (ys : List X). is_covered (map span (filter pick ys)) a) (take_all i xs h)
+
+-- ---- listing without the live ones
+
+-- an address with no byte of the block is not in its span, if the block has a byte
+outside_span : (a : ℕ) (b : Block) → has_byte a b ≡ false → (b.size == 0) ≡ false → holds a (block_span b) ≡ false
+outside_span a b out some =
+    let size : 0 < b.size = has_some b.size some in
+    elim (cases_lt a b.start) [
+      | inl l ↦ before_span a (block_span b) l
+      | inr l ↦ elim (cases_lt a (b.start + b.size)) [
+        | inl m ↦ absurd (true≢false (sym (rw (le-leb b.start a l, lt-ltb a (b.start + b.size) m) refl) ∙ out))
+        | inr m ↦ behind_span a (block_span b) (omega arith)
+      ]
+    ]
+  where
+    has_some : (n : ℕ) → (n == 0) ≡ false → 0 < n
+    has_some zero e = absurd (true≢false e)
+    has_some (suc n) e = omega arith
+
+-- the spans have the addresses of the first small blocks, as far as no marked block has a byte there
+pub record AreListedOutside (blocks : List Block) (marks : List Bool) (i : ℕ) (spans : List Span) : Type 0 where
+  pub each : AreSpans spans
+  pub same : (a : ℕ) → IsOutsideMarked blocks marks a → is_covered spans a ≡ is_covered (map block_span (filter is_small_block (take i blocks))) a
+
+-- the small blocks with one more, which is small
+covered_small : (blocks : List Block) (i : ℕ) (d : Block) (a : ℕ) → i < length blocks → is_small_block (get_or blocks i d) ≡ true
+    → is_covered (map block_span (filter is_small_block (take (i + 1) blocks))) a ≡ (is_covered (map block_span (filter is_small_block (take i blocks))) a || holds a (block_span (get_or blocks i d)))
+covered_small blocks i d a h small =
+    let before = map block_span (filter is_small_block (take i blocks)) in
+    ap (λ (ys : List Span). is_covered ys a) (listed_next is_small_block block_span blocks i d h ∙ ap (λ (t : Bool). before ++ cond t (block_span (get_or blocks i d) ∷ []) []) small)
+    ∙ covered_push before (block_span (get_or blocks i d)) a
+
+-- and with one that is not
+covered_large : (blocks : List Block) (i : ℕ) (d : Block) (a : ℕ) → i < length blocks → is_small_block (get_or blocks i d) ≡ false
+    → is_covered (map block_span (filter is_small_block (take (i + 1) blocks))) a ≡ is_covered (map block_span (filter is_small_block (take i blocks))) a
+covered_large blocks i d a h large =
+    let before = map block_span (filter is_small_block (take i blocks)) in
+    ap (λ (ys : List Span). is_covered ys a) (listed_next is_small_block block_span blocks i d h ∙ ap (λ (t : Bool). before ++ cond t (block_span (get_or blocks i d) ∷ []) []) large ∙ append-nil before)
+
+pub outside_none : (blocks : List Block) (marks : List Bool) → AreListedOutside blocks marks 0 []
+outside_none blocks marks = record { each = λ k d h. absurd (omega arith); same = λ a out. refl }
+
+pub outside_more : (blocks : List Block) (marks : List Bool) (i : ℕ) (d : Block) (spans later : List Span) → AreListedOutside blocks marks i spans → i < length blocks
+    → is_listed (get_or marks i false) (get_or blocks i d) ≡ true → AreSpans later → ((a : ℕ) → is_covered later a ≡ (is_covered spans a || holds a (block_span (get_or blocks i d)))) → AreListedOutside blocks marks (i + 1) later
+outside_more blocks marks i d spans later listed h picked each steps = record {
+  each = each;
+  same = λ a out.
+      steps a
+      ∙ ap (λ (b : Bool). b || holds a (block_span (get_or blocks i d))) (listed.same a out)
+      ∙ sym (covered_small blocks i d a h (both (is_small_block (get_or blocks i d)) _ picked));
+}
+  where
+    both : (s t : Bool) → (s && t) ≡ true → s ≡ true
+    both true t e = refl
+    both false t e = e
+
+pub outside_left : (blocks : List Block) (marks : List Bool) (i : ℕ) (d : Block) (spans : List Span) → AreListedOutside blocks marks i spans → i < length blocks
+    → is_listed (get_or marks i false) (get_or blocks i d) ≡ false → AreListedOutside blocks marks (i + 1) spans
+outside_left blocks marks i d spans listed h left = record {
+  each = listed.each;
+  same = λ a out. listed.same a out ∙ sym (go a (is_small_block (get_or blocks i d)) (get_or marks i false) ((get_or blocks i d).size == 0) refl refl refl left (out i d h));
+}
+  where
+    go : (a : ℕ) (small live none : Bool) → is_small_block (get_or blocks i d) ≡ small → get_or marks i false ≡ live → ((get_or blocks i d).size == 0) ≡ none
+        → (small && (not live || none)) ≡ false → (get_or marks i false ≡ true → has_byte a (get_or blocks i d) ≡ false)
+        → is_covered (map block_span (filter is_small_block (take (i + 1) blocks))) a ≡ is_covered (map block_span (filter is_small_block (take i blocks))) a
+    go a false live none s l n e out = covered_large blocks i d a h s
+    go a true true false s l n e out =
+        let before = is_covered (map block_span (filter is_small_block (take i blocks))) a in
+        covered_small blocks i d a h s ∙ ap (λ (t : Bool). before || t) (outside_span a (get_or blocks i d) (out l) n) ∙ or-false before
+    go a true true true s l n e out = absurd (true≢false e)
+    go a true false none s l n e out = absurd (true≢false e)
+
+pub outside_all : (blocks : List Block) (marks : List Bool) (i : ℕ) (spans : List Span) → AreListedOutside blocks marks i spans → length blocks ≤ i
+    → (a : ℕ) → IsOutsideMarked blocks marks a → is_covered spans a ≡ is_covered (map block_span (filter is_small_block blocks)) a
+outside_all blocks marks i spans listed h a out = listed.same a out ∙ ap (λ (ys : List Block). is_covered (map block_span (filter is_small_block ys)) a) (take_all i blocks h)
+
+-- ---- marks
+
+-- the marks of the first numbers are set
+pub record AreMarkedBy (count : ℕ) (numbers : List ℕ) (i : ℕ) (marks : List Bool) : Type 0 where
+  pub long : length marks ≡ count
+  pub each : (k : ℕ) → k < count → get_or marks k false ≡ list_any (λ n. n == k) (take i numbers)
+
+pub marked_none : (count : ℕ) (numbers : List ℕ) (marks : List Bool) → marks ≡ replicate count false → AreMarkedBy count numbers 0 marks
+marked_none count numbers marks e = record { long = ap length e ∙ length-replicate count false; each = λ k h. ap (λ (l : List Bool). get_or l k false) e ∙ get_or-replicate count k false false h }
+
+pub marked_more : (count : ℕ) (numbers : List ℕ) (i : ℕ) (d : ℕ) (marks : List Bool) → AreMarkedBy count numbers i marks → i < length numbers → get_or numbers i d < count → AreMarkedBy count numbers (i + 1) (set marks (get_or numbers i d) true)
+marked_more count numbers i d marks m h inside = record {
+  long = length-set marks (get_or numbers i d) true ∙ m.long;
+  each = λ k l. go k l (get_or numbers i d == k) refl ∙ sym (list_any_more (λ n. n == k) numbers i d h);
+}
+  where
+    go : (k : ℕ) → k < count → (t : Bool) → (get_or numbers i d == k) ≡ t → get_or (set marks (get_or numbers i d) true) k false ≡ (list_any (λ n. n == k) (take i numbers) || (get_or numbers i d == k))
+    go k l true e =
+        get_or-set_at marks (get_or numbers i d) k true false (sym (eqb-true _ _ e)) (let n = m.long in omega arith)
+        ∙ sym (ap (λ (t : Bool). list_any (λ n. n == k) (take i numbers) || t) e ∙ or_true (list_any (λ n. n == k) (take i numbers)))
+    go k l false e =
+        get_or-set_other marks (get_or numbers i d) k true false (λ s. eqb-false _ _ e (sym s))
+        ∙ m.each k l
+        ∙ sym (ap (λ (t : Bool). list_any (λ n. n == k) (take i numbers) || t) e ∙ or-false (list_any (λ n. n == k) (take i numbers)))
+
+pub marked_all : (count : ℕ) (numbers : List ℕ) (i : ℕ) (marks : List Bool) → AreMarkedBy count numbers i marks → length numbers ≤ i → AreMarksOf count numbers marks
+marked_all count numbers i marks m h = record { long = m.long; each = λ k l. m.each k l ∙ ap (list_any (λ n. n == k)) (take_all i numbers h) }
+
+-- ---- marks of live blocks
+
+numbers_within : (allocated bs cs : List Block) → AreNumbersOf allocated bs cs → AllByRecursion (λ n. n < length allocated) (map (λ b. b.line) bs)
+numbers_within allocated [] cs h = tt
+numbers_within allocated (b ∷ bs) [] h = elim h [ ]
+numbers_within allocated (b ∷ bs) (c ∷ cs) h = (slice_get_within allocated b.line c h.0.at, numbers_within allocated bs cs h.1)
+
+pub numbers_inside : (allocated : List Block) (numbers : List ℕ) (blocks : List Block) → AreNumbered allocated numbers blocks → All (λ n. n < length allocated) numbers
+numbers_inside allocated numbers blocks n = subst (All (λ k. k < length allocated)) (sym n.listed) (All-from_each (λ k. k < length allocated) (map (λ b. b.line) n.numbered) (numbers_within allocated n.numbered blocks n.stand))
+
+-- a marked block has no byte where no block has one
+marked_outside : (allocated bs cs : List Block) (a k : ℕ) (d : Block) → AreNumbersOf allocated bs cs → list_any (λ n. n == k) (map (λ b. b.line) bs) ≡ true → list_any (has_byte a) cs ≡ false → has_byte a (get_or allocated k d) ≡ false
+marked_outside allocated [] cs a k d h marked out = absurd (true≢false (sym marked))
+marked_outside allocated (b ∷ bs) [] a k d h marked out = elim h [ ]
+marked_outside allocated (b ∷ bs) (c ∷ cs) a k d h marked out = go (b.line == k) refl (has_byte a c) refl marked out (marked_outside allocated bs cs a k d h.1)
+  where
+    go : (t : Bool) → (b.line == k) ≡ t → (u : Bool) → has_byte a c ≡ u → (t || list_any (λ n. n == k) (map (λ x. x.line) bs)) ≡ true → (u || list_any (has_byte a) cs) ≡ false
+        → (list_any (λ n. n == k) (map (λ x. x.line) bs) ≡ true → list_any (has_byte a) cs ≡ false → has_byte a (get_or allocated k d) ≡ false) → has_byte a (get_or allocated k d) ≡ false
+    go t e true f m o rest = absurd (true≢false o)
+    go true e false f m o rest =
+        ap (has_byte a) (ap (λ (n : ℕ). get_or allocated n d) (sym (eqb-true _ _ e)) ∙ get_or_from_slice_get allocated b.line c d h.0.at) ∙ f
+    go false e false f m o rest = rest m o
+
+pub outside_marked : (allocated : List Block) (numbers : List ℕ) (blocks : List Block) (marks : List Bool) → AreNumbered allocated numbers blocks → AreMarksOf (length allocated) numbers marks
+    → (a : ℕ) → list_any (has_byte a) blocks ≡ false → IsOutsideMarked allocated marks a
+outside_marked allocated numbers blocks marks n m a out k d h is =
+    marked_outside allocated n.numbered blocks a k d n.stand (ap (list_any (λ j. j == k)) (sym n.listed) ∙ sym (m.each k h) ∙ is) out

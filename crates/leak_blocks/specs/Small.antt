@@ -1,7 +1,7 @@
 -- The addresses of small allocations. Own rule: freed memory of a heap serves later blocks of that heap alone. From
 -- 131,072 bytes on glibc's malloc maps a block by itself (its first M_MMAP_THRESHOLD), and memory that is given back to
 -- the system then may serve anything, such as a stack.
-use Rattle.std.specs.Prelude.{◌≡◌, ℕ, ◌+◌, ◌-◌, ◌<◌, ◌≤◌, max, Bool, ◌&&◌, nat_lt, nat_le, List, [], ◌∷◌, map, filter, ⊤}
+use Rattle.std.specs.Prelude.{◌≡◌, ℕ, ◌+◌, ◌-◌, ◌<◌, ◌≤◌, ◌==◌, max, Bool, true, false, not, ◌&&◌, ◌||◌, nat_lt, nat_le, List, [], ◌∷◌, length, map, filter, slice_index_or, ⊤}
 use Rattle.std.specs.List.{All, AllByRecursion, list_any}
 use Rattle.leak_mtrace.specs.declared.line.Line.{Line}
 use Rattle.leak_blocks.specs.declared.block.Block.{Block}
@@ -44,6 +44,30 @@ is_covered spans a = list_any (holds a) spans
 -- the spans have the same addresses
 abbrev pub CoverSame : List Span → List Span → Type 0
 CoverSame spans others = (a : ℕ) → is_covered spans a ≡ is_covered others a
+
+-- the address is that of one of the block's bytes; a block of size 0 has none
+abbrev pub has_byte : ℕ → Block → Bool
+has_byte a b = nat_le b.start a && nat_lt a (b.start + b.size)
+
+-- the spans have the same addresses where no block has a byte
+abbrev pub CoverSameOutside : List Block → List Span → List Span → Type 0
+CoverSameOutside blocks spans others =
+    (a : ℕ) → list_any (has_byte a) blocks ≡ false → is_covered spans a ≡ is_covered others a
+
+-- the block's span is listed: it is small, and it isn't live or has no byte
+abbrev pub is_listed : Bool → Block → Bool
+is_listed live b = is_small_block b && (not live || (b.size == 0))
+
+-- none of the marked blocks has a byte at the address
+abbrev pub IsOutsideMarked : List Block → List Bool → ℕ → Type 0
+IsOutsideMarked blocks marks a =
+    (k : ℕ) (d : Block) → k < length blocks
+    → slice_index_or marks k false ≡ true → has_byte a (slice_index_or blocks k d) ≡ false
+
+-- there are as many marks, and those at the numbers are set
+pub record AreMarksOf (count : ℕ) (numbers : List ℕ) (marks : List Bool) : Type 0 where
+  pub long : length marks ≡ count
+  pub each : (k : ℕ) → k < count → slice_index_or marks k false ≡ list_any (λ n. n == k) numbers
 
 -- each span has an address
 abbrev pub AreSpans : List Span → Type 0

@@ -2,9 +2,10 @@
 //!
 //! [`replay_bytes`] goes over the lines of a log while it reads them, keeps none, and gives [`Live`]: each [`Block`] that no
 //! later line ends, by ascending address, with the number of give-backs that met no live block and the number of
-//! allocations that another allocation ended. [`replay_with_spans`] also gives the addresses of small allocations: the program
-//! goes by it if freed memory is left out, and by [`replay_bytes`] otherwise. [`replay`] and [`small_spans`], which find the same
-//! from the lines of a `leak_mtrace::Log`, are for libraries and tests.
+//! allocations that another allocation ended. [`replay_with_spans`] also gives the addresses of small allocations, as
+//! far as they are outside the live blocks: the program goes by it if freed memory is left out, and by [`replay_bytes`]
+//! otherwise. [`replay`] and [`small_spans`], which find the live blocks and all addresses of small allocations from
+//! the lines of a `leak_mtrace::Log`, are for libraries and tests.
 //!
 //! glibc's mtrace says what a line reports; which line ends which block is own rule, stated in `specs/Live.antt` over pairs
 //! of lines. [`Live`] keeps callers as ranges of the log's bytes, and no bytes. [`Live::with_callers`] puts other ranges in their

@@ -181,11 +181,12 @@ pub fn replay_bytes(alloc: Global, bytes: &[u8]) -> Result<Replayed, LogError>
     Ok(outcome_of(alloc, stage, &reader)?)
 }
 
-/// [`replay_bytes`], and with it the addresses of the log's small allocations, as [`small_spans`](crate::small_spans) finds them:
-/// they are made of the blocks of all allocations, so that no lines are kept here either.
+/// [`replay_bytes`], and with it the addresses of the log's small allocations outside the live blocks, as
+/// [`small_spans`](crate::small_spans) finds them. Of the addresses in live blocks it may give some. They are made of
+/// the blocks of all allocations, so that no lines are kept here either.
 ///
-/// While they are found it takes 16 bytes for each allocation, and as much again for each small one unless these
-/// ascend.
+/// While they are found it takes one byte for each allocation, 16 for each that is not live, and as much again for each
+/// small one of these unless they ascend.
 pub fn replay_with_spans(alloc: Global, bytes: &[u8]) -> Result<(Replayed, SmallSpans), LogError>
     ensures ok { IfOk result (IsSpannedReplayOf bytes.now) }
     ensures refused { IfErr result (λ e. e ≢ LogError.NoMemory → IsFirstFault bytes.now e) }

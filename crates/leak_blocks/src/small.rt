@@ -1,13 +1,14 @@
 //! The addresses of small allocations, live or given back.
 
-ghost use Rattle.std.specs.Prelude.{◌≡◌, ◌+◌, ◌^◌, ◌<◌, ◌≤◌, ◌||◌, ℕ, IfOk, OnOk, List, [], length, take};
+ghost use Rattle.std.specs.Prelude.{◌≡◌, ◌+◌, ◌^◌, ◌<◌, ◌≤◌, ◌||◌, ℕ, All, IfOk, OnOk, List, [], length, take};
 ghost use Rattle.std.specs.List.Sorted.{IsNonDecreasingBy};
 ghost use Rattle.leak_mtrace.specs.Log.{LinesFit};
 ghost use Rattle.leak_mtrace.specs.declared.line.Line.{Line};
 ghost use Rattle.leak_blocks.specs.declared.small.Span.{Span};
+ghost use Rattle.leak_blocks.specs.Live.{replay_of};
 ghost use Rattle.leak_blocks.specs.Numbers.{IsStageAfter};
 ghost use Rattle.leak_blocks.specs.Span.{AreAddressed};
-ghost use Rattle.leak_blocks.specs.Small.{is_small, span_at, small_spans_of, small_block_spans, holds, is_covered, AreApart, AreSpans, CoverSame};
+ghost use Rattle.leak_blocks.specs.Small.{is_small, is_listed, span_at, small_spans_of, small_block_spans, holds, is_covered, AreApart, AreMarksOf, AreSpans, CoverSame, CoverSameOutside, IsOutsideMarked};
 
 use crate::block::Block;
 use crate::replaying::is_allocation;
@@ -100,15 +101,42 @@ fn spans_of(alloc: Global, lines: &[Line]) -> Result<Vec<Span>, AllocError>
     Ok(spans)
 }
 
-/// The same of blocks.
-fn block_spans(alloc: Global, blocks: &[Block]) -> Result<Vec<Span>, AllocError>
-    requires { AreAddressed blocks.now }
-    ensures each { IfOk result (λ spans. AreSpans spans.items) }
-    ensures same { IfOk result (λ spans. CoverSame spans.items (small_block_spans blocks.now)) }
+/// For each of so many allocations, whether its number is among these.
+fn marks_of(alloc: Global, count: usize, numbers: &[usize]) -> Result<Vec<bool>, AllocError>
+    requires { All (λ n. n < count) numbers.now }
+    ensures { IfOk result (λ marks. AreMarksOf count numbers.now marks.items) }
 {
-    let mut spans = Vec::with_capacity(alloc, blocks.len())?;
-    for block in blocks {
-        if block.size < MAPPED_BYTES {
+    let mut marks = vec![in alloc; false; count]?;
+    for number in numbers {
+        marks[*number] = true;
+    }
+    Ok(marks)
+}
+
+/// Whether the block's span is listed. Of small blocks only a live one that has a byte is left out: no root word is in
+/// it. The span of a block of size 0 has an address, which is in no block.
+fn is_listed(block: &Block, live: bool) -> bool
+    ensures { result ≡ is_listed live block.now }
+{
+    block.size < MAPPED_BYTES && (!live || block.size == 0)
+}
+
+/// Spans that have the addresses of the small blocks outside the live ones. At first there is room for so many.
+fn block_spans(
+    alloc: Global,
+    blocks: &[Block],
+    live: &[bool],
+    room: usize,
+) -> Result<Vec<Span>, AllocError>
+    requires addressed { AreAddressed blocks.now }
+    requires long { length live.now ≡ length blocks.now }
+    ensures each { IfOk result (λ spans. AreSpans spans.items) }
+    ensures same { (a : ℕ) → IsOutsideMarked blocks.now live.now a
+        → IfOk result (λ spans. is_covered spans.items a ≡ is_covered (small_block_spans blocks.now) a) }
+{
+    let mut spans = Vec::with_capacity(alloc, room)?;
+    for (number, block) in blocks.iter().enumerate() {
+        if is_listed(block, live[number]) {
             add(&mut spans, span_at(block.start, block.size))?;
         }
     }
@@ -168,13 +196,16 @@ pub fn joined(alloc: Global, spans: Vec<Span>) -> Result<SmallSpans, AllocError>
 }
 
 impl Stage {
-    /// The addresses of all small allocations so far.
+    /// The addresses of the small allocations so far, as far as they are outside the live blocks.
     pub(crate) fn small_spans(&self, alloc: Global) -> Result<SmallSpans, AllocError>
         requires { (lines : List Line) × LinesFit lines × IsStageAfter lines self.now }
-        ensures { IfOk result (λ spans. (lines : List Line)
-            → IsStageAfter lines self.now → CoverSame spans (small_spans_of lines)) }
+        ensures { IfOk result (λ spans. (lines : List Line) → IsStageAfter lines self.now
+            → CoverSameOutside (replay_of lines).blocks spans (small_spans_of lines)) }
     {
-        joined(alloc, block_spans(alloc, &self.allocated)?)
+        let count = self.allocated.len();
+        let live = marks_of(alloc, count, &self.numbers)?;
+        let ended = count.saturating_sub(self.numbers.len());
+        joined(alloc, block_spans(alloc, &self.allocated, &live, ended)?)
     }
 }
 

@@ -90,28 +90,31 @@ pub(crate) fn replayed_bytes(alloc: Global) -> Option<Answer> {
 /// Three allocations, of which two touch.
 const TOUCHING: &str = "+ 0x110 0x10\n+ 0x200 0x8\n+ 0x100 0x10\n- 0x100\n";
 
-/// Whether these are the addresses of those allocations.
-fn are_touching(spans: &SmallSpans) -> bool {
+/// Whether these are so many ranges, of which the first has the addresses of the two that touch.
+fn are_touching(spans: &SmallSpans, ranges: usize) -> bool {
     let first = spans.ranges().first().map(|span| (span.first, span.last));
-    spans.ranges().len() == 2 && first == Some((0x100, 0x11f))
+    spans.ranges().len() == ranges && first == Some((0x100, 0x11f))
 }
 
-/// `replay_with_spans` of that log.
+/// The same, but both that touch are given back.
+const GIVEN_BACK: &str = "+ 0x110 0x10\n+ 0x200 0x8\n+ 0x100 0x10\n- 0x100\n- 0x110\n";
+
+/// `replay_with_spans` of that log, whose live block has no span.
 pub(crate) fn spanned(alloc: Global) -> Option<Answer> {
-    match replay_with_spans(alloc, TOUCHING.as_bytes()) {
+    match replay_with_spans(alloc, GIVEN_BACK.as_bytes()) {
         Ok((replayed, spans)) => {
             let live = replayed.live.blocks().len();
-            Some(Answer::of(live == 2 && are_touching(&spans)))
+            Some(Answer::of(live == 1 && are_touching(&spans, 1)))
         }
         Err(error) => Some(Answer::of_refusal(error == LogError::NoMemory)),
     }
 }
 
-/// `small_spans` of the same.
+/// `small_spans` of the log of which one is given back.
 pub(crate) fn small(alloc: Global) -> Option<Answer> {
     let log = Log::read(alloc, TOUCHING.as_bytes()).ok()?;
     match small_spans(alloc, &log) {
-        Ok(spans) => Some(Answer::of(are_touching(&spans))),
+        Ok(spans) => Some(Answer::of(are_touching(&spans, 2))),
         Err(_) => Some(Answer::Wanting),
     }
 }

@@ -1,17 +1,22 @@
 -- Places that are left out since they are inside spans.
-use Rattle.std.proofs.Common.{◌≡◌, ℕ, zero, suc, ◌+◌, ◌-◌, ◌*◌, ◌/◌, ◌%◌, ◌<◌, ◌≤◌, Bool, true, false, not, inl, inr, List, [], ◌∷◌, ◌++◌, length, get_or, take, map, filter, refl, sym, ap, subst, ◌∙◌, append-nil, append_assoc, arith}
-use Rattle.std.specs.List.{AllByRecursion, list_all, range_with_len}
-use Rattle.std.proofs.lemmas.Bool.{cases_lt}
+use Rattle.std.proofs.Common.{◌≡◌, ℕ, zero, suc, ◌+◌, ◌-◌, ◌*◌, ◌/◌, ◌%◌, ◌<◌, ◌≤◌, min, max, Bool, true, false, not, cond, leb, ◌&&◌, inl, inr, List, [], ◌∷◌, ◌++◌, length, get_or, take, map, flat_map, filter, is_some, refl, sym, ap, subst, ◌∙◌, append-nil, append_assoc, true≢false, arith}
+use Rattle.std.specs.List.{AllByRecursion, list_all, list_any, range_with_len}
+use Rattle.std.proofs.Math.Bool.{and-false}
+use Rattle.std.proofs.lemmas.Bool.{cases_lt, le-ltb, lt-leb, lt-ltb}
 use Rattle.std.proofs.lemmas.List.{take_more, get_or_default, length-map, length-append}
 use Rattle.std.proofs.lemmas.List.Elements.{filter-append}
 use Rattle.std.proofs.lemmas.List.FromFn.{length-range_with_len}
 use Rattle.leak_lemmas.proofs.Members.{each_push}
+use Rattle.leak_blocks.specs.declared.block.Block.{Block}
 use Rattle.leak_blocks.specs.declared.small.Span.{Span}
-use Rattle.leak_blocks.specs.Small.{AreApart, CoverSame, is_covered}
+use Rattle.leak_blocks.specs.Small.{AreApart, CoverSame, CoverSameOutside, has_byte, is_covered}
+use Rattle.leak_elf.specs.declared.segment.Segment.{Segment}
+use Rattle.leak_elf.specs.Segments.{segments_of}
+use Rattle.leak_elf.specs.Words.{places, word_of}
 use Rattle.leak_roots.specs.declared.inside.Kept.{Kept}
 use Rattle.leak_roots.specs.Kept.{Adds, LiesBefore}
 use Rattle.leak_roots.specs.Places.{IsRange, AreRanges, EndBy, addresses_in, memory_places}
-use Rattle.leak_roots.specs.Roots.{is_inside}
+use Rattle.leak_roots.specs.Roots.{has_roots, is_apart, is_inside, outside_places, outside_places_in}
 use Rattle.leak_roots.proofs.Addresses.{addresses_in-split}
 use Rattle.leak_roots.proofs.Cutting.{range_is}
 use Rattle.leak_roots.proofs.Ranges.{end_later, ranges_push, places_push}
@@ -245,6 +250,61 @@ inside_same spans others a same = list_all_same (is_covered spans) (is_covered o
 pub filter_alike : (p q : ℕ → Bool) (xs : List ℕ) → ((a : ℕ) → p a ≡ q a) → filter p xs ≡ filter q xs
 filter_alike p q [] h = refl
 filter_alike p q (x ∷ xs) h = rw (h x, filter_alike p q xs h) refl
+
+-- ---- spans with the same addresses outside the blocks
+
+range_same : (p q : ℕ → Bool) (from n : ℕ) → ((a : ℕ) → from ≤ a → a < from + n → p a ≡ q a) → list_all p (range_with_len from n) ≡ list_all q (range_with_len from n)
+range_same p q from zero h = refl
+range_same p q from (suc n) h = rw (h from (omega arith) (omega arith), range_same p q (from + 1) n (λ a l m. h a (omega arith) (omega arith))) refl
+
+both_pass : (s t : Bool) → (s && t) ≡ true → (s ≡ true) × (t ≡ true)
+both_pass true true e = (refl, refl)
+both_pass true false e = absurd (true≢false (sym e))
+both_pass false t e = absurd (true≢false (sym e))
+
+-- a byte of what is apart from a block is none of the block's
+apart_byte : (a b : ℕ) (c : Block) → is_apart a c ≡ true → a ≤ b → b < a + 8 → has_byte b c ≡ false
+apart_byte a b c h l m =
+    elim (cases_lt b c.start) [
+      | inl before ↦ rw (lt-leb c.start b before) refl
+      | inr from ↦ elim (cases_lt b (c.start + c.size)) [
+        | inl within ↦ absurd (true≢false (sym h ∙ ap not (lt-ltb (max a c.start) (min (a + 8) (c.start + c.size)) (omega arith))))
+        | inr behind ↦ rw (le-ltb b (c.start + c.size) behind) (and-false (leb c.start b))
+      ]
+    ]
+
+apart_bytes : (a b : ℕ) (blocks : List Block) → list_all (is_apart a) blocks ≡ true → a ≤ b → b < a + 8 → list_any (has_byte b) blocks ≡ false
+apart_bytes a b [] h l m = refl
+apart_bytes a b (c ∷ blocks) h l m =
+    let each = both_pass (is_apart a c) (list_all (is_apart a) blocks) h in
+    rw (apart_byte a b c each.0 l m) (apart_bytes a b blocks each.1 l m)
+
+pub inside_same_outside : (blocks : List Block) (spans others : List Span) (a : ℕ) → CoverSameOutside blocks spans others → list_all (is_apart a) blocks ≡ true → is_inside spans a ≡ is_inside others a
+inside_same_outside blocks spans others a same apart = range_same (is_covered spans) (is_covered others) a 8 (λ b l m. same b (apart_bytes a b blocks apart l m))
+
+filter_alike_of : (p q r : ℕ → Bool) (xs : List ℕ) → ((a : ℕ) → r a ≡ true → p a ≡ q a) → filter p (filter r xs) ≡ filter q (filter r xs)
+filter_alike_of p q r [] h = refl
+filter_alike_of p q r (x ∷ xs) h = go (r x) refl (filter_alike_of p q r xs h)
+  where
+    go : (t : Bool) → r x ≡ t → filter p (filter r xs) ≡ filter q (filter r xs) → filter p (cond t (x ∷ filter r xs) (filter r xs)) ≡ filter q (cond t (x ∷ filter r xs) (filter r xs))
+    go true e rest = rw (h x e, rest) refl
+    go false e rest = rest
+
+-- tests that agree on what is apart from the blocks pass the same places outside them
+alike_outside : (p q : ℕ → Bool) (file : List ℕ) (blocks : List Block) (segments : List Segment) → ((a : ℕ) → list_all (is_apart a) blocks ≡ true → p a ≡ q a)
+    → filter p (flat_map (outside_places_in file blocks) segments) ≡ filter q (flat_map (outside_places_in file blocks) segments)
+alike_outside p q file blocks [] h = refl
+alike_outside p q file blocks (s ∷ segments) h =
+    let here = outside_places_in file blocks s in
+    let others = flat_map (outside_places_in file blocks) segments in
+    filter-append p here others
+    ∙ ap (λ (xs : List ℕ). xs ++ filter p others) (filter_alike_of p q (λ a. is_some (word_of file a) && list_all (is_apart a) blocks) (places s.vaddr (s.vaddr + s.filesz)) (λ a e. h a (both_pass (is_some (word_of file a)) (list_all (is_apart a) blocks) e).1))
+    ∙ ap (λ (xs : List ℕ). filter q here ++ xs) (alike_outside p q file blocks segments h)
+    ∙ sym (filter-append q here others)
+
+pub filter_outside : (p q : ℕ → Bool) (unwritable : Bool) (file : List ℕ) (blocks : List Block) → ((a : ℕ) → list_all (is_apart a) blocks ≡ true → p a ≡ q a) → filter p (outside_places unwritable file blocks) ≡ filter q (outside_places unwritable file blocks)
+unfolding outside_places
+filter_outside p q unwritable file blocks h = alike_outside p q file blocks (filter (has_roots unwritable) (segments_of file)) h
 
 -- ---- no spans
 

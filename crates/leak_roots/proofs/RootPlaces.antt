@@ -2,22 +2,22 @@
 use Rattle.std.proofs.Common.{◌≡◌, ℕ, Bool, not, List, [], length, filter, refl, sym, ap, ◌∙◌}
 use Rattle.leak_blocks.specs.declared.block.Block.{Block}
 use Rattle.leak_blocks.specs.declared.small.Span.{Span}
-use Rattle.leak_blocks.specs.Small.{CoverSame}
+use Rattle.leak_blocks.specs.Small.{CoverSame, CoverSameOutside}
 use Rattle.leak_roots.specs.Places.{Places, AreRanges, memory_places}
 use Rattle.leak_roots.specs.LeftOut.{LeftOut, freed_left_out}
 use Rattle.leak_roots.specs.Roots.{AreRootsOf, is_inside, outside_places, freed_places, kept_places, dead_places, root_places}
-use Rattle.leak_roots.proofs.LeftOut.{filter_alike, inside_same, none_counted, none_left_out}
+use Rattle.leak_roots.proofs.LeftOut.{filter_alike, filter_outside, inside_same, inside_same_outside, none_counted, none_left_out}
 
 -- ---- freed memory
 
-pub root_places_same : (left : LeftOut) (file : List ℕ) (blocks : List Block) (others : List Span) → CoverSame left.freed others → root_places left file blocks ≡ root_places (record left { freed = others }) file blocks
+pub root_places_same : (left : LeftOut) (file : List ℕ) (blocks : List Block) (others : List Span) → CoverSameOutside blocks left.freed others → root_places left file blocks ≡ root_places (record left { freed = others }) file blocks
 unfolding root_places kept_places
 root_places_same left file blocks others same = ap (λ (places : List ℕ). filter (λ a. not (is_inside left.dead a)) (filter (λ a. not (is_inside left.slack a)) places))
-    (filter_alike (λ a. not (is_inside left.freed a)) (λ a. not (is_inside others a)) (outside_places left.unwritable file blocks) (λ a. ap not (inside_same left.freed others a same)))
+    (filter_outside (λ a. not (is_inside left.freed a)) (λ a. not (is_inside others a)) left.unwritable file blocks (λ a apart. ap not (inside_same_outside blocks left.freed others a same apart)))
 
-pub freed_places_same : (left : LeftOut) (file : List ℕ) (blocks : List Block) (others : List Span) → CoverSame left.freed others → freed_places left file blocks ≡ freed_places (record left { freed = others }) file blocks
+pub freed_places_same : (left : LeftOut) (file : List ℕ) (blocks : List Block) (others : List Span) → CoverSameOutside blocks left.freed others → freed_places left file blocks ≡ freed_places (record left { freed = others }) file blocks
 unfolding freed_places
-freed_places_same left file blocks others same = filter_alike (is_inside left.freed) (is_inside others) (outside_places left.unwritable file blocks) (λ a. inside_same left.freed others a same)
+freed_places_same left file blocks others same = filter_outside (is_inside left.freed) (is_inside others) left.unwritable file blocks (λ a apart. inside_same_outside blocks left.freed others a same apart)
 
 pub root_places_some : (unwritable : Bool) (file : List ℕ) (blocks : List Block) (spans : List Span) → filter (λ a. not (is_inside spans a)) (outside_places unwritable file blocks) ≡ root_places (freed_left_out unwritable spans) file blocks
 unfolding root_places kept_places

@@ -5,7 +5,7 @@ ghost use Rattle.leak_elf.specs.Segments.{segments_of};
 ghost use Rattle.leak_notes.specs.Threads.{threads_of};
 ghost use Rattle.leak_blocks.specs.declared.block.Block.{Block};
 ghost use Rattle.leak_blocks.specs.declared.small.Span.{Span};
-ghost use Rattle.leak_blocks.specs.Small.{AreApart, CoverSame};
+ghost use Rattle.leak_blocks.specs.Small.{AreApart, CoverSame, CoverSameOutside};
 ghost use Rattle.leak_roots.specs.Places.{Places, AreRanges, memory_places};
 ghost use Rattle.leak_roots.specs.LeftOut.{LeftOut, freed_left_out};
 ghost use Rattle.leak_roots.specs.Roots.{AreRootsOf, freed_places, has_roots, is_inside, root_places};
@@ -49,8 +49,8 @@ impl Model for Roots {
 
 impl Roots {
     /// Finds the root words of a core, given its threads, the live blocks of its log and the spans of small allocations
-    /// whose freed places are left out: those of the log, or none. `unwritable` says whether the words of memory that
-    /// can't be written are left out.
+    /// whose freed places are left out: those of the log, or none. Which addresses of live blocks are in them changes
+    /// nothing. `unwritable` says whether the words of memory that can't be written are left out.
     ///
     /// They are the register words of the threads, as they are given, and the words of 8 bytes at the multiples of 8 in
     /// segments that share no byte with a live block and whose bytes the core holds: registers, stacks and static data,
@@ -71,7 +71,8 @@ impl Roots {
             IfOk result (λ roots. roots.freed ≡ length (freed_places left image.now live.now.blocks)) }
         ensures dead { IfOk result (λ roots. roots.dead ≡ 0) }
         ensures links { IfOk result (λ roots. roots.skips_links ≡ false) }
-        ensures of_core { (spans : List Span) → CoverSame small.now spans
+        ensures of_core { (spans : List Span)
+            → CoverSameOutside live.now.blocks small.now spans
             → threads.now ≡ threads_of image.now
             → IfOk result (AreRootsOf (freed_left_out unwritable spans) image.now live.now.blocks) }
         // each block, and each span, cuts at most one range in two

@@ -14,7 +14,7 @@ use Rattle.leak_blocks.specs.Live.{replay_of, live_of}
 use Rattle.leak_blocks.specs.declared.replaying.Replayed.{Replayed}
 use Rattle.leak_blocks.specs.declared.small.Span.{Span}
 use Rattle.leak_blocks.specs.Outcome.{ComesTo}
-use Rattle.leak_blocks.specs.Small.{CoverSame}
+use Rattle.leak_blocks.specs.Small.{CoverSameOutside}
 use Rattle.leak_roots.specs.Places.{Places}
 use Rattle.leak_roots.specs.Roots.{AreRootsOf}
 use Rattle.leak_roots.specs.declared.skip.Skip.{Skip}
@@ -58,9 +58,10 @@ abbrev pub at_marking : PoolError → FindError
 at_marking TooManyForPool = TooMany
 at_marking NoMemoryForPool = NoMemory
 
--- the log was read: its live blocks, and the spans whose freed places are left out
+-- the log was read: its live blocks, and the spans whose freed places are left out, as far as they are outside these
 abbrev pub IsReadLog : Skip → List ℕ → Replayed × List Span → Type 0
-IsReadLog skip log read = (lines : List Line) × ComesTo log lines read.0 × CoverSame read.1 (spans_of skip lines)
+IsReadLog skip log read =
+    (lines : List Line) × ComesTo log lines read.0 × CoverSameOutside read.0.live.blocks read.1 (spans_of skip lines)
 
 -- this was read of the log, or its first fault
 pub record IsReadAs (skip : Skip) (log : List ℕ) (answer : Result (Replayed × List Span) LogError) : Type 0 where
@@ -76,7 +77,7 @@ pub record IsReadOf (core log : List ℕ) (lines : List Line) (input : Input) : 
   pub torn : input.torn ≡ torn_of log
   pub callers : CallersAreIn log lines
   pub live : input.live ≡ replay_of lines
-  pub heap_spans : CoverSame input.heap_spans (spans_of input.skip lines)
+  pub heap_spans : CoverSameOutside input.live.blocks input.heap_spans (spans_of input.skip lines)
 
 -- they were read, with the lines that the log has
 abbrev pub IsRead : List ℕ → List ℕ → Input → Type 0

@@ -33,7 +33,7 @@ pub struct Input<'a> {
     pub live: Live,
     /// What a search leaves out of the root words.
     pub skip: Skip,
-    /// The spans of the log whose freed places are left out.
+    /// The spans of the log whose freed places are left out, as far as they are outside the live blocks.
     pub heap_spans: SmallSpans,
     /// How many of the log's lines are torn.
     pub torn: u64,
