@@ -9,3 +9,5 @@ pub mod ChangeLemmas
 pub mod BitChangeLemmas
 pub mod PushLemmas
 pub mod AppendLemmas
+pub mod RetainBitsLemmas
+pub mod RetainLemmas

@@ -3,6 +3,7 @@ use Rattle.std.specs.Prelude.{◌≡◌, ◌≢◌, ℕ, ◌+◌, ◌-◌, ◌*�
 use Rattle.std.specs.Int.{bit_at}
 use Rattle.std.specs.List.{range_with_len, sum_by}
 use Rattle.leak_sparse.specs.declared.group.Group.{Group}
+use Rattle.leak_sparse.specs.Words.{is_between}
 
 -- a group of which no word is kept
 abbrev pub empty : ℕ → Group
@@ -47,3 +48,14 @@ covered groups places before = groups ++ replicate (group_count places - length 
 -- a group before which this many words more are kept
 abbrev pub moved : ℕ → Group → Group
 moved count group = record { bits = group.bits; before = count + group.before }
+
+-- the bits of those words of a group that are neither below nor above
+pub record AreBitsBetween (low high : ℕ) (kept : List ℕ) (group : Group) (bits : ℕ) : Type 0 where
+  pub narrow : bits < 2 ^ 64
+  pub each : (k : ℕ) → k < 64 → bit_at bits k ≡ (if is_between low high (word_in group kept k) then bit_at group.bits k else 0)
+
+-- the groups with those bits alone, and with as many words before each as are left
+pub record AreGroupsBetween (low high : ℕ) (kept : List ℕ) (groups now : List Group) : Type 0 where
+  pub long : length now ≡ length groups
+  pub bits : (g : ℕ) → g < length groups → AreBitsBetween low high kept (slice_index_or groups g (empty 0)) (slice_index_or now g (empty 0)).bits
+  pub before : (g : ℕ) → g < length groups → (slice_index_or now g (empty 0)).before ≡ kept_in (take g now)

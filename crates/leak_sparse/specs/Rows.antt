@@ -1,8 +1,8 @@
 -- Worked rows of the definitions.
-use Rattle.std.specs.Prelude.{◌≡◌, ℕ, ◌^◌, List, [], ◌∷◌}
+use Rattle.std.specs.Prelude.{◌≡◌, ℕ, ◌^◌, List, [], ◌∷◌, map}
 use Rattle.leak_sparse.specs.declared.group.Group.{Group}
 use Rattle.leak_sparse.specs.Groups.{covered, empty, kept_in, moved, word_at, words_of}
-use Rattle.leak_sparse.specs.Words.{AreZerosTo, HasRoom, IsNextKept, NoneKeptFrom, kept_from, kept_of}
+use Rattle.leak_sparse.specs.Words.{AreZerosTo, HasRoom, IsNextKept, NoneKeptFrom, between, kept_from, kept_of}
 
 -- a group by its bits
 abbrev pub group : ℕ → ℕ → Group
@@ -41,7 +41,7 @@ pub record AreWorkedGroups : Type 0 where
   pub fewer : covered (group 5 0 ∷ empty 2 ∷ []) 4 2 ≡ group 5 0 ∷ empty 2 ∷ []
   pub after_more : moved 3 (group 5 2) ≡ group 5 5
 
--- words that aren't 0, and room for zeros
+-- words that aren't 0, words between bounds, and room for zeros
 pub record AreWorkedLists : Type 0 where
   pub none : kept_of (0 ∷ 0 ∷ []) ≡ 0
   pub some : kept_of gaps ≡ 2
@@ -49,6 +49,15 @@ pub record AreWorkedLists : Type 0 where
   pub last_from : kept_from gaps 2 2 ≡ 9 ∷ []
   pub first_from : kept_from gaps 0 3 ≡ 7 ∷ []
   pub none_from : kept_from gaps 2 1 ≡ []
+  pub too_low : between 5 9 4 ≡ 0
+  pub lowest : between 5 9 5 ≡ 5
+  pub inner : between 5 9 7 ≡ 7
+  pub highest : between 5 9 9 ≡ 9
+  pub too_high : between 5 9 10 ≡ 0
+  pub zero : between 5 9 0 ≡ 0
+  pub zero_inside : between 0 9 0 ≡ 0
+  pub no_bounds : between 9 5 7 ≡ 0
+  pub of_list : map (between 7 8) gaps ≡ 0 ∷ 7 ∷ 0 ∷ 0 ∷ []
   pub itself : IsNextKept gaps 1 1
   pub later : IsNextKept gaps 2 3
   pub not_second : ¬ IsNextKept gaps 0 3

@@ -1,5 +1,5 @@
 -- Words that aren't 0, in a list, and room for more words.
-use Rattle.std.specs.Prelude.{◌≡◌, ◌≢◌, ℕ, ◌+◌, ◌/◌, ◌*◌, ◌^◌, ◌<◌, ◌≤◌, ◌==◌, min, not, List, length, slice_index, filter, take, drop}
+use Rattle.std.specs.Prelude.{◌≡◌, ◌≢◌, ℕ, ◌+◌, ◌/◌, ◌*◌, ◌^◌, ◌<◌, ◌≤◌, ◌==◌, ◌&&◌, if◌then◌else◌, Bool, min, nat_le, not, List, length, slice_index, filter, take, drop}
 use Rattle.std.specs.List.{count_by}
 
 -- how many words aren't 0
@@ -9,6 +9,14 @@ kept_of words = count_by (λ word. not (word == 0)) words
 -- of so many words from a place on, those that aren't 0
 abbrev pub kept_from : List ℕ → ℕ → ℕ → List ℕ
 kept_from words from count = filter (λ word. not (word == 0)) (take count (drop from words))
+
+-- whether the word is neither below nor above
+abbrev pub is_between : ℕ → ℕ → ℕ → Bool
+is_between low high word = nat_le low word && nat_le word high
+
+-- the word, or 0 if it is below or above
+abbrev pub between : ℕ → ℕ → ℕ → ℕ
+between low high word = if is_between low high word then word else 0
 
 -- each word from a place on is 0
 pub record NoneKeptFrom (words : List ℕ) (from : ℕ) : Type 0 where

@@ -1,9 +1,10 @@
 //! The list of words.
-ghost use Rattle.std.specs.Prelude.{◌≡◌, ◌<◌, ◌≤◌, ◌-◌, ◌%◌, ◌∷◌, [], ◌++◌, length, replicate, slice_get, take};
+ghost use Rattle.std.specs.Prelude.{◌≡◌, ◌<◌, ◌≤◌, ◌-◌, ◌%◌, ◌∷◌, [], ◌++◌, length, map, replicate, slice_get, take};
 ghost use Rattle.std.specs.Prelude.{MatchOption, OnOk, OnErr, IsOk};
-ghost use Rattle.leak_sparse.specs.Words.{AreZerosTo, HasRoom, IsNextKept, NoneKeptFrom, kept_from, kept_of};
+ghost use Rattle.leak_sparse.specs.Words.{AreZerosTo, HasRoom, IsNextKept, NoneKeptFrom, between, kept_from, kept_of};
 
 use crate::group::{Group, add_groups, cover, has, lowest_from, ones_below};
+use crate::retaining::{is_between, keep_between};
 use std::alloc::{AllocError, Global};
 use std::marker::Model;
 
@@ -111,6 +112,22 @@ impl SparseWords {
         add_groups(&mut self.groups, other.groups.as_slice(), before);
         self.len = len;
         Ok(())
+    }
+
+    /// The same list with 0 in place of each word below `low` or above `high`. It needs no further memory, and gives
+    /// back what it no longer needs.
+    pub fn retain_between(self, low: u64, high: u64) -> SparseWords
+        ensures { result ≡ map (between low high) self }
+    {
+        let SparseWords {
+            mut groups,
+            mut kept,
+            len,
+        } = self;
+        keep_between(groups.as_mut_slice(), kept.as_slice(), low, high);
+        kept.retain(|word| is_between(low, high, *word));
+        kept.shrink_to_fit();
+        SparseWords { groups, kept, len }
     }
 
     /// The word at a place.

@@ -184,6 +184,92 @@ fn a_list_follows_whole_groups(rt: HostRuntime) -> Result<(), Fail> {
     Ok(())
 }
 
+/// The words between two bounds, and 0 in place of each other one.
+fn between(alloc: Global, all: &[u64], low: u64, high: u64) -> Result<Vec<u64>, AllocError> {
+    let mut words = Vec::new(alloc);
+    for word in all {
+        let stays = low <= *word && *word <= high;
+        words.push(if stays { *word } else { 0 })?;
+    }
+    Ok(words)
+}
+
+/// Bounds of words: all are between, one is, those at the bounds are or aren't, those of a group are, and none is.
+const BOUNDS: [(u64, u64); 8] = [
+    (0, u64::MAX),
+    (8, 8),
+    (8, 198),
+    (9, 197),
+    (64, 127),
+    (199, u64::MAX),
+    (0, 2),
+    (198, 8),
+];
+
+#[test]
+fn words_between_bounds_are_retained(rt: HostRuntime) -> Result<(), Fail> {
+    for (low, high) in BOUNDS {
+        for count in [0u64, 1, 64, 128, 203] {
+            let all = fifths(rt.alloc(), 0, count)?;
+            let wanted = between(rt.alloc(), all.as_slice(), low, high)?;
+            let words = listed(rt.alloc(), 0, count)?.retain_between(low, high);
+            has_words(&rt, &words, wanted.as_slice());
+            let mut stay = Vec::new(rt.alloc());
+            for word in &wanted {
+                if *word != 0 {
+                    stay.push(*word)?;
+                }
+            }
+            same_in(&rt, &(low, high), words.kept(), stay.len());
+            let kept = kept_between(&rt, &words, 0, words.len());
+            same_in(&rt, &(low, high), kept, stay.as_slice());
+        }
+    }
+    Ok(())
+}
+
+#[test]
+fn a_list_grows_after_words_are_gone(rt: HostRuntime) -> Result<(), Fail> {
+    for (low, high) in BOUNDS {
+        let old = fifths(rt.alloc(), 0, 191)?;
+        let mut all = between(rt.alloc(), old.as_slice(), low, high)?;
+        let more = listed(rt.alloc(), 192, 300)?;
+        let mut words = listed(rt.alloc(), 0, 191)?.retain_between(low, high);
+        words.push(7)?;
+        all.push(7)?;
+        has_words(&rt, &words, all.as_slice());
+        if words.len() % 64 != 0 {
+            return Ok(assert!(rt; false, "192 words fill groups"));
+        }
+        words.append(&more)?;
+        all.extend_from_slice(fifths(rt.alloc(), 192, 300)?.as_slice())?;
+        words.push_zeros(100)?;
+        words.push(9)?;
+        all.resize(400, 0)?;
+        all.push(9)?;
+        has_words(&rt, &words, all.as_slice());
+    }
+    Ok(())
+}
+
+#[test]
+fn words_are_gone_twice(rt: HostRuntime) -> Result<(), Fail> {
+    let all = fifths(rt.alloc(), 0, 203)?;
+    let wanted = between(rt.alloc(), all.as_slice(), 50, 150)?;
+    let words = listed(rt.alloc(), 0, 203)?
+        .retain_between(0, 150)
+        .retain_between(50, u64::MAX);
+    has_words(&rt, &words, wanted.as_slice());
+    same(&rt, words.kept(), 20);
+    same(&rt, words.next_kept(0), Some(53));
+    same(&rt, words.next_kept(149), None);
+    let none = words.retain_between(151, u64::MAX);
+    same(&rt, none.kept(), 0);
+    same(&rt, none.len(), 203);
+    same(&rt, none.next_kept(0), None);
+    Ok(())
+}
+
 #[test]
 fn more_places_than_numbers_are_refused(rt: HostRuntime) -> Result<(), Fail> {
     let mut words = SparseWords::new(rt.alloc());

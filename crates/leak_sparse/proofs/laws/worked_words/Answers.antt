@@ -47,6 +47,15 @@ returns c = record {
     last_from = refl;
     first_from = refl;
     none_from = refl;
+    too_low = refl;
+    lowest = refl;
+    inner = refl;
+    highest = refl;
+    too_high = refl;
+    zero = refl;
+    zero_inside = refl;
+    no_bounds = refl;
+    of_list = refl;
     itself = record { at_or_after = omega arith; inside = omega arith; kept = λ e. zero_not 6 e; least = λ k l h. absurd (omega (arith, l, h)) };
     later = record { at_or_after = omega arith; inside = omega arith; kept = λ e. zero_not 8 e; least = before_last };
     not_second = λ next. zero_not 6 (next.least 1 (omega arith) (omega arith));
