@@ -15,7 +15,7 @@ use std::thread::Threads;
 #[derive(Drop)]
 pub(crate) struct InputEdges<'a> {
     /// What each block leads to, at four bytes a target.
-    pub(crate) listed: Listed<'a, Image<'a, Behind>, Paged<'a>>,
+    pub(crate) listed: Listed<'a, Image<'a, Behind<'a>>, Paged<'a>>,
     /// What the root words lead to, each block once.
     pub(crate) first: Vec<u32>,
 }

@@ -71,6 +71,6 @@ pub fn find_passed<R: std::thread::Threads + Sync, G: Gate + Sync>(
         texts,
         read,
     } = passed;
-    let input = input_of_passed(alloc, rules.skip, held.as_slice(), (words, len), read)?;
+    let input = input_of_passed(alloc, rules.skip, held.as_slice(), (&words, len), read)?;
     find_kept(workers, alloc, input, texts, rules, lists_misfits)
 }

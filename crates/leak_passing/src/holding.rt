@@ -52,7 +52,7 @@ pub fn find_passed_holders<R: Threads + Sync, P: Progress>(
         log,
         read,
     } = passed;
-    let (held, log, behind) = (held.as_slice(), log.as_slice(), (words, len));
+    let (held, log, behind) = (held.as_slice(), log.as_slice(), (&words, len));
     let input = input_of_passed(alloc, rules.skip, held, behind, read)?;
     find_holders_in(workers, alloc, &input, &Logs { log, since }, rules)
 }
@@ -92,7 +92,7 @@ pub fn find_passed_held<R: Threads + Sync, P: Progress>(
         log,
         read,
     } = passed;
-    let (held, log, behind) = (held.as_slice(), log.as_slice(), (words, len));
+    let (held, log, behind) = (held.as_slice(), log.as_slice(), (&words, len));
     let input = input_of_passed(alloc, rules.skip, held, behind, read)?;
     find_held_in(
         workers,

@@ -28,19 +28,19 @@ pub(crate) fn input_of_passed<'a>(
     alloc: Global,
     skip: Skip,
     held: &'a [u8],
-    behind: (SparseWords, u64),
+    behind: (&'a SparseWords, u64),
     read: Result<(Replayed, SmallSpans), LogError>,
 ) -> Result<Input<'a>, FindError>
-    requires words { HasWords behind.0 behind.1 }
-    requires head { (bytes_behind behind.0 behind.1 ≡ []) ⊎ IsHead held.now }
+    requires words { HasWords behind.0.now behind.1 }
+    requires head { (bytes_behind behind.0.now behind.1 ≡ []) ⊎ IsHead held.now }
     requires read { (log : List ℕ) × IsReadAs skip log read }
     ensures ok { IfOk result (λ input. (log : List ℕ) → IsReadAs skip log read
-        → IsRead (held.now ++ bytes_behind behind.0 behind.1) log input) }
+        → IsRead (held.now ++ bytes_behind behind.entry.0.now behind.entry.1) log input) }
     ensures skip { IfOk result (λ input. input.skip ≡ skip) }
     ensures full { IfOk result (λ _. read ≢ Err NoMemoryForLog) }
     ensures refused { IfErr result (λ e. e ≢ FindError.NoMemory → (log : List ℕ)
         → IsReadAs skip log read
-        → IsInputFault 1 (held.now ++ bytes_behind behind.0 behind.1) log e) }
+        → IsInputFault 1 (held.now ++ bytes_behind behind.entry.0.now behind.entry.1) log e) }
 {
     if is_short(&read) {
         return Err(FindError::NoMemory);

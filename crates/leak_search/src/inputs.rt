@@ -26,7 +26,7 @@ use std::alloc::{AllocError, Global};
 /// of the log's bytes, which the input doesn't hold.
 #[derive(Drop)]
 pub struct Input<'a> {
-    pub image: Image<'a, Behind>,
+    pub image: Image<'a, Behind<'a>>,
     /// The room that the core gives to edges.
     pub edges: EdgeRoom,
     pub threads: Threads,
@@ -69,7 +69,7 @@ pub fn read_input<'a>(
     ensures refused { IfErr result (λ e. e ≢ FindError.NoMemory
         → IsInputFault number core.now log.now e) }
 {
-    let image = match Image::passed(alloc, core, Behind::none(alloc)) {
+    let image = match Image::passed(alloc, core, Behind::none()) {
         Ok(image) => image,
         Err(error) => return Err(at_core(number, error)),
     };
@@ -86,7 +86,7 @@ pub fn input_of<'a>(
     alloc: Global,
     number: u8,
     skip: Skip,
-    image: Image<'a, Behind>,
+    image: Image<'a, Behind<'a>>,
     read: Result<(Replayed, SmallSpans), LogError>,
 ) -> Result<Input<'a>, FindError>
     requires accepted { fault_of image ≡ None }

@@ -10,7 +10,8 @@ use Rattle.leak_elf.specs.Fields.{number_at}
 use Rattle.leak_elf.specs.Head.{aligned_number_at, AreZerosUpTo}
 use Rattle.leak_elf.proofs.Heads.{number_behind}
 use Rattle.leak_sparse.specs.Words.{AreZerosTo}
-use Rattle.leak_sift.specs.Behind.{HasWords, bytes_behind}
+use denote.Ref.{Bor}
+use Rattle.leak_sift.specs.Behind.{HasWords, IsBehind, bytes_behind, words_behind}
 
 abbrev bytes_of : List ℕ → List ℕ
 bytes_of words = flat_map (to_le_bytes w64) words
@@ -44,6 +45,13 @@ past : (words : List ℕ) (k : ℕ) → slice_get words k ≡ None → length wo
 past [] k none = omega arith
 past (x ∷ xs) zero none = absurd cc
 past (x ∷ xs) (suc k) none = let l = past xs k none in omega arith
+
+-- where there are words, they are those
+pub behind_some : (kept : Option (Bor (List ℕ))) (words : Bor (List ℕ)) (len : ℕ) (bytes : List ℕ) → kept ≡ Some words → IsBehind (words_behind kept) len → bytes_behind (words_behind kept) len ≡ bytes
+    → HasWords words.now len × (bytes_behind words.now len ≡ bytes)
+behind_some kept words len bytes some is view =
+    let same : words_behind kept ≡ words.now = ap words_behind some in
+    (subst (λ (l : List ℕ). HasWords l len) same is.words_of, sym (ap (λ (l : List ℕ). bytes_behind l len) same) ∙ view)
 
 -- the word at an offset that is a multiple of 8
 pub word_at : (words : List ℕ) (len at : ℕ) (found : Option ℕ) → HasWords words len → at % 8 ≡ 0 → found ≡ slice_get words (at / 8) → IfSome found (λ w. w < 2 ^ 64)

@@ -1,6 +1,12 @@
 -- The bytes of a core file behind those that are held, by their words.
-use Rattle.std.specs.Prelude.{ℕ, ◌+◌, ◌-◌, ◌*◌, ◌^◌, ◌<◌, ◌≤◌, List, ◌++◌, length, flat_map, replicate, slice_index}
+use Rattle.std.specs.Prelude.{ℕ, ◌+◌, ◌-◌, ◌*◌, ◌^◌, ◌<◌, ◌≤◌, List, [], ◌++◌, length, flat_map, replicate, slice_index, Option, Some, None}
+use denote.Ref.{Bor}
 use Rattle.std.specs.Int.{w64, to_le_bytes}
+
+-- the words, if there are any
+abbrev pub words_behind : Option (Bor (List ℕ)) → List ℕ
+words_behind None = []
+words_behind (Some words) = words.now
 
 -- the bytes of the words, 8 each, and then zeros: so many in all
 abbrev pub bytes_behind : List ℕ → ℕ → List ℕ
