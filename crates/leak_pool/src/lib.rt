@@ -25,6 +25,7 @@
 #![tactic(auto)]
 
 mod alone;
+mod appending;
 mod claiming;
 mod door;
 mod edges;

@@ -8,35 +8,39 @@ ghost use Rattle.leak_pool.specs.Promises.{as_lists};
 ghost use Rattle.leak_pool.specs.MarkingState.{IsReady, HasScanned, InItems, AreOfShares, AreOfOne};
 ghost use Rattle.leak_pool.specs.Rounds.{AreCounted};
 
+use crate::appending::append_blocks;
 use crate::gate::Gate;
 use crate::items::Items;
 use crate::marking_state::MarkingState;
 use crate::search::{Gated, Round, Search};
 use crate::sharing::scan_shares;
 use crate::target_source::{Item, TargetSource};
+use crate::task::Gains;
 use crate::worker::share_start;
 use std::alloc::{AllocError, Global};
+use std::mem::replace;
 use std::thread::Threads;
 
 // Appends the gained lists to those of the workers, and the blocks that were left to those that wait.
 fn absorb(
+    alloc: Global,
     claims: &mut Vec<Vec<u32>>,
     waiting: &mut Vec<u32>,
-    gained: &[Vec<u32>],
-    left: &[u32],
+    mut gained: Vec<Vec<u32>>,
+    left: Vec<u32>,
 ) -> Result<(), AllocError>
-    requires { length gained.now ≤ length claims.old.items }
+    requires { length gained.items ≤ length claims.old.items }
     ensures count { length claims.new.items ≡ length claims.old.items }
     ensures claims { IfOk result
         (λ _. as_lists claims.new.items
-        ≡ appended_from 0 (as_lists claims.old.items) (as_lists gained.now)) }
-    ensures waiting { IfOk result (λ _. waiting.new.items ≡ waiting.old.items ++ left.now) }
+        ≡ appended_from 0 (as_lists claims.old.items) (as_lists gained.items)) }
+    ensures waiting { IfOk result (λ _. waiting.new.items ≡ waiting.old.items ++ left.items) }
 {
-    waiting.extend_from_slice(left)?;
+    append_blocks(waiting, left)?;
     for k in 0..gained.len() {
-        let more = gained[k].as_slice();
+        let more = replace(&mut gained[k], Vec::new(alloc));
         let list = &mut claims[k];
-        list.extend_from_slice(more)?;
+        append_blocks(list, more)?;
     }
     Ok(())
 }
@@ -91,9 +95,8 @@ pub(crate) fn by_workers<R: Threads + Sync, S: TargetSource + Sync, G: Gate + Sy
     count_steps(&mut steps, items.len(), search.workers);
     state.seat = seat;
     state.steps = steps;
-    let claims = gained.claims.as_slice();
-    let left = gained.left.as_slice();
-    absorb(&mut state.claims, &mut state.waiting, claims, left)?;
+    let Gains { claims, left } = gained;
+    absorb(alloc, &mut state.claims, &mut state.waiting, claims, left)?;
     Ok(state)
 }
 
@@ -116,8 +119,7 @@ pub(crate) fn by_caller<S: TargetSource>(
     let mut list = Vec::new(alloc);
     let seat = &mut state.seat;
     search.source.scan(search.marks, seat, &mut list, item)?;
+    let left = list.as_slice().to_vec(alloc)?;
     gained.push(list)?;
-    let claims = &mut state.claims;
-    let left = gained[0].as_slice();
-    absorb(claims, &mut state.waiting, gained.as_slice(), left)
+    absorb(alloc, &mut state.claims, &mut state.waiting, gained, left)
 }

@@ -4,7 +4,8 @@ ghost use Rattle.std.specs.Prelude.{◌≡◌, ◌++◌, IfOk, IsOkAnd};
 ghost use Rattle.leak_marks.specs.Seats.{IsSound, both_seats};
 ghost use Rattle.leak_pool.specs.Promises.{AreBoth, CanScan, HaveScanned};
 
-use crate::task::{Gained, Task};
+use crate::appending::append_blocks;
+use crate::task::{Gained, Gains, Task};
 use leak_marks::{MarkSeat, Marks};
 use std::alloc::Global;
 use std::thread::{Threads, join};
@@ -14,11 +15,10 @@ fn both(first: Gained, second: Gained) -> Gained
     ensures { IfOk result (λ all. IsOkAnd first (λ a. IsOkAnd second (λ b. AreBoth a b all))) }
 {
     let mut all = first?;
-    let mut more = second?;
-    let claims = &mut all.claims;
-    claims.append(&mut more.claims)?;
-    let left = &mut all.left;
-    left.append(&mut more.left)?;
+    let Gains { mut claims, left } = second?;
+    let before = &mut all.claims;
+    before.append(&mut claims)?;
+    append_blocks(&mut all.left, left)?;
     Ok(all)
 }
 

@@ -1,7 +1,6 @@
 -- From the lemmas of StepLemmas.
-use Rattle.std.proofs.Common.{◌≡◌, ◌<◌, ◌∙◌, refl, ap, subst, ◌++◌, ℕ, List, [], Vec, Global, length, map, arith, rules}
+use Rattle.std.proofs.Common.{◌≡◌, ◌<◌, refl, ap, subst, ℕ, List, [], Vec, Global, length, map, arith, rules}
 use Rattle.std.specs.Prelude.{IfOk}
-use Rattle.leak_marks.specs.Rounds.{appended_from}
 use Rattle.leak_pool.specs.Items.{items_in, targets_at, targets_of_block}
 use Rattle.leak_pool.specs.Gates.{IsNextPassed, ArePassed}
 use Rattle.leak_pool.specs.Promises.{IsHalf}
@@ -27,15 +26,12 @@ returns-clause-done g c =
     let scanned = c.scan_shares-seat.ensures in
     let gains : Gains = c.in_ok-gained.gained in
     let done = subst (λ (k : ℕ). IfOk c.scan_shares-seat.result.1 (λ (g : Gains). IsHalf blocks targets model.stack n w 0 k p.seat c.scan_shares-seat.result.0 (map items g.claims.items) g.left.items)) same_workers scanned.done in
-    let h = ok_at c.scan_shares-seat.result.1 gains (λ (g : Gains). IsHalf blocks targets model.stack n w 0 w p.seat c.scan_shares-seat.result.0 (map items g.claims.items) g.left.items) c.in_ok-gained.was done in
-    let same : c.as_slice-claims.result.now ≡ gains.claims.items = c.as_slice-claims.ensures.value in
-    let left : c.as_slice-left.result.now ≡ gains.left.items = c.as_slice-left.ensures.value in (
+    let h = ok_at c.scan_shares-seat.result.1 gains (λ (g : Gains). IsHalf blocks targets model.stack n w 0 w p.seat c.scan_shares-seat.result.0 (map items g.claims.items) g.left.items) c.in_ok-gained.was done in (
       map items gains.claims.items,
       gains.left.items,
       step_of_half blocks targets model.stack n w (map items p.claims.items) p.waiting.items p.seat (map items c.absorb.new.claims.items) c.absorb.new.waiting.items c.scan_shares-seat.result.0 (map items gains.claims.items) gains.left.items
           some h scanned.table scanned.share scanned.sound
-          (c.in_ok-absorb.ensures.claims ∙ ap (λ (l : List (Vec ℕ Global)). appended_from 0 (map items p.claims.items) (map items l)) same)
-          (c.in_ok-absorb.ensures.waiting ∙ ap (λ (l : List ℕ). p.waiting.items ++ l) left),
+          c.in_ok-absorb.ensures.claims c.in_ok-absorb.ensures.waiting,
       h.own,
     )
 
