@@ -1,7 +1,7 @@
 """The record of refused wrong bodies: gate/refused.txt, a line for each crate all of whose wrong bodies were refused.
 
 A line has the crate's name, how many wrong bodies it has, the first digits of a checksum of the scripts that judged them, and a
-checksum of all that decides whether they are wrong: the kit, the crate's line of crates.txt, its sources, specs, proofs and wrong
+checksum of all that decides whether they are wrong: the kit's logic, the crate's line of crates.txt, its sources, specs, proofs and wrong
 bodies; and of the crates of the repository below it, as `rt ci` left them in out/, what these name. When any of this changes, the
 line no longer speaks of the crate.
 
@@ -148,6 +148,12 @@ def judge():
     return hashlib.sha256("".join(text_of(f"{folder}/{it}") for it in JUDGES).encode()).hexdigest()[:16]
 
 
+def logic():
+    """Returns what the kit says of its logic, which two kits may share: a body that is wrong by a contract is so with each of them."""
+    said = subprocess.run(["rt", "version"], capture_output=True, text=True, check=True).stdout
+    return re.search(r"\blogic \w+", said)[0]
+
+
 def sum_of(root, crate, libraries, below):
     """Returns the checksum of all that decides whether a crate's wrong bodies are wrong, but the judge."""
     found = hashlib.sha256()
@@ -157,7 +163,7 @@ def sum_of(root, crate, libraries, below):
             # (its length keeps a text apart from the next)
             found.update(b"%d:" % len(text) + text)
 
-    add(subprocess.run(["rt", "version"], capture_output=True, text=True, check=True).stdout)
+    add(logic())
     own = {it: text_of(it) for part in (*PARTS, "wrong") for it in files_below(f"{root}/crates/{crate}/{part}")}
     silent = {it for it in below if not any(items_in(root, it))}
     add(" ".join([crate, *(it for it in libraries[crate] if it not in silent)]))
