@@ -1,20 +1,16 @@
 -- A search finds in a core what it finds in one that is alike.
-use Rattle.std.proofs.Common.{◌≡◌, ◌↔◌, ℕ, ◌+◌, ◌-◌, ◌^◌, inl, inr, Bool, true, false, not, ◌&&◌, ◌==◌, List, [], ◌∷◌, ◌++◌, length, map, filter, flat_map, is_some, Option, Some, None, refl, sym, ap, ap₂, subst, ◌∙◌, Contains}
-use mathlib.Core.Path.{fun_ext}
+use Rattle.std.proofs.Common.{◌≡◌, ◌↔◌, ℕ, ◌+◌, ◌-◌, ◌^◌, inl, inr, Bool, true, false, List, [], ◌∷◌, length, Option, Some, None, refl, sym, ap, ap₂, subst, ◌∙◌, Contains}
 use Rattle.std.specs.Prelude.{if◌then◌else◌, option_and_then}
-use Rattle.std.specs.List.{AllByRecursion, enumerate_from, list_all, list_any, range_with_len}
+use Rattle.std.specs.List.{AllByRecursion}
 use Rattle.std.specs.Option.{option_map_or}
 use Rattle.leak_lemmas.proofs.Members.{each_implied}
-use Rattle.leak_elf.specs.Segments.{lacking, undumped_of}
-use Rattle.leak_elf.specs.Words.{places, word_of}
+use Rattle.leak_elf.specs.Words.{word_of}
 use Rattle.leak_elf.specs.declared.segment.Segment.{Segment}
 use Rattle.leak_notes.specs.Stacks.{threads_in}
-use Rattle.leak_notes.specs.Threads.{registers_of}
 use Rattle.leak_notes.specs.declared.stacks.StackRegisters.{StackRegisters}
 use Rattle.leak_mtrace.specs.Log.{torn_of}
 use Rattle.leak_mtrace.specs.declared.line.Line.{Line}
 use Rattle.leak_blocks.specs.Live.{live_of, replay_of}
-use Rattle.leak_blocks.specs.declared.block.Block.{Block}
 use Rattle.leak_blocks.specs.declared.small.Span.{Span}
 use Rattle.leak_index.specs.Hits.{Index}
 use Rattle.leak_index.specs.Leads.{Distances}
@@ -24,26 +20,34 @@ use Rattle.leak_chunks.specs.Slack.{slack_of, slack_spans_of}
 use Rattle.leak_stacks.specs.Dead.{dead_from, dead_spans_of}
 use Rattle.leak_stacks.specs.Stacks.{first_at, first_in, stack_of}
 use Rattle.leak_roots.specs.LeftOut.{LeftOut}
-use Rattle.leak_roots.specs.Roots.{dead_places, freed_places, has_roots, is_apart, is_inside, kept_places, outside_places, root_places}
 use Rattle.leak_roots.specs.Skipped.{spans_of}
 use Rattle.leak_roots.specs.declared.skip.Skip.{Skip}
-use Rattle.leak_scan.specs.Heads.{heads_of, is_leaked}
-use Rattle.leak_scan.specs.Targets.{block_targets, targets_of}
+use Rattle.leak_scan.specs.Heads.{heads_of}
 use Rattle.leak_marks.specs.Partition.{Partitions}
 use Rattle.leak_marks.specs.Reach.{Graph, Reach}
-use Rattle.leak_pool.specs.Marking.{IsSet, graph_of, led_in_memory}
+use Rattle.leak_pool.specs.Marking.{IsSet}
 use Rattle.leak_report.specs.Report.{text_of}
 use Rattle.leak_report.specs.declared.head.Head.{Head}
 use Rattle.leak_report.specs.declared.signs.Signs.{Signs}
-use Rattle.leak_search.specs.LeftOut.{dead_told, freed_told, left_out}
-use Rattle.leak_search.specs.Search.{FindsOne, claims_of, first_of, graph_of_one, head_of_one, index_of}
+use Rattle.leak_search.specs.LeftOut.{left_out}
+use Rattle.leak_search.specs.Search.{FindsOne, claims_of, graph_of_one, head_of_one, index_of}
 use Rattle.leak_search.specs.Signs.{AreSigns, fits_told, misfits_counted, signs_of}
 use Rattle.leak_search.specs.declared.found.Found.{Found}
 use Rattle.leak_alike.specs.Alike.{AreAlikeCores, AreAlikeBy, AreAlikeWords, IsAsked, size_word, next_size_word, header_word, record_word, frame_word}
 use Rattle.leak_alike.proofs.AlikeLists.{each_contained, filter_map_agree, map_agree}
 use Rattle.leak_alike.proofs.AlikeRefusals.{core_faultless}
 use Rattle.leak_alike.proofs.AlikeStacks.{HasSameStack, dead_same, stack_same}
-use Rattle.leak_alike.proofs.AlikeWords.{HasSameHeader, HasSameSizes, block_targets_same, fits_same, memory_same, slack_same}
+use Rattle.leak_alike.proofs.AlikeWords.{HasSameHeader, HasSameSizes, fits_same, slack_same}
+use Rattle.leak_alike.proofs.MarkedAlike.{HasSameMarks, graph_same as graph_marked, head_same as head_marked, heads_same as heads_marked}
+
+-- ---- words
+
+pub words_back : (index : Index) (v w : Option ℕ) → AreAlikeWords index v w → AreAlikeWords index w v
+words_back index None None same = tt
+words_back index None (Some w) same = same
+words_back index (Some v) None same = same
+words_back index (Some v) (Some w) (inl same) = inl (sym same)
+words_back index (Some v) (Some w) (inr none) = inr (none.1, none.0)
 
 -- ---- what a search reads of alike cores
 
@@ -71,7 +75,7 @@ module _ (reading : Distances) (lines : List Line) (skip : Skip) (core other : L
 
   -- ---- sizes
 
-  fits_of_same : fits_of (word_of core) (live_of lines) ≡ fits_of (word_of other) (live_of lines)
+  pub fits_of_same : fits_of (word_of core) (live_of lines) ≡ fits_of (word_of other) (live_of lines)
   fits_of_same = map_agree (fits_core (word_of core)) (fits_core (word_of other)) (live_of lines)
       (each_implied (HasSameSizes (word_of core) (word_of other)) (λ b. fits_core (word_of core) b ≡ fits_core (word_of other) b) (fits_same (word_of core) (word_of other)) (live_of lines) sizes_same)
 
@@ -96,7 +100,7 @@ module _ (reading : Distances) (lines : List Line) (skip : Skip) (core other : L
       here : dead_from (word_of other) (first_in core) (2 ^ 28) (threads_in core) ≡ dead_from (word_of other) (first_in other) (2 ^ 28) (threads_in other)
       here = rw (first_stack_same, alike.threads) refl
 
-  -- ---- what is left out, and root words
+  -- ---- what is left out
 
   left_out_same : left_out skip core (live_of lines) lines ≡ left_out skip other (live_of lines) lines
   left_out_same =
@@ -109,82 +113,31 @@ module _ (reading : Distances) (lines : List Line) (skip : Skip) (core other : L
       go true same = same refl
       go false same = refl
 
-  has_word_same : (a : ℕ) → is_some (word_of core a) ≡ is_some (word_of other a)
-  has_word_same a = go (word_of core a) (word_of other a) (alike.words a)
-    where
-      go : (v w : Option ℕ) → AreAlikeWords index v w → is_some v ≡ is_some w
-      go None None same = refl
-      go None (Some w) same = absurd same
-      go (Some v) None same = absurd same
-      go (Some v) (Some w) same = refl
-
-  outside_same : (unwritable : Bool) → outside_places unwritable core (live_of lines) ≡ outside_places unwritable other (live_of lines)
-  unfolding outside_places
-  outside_same unwritable =
-      ap₂ (λ (has : ℕ → Bool) (segments : List Segment).
-      flat_map (λ (s : Segment). filter (λ (a : ℕ). has a && list_all (is_apart a) (live_of lines)) (places s.vaddr (s.vaddr + s.filesz))) (filter (has_roots unwritable) segments))
-      (fun_ext has_word_same) alike.segments
-
-  -- the same of what is made of the places outside the blocks, and of what is left out
-  places_same : {X : Type 0} (make : LeftOut → List ℕ → X)
-      → make (left_out skip core (live_of lines) lines) (outside_places skip.unwritable core (live_of lines))
-      ≡ make (left_out skip other (live_of lines) lines) (outside_places skip.unwritable other (live_of lines))
-  places_same make = ap₂ make left_out_same (outside_same skip.unwritable)
-
-  roots_same : root_places (left_out skip core (live_of lines) lines) core (live_of lines) ≡ root_places (left_out skip other (live_of lines) lines) other (live_of lines)
-  unfolding root_places kept_places
-  roots_same = places_same {X = List ℕ} (λ left outside. filter (λ a. not (is_inside left.dead a)) (filter (λ a. not (is_inside left.slack a)) (filter (λ a. not (is_inside left.freed a)) outside)))
-
-  freed_told_same : freed_told skip core (live_of lines) lines ≡ freed_told skip other (live_of lines) lines
-  unfolding freed_places
-  freed_told_same = places_same {X = Option ℕ} (λ left outside. if skip.freed then Some (length (filter (is_inside left.freed) outside)) else None)
-
-  dead_told_same : dead_told skip core (live_of lines) lines ≡ dead_told skip other (live_of lines) lines
-  unfolding dead_places kept_places
-  dead_told_same =
-      places_same {X = Option ℕ} (λ left outside. if skip.dead
-      then Some (length (filter (is_inside left.dead) (filter (λ a. not (is_inside left.slack a)) (filter (λ a. not (is_inside left.freed a)) outside)))) else None)
-
   -- ---- what is found
 
-  first_same : first_of core index skip lines ≡ first_of other index skip lines
-  first_same =
-      ap₂ (λ (registers addresses : List ℕ). targets_of index registers ++ led_in_memory skip.links (word_of core) index addresses) alike.registers roots_same
-      ∙ ap (λ (led : List ℕ). targets_of index (registers_of other) ++ led)
-      (memory_same (word_of core) (word_of other) index alike.words skip.links headers_same (root_places (left_out skip other (live_of lines) lines) other (live_of lines)))
-
-  targets_same : block_targets (word_of core) index ≡ block_targets (word_of other) index
-  targets_same = block_targets_same (word_of core) (word_of other) index alike.words
+  same_marks : HasSameMarks reading lines skip core other
+  same_marks = record {
+    but_words = record {
+      faults = alike.faults;
+      note_faults = alike.note_faults;
+      segments = alike.segments;
+      registers = alike.registers;
+      threads = alike.threads;
+      random = alike.random;
+    };
+    words = alike.words;
+    left = left_out_same;
+    headers = headers_same;
+  }
 
   pub graph_same : graph_of_one core reading skip lines ≡ graph_of_one other reading skip lines
-  unfolding graph_of
-  graph_same = ap₂ graph first_same targets_same
-    where
-      graph : List ℕ → (Block → List ℕ) → Graph
-      graph first targets = record { first = first; targets = map targets (live_of lines); given = [] }
+  graph_same = graph_marked reading lines skip core other same_marks
 
   heads_same : (set : List Bool) → heads_of (word_of core) index set ≡ heads_of (word_of other) index set
-  unfolding heads_of
-  heads_same set =
-      ap (λ (targets : Block → List ℕ). map (λ (b : ℕ). is_leaked set b && not (list_any (λ (c : ℕ × Block). is_leaked set c.0 && not (c.0 == b) && list_any (λ target. target == b) (targets c.1))
-      (enumerate_from 0 (live_of lines)))) (range_with_len 0 (length (live_of lines)))) targets_same
+  heads_same = heads_marked reading lines skip core other same_marks
 
   pub head_same : (log : List ℕ) → head_of_one core log skip lines ≡ head_of_one other log skip lines
-  unfolding undumped_of
-  head_same log =
-      ap (λ (undumped : ℕ). head undumped (freed_told skip core (live_of lines) lines) (dead_told skip core (live_of lines) lines)) (ap lacking alike.segments)
-      ∙ ap₂ (head (undumped_of other)) freed_told_same dead_told_same
-    where
-      head : ℕ → Option ℕ → Option ℕ → Head
-      head undumped freed dead = record {
-        undumped = undumped;
-        unknown = (replay_of lines).unknown;
-        displaced = (replay_of lines).displaced;
-        torn = torn_of log;
-        freed = freed;
-        dead = dead;
-        two = None;
-      }
+  head_same = head_marked reading lines skip core other same_marks
 
   fits_told_same : (check : Bool) → fits_told check core lines ≡ fits_told check other lines
   fits_told_same check = ap (λ (fits : List Bool). if check then Some fits else None) fits_of_same
@@ -215,13 +168,6 @@ module _ (reading : Distances) (lines : List Line) (skip : Skip) (core other : L
       rw (← first_stack_same) (stack_same (word_of core) (word_of other) core t (has_same_stack t dead here)) in
       frame_word t k h dead here (stack ∙ e) low high
 
-  words_back : (v w : Option ℕ) → AreAlikeWords index v w → AreAlikeWords index w v
-  words_back None None same = tt
-  words_back None (Some w) same = same
-  words_back (Some v) None same = same
-  words_back (Some v) (Some w) (inl same) = inl (sym same)
-  words_back (Some v) (Some w) (inr none) = inr (none.1, none.0)
-
   pub alike_back : AreAlikeCores index skip other core
   alike_back = record {
     faults = sym alike.faults;
@@ -230,7 +176,7 @@ module _ (reading : Distances) (lines : List Line) (skip : Skip) (core other : L
     registers = sym alike.registers;
     threads = sym alike.threads;
     random = sym alike.random;
-    words = λ a. words_back (word_of core a) (word_of other a) (alike.words a);
+    words = λ a. words_back index (word_of core a) (word_of other a) (alike.words a);
     asked = λ a is. sym (alike.asked a (asked_back a is));
   }
 

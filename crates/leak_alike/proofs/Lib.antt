@@ -3,6 +3,7 @@ pub mod Ranges
 pub mod AlikeLists
 pub mod AlikeWords
 pub mod AlikeStacks
+pub mod MarkedAlike
 pub mod AlikeCores
 pub mod NowhereWords
 pub mod AskedPlaces
@@ -12,6 +13,9 @@ pub mod OneHeads
 pub mod HeadRefusals
 pub mod WordBytes
 pub mod SiftedWords
+pub mod PrunedWords
 pub mod SiftedLemmas
+pub mod ListingLemmas
+pub mod PrunedLemmas
 pub mod SiftedSearches
 pub mod SiftedAnswers

@@ -12,7 +12,7 @@ use Rattle.leak_elf.specs.Segments.{AreParts, note_parts_of}
 use Rattle.leak_elf.proofs.Heads.{bytes_front, same_fault, same_headers, same_parts, same_segments}
 use Rattle.leak_notes.specs.Entry.{Entry, entries_from}
 use Rattle.leak_notes.specs.Stacks.{first_said, random_of, random_of_entry, stack_registers_of, threads_in}
-use Rattle.leak_notes.specs.Threads.{count_statuses, entries, entries_of_parts, entry_faults, note_fault_of, registers_of, words_of_entries}
+use Rattle.leak_notes.specs.Threads.{Registers, count_statuses, entries, entries_of_parts, entry_faults, note_fault_of, registers_of, threads_of, words_of_entries}
 use Rattle.leak_notes.specs.declared.error.NoteError.TheVariants.{NoThread}
 use Rattle.leak_alike.specs.OneHead.{AgreeButWords}
 
@@ -69,6 +69,14 @@ module _ (held rest other : List ℕ) (head : IsHead held) (size : length rest �
   random_same : random_of (held ++ rest) ≡ random_of (held ++ other)
   unfolding random_of
   random_same = ap (λ (es : List Entry). first_said (filter_map random_of_entry es)) entries_same
+
+pub threads_of_one_head : (held rest other : List ℕ) → IsHead held → length rest ≡ length other → threads_of (held ++ rest) ≡ threads_of (held ++ other)
+unfolding threads_of
+threads_of_one_head held rest other head size =
+    ap₂ (λ (registers : List ℕ) (threads : ℕ). threads_with registers threads) (registers_same held rest other head size) (ap count_statuses (entries_same held rest other head size))
+  where
+    threads_with : List ℕ → ℕ → Registers
+    threads_with registers threads = record { registers = registers; threads = threads }
 
 pub agree_but_words : (held rest other : List ℕ) → IsHead held → length rest ≡ length other → AgreeButWords (held ++ rest) (held ++ other)
 agree_but_words held rest other head size = record {

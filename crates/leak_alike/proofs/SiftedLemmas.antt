@@ -28,7 +28,7 @@ use Rattle.leak_alike.proofs.SiftedWords.{behind, sifted_long, sifted_words_kept
 
 -- ---- words that are not kept
 
-outside_is : (blocks : List Block) (word : ℕ) → is_outside blocks word ≡ true → IsOutside blocks word
+pub outside_is : (blocks : List Block) (word : ℕ) → is_outside blocks word ≡ true → IsOutside blocks word
 outside_is blocks word e = go (or_cases (first (slice_get blocks 0)) (last (slice_get blocks (length blocks - 1))) e)
   where
     first : Option Block → Bool

@@ -26,13 +26,13 @@ use Rattle.leak_alike.proofs.WordBytes.{behind_long, small_word, word_at}
 -- ---- the segment that is found
 
 -- the list has it at the number, and it passes the test
-record IsFound (p : Segment → Bool) (xs : List Segment) (s : Segment) : Type 0 where
-  number : ℕ
-  inside : number < length xs
-  is : slice_index_or xs number s ≡ s
-  passes : p s ≡ true
+pub record IsFound (p : Segment → Bool) (xs : List Segment) (s : Segment) : Type 0 where
+  pub number : ℕ
+  pub inside : number < length xs
+  pub is : slice_index_or xs number s ≡ s
+  pub passes : p s ≡ true
 
-is_found : (p : Segment → Bool) (xs : List Segment) (s : Segment) → find p xs ≡ Some s → IsFound p xs s
+pub is_found : (p : Segment → Bool) (xs : List Segment) (s : Segment) → find p xs ≡ Some s → IsFound p xs s
 is_found p [] s e = absurd (none-some s e)
 is_found p (x ∷ xs) s e = go (p x) refl e (is_found p xs s)
   where
@@ -72,7 +72,7 @@ place_found segments offset k s orderly inside is =
 
 -- ---- words of the core, and of the sifted one
 
-kept_small : (rule : Rule) (place word : ℕ) → word < 2 ^ 64 → kept_of rule.blocks rule.links place word < 2 ^ 64
+pub kept_small : (rule : Rule) (place word : ℕ) → word < 2 ^ 64 → kept_of rule.blocks rule.links place word < 2 ^ 64
 kept_small rule place word small = go (is_outside rule.blocks word && not (is_near rule.blocks rule.links place))
   where
     go : (t : Bool) → (if t then 0 else word) < 2 ^ 64
@@ -80,16 +80,16 @@ kept_small rule place word small = go (is_outside rule.blocks word && not (is_ne
     go false = small
 
 module _ (rule : Rule) (held rest : List ℕ) where
-  abbrev words : List ℕ
+  abbrev pub words : List ℕ
   words = sifted rule (segments_of held) (length held) rest
 
   abbrev pub behind : List ℕ
   behind = bytes_behind words (length rest)
 
-  abbrev kept : ℕ → ℕ → ℕ
+  abbrev pub kept : ℕ → ℕ → ℕ
   kept distance word = kept_at rule (segments_of held) (length held + distance) word
 
-  count : length words ≡ length rest / 8
+  pub count : length words ≡ length rest / 8
   count = length-by_words kept rest
 
   pub sifted_long : length rest ≡ length behind
@@ -107,7 +107,7 @@ module _ (rule : Rule) (held rest : List ℕ) where
         word_at words (replicate (length rest - 8 * length words) 0) k (omega (arith, count)) small ∙ one
 
     module _ (a : ℕ) (s : Segment) (one : IsFound (holds_word a) (segments_of held) s) where
-      bounds : (s.vaddr ≤ a) × (a + 8 ≤ s.vaddr + s.filesz)
+      pub bounds : (s.vaddr ≤ a) × (a + 8 ≤ s.vaddr + s.filesz)
       bounds =
           let parts = and_parts (nat_le s.vaddr a) (nat_le (a + 8) (s.vaddr + s.filesz)) one.passes in
           (leb-true s.vaddr a parts.0, leb-true (a + 8) (s.vaddr + s.filesz) parts.1)
@@ -116,7 +116,7 @@ module _ (rule : Rule) (held rest : List ℕ) where
       some = let b = bounds in omega (arith, b.0, b.1)
 
       -- its dumped bytes are in the file, behind the head, and at multiples of 8 if their addresses are
-      in_file : s.offset + s.filesz ≤ length held + length rest
+      pub in_file : s.offset + s.filesz ≤ length held + length rest
       in_file =
           let here = are_segments (held ++ rest) accepted in
           let lies : (k : ℕ) (d : Segment) → k < length (segments_of held) → 0 < (slice_index_or (segments_of held) k d).filesz → (slice_index_or (segments_of held) k d).offset + (slice_index_or (segments_of held) k d).filesz ≤ length (held ++ rest) =
@@ -125,10 +125,10 @@ module _ (rule : Rule) (held rest : List ℕ) where
           let fits = subst (λ (t : Segment). 0 < t.filesz → t.offset + t.filesz ≤ length (held ++ rest)) one.is (lies one.number s one.inside) some in
           omega (arith, fits, length-append held rest)
 
-      aligned : s.offset % 8 ≡ s.vaddr % 8
+      pub aligned : s.offset % 8 ≡ s.vaddr % 8
       aligned = subst (λ (t : Segment). 0 < t.filesz → t.offset % 8 ≡ t.vaddr % 8) one.is (can.head.words one.number s one.inside) some
 
-      past : length held ≤ s.offset
+      pub past : length held ≤ s.offset
       past = either s.offset (length held) (length held ≤ s.offset)
           (λ before.
           let test : Segment → Bool = λ t. nat_lt 0 t.filesz && nat_lt t.offset (length held) in

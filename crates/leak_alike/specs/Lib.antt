@@ -7,5 +7,7 @@ pub mod AlikeHolders
 pub mod AlikeRefusals
 pub mod OneHead
 pub mod SiftedCores
+pub mod Listings
+pub mod AlikeToMark
 pub mod SiftedHolders
 pub mod SiftedRows

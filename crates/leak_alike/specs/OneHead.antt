@@ -4,7 +4,7 @@ use Rattle.leak_elf.specs.Head.{IsHead}
 use Rattle.leak_elf.specs.Refusals.{fault_of}
 use Rattle.leak_elf.specs.Segments.{segments_of}
 use Rattle.leak_notes.specs.Stacks.{random_of, threads_in}
-use Rattle.leak_notes.specs.Threads.{note_fault_of, registers_of}
+use Rattle.leak_notes.specs.Threads.{note_fault_of, registers_of, threads_of}
 use Rattle.leak_search.specs.Inputs.{IsFaultOfOne}
 use Rattle.leak_search.specs.declared.error.FindError.{FindError}
 
@@ -20,6 +20,10 @@ pub record AgreeButWords (core other : List ℕ) : Type 0 where
 -- so do two that begin with one head, and have as many bytes behind it
 abbrev pub FilesOfOneHeadAgree : Type 0
 FilesOfOneHeadAgree = (held rest other : List ℕ) → IsHead held → length rest ≡ length other → AgreeButWords (held ++ rest) (held ++ other)
+
+-- their threads are those of the head
+abbrev pub ThreadsOfOneHeadAreOne : Type 0
+ThreadsOfOneHeadAreOne = (held rest other : List ℕ) → IsHead held → length rest ≡ length other → threads_of (held ++ rest) ≡ threads_of (held ++ other)
 
 -- and as the one is refused by a search, so is the other, whatever the log
 abbrev pub RefusedOfOneHeadAreOne : Type 0

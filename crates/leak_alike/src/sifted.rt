@@ -1,6 +1,8 @@
 //! A core that is read in one pass, of which only some words are kept, gives the answers of the whole core.
 
-ghost use Rattle.leak_alike.specs.OneHead.{FilesOfOneHeadAgree, RefusedOfOneHeadAreOne};
+ghost use Rattle.leak_alike.specs.AlikeToMark.{MarksOfAlikeAreOne, PrunedAreAlike};
+ghost use Rattle.leak_alike.specs.Listings.{ListingsAreOne};
+ghost use Rattle.leak_alike.specs.OneHead.{FilesOfOneHeadAgree, RefusedOfOneHeadAreOne, ThreadsOfOneHeadAreOne};
 ghost use Rattle.leak_alike.specs.SiftedCores.{RefusedOfSiftedAreOne, SearchesOfSiftedAreOne, SignsOfSiftedAreOne};
 ghost use Rattle.leak_alike.specs.SiftedCores.{SiftedAreAlike, SiftedAreAlikeByLog, SiftedWordsAreKept};
 ghost use Rattle.leak_alike.specs.SiftedHolders.{AnswersOfSiftedAreOne, HoldersOfSiftedAreOne};
@@ -11,6 +13,7 @@ ghost use Rattle.leak_alike.specs.SiftedRows.{AreWorkedSifted};
 /// registers and what tells of stacks. So a search rejects both for the same reason, or neither.
 pub fn files_of_one_head()
     ensures agree { FilesOfOneHeadAgree }
+    ensures threads { ThreadsOfOneHeadAreOne }
     ensures refused { RefusedOfOneHeadAreOne }
 {}
 
@@ -29,6 +32,19 @@ pub fn searches_of_sifted_cores()
     ensures found { SearchesOfSiftedAreOne }
     ensures signs { SignsOfSiftedAreOne }
     ensures refused { RefusedOfSiftedAreOne }
+{}
+
+/// All that a search goes by once it has read the words, what blocks and root words lead to among it, is the same list by
+/// list, whether the core was held or sifted.
+pub fn listings_are_one()
+    ensures { ListingsAreOne }
+{}
+
+/// Once it is known which blocks fit, words of a sifted core that are outside the blocks can be let go: what is marked stays
+/// the same, and so do heads and the numbers of the report, unless slack, dead stack or links to free chunks are left out.
+pub fn pruned_cores_are_marked_alike()
+    ensures marks { MarksOfAlikeAreOne }
+    ensures alike { PrunedAreAlike }
 {}
 
 /// The report on who holds the memory is that of the whole core too, and so is each answer about chosen blocks: what

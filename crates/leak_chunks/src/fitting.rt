@@ -1,5 +1,5 @@
 //! Which live blocks the heap of a core has.
-ghost use Rattle.std.specs.Prelude.{◌≡◌, ◌+◌, ◌<◌, ◌≤◌, IfOk};
+ghost use Rattle.std.specs.Prelude.{◌≡◌, ◌+◌, ◌<◌, ◌≤◌, IfOk, count_by, not};
 ghost use Rattle.leak_chunks.specs.Fit.{follows_one_in_use, fits_word, fits_core, fits_of};
 
 use crate::chunk::{SizeWord, is_heap_chunk_for, is_mapping_for};
@@ -22,6 +22,21 @@ pub fn fits<W: Words>(alloc: Global, words: &W, live: &Live) -> Result<Vec<bool>
         fits.push(fits_core(&mut near, block))?;
     }
     Ok(fits)
+}
+
+/// How many of the live blocks are misfits: those for which the memory has no chunk in use of their size. It keeps no list.
+pub fn count_misfits<W: Words>(words: &W, live: &Live) -> u64
+    ensures { result ≡ count_by not (fits_of (W.word_at words.now) live.now.blocks) }
+{
+    let blocks = live.blocks();
+    let mut near = Near::new(words);
+    let mut misfits = 0;
+    for block in blocks {
+        if !fits_core(&mut near, block) {
+            misfits += 1;
+        }
+    }
+    misfits
 }
 
 /// Whether the memory has a chunk in use of the block's size. It looks last at the next chunk's size word, which most

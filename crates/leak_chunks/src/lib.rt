@@ -23,7 +23,7 @@ mod laws;
 mod near;
 mod slack;
 
-pub use fitting::fits;
+pub use fitting::{count_misfits, fits};
 pub use free_link::{is_free_link, without_free_links};
 pub use laws::{worked_chunks, worked_hits, worked_links, worked_slack};
 pub use slack::slack_spans;

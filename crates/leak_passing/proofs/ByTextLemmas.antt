@@ -1,9 +1,8 @@
 -- A search of an input whose log was let go is that of the log.
-use Rattle.std.proofs.Common.{◌≡◌, ◌∙◌, ℕ, ◌<◌, ◌^◌, Bool, List, length, Vec, Global, option_map, sym, ap, subst}
+use Rattle.std.proofs.Common.{◌≡◌, ◌∙◌, ℕ, List, sym, ap, subst}
 use Rattle.std.specs.Prelude.{Result, Ok, Err, IfOk}
 use Rattle.leak_mtrace.specs.declared.error.LogError.{LogError}
 use Rattle.leak_mtrace.specs.declared.error.LogError.TheVariants.{NoMemory}
-use Rattle.leak_mtrace.specs.declared.line.Line.{Line}
 use Rattle.leak_mtrace.proofs.SameLogLemmas.{logs_are_one}
 use Rattle.leak_blocks.specs.declared.block.Block.{Block}
 use Rattle.leak_blocks.specs.declared.replaying.Replayed.{Replayed}
@@ -12,22 +11,14 @@ use Rattle.leak_blocks.specs.Callers.{with_callers_at}
 use Rattle.leak_blocks.specs.Live.{Replay, live_of}
 use Rattle.leak_blocks.proofs.LineLemmas.{live_of_lines}
 use Rattle.leak_blocks.proofs.StepLemmas.{replayed as blocks_are}
-use Rattle.leak_index.specs.Leads.{Distances}
 use Rattle.leak_roots.specs.declared.skip.Skip.{Skip}
 use Rattle.leak_report.specs.Elsewhere.{AreReportedAlike, HaveTextsAt, ReportsGoByTexts}
-use Rattle.leak_report.specs.Report.{text_of}
-use Rattle.leak_report.specs.Totals.{HaveCallersIn, leaked_in}
+use Rattle.leak_report.specs.Totals.{HaveCallersIn}
 use Rattle.leak_report.proofs.Callers.{have_callers}
-use Rattle.leak_search.specs.Inputs.{IsRead, IsReadAs, IsReadLog, IsReadOf}
-use Rattle.leak_search.specs.Search.{FindsOne}
-use Rattle.leak_search.specs.Searched.{SearchesOne}
-use Rattle.leak_search.specs.declared.found.Found.{Found}
-use Rattle.leak_search.specs.declared.found.Searched.{Searched}
+use Rattle.leak_search.specs.Inputs.{IsRead, IsReadAs, IsReadLog}
 use Rattle.leak_search.specs.declared.inputs.Input.{Input}
 use Rattle.leak_search.proofs.InputLemmas.{input_blocks, own_core}
-use Rattle.leak_search.proofs.SearchedLemmas.{finds_searched}
 use Rattle.leak_passing.specs.declared.passed.PassedByTexts.{PassedByTexts}
-use Rattle.leak_passing.specs.declared.texts.KeptTexts.{KeptTexts}
 use Rattle.leak_passing.specs.ByTexts.{AreTextsOf, IsLogOf}
 use Rattle.leak_passing.specs.Kept.{blocks_of}
 use Rattle.leak_passing.specs.Passed.{IsPassedByTexts}
@@ -70,35 +61,3 @@ is_log_of core log file skip passed input is full read =
       read = (read.0, own_core file log read.0 input read.1);
       texts = subst (λ (bs : List Block). AreTextsOf log bs passed.texts) blocks is.texts;
     }
-
--- ---- the search
-
--- the blocks of an input that was searched can be numbered
-pub few_in : (core log : List ℕ) (lines : List Line) (reading : Distances) (skip : Skip) (check : Bool) (workers : ℕ) (input : Input) (searched : Searched)
-    → IsReadOf core log lines input → SearchesOne core log lines reading skip check workers searched → length input.live.blocks < 2 ^ 32
-few_in core log lines reading skip check workers input searched read searches =
-    subst (λ (bs : List Block). length bs < 2 ^ 32) (sym (input_blocks core log lines input read)) searches.few
-
--- so they have their texts
-pub texts_in : (log : List ℕ) (reading : Distances) (skip : Skip) (check : Bool) (workers : ℕ) (input : Input) (live : Replay) (kept : KeptTexts) (searched : Searched)
-    → live ≡ input.live → (it : IsLogOf input kept log) → SearchesOne input.image log it.read.0 reading skip check workers searched
-    → HaveTextsAt log kept.bytes.items kept.places.items kept.numbers.items live.blocks
-texts_in log reading skip check workers input live kept searched same it searches =
-    subst (λ (r : Replay). HaveTextsAt log kept.bytes.items kept.places.items kept.numbers.items r.blocks) (sym same)
-    (it.texts (few_in input.image log it.read.0 reading skip check workers input searched it.read.1 searches))
-
-pub blocks_in : (log : List ℕ) (input : Input) (live : Replay) (kept : KeptTexts) → live ≡ input.live → (it : IsLogOf input kept log) → length live.blocks ≡ length (live_of it.read.0)
-blocks_in log input live kept same it = ap (λ (r : Replay). length r.blocks) same ∙ ap length (input_blocks input.image log it.read.0 input it.read.1)
-
--- what was found by the texts
-pub finds_kept : (log : List ℕ) (reading : Distances) (skip : Skip) (check : Bool) (workers : ℕ) (input : Input) (live : Replay) (kept : KeptTexts) (searched : Searched) (found : Found)
-    → live ≡ input.live → (it : IsLogOf input kept log) → SearchesOne input.image log it.read.0 reading skip check workers searched
-    → ((l : List ℕ) → HaveTextsAt l kept.bytes.items kept.places.items kept.numbers.items live.blocks
-    → found.report.items ≡ text_of searched.head live.blocks searched.set.items searched.heads.items (option_map (λ (v : Vec Bool Global). v.items) searched.fits) l)
-    → found.leaked ≡ length (leaked_in searched.set.items live.blocks) → found.claims ≡ searched.claims
-    → FindsOne input.image log reading skip check workers found
-finds_kept log reading skip check workers input live kept searched found same it searches report leaked claims =
-    finds_searched input.image log it.read.0 reading skip check workers input searched found it.read.1 searches
-    (subst (λ (r : Replay). found.report.items ≡ text_of searched.head r.blocks searched.set.items searched.heads.items (option_map (λ (v : Vec Bool Global). v.items) searched.fits) log) same
-    (report log (texts_in log reading skip check workers input live kept searched same it searches)))
-    (leaked ∙ ap (λ (r : Replay). length (leaked_in searched.set.items r.blocks)) same) claims

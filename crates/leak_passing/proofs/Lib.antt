@@ -8,4 +8,5 @@ pub mod ReaderLemmas
 pub mod FoundLemmas
 pub mod TextLemmas
 pub mod ByTextLemmas
+pub mod PreparedLemmas
 pub mod HoldingLemmas

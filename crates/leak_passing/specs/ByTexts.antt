@@ -5,11 +5,22 @@ use Rattle.leak_report.specs.Elsewhere.{HaveTextsAt}
 use Rattle.leak_search.specs.Inputs.{IsRead}
 use Rattle.leak_search.specs.declared.inputs.Input.{Input}
 use Rattle.leak_passing.specs.declared.texts.KeptTexts.{KeptTexts}
+use Rattle.leak_passing.specs.declared.texts.Numbers.{Numbers}
+use Rattle.leak_passing.specs.declared.texts.Numbers.TheVariants.{Few, Many}
 
--- these are the texts of the blocks' callers, if the blocks are few enough to be numbered
+-- which of the places each block has
+abbrev pub numbers_in : Numbers → List ℕ
+numbers_in (Few numbers) = numbers.items
+numbers_in (Many numbers) = numbers.items
+
+-- these are the texts of the blocks' callers
+abbrev pub AreKeptOf : List ℕ → List Block → KeptTexts → Type 0
+AreKeptOf log blocks kept =
+    HaveTextsAt log kept.bytes.items kept.places.items (numbers_in kept.numbers) blocks
+
+-- the same, if the blocks are few enough to be numbered
 abbrev pub AreTextsOf : List ℕ → List Block → KeptTexts → Type 0
-AreTextsOf log blocks kept = length blocks < 2 ^ 32
-    → HaveTextsAt log kept.bytes.items kept.places.items kept.numbers.items blocks
+AreTextsOf log blocks kept = length blocks < 2 ^ 32 → AreKeptOf log blocks kept
 
 -- the input was read of the log, and these are the texts of its blocks' callers
 pub record IsLogOf (input : Input) (kept : KeptTexts) (log : List ℕ) : Type 0 where

@@ -5,4 +5,5 @@ pub mod Sifting
 pub mod Kept
 pub mod Texts
 pub mod ByTexts
+pub mod Prepared
 pub mod Passed

@@ -1,47 +1,55 @@
 //! A core and its log that were read in one pass are searched.
 
-ghost use Rattle.std.specs.Prelude.{◌≡◌, ◌≢◌, ℕ, List, [], ◌∷◌, IfOk, IfErr};
+ghost use Rattle.std.specs.Prelude.{◌≡◌, ◌≢◌, ℕ, Bool, List, [], ◌∷◌, IfOk, IfErr};
 ghost use Rattle.leak_index.specs.Readings.{distances_of};
 ghost use Rattle.leak_search.specs.Inputs.{IsFaultOfOne};
 ghost use Rattle.leak_search.specs.Search.{FindsOne};
 ghost use Rattle.leak_search.specs.Signs.{AreSigns};
-ghost use Rattle.leak_passing.specs.ByTexts.{IsLogOf, OfLog};
 ghost use Rattle.leak_passing.specs.Passed.{IsPassedByTexts, OfPassedByTexts};
+ghost use Rattle.leak_passing.specs.Prepared.{IsPrepared, OfPrepared};
 
 use crate::opening::input_of_passed;
 use crate::passed::PassedByTexts;
+use crate::pruning::{input_to_mark, left_to_mark, without_core};
 use crate::reporting::found_by_texts;
 use crate::texts::KeptTexts;
-use leak_alike::searches_of_sifted_cores;
+use leak_alike::{files_of_one_head, pruned_cores_are_marked_alike, searches_of_sifted_cores};
 use leak_pool::Gate;
-use leak_search::{FindError, Found, Input, Rules, Workers, search_in};
+use leak_search::{
+    Consistency, FindError, Found, Input, Rules, Workers, consistency_of_one, search_from,
+};
 use std::alloc::Global;
 
-/// Searches an input by the rules and by the workers, without its log, of which the texts of callers were kept.
+/// Searches an input by the rules and by the workers once it is known which blocks fit, without its log, of which the
+/// texts of callers were kept.
 fn find_kept<R: std::thread::Threads + Sync, G: Gate + Sync>(
     workers: &Workers<'_, R, G>,
     alloc: Global,
     input: Input,
+    consistency: Consistency,
     kept: KeptTexts,
     rules: Rules,
-    lists_misfits: bool,
 ) -> Result<Found, FindError>
-    requires texts { (log : List ℕ) × IsLogOf input kept log }
+    requires prepared { (check : Bool) × (core : List ℕ) × (log : List ℕ)
+        × IsPrepared core log check rules input consistency kept }
     requires skip { input.skip ≡ rules.skip }
-    ensures ok { IfOk result (λ found. OfLog input.entry kept (λ log.
-        FindsOne input.entry.image log (distances_of rules.reading) rules.skip lists_misfits
+    ensures ok { IfOk result (λ found. (check : Bool)
+        → OfPrepared check rules input.entry consistency kept (λ core log.
+        FindsOne core log (distances_of rules.reading) rules.skip check
         workers.now.plan.workers found)) }
-    ensures signs { IfOk result (λ found. OfLog input.entry kept (λ log.
-        AreSigns rules.other_heap (input.entry.image ∷ log ∷ []) found.signs.items)) }
-    ensures refused { IfErr result (λ e. e ≢ FindError.NoMemory
-        → OfLog input.entry kept (λ log. IsFaultOfOne input.entry.image log e)) }
+    ensures signs { IfOk result (λ found.
+        found.signs.items ≡ consistency.signs.items) }
+    ensures refused { IfErr result (λ e. e ≢ FindError.NoMemory → (check : Bool)
+        → OfPrepared check rules input.entry consistency kept (λ core log. IsFaultOfOne core log e)) }
 {
-    let (live, searched) = search_in(workers, alloc, input, rules, lists_misfits)?;
-    found_by_texts(alloc, live, searched, kept)
+    let searched = search_from(workers, alloc, &input, consistency, rules)?;
+    found_by_texts(alloc, input.live, searched, kept)
 }
 
 /// Searches a core and its log that were read in one pass by these rules. It gives what
 /// [`find_one`](leak_search::find_one) gives for the whole core and the log.
+///
+/// Once it is known which blocks fit, it lets go of the words that only tell of that, if no other rule asks for words.
 ///
 /// # Errors
 ///
@@ -62,8 +70,10 @@ pub fn find_passed<R: std::thread::Threads + Sync, G: Gate + Sync>(
     ensures refused { IfErr result (λ e. e ≢ FindError.NoMemory
         → OfPassedByTexts rules.skip passed (λ core log. IsFaultOfOne core log e)) }
 {
-    // (a law, for the proof: a sifted core has the answers of the whole one)
+    // (laws, for the proof: a sifted core has the answers of the whole one, and marking needs no more than what is left)
     searches_of_sifted_cores();
+    pruned_cores_are_marked_alike();
+    files_of_one_head();
     let PassedByTexts {
         held,
         words,
@@ -71,6 +81,11 @@ pub fn find_passed<R: std::thread::Threads + Sync, G: Gate + Sync>(
         texts,
         read,
     } = passed;
-    let input = input_of_passed(alloc, rules.skip, held.as_slice(), (&words, len), read)?;
-    find_kept(workers, alloc, input, texts, rules, lists_misfits)
+    let held = held.as_slice();
+    let whole = input_of_passed(alloc, rules.skip, held, (&words, len), read)?;
+    let consistency = consistency_of_one(alloc, &whole, lists_misfits, rules.other_heap)?;
+    let others = without_core(whole);
+    let left = left_to_mark(words, &others.live, rules.skip);
+    let input = input_to_mark(alloc, held, (&left, len), others)?;
+    find_kept(workers, alloc, input, consistency, texts, rules)
 }

@@ -1,11 +1,11 @@
 //! The report of blocks of whose log the texts of callers were kept.
 
 ghost use Rattle.std.specs.Prelude.{◌≡◌, ℕ, List, length, option_map, IfOk, IfErr, IfSome};
-ghost use Rattle.leak_report.specs.Elsewhere.{HaveTextsAt};
 ghost use Rattle.leak_report.specs.Report.{text_of};
 ghost use Rattle.leak_report.specs.Totals.{leaked_in};
+ghost use Rattle.leak_passing.specs.ByTexts.{AreKeptOf};
 
-use crate::texts::KeptTexts;
+use crate::texts::{KeptTexts, widened};
 use leak_blocks::Live;
 use leak_report::reports_go_by_texts;
 use leak_search::{FindError, Found, Searched, found_of};
@@ -18,13 +18,12 @@ pub(crate) fn found_by_texts(
     searched: Searched,
     kept: KeptTexts,
 ) -> Result<Found, FindError>
-    requires texts { (log : List ℕ) × HaveTextsAt log kept.bytes.items kept.places.items
-        kept.numbers.items live.blocks }
+    requires texts { (log : List ℕ) × AreKeptOf log live.blocks kept }
     requires one_each { length searched.set.items ≡ length live.blocks }
     requires an_entry_each { length searched.heads.items ≡ length live.blocks }
     requires a_fit_each { IfSome searched.fits (λ v. length v.items ≡ length live.blocks) }
-    ensures report { IfOk result (λ found. (log : List ℕ) → HaveTextsAt log kept.bytes.items
-        kept.places.items kept.numbers.items live.blocks → found.report.items ≡
+    ensures report { IfOk result (λ found. (log : List ℕ)
+        → AreKeptOf log live.blocks kept → found.report.items ≡
         text_of searched.head live.blocks searched.set.items searched.heads.items
         (option_map (λ v. v.items) searched.fits) log) }
     ensures leaked { IfOk result (λ found.
@@ -40,6 +39,7 @@ pub(crate) fn found_by_texts(
         places,
         numbers,
     } = kept;
+    let numbers = widened(alloc, numbers)?;
     let live = live.with_callers(numbers.as_slice(), places.as_slice());
     drop(numbers); // the blocks have the places now
     drop(places);

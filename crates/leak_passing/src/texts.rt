@@ -1,11 +1,11 @@
 //! The texts of the callers of blocks, kept in place of the log that has them.
 
-ghost use Rattle.std.specs.Prelude.{◌≡◌, ◌-◌, ◌^◌, ℕ, List, [], length, min, sum_by, IfOk};
+ghost use Rattle.std.specs.Prelude.{◌≡◌, ◌-◌, ◌^◌, ◌<◌, ℕ, List, [], length, min, sum_by, All, IfOk};
 ghost use Rattle.leak_report.specs.Totals.{HaveCallersIn};
 ghost use Rattle.leak_report.specs.Numbered.{bytes_each};
 ghost use Rattle.leak_search.specs.Inputs.{IsReadAs};
 ghost use Rattle.leak_passing.specs.Kept.{blocks_of};
-ghost use Rattle.leak_passing.specs.ByTexts.{AreTextsOf};
+ghost use Rattle.leak_passing.specs.ByTexts.{AreTextsOf, numbers_in};
 ghost use Rattle.leak_passing.specs.Texts.{StandAt};
 
 use leak_blocks::{Block, Replayed, SmallSpans};
@@ -15,6 +15,15 @@ use leak_roots::Skip;
 use leak_search::read_log;
 use std::alloc::{AllocError, Global};
 
+/// Numbers of texts, one for each block. Few texts are common: a log of a process that was not traced has one for each
+/// size of its chunks.
+#[derive(Drop)]
+pub enum Numbers {
+    /// Those of at most 256 texts.
+    Few(Vec<u8>),
+    Many(Vec<u32>),
+}
+
 /// The texts of the callers of blocks, each once.
 #[derive(Drop)]
 pub struct KeptTexts {
@@ -23,7 +32,7 @@ pub struct KeptTexts {
     /// For each text its range of these bytes, with its end excluded.
     pub places: Vec<(usize, usize)>,
     /// For each block which of the places its text has.
-    pub numbers: Vec<u32>,
+    pub numbers: Numbers,
 }
 
 /// How many bytes texts have together, as far as a number can tell.
@@ -60,9 +69,40 @@ impl KeptTexts {
         KeptTexts {
             bytes: Vec::new(alloc),
             places: Vec::new(alloc),
-            numbers: Vec::new(alloc),
+            numbers: Numbers::Few(Vec::new(alloc)),
         }
     }
+}
+
+/// The numbers of blocks among so many texts, in one byte each if that is enough: a list of them stands beside the core's
+/// words until the report is written.
+fn narrowed(alloc: Global, numbers: Vec<u32>, texts: usize) -> Result<Numbers, AllocError>
+    requires { All (λ n. n < texts) numbers.items }
+    ensures { IfOk result (λ narrow. numbers_in narrow ≡ numbers.items) }
+{
+    if texts > 256 {
+        return Ok(Numbers::Many(numbers));
+    }
+    let mut narrow = Vec::with_capacity(alloc, numbers.len())?;
+    for k in 0..numbers.len() {
+        narrow.push(numbers[k] as u8)?;
+    }
+    Ok(Numbers::Few(narrow))
+}
+
+/// The numbers, as a list of numbers of 32 bits.
+pub(crate) fn widened(alloc: Global, numbers: Numbers) -> Result<Vec<u32>, AllocError>
+    ensures { IfOk result (λ list. list.items ≡ numbers_in numbers) }
+{
+    let narrow = match numbers {
+        Numbers::Many(numbers) => return Ok(numbers),
+        Numbers::Few(narrow) => narrow,
+    };
+    let mut list = Vec::with_capacity(alloc, narrow.len())?;
+    for k in 0..narrow.len() {
+        list.push(u32::from(narrow[k]))?;
+    }
+    Ok(list)
 }
 
 /// Keeps the texts of the callers of blocks, whose ranges are of the log. Of 2^32 blocks and more it keeps none: no
@@ -79,7 +119,7 @@ fn keep_texts(alloc: Global, blocks: &[Block], log: &[u8]) -> Result<KeptTexts, 
     Ok(KeptTexts {
         bytes,
         places,
-        numbers,
+        numbers: narrowed(alloc, numbers, texts.len())?,
     })
 }
 

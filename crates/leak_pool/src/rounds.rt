@@ -115,11 +115,10 @@ pub(crate) fn by_caller<S: TargetSource>(
         state.old state.new) }
     ensures steps { state.new.steps.items ≡ state.old.steps.items }
 {
-    let mut gained = Vec::with_capacity(alloc, 1)?;
     let mut list = Vec::new(alloc);
     let seat = &mut state.seat;
     search.source.scan(search.marks, seat, &mut list, item)?;
-    let left = list.as_slice().to_vec(alloc)?;
-    gained.push(list)?;
-    absorb(alloc, &mut state.claims, &mut state.waiting, gained, left)
+    let claims = &mut state.claims[0];
+    claims.extend_from_slice(list.as_slice())?;
+    append_blocks(&mut state.waiting, list)
 }

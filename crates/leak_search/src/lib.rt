@@ -13,8 +13,8 @@
 //! An input is a core and the log of its allocations. [`read_input`] reads it or gives its first fault, and [`read_two`]
 //! reads two of one process; [`input_of`] makes it of a core (if that is accepted, else [`at_core`]) and, by [`read_log`], of a
 //! log that were read one by one, and
-//! [`find_in`] searches it, with the log, or [`search_in`] without: of what that finds, a [`Searched`], [`found_of`] makes the
-//! report. `specs/Searched.antt` says what it is; `specs/Inputs.antt` says what an accepted input is, and which of its faults comes first.
+//! [`find_in`] searches it, with the log. Without the log, [`search_from`] does once [`consistency_of_one`] has told which
+//! blocks fit: of what that finds, a [`Searched`], [`found_of`] makes the report. `specs/Searched.antt` says what it is; `specs/Inputs.antt` says what an accepted input is, and which of its faults comes first.
 //! [`is_continued`] compares two logs, and [`count_lines`] counts the complete lines of one.
 //! [`consistency_of_one`] and [`consistency_of_two`] say what is odd about inputs. [`find_roots_and_index`] finds the root words, by
 //! [`find_roots`], and makes the lookup, and [`mark_input`] marks blocks over them by workers. [`head_of`] gives the
@@ -57,7 +57,7 @@ pub use found::{Found, Searched};
 pub use inputs::{Input, find_roots, input_of, read_input, read_log};
 pub use laws::{leaked_stay_leaked, leaked_stay_leaked_without_ends};
 pub use marking::{RootsAndIndex, Workers, find_roots_and_index, mark_input};
-pub use one_core::{find_in, find_one, search_in};
+pub use one_core::{find_in, find_one, search_from};
 pub use pairs::{Inputs, count_lines, is_continued, read_two};
 pub use reporting::{found_of, head_of, searched_of};
 pub use rules::Rules;

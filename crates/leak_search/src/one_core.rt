@@ -1,19 +1,17 @@
 //! The search of one core by worker threads.
 
-ghost use Rattle.std.specs.Prelude.{◌≡◌, ◌≢◌, Bool, [], ◌∷◌, IfOk, IfErr, option_map};
+ghost use Rattle.std.specs.Prelude.{◌≡◌, ◌≢◌, [], ◌∷◌, IfOk, IfErr};
 ghost use Rattle.leak_index.specs.Readings.{distances_of};
 ghost use Rattle.leak_search.specs.Inputs.{IsFaultOfOne, IsRead};
 ghost use Rattle.leak_search.specs.Search.{FindsOne};
-ghost use Rattle.leak_search.specs.Searched.{OfLogs, OfRoots, SearchesOne};
-ghost use Rattle.leak_search.specs.Signs.{AreSigns, fits_with};
+ghost use Rattle.leak_search.specs.Searched.{MarksOne, OfLogs};
+ghost use Rattle.leak_search.specs.Signs.{AreSigns};
 
-use crate::preparing::{Prepared, prepare};
+use crate::preparing::prepare;
 use crate::{
-    FindError, Found, Input, RootsAndIndex, Rules, Searched, Workers, found_of, head_of,
-    mark_input, read_input, searched_of,
+    Consistency, FindError, Found, Input, RootsAndIndex, Rules, Searched, Workers,
+    consistency_of_one, found_of, head_of, mark_input, read_input, searched_of,
 };
-use leak_blocks::{Live, SmallSpans};
-use leak_index::Paged;
 use leak_pool::{Gate, leading_roots};
 use std::alloc::Global;
 
@@ -72,64 +70,38 @@ pub fn find_in<R: std::thread::Threads + Sync, G: Gate + Sync>(
     ensures refused { IfErr result (λ e. e ≢ FindError.NoMemory
         → IsFaultOfOne input.now.image log.now e) }
 {
-    let prepared = prepare(workers, alloc, input, lists_misfits, rules.other_heap)?;
-    let searched = search_from(workers, alloc, input, prepared, rules)?;
+    let consistency = consistency_of_one(alloc, input, lists_misfits, rules.other_heap)?;
+    let searched = search_from(workers, alloc, input, consistency, rules)?;
     found_of(alloc, &input.live, searched, log)
 }
 
-/// Does all of [`find_in`] but write the report, which [`found_of`] does of the live blocks that it gives back. So it
-/// needs none of the log's bytes. As soon as the root words are found it lets go of the spans whose freed places are
-/// left out.
+/// Does all of [`find_in`] but ask which blocks fit, which [`consistency_of_one`] does, and but write the report, which
+/// [`found_of`] does. Before it marks, it lets go of the ranges of root words that lead to no block.
+///
+/// Which blocks fit it hands on as it was told. So nothing that it finds depends on words that lead to no block, unless what
+/// is left out of the root words does.
 ///
 /// # Errors
 ///
 /// `TooMany`, and `NoMemory` at any time.
-pub fn search_in<R: std::thread::Threads + Sync, G: Gate + Sync>(
-    workers: &Workers<'_, R, G>,
-    alloc: Global,
-    mut input: Input,
-    rules: Rules,
-    lists_misfits: bool,
-) -> Result<(Live, Searched), FindError>
-    requires skip { input.skip ≡ rules.skip }
-    ensures ok { IfOk result (λ found. OfLogs input.entry (λ log lines.
-        SearchesOne input.entry.image log lines (distances_of rules.reading) rules.skip
-        lists_misfits workers.now.plan.workers found.1)) }
-    ensures live { IfOk result (λ found. found.0 ≡ input.entry.live) }
-    ensures signs { IfOk result (λ found. OfLogs input.entry (λ log lines.
-        AreSigns rules.other_heap (input.entry.image ∷ log ∷ []) found.1.signs.items)) }
-    ensures refused { IfErr result (λ e. e ≢ FindError.NoMemory
-        → OfLogs input.entry (λ log lines. IsFaultOfOne input.entry.image log e)) }
-{
-    let prepared = prepare(workers, alloc, &input, lists_misfits, rules.other_heap)?;
-    input.heap_spans = SmallSpans::none(alloc); // the roots are all that they tell of
-    let searched = search_from(workers, alloc, &input, prepared, rules)?;
-    Ok((input.live, searched))
-}
-
-/// Searches an input from what was found before it is marked. Before that it lets go of the ranges of root words that lead
-/// to no block. The result does not depend on the spans that the input still has.
-fn search_from<R: std::thread::Threads + Sync, G: Gate + Sync>(
+pub fn search_from<R: std::thread::Threads + Sync, G: Gate + Sync>(
     workers: &Workers<'_, R, G>,
     alloc: Global,
     input: &Input,
-    prepared: Prepared,
+    consistency: Consistency,
     rules: Rules,
 ) -> Result<Searched, FindError>
     requires skip { input.now.skip ≡ rules.skip }
-    ensures ok { (check : Bool) → option_map (λ v. v.items) prepared.consistency.fits
-        ≡ fits_with check input.now
-        → IfOk result (λ searched. OfRoots input.now prepared.roots (λ log lines.
-        SearchesOne input.now.image log lines (distances_of rules.reading) rules.skip
-        check workers.now.plan.workers searched)) }
-    ensures signs { IfOk result (λ searched.
-        searched.signs.items ≡ prepared.consistency.signs.items) }
+    ensures marks { IfOk result (λ searched. OfLogs input.now (λ log lines.
+        MarksOne input.now.image log lines (distances_of rules.reading) rules.skip
+        workers.now.plan.workers searched)) }
+    ensures fits { IfOk result (λ searched. searched.fits ≡ consistency.fits) }
+    ensures signs { IfOk result (λ searched. searched.signs.items ≡ consistency.signs.items) }
     ensures refused { IfErr result (λ e. e ≢ FindError.NoMemory
-        → OfRoots input.now prepared.roots (λ log lines. IsFaultOfOne input.now.image log e)) }
+        → OfLogs input.now (λ log lines. IsFaultOfOne input.now.image log e)) }
 {
-    let Prepared { consistency, roots } = prepared;
+    let RootsAndIndex { roots, lookup } = prepare(workers, alloc, input, rules.reading)?;
     let head = head_of(input, &roots, None);
-    let lookup = Paged::new(alloc, &input.live, rules.reading)?;
     let roots = leading_roots(alloc, &input.image, &lookup, roots, &input.live)?;
     let indexed = RootsAndIndex { roots, lookup };
     let marked = mark_input(workers, alloc, input, &indexed)?;

@@ -6,7 +6,7 @@ ghost use Rattle.leak_chunks.specs.Fit.{fits_of};
 ghost use Rattle.leak_search.specs.Signs.{signs_with, fits_with, misfits_counted};
 
 use crate::inputs::Input;
-use leak_chunks::fits;
+use leak_chunks::{count_misfits, fits};
 use leak_report::{Signs, count_clear};
 use std::alloc::{AllocError, Global};
 
@@ -28,16 +28,22 @@ struct Asked {
     fits: Option<Vec<bool>>,
 }
 
-/// Asks which of the input's live blocks fit, unless nobody wants to know: in another heap than glibc's no block counts as a misfit.
+/// Asks which of the input's live blocks fit, or how many do not if it is not kept which. In another heap than glibc's no
+/// block counts as a misfit.
 fn ask(alloc: Global, input: &Input, check: bool, other_heap: bool) -> Result<Asked, AllocError>
     ensures misfits { IfOk result (λ asked. asked.misfits ≡ misfits_counted other_heap
         (fits_of (word_of input.now.image) input.now.live.blocks)) }
     ensures fits { IfOk result (λ asked.
         option_map (λ v. v.items) asked.fits ≡ fits_with check input.now) }
 {
-    if other_heap && !check {
+    if !check {
+        let misfits = if other_heap {
+            0
+        } else {
+            count_misfits(&input.image, &input.live)
+        };
         return Ok(Asked {
-            misfits: 0,
+            misfits,
             fits: None,
         });
     }
@@ -47,8 +53,10 @@ fn ask(alloc: Global, input: &Input, check: bool, other_heap: bool) -> Result<As
     } else {
         count_clear(fits.as_slice())
     };
-    let fits = if check { Some(fits) } else { None };
-    Ok(Asked { misfits, fits })
+    Ok(Asked {
+        misfits,
+        fits: Some(fits),
+    })
 }
 
 /// Adds the signs that the input's core and log don't belong together. Returns which of its live blocks fit, if that is to be kept.

@@ -31,6 +31,6 @@ mod words;
 pub use behind::Behind;
 pub use laws::{worked_siftings, worked_words};
 pub use orderly::are_orderly;
-pub use sieve::Sieve;
+pub use sieve::{Sieve, range_of};
 pub use sifting::Sifting;
 pub use threads::Sifters;

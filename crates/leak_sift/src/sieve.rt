@@ -146,8 +146,9 @@ impl<'a> Sieve<'a> {
     }
 }
 
-/// The lowest and the highest word that isn't outside the blocks. With no block the first is above the second.
-fn range_of(blocks: &[Block]) -> (u64, u64)
+/// The lowest and the highest word that isn't outside the live blocks: the start of the first, and the end of the last. The
+/// words between them are those that may lead to a block. Without blocks the lowest is above the highest.
+pub fn range_of(blocks: &[Block]) -> (u64, u64)
     requires { AreAddressed blocks.now }
     ensures { IsRange blocks.now result.0 result.1 }
 {

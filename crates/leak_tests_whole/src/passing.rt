@@ -7,7 +7,7 @@ use crate::samples::{core_of, set};
 use leak_elf::core_k;
 use leak_find::{ReadFault, Skip};
 use leak_passing::{
-    Limits, Passed, PassedByTexts, PassingFault, read_passing, read_passing_by_texts,
+    Limits, Numbers, Passed, PassedByTexts, PassingFault, read_passing, read_passing_by_texts,
 };
 use leak_sift::Sifters;
 use std::alloc::Global;
@@ -22,6 +22,10 @@ const ENOUGH: Limits = Limits {
     core_size: 0,
     log_size: 0,
 };
+
+/// A log of two blocks whose callers' texts differ.
+const TWO_TEXTS: &str =
+    "@ ./a.out:[0x401136] + 0x10100 0x20\n@ ./a.out:[0x401140] + 0x10200 0x20\n";
 
 /// Of the sample core, whose head has 536 bytes, a word that leads to the block and one that leads nowhere.
 const WORDS: [(u64, u64); 2] = [(0x10000, 0x10100), (0x10008, 0x20000)];
@@ -53,17 +57,26 @@ fn pass<T: AllocGlobal + Threads + Sync>(
     Ok(pass_core(&sifters, core.as_slice(), step, ONE_BLOCK, limits, skip))
 }
 
-/// Reads the same, and keeps texts in place of the log.
+/// The numbers of few texts, or none if there are many.
+fn few(numbers: &Numbers) -> &[u8] {
+    match numbers {
+        Numbers::Few(few) => few.as_slice(),
+        Numbers::Many(_) => &[],
+    }
+}
+
+/// Reads the same core and this log, and keeps texts in its place.
 fn pass_by_texts<T: AllocGlobal + Threads + Sync>(
     rt: &T,
     count: u32,
     step: usize,
+    log: &str,
     limits: Limits,
 ) -> Result<Result<PassedByTexts, PassingFault>, Fail> {
     let alloc = rt.alloc();
     let core = core_k(alloc, &WORDS)?;
     let sifters = Sifters { rt, alloc, count };
-    let log = ONE_BLOCK.as_bytes();
+    let log = log.as_bytes();
     let mut readers = [Steps::of(core.as_slice(), step), Steps::of(log, usize::MAX)];
     Ok(read_passing_by_texts(&sifters, &mut readers, limits, Skip::usual()))
 }
@@ -86,7 +99,7 @@ fn the_head_and_few_words_are_kept(rt: HostRuntime) -> Result<(), Fail> {
 #[test]
 fn the_text_of_the_caller_is_kept_in_place_of_the_log(rt: HostRuntime) -> Result<(), Fail> {
     for (count, step) in [(1, 1), (2, 7), (4, 8192)] {
-        let passed = pass_by_texts(&rt, count, step, ENOUGH)??;
+        let passed = pass_by_texts(&rt, count, step, ONE_BLOCK, ENOUGH)??;
         same(&rt, passed.held.len(), 536);
         same(&rt, passed.len, 7656);
         same(&rt, passed.words.kept(), 1);
@@ -96,8 +109,17 @@ fn the_text_of_the_caller_is_kept_in_place_of_the_log(rt: HostRuntime) -> Result
             "./a.out:[0x401136]".as_bytes(),
         );
         same(&rt, passed.texts.places.first().copied(), Some((0, 18)));
-        same(&rt, passed.texts.numbers.first().copied(), Some(0));
+        same(&rt, few(&passed.texts.numbers), &[0u8][..]);
     }
+    Ok(())
+}
+
+#[test]
+fn each_block_has_the_number_of_its_text(rt: HostRuntime) -> Result<(), Fail> {
+    let limits = Limits { log: 72, ..ENOUGH };
+    let passed = pass_by_texts(&rt, 1, 100, TWO_TEXTS, limits)??;
+    same(&rt, passed.texts.places.len(), 2);
+    same(&rt, few(&passed.texts.numbers), &[0u8, 1u8][..]);
     Ok(())
 }
 
@@ -128,7 +150,7 @@ fn the_input_that_is_too_long_is_told(rt: HostRuntime) -> Result<(), Fail> {
     for (limits, fault) in cases {
         let passed = pass(&rt, 1, 100, limits, Skip::usual())?;
         same(&rt, passed.err(), Some(fault));
-        let by_texts = pass_by_texts(&rt, 1, 100, limits)?;
+        let by_texts = pass_by_texts(&rt, 1, 100, ONE_BLOCK, limits)?;
         same(&rt, by_texts.err(), Some(fault));
     }
     Ok(())

@@ -10,7 +10,7 @@ use Rattle.leak_search.specs.Signs.{AreSigns}
 use Rattle.leak_search.proofs.SignLemmas.{are_of_one}
 use Rattle.leak_search.proofs.InputLemmas.{as_input, fits_each, input_callers, own_core}
 use Rattle.leak_search.proofs.SearchLemmas.{at_ok, marking_refused, ok_by}
-use Rattle.leak_search.proofs.SearchedLemmas.{finds_searched, fits_as, searches_read}
+use Rattle.leak_search.proofs.SearchedLemmas.{finds_searched, fits_as, marks_read, searches_by}
 use Rattle.leak_search.proofs.alone.find_alone.Goals as goal
 
 pub returns-in_err-marked-clause-refused : goal.returns-in_err-marked-clause-refused
@@ -33,10 +33,12 @@ returns-clause-ok c = ok_by _ _ (λ found is.
     let read = c.in_ok-input.ensures.ok in
     subst (λ (file : List ℕ). FindsOne file c.args.log.now (distances_of c.args.rules.reading) c.args.rules.skip c.args.lists_misfits 1 found) read.1.image
     (finds_searched _ _ read.0 _ _ _ _ c.in_ok-input.input c.in_ok-searched.searched found (own_core _ _ read.0 _ read.1)
-    (searches_read _ read.0 _ _ _ _ c.in_ok-input.input _ _ c.in_ok-marked.marked _ (own_core _ _ read.0 _ read.1) c.in_ok-input.ensures.skip c.in_ok-marked.ensures.many.1
+    (searches_by _ _ read.0 _ _ _ _ c.in_ok-input.input c.in_ok-consistency.consistency.fits c.in_ok-searched.searched (own_core _ _ read.0 _ read.1)
+    (marks_read _ read.0 _ _ _ c.in_ok-input.input _ _ c.in_ok-marked.marked _ (own_core _ _ read.0 _ read.1) c.in_ok-input.ensures.skip c.in_ok-marked.ensures.many.1
     c.new-lookup.ensures (c.in_ok-roots.ensures _ (as_input _ _ _ _ read.1)) c.in_ok-marked.ensures.marks
-    (c.in_ok-searched.ensures.head ∙ c.head_of-head.ensures) (fits_as c.in_ok-searched.ensures.fits c.in_ok-consistency.ensures.fits)
+    (c.in_ok-searched.ensures.head ∙ c.head_of-head.ensures)
     c.in_ok-searched.ensures.set c.in_ok-searched.ensures.heads c.in_ok-searched.ensures.claims)
+    c.in_ok-searched.ensures.fits c.in_ok-consistency.ensures.fits)
     (at_ok _ _ found is c.found_of.ensures.report) (at_ok _ _ found is c.found_of.ensures.leaked) (at_ok _ _ found is c.found_of.ensures.claims)))
 
 pub returns-clause-signs : goal.returns-clause-signs

@@ -5,4 +5,4 @@ use Rattle.leak_search.proofs.preparing.prepare.Goals as goal
 
 pub returns-clause-roots : goal.returns-clause-roots
 returns-clause-roots g c = λ lines input.
-    at_ok (AreRootsFor lines c.args.input.now) c.join-roots.result.0 c.in_ok-roots-2.field-0 c.in_ok-roots-2.was (c.join-roots.ensures.first lines input)
+    at_ok (AreRootsFor lines c.args.input.now) c.join-roots.result.0 c.in_ok-roots.field-0 c.in_ok-roots.was (c.join-roots.ensures.first lines input)
