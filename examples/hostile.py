@@ -164,7 +164,9 @@ def run(program, core, log, limit=None):
         seconds = time.monotonic() - start
         out.seek(0)
         err.seek(0)
-        return child.returncode, out.read(), err.read().decode(errors="replace"), seconds, usage.ru_maxrss / 1024
+        # the first MiB is enough to compare, and this process stays small: its peak is counted too
+        said = out.read(1 << 20), err.read().decode(errors="replace")
+        return child.returncode, *said, seconds, usage.ru_maxrss / 1024
 
 
 def faults(err):

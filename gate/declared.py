@@ -14,13 +14,16 @@ TRAIT = re.compile(r"\btrait \w+")
 HEAD = re.compile(r"fn .* ;$")
 MEMBER = re.compile(r"\S|    \S")
 BODY = "{ }"
+# The head of a type that only its own library can name.
+RESTRICTED = re.compile(r"^(?:# \[.*\] )?pub \( ")
 RENAMED = re.compile(r"^pub (?:use [\w :]+ as (\w+) ;|type (\w+) )")
 IMPL = re.compile(r"\bimpl (.*?)(?: where | as | ?\{|$)")
 
 
 class Item(NamedTuple):
     """A declaration of a library: its name, the type that it is a function of, whether it is a function, its text, whose it is, and
-    whether it is a trait's function that has a body, or a type or constant that only definitions and clauses can name."""
+    whether it is a trait's function that has a body, a type or constant that only definitions and clauses can name, or a type that is
+    declared to others only since another one consists of it."""
     name: str
     type: str | None
     is_function: bool
@@ -28,6 +31,7 @@ class Item(NamedTuple):
     library: str = ""
     is_default: bool = False
     is_inner: bool = False
+    is_restricted: bool = False
 
 
 def files_below(folder):
@@ -132,5 +136,7 @@ def items_in(root, name):
         types = [it for it in declarations(heads) if TYPE.search(it[0]) and it not in declared]
         names = {TYPE.search(it[0])[1] for it in declared if TYPE.search(it[0])}
         for item in (it for lines in declared + types for it in items_of(lines, heads)):
-            is_inner = not item.is_function and bool(TYPE.search(item.text)) and item.name not in names
-            yield item._replace(text="\n".join([item.text, *imports_of(whole, item.text)]), library=name, is_inner=is_inner)
+            is_type = not item.is_function and bool(TYPE.search(item.text))
+            is_inner, is_restricted = is_type and item.name not in names, is_type and bool(RESTRICTED.search(item.text))
+            text = "\n".join([item.text, *imports_of(whole, item.text)])
+            yield item._replace(text=text, library=name, is_inner=is_inner, is_restricted=is_restricted)

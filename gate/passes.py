@@ -4,9 +4,9 @@
     python3 gate/passes.py [--count N] [--first K] [--keep FOLDER] PROGRAM [PROGRAM ..]
 
 Of an orderly core a search keeps only some words while it is read; a core in another order it holds (layouts.py). Each
-process has a core of both kinds, and each is read from a file, and from a pipe in steps of a byte or some. Standard
-output, standard error and exit status must be the same, except that of a core that is cut off or damaged the first
-reason may differ by its layout.
+process has a core of both kinds, and each is read from a file, and from a pipe in steps of a byte or some. So is its log,
+of which a search may hold no more than what is behind the last line so far. Standard output, standard error and exit
+status must be the same, except that of a core that is cut off or damaged the first reason may differ by its layout.
 
 That an orderly core is passed is seen by its pipe: the log is read before the core's last byte is there. An unorderly
 one is read to its end before there is a log. Core K is always the same one; --keep writes its files. The last line is
@@ -35,6 +35,7 @@ SECONDS = 10
 MOST_FAILED = 10  # then the others are not tried
 MOST_AT_ONCE = 16  # Linux grants no user many more pipes of this size
 PIPE_BYTES, STEPS = 1 << 20, 240  # 256 steps fit
+PIECE = 1 << 18  # so many bytes of a log are read from a file at a time
 # The commands, and whether they pass orderly cores.
 COMMANDS = {"one": True, "holders": True}
 FLAGS = ("--skip-freed", "--skip-links", "--skip-slack", "--skip-ends", "--all-memory", "--strict")
@@ -118,11 +119,11 @@ def answer_of(process):
 
 
 def feed(process, core, log, packets, lines, way):
-    """Gives a run its core and its log in the order of the way, and tells whether it goes this way."""
+    """Gives a run the steps of its core and of its log in the order of the way, and tells whether it goes this way."""
     last = packets[-1:] if way == "passed" else []
     core.give(packets[:len(packets) - len(last)])
     goes = way != "held" or core.is_read_by(process)
-    log.give([lines])
+    log.give(lines)
     goes = goes and (way != "passed" or log.is_read_by(process))
     log.end()
     core.give(last)
@@ -138,7 +139,7 @@ def by_pipe(program, folder, task, packets, way):
     process = start(program, folder, words, readers)
     for it in readers:
         os.close(it)
-    goes = feed(process, core, log, packets, task.log, way)
+    goes = feed(process, core, log, packets, packets_of(task.rng, task.log), way)
     return answer_of(process), goes
 
 
@@ -165,6 +166,8 @@ class Task:
             is_seen = is_plain and has_memory and process.log
             self.ways[name] = ("passed" if passes else "held") if is_seen else ""
         self.is_same = damage is whole and process.notes_are_sound
+        if some(rng, 0.05):
+            self.log = behind_remark(rng, self.log)
 
     def write(self, folder):
         """Writes the files of the task."""
@@ -172,6 +175,11 @@ class Task:
         earlier = b"".join(lines[:len(lines) // 2])
         for name, content in {"trace.log": self.log, "earlier.log": earlier, **self.images}.items():
             Path(folder, name).write_bytes(content)
+
+
+def behind_remark(rng, log):
+    """The log behind a remark that is so long that a piece of the file ends somewhere in the log."""
+    return b"=" + b"x" * (PIECE - 2 - rng.randrange(len(log) + 1)) + b"\n" + log
 
 
 def whole(_rng, image):

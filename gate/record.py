@@ -9,7 +9,8 @@ What is named is found by words, so in whatever form: a function's head with its
 text, and so are its library's and its type's, or, where it takes a value of the type, the name stands behind a dot or a path there,
 and the type is known; a type, a trait, a renaming and what is said of a type, if the name is a word of anything read so far, but of
 a trait's functions that have a body by default only those that the crate's Rust calls or writes, and a type that isn't public only if
-a definition names it, or another such type, as with a constant that isn't, which a clause can name too; of a module of definitions
+a definition names it, or another such type, as with a constant that isn't, which a clause can name too, or if it is declared to others
+and a type that was read consists of it; of a module of definitions
 whose path stands there, those that stand behind it, and those that these name. A name that means something else is followed too, which
 only tries a crate again that need not be.
 
@@ -116,14 +117,16 @@ def named_in(root, below, own, rust):
     items = [it for name in sorted(below) for it in items_in(root, name)]
     waiting, found, words, files, calls = [own], [], set(), {}, set(CALLED.findall(own))
     # (named: the types and constants of Rust's that definitions name, or clauses)
-    taken, named = set(CALLED.findall(rust)) | set(WRITTEN.findall(rust)), set()
+    taken, named, consists = set(CALLED.findall(rust)) | set(WRITTEN.findall(rust)), set(), set()
     called = set(WORD.findall(own)).union(*(WORD.findall(it.text) for it in items if RENAMED.search(it.text)))
     libraries = libraries_named(root, below, called)
     # (a function that takes no value of its type is called by a path, from its library and that type)
     is_of_path = lambda it: it.library in libraries and it.type in called | {None}
     is_called = lambda it: it.name in calls and it.type in words if SELF.search(it.text) else it.name in called and is_of_path(it)
     is_taken = lambda it: it.name in taken and it.type in words
-    is_known = lambda it: it.name in (named if it.is_inner else words)
+    # (the crate can't name a type that is restricted to its library, but a type that it names can consist of it)
+    is_free = lambda it: not it.is_restricted or it.name in named or (it.library, it.name) in consists
+    is_known = lambda it: it.name in named if it.is_inner else it.name in words and is_free(it)
     is_reached = lambda it: is_taken(it) if it.is_default else is_called(it) if it.is_function else is_known(it)
     while waiting:
         text = waiting.pop()
@@ -135,6 +138,7 @@ def named_in(root, below, own, rust):
         reached = [it for it in items if is_reached(it)]
         items = [it for it in items if not is_reached(it)]
         files |= {file: it | files.get(file, set()) for file, it in new.items()}
+        consists.update((it.library, name) for it in reached if not it.is_function for name in WORD.findall(it.text))
         # (what an inner type consists of)
         named.update(name for it in reached if it.is_inner for name in WORD.findall(it.text))
         found += (it.text for it in reached)

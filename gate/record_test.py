@@ -48,7 +48,9 @@ impl Maker {
 pub fn made ( ) -> Maker
         ensures { 12 ≤ result.size } ;
 }
-pub struct Maker { pub size : u64 , }
+pub struct Maker { pub size : Size , }
+pub ( crate ) type Size = u8 ;
+pub ( crate ) type Own = u8 ;
 pub trait Calls {
     ghost count: { Self → ℕ };
 fn next ( & self ) -> u64
@@ -76,7 +78,7 @@ fn next ( & mut self ) -> u64 ;
 }
 """
 INNER = "fn inner ( )\n    ensures { IsTwo } ;\n"
-HIDDEN = r"^(?:ghost use|pub \( crate \)|struct|(?:# \[ read_as = \S+ \] )?const) .*\n"
+HIDDEN = r"^(?:ghost use|pub \( crate \) struct|struct|(?:# \[ read_as = \S+ \] )?const) .*\n"
 PUBLIC = re.sub(r"(ensures(?: \w+)?) \{[^}]*\}", r"\1 { }", re.sub(HIDDEN, "", WHOLE.replace(INNER, ""), flags=re.M))
 FILES = {f"{LOW}/interface/lang/src/lib.rt": PUBLIC, f"{LOW}/lang/src/lib.rt": WHOLE,
          "crates/low/specs/A.antt": "use Rattle.low.specs.B.{one, two}\nuse Rattle.low.specs.C.{three}\n"
@@ -109,6 +111,7 @@ READ = [
     (f"{LOW}/*/src/lib.rt", "Inner { pub kind : u64", "Inner { pub kind : u32"),  # a type that a definition names
     (f"{LOW}/lang/src/lib.rt", "part : Part", "part : u64"),  # and that isn't public; what it consists of
     (f"{LOW}/lang/src/lib.rt", "Part { size : u64", "Part { size : u32"),
+    (f"{LOW}/*/src/lib.rt", "Size = u8", "Size = u16"),  # one that is declared since a type that is named consists of it
     (f"{LOW}/lang/src/lib.rt", "= 31", "= 30"),  # a constant that isn't public, and that a definition names
     (f"{LOW}/lang/src/lib.rt", "= 32", "= 31"),  # or a clause
     (f"{LOW}/lang/src/lib.rt", "= 34", "= 35"),  # or a definition of the crate's own
@@ -125,6 +128,7 @@ UNREAD = [
     (f"{LOW}/*/src/lib.rt", "Other { pub size : u64", "Other { pub size : u32"),
     (f"{LOW}/*/src/lib.rt", "fn next ( & mut self ) -> u64 ;\n", ""),  # a head of a trait's function alone, where a type has it
     (f"{LOW}/lang/src/lib.rt", "Step { size : u64", "Step { size : u32"),  # one that no definition names, but a variant
+    (f"{LOW}/*/src/lib.rt", "Own = u8", "Own = u16"),  # one that is declared, whose name the crate has for something else
     (f"{LOW}/lang/src/lib.rt", "= 33", "= 34"),  # a constant likewise, whose name the crate's own text has
     (f"{LOW}/lang/src/lib.rt", "16 ≤", "15 ≤"), (f"{LOW}/*/src/lib.rt", "fn rest ( & self )", "fn rest ( & self , most : u64 )"),
     (f"{LOW}/lang/src/lib.rt", "11 ≤", "12 ≤"), (f"{LOW}/lang/src/lib.rt", "≡ 6", "≡ 7"), (f"{LOW}/lang/src/lib.rt", "≡ 7", "≡ 8"),

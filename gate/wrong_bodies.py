@@ -11,6 +11,7 @@ With --record, each crate all of whose wrong bodies are refused goes into gate/r
 there as it is now is not tried again, but for one batch of each of two crates, which the commit's hash chooses.
 """
 import os
+import re
 import shutil
 import signal
 import subprocess
@@ -72,6 +73,29 @@ def command(root, crate, libraries, rattle, kept):
     return [*words, "--incremental", kept]
 
 
+def put_answers(copy, edits):
+    """Gives each edited function that has no proof file an empty one of answers, and returns the files' paths in the crate. To say
+    what such a file could begin with, rattle runs the prover once more."""
+    put = []
+    for edit in edits:
+        folder = f"proofs/{edit.function.replace('::', '/')}"
+        above, _, name = folder.rpartition("/")
+        beside = os.listdir(f"{copy}/{above}") if os.path.isdir(f"{copy}/{above}") else []
+        # (the proof of a cycle of functions stands in a folder with all their names)
+        is_in_cycle = any(name in it.split("+")[1:] for it in beside)
+        if not is_in_cycle and not any(os.path.exists(f"{copy}/{folder}/{it}.antt") for it in ("Answers", "Proof")):
+            os.makedirs(f"{copy}/{folder}", exist_ok=True)
+            put.append(f"{folder}/Answers.antt")
+            with open(f"{copy}/{put[-1]}", "w", encoding="utf-8") as it:
+                it.write("-- None.\n")
+    return put
+
+
+def rejects(text, files):
+    """Returns whether an error is told of one of the files: it says nothing of a body, as where a cycle of functions has one proof."""
+    return any(re.search(rf"^(?:\./)?{re.escape(it)}(?::\d+:\d+)?: error: ", text, re.M) for it in files)
+
+
 class Crate:
     """A crate with its wrong bodies, and what its checks keep from one to the next."""
 
@@ -103,13 +127,23 @@ class Crate:
             for path, text in texts_with(self.folder, edits).items():
                 with open(f"{copy}/{path}", "w", encoding="utf-8") as it:
                     it.write(text)
-            words = ["timeout", str(LONGEST), *self.command, *(it for edit in edits for it in ("--only", edit.function))]
-            for _ in range(2):
-                ran = subprocess.run(words, cwd=copy, stdin=subprocess.DEVNULL, stdout=subprocess.PIPE, stderr=subprocess.STDOUT, errors="replace")
-                # (killed, most likely for memory: once more)
-                if ran.returncode not in (-signal.SIGKILL, 128 + signal.SIGKILL):
-                    break
-        return Output(self.name, ran.stdout)
+            put = put_answers(copy, edits)
+            said = self.said(copy, edits)
+            if rejects(said, put):
+                for it in put:
+                    os.remove(f"{copy}/{it}")
+                said = self.said(copy, edits)
+        return Output(self.name, said)
+
+    def said(self, copy, edits):
+        """Returns what rattle prints of the edited functions of a copy of the crate."""
+        words = ["timeout", str(LONGEST), *self.command, *(it for edit in edits for it in ("--only", edit.function))]
+        for _ in range(2):
+            ran = subprocess.run(words, cwd=copy, stdin=subprocess.DEVNULL, stdout=subprocess.PIPE, stderr=subprocess.STDOUT, errors="replace")
+            # (killed, most likely for memory: once more)
+            if ran.returncode not in (-signal.SIGKILL, 128 + signal.SIGKILL):
+                break
+        return ran.stdout
 
 
 def judge_alone(crate, edit, output):

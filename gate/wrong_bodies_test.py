@@ -130,6 +130,26 @@ def mistakes():
     return found
 
 
+def facts_of_answers():
+    """Returns what is shown of the empty files of answers."""
+    edits = [Edit("sums", "any", function, [], False) for function in ("halves::one", "two", "three", "halves::four", "five")]
+    with tempfile.TemporaryDirectory(prefix="wrong-test-") as root:
+        for folder, file in {"two": "Answers.antt", "three": "Proof.antt", "halves/+fn-four-join+four": "Answers.antt"}.items():
+            os.makedirs(f"{root}/proofs/{folder}")
+            with open(f"{root}/proofs/{folder}/{file}", "w", encoding="utf-8") as it:
+                it.write("-- As it was.\n")
+        put = wrong_bodies.put_answers(root, edits)
+        with open(f"{root}/proofs/two/Answers.antt", encoding="utf-8") as it:
+            kept = it.read()
+        found = {"a function without a proof file gets one": put == [f"proofs/{it}/Answers.antt" for it in ("halves/one", "five")]}
+        found["it is there, but for a cycle of functions"] = all(os.path.isfile(f"{root}/{it}") for it in put)
+    found["a proof file stays as it is"] = kept == "-- As it was.\n"
+    found["an error in such a file is seen"] = wrong_bodies.rejects(SAID, ["proofs/five/Answers.antt", "proofs/one/Answers.antt"])
+    found["so is one of the whole file"] = wrong_bodies.rejects("./proofs/six/Answers.antt: error: `sums` has none", ["proofs/six/Answers.antt"])
+    found["an error elsewhere is none in it"] = not wrong_bodies.rejects(SAID, ["proofs/five/Answers.antt"])
+    return found
+
+
 def facts_of_record():
     """Returns what a record of three crates leaves to try."""
     crates = [types.SimpleNamespace(name=it, sum=f"sum of {it}", edits=[Edit(it, str(n), f"f{n // 2}", [], False) for n in range(6)]) for it in "abc"]
@@ -171,7 +191,7 @@ def facts():
     found["a check that was cut off tells nothing"] = not Output("sums", SAID.rpartition("only=")[0]).is_told()
     found["a crate whose bodies are all refused is recorded"] = kept and set(refused.values()) == {REFUSED}
     found["a crate with a harmless body is not, though it was"] = not mixed_kept
-    return found | facts_of_sums() | facts_of_record()
+    return found | facts_of_answers() | facts_of_sums() | facts_of_record()
 
 
 def main():

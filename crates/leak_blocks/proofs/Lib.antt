@@ -19,3 +19,4 @@ pub mod RunLemmas
 pub mod PartLemmas
 pub mod PlacedLemmas
 pub mod OngoingReplayLemmas
+pub mod WindowLemmas

@@ -6,6 +6,7 @@ pub mod Small
 pub mod Laws
 pub mod Numbers
 pub mod Runs
+pub mod Windows
 pub mod Examples
 pub mod Outcome
 pub mod Callers

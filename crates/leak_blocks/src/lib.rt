@@ -7,6 +7,11 @@
 //! otherwise. [`replay`] and [`small_spans`], which find the live blocks and all addresses of small allocations from
 //! the lines of a `leak_mtrace::Log`, are for libraries and tests.
 //!
+//! A log can be gone over window by window, so that it need not be held: a [`Stage`] is between two arenas,
+//! [`Stage::begin`] goes on with an arena, [`OngoingReplay::go_on`] goes over the complete lines of a window until the arena
+//! is nearly full, and [`OngoingReplay::end`] leaves it. [`OngoingReplay::allocated`] has the blocks of the new allocations,
+//! so that the texts of their callers can be kept before the window's bytes are let go.
+//!
 //! glibc's mtrace says what a line reports; which line ends which block is own rule, stated in `specs/Live.antt` over pairs
 //! of lines. [`Live`] keeps callers as ranges of the log's bytes, and no bytes. [`Live::with_callers`] puts other ranges in their
 //! place, for who keeps each text of a caller once and not the log.
@@ -22,6 +27,7 @@ mod ongoing_replay;
 mod replaying;
 mod small;
 mod stage;
+mod window;
 
 pub use block::Block;
 pub use laws::{
@@ -29,5 +35,8 @@ pub use laws::{
     replays_line_by_line, worked_logs,
 };
 pub use live::Live;
-pub use replaying::{Replayed, replay, replay_bytes, replay_with_spans};
+pub use ongoing_replay::OngoingReplay;
+pub use replaying::{Replayed, guess_allocations, replay, replay_bytes, replay_with_spans};
 pub use small::{SmallSpans, Span, joined, small_spans};
+pub use stage::Stage;
+pub use window::LogPlace;

@@ -4,6 +4,7 @@ ghost use Rattle.leak_mtrace.specs.Log.{IsPastEnd};
 ghost use Rattle.leak_blocks.specs.Live.{block_of, is_allocation, is_give_back};
 ghost use Rattle.leak_blocks.specs.Numbers.{HasBlocks};
 ghost use Rattle.leak_blocks.specs.Runs.{MayBePlaced, ArePlacedOf, IsLimitOf, HasComeTo, IsStepOf, AreJoinedOf};
+ghost use Rattle.leak_blocks.specs.Windows.{all_blocks, grown_by};
 
 use crate::block::Block;
 use crate::numbers::{Numbers, block_at, displace};
@@ -21,7 +22,7 @@ const NEAR_BYTES: u64 = 1 << 20;
 /// other, are kept in a list beside the map: the run. They are put in the map only when another allocation or a
 /// give-back needs it.
 #[derive(Drop)]
-pub(crate) struct OngoingReplay<'a> {
+pub struct OngoingReplay<'a> {
     /// The blocks of all allocations so far, in the order of their lines.
     pub(crate) allocated: Vec<Block>,
     pub(crate) numbers: Numbers<'a>,
@@ -108,11 +109,20 @@ fn block_of(line: &Line, number: usize) -> Block
 }
 
 impl OngoingReplay<'_> {
+    /// The blocks of all allocations so far, in the order of their lines.
+    pub fn allocated(&self) -> &[Block]
+        ensures { result.now ≡ all_blocks self.now }
+    {
+        self.allocated.as_slice()
+    }
+
     /// Goes over the next line, which has this number, counted from 1.
     pub(crate) fn step(&mut self, line: &Line, number: usize) -> Result<(), AllocError>
         requires fits { IsPastEnd line.now → ⊥ }
         requires so_far { HasComeTo number self.old }
-        ensures { OnOk result (IsStepOf line.now number self.old self.new) }
+        ensures after { OnOk result (IsStepOf line.now number self.old self.new) }
+        ensures allocated { OnOk result
+            (all_blocks self.new ≡ grown_by number line.now (all_blocks self.old)) }
     {
         if is_allocation(line) {
             self.allocate(line, number)
@@ -128,7 +138,9 @@ impl OngoingReplay<'_> {
         requires fits { IsPastEnd line.now → ⊥ }
         requires so_far { HasComeTo number self.old }
         requires allocates { is_allocation line.now ≡ true }
-        ensures { OnOk result (IsStepOf line.now number self.old self.new) }
+        ensures after { OnOk result (IsStepOf line.now number self.old self.new) }
+        ensures allocated { OnOk result
+            (all_blocks self.new ≡ grown_by number line.now (all_blocks self.old)) }
     {
         let last = line.addr + (line.size.max(1) - 1);
         if line.addr <= self.low || self.high <= last {
@@ -145,7 +157,9 @@ impl OngoingReplay<'_> {
         requires fits { IsPastEnd line.now → ⊥ }
         requires so_far { HasComeTo number self.old }
         requires allocates { is_allocation line.now ≡ true }
-        ensures { OnOk result (IsStepOf line.now number self.old self.new) }
+        ensures after { OnOk result (IsStepOf line.now number self.old self.new) }
+        ensures allocated { OnOk result
+            (all_blocks self.new ≡ grown_by number line.now (all_blocks self.old)) }
     {
         let last = line.addr + (line.size.max(1) - 1);
         place(&mut self.numbers, self.allocated.as_slice(), &self.run)?;
@@ -169,7 +183,9 @@ impl OngoingReplay<'_> {
     fn give_back(&mut self, line: &Line, number: usize) -> Result<(), AllocError>
         requires so_far { HasComeTo number self.old }
         requires gives_back { is_give_back line.now ≡ true }
-        ensures { OnOk result (IsStepOf line.now number self.old self.new) }
+        ensures after { OnOk result (IsStepOf line.now number self.old self.new) }
+        ensures allocated { OnOk result
+            (all_blocks self.new ≡ grown_by number line.now (all_blocks self.old)) }
     {
         if let Some(last) = self.run.last() {
             if block_at(self.allocated.as_slice(), *last).start == line.addr {

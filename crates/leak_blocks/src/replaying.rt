@@ -125,15 +125,16 @@ const FRONT_BYTES: usize = 65_536;
 /// The fewest bytes of a line that allocates: `+ 0x1 0` and a line feed.
 const LEAST_BYTES: usize = 8;
 
-/// A guess of how many lines of the log allocate a block: the lines of its front, for its length, and an eighth more.
+/// A guess of how many lines of a log of this length allocate a block: the lines of its front, for its length, and an
+/// eighth more. The front is the log's first 65,536 bytes, or all of a shorter log; what it has behind these doesn't count.
 ///
 /// Only memory depends on it. If there are more, lists grow and the arena is replaced.
-fn guessed_allocations(bytes: &[u8]) -> usize {
-    let front = &bytes[..bytes.len().min(FRONT_BYTES)];
+pub fn guess_allocations(front: &[u8], len: usize) -> usize {
+    let front = &front[..front.len().min(FRONT_BYTES)];
     let lines = memchr_iter(b'\n', front).count();
-    let fronts = bytes.len().div_ceil(FRONT_BYTES);
+    let fronts = len.div_ceil(FRONT_BYTES);
     let all = lines.saturating_mul(fronts);
-    all.saturating_add(all / 8).min(bytes.len() / LEAST_BYTES)
+    all.saturating_add(all / 8).min(len / LEAST_BYTES)
 }
 
 /// Reads a log and goes over all its lines. Returns the replay and the reader, which have come to its end.
@@ -142,15 +143,12 @@ fn go_through(alloc: Global, bytes: &[u8]) -> Result<(Stage, Reader<'_>), LogErr
     ensures after { IfOk result (λ ended. AreAtEnd ended.1 ended.0) }
     ensures refused { IfErr result (λ e. e ≢ LogError.NoMemory → IsFirstFault bytes.now e) }
 {
-    let guess = guessed_allocations(bytes);
+    let guess = guess_allocations(bytes, bytes.len());
     let mut reader = Reader::new(bytes);
     let mut stage = Stage::new(alloc, guess)?;
     let mut more = true;
     while more {
-        // All live blocks are placed in a further arena. It has room for twice as many, so that it takes about as many
-        // lines until the next one is needed, however small the guess was.
-        let allocations = guess.max(stage.numbers.len().saturating_mul(2));
-        let arena = Bump::try_with_capacity(alloc, arena_bytes(allocations))?;
+        let arena = stage.arena(alloc, guess)?;
         let mut ongoing = stage.begin(&arena)?;
         more = ongoing.read_on(&arena, &mut reader)?;
         stage = ongoing.end()?;

@@ -197,7 +197,7 @@ pub fn joined(alloc: Global, spans: Vec<Span>) -> Result<SmallSpans, AllocError>
 
 impl Stage {
     /// The addresses of the small allocations so far, as far as they are outside the live blocks.
-    pub(crate) fn small_spans(&self, alloc: Global) -> Result<SmallSpans, AllocError>
+    pub fn small_spans(&self, alloc: Global) -> Result<SmallSpans, AllocError>
         requires { (lines : List Line) × LinesFit lines × IsStageAfter lines self.now }
         ensures { IfOk result (λ spans. (lines : List Line) → IsStageAfter lines self.now
             → CoverSameOutside (replay_of lines).blocks spans (small_spans_of lines)) }

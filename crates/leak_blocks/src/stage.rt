@@ -1,10 +1,11 @@
 //! A replay between two arenas.
-ghost use Rattle.std.specs.Prelude.{◌≡◌, ◌≤◌, ◌↔◌, ◌++◌, [], List, length, take, drop, IfOk, IsTrue};
+ghost use Rattle.std.specs.Prelude.{◌≡◌, ◌<◌, ◌≤◌, ◌↔◌, ◌++◌, [], List, length, take, drop, All, IfOk, IsTrue};
 ghost use Rattle.leak_mtrace.specs.declared.line.Line.{Line};
 ghost use Rattle.leak_mtrace.specs.Log.{LinesFit};
 ghost use Rattle.leak_blocks.specs.Live.{replay_of};
 ghost use Rattle.leak_blocks.specs.Numbers.{HaveBlocks, AreBlocksOf, AreBehind, CountUp, IsStageAfter};
 ghost use Rattle.leak_blocks.specs.Runs.{IsOngoingAfter};
+ghost use Rattle.leak_blocks.specs.Windows.{all_blocks, all_blocks_of, live_numbers};
 
 use crate::block::Block;
 use crate::live::Live;
@@ -33,7 +34,7 @@ fn node_bytes(allocations: usize) -> usize {
 
 /// The replay between two arenas.
 #[derive(Drop)]
-pub(crate) struct Stage {
+pub struct Stage {
     /// The blocks of all allocations so far, in the order of their lines.
     pub(crate) allocated: Vec<Block>,
     /// The numbers of those that no line so far ends, by the starts of their blocks.
@@ -44,8 +45,9 @@ pub(crate) struct Stage {
 
 impl Stage {
     /// Before the first line, with room for this many allocations.
-    pub(crate) fn new(alloc: Global, allocations: usize) -> Result<Stage, AllocError>
-        ensures { IfOk result (λ stage. IsStageAfter [] stage) }
+    pub fn new(alloc: Global, allocations: usize) -> Result<Stage, AllocError>
+        ensures after { IfOk result (λ stage. IsStageAfter [] stage) }
+        ensures allocated { IfOk result (λ stage. all_blocks_of stage ≡ []) }
     {
         Ok(Stage {
             allocated: Vec::with_capacity(alloc, allocations)?,
@@ -55,14 +57,33 @@ impl Stage {
         })
     }
 
+    /// An arena for the map, with room for this many allocations at least.
+    ///
+    /// All live blocks are placed in it. It has room for twice as many, so that it takes about as many lines until the next
+    /// one is needed, however small the guess was.
+    pub fn arena(&self, alloc: Global, guess: usize) -> Result<Bump, AllocError> {
+        let allocations = guess.max(self.numbers.len().saturating_mul(2));
+        Bump::try_with_capacity(alloc, arena_bytes(allocations))
+    }
+
+    /// The numbers of the allocations that no line so far ends, by the starts of their blocks.
+    pub fn numbers(&self) -> &[usize]
+        ensures value { result.now ≡ live_numbers self.now }
+        ensures within { (lines : List Line) → IsStageAfter lines self.now
+            → All (λ n. n < length (all_blocks_of self.now)) result.now }
+    {
+        self.numbers.as_slice()
+    }
+
     /// Goes on with the map in this arena.
     ///
     /// An arena never uses a freed node again. So when the lines would fill the old one, the allocations are placed in a new
     /// one, which is then at most four fifths full.
-    pub(crate) fn begin(self, arena: &Bump) -> Result<OngoingReplay<'_>, AllocError>
+    pub fn begin(self, arena: &Bump) -> Result<OngoingReplay<'_>, AllocError>
         requires { (lines : List Line) × IsStageAfter lines self }
-        ensures { IfOk result (λ ongoing. (lines : List Line)
+        ensures after { IfOk result (λ ongoing. (lines : List Line)
             → IsStageAfter lines self → IsOngoingAfter lines ongoing) }
+        ensures allocated { IfOk result (λ ongoing. all_blocks ongoing ≡ all_blocks_of self) }
     {
         let mut numbers = BTreeMap::new(arena);
         let mut run = self.numbers;
@@ -80,7 +101,7 @@ impl Stage {
     }
 
     /// The live blocks, after the last line.
-    pub(crate) fn live(self, alloc: Global) -> Result<Live, AllocError>
+    pub fn live(self, alloc: Global) -> Result<Live, AllocError>
         requires { (lines : List Line) × LinesFit lines × IsStageAfter lines self }
         ensures { IfOk result (λ live. (lines : List Line)
             → IsStageAfter lines self → live ≡ replay_of lines) }
@@ -97,10 +118,11 @@ impl OngoingReplay<'_> {
     }
 
     /// Leaves the arena.
-    pub(crate) fn end(self) -> Result<Stage, AllocError>
+    pub fn end(self) -> Result<Stage, AllocError>
         requires { (lines : List Line) × IsOngoingAfter lines self }
-        ensures { IfOk result (λ stage. (lines : List Line)
+        ensures after { IfOk result (λ stage. (lines : List Line)
             → IsOngoingAfter lines self.entry → IsStageAfter lines stage) }
+        ensures allocated { IfOk result (λ stage. all_blocks_of stage ≡ all_blocks self.entry) }
     {
         let (allocated, run) = (self.allocated, self.run);
         let numbers = joined(&self.numbers, allocated.as_slice(), run)?;

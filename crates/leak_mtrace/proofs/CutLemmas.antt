@@ -68,18 +68,21 @@ feed_before (text ∷ texts) torn h =
     ∙ ap (λ t. get_or t (length (joined (text ∷ texts)) - 1) 0) (append_assoc r.0 (10 ∷ []) torn)
     ∙ get_or_at r.0 10 torn 0 (length (joined (text ∷ texts)) - 1) (omega arith)
 
-pub len_of_cut : (bytes : List ℕ) (c : Cut bytes) → whole_len_of bytes ≡ length (joined c.texts)
-len_of_cut bytes c =
+pub torn_of_cut : (bytes : List ℕ) (c : Cut bytes) → length (torn_piece bytes) ≡ length c.torn
+torn_of_cut bytes c =
     let front : ℕ = length (joined c.texts) in
     let size : length bytes ≡ front + length c.torn = ap length c.whole ∙ length-append (joined c.texts) c.torn in
     let behind : (k : ℕ) → front ≤ k → k < length bytes → not (get_or bytes k 0 == 10) ≡ not false =
     λ k l h. ap not (ap (λ t. get_or t k 0 == 10) c.whole ∙ ap (λ b. b == 10) (get_or-append_right (joined c.texts) c.torn front k 0 refl l) ∙ c.rest (k - front) 0 (omega arith)) in
     let edge : 0 < front → not (get_or bytes (front - 1) 0 == 10) ≡ false = λ h. ap not (eq-eqb _ _ (ap (λ t. get_or t (front - 1) 0) c.whole ∙ feed_before c.texts c.torn h)) in
     let tail : suffix_len (λ b. not (b == 10)) bytes ≡ length bytes - front = suffix_len_is (λ b. not (b == 10)) bytes front 0 (omega arith) behind edge in
-    let rest : length (torn_piece bytes) ≡ length c.torn =
     ap (λ n. length (drop (length bytes - n) bytes)) tail ∙ ap (λ n. length (drop n bytes)) (let f : length bytes - (length bytes - front) ≡ front = omega arith in f)
-    ∙ ap (λ t. length (drop front t)) c.whole ∙ ap length (drop_at (joined c.texts) c.torn front refl) in
-    omega arith
+    ∙ ap (λ t. length (drop front t)) c.whole ∙ ap length (drop_at (joined c.texts) c.torn front refl)
+
+pub len_of_cut : (bytes : List ℕ) (c : Cut bytes) → whole_len_of bytes ≡ length (joined c.texts)
+len_of_cut bytes c =
+    let size : length bytes ≡ length (joined c.texts) + length c.torn = ap length c.whole ∙ length-append (joined c.texts) c.torn in
+    omega (arith, torn_of_cut bytes c)
 
 -- the complete lines, as bytes
 pub bytes_of_cut : (bytes : List ℕ) (c : Cut bytes) → take (whole_len_of bytes) bytes ≡ joined c.texts

@@ -15,3 +15,4 @@ pub mod CallerLemmas
 pub mod SameLogLemmas
 pub mod FitLemmas
 pub mod ReadingLemmas
+pub mod PartLemmas

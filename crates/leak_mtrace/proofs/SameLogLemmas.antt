@@ -108,7 +108,7 @@ first_faults_are_one bytes e f p q =
 
 -- ---- a log that continues another
 
-places_of_both : (at : ℕ) (texts more : List (List ℕ)) → (later : List (ℕ × List ℕ)) × (with_places at (texts ++ more) ≡ with_places at texts ++ later)
+pub places_of_both : (at : ℕ) (texts more : List (List ℕ)) → (later : List (ℕ × List ℕ)) × (with_places at (texts ++ more) ≡ with_places at texts ++ later)
 places_of_both at [] more = (with_places at more, refl)
 places_of_both at (text ∷ texts) more = let r = places_of_both (at + length text + 1) texts more in (r.0, ap (λ t. (at, text) ∷ t) r.1)
 

@@ -1,10 +1,11 @@
 -- Laws of lines and logs.
-use Rattle.std.specs.Prelude.{◌≡◌, ℕ, List, ◌++◌, IsTrue}
+use Rattle.std.specs.Prelude.{◌≡◌, ℕ, List, ◌++◌, length, IsTrue}
 use Rattle.std.specs.List.{AllZip}
 use Rattle.leak_mtrace.specs.declared.line.Line.{Line}
 use Rattle.leak_mtrace.specs.declared.error.LogError.{LogError}
 use Rattle.leak_mtrace.specs.Line.{IsLine}
 use Rattle.leak_mtrace.specs.Log.{IsLog, whole_lines, with_places, IsFirstFault, CallersAreIn, HasItsPlace, is_continued_by}
+use Rattle.leak_mtrace.specs.Parts.{AreLinesOf, moved, later_fault}
 
 -- a line says one thing at most
 abbrev pub LinesAreOne : Type 0
@@ -36,3 +37,13 @@ abbrev pub LogsContinue : Type 0
 LogsContinue = (log1 log2 : List ℕ) (lines1 lines2 : List Line)
     → IsTrue (is_continued_by log1 log2) → IsLog log1 lines1 → IsLog log2 lines2
     → (after : List Line) × (lines2 ≡ lines1 ++ after)
+
+-- a log that begins with complete lines has these, and then those of what follows, moved
+abbrev pub LogsJoin : Type 0
+LogsJoin = (bytes more : List ℕ) (lines after : List Line)
+    → AreLinesOf bytes lines → IsLog more after → IsLog (bytes ++ more) (lines ++ moved (length bytes) after)
+
+-- a log that begins with complete lines has the first fault of what follows, moved
+abbrev pub FirstFaultsJoin : Type 0
+FirstFaultsJoin = (bytes more : List ℕ) (lines : List Line) (e : LogError)
+    → AreLinesOf bytes lines → IsFirstFault more e → IsFirstFault (bytes ++ more) (later_fault (length lines) e)

@@ -5,5 +5,6 @@ pub mod Line
 pub mod CallPlace
 pub mod Log
 pub mod Reading
+pub mod Parts
 pub mod Examples
 pub mod Laws

@@ -1,6 +1,6 @@
 //! Laws of lines and logs, and worked lines. Each is a function that does nothing: its contract is the law.
 ghost use Rattle.leak_mtrace.specs.Examples.{AreLines, AreLogs, AreRefused};
-ghost use Rattle.leak_mtrace.specs.Laws.{LinesAreOne, LogsAreOne, LogsHaveNoFault, FirstFaultsAreOne, LogsHaveTheirCallers, CallersHoldTheirPlaces, LogsContinue};
+ghost use Rattle.leak_mtrace.specs.Laws.{LinesAreOne, LogsAreOne, LogsHaveNoFault, FirstFaultsAreOne, LogsHaveTheirCallers, CallersHoldTheirPlaces, LogsContinue, LogsJoin, FirstFaultsJoin};
 ghost use Rattle.leak_mtrace.specs.CallPlace.{PlacesAreOne};
 
 /// A line says one thing at most.
@@ -41,6 +41,13 @@ pub fn callers_hold_their_places()
 /// A log that begins with the complete lines of another has that log's lines, and then its own.
 pub fn logs_continue()
     ensures { LogsContinue }
+{}
+
+/// A log that begins with complete lines has these, and then those of what follows, moved. Its first fault is
+/// that of what follows, moved.
+pub fn logs_join()
+    ensures lines { LogsJoin }
+    ensures fault { FirstFaultsJoin }
 {}
 
 /// Worked lines.

@@ -25,8 +25,8 @@ mod reader;
 pub use error::LogError;
 pub use laws::{
     callers_hold_their_places, first_faults_are_one, lines_are_one, logs_are_one, logs_continue,
-    logs_have_no_fault, logs_have_their_callers, places_are_one, refused_lines, worked_lines,
-    worked_logs,
+    logs_have_no_fault, logs_have_their_callers, logs_join, places_are_one, refused_lines,
+    worked_lines, worked_logs,
 };
 pub use line::{Kind, Line};
 pub use log::Log;

@@ -20,7 +20,7 @@ use Rattle.leak_search.specs.declared.inputs.Input.{Input}
 use Rattle.leak_search.proofs.InputLemmas.{input_blocks, own_core}
 use Rattle.leak_passing.specs.declared.passed.PassedByTexts.{PassedByTexts}
 use Rattle.leak_passing.specs.ByTexts.{AreTextsOf, IsLogOf}
-use Rattle.leak_passing.specs.Kept.{blocks_of}
+use Rattle.leak_replaying.specs.Texts.{blocks_of}
 use Rattle.leak_passing.specs.Passed.{IsPassedByTexts}
 use Rattle.leak_passing.proofs.FoundLemmas.{lines_of}
 

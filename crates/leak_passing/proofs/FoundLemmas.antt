@@ -25,7 +25,8 @@ use Rattle.leak_search.specs.declared.error.FindError.{FindError}
 use Rattle.leak_search.specs.declared.found.Found.{Found}
 use Rattle.leak_alike.specs.SiftedCores.{SearchesOfSiftedAreOne, SignsOfSiftedAreOne, RefusedOfSiftedAreOne, rule_of, sifted_core}
 use Rattle.leak_passing.specs.declared.passed.PassedByTexts.{PassedByTexts}
-use Rattle.leak_passing.specs.Kept.{IsHeld, IsKept, IsSifted, blocks_of, rule_by}
+use Rattle.leak_passing.specs.Kept.{IsHeld, IsKept, IsSifted, rule_by}
+use Rattle.leak_replaying.specs.Texts.{blocks_of}
 use Rattle.leak_passing.specs.Passed.{IsPassedByTexts}
 
 -- ---- results

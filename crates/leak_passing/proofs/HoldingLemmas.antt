@@ -24,7 +24,8 @@ use Rattle.leak_holder_search.specs.declared.search.Holding.{Holding}
 use Rattle.leak_alike.specs.SiftedCores.{CanBeSifted, SignsOfSiftedAreOne, rule_of, sifted_core}
 use Rattle.leak_alike.specs.SiftedHolders.{AnswersOfSiftedAreOne, HoldersOfSiftedAreOne, RefusedAnswersOfSiftedAreOne, RefusedHoldersOfSiftedAreOne}
 use Rattle.leak_passing.specs.declared.passed.Passed.{Passed}
-use Rattle.leak_passing.specs.Kept.{IsKept, blocks_of, rule_by}
+use Rattle.leak_passing.specs.Kept.{IsKept, rule_by}
+use Rattle.leak_replaying.specs.Texts.{blocks_of}
 use Rattle.leak_passing.specs.Passed.{IsPassed}
 use Rattle.leak_passing.proofs.FoundLemmas.{lines_of, sifted_file, whole_file}
 

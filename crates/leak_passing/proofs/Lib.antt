@@ -6,7 +6,6 @@ pub mod KeptLemmas
 pub mod LogLemmas
 pub mod ReaderLemmas
 pub mod FoundLemmas
-pub mod TextLemmas
 pub mod ByTextLemmas
 pub mod PreparedLemmas
 pub mod HoldingLemmas

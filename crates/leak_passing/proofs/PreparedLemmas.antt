@@ -44,9 +44,11 @@ use Rattle.leak_alike.proofs.AlikeRefusals.{core_faultless, search_refused}
 use Rattle.leak_alike.proofs.SiftedSearches.{both_accepted}
 use Rattle.leak_alike.proofs.WordBytes.{behind_long}
 use Rattle.leak_passing.specs.declared.passed.PassedByTexts.{PassedByTexts}
-use Rattle.leak_passing.specs.declared.texts.KeptTexts.{KeptTexts}
-use Rattle.leak_passing.specs.ByTexts.{AreKeptOf, AreTextsOf, IsLogOf}
-use Rattle.leak_passing.specs.Kept.{IsKept, IsSifted, blocks_of, rule_by}
+use Rattle.leak_replaying.specs.declared.texts.KeptTexts.{KeptTexts}
+use Rattle.leak_passing.specs.ByTexts.{AreTextsOf, IsLogOf}
+use Rattle.leak_replaying.specs.Texts.{AreKeptOf}
+use Rattle.leak_passing.specs.Kept.{IsKept, IsSifted, rule_by}
+use Rattle.leak_replaying.specs.Texts.{blocks_of}
 use Rattle.leak_passing.specs.Passed.{IsPassedByTexts}
 use Rattle.leak_passing.specs.Prepared.{IsLeftToMark, IsPrepared}
 use Rattle.leak_passing.proofs.ByTextLemmas.{is_log_of}

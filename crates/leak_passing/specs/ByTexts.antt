@@ -1,24 +1,12 @@
 -- A log that is let go: what was kept of it is enough.
 use Rattle.std.specs.Prelude.{ℕ, ◌^◌, ◌<◌, List, length}
 use Rattle.leak_blocks.specs.declared.block.Block.{Block}
-use Rattle.leak_report.specs.Elsewhere.{HaveTextsAt}
+use Rattle.leak_replaying.specs.Texts.{AreKeptOf}
 use Rattle.leak_search.specs.Inputs.{IsRead}
 use Rattle.leak_search.specs.declared.inputs.Input.{Input}
-use Rattle.leak_passing.specs.declared.texts.KeptTexts.{KeptTexts}
-use Rattle.leak_passing.specs.declared.texts.Numbers.{Numbers}
-use Rattle.leak_passing.specs.declared.texts.Numbers.TheVariants.{Few, Many}
+use Rattle.leak_replaying.specs.declared.texts.KeptTexts.{KeptTexts}
 
--- which of the places each block has
-abbrev pub numbers_in : Numbers → List ℕ
-numbers_in (Few numbers) = numbers.items
-numbers_in (Many numbers) = numbers.items
-
--- these are the texts of the blocks' callers
-abbrev pub AreKeptOf : List ℕ → List Block → KeptTexts → Type 0
-AreKeptOf log blocks kept =
-    HaveTextsAt log kept.bytes.items kept.places.items (numbers_in kept.numbers) blocks
-
--- the same, if the blocks are few enough to be numbered
+-- these are the texts of the blocks' callers, if the blocks are few enough to be numbered
 abbrev pub AreTextsOf : List ℕ → List Block → KeptTexts → Type 0
 AreTextsOf log blocks kept = length blocks < 2 ^ 32 → AreKeptOf log blocks kept
 

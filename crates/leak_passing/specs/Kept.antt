@@ -1,20 +1,12 @@
 -- What is kept of a core that was read in one pass.
-use Rattle.std.specs.Prelude.{◌≡◌, ℕ, ◌⊎◌, false, List, [], ◌++◌, length, Result, Ok, Err}
+use Rattle.std.specs.Prelude.{◌≡◌, ℕ, ◌⊎◌, false, List, [], ◌++◌, length}
 use Rattle.leak_elf.specs.Segments.{segments_of}
-use Rattle.leak_mtrace.specs.declared.error.LogError.{LogError}
 use Rattle.leak_blocks.specs.declared.block.Block.{Block}
-use Rattle.leak_blocks.specs.declared.replaying.Replayed.{Replayed}
-use Rattle.leak_blocks.specs.declared.small.Span.{Span}
 use Rattle.leak_roots.specs.declared.skip.Skip.{Skip}
 use Rattle.leak_sift.specs.Kept.{Rule}
 use Rattle.leak_sift.specs.Sifted.{sifted}
 use Rattle.leak_streams.specs.Reads.{Calls, IsReadWhole}
 use Rattle.leak_alike.specs.SiftedCores.{CanBeSifted}
-
--- the live blocks that were read of a log: of one with a fault, none
-abbrev pub blocks_of : Result (Replayed × List Span) LogError → List Block
-blocks_of (Ok read) = read.0.live.blocks
-blocks_of (Err e) = []
 
 -- which words a search needs by these live blocks
 abbrev pub rule_by : Skip → List Block → Rule

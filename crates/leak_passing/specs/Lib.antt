@@ -3,7 +3,6 @@ pub mod Underway
 pub mod Begun
 pub mod Sifting
 pub mod Kept
-pub mod Texts
 pub mod ByTexts
 pub mod Prepared
 pub mod Passed

@@ -13,7 +13,8 @@ use Rattle.leak_passing.specs.declared.passed.PassedByTexts.{PassedByTexts}
 use Rattle.leak_passing.specs.declared.passing.Limits.{Limits}
 use Rattle.leak_passing.specs.Begun.{IsBegun}
 use Rattle.leak_passing.specs.ByTexts.{AreTextsOf}
-use Rattle.leak_passing.specs.Kept.{IsKept, blocks_of}
+use Rattle.leak_passing.specs.Kept.{IsKept}
+use Rattle.leak_replaying.specs.Texts.{blocks_of}
 
 -- what was read of a core and of its log: the log as it is, and of the core the whole, or its head and what a search needs
 pub record IsPassed (core log : List ℕ) (skip : Skip) (passed : Passed) : Type 0 where

@@ -15,7 +15,7 @@ use Rattle.leak_search.specs.declared.rules.Rules.{Rules}
 use Rattle.leak_sift.specs.Passed.{IsRange}
 use Rattle.leak_sparse.specs.Words.{between}
 use Rattle.leak_alike.specs.AlikeToMark.{ReadsPointersAlone}
-use Rattle.leak_passing.specs.declared.texts.KeptTexts.{KeptTexts}
+use Rattle.leak_replaying.specs.declared.texts.KeptTexts.{KeptTexts}
 use Rattle.leak_passing.specs.ByTexts.{AreTextsOf}
 
 -- all words are left, or, if they are read as pointers alone, those that aren't outside the blocks

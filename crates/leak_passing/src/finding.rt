@@ -12,9 +12,9 @@ use crate::opening::input_of_passed;
 use crate::passed::PassedByTexts;
 use crate::pruning::{input_to_mark, left_to_mark, without_core};
 use crate::reporting::found_by_texts;
-use crate::texts::KeptTexts;
 use leak_alike::{files_of_one_head, pruned_cores_are_marked_alike, searches_of_sifted_cores};
 use leak_pool::Gate;
+use leak_replaying::KeptTexts;
 use leak_search::{
     Consistency, FindError, Found, Input, Rules, Workers, consistency_of_one, search_from,
 };

@@ -3,7 +3,8 @@
 ghost use Rattle.std.specs.Prelude.{◌≡◌, [], IfOk, IfErr};
 ghost use Rattle.leak_streams.specs.Reads.{IsGivenUp};
 ghost use Rattle.leak_passing.specs.Begun.{IsAtHead, IsBegun};
-ghost use Rattle.leak_passing.specs.Kept.{Keeps, blocks_of};
+ghost use Rattle.leak_passing.specs.Kept.{Keeps};
+ghost use Rattle.leak_replaying.specs.Texts.{blocks_of};
 
 use crate::begun::{Begun, Front};
 use crate::sifted::sift_core;

@@ -1,8 +1,8 @@
 //! A core and its log that were read in one pass.
 
-use crate::texts::KeptTexts;
 use leak_blocks::{Replayed, SmallSpans};
 use leak_mtrace::LogError;
+use leak_replaying::KeptTexts;
 use leak_sparse::SparseWords;
 
 /// A core and its log, read in one pass.

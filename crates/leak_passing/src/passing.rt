@@ -1,13 +1,14 @@
 //! A core and its log are read in one pass.
 
-ghost use Rattle.std.specs.Prelude.{◌≡◌, ◌*◌, min, max, length, IfOk, IfErr};
+ghost use Rattle.std.specs.Prelude.{◌≡◌, ◌*◌, ℕ, List, min, max, length, IfOk, IfErr};
+ghost use Rattle.leak_replaying.specs.Outcome.{IsOfLog};
 ghost use Rattle.leak_passing.specs.Passed.{AreTwo, BeginsBoth, IsPassed, IsPassedByTexts, IsPassingFault, Passes};
 
 use crate::begun::{Begun, begin_core};
 use crate::fault::PassingFault;
 use crate::keeping::keep_core;
 use crate::passed::{Passed, PassedByTexts};
-use crate::texts::read_by_texts;
+use leak_replaying::{LogByTexts, replay_reading};
 use leak_roots::Skip;
 use leak_search::read_log;
 use leak_sift::Sifters;
@@ -66,6 +67,38 @@ fn begin_both<T: Threads + Sync, R: ReadCalls>(
     }
 }
 
+/// Begins to read a core, and replays its log while that is read.
+fn begin_and_replay<T: Threads + Sync, R: ReadCalls>(
+    sifters: &Sifters<'_, T>,
+    readers: &mut [R],
+    limits: Limits,
+    skip: Skip,
+) -> Result<(Begun, LogByTexts), PassingFault>
+    requires { length readers.old ≡ 2 }
+    ensures ok { IfOk result (λ both. (log : List ℕ) × IsOfLog skip.freed log both.1
+        × AreTwo readers.old readers.new (BeginsBoth R.calls limits skip both.0 log)) }
+    ensures refused { IfErr result (λ fault.
+        AreTwo readers.old readers.new (IsPassingFault R.calls limits fault)) }
+{
+    let alloc = sifters.alloc;
+    let (limit, size) = (limits.core, limits.core_size);
+    let piece = piece_size(sifters.count);
+    let begun = match begin_core(alloc, &mut readers[0], limit, size, piece, skip) {
+        Ok(begun) => begun,
+        Err(fault) => return Err(PassingFault::Core(fault)),
+    };
+    match replay_reading(
+        alloc,
+        &mut readers[1],
+        limits.log,
+        limits.log_size,
+        skip.freed,
+    ) {
+        Ok(log) => Ok((begun, log)),
+        Err(fault) => Err(PassingFault::Log(fault)),
+    }
+}
+
 /// Reads a core and its log, in one pass over each: the core's head, the log, and then the rest of the core, of which
 /// only the words are kept that a search needs. The first reader has the core, the second the log. How many sifters there
 /// are changes nothing of what is read and kept.
@@ -103,8 +136,8 @@ pub fn read_passing<T: Threads + Sync, R: ReadCalls>(
     }
 }
 
-/// Reads a core and its log as [`read_passing`] does, but lets go of the log before the rest of the core is read: it
-/// keeps the texts of the live blocks' callers in its place.
+/// Reads a core and its log as [`read_passing`] does, but replays the log while it is read, and holds no more of it than
+/// a piece and a line: it keeps the texts of the live blocks' callers in its place.
 ///
 /// # Errors
 ///
@@ -122,9 +155,7 @@ pub fn read_passing_by_texts<T: Threads + Sync, R: ReadCalls>(
     ensures refused { IfErr result (λ fault.
         AreTwo readers.old readers.new (IsPassingFault R.calls limits fault)) }
 {
-    let (begun, log) = begin_both(sifters, readers, limits, skip)?;
-    let (read, texts) = read_by_texts(sifters.alloc, skip, log.as_slice());
-    drop(log); // the texts are all that is asked of it from here on
+    let (begun, LogByTexts { read, texts }) = begin_and_replay(sifters, readers, limits, skip)?;
     match keep_core(sifters, begun, &mut readers[0], limits.core, &read, skip) {
         Ok((held, words, len)) => Ok(PassedByTexts {
             held,

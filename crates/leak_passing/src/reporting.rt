@@ -3,10 +3,10 @@
 ghost use Rattle.std.specs.Prelude.{◌≡◌, ℕ, List, length, option_map, IfOk, IfErr, IfSome};
 ghost use Rattle.leak_report.specs.Report.{text_of};
 ghost use Rattle.leak_report.specs.Totals.{leaked_in};
-ghost use Rattle.leak_passing.specs.ByTexts.{AreKeptOf};
+ghost use Rattle.leak_replaying.specs.Texts.{AreKeptOf};
 
-use crate::texts::{KeptTexts, widened};
 use leak_blocks::Live;
+use leak_replaying::{KeptTexts, widened};
 use leak_report::reports_go_by_texts;
 use leak_search::{FindError, Found, Searched, found_of};
 use std::alloc::Global;

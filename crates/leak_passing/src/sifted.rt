@@ -10,6 +10,7 @@ ghost use Rattle.leak_passing.specs.Sifting.{SiftsRest};
 
 use crate::begun::Front;
 use leak_blocks::Live;
+use leak_elf::Segment;
 use leak_roots::Skip;
 use leak_sift::{Sieve, Sifters, Sifting};
 use leak_sparse::SparseWords;
@@ -21,6 +22,31 @@ fn are_bytes(bytes: &[u8])
     ensures { AreBytes bytes.now }
 {
     let _bytes = bytes;
+}
+
+/// How many words are kept of a core for each block, if glibc made its heap: a guess, by which room is made for them.
+const KEPT_EACH: usize = 5;
+
+/// How many words the segments have behind the head, as far as their offsets tell.
+fn words_ahead(segments: &[Segment], head: u64) -> usize {
+    let Some(last) = segments.last() else {
+        return 0;
+    };
+    let end = last.offset.saturating_add(last.filesz);
+    (end.saturating_sub(head) / 8) as usize
+}
+
+/// Makes room for what is kept of so many words, by so many blocks, if there is memory for it. A list that grows is
+/// copied, and leaves behind what it had.
+fn make_room(sifting: &mut Sifting<'_>, words: usize, blocks: usize)
+    ensures { sifting.new ≡ sifting.old }
+{
+    if sifting
+        .reserve(words, blocks.saturating_mul(KEPT_EACH))
+        .is_err()
+    {
+        // it grows as words come
+    }
 }
 
 /// Sifts the pieces of a core that are left.
@@ -74,6 +100,11 @@ pub(crate) fn sift_core<T: Threads + Sync, R: ReadCalls>(
     let sieve = Sieve::new(live, skip.links);
     let parts = segments.as_slice();
     let mut sifting = Sifting::new(sifters.alloc, parts, head as u64, sieve);
+    make_room(
+        &mut sifting,
+        words_ahead(parts, head as u64),
+        live.blocks().len(),
+    );
     sifting.take(sifters, &bytes[head..])?;
     held.truncate(head);
     sift_pieces(sifters, reading, reader, limit, &mut sifting)?;

@@ -9,6 +9,7 @@
 mod alone;
 mod answer;
 mod marking;
+mod passing;
 mod reading;
 mod reporting;
 mod running;
@@ -25,7 +26,7 @@ use std::rt::Env;
 use std::thread::Threads;
 
 /// The calls, by name.
-static CALLS: [&str; 57] = [
+static CALLS: [&str; 62] = [
     "core_k",
     "Image::read",
     "Threads::read",
@@ -35,6 +36,11 @@ static CALLS: [&str; 57] = [
     "replay_bytes",
     "replay_with_spans",
     "small_spans",
+    "TextTable::number",
+    "gather",
+    "SparseWords::reserve",
+    "replay_reading",
+    "replay_reading_spans",
     "Paged::new",
     "Roots::find",
     "Roots::find_unfreed",
@@ -138,6 +144,19 @@ fn answer_of<R: AllocGlobal + Threads + Sync>(rt: &R, name: &str) -> Option<Answ
         "replay_bytes" => reading::replayed_bytes(alloc),
         "replay_with_spans" => reading::spanned(alloc),
         "small_spans" => reading::small(alloc),
+        _ => answer_of_passing(rt, name),
+    }
+}
+
+/// The same of what replays a log that is not held, and of the room for words.
+fn answer_of_passing<R: AllocGlobal + Threads + Sync>(rt: &R, name: &str) -> Option<Answer> {
+    let alloc = rt.alloc();
+    match name {
+        "TextTable::number" => passing::numbers(alloc),
+        "gather" => passing::gathered(alloc),
+        "SparseWords::reserve" => passing::room(alloc),
+        "replay_reading" => passing::replayed(alloc),
+        "replay_reading_spans" => passing::replayed_spans(alloc),
         _ => answer_of_roots(rt, name),
     }
 }

@@ -97,7 +97,7 @@ fn are_touching(spans: &SmallSpans, ranges: usize) -> bool {
 }
 
 /// The same, but both that touch are given back.
-const GIVEN_BACK: &str = "+ 0x110 0x10\n+ 0x200 0x8\n+ 0x100 0x10\n- 0x100\n- 0x110\n";
+pub(crate) const GIVEN_BACK: &str = "+ 0x110 0x10\n+ 0x200 0x8\n+ 0x100 0x10\n- 0x100\n- 0x110\n";
 
 /// `replay_with_spans` of that log, whose live block has no span.
 pub(crate) fn spanned(alloc: Global) -> Option<Answer> {

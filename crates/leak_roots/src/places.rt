@@ -101,7 +101,8 @@ pub(crate) fn find_ranges<R: Rest>(
         IfOk result (λ found. length found.0.items
         ≤ length segments + length blocks.now + length spans.now) }
 {
-    let mut kept = Kept::new(Vec::new(alloc), spans);
+    let room = blocks.len().saturating_add(image.segments().len());
+    let mut kept = Kept::new(Vec::with_capacity(alloc, room)?, spans);
     for segment in image.segments() {
         if has_roots(segment, unwritable) {
             let end = segment.vaddr + segment.filesz;

@@ -63,6 +63,13 @@ impl<'a> Sifting<'a> {
         }
     }
 
+    /// Makes room for so many words more, of which so many are kept. That changes only memory and time.
+    pub fn reserve(&mut self, count: usize, kept: usize) -> Result<(), AllocError>
+        ensures { self.new ≡ self.old }
+    {
+        self.words.reserve(count, kept)
+    }
+
     /// Takes the next bytes, by the sifters if they are many. Those after the last complete word wait for the rest of it.
     ///
     /// An error is an allocation that failed, or an offset past 64 bits. Some of the bytes were taken then. Threads that

@@ -42,6 +42,15 @@ impl SparseWords {
         }
     }
 
+    /// Makes room for so many words more, of which so many are kept. That changes only memory and time: a list that has
+    /// its room from the beginning is never copied to grow.
+    pub fn reserve(&mut self, count: usize, kept: usize) -> Result<(), AllocError>
+        ensures { self.new ≡ self.old }
+    {
+        self.groups.reserve(count.div_ceil(64))?;
+        self.kept.reserve(kept)
+    }
+
     /// How many words the list has.
     pub fn len(&self) -> usize
         ensures { result ≡ length self.now }

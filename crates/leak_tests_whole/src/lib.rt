@@ -84,6 +84,10 @@ mod signs;
 #[cfg(test)]
 mod readers;
 
+// A log that is replayed while it is read.
+#[cfg(test)]
+mod replaying;
+
 // A core and its log in one pass.
 #[cfg(test)]
 mod passing;

@@ -8,7 +8,7 @@ use Rattle.leak_search.specs.Inputs.{IsFaultOfOne}
 use Rattle.leak_search.specs.Search.{FindsOne}
 use Rattle.leak_search.specs.Signs.{AreSigns}
 use Rattle.leak_search.proofs.SignLemmas.{are_of_one}
-use Rattle.leak_passing.specs.Kept.{blocks_of}
+use Rattle.leak_replaying.specs.Texts.{blocks_of}
 use Rattle.leak_passing.proofs.FoundLemmas.{both_ok, finds_core, has_words, moved, refused_core, signs_core, whole_or_head}
 use Rattle.leak_passing.proofs.ByTextLemmas.{read_as}
 use Rattle.leak_passing.proofs.PreparedLemmas.{accepted_left, kept_by, left_of, left_or_head, left_words, prepared_again}

@@ -4,19 +4,19 @@ use Rattle.leak_passing.proofs.passing.read_passing_by_texts.Goals as goal
 
 pub keep_core-requires-after_bounds : goal.keep_core-requires-after_bounds
 keep_core-requires-after_bounds g c κs within =
-    let two = c.in_ok-begun.ensures.ok in
+    let two = c.in_ok-begun.ensures.ok.2 in
     (two.was.core, core_begun g.R.ReadCalls.calls c.args.limits c.args.skip c.args.readers.now _ _ c.in_ok-begun.begun _ two)
 
 pub returns-in-Err-clause-refused : goal.returns-in-Err-clause-refused
 returns-in-Err-clause-refused g c =
-    rest_refused g.R.ReadCalls.calls c.args.limits c.args.skip c.args.readers.now _ _ c.in_ok-begun.begun _ c.in_ok-begun.ensures.ok c.keep_core.new.reader _ c.in-Err.ensures.refused
+    rest_refused g.R.ReadCalls.calls c.args.limits c.args.skip c.args.readers.now _ _ c.in_ok-begun.begun _ c.in_ok-begun.ensures.ok.2 c.keep_core.new.reader _ c.in-Err.ensures.refused
 
 pub returns-in-Ok-clause-ok : goal.returns-in-Ok-clause-ok
 returns-in-Ok-clause-ok g c =
-    both_read g.R.ReadCalls.calls c.args.limits c.args.skip c.args.readers.now _ _ c.in_ok-begun.begun _ c.in_ok-begun.ensures.ok c.keep_core.new.reader _ _ _ _ _ c.in-Ok.ensures.ok
+    both_read g.R.ReadCalls.calls c.args.limits c.args.skip c.args.readers.now _ _ c.in_ok-begun.begun _ c.in_ok-begun.ensures.ok.2 c.keep_core.new.reader _ _ _ _ _ c.in-Ok.ensures.ok
     (λ core kept. record {
-      texts = rw (← c.as_slice.ensures.value) c.read_by_texts-read.ensures.texts;
-      read = rw (← c.as_slice.ensures.value) c.read_by_texts-read.ensures.read.read;
-      unread = rw (← c.as_slice.ensures.value) c.read_by_texts-read.ensures.read.unread;
+      texts = λ few. c.in_ok-begun.ensures.ok.1.texts;
+      read = c.in_ok-begun.ensures.ok.1.read;
+      unread = c.in_ok-begun.ensures.ok.1.unread;
       kept = kept;
     })

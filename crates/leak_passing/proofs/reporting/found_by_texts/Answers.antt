@@ -5,7 +5,7 @@ use Rattle.std.proofs.lemmas.Result.{IfOk-weaker}
 use Rattle.leak_report.specs.Report.{text_of}
 use Rattle.leak_report.specs.Totals.{HaveCallersIn}
 use Rattle.leak_search.proofs.InputLemmas.{leaked_count}
-use Rattle.leak_passing.specs.ByTexts.{numbers_in}
+use Rattle.leak_replaying.specs.Texts.{numbers_in}
 use Rattle.leak_passing.proofs.ByTextLemmas.{alike, placed}
 use Rattle.leak_passing.proofs.reporting.found_by_texts.Goals as goal
 

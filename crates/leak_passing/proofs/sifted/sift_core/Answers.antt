@@ -36,16 +36,16 @@ pub returns-clause-ok : goal.returns-clause-ok
 returns-clause-ok g c =
     let front = c.args.front in
     let rule = rule_by c.args.skip c.args.live.now.blocks in
-    let is : c.new-sifting.result ≡ begun rule front.segments.items front.head =
-    c.new-sifting.ensures ∙ ap (λ (r : Rule). begun r c.as_slice-parts.result.now front.head) c.new-sieve.ensures
+    let is : c.make_room.new.sifting ≡ begun rule front.segments.items front.head =
+    c.make_room.ensures ∙ c.new-sifting.ensures ∙ ap (λ (r : Rule). begun r c.as_slice-parts.result.now front.head) c.new-sieve.ensures
     ∙ ap (λ (l : List Segment). begun rule l front.head) c.as_slice-parts.ensures.value in
     let cut : take (length c.as_slice-bytes.result.now - front.head) (drop front.head c.as_slice-bytes.result.now) ≡ drop front.head front.held.items =
     left_whole front.head c.as_slice-bytes.result.now ∙ ap (λ (l : List ℕ). drop front.head l) c.as_slice-bytes.ensures.value in
-    let begins = subst (λ (l : List ℕ). Takes c.new-sifting.result l c.take.new.self) cut c.in_ok-take.ensures.ok in
+    let begins = subst (λ (l : List ℕ). Takes c.make_room.new.sifting l c.take.new.self) cut c.in_ok-take.ensures.ok in
     let rest = c.in_ok-sift_pieces.ensures.ok in
-    let all = takes_both c.new-sifting.result c.take.new.self c.sift_pieces.new.sifting (drop front.head front.held.items) rest.0 begins rest.1.taken in
-    let counted = c.finish-words.ensures.bytes _ (taken_all rule front.segments.items front.head c.new-sifting.result c.sift_pieces.new.sifting _ is all) in
+    let all = takes_both c.make_room.new.sifting c.take.new.self c.sift_pieces.new.sifting (drop front.head front.held.items) rest.0 begins rest.1.taken in
+    let counted = c.finish-words.ensures.bytes _ (taken_all rule front.segments.items front.head c.make_room.new.sifting c.sift_pieces.new.sifting _ is all) in
     λ first at.
     keeps g.R.ReadCalls.calls c.args.limit first c.args.reader.now c.sift_pieces.new.reader c.args.skip c.args.live.now.blocks front at
-    c.new-sifting.result c.take.new.self c.sift_pieces.new.sifting rest.0 c.truncate.new.self.items c.finish-words.result.0 c.finish-words.result.1 is begins rest.1
+    c.make_room.new.sifting c.take.new.self c.sift_pieces.new.sifting rest.0 c.truncate.new.self.items c.finish-words.result.0 c.finish-words.result.1 is begins rest.1
     c.truncate.ensures.items (subst AreBytes c.as_slice-bytes.ensures.value c.are_bytes.ensures) c.finish-words.ensures.words counted

@@ -23,7 +23,7 @@ push_gaps-requires-clause-ascends g c =
 
 pub loop-segment-init : goal.loop-segment-init
 loop-segment-init g c =
-    let none : HasNone c.args.spans.now c.new-kept.result = record { memory = rw c.new-kept.ensures.memory c.new.ensures.items; inside = c.new-kept.ensures.inside; same = c.new-kept.ensures.spans } in
+    let none : HasNone c.args.spans.now c.new-kept.result = record { memory = rw c.new-kept.ensures.memory c.in_ok-with_capacity.ensures.items; inside = c.new-kept.ensures.inside; same = c.new-kept.ensures.spans } in
     record {
       none = none;
       found = found_first c.args.unwritable c.args.image.now c.args.blocks.now c.args.spans.now c.new-kept.result c.requires.apart none;

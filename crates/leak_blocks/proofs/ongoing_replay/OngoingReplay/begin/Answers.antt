@@ -11,6 +11,7 @@ use Rattle.leak_blocks.proofs.PartLemmas.{own_limit}
 use Rattle.leak_blocks.proofs.StepLemmas.{displaced_fits}
 use Rattle.leak_blocks.proofs.PlacedLemmas.{of_as, placed_as, placed_of}
 use Rattle.leak_blocks.proofs.OngoingReplayLemmas.{left_of, ended, after_displacing}
+use Rattle.leak_blocks.proofs.WindowLemmas.{grown_allocated}
 use Rattle.leak_blocks.proofs.ongoing_replay.OngoingReplay.begin.Goals as goal
 use Rattle.leak_blocks.proofs.ongoing_replay.OngoingReplay.begin.Goals.{then-near, else-near}
 
@@ -43,8 +44,8 @@ limit-high-requires c =
     let of : AreOf c.args.self.now.allocated.items c.place.new.numbers.entries so_far.numbered = placed_of lines c.args.self.now.allocated.items c.args.self.now.numbers.entries c.args.self.now.run.items c.args.self.now.low c.args.self.now.high c.args.self.now.unknown c.args.self.now.displaced so_far c.place.new.numbers.entries placed in
     (unmet c.args.line.now so_far.numbered, of_as _ _ _ _ c.as_slice-then-near.ensures.value (left_of lines c.args.line.now c.args.self.now.allocated.items c.args.self.now.numbers.entries c.args.self.now.run.items c.args.self.now.low c.args.self.now.high c.args.self.now.unknown c.args.self.now.displaced so_far c.displace.new.numbers.entries (c.displace.ensures.unmet _ (of_as _ _ _ _ c.as_slice-2.ensures.value of))))
 
-pub returns : goal.returns
-returns c = λ lines n after.
+pub returns-clause-after : goal.returns-clause-after
+returns-clause-after c = λ lines n after.
     let so_far : IsRunAfter lines c.args.self.now.allocated.items c.args.self.now.numbers.entries c.args.self.now.run.items c.args.self.now.low c.args.self.now.high c.args.self.now.unknown c.args.self.now.displaced = after in
     let placed : ArePlacedOf c.args.self.now.allocated.items c.args.self.now.numbers.entries c.args.self.now.run.items c.place.new.numbers.entries = placed_as c.args.self.now.allocated.items c.as_slice.result.now c.args.self.now.numbers.entries c.place.new.numbers.entries c.args.self.now.run.items c.deref.result.now c.as_slice.ensures.value c.deref.ensures.value c.in_ok-place.ensures in
     let of : AreOf c.args.self.now.allocated.items c.place.new.numbers.entries so_far.numbered = placed_of lines c.args.self.now.allocated.items c.args.self.now.numbers.entries c.args.self.now.run.items c.args.self.now.low c.args.self.now.high c.args.self.now.unknown c.args.self.now.displaced so_far c.place.new.numbers.entries placed in
@@ -62,3 +63,8 @@ returns c = λ lines n after.
     after_displacing lines c.args.line.now c.args.self.now.allocated.items c.args.self.now.numbers.entries c.args.self.now.run.items c.args.self.now.low c.args.self.now.high c.args.self.now.unknown c.args.self.now.displaced so_far c.requires.allocates last (omega arith) c.push-2.new.self.items longer
     c.displace.new.numbers.entries c.displace.result c.if-near.high c.push.new.self.items (c.displace.ensures.unmet _ (of_as _ _ _ _ c.as_slice-2.ensures.value of)) (c.displace.ensures.count _ (of_as _ _ _ _ c.as_slice-2.ensures.value of))
     bound (c.in_ok-push.ensures.items ∙ ap (λ (l : List ℕ). l ++ c.len.result ∷ []) c.clear.ensures.items ∙ ap (λ (k : ℕ). k ∷ []) number)
+
+pub returns-clause-allocated : goal.returns-clause-allocated
+returns-clause-allocated c =
+    grown_allocated c.args.number c.args.line.now c.args.self.now.allocated.items c.push-2.new.self.items c.requires.allocates
+    (c.in_ok-push-2.ensures.items ∙ ap (λ (b : Block). c.args.self.now.allocated.items ++ b ∷ []) c.block_of.ensures)

@@ -1,0 +1,48 @@
+-- From the lemmas of FinishingLemmas.
+use Rattle.std.proofs.Common.{◌≡◌, ◌∙◌, ℕ, ◌<◌, List, length, refl, sym, subst, arith}
+use Rattle.std.specs.List.{All}
+use Rattle.leak_blocks.specs.Live.{Replay, replay_of}
+use Rattle.leak_replaying.specs.Texts.{numbers_in}
+use Rattle.leak_replaying.proofs.NumberingLemmas.{within_numbers}
+use Rattle.leak_replaying.proofs.FinishingLemmas.{lines_fit, live_below, places_long, AreSpansIf, comes_to, some_byte, spans_asked, spans_not_asked, live_have_texts}
+use Rattle.leak_replaying.proofs.finishing.finish.Goals as goal
+use Rattle.leak_replaying.proofs.finishing.finish.Goals.{then-spans+in_ok-small, else-spans}
+
+pub small_spans-requires : goal.small_spans-requires
+small_spans-requires c =
+    (c.requires.1, lines_fit c.args.log c.requires.0 c.requires.1 c.args.stage.allocated.items c.requires.2, c.requires.3)
+
+pub gather-requires : goal.gather-requires
+gather-requires c =
+    let inside : All (λ n. n < length c.args.stage.allocated.items) c.numbers.result.now = c.numbers.ensures.within c.requires.1 c.requires.3 in
+    subst (λ (ns : List ℕ). All (λ k. k < length ns) c.numbers.result.now) (sym c.as_slice.ensures.value)
+    (within_numbers c.requires.0 c.args.stage.allocated.items c.args.log.texts c.args.log.numbers.items c.numbers.result.now c.requires.2.texts inside)
+
+pub narrowed-requires : goal.narrowed-requires
+narrowed-requires c =
+    let inside : All (λ n. n < length c.args.stage.allocated.items) c.numbers.result.now = c.numbers.ensures.within c.requires.1 c.requires.3 in
+    let long : length c.finish-bytes.result.1.items ≡ length c.args.log.texts = places_long c.finish-bytes.result.0.items c.finish-bytes.result.1.items c.args.log.texts c.finish-bytes.ensures.texts in
+    let count : length c.args.log.texts ≡ c.len.result = omega (arith, c.len.ensures, long, c.finish-bytes.result.1.ok.0) in
+    subst (λ (n : ℕ). All (λ k. k < n) c.in_ok-numbers.numbers.items) count
+    (live_below c.args.log c.requires.0 c.requires.1 c.args.stage c.requires.2 c.requires.3 c.as_slice.result.now c.numbers.result.now c.in_ok-numbers.numbers.items
+    c.as_slice.ensures.value c.numbers.ensures.value inside c.in_ok-numbers.ensures)
+
+pub live-requires : goal.live-requires
+live-requires c =
+    (c.requires.1, lines_fit c.args.log c.requires.0 c.requires.1 c.args.stage.allocated.items c.requires.2, c.requires.3)
+
+pub returns : goal.returns
+returns c = λ passed lines has after end.
+    let read : Replay = c.in_ok-live.field-0 in
+    let live : read ≡ replay_of lines = c.in_ok-live.ensures lines after in
+    let torn = c.from.ensures ∙ some_byte c.args.log.window.items _ c.is_empty.result c.is_empty.ensures c.args.log.window.ok.0 in
+    let spans : AreSpansIf c.args.spans lines read c.if-spans.small =
+    elim c.if-spans.branch [
+      | then-spans+in_ok-small w ↦ rw w.small-is (spans_asked c.args.spans lines read _ w.if-spans.true live (w.in_ok-small.ensures lines after))
+      | else-spans w ↦ rw w.small-is (spans_not_asked c.args.spans lines read _ w.if-spans.false w.none-small.ensures)
+    ] in (
+      (lines, comes_to c.args.log passed lines c.args.stage.allocated.items _ has end.none_left live torn refl, spans),
+      live_have_texts c.args.log passed lines c.args.stage has after c.as_slice.result.now c.numbers.result.now c.in_ok-numbers.numbers.items c.as_slice.ensures.value c.numbers.ensures.value
+          (c.numbers.ensures.within lines after) c.in_ok-numbers.ensures read c.finish-bytes.result.0.items (numbers_in c.in_ok-narrowed.field-0) c.finish-bytes.result.1.items
+          live c.in_ok-narrowed.ensures c.finish-bytes.ensures.texts,
+    )

@@ -1,0 +1,45 @@
+-- From the lemmas of UnderwayLemmas.
+use Rattle.std.proofs.lemmas.Result.{err_from_is_err_and}
+use Rattle.leak_replaying.proofs.UnderwayLemmas.{no_memory, same_blocks}
+use Rattle.leak_replaying.proofs.replaying.replay_on.Goals as goal
+
+pub returns-in_err-arena-clause-stopped : goal.returns-in_err-arena-clause-stopped
+returns-in_err-arena-clause-stopped g c =
+    let p = err_from_is_err_and c.from_residual.result c.from_residual.ensures.1 in
+    rw (p.1, p.2) (λ first lines is. no_memory _ _ _ _ _ _ _ is.0)
+
+pub begin-requires : goal.begin-requires
+begin-requires g c = (c.requires.1, c.requires.2.1)
+
+pub returns-in_err-ongoing-clause-stopped : goal.returns-in_err-ongoing-clause-stopped
+returns-in_err-ongoing-clause-stopped g c =
+    let p = err_from_is_err_and c.from_residual-in_err-ongoing.result c.from_residual-in_err-ongoing.ensures.1 in
+    rw (p.1, p.2) (λ first lines is. no_memory _ _ _ _ _ _ _ is.0)
+
+pub fill-requires : goal.fill-requires
+fill-requires g c =
+    (c.requires.0, c.requires.1, (same_blocks _ _ _ _ _ _ _ _ c.in_ok-ongoing.ensures.allocated c.requires.2.0, c.in_ok-ongoing.ensures.after c.requires.1 c.requires.2.1))
+
+pub returns-in_err-more-clause-stopped : goal.returns-in_err-more-clause-stopped
+returns-in_err-more-clause-stopped g c =
+    let p = err_from_is_err_and c.from_residual-in_err-more.result c.from_residual-in_err-more.ensures.1 in
+    rw (p.1, p.2) (λ first lines is.
+    c.in_err-more.ensures.stopped first lines (same_blocks _ _ _ _ _ _ _ _ c.in_ok-ongoing.ensures.allocated is.0, c.in_ok-ongoing.ensures.after lines is.1))
+
+pub end-requires : goal.end-requires
+end-requires g c =
+    let gone = c.in_ok-more.ensures.ok c.requires.0 c.requires.1
+    (same_blocks _ _ _ _ _ _ _ _ c.in_ok-ongoing.ensures.allocated c.requires.2.0, c.in_ok-ongoing.ensures.after c.requires.1 c.requires.2.1) in
+    (gone.0, gone.1.1)
+
+pub returns-in_err-stage-clause-stopped : goal.returns-in_err-stage-clause-stopped
+returns-in_err-stage-clause-stopped g c =
+    let p = err_from_is_err_and c.from_residual-in_err-stage.result c.from_residual-in_err-stage.ensures.1 in
+    rw (p.1, p.2) (λ first lines is.
+    let gone = c.in_ok-more.ensures.ok first lines (same_blocks _ _ _ _ _ _ _ _ c.in_ok-ongoing.ensures.allocated is.0, c.in_ok-ongoing.ensures.after lines is.1) in
+    no_memory _ _ _ _ _ _ _ gone.1.0)
+
+pub returns-clause-ok : goal.returns-clause-ok
+returns-clause-ok g c = λ first lines is.
+    let gone = c.in_ok-more.ensures.ok first lines (same_blocks _ _ _ _ _ _ _ _ c.in_ok-ongoing.ensures.allocated is.0, c.in_ok-ongoing.ensures.after lines is.1) in
+    (gone.0, (same_blocks _ _ _ _ _ _ _ _ c.in_ok-stage.ensures.allocated gone.1.0, c.in_ok-stage.ensures.after gone.0 gone.1.1))

@@ -1,0 +1,74 @@
+//! The texts of the callers of blocks, kept in place of the log that has them.
+
+ghost use Rattle.std.specs.Prelude.{◌≡◌, ◌<◌, ℕ, List, [], All, IfOk};
+ghost use Rattle.leak_replaying.specs.Texts.{AreKeptOf, numbers_in};
+
+use std::alloc::{AllocError, Global};
+
+/// Numbers of texts, one for each block. Few texts are common: a log of a process that was not traced has one for each
+/// size of its chunks.
+#[derive(Drop)]
+pub enum Numbers {
+    /// Those of at most 256 texts.
+    Few(Vec<u8>),
+    Many(Vec<u32>),
+}
+
+/// The texts of the callers of blocks, each once.
+#[derive(Drop)]
+pub struct KeptTexts {
+    /// The texts, one after another.
+    pub bytes: Vec<u8>,
+    /// For each text its range of these bytes, with its end excluded.
+    pub places: Vec<(usize, usize)>,
+    /// For each block which of the places its text has.
+    pub numbers: Numbers,
+}
+
+impl KeptTexts {
+    /// Those of no block.
+    pub(crate) fn none(alloc: Global) -> KeptTexts
+        ensures { (log : List ℕ) → AreKeptOf log [] result }
+    {
+        KeptTexts {
+            bytes: Vec::new(alloc),
+            places: Vec::new(alloc),
+            numbers: Numbers::Few(Vec::new(alloc)),
+        }
+    }
+}
+
+/// The numbers of blocks among so many texts, in one byte each if that is enough: a list of them stands beside the core's
+/// words until the report is written.
+pub(crate) fn narrowed(
+    alloc: Global,
+    numbers: Vec<u32>,
+    texts: usize,
+) -> Result<Numbers, AllocError>
+    requires { All (λ n. n < texts) numbers.items }
+    ensures { IfOk result (λ narrow. numbers_in narrow ≡ numbers.items) }
+{
+    if texts > 256 {
+        return Ok(Numbers::Many(numbers));
+    }
+    let mut narrow = Vec::with_capacity(alloc, numbers.len())?;
+    for k in 0..numbers.len() {
+        narrow.push(numbers[k] as u8)?;
+    }
+    Ok(Numbers::Few(narrow))
+}
+
+/// The numbers, as a list of numbers of 32 bits.
+pub fn widened(alloc: Global, numbers: Numbers) -> Result<Vec<u32>, AllocError>
+    ensures { IfOk result (λ list. list.items ≡ numbers_in numbers) }
+{
+    let narrow = match numbers {
+        Numbers::Many(numbers) => return Ok(numbers),
+        Numbers::Few(narrow) => narrow,
+    };
+    let mut list = Vec::with_capacity(alloc, narrow.len())?;
+    for k in 0..narrow.len() {
+        list.push(u32::from(narrow[k]))?;
+    }
+    Ok(list)
+}

@@ -1,0 +1,4 @@
+-- The lemmas of this crate, by subject.
+pub mod PlaceLemmas
+pub mod FindingLemmas
+pub mod TableLemmas
