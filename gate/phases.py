@@ -56,6 +56,7 @@ PHASES = (
     Phase("proofs", 110, (), (Step(f"{GIVE_WAY} rt ci", ""),)),
     Phase("cases", 5, (f"{OUT}/leak_cli", f"{OUT}/leak_cli.by-rattle"), (
         Step("python3 gate/phases_test.py"),
+        Step("python3 gate/again_test.py"),
         Step("python3 gate/cases_test.py"),
         Step("python3 gate/passes_test.py"),
         Step("python3 setup/options_test.py"),
@@ -66,7 +67,7 @@ PHASES = (
         Step(f"python3 gate/cases.py {OUT}/leak_cli {OUT}/leak_cli.by-rattle", "cases: ")), beside=True, after=BUILT),
     Phase("examples", 15, (f"{OUT}/leak_cli",), (
         Step("make -j $(nproc) -C capture"),
-        Step(f"LEAK_FIND=$PWD/{OUT}/leak_cli capture/tests/run.sh known report", "capture: "),
+        Step(f"LEAK_FIND=$PWD/{OUT}/leak_cli python3 gate/again.py capture/tests/run.sh known report", "capture: "),
         Step(f"examples/run.sh $PWD/{OUT}/leak_cli", "examples: "))),
     Phase("capture", 45, (), (
         Step("make -j $(nproc) -C capture"),
@@ -77,8 +78,13 @@ PHASES = (
     Phase("script", 20, (), (Step(f"{GIVE_WAY} python3 gate/wrong_bodies_test.py", "test of the script: "),), beside=True),
 )
 
+# The lines by which commands tell what failed. They are said once more at the end, since of a long run often only that is kept.
+FAILURE = re.compile(rb"(FAIL|FAILED|ERROR)\b|\S+: (NOT REFUSED|FAULT): |rt: .*\bfailed\b")
+MOST_FAILURES = 50
+
 printing = threading.Lock()
 running = set()
+failures = []
 ended = threading.Event()
 # By the lines that phases wait for: whether each was printed, or the first lane has ended.
 awaited = {}
@@ -117,6 +123,8 @@ def copy_lines(source, label, lines):
             with printing:
                 sys.stdout.buffer.write(label.encode() + line)
                 sys.stdout.buffer.flush()
+                if FAILURE.match(line) and len(failures) < MOST_FAILURES:
+                    failures.append(label + line.decode(errors="replace").rstrip())
             if line.strip():
                 lines[:] = [line.decode(errors="replace").rstrip()]
 
@@ -246,10 +254,12 @@ def pass_lanes(lanes, words):
 
 
 def pass_all(phases, words=()):
-    """Passes the phases in order, prints a table and the sum of all, and gives the exit status."""
+    """Passes the phases in order, prints what failed, a table and the sum of all, and gives the exit status."""
+    failures.clear()
     rows = pass_lanes(lanes_of(phases), words)
     whole = sum((result for _, _, result in rows), Result())
-    say(f"\n{'phase':<10}{'minutes':>7}  result")
+    for line in ("", *failures, *([""] if failures else []), f"{'phase':<10}{'minutes':>7}  result"):
+        say(line)
     for name, minutes, result in rows:
         say(f"{name:<10}{minutes:>7}  {result}")
     say(f"{whole.passed} passed, {whole.failed} failed")

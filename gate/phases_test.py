@@ -102,6 +102,22 @@ class Counting(unittest.TestCase):
     def test_blank_lines_and_standard_error_come_after_a_count(self):
         self.check("3 passed, 0 failed", Step("echo 3 passed, 0 failed; echo; echo noise >&2", ""), status=0)
 
+    def test_what_failed_is_said_again_before_the_table(self):
+        lines, _ = lines_of(phase(Step("echo FAIL it is cold; echo ok FAIL; echo it.edit: NOT REFUSED: why; echo 3 passed, 2 failed", "")),
+                            phase(Step("echo FAILED: a case; echo 4 passed, 1 failed", ""), name="two")._replace(beside=True))
+        end = lines.index("phase     minutes  result")
+        self.assertEqual(lines[end - 5], "")
+        self.assertEqual(set(lines[end - 4:end - 1]), {"one: FAIL it is cold", "one: it.edit: NOT REFUSED: why", "two: FAILED: a case"})
+        self.assertEqual(lines[end - 1], "")
+
+    def test_of_many_failures_the_first_are_said_again(self):
+        lines, _ = lines_of(phase(Step("for number in $(seq 60); do echo FAIL $number; done; echo 3 passed, 60 failed", "")))
+        self.assertEqual((lines.count("FAIL 50"), lines.count("FAIL 51")), (2, 1))
+
+    def test_where_nothing_failed_nothing_is_said_again(self):
+        lines, _ = lines_of(phase(Step("echo 3 passed, 0 failed", "")))
+        self.assertEqual(lines[-4:-2], ["", "phase     minutes  result"])
+
 
 class Ending(unittest.TestCase):
     """Time limits, and what is missing."""

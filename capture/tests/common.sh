@@ -33,6 +33,7 @@ finish() {
     rm -rf "$work"
     [ "$complete" ] || { echo "FAIL the tests ended before their end, with status $status"; failed=$((failed + 1)); }
     [ $left_out = 0 ] || echo "$left_out left out, which can't be tried here"
+    [ ! "$complete" ] || [ ! "${failing-}" ] || echo "parts with failures:$failing"
     echo "capture: $passed passed, $failed failed"
     [ $failed = 0 ] && exit 0
     exit 1 # `exit` alone would give the status from before the trap

@@ -2,7 +2,7 @@
 # Builds programs whose leaks are known, captures each, and compares leak_find's report with what was lost. Then
 # stops at each instruction, threads, two dumps, crashes, and what keeps a program from being traced. `run.sh --quick`
 # leaves out what takes long, `run.sh PART..` runs these parts alone. LEAK_FIND names leak_find. The last line is
-# `capture: N passed, M failed`.
+# `capture: N passed, M failed`; if a test failed, a line `parts with failures: PART..` comes before it.
 #
 # Dumps are taken by leak_core, which must be allowed to stop a process of ours. If it is not (a container without
 # SYS_PTRACE, kernel.yama.ptrace_scope above 0), the tests kill each program and take the kernel's core, and leave out
@@ -12,6 +12,7 @@
 quick=
 [ "${1-}" = --quick ] && quick=1 && shift
 readonly chosen_parts=$*
+failing=
 for name in $chosen_parts; do
     grep -q "^ *part $name\b" "$kit/tests/run.sh" || { echo "run.sh: no part $name" >&2; exit 2; }
 done
@@ -22,7 +23,9 @@ part() {
     if [ "$chosen_parts" ] && [[ " built $chosen_parts " != *" $1 "* ]]; then
         return
     elif [ $# = 1 ] || [ "$2" ]; then
+        local failed_before=$failed
         . "$kit/tests/$1.sh"
+        [ $failed = $failed_before ] || failing+=" $1"
     else
         leave_out "$1.sh, for want of dumps"
     fi
