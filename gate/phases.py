@@ -63,6 +63,7 @@ PHASES = (
         Step(f"python3 setup/options.py --check {OUT}/leak_cli"),
         Step(f"python3 gate/terminal.py {OUT}/leak_cli {OUT}/leak_cli.by-rattle", "terminal: "),
         Step(f"python3 gate/threads.py {OUT}/leak_cli {OUT}/leak_cli.by-rattle", "threads: "),
+        Step(f"python3 gate/memory.py {OUT}/leak_cli {OUT}/leak_cli.by-rattle", "memory: "),
         Step(f"python3 gate/passes.py {OUT}/leak_cli {OUT}/leak_cli.by-rattle", "passes: "),
         Step(f"python3 gate/cases.py {OUT}/leak_cli {OUT}/leak_cli.by-rattle", "cases: ")), beside=True, after=BUILT),
     Phase("examples", 15, (f"{OUT}/leak_cli",), (

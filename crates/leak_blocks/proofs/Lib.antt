@@ -20,3 +20,4 @@ pub mod PartLemmas
 pub mod PlacedLemmas
 pub mod OngoingReplayLemmas
 pub mod WindowLemmas
+pub mod RenumberLemmas

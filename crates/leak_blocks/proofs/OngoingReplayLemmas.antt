@@ -13,15 +13,13 @@ use Rattle.leak_blocks.specs.declared.block.Block.{Block}
 use Rattle.leak_blocks.specs.Span.{AreDisjoint, span_end}
 use Rattle.leak_blocks.specs.Live.{live_of, replay_of, block_of, is_allocation, is_give_back, gives_back, among}
 use Rattle.leak_blocks.specs.Steps.{meets}
-use Rattle.leak_blocks.specs.Numbers.{HavePlacesOf, IsNumbered, IsNumberOf, AreNumbersOf, IsAllocationAt, entries_of, AreOf}
+use Rattle.leak_blocks.specs.Numbers.{IsNumbered, IsNumberOf, AreNumbersOf, IsAllocationAt, entries_of, AreOf}
 use Rattle.leak_blocks.specs.Runs.{ArePlacedOf, IsSplit, IsRunAfter}
 use Rattle.leak_blocks.proofs.DisjointLemmas.{live_disjoint}
 use Rattle.leak_blocks.proofs.OrderLemmas.{all_filter, filter_disjoint}
 use Rattle.leak_blocks.proofs.NumberLemmas.{all_weaker, none_met}
 use Rattle.leak_blocks.proofs.NumberedLemmas.{last_get, stand_longer, all_numbered, IsOfPlace, stand_filter, stand_count, stand_any, stand_among, end_of_place, stand_disjoint}
 use Rattle.leak_blocks.proofs.ChangeLemmas.{elsewhere, unmet, all_unmet, removed, looked_up, counted}
-use Rattle.leak_blocks.proofs.GrowthLemmas.{allocates_nothing}
-use Rattle.leak_blocks.proofs.PlaceLemmas.{places_grown, places_kept}
 use Rattle.leak_blocks.proofs.StepLemmas.{one_if, blocks_allocated, unknown_allocated, displaced_allocated, blocks_given, unknown_given, displaced_given, blocks_other, unknown_other, displaced_other}
 use Rattle.leak_blocks.proofs.RunLemmas.{all_front, all_both, all_back, all_two, disjoint_apart, ends_before, among_between, elsewhere_all, elsewhere_out, begins_apart, begins_listed, IsLastHeld, last_held, IsCut, cut, unmet_apart}
 use Rattle.leak_blocks.proofs.PlacedLemmas.{run_of, stand_live, after_placing}
@@ -114,9 +112,6 @@ module _ (lines : List Line) (x : Line) (allocated : List Block) (entries : List
       stand_all : AreNumbersOf longer (among new (unmet x first)) (live_of (lines ++ x ∷ []))
       stand_all = subst (λ (l : List Block). AreNumbersOf l (among new (unmet x first)) (live_of (lines ++ x ∷ []))) (sym is_longer) stand_after
 
-      places_after : HavePlacesOf (lines ++ x ∷ []) longer
-      places_after = places_grown lines x (length lines + 1) allocated longer a is_longer so_far.places
-
       -- above the run, and below what is above it
       pub after_pushing : low < x.addr → last < high → (pushed : List ℕ) → pushed ≡ run ++ length allocated ∷ [] → IsRunAfter (lines ++ x ∷ []) longer entries pushed last high unknown displaced
       after_pushing l h pushed e =
@@ -131,7 +126,7 @@ module _ (lines : List Line) (x : Line) (allocated : List Block) (entries : List
           let no_count : 0 ≡ count_by (meets x) first = omega (arith, counted x first, ap length kept) in
           let same : displaced + 0 ≡ displaced = omega arith in
           run_of (lines ++ x ∷ []) longer (among new (unmet x first)) s.below (s.held ++ new ∷ []) s.above entries pushed last high unknown displaced stand_all (among_parts s.below s.held s.above (kept ∙ s.whole) front back) s.between.mapped
-          (e ∙ ap (λ (ns : List ℕ). ns ++ length allocated ∷ []) s.between.listed ∙ sym (map-append (λ (b : Block). b.line) s.held (new ∷ []))) (lower s.below s.held front) s.upper missed (sym same ∙ ended 0 no_count) places_after
+          (e ∙ ap (λ (ns : List ℕ). ns ++ length allocated ∷ []) s.between.listed ∙ sym (map-append (λ (b : Block). b.line) s.held (new ∷ []))) (lower s.below s.held front) s.upper missed (sym same ∙ ended 0 no_count)
 
       -- elsewhere: it begins a new run
       pub after_displacing : (left : List (ℕ × ℕ)) (count limit : ℕ) (alone : List ℕ) → left ≡ entries_of (unmet x first) → count ≡ count_by (meets x) first →
@@ -141,7 +136,7 @@ module _ (lines : List Line) (x : Line) (allocated : List Block) (entries : List
           let w : unmet x first ≡ (c.front ++ []) ++ c.back = c.whole ∙ ap (λ (l : List Block). l ++ c.back) (sym (append-nil c.front)) in
           let front : AllByRecursion (λ d. span_end d ≤ x.addr) (c.front ++ []) = subst (AllByRecursion (λ d. span_end d ≤ x.addr)) (sym (append-nil c.front)) c.ends in
           run_of (lines ++ x ∷ []) longer (among new (unmet x first)) c.front (new ∷ []) c.back left alone last limit unknown (displaced + count) stand_all (among_parts c.front [] c.back w front c.begins) (e ∙ ap entries_of c.whole) r (lower c.front [] front) (upper c bound)
-          missed (ended count k) places_after
+          missed (ended count k)
         where
           upper : (c : IsCut x.addr last (unmet x first)) → AllByRecursion (λ b. (b.start < last) ⊎ (limit ≤ b.start)) (unmet x first) → AllByRecursion (λ b. limit ≤ b.start) c.back
           upper c all = all_two (λ b. (b.start < last) ⊎ (limit ≤ b.start)) (λ b. last < b.start) (λ b. limit ≤ b.start) beyond c.back
@@ -153,9 +148,6 @@ module _ (lines : List Line) (x : Line) (allocated : List Block) (entries : List
 
   -- a give-back
   module _ (g : is_give_back x ≡ true) where
-    places_same : HavePlacesOf (lines ++ x ∷ []) allocated
-    places_same = places_kept lines x allocated (allocates_nothing x g) so_far.places
-
     ended_same : displaced ≡ (replay_of (lines ++ x ∷ [])).displaced
     ended_same = so_far.ended ∙ sym (displaced_given lines x g)
 
@@ -183,7 +175,7 @@ module _ (lines : List Line) (x : Line) (allocated : List Block) (entries : List
         (ap (elsewhere x.addr) w ∙ subst (λ (k : ℕ). elsewhere k ((s.below ++ l.others) ++ l.block ∷ s.above) ≡ (s.below ++ l.others) ++ s.above) begins (elsewhere_out (s.below ++ l.others) l.block s.above order))
         s.between.mapped l.listed
         (all_weaker (λ c. span_end c ≤ l.block.start) (λ c. span_end c ≤ lower + 1) (λ c m. omega (arith, m, begins, minus)) (s.below ++ l.others) (ends_before l.block s.above (s.below ++ l.others) order)) s.upper
-        (omega (arith, so_far.missed, unknown_given lines x g, ap {B = ℕ} (λ (t : Bool). one_if (not t)) (sym any_given ∙ listed))) ended_same places_same
+        (omega (arith, so_far.missed, unknown_given lines x g, ap {B = ℕ} (λ (t : Bool). one_if (not t)) (sym any_given ∙ listed))) ended_same
 
     -- of a block of the map, or of none
     pub after_removing : AllByRecursion (λ b. b.start ≢ x.addr) parts.held → (fewer : List (ℕ × ℕ)) (old : Option ℕ) (count : ℕ) → fewer ≡ remove_entry (is_at (nat_cmp x.addr)) entries →
@@ -203,14 +195,14 @@ module _ (lines : List Line) (x : Line) (allocated : List Block) (entries : List
         (all_both (λ b. span_end b ≤ low + 1) (elsewhere x.addr s.below) s.held (all_filter (λ b. span_end b ≤ low + 1) (λ b. not (x.addr == b.start)) s.below (all_front (λ b. span_end b ≤ low + 1) s.below s.held s.lower))
         (all_back (λ b. span_end b ≤ low + 1) s.below s.held s.lower))
         (all_filter (λ b. high ≤ b.start) (λ b. not (x.addr == b.start)) s.above s.upper)
-        (omega (arith, so_far.missed, unknown_given lines x g, k, ap {B = ℕ} (λ (t : Bool). one_if (not t)) (found ∙ any_given))) ended_same places_same
+        (omega (arith, so_far.missed, unknown_given lines x g, k, ap {B = ℕ} (λ (t : Bool). one_if (not t)) (found ∙ any_given))) ended_same
 
   -- any other line
   pub after_other : is_allocation x ≡ false → is_give_back x ≡ false → IsRunAfter (lines ++ x ∷ []) allocated entries run low high unknown displaced
   after_other a g =
       let s : IsSplit allocated entries run low high first = parts in
       run_of (lines ++ x ∷ []) allocated first s.below s.held s.above entries run low high unknown displaced (subst (AreNumbersOf allocated first) (sym (blocks_other lines x a g)) stand_first) s.whole s.between.mapped s.between.listed s.lower s.upper
-      (so_far.missed ∙ sym (unknown_other lines x a g)) (so_far.ended ∙ sym (displaced_other lines x a g)) (places_kept lines x allocated a so_far.places)
+      (so_far.missed ∙ sym (unknown_other lines x a g)) (so_far.ended ∙ sym (displaced_other lines x a g))
 
 -- a give-back, with all blocks in the map
 module _ (lines : List Line) (x : Line) (allocated : List Block) (entries : List (ℕ × ℕ)) (run : List ℕ) (low high unknown displaced : ℕ) (so_far : IsRunAfter lines allocated entries run low high unknown displaced)

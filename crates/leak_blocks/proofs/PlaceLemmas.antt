@@ -1,5 +1,5 @@
 -- The blocks of all allocations have the places of the log's allocations.
-use Rattle.std.proofs.Common.{◌≡◌, ℕ, ◌+◌, ◌^◌, ◌<◌, Bool, true, false, ◌&&◌, List, [], ◌∷◌, ◌++◌, map, filter, cond, refl, sym, subst, ap, ◌∙◌, append-nil, nat_lt}
+use Rattle.std.proofs.Common.{◌≡◌, ℕ, ◌+◌, ◌^◌, ◌<◌, Bool, true, false, ◌&&◌, List, [], ◌∷◌, ◌++◌, map, filter, cond, refl, sym, subst, ap, ◌∙◌, append-nil, nat_lt, if◌then◌else◌, ap₂}
 use Rattle.std.specs.List.{AllByRecursion}
 use Rattle.std.proofs.lemmas.List.{map-append}
 use Rattle.std.proofs.lemmas.List.Elements.{filter-append}
@@ -11,6 +11,7 @@ use Rattle.leak_blocks.specs.Live.{block_of, is_allocation}
 use Rattle.leak_blocks.specs.Numbers.{places_of, HavePlacesOf}
 use Rattle.leak_blocks.specs.Small.{is_small, span_of, span_at, small_spans_of, is_small_block, block_span, small_block_spans}
 use Rattle.leak_blocks.specs.Span.{IsAddressed, AreAddressed}
+use Rattle.leak_blocks.specs.Windows.{allocated_by, grown_by}
 use Rattle.leak_blocks.proofs.LineLemmas.{addressed_line}
 
 abbrev place : Block → ℕ × ℕ
@@ -37,6 +38,34 @@ places_grown lines x number allocated longer a l h =
 pub places_kept : (lines : List Line) (x : Line) (allocated : List Block) → is_allocation x ≡ false → HavePlacesOf lines allocated → HavePlacesOf (lines ++ x ∷ []) allocated
 places_kept lines x allocated a h =
     h ∙ sym (places_more lines x ∙ ap (λ (xs : List Line). places_of lines ++ map line_place xs) (alone x false a) ∙ append-nil (places_of lines))
+
+-- ---- one line more, or more lines, as a replay holds their blocks
+
+pub places_stepped : (lines : List Line) (x : Line) (number : ℕ) (old new : List Block) → new ≡ grown_by number x old → HavePlacesOf lines old → HavePlacesOf (lines ++ x ∷ []) new
+places_stepped lines x number old new e h = go (is_allocation x) refl
+  where
+    grown : (t : Bool) → is_allocation x ≡ t → new ≡ (if t then old ++ block_of number x ∷ [] else old)
+    grown t a = e ∙ ap (λ (s : Bool). if s then old ++ block_of number x ∷ [] else old) a
+
+    go : (t : Bool) → is_allocation x ≡ t → HavePlacesOf (lines ++ x ∷ []) new
+    go true a = places_grown lines x number old new a (grown true a) h
+    go false a = subst (HavePlacesOf (lines ++ x ∷ [])) (sym (grown false a)) (places_kept lines x old a h)
+
+allocated_places : (n : ℕ) (lines : List Line) → map place (allocated_by n lines) ≡ places_of lines
+allocated_places n [] = refl
+allocated_places n (x ∷ lines) = go (is_allocation x) (allocated_places (n + 1) lines)
+  where
+    go : (t : Bool) → map place (allocated_by (n + 1) lines) ≡ places_of lines
+        → map place (if t then block_of (n + 1) x ∷ allocated_by (n + 1) lines else allocated_by (n + 1) lines) ≡ map line_place (cond t (x ∷ filter is_allocation lines) (filter is_allocation lines))
+    go true rest = ap (λ (ps : List (ℕ × ℕ)). line_place x ∷ ps) rest
+    go false rest = rest
+
+pub places_by : (lines more : List Line) (n : ℕ) (old new : List Block) → new ≡ old ++ allocated_by n more → HavePlacesOf lines old → HavePlacesOf (lines ++ more) new
+places_by lines more n old new e h =
+    ap (map place) e
+    ∙ map-append place old (allocated_by n more)
+    ∙ ap₂ (λ (ps qs : List (ℕ × ℕ)). ps ++ qs) h (allocated_places n more)
+    ∙ sym (ap (map line_place) (filter-append is_allocation lines more) ∙ map-append line_place (filter is_allocation lines) (filter is_allocation more))
 
 -- ---- they end within the address space
 

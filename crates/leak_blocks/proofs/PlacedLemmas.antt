@@ -5,7 +5,7 @@ use Rattle.leak_mtrace.specs.declared.line.Line.{Line}
 use Rattle.leak_blocks.specs.declared.block.Block.{Block}
 use Rattle.leak_blocks.specs.Span.{AreDisjoint, span_end}
 use Rattle.leak_blocks.specs.Live.{live_of, replay_of}
-use Rattle.leak_blocks.specs.Numbers.{HavePlacesOf, IsNumbered, AreNumbersOf, entries_of, AreOf, IsNumberedAfter}
+use Rattle.leak_blocks.specs.Numbers.{IsNumbered, AreNumbersOf, entries_of, AreOf, IsNumberedAfter}
 use Rattle.leak_blocks.specs.Runs.{AreBetween, MayBePlaced, ArePlacedOf, AreJoinedOf, IsSplit, IsRunAfter}
 use Rattle.leak_blocks.proofs.DisjointLemmas.{live_disjoint}
 use Rattle.leak_blocks.proofs.NumberedLemmas.{all_numbered, stand_disjoint}
@@ -15,9 +15,8 @@ use Rattle.leak_blocks.proofs.RunLemmas.{all_front, all_back, number_of_allocati
 -- the numbered blocks of the lines, in three parts
 pub run_of : (lines : List Line) (allocated numbered below held above : List Block) (entries : List (ℕ × ℕ)) (run : List ℕ) (low high unknown displaced : ℕ) → AreNumbersOf allocated numbered (live_of lines) → numbered ≡ (below ++ held) ++ above →
     entries ≡ entries_of (below ++ above) → run ≡ map (λ b. b.line) held → AllByRecursion (λ b. span_end b ≤ low + 1) (below ++ held) → AllByRecursion (λ b. high ≤ b.start) above →
-    unknown ≡ (replay_of lines).unknown → displaced ≡ (replay_of lines).displaced → HavePlacesOf lines allocated → IsRunAfter lines allocated entries run low high unknown displaced
-run_of lines allocated numbered below held above entries run low high unknown displaced n e m l lower upper u d places = record {
-  places = places;
+    unknown ≡ (replay_of lines).unknown → displaced ≡ (replay_of lines).displaced → IsRunAfter lines allocated entries run low high unknown displaced
+run_of lines allocated numbered below held above entries run low high unknown displaced n e m l lower upper u d = record {
   numbered = numbered;
   stand = subst (AreNumbersOf allocated numbered) (sym (replayed lines)) n;
   blocks = record {
@@ -65,13 +64,12 @@ module _ (lines : List Line) (allocated : List Block) (entries : List (ℕ × �
   pub after_placing : (placed : List (ℕ × ℕ)) (none : List ℕ) → ArePlacedOf allocated entries run placed → none ≡ [] → IsRunAfter lines allocated placed none low high unknown displaced
   after_placing placed none p e =
       run_of lines allocated so_far.numbered (s.below ++ s.held) [] s.above placed none low high unknown displaced stand_live (s.whole ∙ ap (λ (l : List Block). l ++ s.above) (sym (append-nil (s.below ++ s.held)))) (p s.below s.held s.above s.between) e
-      (subst (AllByRecursion (λ b. span_end b ≤ low + 1)) (sym (append-nil (s.below ++ s.held))) s.lower) s.upper so_far.missed so_far.ended so_far.places
+      (subst (AllByRecursion (λ b. span_end b ≤ low + 1)) (sym (append-nil (s.below ++ s.held))) s.lower) s.upper so_far.missed so_far.ended
 
   -- ---- the numbers of all
 
   pub numbers_after : (joined : List ℕ) → AreJoinedOf allocated entries run joined → IsNumberedAfter lines allocated joined unknown displaced
   numbers_after joined j = record {
-    places = so_far.places;
     blocks = record {
       numbered = so_far.numbered;
       stand = so_far.stand;
@@ -114,4 +112,4 @@ module _ (lines : List Line) (allocated : List Block) (numbers : List ℕ) (unkn
   all_above (b ∷ bs) = (omega arith, all_above bs)
 
   pub run_after : (none placed : List (ℕ × ℕ)) (run : List ℕ) → none ≡ [] → ArePlacedOf allocated none numbers placed → run ≡ [] → IsRunAfter lines allocated placed run 0 0 unknown displaced
-  run_after none placed run e p r = run_of lines allocated all [] [] all placed run 0 0 unknown displaced all_stand refl (p [] all [] (first_between none e) ∙ ap entries_of (append-nil all)) r tt (all_above all) after.missed after.ended after.places
+  run_after none placed run e p r = run_of lines allocated all [] [] all placed run 0 0 unknown displaced all_stand refl (p [] all [] (first_between none e) ∙ ap entries_of (append-nil all)) r tt (all_above all) after.missed after.ended

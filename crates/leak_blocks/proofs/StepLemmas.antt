@@ -113,7 +113,7 @@ module _ (lines : List Line) (x : Line) where
 
 pub numbered_none : (allocated : List Block) (numbers : List ℕ) → allocated ≡ [] → numbers ≡ [] → IsNumberedAfter [] allocated numbers 0 0
 unfolding replay_of live_of
-numbered_none allocated numbers f e = record { places = ap (map (λ (b : Block). (b.start, b.size))) f; blocks = record { numbered = []; stand = tt; listed = e }; missed = refl; ended = refl }
+numbered_none allocated numbers f e = record { blocks = record { numbered = []; stand = tt; listed = e }; missed = refl; ended = refl }
 
 -- ---- after the last line
 

@@ -1,4 +1,4 @@
--- The state of a replay between two lines: the blocks of all allocations so far, and a map from the start of each live one to the
+-- The state of a replay between two lines: the blocks of the allocations that are held, and a map from the start of each live one to the
 -- number of its allocation, counted from 0. A numbered block stands for a block: it has the number in place of the line.
 use Rattle.std.specs.Prelude.{◌≡◌, ◌+◌, ◌≤◌, ℕ, ⊤, true, false, List, [], ◌∷◌, map, Option, Some, None, filter, not, count_by, slice_get, slice_index, EachIndex}
 use Rattle.std.specs.List.{AllByRecursion, list_any}
@@ -97,13 +97,12 @@ CountUp first (n ∷ ns) = (n ≡ first) × CountUp (first + 1) ns
 abbrev pub places_of : List Line → List (ℕ × ℕ)
 places_of lines = map (λ x. (x.addr, x.size)) (filter is_allocation lines)
 
--- the blocks have these addresses and sizes
+-- the blocks are those of all allocations of the lines, by address and size
 abbrev pub HavePlacesOf : List Line → List Block → Type 0
 HavePlacesOf lines blocks = map (λ b. (b.start, b.size)) blocks ≡ places_of lines
 
--- the allocations, the numbers of the live ones and the counts after these lines
+-- the numbers of the live allocations and the counts after these lines. Allocations that ended may be let go
 pub record IsNumberedAfter (lines : List Line) (allocated : List Block) (numbers : List ℕ) (unknown displaced : ℕ) : Type 0 where
-  pub places : HavePlacesOf lines allocated
   pub blocks : AreNumbered allocated numbers (replay_of lines).blocks
   pub missed : unknown ≡ (replay_of lines).unknown
   pub ended : displaced ≡ (replay_of lines).displaced

@@ -47,9 +47,8 @@ pub record IsSplit (allocated : List Block) (entries : List (ℕ × ℕ)) (run :
   pub lower : AllByRecursion (λ b. span_end b ≤ low + 1) (below ++ held)
   pub upper : AllByRecursion (λ b. high ≤ b.start) above
 
--- the allocations, the map, the run and the counts after these lines
+-- the map, the run and the counts after these lines
 pub record IsRunAfter (lines : List Line) (allocated : List Block) (entries : List (ℕ × ℕ)) (run : List ℕ) (low high unknown displaced : ℕ) : Type 0 where
-  pub places : HavePlacesOf lines allocated
   pub numbered : List Block
   pub stand : AreNumbersOf allocated numbered (replay_of lines).blocks
   pub blocks : IsSplit allocated entries run low high numbered
@@ -69,11 +68,12 @@ abbrev pub IsStepOf : Line → ℕ → OngoingReplay → OngoingReplay → Type 
 IsStepOf x number before after =
     (lines : List Line) → number ≡ length lines + 1 → IsOngoingAfter lines before → IsOngoingAfter (lines ++ x ∷ []) after
 
--- the reader has come as far as the replay
+-- the reader has come as far as the replay, which holds the blocks of all allocations
 pub record HaveRead (reading : Reading) (ongoing : OngoingReplay) : Type 0 where
   pub lines : List Line
   pub read : HasRead reading lines
   pub replayed : IsOngoingAfter lines ongoing
+  pub places : HavePlacesOf lines ongoing.allocated.items
 
 -- both have come to the end of the log
 pub record HaveReadAll (reading : Reading) (ongoing : OngoingReplay) : Type 0 where
@@ -81,6 +81,7 @@ pub record HaveReadAll (reading : Reading) (ongoing : OngoingReplay) : Type 0 wh
   pub read : HasReadAll reading lines
   pub fit : LinesFit lines
   pub replayed : IsOngoingAfter lines ongoing
+  pub places : HavePlacesOf lines ongoing.allocated.items
 
 -- there may be more, or they have come to the end
 abbrev pub HaveReadOn : Bool → Reading → OngoingReplay → Type 0
@@ -93,3 +94,4 @@ pub record AreAtEnd (reading : Reading) (stage : Stage) : Type 0 where
   pub read : HasReadAll reading lines
   pub fit : LinesFit lines
   pub replayed : IsStageAfter lines stage
+  pub places : HavePlacesOf lines stage.allocated.items

@@ -13,7 +13,7 @@ use Rattle.leak_blocks.specs.declared.window.LogPlace.{LogPlace}
 use Rattle.leak_blocks.specs.Live.{is_allocation, block_of}
 use Rattle.leak_blocks.specs.Runs.{IsOngoingAfter}
 
--- the blocks of all allocations so far
+-- the blocks of the allocations that are held
 abbrev pub all_blocks : OngoingReplay → List Block
 all_blocks ongoing = ongoing.allocated.items
 

@@ -23,7 +23,7 @@ const NEAR_BYTES: u64 = 1 << 20;
 /// give-back needs it.
 #[derive(Drop)]
 pub struct OngoingReplay<'a> {
-    /// The blocks of all allocations so far, in the order of their lines.
+    /// The blocks of the allocations that are held, as in a [`Stage`](crate::Stage).
     pub(crate) allocated: Vec<Block>,
     pub(crate) numbers: Numbers<'a>,
     /// The numbers of the run's allocations, by the starts of their blocks.
@@ -32,6 +32,8 @@ pub struct OngoingReplay<'a> {
     pub(crate) low: u64,
     /// No block above the run begins below this address.
     pub(crate) high: u64,
+    /// How many blocks are held at most until allocations that ended may be let go.
+    pub(crate) most: usize,
     pub(crate) unknown: u64,
     pub(crate) displaced: u64,
 }
@@ -109,7 +111,7 @@ fn block_of(line: &Line, number: usize) -> Block
 }
 
 impl OngoingReplay<'_> {
-    /// The blocks of all allocations so far, in the order of their lines.
+    /// The blocks of the allocations that are held: of those so far that were not let go, in the order of their lines.
     pub fn allocated(&self) -> &[Block]
         ensures { result.now ≡ all_blocks self.now }
     {

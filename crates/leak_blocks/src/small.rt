@@ -6,8 +6,9 @@ ghost use Rattle.leak_mtrace.specs.Log.{LinesFit};
 ghost use Rattle.leak_mtrace.specs.declared.line.Line.{Line};
 ghost use Rattle.leak_blocks.specs.declared.small.Span.{Span};
 ghost use Rattle.leak_blocks.specs.Live.{replay_of};
-ghost use Rattle.leak_blocks.specs.Numbers.{IsStageAfter};
+ghost use Rattle.leak_blocks.specs.Numbers.{HavePlacesOf, IsStageAfter};
 ghost use Rattle.leak_blocks.specs.Span.{AreAddressed};
+ghost use Rattle.leak_blocks.specs.Windows.{all_blocks_of};
 ghost use Rattle.leak_blocks.specs.Small.{is_small, is_listed, span_at, small_spans_of, small_block_spans, holds, is_covered, AreApart, AreMarksOf, AreSpans, CoverSame, CoverSameOutside, IsOutsideMarked};
 
 use crate::block::Block;
@@ -196,10 +197,13 @@ pub fn joined(alloc: Global, spans: Vec<Span>) -> Result<SmallSpans, AllocError>
 }
 
 impl Stage {
-    /// The addresses of the small allocations so far, as far as they are outside the live blocks.
+    /// The addresses of the small allocations so far, as far as they are outside the live blocks. No allocation may have
+    /// been let go.
     pub fn small_spans(&self, alloc: Global) -> Result<SmallSpans, AllocError>
-        requires { (lines : List Line) × LinesFit lines × IsStageAfter lines self.now }
+        requires { (lines : List Line) × LinesFit lines × IsStageAfter lines self.now
+            × HavePlacesOf lines (all_blocks_of self.now) }
         ensures { IfOk result (λ spans. (lines : List Line) → IsStageAfter lines self.now
+            → HavePlacesOf lines (all_blocks_of self.now)
             → CoverSameOutside (replay_of lines).blocks spans (small_spans_of lines)) }
     {
         let count = self.allocated.len();

@@ -1,5 +1,6 @@
 //! A replay between two arenas.
 ghost use Rattle.std.specs.Prelude.{◌≡◌, ◌<◌, ◌≤◌, ◌↔◌, ◌++◌, [], List, length, take, drop, All, IfOk, IsTrue};
+ghost use Rattle.std.specs.List.{range_with_len};
 ghost use Rattle.leak_mtrace.specs.declared.line.Line.{Line};
 ghost use Rattle.leak_mtrace.specs.Log.{LinesFit};
 ghost use Rattle.leak_blocks.specs.Live.{replay_of};
@@ -32,10 +33,30 @@ fn node_bytes(allocations: usize) -> usize {
         .saturating_add(PATH_BYTES)
 }
 
+/// How many allocations' nodes an empty arena has room for.
+fn room_in(arena: &Bump) -> usize {
+    arena.chunk_capacity() / NODE_BYTES
+}
+
+/// As many numbers as these, from 0 on, in their memory.
+fn counted_up(numbers: Vec<usize>) -> Result<Vec<usize>, AllocError>
+    ensures { IfOk result (λ counted.
+        counted.items ≡ range_with_len 0 (length numbers.items)) }
+{
+    let count = numbers.len();
+    let mut counted = numbers;
+    counted.clear();
+    for number in 0..count {
+        counted.push(number)?;
+    }
+    Ok(counted)
+}
+
 /// The replay between two arenas.
 #[derive(Drop)]
 pub struct Stage {
-    /// The blocks of all allocations so far, in the order of their lines.
+    /// The blocks of the allocations so far, in the order of their lines. Before the others come those that were live
+    /// when allocations were let go, by ascending start.
     pub(crate) allocated: Vec<Block>,
     /// The numbers of those that no line so far ends, by the starts of their blocks.
     pub(crate) numbers: Vec<usize>,
@@ -66,6 +87,24 @@ impl Stage {
         Bump::try_with_capacity(alloc, arena_bytes(allocations))
     }
 
+    /// The same without the allocations that lines so far end, so that their memory can be used for others. The live
+    /// blocks are numbered by ascending start.
+    pub fn without_ended(self, alloc: Global) -> Result<Stage, AllocError>
+        requires { (lines : List Line) × IsStageAfter lines self }
+        ensures after { IfOk result (λ stage. (lines : List Line)
+            → IsStageAfter lines self → IsStageAfter lines stage) }
+        ensures live { IfOk result (λ stage. (lines : List Line)
+            → IsStageAfter lines self → all_blocks_of stage ≡ (replay_of lines).blocks) }
+    {
+        let blocks = blocks_of(alloc, self.allocated, self.numbers.as_slice())?;
+        Ok(Stage {
+            allocated: blocks,
+            numbers: counted_up(self.numbers)?,
+            unknown: self.unknown,
+            displaced: self.displaced,
+        })
+    }
+
     /// The numbers of the allocations that no line so far ends, by the starts of their blocks.
     pub fn numbers(&self) -> &[usize]
         ensures value { result.now ≡ live_numbers self.now }
@@ -85,6 +124,7 @@ impl Stage {
             → IsStageAfter lines self → IsOngoingAfter lines ongoing) }
         ensures allocated { IfOk result (λ ongoing. all_blocks ongoing ≡ all_blocks_of self) }
     {
+        let most = self.allocated.len().saturating_add(room_in(arena));
         let mut numbers = BTreeMap::new(arena);
         let mut run = self.numbers;
         place(&mut numbers, self.allocated.as_slice(), run.as_slice())?;
@@ -95,6 +135,7 @@ impl Stage {
             run,
             low: 0,
             high: 0,
+            most,
             unknown: self.unknown,
             displaced: self.displaced,
         })
@@ -112,9 +153,10 @@ impl Stage {
 }
 
 impl OngoingReplay<'_> {
-    /// Whether the arena of the map may have too few bytes left for the next line.
+    /// Whether the arena of the map may have too few bytes left for the next line, or as many allocations came as it had
+    /// room for: most of these may have ended without a node.
     pub(crate) fn is_full(&self, arena: &Bump) -> bool {
-        arena.chunk_capacity() < node_bytes(self.run.len())
+        self.allocated.len() >= self.most || arena.chunk_capacity() < node_bytes(self.run.len())
     }
 
     /// Leaves the arena.

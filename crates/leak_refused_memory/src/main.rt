@@ -26,7 +26,7 @@ use std::rt::Env;
 use std::thread::Threads;
 
 /// The calls, by name.
-static CALLS: [&str; 62] = [
+static CALLS: [&str; 63] = [
     "core_k",
     "Image::read",
     "Threads::read",
@@ -41,6 +41,7 @@ static CALLS: [&str; 62] = [
     "SparseWords::reserve",
     "replay_reading",
     "replay_reading_spans",
+    "replay_reading_turns",
     "Paged::new",
     "Roots::find",
     "Roots::find_unfreed",
@@ -157,6 +158,7 @@ fn answer_of_passing<R: AllocGlobal + Threads + Sync>(rt: &R, name: &str) -> Opt
         "SparseWords::reserve" => passing::room(alloc),
         "replay_reading" => passing::replayed(alloc),
         "replay_reading_spans" => passing::replayed_spans(alloc),
+        "replay_reading_turns" => passing::replayed_turns(alloc),
         _ => answer_of_roots(rt, name),
     }
 }

@@ -83,3 +83,17 @@ pub(crate) fn replayed_spans(alloc: Global) -> Option<Answer> {
         Err(fault) => Some(Answer::of_refusal(fault == ReadFault::NoMemory)),
     }
 }
+
+/// `replay_reading` of a log that is said to be small, of whose 400 allocations all but the last few are let go.
+pub(crate) fn replayed_turns(alloc: Global) -> Option<Answer> {
+    let mut log = Vec::new(alloc);
+    for _ in 0..400 {
+        log.extend_from_slice(b"- 0x10100\n@ ./a.out:[0x401136] + 0x10100 0x20\n")
+            .ok()?;
+    }
+    let mut reader = Cursor::new(log);
+    match replay_reading(alloc, &mut reader, 20_000, 1, false) {
+        Ok(by_texts) => Some(answer_of(&by_texts, 1, 0, 1)),
+        Err(fault) => Some(Answer::of_refusal(fault == ReadFault::NoMemory)),
+    }
+}

@@ -112,7 +112,7 @@ module _ (log : LogSoFar) (passed : List ℕ) (lines : List Line) (stage : Stage
       ap (map (λ k. slice_index_or (map (text_with log.texts) log.numbers.items) k [])) live
       ∙ picked lines stage after (λ (b : Block). text_at passed b.caller) (map (text_with log.texts) log.numbers.items) has.texts.same
 
-  live_numbered : AreNumberedBy passed (replay_of lines).blocks log.texts gathered
+  pub live_numbered : AreNumberedBy passed (replay_of lines).blocks log.texts gathered
   live_numbered = record {
     inside = live_inside passed lines (callers_of passed lines has.are.is_log);
     each = has.texts.each;

@@ -12,8 +12,10 @@ use Rattle.leak_blocks.specs.declared.block.Block.{Block}
 use Rattle.leak_blocks.specs.declared.ongoing_replay.OngoingReplay.{OngoingReplay}
 use Rattle.leak_blocks.specs.declared.window.LogPlace.{LogPlace}
 use Rattle.leak_blocks.specs.Live.{block_of, is_allocation}
+use Rattle.leak_blocks.specs.Numbers.{HavePlacesOf}
 use Rattle.leak_blocks.specs.Runs.{HasComeTo as HasComeToLine, IsOngoingAfter}
 use Rattle.leak_blocks.specs.Windows.{GoesOn, IsLaterFault, allocated_by}
+use Rattle.leak_blocks.proofs.PlaceLemmas.{places_by}
 use Rattle.leak_streams.specs.declared.fault.ReadFault.{ReadFault}
 use Rattle.leak_streams.specs.declared.fault.ReadFault.TheVariants.{NoMemory}
 use Rattle.leak_streams.specs.Pieces.{TakenSoFar, HasComeTo, TakesPiece, FindsEnd, GivesUp}
@@ -71,7 +73,7 @@ module _ (was : LogSoFar) (ongoing later : OngoingReplay) (to : LogPlace) (more 
       (subst (λ (n : ℕ). AllByRecursion (λ (b : Block). IsBehind was.at.bytes n b.caller) (drop (length ongoing.allocated.items) later.allocated.items)) (long ∙ sym len_is) callers_are_behind)
 
   -- they are let go
-  module _ (now : LogSoFar) (rest : now.window.items ≡ drop goes.len window) (at : now.at ≡ to)
+  module _ (now : LogSoFar) (rest : now.window.items ≡ drop goes.len window) (at : now.at ≡ to) (spans : now.spans ≡ was.spans)
       (numbers : NumbersMore was.at.bytes front (drop (length ongoing.allocated.items) later.allocated.items) was.texts was.numbers.items now.texts now.numbers.items)
       (passed : List ℕ) (lines : List Line) (has : HasPassed was passed lines ongoing.allocated.items) (replayed : IsOngoingAfter lines ongoing) where
     abbrev pub all : List ℕ
@@ -95,6 +97,9 @@ module _ (was : LogSoFar) (ongoing later : OngoingReplay) (to : LogPlace) (more 
       bytes = omega (arith, ap (λ (p : LogPlace). p.bytes) at, goes.bytes, has.bytes, long, length-append passed front);
       count = omega (arith, ap (λ (p : LogPlace). p.lines) at, goes.count, has.count, length-append lines (moved (length passed) goes.lines), length-map goes.lines (placed (length passed)));
       texts = subst (λ (bs : List Block). AreNumberedBy all bs now.texts now.numbers.items) all_blocks (numbers passed ongoing.allocated.items (sym has.bytes) has.texts);
+      all = λ wanted.
+          subst (λ (ms : List Line). HavePlacesOf (lines ++ ms) later.allocated.items) same_moved
+          (places_by lines (moved was.at.bytes goes.lines) was.at.lines ongoing.allocated.items later.allocated.items goes.allocated (has.all (sym spans ∙ wanted)));
     }
 
     none_left : more ≡ false → whole_len_of now.window.items ≡ 0

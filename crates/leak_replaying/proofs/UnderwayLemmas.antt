@@ -66,6 +66,7 @@ module _ {R : Type 0} (calls : Calls R) (limit : ℕ) (first last : R) (log : Lo
                 bytes = rw (on.at) is.0.has.bytes;
                 count = rw (on.at) is.0.has.count;
                 texts = rw (on.texts, on.numbers) is.0.has.texts;
+                all = λ wanted. is.0.has.all (sym on.spans ∙ wanted);
               };
             },
             is.1,
@@ -82,6 +83,10 @@ module _ {R : Type 0} (calls : Calls R) (limit : ℕ) (first last : R) (log : Lo
   pub no_memory : (lines : List Line) (allocated : List Block) → IsUnderway calls limit first last log lines allocated → IsStoppedBy calls limit first last log (Log NoMemoryForLog)
   no_memory lines allocated is = (is.passed ++ log.window.items, is.read, λ not. absurd (not refl))
 
+  pub no_memory_after : (lines : List Line) (allocated : List Block) → IsUnderway calls limit first last log lines allocated → (now : LogSoFar) → now.reading ≡ log.reading → now.ended ≡ log.ended
+      → IsStoppedBy calls limit first last now (Log NoMemoryForLog)
+  no_memory_after lines allocated is now reading ended = (is.passed ++ log.window.items, rw (reading, ended) is.read, λ not. absurd (not refl))
+
   -- the place is within the limit
   pub place_within : (lines : List Line) (allocated : List Block) → IsUnderway calls limit first last log lines allocated → log.at.bytes ≤ limit
   place_within lines allocated is = omega (arith, is.few, is.has.bytes, length-append is.passed log.window.items)
@@ -89,6 +94,16 @@ module _ {R : Type 0} (calls : Calls R) (limit : ℕ) (first last : R) (log : Lo
   -- an arena is begun and left with the same blocks
   pub same_blocks : (lines : List Line) (allocated other : List Block) → other ≡ allocated → IsUnderway calls limit first last log lines allocated → IsUnderway calls limit first last log lines other
   same_blocks lines allocated other same is = subst (λ (bs : List Block). IsUnderway calls limit first last log lines bs) (sym same) is
+
+  -- allocations are let go
+  pub let_gone : (lines : List Line) (allocated : List Block) (is : IsUnderway calls limit first last log lines allocated) (now : LogSoFar) (fewer : List Block)
+      → now.reading ≡ log.reading → now.ended ≡ log.ended → now.window ≡ log.window → HasPassed now is.passed lines fewer → IsUnderway calls limit first last now lines fewer
+  let_gone lines allocated is now fewer reading ended window has = record {
+    passed = is.passed;
+    read = rw (reading, ended, window) is.read;
+    few = rw (window) is.few;
+    has = has;
+  }
 
 -- before the first line, when more was read
 pub first_read : {R : Type 0} (calls : Calls R) (limit : ℕ) (first last : R) (log : LogSoFar) → IsUnderway calls limit first last log [] [] → log.ended ≡ false
@@ -103,7 +118,7 @@ first_read calls limit first last log is not_ended after now on =
       passed = is.passed;
       read = rw (← same) read.0;
       few = rw (← same) read.1;
-      has = record { are = is.has.are; bytes = rw (on.at) is.has.bytes; count = rw (on.at) is.has.count; texts = rw (on.texts, on.numbers) is.has.texts };
+      has = record { are = is.has.are; bytes = rw (on.at) is.has.bytes; count = rw (on.at) is.has.count; texts = rw (on.texts, on.numbers) is.has.texts; all = λ wanted. is.has.all (sym on.spans ∙ wanted) };
     }
 
 pub first_come : {R : Type 0} (calls : Calls R) (limit : ℕ) (first last : R) (log : LogSoFar) (is : IsUnderway calls limit first last log [] []) → log.ended ≡ false

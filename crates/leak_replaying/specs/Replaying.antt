@@ -7,7 +7,7 @@ use Rattle.leak_mtrace.specs.Parts.{AreLinesOf}
 use Rattle.leak_blocks.specs.declared.block.Block.{Block}
 use Rattle.leak_blocks.specs.declared.ongoing_replay.OngoingReplay.{OngoingReplay}
 use Rattle.leak_blocks.specs.declared.stage.Stage.{Stage}
-use Rattle.leak_blocks.specs.Numbers.{IsStageAfter}
+use Rattle.leak_blocks.specs.Numbers.{HavePlacesOf, IsStageAfter}
 use Rattle.leak_blocks.specs.Runs.{IsOngoingAfter}
 use Rattle.leak_streams.specs.Pieces.{TakenSoFar, HasComeTo}
 use Rattle.leak_streams.specs.Reads.{Calls, IsReadWhole, IsGivenUp}
@@ -16,12 +16,14 @@ use Rattle.leak_replaying.specs.declared.replaying.Stop.{Stop}
 use Rattle.leak_replaying.specs.declared.replaying.Stop.TheVariants.{Log, Read}
 use Rattle.leak_replaying.specs.Numbering.{AreNumberedBy}
 
--- these complete lines were gone over and are let go, and the texts of their allocations' callers have numbers
+-- these complete lines were gone over and are let go, and the texts of the callers of the allocations that are held have numbers; if
+-- spans are wanted all allocations are held
 pub record HasPassed (log : LogSoFar) (passed : List ℕ) (lines : List Line) (allocated : List Block) : Type 0 where
   pub are : AreLinesOf passed lines
   pub bytes : log.at.bytes ≡ length passed
   pub count : log.at.lines ≡ length lines
   pub texts : AreNumberedBy passed allocated log.texts log.numbers.items
+  pub all : log.spans ≡ true → HavePlacesOf lines allocated
 
 -- from the first reader to the last, the log was read to these bytes: as far as they go, or to its end
 abbrev pub HasReadTo : {R : Type 0} → Calls R → ℕ → R → R → TakenSoFar → Bool → List ℕ → Type 0
@@ -45,6 +47,7 @@ pub record ReadsOn {R : Type 0} (calls : Calls R) (limit : ℕ) (before : R) (wa
   pub holds : HoldsMore calls limit before was.reading was.window.items after now.reading now.ended now.window.items
   pub nearer : left limit now.reading now.ended < left limit was.reading was.ended
   pub at : now.at ≡ was.at
+  pub spans : now.spans ≡ was.spans
   pub texts : now.texts ≡ was.texts
   pub numbers : now.numbers ≡ was.numbers
 

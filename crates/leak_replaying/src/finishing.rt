@@ -28,7 +28,6 @@ pub struct LogByTexts {
 /// What a log comes to that was replayed to its end, and the texts of its live blocks' callers.
 fn finish(
     alloc: Global,
-    spans: bool,
     stage: Stage,
     log: LogSoFar,
 ) -> Result<((Replayed, SmallSpans), KeptTexts), AllocError>
@@ -36,10 +35,10 @@ fn finish(
         × HasPassed log passed lines stage.allocated.items × IsStageAfter lines stage }
     ensures { IfOk result (λ read. (passed : List ℕ) (lines : List Line)
         → HasPassed log passed lines stage.allocated.items → IsStageAfter lines stage → IsAtEnd log
-        → IsReplayedTo spans (passed ++ log.window.items) read.0
+        → IsReplayedTo log.spans (passed ++ log.window.items) read.0
         × AreKeptOf (passed ++ log.window.items) read.0.0.live.blocks read.1) }
 {
-    let small = if spans {
+    let small = if log.spans {
         stage.small_spans(alloc)?
     } else {
         SmallSpans::none(alloc)
@@ -73,14 +72,14 @@ impl LogByTexts {
 }
 
 /// The same as [`finish`], where want of memory counts as want of memory for the log.
-pub(crate) fn finish_or_none(alloc: Global, spans: bool, stage: Stage, log: LogSoFar) -> LogByTexts
+pub(crate) fn finish_or_none(alloc: Global, stage: Stage, log: LogSoFar) -> LogByTexts
     requires { (passed : List ℕ) × (lines : List Line)
         × HasPassed log passed lines stage.allocated.items × IsStageAfter lines stage }
     ensures { (passed : List ℕ) (lines : List Line)
         → HasPassed log passed lines stage.allocated.items → IsStageAfter lines stage → IsAtEnd log
-        → IsOfLog spans (passed ++ log.window.items) result }
+        → IsOfLog log.spans (passed ++ log.window.items) result }
 {
-    match finish(alloc, spans, stage, log) {
+    match finish(alloc, stage, log) {
         Ok((read, texts)) => LogByTexts {
             read: Ok(read),
             texts,

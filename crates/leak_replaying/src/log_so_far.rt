@@ -4,6 +4,7 @@ ghost use Rattle.std.specs.Prelude.{◌≡◌, ◌≢◌, ◌+◌, ◌^◌, ◌<
 ghost use Rattle.std.specs.List.{AllByRecursion};
 ghost use Rattle.leak_mtrace.specs.declared.line.Line.{Line};
 ghost use Rattle.leak_mtrace.specs.Log.{IsFirstFault};
+ghost use Rattle.leak_blocks.specs.Numbers.{IsStageAfter};
 ghost use Rattle.leak_blocks.specs.Runs.{IsOngoingAfter};
 ghost use Rattle.leak_streams.specs.Pieces.{GivesUp, HasComeTo};
 ghost use Rattle.leak_replaying.specs.Numbering.{IsBehind, NumbersMore};
@@ -11,19 +12,34 @@ ghost use Rattle.leak_replaying.specs.Replaying.{HasPassed, HoldsMore, PassesOn,
 
 use crate::numbering::{drop_front, number_callers};
 use bumpalo::Bump;
-use leak_blocks::{Block, LogPlace, OngoingReplay};
+use leak_blocks::{Block, LogPlace, OngoingReplay, Stage};
 use leak_mtrace::LogError;
 use leak_streams::{ReadCalls, ReadFault, Reading};
-use leak_texts::TextTable;
+use leak_texts::{TextTable, gather};
 use memchr::memchr;
 use std::alloc::{AllocError, Global};
 
 /// How many bytes of a log are read at a time: 256 KiB. Own rule: they and their copy fit a processor's second cache.
 const PIECE: usize = 262_144;
 
+/// How many lines that allocate nothing come at least before allocations are let go. Own rule: an allocation takes some
+/// 100 bytes with its node, and letting go takes time for each live block.
+const MANY: usize = 16_384;
+
+/// How far a log was replayed when it was last between two arenas.
+#[derive(Clone, Copy)]
+pub(crate) struct LastStage {
+    /// How many lines came before.
+    pub(crate) lines: usize,
+    /// How many allocations were held.
+    pub(crate) held: usize,
+}
+
 /// A log that is replayed while it is read. Of its bytes only those behind the last line so far are held.
 #[derive(Drop)]
 pub(crate) struct LogSoFar {
+    /// Whether spans are wanted of the small allocations. Then none of them is let go.
+    pub(crate) spans: bool,
     pub(crate) reading: Reading,
     /// Whether the log's end was found.
     pub(crate) ended: bool,
@@ -33,8 +49,9 @@ pub(crate) struct LogSoFar {
     pub(crate) at: LogPlace,
     /// The texts of the callers of all allocations so far.
     pub(crate) texts: TextTable,
-    /// For each allocation the number of its caller's text.
+    /// For each allocation that is held the number of its caller's text.
     pub(crate) numbers: Vec<u32>,
+    pub(crate) last: LastStage,
 }
 
 /// Reads pieces behind the bytes that are held, until one has a line feed, so that a long line is looked through once.
@@ -65,7 +82,8 @@ fn read_pieces<R: ReadCalls>(
 
 impl LogSoFar {
     /// Before the first read.
-    pub(crate) fn begin<R: ReadCalls>(alloc: Global) -> Result<LogSoFar, AllocError>
+    pub(crate) fn begin<R: ReadCalls>(alloc: Global, spans: bool) -> Result<LogSoFar, AllocError>
+        ensures spans { IfOk result (λ log. log.spans ≡ spans) }
         ensures come { IfOk result (λ log. (limit : ℕ) (reader : R)
             → HasComeTo R.calls limit reader reader log.reading []) }
         ensures none { IfOk result (λ log. HasPassed log [] [] []) }
@@ -73,12 +91,14 @@ impl LogSoFar {
         ensures empty { IfOk result (λ log. log.window.items ≡ []) }
     {
         Ok(LogSoFar {
+            spans,
             reading: Reading::begin::<R>(alloc, PIECE)?,
             ended: false,
             window: Vec::new(alloc),
             at: LogPlace { bytes: 0, lines: 0 },
             texts: TextTable::new(alloc),
             numbers: Vec::new(alloc),
+            last: LastStage { lines: 0, held: 0 },
         })
     }
 
@@ -109,6 +129,7 @@ impl LogSoFar {
         ensures at { self.new.at ≡ self.old.at }
         ensures reading { self.new.reading ≡ self.old.reading }
         ensures ended { self.new.ended ≡ self.old.ended }
+        ensures spans { self.new.spans ≡ self.old.spans }
     {
         let before = self.at.bytes;
         let window = &self.window[..len];
@@ -135,6 +156,7 @@ impl LogSoFar {
             → IsFirstFault (passed ++ self.old.window.items) e) }
         ensures reading { self.new.reading ≡ self.old.reading }
         ensures ended { self.new.ended ≡ self.old.ended }
+        ensures spans { self.new.spans ≡ self.old.spans }
     {
         let before = ongoing.allocated().len();
         let (at, more) = ongoing.go_on(arena, self.window.as_slice(), self.at)?;
@@ -143,5 +165,45 @@ impl LogSoFar {
         drop_front(&mut self.window, len);
         self.at = at;
         Ok(more)
+    }
+
+    /// Whether so many lines that allocate nothing came since the last arena was begun that half of the allocations may have
+    /// ended that are held, unless spans are wanted of them.
+    pub(crate) fn have_many_ended(&self) -> bool {
+        let held = self.numbers.len();
+        let lines = self.at.lines.saturating_sub(self.last.lines);
+        let others = lines.saturating_sub(held.saturating_sub(self.last.held));
+        !self.spans && others >= MANY.max(held / 2)
+    }
+
+    /// Lets go of the allocations that lines so far end, with the numbers of their texts, if these are half of them, more
+    /// lines may come, and no spans are wanted.
+    pub(crate) fn let_go(
+        &mut self,
+        alloc: Global,
+        stage: Stage,
+        more: bool,
+    ) -> Result<Stage, AllocError>
+        requires { (passed : List ℕ) × (lines : List Line)
+            × HasPassed self.old passed lines stage.allocated.items × IsStageAfter lines stage }
+        ensures ok { IfOk result (λ later. (passed : List ℕ) (lines : List Line)
+            → HasPassed self.old passed lines stage.allocated.items → IsStageAfter lines stage
+            → HasPassed self.new passed lines later.allocated.items × IsStageAfter lines later) }
+        ensures window { self.new.window ≡ self.old.window }
+        ensures at { self.new.at ≡ self.old.at }
+        ensures reading { self.new.reading ≡ self.old.reading }
+        ensures ended { self.new.ended ≡ self.old.ended }
+        ensures spans { self.new.spans ≡ self.old.spans }
+    {
+        let are_live = stage.numbers().len() > self.numbers.len() / 2;
+        self.last.lines = self.at.lines;
+        self.last.held = self.numbers.len();
+        if self.spans || are_live || !more {
+            return Ok(stage);
+        }
+        self.last.held = stage.numbers().len();
+        self.numbers = gather(alloc, self.numbers.as_slice(), stage.numbers())?;
+        let live = stage.without_ended(alloc)?;
+        Ok(live)
     }
 }

@@ -52,8 +52,8 @@ impl From<ReadFault> for Stop {
 }
 
 impl LogSoFar {
-    /// Reads on and goes over the lines until few of the arena's bytes are left, or the log ends. Tells whether there may
-    /// be more lines.
+    /// Reads on and goes over the lines until few of the arena's bytes are left, many allocations may have ended, or the
+    /// log ends. Tells whether there may be more lines.
     fn fill<R: ReadCalls>(
         &mut self,
         ongoing: &mut OngoingReplay<'_>,
@@ -69,16 +69,21 @@ impl LogSoFar {
         ensures not_back { IfOk result (λ _. self.old.at.bytes ≤ self.new.at.bytes) }
         ensures further { IfOk result (λ more. IsTrue more → self.old.at.bytes < self.new.at.bytes) }
         ensures end { IfOk result (λ more. more ≡ false → IsAtEnd self.new) }
+        ensures spans { IfOk result (λ _. self.new.spans ≡ self.old.spans) }
         ensures stopped { IfErr result (λ stop. (first : R) (lines : List Line)
             → IsOngoing R.calls limit first reader.old self.old lines ongoing.old
             → IsStoppedBy R.calls limit first reader.new self.new stop) }
     {
+        let before = self.at.bytes;
         loop {
             if self.go_over(ongoing, arena)? {
                 return Ok(true);
             }
             if self.ended {
                 return Ok(false);
+            }
+            if self.at.bytes > before && self.have_many_ended() {
+                return Ok(true);
             }
             self.read_lines(reader, limit)?;
         }
@@ -97,15 +102,18 @@ fn first_stage(alloc: Global, guess: usize) -> Result<Stage, AllocError>
     }
 }
 
-/// An arena for the replay, with room for so many allocations, or for as many as it has if there is no memory for more.
+/// An arena for the replay, with room for so many allocations, and for eight times the live ones: all are placed in each
+/// arena. If there is no memory for that, it has room for as many as it needs.
 fn arena_for(stage: &Stage, alloc: Global, guess: usize) -> Result<Bump, AllocError> {
-    match stage.arena(alloc, guess) {
+    let live = stage.numbers().len();
+    match stage.arena(alloc, guess.max(live.saturating_mul(8))) {
         Ok(arena) => Ok(arena),
         Err(_) => stage.arena(alloc, 0),
     }
 }
 
-/// Goes on with a replay until an arena is full, or the log has ended. Tells whether there may be more lines.
+/// Goes on with a replay until an arena is full, or the log has ended, and lets go of allocations that ended. Tells whether
+/// there may be more lines.
 fn replay_on<R: ReadCalls>(
     alloc: Global,
     guess: usize,
@@ -122,6 +130,7 @@ fn replay_on<R: ReadCalls>(
     ensures not_back { IfOk result (λ _. log.old.at.bytes ≤ log.new.at.bytes) }
     ensures further { IfOk result (λ on. IsTrue on.1 → log.old.at.bytes < log.new.at.bytes) }
     ensures end { IfOk result (λ on. on.1 ≡ false → IsAtEnd log.new) }
+    ensures spans { IfOk result (λ _. log.new.spans ≡ log.old.spans) }
     ensures stopped { IfErr result (λ stop. (first : R) (lines : List Line)
         → IsBetween R.calls limit first reader.old log.old lines stage
         → IsStoppedBy R.calls limit first reader.new log.new stop) }
@@ -130,7 +139,7 @@ fn replay_on<R: ReadCalls>(
     let mut ongoing = stage.begin(&arena)?;
     let more = log.fill(&mut ongoing, &arena, reader, limit)?;
     let stage = ongoing.end()?;
-    Ok((stage, more))
+    Ok((log.let_go(alloc, stage, more)?, more))
 }
 
 /// Replays a log while it is read from the reader, to its end.
@@ -147,6 +156,7 @@ fn replay_log<R: ReadCalls>(
         → IsUnderway R.calls limit first reader.old log.old [] []
         → (lines : List Line) × IsBetween R.calls limit first reader.new log.new lines stage) }
     ensures end { IfOk result (λ _. IsAtEnd log.new) }
+    ensures spans { IfOk result (λ _. log.new.spans ≡ log.old.spans) }
     ensures stopped { IfErr result (λ stop. (first : R)
         → IsUnderway R.calls limit first reader.old log.old [] []
         → IsStoppedBy R.calls limit first reader.new log.new stop) }
@@ -201,9 +211,9 @@ pub fn replay_reading<R: ReadCalls>(
         × IsReadWhole R.calls limit reader.old reader.new log) }
     ensures refused { IfErr result (IsGivenUp R.calls limit reader.old reader.new) }
 {
-    let mut log = LogSoFar::begin::<R>(alloc)?;
+    let mut log = LogSoFar::begin::<R>(alloc, spans)?;
     match replay_log(alloc, &mut log, reader, limit, size) {
-        Ok(stage) => Ok(finish_or_none(alloc, spans, stage, log)),
+        Ok(stage) => Ok(finish_or_none(alloc, stage, log)),
         Err(Stop::Read(fault)) => Err(fault),
         Err(Stop::Log(error)) => {
             read_rest(log, reader, limit)?;

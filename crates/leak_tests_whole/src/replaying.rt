@@ -206,3 +206,36 @@ fn a_long_log_has_the_blocks_of_the_whole_and_each_its_text(rt: HostRuntime) -> 
     }
     Ok(())
 }
+
+/// A log of 1,500 allocations at five addresses by turns, by callers of three places. The last five are live.
+fn log_of_turns(alloc: Global) -> Result<String, Fail> {
+    let mut log = String::new(alloc);
+    for number in 0..1500usize {
+        let start = 0x10000 + 64 * (number % 5);
+        if number >= 5 {
+            writeln!(log, "- 0x{start:x}")?;
+        }
+        let caller = number % 3;
+        writeln!(log, "@ ./a.out:[0x{caller:x}] + 0x{start:x} 0x20")?;
+    }
+    Ok(log)
+}
+
+#[test]
+fn a_log_whose_allocations_end_has_the_blocks_of_the_whole(rt: HostRuntime) -> Result<(), Fail> {
+    let log = log_of_turns(rt.alloc())?;
+    let bytes = log.as_bytes();
+    let wanted = replay_bytes(rt.alloc(), bytes)?;
+    // A size that is too small makes room for few allocations, and those that ended are let go.
+    for step in [1021, usize::MAX] {
+        let mut reader = Steps::of(bytes, step);
+        let limit = bytes.len() as u64;
+        let LogByTexts { read, texts } = replay_reading(rt.alloc(), &mut reader, limit, 1, false)?;
+        let (replayed, _spans) = read?;
+        same_in(&rt, &step, replayed.live.blocks(), wanted.live.blocks());
+        same_in(&rt, &step, replayed.live.unknown(), 0);
+        let numbers = widened(rt.alloc(), texts.numbers)?;
+        same_in(&rt, &step, numbers.as_slice(), [1, 2, 0, 1, 2].as_slice());
+    }
+    Ok(())
+}

@@ -6,11 +6,11 @@ use Rattle.leak_replaying.specs.Texts.{numbers_in}
 use Rattle.leak_replaying.proofs.NumberingLemmas.{within_numbers}
 use Rattle.leak_replaying.proofs.FinishingLemmas.{lines_fit, live_below, places_long, AreSpansIf, comes_to, some_byte, spans_asked, spans_not_asked, live_have_texts}
 use Rattle.leak_replaying.proofs.finishing.finish.Goals as goal
-use Rattle.leak_replaying.proofs.finishing.finish.Goals.{then-spans+in_ok-small, else-spans}
+use Rattle.leak_replaying.proofs.finishing.finish.Goals.{then-log+in_ok-small, else-log}
 
 pub small_spans-requires : goal.small_spans-requires
 small_spans-requires c =
-    (c.requires.1, lines_fit c.args.log c.requires.0 c.requires.1 c.args.stage.allocated.items c.requires.2, c.requires.3)
+    (c.requires.1, lines_fit c.args.log c.requires.0 c.requires.1 c.args.stage.allocated.items c.requires.2, c.requires.3, c.requires.2.all c.if-log.true)
 
 pub gather-requires : goal.gather-requires
 gather-requires c =
@@ -36,10 +36,10 @@ returns c = λ passed lines has after end.
     let read : Replay = c.in_ok-live.field-0 in
     let live : read ≡ replay_of lines = c.in_ok-live.ensures lines after in
     let torn = c.from.ensures ∙ some_byte c.args.log.window.items _ c.is_empty.result c.is_empty.ensures c.args.log.window.ok.0 in
-    let spans : AreSpansIf c.args.spans lines read c.if-spans.small =
-    elim c.if-spans.branch [
-      | then-spans+in_ok-small w ↦ rw w.small-is (spans_asked c.args.spans lines read _ w.if-spans.true live (w.in_ok-small.ensures lines after))
-      | else-spans w ↦ rw w.small-is (spans_not_asked c.args.spans lines read _ w.if-spans.false w.none-small.ensures)
+    let spans : AreSpansIf c.args.log.spans lines read c.if-log.small =
+    elim c.if-log.branch [
+      | then-log+in_ok-small w ↦ rw w.small-is (spans_asked c.args.log.spans lines read _ w.if-log.true live (w.in_ok-small.ensures lines after (has.all w.if-log.true)))
+      | else-log w ↦ rw w.small-is (spans_not_asked c.args.log.spans lines read _ w.if-log.false w.none-small.ensures)
     ] in (
       (lines, comes_to c.args.log passed lines c.args.stage.allocated.items _ has end.none_left live torn refl, spans),
       live_have_texts c.args.log passed lines c.args.stage has after c.as_slice.result.now c.numbers.result.now c.in_ok-numbers.numbers.items c.as_slice.ensures.value c.numbers.ensures.value

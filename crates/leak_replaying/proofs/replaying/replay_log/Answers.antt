@@ -1,5 +1,5 @@
 -- From the lemmas of UnderwayLemmas.
-use Rattle.std.proofs.Common.{◌++◌, []}
+use Rattle.std.proofs.Common.{◌∙◌, ◌++◌, []}
 use Rattle.std.proofs.lemmas.Result.{err_from_is_err_and}
 use Rattle.leak_replaying.proofs.UnderwayLemmas.{first_come, first_read, nearer, no_memory, place_within, same_blocks}
 use Rattle.leak_replaying.proofs.replaying.replay_log.Goals as goal
@@ -22,6 +22,7 @@ pub loop-more-init : goal.loop-more-init
 loop-more-init g c = (
   λ first is. ([], (same_blocks _ _ _ _ _ _ _ _ c.in_ok-stage.ensures.allocated (first_read _ _ _ _ _ is c.requires.open _ _ c.in_ok-read_lines.ensures.ok), c.in_ok-stage.ensures.after)),
   λ no. absurd (let f : ⊥ = cc in f),
+  c.in_ok-read_lines.ensures.ok.spans,
 )
 
 pub replay_on-requires : goal.replay_on-requires
@@ -48,10 +49,14 @@ loop-more-preserved g c = (
       let now = c.loop-more.invariant.0 first is in
       c.in_ok-later.ensures.ok first now.0 now.1,
   c.in_ok-later.ensures.end,
+  c.in_ok-later.ensures.spans ∙ c.loop-more.invariant.2,
 )
 
 pub returns-clause-ok : goal.returns-clause-ok
 returns-clause-ok g c = c.loop-more.invariant.0
+
+pub returns-clause-spans : goal.returns-clause-spans
+returns-clause-spans g c = c.loop-more.invariant.2
 
 pub returns-clause-end : goal.returns-clause-end
 returns-clause-end g c = c.loop-more.invariant.1 c.loop-more-test.false

@@ -1,8 +1,9 @@
 -- From the lemmas of UnderwayLemmas.
-use Rattle.std.proofs.Common.{◌++◌, subst}
+use Rattle.std.proofs.Common.{◌∙◌, ◌++◌, Bool, subst}
 use Rattle.std.proofs.lemmas.Result.{err_from_is_err_and}
 use Rattle.leak_mtrace.proofs.PartLemmas.{fault_stays}
 use Rattle.leak_replaying.specs.declared.replaying.Stop.{Stop}
+use Rattle.leak_replaying.specs.Outcome.{IsOfLog}
 use Rattle.leak_replaying.specs.Replaying.{IsStoppedBy}
 use Rattle.leak_replaying.proofs.UnderwayLemmas.{begun, none_read, read_whole}
 use Rattle.leak_replaying.proofs.replaying.replay_reading.Goals as goal
@@ -38,7 +39,8 @@ pub returns-in-Ok-clause-ok : goal.returns-in-Ok-clause-ok
 returns-in-Ok-clause-ok g c =
     let now = c.in-Ok.ensures.ok c.args.reader.now (begun _ _ _ _ c.in_ok-log.ensures.open c.in_ok-log.ensures.empty (c.in_ok-log.ensures.come c.args.limit c.args.reader.now) c.in_ok-log.ensures.none) in (
       now.1.0.passed ++ c.replay_log.new.log.window.items,
-      c.finish_or_none.ensures now.1.0.passed now.0 now.1.0.has now.1.1 c.in-Ok.ensures.end,
+      subst (λ (s : Bool). IsOfLog s (now.1.0.passed ++ c.replay_log.new.log.window.items) c.finish_or_none.result) (c.in-Ok.ensures.spans ∙ c.in_ok-log.ensures.spans)
+          (c.finish_or_none.ensures now.1.0.passed now.0 now.1.0.has now.1.1 c.in-Ok.ensures.end),
       read_whole _ _ _ _ _ _ _ now.1.0 c.in-Ok.ensures.end.ended,
     )
 

@@ -17,11 +17,11 @@ marks_of-requires c =
 
 pub block_spans-requires-clause-addressed : goal.block_spans-requires-clause-addressed
 block_spans-requires-clause-addressed c =
-    subst AreAddressed (sym c.deref-2.ensures.value) (places_addressed c.requires.0 c.args.self.now.allocated.items c.requires.1 c.requires.2.places)
+    subst AreAddressed (sym c.deref-2.ensures.value) (places_addressed c.requires.0 c.args.self.now.allocated.items c.requires.1 c.requires.3)
 
 pub returns : goal.returns
 returns c = IfOk-weaker c.joined.result _ _
-    (λ spans same. λ lines after a out.
+    (λ spans same. λ lines after places a out.
     let allocated = c.args.self.now.allocated.items in
     let numbers = c.args.self.now.numbers.items in
     let marks : AreMarksOf (length allocated) numbers c.in_ok-live.live.items =
@@ -33,5 +33,5 @@ returns c = IfOk-weaker c.joined.result _ _
     ∙ c.in_ok-block_spans.ensures.same a
     (subst (λ (l : List Block). IsOutsideMarked l c.deref-3.result.now a) (sym c.deref-2.ensures.value)
     (subst (λ (m : List Bool). IsOutsideMarked allocated m a) (sym c.deref-3.ensures.value) unmarked))
-    ∙ ap (λ (l : List Span). is_covered l a) (ap small_block_spans c.deref-2.ensures.value ∙ same_small lines allocated after.places))
+    ∙ ap (λ (l : List Span). is_covered l a) (ap small_block_spans c.deref-2.ensures.value ∙ same_small lines allocated places))
     c.joined.ensures

@@ -10,4 +10,5 @@ returns-clause-none g c = record {
   bytes = refl;
   count = refl;
   texts = rw (c.new-2.ensures, c.new-3.ensures.items) numbered_none;
+  all = λ wanted. refl;
 }

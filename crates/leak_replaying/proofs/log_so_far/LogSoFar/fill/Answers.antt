@@ -1,5 +1,5 @@
 -- From the lemmas of UnderwayLemmas.
-use Rattle.std.proofs.Common.{◌++◌, ap, arith}
+use Rattle.std.proofs.Common.{◌∙◌, ◌++◌, ap, arith}
 use Rattle.std.proofs.lemmas.Result.{err_from_is_err_and}
 use Rattle.leak_blocks.specs.declared.window.LogPlace.{LogPlace}
 use Rattle.leak_replaying.proofs.UnderwayLemmas.{come, gone_over, is_given_up, is_stopped, not_back, read_on, window_fits}
@@ -36,6 +36,12 @@ returns-then-branch-clause-ok g c = λ first lines is.
     gone_over g.R.ReadCalls.calls c.args.limit first c.loop-self.reader c.loop-self.self now.0 c.loop-self.ongoing now.1 c.in_ok-go_over.field-0 c.go_over.new.self c.go_over.new.ongoing
     c.go_over.ensures.reading c.go_over.ensures.ended (c.in_ok-go_over.ensures.ok now.1.0.passed now.0 now.1.0.has now.1.1)
 
+pub returns-then-branch-clause-spans : goal.returns-then-branch-clause-spans
+returns-then-branch-clause-spans g c = c.go_over.ensures.spans ∙ c.loop-self.invariant.2
+
+pub returns-then-self-clause-spans : goal.returns-then-self-clause-spans
+returns-then-self-clause-spans g c = c.go_over.ensures.spans ∙ c.loop-self.invariant.2
+
 pub returns-then-branch-clause-further : goal.returns-then-branch-clause-further
 returns-then-branch-clause-further g c = λ _.
     let now = c.loop-self.invariant.0 c.requires.0 c.requires.1 c.requires.2 in
@@ -51,6 +57,12 @@ returns-then-self-clause-not_back g c =
 
 pub returns-then-self-clause-ok : goal.returns-then-self-clause-ok
 returns-then-self-clause-ok g c = λ first lines is.
+    let now = c.loop-self.invariant.0 first lines is in
+    gone_over g.R.ReadCalls.calls c.args.limit first c.loop-self.reader c.loop-self.self now.0 c.loop-self.ongoing now.1 c.in_ok-go_over.field-0 c.go_over.new.self c.go_over.new.ongoing
+    c.go_over.ensures.reading c.go_over.ensures.ended (c.in_ok-go_over.ensures.ok now.1.0.passed now.0 now.1.0.has now.1.1)
+
+pub returns-then-have_many_ended-clause-ok : goal.returns-then-have_many_ended-clause-ok
+returns-then-have_many_ended-clause-ok g c = λ first lines is.
     let now = c.loop-self.invariant.0 first lines is in
     gone_over g.R.ReadCalls.calls c.args.limit first c.loop-self.reader c.loop-self.self now.0 c.loop-self.ongoing now.1 c.in_ok-go_over.field-0 c.go_over.new.self c.go_over.new.ongoing
     c.go_over.ensures.reading c.go_over.ensures.ended (c.in_ok-go_over.ensures.ok now.1.0.passed now.0 now.1.0.has now.1.1)
@@ -83,6 +95,7 @@ loop-self-preserved g c =
           read_on g.R.ReadCalls.calls c.args.limit first c.loop-self.reader c.go_over.new.self gone.0 c.go_over.new.ongoing gone.1 c.if-self.false
           c.read_lines.new.reader c.read_lines.new.self c.in_ok-read_lines.ensures.ok,
       omega (arith, back, c.loop-self.invariant.1, ap (λ (p : LogPlace). p.bytes) c.in_ok-read_lines.ensures.ok.at),
+      c.in_ok-read_lines.ensures.ok.spans ∙ c.go_over.ensures.spans ∙ c.loop-self.invariant.2,
     )
 
 pub returns-in_err-read_lines-clause-stopped : goal.returns-in_err-read_lines-clause-stopped

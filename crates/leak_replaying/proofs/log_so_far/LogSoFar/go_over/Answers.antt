@@ -35,4 +35,4 @@ returns-clause-ok c = λ passed lines has replayed.
     c.in_ok-number_front.ensures.numbered) in
     passes_on was c.args.ongoing.now c.go_on.new.self c.in_ok-at.at c.in_ok-at.more goes _
     (c.drop_front.ensures ∙ ap₂ (λ (n : ℕ) (w : List ℕ). drop n w) len (ap (λ v. v.items) c.number_front.ensures.window))
-    refl numbered passed lines has replayed
+    refl c.number_front.ensures.spans numbered passed lines has replayed
