@@ -1,5 +1,5 @@
 #!/usr/bin/env python3
-"""again.py SCRIPT [PART..]: runs a script of tests, and its parts in which a test failed once more, alone.
+"""again.py SCRIPT [PART..]: runs a script of tests, and its parts in which a test failed once more, without the others.
 
 Tests that go by the clock may fail beside proofs, each time another; what is wrong fails again. The script's last line must be
 `NAME: N passed, M failed`, behind a line `parts with failures: PART..`; without that line nothing is tried again, as where the
