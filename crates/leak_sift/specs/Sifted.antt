@@ -1,5 +1,5 @@
 -- What is kept of the words of a core file, from an offset in the file on.
-use Rattle.std.specs.Prelude.{◌≡◌, ℕ, ◌+◌, ◌*◌, ◌/◌, ◌^◌, ◌<◌, ◌≤◌, List, ◌++◌, length, map, take, drop, get_or, Option, Some, None}
+use Rattle.std.specs.Prelude.{◌≡◌, ◌≢◌, ℕ, ◌+◌, ◌*◌, ◌/◌, ◌^◌, ◌<◌, ◌≤◌, List, ◌++◌, length, map, take, drop, get_or, Option, Some, None}
 use Rattle.std.specs.Int.{w64}
 use Rattle.std.specs.List.{range_with_len}
 use Rattle.std.specs.Option.{option_map_or}
@@ -31,7 +31,7 @@ pub record AreZero (words : List ℕ) (from to : ℕ) : Type 0 where
 -- the first word from the number on that isn't 0, with its number
 abbrev pub IsNextKept : List ℕ → ℕ → Option (ℕ × ℕ) → Type 0
 IsNextKept words from None = AreZero words from (length words)
-IsNextKept words from (Some next) = (from ≤ next.0) × (next.0 < length words) × (next.1 ≡ get_or words next.0 0) × AreZero words from next.0
+IsNextKept words from (Some next) = (from ≤ next.0) × (next.0 < length words) × (next.1 ≡ get_or words next.0 0) × AreZero words from next.0 × (next.1 ≢ 0)
 
 -- a sifting of the bytes of a file from the offset `head` on: its words so far, and the bytes that wait for the rest of a word
 pub record Sifted : Type 0 where

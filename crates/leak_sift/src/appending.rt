@@ -53,8 +53,7 @@ pub(crate) fn append_run(
     let count = bytes.len() / 8;
     let mut done = 0;
     while let Some((number, word)) = sieve.next_kept(place, bytes, done) {
-        words.push_zeros(number - done)?;
-        words.push(word)?;
+        words.push_after(number - done, word)?;
         done = number + 1;
     }
     if done < count {

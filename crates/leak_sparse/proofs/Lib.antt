@@ -8,6 +8,7 @@ pub mod RangeLemmas
 pub mod ChangeLemmas
 pub mod BitChangeLemmas
 pub mod PushLemmas
+pub mod AheadLemmas
 pub mod AppendLemmas
 pub mod RetainBitsLemmas
 pub mod RetainLemmas

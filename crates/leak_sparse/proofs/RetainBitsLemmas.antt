@@ -8,6 +8,7 @@ use Rattle.std.proofs.lemmas.Nat.Bits.{bit_at_above}
 use Rattle.std.proofs.lemmas.List.{get_or-set_other, get_or-set_same, length-set, take-set-le}
 use Rattle.std.proofs.lemmas.List.Sums.{sum_by-take-le}
 use Rattle.std.proofs.Math.Nat.{mod-eq_of_lt}
+use mir.Val.{bool_byte}
 use Rattle.leak_sparse.specs.declared.group.Group.{Group}
 use Rattle.leak_sparse.specs.Bits.{IsLowestFrom}
 use Rattle.leak_sparse.specs.Groups.{AreBitsBetween, AreGroups, AreGroupsBetween, empty, kept_in, word_in}
@@ -177,6 +178,20 @@ module _ (low high : ℕ) (kept : List ℕ) (group : Group) (bits rank from bit 
       let at = reached to in
       subst (λ (n : ℕ). bits + n < 2 ^ 64) (sym (one_shl bit 64 lowest.within))
       (grows (bits + 2 ^ bit) (bit + 1) 64 (below_next bits bit at.below) (omega (arith, lowest.within)))
+
+  -- whether it stays or goes
+  pub after_either : AreBitsTo low high kept group bits from → (b : Bool) (n : ℕ) → b ≡ is_between low high (get_or kept rank 0) → n ≡ bool_byte b → AreBitsTo low high kept group (bits + n * 2 ^ bit % 2 ^ 64) (bit + 1)
+  after_either to true n e is = subst (λ (m : ℕ). AreBitsTo low high kept group (bits + m * 2 ^ bit % 2 ^ 64) (bit + 1)) (sym is) (after_in to (sym e))
+  after_either to false n e is =
+      let same : bits ≡ bits + 0 * 2 ^ bit % 2 ^ 64 = omega arith in
+      subst (λ (m : ℕ). AreBitsTo low high kept group (bits + m * 2 ^ bit % 2 ^ 64) (bit + 1)) (sym is)
+      (subst (λ (m : ℕ). AreBitsTo low high kept group m (bit + 1)) same (after_out to (sym e)))
+
+  pub either_fits : AreBitsTo low high kept group bits from → (b : Bool) (n : ℕ) → n ≡ bool_byte b → bits + n * 2 ^ bit % 2 ^ 64 < 2 ^ 64
+  either_fits to true n is = subst (λ (m : ℕ). bits + m * 2 ^ bit % 2 ^ 64 < 2 ^ 64) (sym is) (bit_fits to)
+  either_fits to false n is =
+      let small : bits < 2 ^ 64 = grows bits bit 64 (reached to).below (omega (arith, lowest.within)) in
+      subst (λ (m : ℕ). bits + m * 2 ^ bit % 2 ^ 64 < 2 ^ 64) (sym is) (omega (arith, small))
 
 -- ---- the groups so far
 

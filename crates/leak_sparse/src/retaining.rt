@@ -1,5 +1,5 @@
 //! The groups of a list of which only some words stay.
-ghost use Rattle.std.specs.Prelude.{◌≡◌, ℕ, ◌+◌, ◌^◌, ◌<◌, ◌≤◌, length, count_ones};
+ghost use Rattle.std.specs.Prelude.{◌≡◌, ℕ, ◌+◌, ◌^◌, ◌<◌, ◌≤◌, length, filter, take, count_ones};
 ghost use Rattle.leak_sparse.specs.Groups.{AreBitsBetween, AreGroups, AreGroupsBetween};
 ghost use Rattle.leak_sparse.specs.Words.{is_between};
 
@@ -26,13 +26,29 @@ fn bits_between(group: Group, kept: &[u64], low: u64, high: u64) -> u64
         let Some(bit) = lowest_from(group.bits, from) else {
             return bits;
         };
-        if is_between(low, high, kept[rank]) {
-            bits += 1 << bit;
-        }
+        // No branch: which words stay is hard to foresee.
+        bits += u64::from(is_between(low, high, kept[rank])) << bit;
         rank += 1;
         from = bit + 1;
     }
     bits
+}
+
+/// Moves the words that are neither below `low` nor above `high` to the front, in their order, and returns how many they
+/// are.
+pub(crate) fn move_between(kept: &mut [u64], low: u64, high: u64) -> usize
+    ensures front { take result kept.new ≡ filter (is_between low high) kept.old }
+    ensures len { length kept.new ≡ length kept.old }
+    ensures within { result ≤ length kept.new }
+{
+    let mut count = 0;
+    for number in 0..kept.len() {
+        let word = kept[number];
+        // No branch, as above: a word that goes is written over.
+        kept[count] = word;
+        count += usize::from(is_between(low, high, word));
+    }
+    count
 }
 
 /// Leaves in the groups only the bits of words that are neither below `low` nor above `high`, and counts anew how many

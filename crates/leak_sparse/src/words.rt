@@ -1,10 +1,10 @@
 //! The list of words.
-ghost use Rattle.std.specs.Prelude.{◌≡◌, ◌<◌, ◌≤◌, ◌-◌, ◌%◌, ◌∷◌, [], ◌++◌, length, map, replicate, slice_get, take};
+ghost use Rattle.std.specs.Prelude.{◌≡◌, ◌≢◌, ◌<◌, ◌≤◌, ◌-◌, ◌%◌, ◌∷◌, [], ◌++◌, length, map, replicate, slice_get, take};
 ghost use Rattle.std.specs.Prelude.{MatchOption, OnOk, OnErr, IsOk};
 ghost use Rattle.leak_sparse.specs.Words.{AreZerosTo, HasRoom, IsNextKept, NoneKeptFrom, between, kept_from, kept_of};
 
 use crate::group::{Group, add_groups, cover, has, lowest_from, ones_below};
-use crate::retaining::{is_between, keep_between};
+use crate::retaining::{keep_between, move_between};
 use std::alloc::{AllocError, Global};
 use std::marker::Model;
 
@@ -74,15 +74,29 @@ impl SparseWords {
         if word == 0 {
             return self.push_zeros(1);
         }
-        let Some(len) = self.len.checked_add(1) else {
+        self.push_after(0, word)
+    }
+
+    /// Appends this many words that are 0, and then one that isn't. Its errors are those of [`SparseWords::push`].
+    pub fn push_after(&mut self, zeros: usize, word: u64) -> Result<(), AllocError>
+        requires { word ≢ 0 }
+        ensures ok { OnOk result (self.new ≡ self.old ++ replicate zeros 0 ++ word ∷ []) }
+        ensures err { OnErr result (self.new ≡ self.old) }
+    {
+        let Some(place) = self.len.checked_add(zeros) else {
             return Err(AllocError);
         };
+        let Some(len) = place.checked_add(1) else {
+            return Err(AllocError);
+        };
+        // Room first, so that a list without memory stays as it was.
+        self.kept.reserve(1)?;
         cover(&mut self.groups, len, self.kept.len())?;
-        self.kept.push(word)?;
-        let last = self.len / 64;
+        self.kept.push_reserved(word);
+        let last = place / 64;
         let group = self.groups[last];
         self.groups[last] = Group {
-            bits: group.bits + (1 << (self.len % 64)),
+            bits: group.bits + (1 << (place % 64)),
             before: group.before,
         };
         self.len = len;
@@ -134,7 +148,8 @@ impl SparseWords {
             len,
         } = self;
         keep_between(groups.as_mut_slice(), kept.as_slice(), low, high);
-        kept.retain(|word| is_between(low, high, *word));
+        let left = move_between(kept.as_mut_slice(), low, high);
+        kept.truncate(left);
         kept.shrink_to_fit();
         SparseWords { groups, kept, len }
     }

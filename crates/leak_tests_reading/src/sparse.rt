@@ -50,6 +50,24 @@ fn each_word_stands_where_it_was_put(rt: HostRuntime) -> Result<(), Fail> {
     Ok(())
 }
 
+/// Words that aren't 0, each behind so many that are, as `push_after` appends them and one by one.
+#[test]
+fn words_behind_zeros(rt: HostRuntime) -> Result<(), Fail> {
+    let mut words = SparseWords::new(rt.alloc());
+    let mut all = Vec::new(rt.alloc());
+    for zeros in [0, 0, 1, 60, 1, 63, 64, 65, 200, 0, 127, 0] {
+        words.push_after(zeros, zeros as u64 + 1)?;
+        all.resize(all.len() + zeros, 0)?;
+        all.push(zeros as u64 + 1)?;
+        has_words(&rt, &words, all.as_slice());
+    }
+    same(&rt, words.kept(), 12);
+    assert!(rt; words.push_after(usize::MAX, 1).is_err());
+    assert!(rt; words.push_after(usize::MAX - all.len(), 1).is_err());
+    has_words(&rt, &words, all.as_slice());
+    Ok(())
+}
+
 #[test]
 fn the_next_word_that_is_not_0(rt: HostRuntime) -> Result<(), Fail> {
     let mut words = SparseWords::new(rt.alloc());

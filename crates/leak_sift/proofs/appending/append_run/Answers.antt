@@ -1,5 +1,5 @@
 -- The words up to the next one that is kept, or an error that leaves some of them.
-use Rattle.std.proofs.Common.{◌≡◌, ◌+◌, ◌-◌, ◌/◌, ◌++◌, ◌≤◌, ℕ, List, length, take, replicate, get_or, subst, ap, ◌∙◌, arith}
+use Rattle.std.proofs.Common.{◌≡◌, ◌+◌, ◌-◌, ◌/◌, ◌++◌, ◌≤◌, ℕ, List, length, take, replicate, get_or, refl, subst, ap, ◌∙◌, arith}
 use Rattle.leak_sift.specs.Kept.{Rule, kept_of}
 use Rattle.leak_sift.specs.Sifted.{AreZero, run_of}
 use Rattle.leak_sift.proofs.PartLemmas.{none_appended}
@@ -18,27 +18,17 @@ padded : (rule same : Rule) (place : ℕ) (bytes before words after : List ℕ) 
 padded rule same place bytes before words after done number e so_far order within zero is =
     padded_to before (run_of rule place bytes) words done so_far number order (omega (arith, count rule place bytes)) (subst (λ (r : Rule). AreZero (run_of r place bytes) done number) e zero) after is
 
-pub returns-in_err-push_zeros-clause-err : goal.returns-in_err-push_zeros-clause-err
-returns-in_err-push_zeros-clause-err c =
+pub push_after-requires : goal.push_after-requires
+push_after-requires c = c.in-Some.ensures.next.4
+
+pub returns-in_err-push_after-clause-err : goal.returns-in_err-push_after-clause-err
+returns-in_err-push_after-clause-err c =
     let more = run_of c.args.sieve.now c.args.place c.args.bytes.now in
     let all = count c.args.sieve.now c.args.place c.args.bytes.now in
     let next = c.in-Some.ensures.next in
     let same = count c.loop-number.sieve c.args.place c.args.bytes.now in
     on_err c.from_residual.result _
-    (none_appended c.args.words.now more c.loop-number.words c.loop-number.done c.loop-number.invariant.words c.push_zeros.new.self (omega (arith, all, same, next.0, next.1)) c.in_err-push_zeros.ensures.err)
-
-pub returns-in_err-push-clause-err : goal.returns-in_err-push-clause-err
-returns-in_err-push-clause-err c =
-    let rule = c.args.sieve.now in
-    let place = c.args.place in
-    let bytes = c.args.bytes.now in
-    let all = count rule place bytes in
-    let same = count c.loop-number.sieve place bytes in
-    let next = c.in-Some.ensures.next in
-    on_err c.from_residual-in_err-push.result _
-    (none_appended c.args.words.now (run_of rule place bytes) c.push_zeros.new.self c.in-Some.number
-    (padded rule c.loop-number.sieve place bytes c.args.words.now c.loop-number.words c.push_zeros.new.self c.loop-number.done c.in-Some.number c.loop-number.invariant.same c.loop-number.invariant.words next.0 (omega (arith, same, next.1)) next.3 c.in_ok-push_zeros.ensures.ok)
-    c.push.new.self (omega (arith, all, same, next.1)) c.in_err-push.ensures.err)
+    (none_appended c.args.words.now more c.loop-number.words c.loop-number.done c.loop-number.invariant.words c.push_after.new.self (omega (arith, all, same, next.0, next.1)) c.in_err-push_after.ensures.err)
 
 pub overflow_add-done : goal.overflow_add-done
 overflow_add-done c = let next = c.in-Some.ensures.next in let same = count c.loop-number.sieve c.args.place c.args.bytes.now in omega (arith, same, next.1)
@@ -57,30 +47,31 @@ loop-number-preserved c =
     let next = c.in-Some.ensures.next in
     let all = count rule place bytes in
     let same = count c.loop-number.sieve place bytes in
-    let so = padded rule c.loop-number.sieve place bytes c.args.words.now c.loop-number.words c.push_zeros.new.self done c.in-Some.number so_far.same so_far.words next.0 (omega (arith, same, next.1)) next.3 c.in_ok-push_zeros.ensures.ok in
+    let before = c.loop-number.words ++ replicate (c.in-Some.number - done) 0 in
+    let so = padded rule c.loop-number.sieve place bytes c.args.words.now c.loop-number.words before done c.in-Some.number so_far.same so_far.words next.0 (omega (arith, same, next.1)) next.3 refl in
     record {
       within = omega (arith, same, next.1);
-      words = one_more c.args.words.now more c.push_zeros.new.self c.in-Some.number so c.in-Some.word (omega (arith, all, same, next.1)) (next.2 ∙ ap (λ (r : Rule). get_or (run_of r place bytes) c.in-Some.number 0) so_far.same) c.push.new.self c.in_ok-push.ensures.ok;
+      words = one_more c.args.words.now more before c.in-Some.number so c.in-Some.word (omega (arith, all, same, next.1)) (next.2 ∙ ap (λ (r : Rule). get_or (run_of r place bytes) c.in-Some.number 0) so_far.same) c.push_after.new.self c.in_ok-push_after.ensures.ok;
       same = c.next_kept.ensures.same ∙ so_far.same;
     }
 
-pub returns-in_err-push_zeros-2-clause-err : goal.returns-in_err-push_zeros-2-clause-err
-returns-in_err-push_zeros-2-clause-err c =
+pub returns-in_err-push_zeros-clause-err : goal.returns-in_err-push_zeros-clause-err
+returns-in_err-push_zeros-clause-err c =
     let more = run_of c.args.sieve.now c.args.place c.args.bytes.now in
     let all = count c.args.sieve.now c.args.place c.args.bytes.now in
-    on_err c.from_residual-in_err-push_zeros-2.result _
-    (none_appended c.args.words.now more c.loop-number.words c.loop-number.done c.loop-number.invariant.words c.push_zeros-then-done-count.new.self (omega (arith, all)) c.in_err-push_zeros-2.ensures.err)
+    on_err c.from_residual-in_err-push_zeros.result _
+    (none_appended c.args.words.now more c.loop-number.words c.loop-number.done c.loop-number.invariant.words c.push_zeros.new.self (omega (arith, all)) c.in_err-push_zeros.ensures.err)
 
-pub returns-in_ok-push_zeros-2-clause-ok : goal.returns-in_ok-push_zeros-2-clause-ok
-returns-in_ok-push_zeros-2-clause-ok c =
+pub returns-in_ok-push_zeros-clause-ok : goal.returns-in_ok-push_zeros-clause-ok
+returns-in_ok-push_zeros-clause-ok c =
     let rule = c.args.sieve.now in
     let place = c.args.place in
     let bytes = c.args.bytes.now in
     let all = count rule place bytes in
     let same = count c.loop-number.sieve place bytes in
     let rest : AreZero (run_of c.loop-number.sieve place bytes) c.loop-number.done (length bytes / 8) = subst (AreZero (run_of c.loop-number.sieve place bytes) c.loop-number.done) same c.in_default.ensures.next in
-    all_appended c.args.words.now (run_of rule place bytes) c.push_zeros-then-done-count.new.self (length bytes / 8)
-    (padded rule c.loop-number.sieve place bytes c.args.words.now c.loop-number.words c.push_zeros-then-done-count.new.self c.loop-number.done (length bytes / 8) c.loop-number.invariant.same c.loop-number.invariant.words c.loop-number.invariant.within (omega arith) rest c.in_ok-push_zeros-2.ensures.ok)
+    all_appended c.args.words.now (run_of rule place bytes) c.push_zeros.new.self (length bytes / 8)
+    (padded rule c.loop-number.sieve place bytes c.args.words.now c.loop-number.words c.push_zeros.new.self c.loop-number.done (length bytes / 8) c.loop-number.invariant.same c.loop-number.invariant.words c.loop-number.invariant.within (omega arith) rest c.in_ok-push_zeros.ensures.ok)
     (omega (arith, all))
 
 pub returns-else-done-count-clause-ok : goal.returns-else-done-count-clause-ok

@@ -1,9 +1,8 @@
 -- The words of lower bits were tested, and the word read is that of the next bit.
-use Rattle.std.proofs.Common.{◌≡◌, ◌∙◌, ℕ, ◌+◌, ◌%◌, ap, sym, subst, count_ones, arith}
+use Rattle.std.proofs.Common.{◌≡◌, ◌∙◌, ◌%◌, ap, count_ones, arith}
 use Rattle.leak_sparse.proofs.BitLemmas.{ones_of_none}
-use Rattle.leak_sparse.proofs.RetainBitsLemmas.{AreBitsTo, after_in, after_out, bit_fits, bits_all, bits_none, bits_skip, rank_after, rank_within}
+use Rattle.leak_sparse.proofs.RetainBitsLemmas.{after_either, either_fits, bits_all, bits_none, bits_skip, rank_after, rank_within}
 use Rattle.leak_sparse.proofs.retaining.bits_between.Goals as goal
-use Rattle.leak_sparse.proofs.retaining.bits_between.Goals.{then-is_between, else-is_between}
 
 pub loop-from-init : goal.loop-from-init
 loop-from-init c =
@@ -21,18 +20,14 @@ bounds-kept-rank c =
 
 pub overflow_add-bits : goal.overflow_add-bits
 overflow_add-bits c =
-    omega (arith, bit_fits c.args.low c.args.high c.args.kept.now c.args.group c.loop-from.bits c.loop-from.rank c.loop-from.from c.in-Some.bit c.in-Some.ensures c.loop-from.invariant.rank c.loop-from.invariant.bits)
+    omega (arith, either_fits c.args.low c.args.high c.args.kept.now c.args.group c.loop-from.bits c.loop-from.rank c.loop-from.from c.in-Some.bit c.in-Some.ensures c.loop-from.invariant.rank c.loop-from.invariant.bits c.is_between.result c.from.result c.from.ensures)
 
 pub loop-from-preserved : goal.loop-from-preserved
 loop-from-preserved c = record {
   within = omega (arith, c.in-Some.ensures.within);
   rank = rank_after c.args.low c.args.high c.args.kept.now c.args.group c.loop-from.bits c.loop-from.rank c.loop-from.from c.in-Some.bit c.in-Some.ensures c.loop-from.invariant.rank;
-  bits = elim c.if-is_between.branch [
-    | then-is_between w ↦ subst (λ (n : ℕ). AreBitsTo c.args.low c.args.high c.args.kept.now c.args.group n (c.in-Some.bit + 1)) (sym w.bits-is)
-        (after_in c.args.low c.args.high c.args.kept.now c.args.group c.loop-from.bits c.loop-from.rank c.loop-from.from c.in-Some.bit c.in-Some.ensures c.loop-from.invariant.rank c.loop-from.invariant.bits (sym c.is_between.ensures ∙ w.if-is_between.true))
-    | else-is_between w ↦ subst (λ (n : ℕ). AreBitsTo c.args.low c.args.high c.args.kept.now c.args.group n (c.in-Some.bit + 1)) (sym w.bits-is)
-        (after_out c.args.low c.args.high c.args.kept.now c.args.group c.loop-from.bits c.loop-from.rank c.loop-from.from c.in-Some.bit c.in-Some.ensures c.loop-from.invariant.rank c.loop-from.invariant.bits (sym c.is_between.ensures ∙ w.if-is_between.false))
-  ];
+  bits = after_either c.args.low c.args.high c.args.kept.now c.args.group c.loop-from.bits c.loop-from.rank c.loop-from.from c.in-Some.bit c.in-Some.ensures c.loop-from.invariant.rank c.loop-from.invariant.bits
+      c.is_between.result c.from.result c.is_between.ensures c.from.ensures;
 }
 
 pub returns : goal.returns

@@ -54,6 +54,7 @@ returns-then-word-ne0-clause-next c =
       omega (arith, all),
       asked c.args.self.now c.loop-number.self c.args.place c.args.bytes.now c.loop-number.number c.word_at.result c.kept-word.result so_far.same c.loop-number-test.true c.word_at.ensures c.kept-word.ensures.kept,
       so_far.dropped,
+      (λ e. omega (arith, e, c.if-word-ne0.true)),
     )
 
 pub loop-number-preserved : goal.loop-number-preserved

@@ -1,6 +1,5 @@
 -- The bits and the kept words are those of the words that stay.
-use Rattle.std.proofs.Common.{◌≡◌, ◌∙◌, ℕ, List, map, filter, ap, subst, sym, rules}
-use Rattle.std.proofs.lemmas.Fn.{filter_same}
+use Rattle.std.proofs.Common.{◌≡◌, ◌∙◌, ℕ, List, map, filter, take, length, ap, subst, sym}
 use Rattle.std.proofs.lemmas.List.{with_items_is}
 use Rattle.std.specs.Vec.{with_items}
 use Rattle.leak_sparse.specs.declared.group.Group.{Group}
@@ -16,7 +15,11 @@ left c =
     (subst (λ (groups : List Group). AreGroupsBetween c.args.low c.args.high c.as_slice.result.now groups now) c.as_mut_slice.ensures.value c.keep_between.ensures)
 
 filtered : (c : goal.After-shrink_to_fit) → c.shrink_to_fit.new.self.items ≡ filter (is_between c.args.low c.args.high) c.self.inside.kept.items
-filtered c = c.shrink_to_fit.ensures.items ∙ filter_same _ _ _ (λ x b f' k. search rules) _ _ c.retain.ensures.filtered
+filtered c =
+    let moved = c.move_between-left.new.kept in
+    let same : (with_items c.self.inside.kept moved).items ≡ moved = with_items_is c.self.inside.kept moved (c.move_between-left.ensures.len ∙ ap length c.as_mut_slice-2.ensures.value ∙ sym c.self.inside.kept.ok.0) in
+    c.shrink_to_fit.ensures.items ∙ c.truncate.ensures.items ∙ ap (take c.move_between-left.result) same
+    ∙ c.move_between-left.ensures.front ∙ ap (filter (is_between c.args.low c.args.high)) c.as_mut_slice-2.ensures.value
 
 groups_are : (c : goal.After-shrink_to_fit) → (with_items c.self.inside.groups c.keep_between.new.groups).items ≡ c.keep_between.new.groups
 groups_are c =
