@@ -175,7 +175,7 @@ fn answer_of_roots<R: AllocGlobal + Threads + Sync>(rt: &R, name: &str) -> Optio
         "Roots::skip_dead" => searching::undead_roots(alloc),
         "cut" => searching::cut(alloc),
         "pieces" => searching::pieces(alloc),
-        "leading_roots" => searching::leading(alloc),
+        "leading_roots" => searching::leading(rt),
         _ => answer_of_marking(rt, name),
     }
 }

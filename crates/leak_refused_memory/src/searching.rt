@@ -7,7 +7,7 @@ use leak_elf::Image;
 use leak_index::{Hits, Lookup, Paged, Reading, Sorted};
 use leak_mtrace::Log;
 use leak_notes::Threads;
-use leak_pool::leading_roots;
+use leak_pool::{Team, leading_roots};
 use leak_roots::{CutError, Piece, Roots};
 use leak_stacks::dead_spans;
 use std::alloc::{AllocError, Global};
@@ -165,13 +165,19 @@ pub(crate) fn pieces(alloc: Global) -> Option<Answer> {
 }
 
 /// `leading_roots` of a core of whose words one leads to a block.
-pub(crate) fn leading(alloc: Global) -> Option<Answer> {
+pub(crate) fn leading<R: AllocGlobal + std::thread::Threads + Sync>(rt: &R) -> Option<Answer> {
+    let alloc = rt.alloc();
     let core = core_of(alloc, &[(0x10008, 0x10200)])?;
     let image = Image::read(alloc, core.as_slice()).ok()?;
     let live = live_of(alloc, "+ 0x10200 0x10\n")?;
     let roots = find_roots(alloc, &image, &live, &SmallSpans::none(alloc))?.ok()?;
     let lookup = Sorted::new(&live, Reading::interior());
-    match leading_roots(alloc, &image, &lookup, roots, &live) {
+    let team = Team {
+        rt,
+        alloc,
+        workers: 2,
+    };
+    match leading_roots(&team, &image, &lookup, roots, &live) {
         Ok(roots) => Some(Answer::of(roots.memory() == [(0x10000u64, 0x10200u64)].as_slice())),
         Err(_) => Some(Answer::Wanting),
     }

@@ -12,7 +12,7 @@ use crate::{
     Consistency, FindError, Found, Input, RootsAndIndex, Rules, Searched, Workers,
     consistency_of_one, found_of, head_of, mark_input, read_input, searched_of,
 };
-use leak_pool::{Gate, leading_roots};
+use leak_pool::{Gate, Team, leading_roots};
 use std::alloc::Global;
 
 /// Searches a core and its log by the rules and by the workers.
@@ -102,7 +102,12 @@ pub fn search_from<R: std::thread::Threads + Sync, G: Gate + Sync>(
 {
     let RootsAndIndex { roots, lookup } = prepare(workers, alloc, input, rules.reading)?;
     let head = head_of(input, &roots, None);
-    let roots = leading_roots(alloc, &input.image, &lookup, roots, &input.live)?;
+    let team = Team {
+        rt: workers.rt,
+        alloc,
+        workers: workers.plan.workers(),
+    };
+    let roots = leading_roots(&team, &input.image, &lookup, roots, &input.live)?;
     let indexed = RootsAndIndex { roots, lookup };
     let marked = mark_input(workers, alloc, input, &indexed)?;
     Ok(searched_of(alloc, input, &indexed.lookup, marked, head, consistency)?)

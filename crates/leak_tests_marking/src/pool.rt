@@ -3,6 +3,7 @@
 mod free_links;
 mod gates;
 mod leading;
+mod leading_by_workers;
 mod listings;
 mod meetings;
 mod numbers;
