@@ -1,5 +1,6 @@
 //! Which live blocks the heap of a core has.
 ghost use Rattle.std.specs.Prelude.{◌≡◌, ◌+◌, ◌<◌, ◌≤◌, IfOk, count_by, not};
+ghost use Rattle.leak_blocks.specs.Span.{AreAddressed};
 ghost use Rattle.leak_chunks.specs.Fit.{follows_one_in_use, fits_word, fits_core, fits_of};
 
 use crate::chunk::{SizeWord, is_heap_chunk_for, is_mapping_for};
@@ -28,7 +29,14 @@ pub fn fits<W: Words>(alloc: Global, words: &W, live: &Live) -> Result<Vec<bool>
 pub fn count_misfits<W: Words>(words: &W, live: &Live) -> u64
     ensures { result ≡ count_by not (fits_of (W.word_at words.now) live.now.blocks) }
 {
-    let blocks = live.blocks();
+    count_misfits_among(words, live.blocks())
+}
+
+/// How many of the blocks are misfits.
+pub(crate) fn count_misfits_among<W: Words>(words: &W, blocks: &[Block]) -> u64
+    requires { AreAddressed blocks.now }
+    ensures { result ≡ count_by not (fits_of (W.word_at words.now) blocks.now) }
+{
     let mut near = Near::new(words);
     let mut misfits = 0;
     for block in blocks {

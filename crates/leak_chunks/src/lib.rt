@@ -22,8 +22,10 @@ mod free_link;
 mod laws;
 mod near;
 mod slack;
+mod threads;
 
 pub use fitting::{count_misfits, fits};
 pub use free_link::{is_free_link, without_free_links};
 pub use laws::{worked_chunks, worked_hits, worked_links, worked_slack};
 pub use slack::slack_spans;
+pub use threads::count_misfits_by;

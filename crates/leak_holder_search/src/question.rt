@@ -20,7 +20,7 @@ use crate::since::is_continued;
 use leak_holders::{Progress, Question, Workers};
 use leak_pool::Plan;
 use leak_search::{
-    FindError, Input, Rules, WhyError, consistency_of_one, find_roots_and_index, read_input,
+    FindError, Input, Rules, WhyError, consistency_of_one_by, find_roots_and_index, read_input,
 };
 use leak_why::block_at;
 use std::alloc::Global;
@@ -90,7 +90,14 @@ pub fn find_held_in<R: Threads + Sync, P: Progress>(
     if !is_continued(logs) {
         return Err(WhyError::Find(FindError::NotPrefix));
     }
-    let consistency = consistency_of_one(alloc, input, false, rules.other_heap)?;
+    let consistency = consistency_of_one_by(
+        workers.rt,
+        workers.count,
+        alloc,
+        input,
+        false,
+        rules.other_heap,
+    )?;
     let indexed = find_roots_and_index(alloc, input, rules.reading)?;
     let analysis = analysis_of(workers.rt, alloc, input, &indexed, logs, workers.count)?;
     let Some(block) = block_at(&analysis.input.live, question.address) else {

@@ -16,7 +16,9 @@ use crate::since::is_continued;
 use leak_holders::{Progress, Workers};
 use leak_pool::Plan;
 use leak_report::Signs;
-use leak_search::{FindError, Input, Rules, consistency_of_one, find_roots_and_index, read_input};
+use leak_search::{
+    FindError, Input, Rules, consistency_of_one_by, find_roots_and_index, read_input,
+};
 use std::alloc::Global;
 use std::thread::Threads;
 
@@ -90,7 +92,14 @@ pub fn find_holders_in<R: Threads + Sync, P: Progress>(
     if !is_continued(logs) {
         return Err(FindError::NotPrefix);
     }
-    let consistency = consistency_of_one(alloc, input, false, rules.other_heap)?;
+    let consistency = consistency_of_one_by(
+        workers.rt,
+        workers.count,
+        alloc,
+        input,
+        false,
+        rules.other_heap,
+    )?;
     let indexed = find_roots_and_index(alloc, input, rules.reading)?;
     let analysis = analysis_of(workers.rt, alloc, input, &indexed, logs, workers.count)?;
     let rows = rows_of(workers, alloc, &analysis)?;

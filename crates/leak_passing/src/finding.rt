@@ -16,7 +16,7 @@ use leak_alike::{files_of_one_head, pruned_cores_are_marked_alike, searches_of_s
 use leak_pool::Gate;
 use leak_replaying::KeptTexts;
 use leak_search::{
-    Consistency, FindError, Found, Input, Rules, Workers, consistency_of_one, search_from,
+    Consistency, FindError, Found, Input, Rules, Workers, consistency_of_one_by, search_from,
 };
 use std::alloc::Global;
 
@@ -83,7 +83,14 @@ pub fn find_passed<R: std::thread::Threads + Sync, G: Gate + Sync>(
     } = passed;
     let held = held.as_slice();
     let whole = input_of_passed(alloc, rules.skip, held, (&words, len), read)?;
-    let consistency = consistency_of_one(alloc, &whole, lists_misfits, rules.other_heap)?;
+    let consistency = consistency_of_one_by(
+        workers.rt,
+        workers.plan.workers(),
+        alloc,
+        &whole,
+        lists_misfits,
+        rules.other_heap,
+    )?;
     let others = without_core(whole);
     let left = left_to_mark(words, &others.live, rules.skip);
     let input = input_to_mark(alloc, held, (&left, len), others)?;

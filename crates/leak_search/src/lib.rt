@@ -61,6 +61,6 @@ pub use one_core::{find_in, find_one, search_from};
 pub use pairs::{Inputs, count_lines, is_continued, read_two};
 pub use reporting::{found_of, head_of, searched_of};
 pub use rules::Rules;
-pub use signing::{Consistency, consistency_of_one, consistency_of_two};
+pub use signing::{Consistency, consistency_of_one, consistency_of_one_by, consistency_of_two};
 pub use two_cores::find_two;
 pub use why::{Why, WhyError, find_why};

@@ -10,7 +10,7 @@ ghost use Rattle.leak_search.specs.Signs.{AreSigns};
 use crate::preparing::prepare;
 use crate::{
     Consistency, FindError, Found, Input, RootsAndIndex, Rules, Searched, Workers,
-    consistency_of_one, found_of, head_of, mark_input, read_input, searched_of,
+    consistency_of_one_by, found_of, head_of, mark_input, read_input, searched_of,
 };
 use leak_pool::{Gate, Team, leading_roots};
 use std::alloc::Global;
@@ -70,12 +70,19 @@ pub fn find_in<R: std::thread::Threads + Sync, G: Gate + Sync>(
     ensures refused { IfErr result (λ e. e ≢ FindError.NoMemory
         → IsFaultOfOne input.now.image log.now e) }
 {
-    let consistency = consistency_of_one(alloc, input, lists_misfits, rules.other_heap)?;
+    let consistency = consistency_of_one_by(
+        workers.rt,
+        workers.plan.workers(),
+        alloc,
+        input,
+        lists_misfits,
+        rules.other_heap,
+    )?;
     let searched = search_from(workers, alloc, input, consistency, rules)?;
     found_of(alloc, &input.live, searched, log)
 }
 
-/// Does all of [`find_in`] but ask which blocks fit, which [`consistency_of_one`] does, and but write the report, which
+/// Does all of [`find_in`] but ask which blocks fit, which [`consistency_of_one_by`] does, and but write the report, which
 /// [`found_of`] does. Before it marks, it lets go of the ranges of root words that lead to no block.
 ///
 /// Which blocks fit it hands on as it was told. So nothing that it finds depends on words that lead to no block, unless what

@@ -1,14 +1,15 @@
 //! What is odd about inputs, and which of their blocks fit.
 
-ghost use Rattle.std.specs.Prelude.{◌≡◌, ◌++◌, [], ◌∷◌, IfOk, option_map};
+ghost use Rattle.std.specs.Prelude.{◌≡◌, ◌++◌, [], ◌∷◌, IfOk, length, option_map};
 ghost use Rattle.leak_elf.specs.Words.{word_of};
 ghost use Rattle.leak_chunks.specs.Fit.{fits_of};
 ghost use Rattle.leak_search.specs.Signs.{signs_with, fits_with, misfits_counted};
 
 use crate::inputs::Input;
-use leak_chunks::{count_misfits, fits};
+use leak_chunks::{count_misfits, count_misfits_by, fits};
 use leak_report::{Signs, count_clear};
 use std::alloc::{AllocError, Global};
+use std::thread::Threads;
 
 /// What is odd about the inputs of a search.
 #[derive(Drop)]
@@ -59,6 +60,25 @@ fn ask(alloc: Global, input: &Input, check: bool, other_heap: bool) -> Result<As
     })
 }
 
+/// The signs that the input's core and log don't belong together, with so many misfits.
+fn signs_of(input: &Input, misfits: u64) -> Signs
+    ensures { result ≡ record {
+      live = length input.now.live.blocks;
+      torn = input.now.torn;
+      unknown = input.now.live.unknown;
+      displaced = input.now.live.displaced;
+      misfits = misfits;
+    } }
+{
+    Signs {
+        live: input.live.blocks().len() as u64,
+        torn: input.torn,
+        unknown: input.live.unknown(),
+        displaced: input.live.displaced(),
+        misfits,
+    }
+}
+
 /// Adds the signs that the input's core and log don't belong together. Returns which of its live blocks fit, if that is to be kept.
 fn add_signs(
     alloc: Global,
@@ -73,13 +93,7 @@ fn add_signs(
         option_map (λ v. v.items) fits ≡ fits_with check input.now) }
 {
     let Asked { misfits, fits } = ask(alloc, input, check, other_heap)?;
-    signs.push(Signs {
-        live: input.live.blocks().len() as u64,
-        torn: input.torn,
-        unknown: input.live.unknown(),
-        displaced: input.live.displaced(),
-        misfits,
-    })?;
+    signs.push(signs_of(input, misfits))?;
     Ok(fits)
 }
 
@@ -98,6 +112,29 @@ pub fn consistency_of_one(
     let mut signs = Vec::with_capacity(alloc, 1)?;
     let fits = add_signs(alloc, &mut signs, input, check, other_heap)?;
     Ok(Consistency { signs, fits })
+}
+
+/// What is odd about one input, as [`consistency_of_one`] tells it. At most so many threads count the misfits, the caller's among
+/// them. If it is kept which blocks fit, the caller asks that alone.
+pub fn consistency_of_one_by<R: Threads + Sync>(
+    rt: &R,
+    workers: u32,
+    alloc: Global,
+    input: &Input,
+    check: bool,
+    other_heap: bool,
+) -> Result<Consistency, AllocError>
+    ensures signs { IfOk result (λ odd. odd.signs.items ≡ signs_with other_heap input.now ∷ []) }
+    ensures fits { IfOk result (λ odd.
+        option_map (λ v. v.items) odd.fits ≡ fits_with check input.now) }
+{
+    if check || other_heap {
+        return consistency_of_one(alloc, input, check, other_heap);
+    }
+    let mut signs = Vec::with_capacity(alloc, 1)?;
+    let misfits = count_misfits_by(rt, &input.image, &input.live, workers);
+    signs.push(signs_of(input, misfits))?;
+    Ok(Consistency { signs, fits: None })
 }
 
 /// What is odd about two inputs, as [`consistency_of_one`] tells it. Which blocks fit is kept of the second alone.

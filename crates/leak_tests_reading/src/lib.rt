@@ -67,6 +67,10 @@ mod index_ends;
 #[cfg(test)]
 mod chunks;
 
+// Misfits that threads count.
+#[cfg(test)]
+mod chunk_counts;
+
 // Links to free chunks.
 #[cfg(test)]
 mod chunk_links;
