@@ -2,7 +2,8 @@
 //!
 //! glibc's malloc keeps the size of each chunk before the block that it serves, and in the next chunk whether this
 //! one is in use. [`fits`] compares that with the live blocks of a log: a block that the core's heap does not have as the
-//! log has it was given back, or is of another moment or another process.
+//! log has it was given back, or is of another moment or another process. [`count_misfits`], or by threads [`count_misfits_by`],
+//! counts such blocks.
 //!
 //! By the same words [`is_free_link`] tells a link of malloc to a free chunk from a pointer of the program:
 //! the words of malloc's lists, and its pointers to the tops of heaps, are addresses of headers, which are in the last bytes

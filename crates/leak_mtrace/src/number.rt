@@ -9,11 +9,11 @@ use memchr::memchr;
 fn digit(byte: u8) -> Option<u8>
     ensures { SomeIff result (IsTrue (is_digit byte)) (digit_value byte) }
 {
-    match byte {
-        b'0'..=b'9' => Some(byte - b'0'),
-        b'a'..=b'f' => Some(byte - b'a' + 10),
-        _ => None,
-    }
+    let decimal = byte.wrapping_sub(b'0');
+    let letter = byte.wrapping_sub(b'a').saturating_add(10);
+    // Both are computed, since a branch on the kind of digit is mispredicted where an address mixes them.
+    let value = if decimal < 10 { decimal } else { letter };
+    if value < 16 { Some(value) } else { None }
 }
 
 /// The value of `0x` and 1 to 16 digits.
