@@ -74,7 +74,7 @@ PHASES = (
         Step("make -j $(nproc) -C capture"),
         Step("gate/capture.sh", "capture: ")), beside=True, after=CHAIN_BEGUN),
     # It follows capture's tests, so that these have the processors.
-    Phase("wrong", 135, ("crates/*/out/rlib",), (
+    Phase("wrong", 150, ("crates/*/out/rlib",), (
         Step(f"{GIVE_WAY} python3 gate/wrong_bodies.py{RECORDED}", "wrong bodies: "),), after=LIBRARIES_BUILT),
     Phase("script", 20, (), (Step(f"{GIVE_WAY} python3 gate/wrong_bodies_test.py", "test of the script: "),), beside=True),
 )

@@ -94,8 +94,8 @@ fn begin_and_replay<T: Threads + Sync, R: ReadCalls>(
         limits.log_size,
         skip.freed,
     ) {
-        Ok(log) => Ok((begun, log)),
-        Err(fault) => Err(PassingFault::Log(fault)),
+        Ok(replayed) => Ok((begun, replayed)),
+        Err(unread) => Err(PassingFault::Log(unread)),
     }
 }
 
